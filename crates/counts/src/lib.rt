@@ -1,0 +1,45 @@
+//! A count of what happened, for which no number of events is too many: at the end of its type it stands still.
+#![tactic(auto)]
+
+ghost use Rattle.std.specs.Prelude.{◌≡◌, ℕ};
+ghost use Rattle.counts.specs.Count.{raised, Rose};
+
+use std::marker::Model;
+
+/// How often something happened. Clauses see the number.
+#[derive(Clone, Copy, Debug, PartialEq, Eq)]
+pub struct Count {
+    times: u64,
+}
+
+impl Model for Count {
+    ghost Value = { ℕ };
+
+    ghost view = { λ c. c.times };
+
+    ghost inverse = { λ n. record { times = n } };
+}
+
+impl Count {
+    /// Nothing has happened yet.
+    pub fn new() -> Self
+        ensures { result ≡ 0 }
+    {
+        Count { times: 0 }
+    }
+
+    /// How often it happened; `u64::MAX` also stands for more.
+    pub fn get(&self) -> u64
+        ensures { result ≡ self.now }
+    {
+        self.times
+    }
+
+    /// It happened once more.
+    pub fn raise(&mut self)
+        ensures raised { self.new ≡ raised self.old }
+        ensures rose { Rose self.old self.new }
+    {
+        self.times = self.times.saturating_add(1);
+    }
+}
