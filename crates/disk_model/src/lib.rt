@@ -1,0 +1,13 @@
+//! The disk that may stop at any call: the model, a disk in memory that keeps it, and a fuse before any disk.
+#![tactic(auto)]
+
+mod disk;
+mod fuse;
+mod memory;
+
+pub use disk::{Disk, DiskError};
+pub use fuse::FuseDisk;
+pub use memory::{MemoryDisk, Pick, UnknownPick};
+
+#[cfg(test)]
+mod tests;
