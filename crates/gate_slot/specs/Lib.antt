@@ -1,0 +1,4 @@
+pub mod Gate
+pub mod GateLaws
+pub mod Images
+pub mod Passing
