@@ -1,0 +1,78 @@
+-- What a history says: the list of events and their replies since the heap was opened, oldest first.
+use Rattle.std.specs.Prelude.{ℕ, ◌+◌, ◌==◌, List, [], ◌∷◌, ◌++◌, Option, None, Some, fold, max, if◌then◌else◌}
+use Rattle.std.specs.Option.{option_to_list}
+use Rattle.graph_model.specs.declared.event.Event.{Event}
+use Rattle.graph_model.specs.declared.event.Event.TheVariants.{Begin, Root, Put, Seal, Force}
+use Rattle.graph_model.specs.declared.reply.Refusal.TheVariants.{DiskFault, Stopped}
+use Rattle.graph_model.specs.declared.reply.Reply.{Reply}
+use Rattle.graph_model.specs.declared.reply.Reply.TheVariants.{Begun, Done, Sealed, Durable, Refused}
+use Rattle.graph_model.specs.declared.reply.Entry.{Entry}
+use Rattle.graph_model.specs.Transaction.{Transaction}
+
+-- What a history says so far.
+pub record Account : Type 0 where
+  pub begun : ℕ  -- how many transactions began
+  pub active : ℕ → Option Transaction  -- the transaction of each session
+  pub sealed : List Transaction  -- those whose seal was answered `sealed`, in that order
+  pub in_doubt : Option Transaction  -- the one whose seal the disk cut short
+  pub acknowledged : ℕ  -- the greatest number that was answered `durable`
+  pub entries : ℕ  -- how many entries there are
+  pub failed : Option ℕ  -- the first entry, from 1, that was answered `diskfault` or `stopped`
+
+-- nothing has happened
+abbrev pub nothing_yet : Account
+nothing_yet = record { begun = 0; active = λ s. None; sealed = []; in_doubt = None; acknowledged = 0; entries = 0; failed = None }
+
+-- the sessions' transactions where session s has this one
+abbrev pub with_active : (ℕ → Option Transaction) → ℕ → Option Transaction → ℕ → Option Transaction
+with_active active s transaction session = if session == s then transaction else active session
+
+-- the transaction with one call more
+abbrev pub with_call : Option Transaction → Event → Option Transaction
+with_call None event = None
+with_call (Some t) event = Some (record { number = t.number; calls = t.calls ++ event ∷ [] })
+
+-- what an entry that was done adds
+abbrev pub done : Account → Event → Reply → Account
+done a (Begin s) (Begun n) = record a { begun = a.begun + 1; active = with_active a.active s (Some (record { number = n; calls = [] })) }
+done a (Root s h) Done = record a { active = with_active a.active s (with_call (a.active s) (Root s h)) }
+done a (Put s h i v) Done = record a { active = with_active a.active s (with_call (a.active s) (Put s h i v)) }
+done a (Seal s) (Sealed n) = record a { active = with_active a.active s None; sealed = a.sealed ++ option_to_list (a.active s) }
+done a Force (Durable n) = record a { acknowledged = max a.acknowledged n }
+done a event reply = a
+
+-- the first entry at which the disk stopped or failed
+abbrev pub first_failure : Option ℕ → ℕ → Option ℕ
+first_failure None entry = Some entry
+first_failure (Some first) entry = Some first
+
+-- what a seal that the disk cut short adds: its transaction may or may not be on the disk
+abbrev pub cut_short : Account → Event → Account
+cut_short a (Seal s) = record a { in_doubt = a.active s; failed = first_failure a.failed (a.entries + 1) }
+cut_short a event = record a { failed = first_failure a.failed (a.entries + 1) }
+
+-- what an answer adds
+abbrev pub answered : Account → Event → Reply → Account
+answered a event (Refused DiskFault) = cut_short a event
+answered a event (Refused Stopped) = cut_short a event
+answered a event reply = done a event reply
+
+-- what the history says with one entry more
+abbrev pub account_after : Account → Entry → Account
+account_after a entry = let b = answered a entry.event entry.reply in record b { entries = a.entries + 1 }
+
+-- what a whole history says
+abbrev pub account : List Entry → Account
+account history = fold account_after nothing_yet history
+
+-- the transactions whose seal was answered `sealed`, in that order
+abbrev pub sealed : List Entry → List Transaction
+sealed history = (account history).sealed
+
+-- those that may be on the disk: the sealed ones, and then the one whose seal the disk cut short
+abbrev pub commits : List Entry → List Transaction
+commits history = sealed history ++ option_to_list (account history).in_doubt
+
+-- how many commits were acknowledged
+abbrev pub acknowledged : List Entry → ℕ
+acknowledged history = (account history).acknowledged

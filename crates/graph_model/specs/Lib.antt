@@ -1,0 +1,11 @@
+pub mod Canon
+pub mod Graph
+pub mod History
+pub mod HistoryLaws
+pub mod Plain
+pub mod PlainLaws
+pub mod RootAlone
+pub mod RootGraph
+pub mod SlowHeap
+pub mod Text
+pub mod Transaction

@@ -1,0 +1,64 @@
+-- What is printed: the bytes of events, replies and graphs.
+use Rattle.std.specs.Prelude.{ℕ, ◌+◌, List, [], ◌∷◌, ◌++◌, length, codes}
+use Rattle.std.specs.Fmt.{decimal}
+use Rattle.graph_model.specs.declared.event.Event.{Event}
+use Rattle.graph_model.specs.declared.event.Event.TheVariants.{Begin, Root, Put, Seal, Force}
+use Rattle.graph_model.specs.declared.reply.Refusal.{Refusal}
+use Rattle.graph_model.specs.declared.reply.Refusal.TheVariants.{Failed, AlreadyActive, NotActive, NumbersSpent, BadHandle, Range, BadField, LogFull, DiskFault, Stopped}
+use Rattle.graph_model.specs.declared.reply.Reply.{Reply}
+use Rattle.graph_model.specs.declared.reply.Reply.TheVariants.{Begun, Done, Sealed, Durable, Refused}
+use Rattle.graph_model.specs.declared.reply.Entry.{Entry}
+use Rattle.graph_model.specs.Canon.{Shown, Nothing, Number, Object}
+
+abbrev pub event_text : Event → List ℕ
+event_text (Begin s) = decimal s ++ codes " begin"
+event_text (Root s h) = decimal s ++ codes " root " ++ decimal h
+event_text (Put s h i v) = decimal s ++ codes " put " ++ decimal h ++ codes " " ++ decimal i ++ codes " " ++ decimal v
+event_text (Seal s) = decimal s ++ codes " seal"
+event_text Force = codes "force"
+
+abbrev pub refusal_text : Refusal → List ℕ
+refusal_text (Failed entry) = codes "failed " ++ decimal entry
+refusal_text AlreadyActive = codes "alreadyactive"
+refusal_text NotActive = codes "notactive"
+refusal_text NumbersSpent = codes "numbersspent"
+refusal_text BadHandle = codes "badhandle"
+refusal_text Range = codes "range"
+refusal_text BadField = codes "badfield"
+refusal_text (LogFull used need reserved) = codes "logfull " ++ decimal used ++ codes " " ++ decimal need ++ codes " " ++ decimal reserved
+refusal_text DiskFault = codes "diskfault"
+refusal_text Stopped = codes "stopped"
+
+abbrev pub reply_text : Reply → List ℕ
+reply_text (Begun n) = codes "begun " ++ decimal n
+reply_text Done = codes "done"
+reply_text (Sealed n) = codes "sealed " ++ decimal n
+reply_text (Durable n) = codes "durable " ++ decimal n
+reply_text (Refused why) = refusal_text why
+
+-- an event and its reply
+abbrev pub entry_text : Entry → List ℕ
+entry_text entry = event_text entry.event ++ codes " -> " ++ reply_text entry.reply
+
+-- the line of an event and its reply
+abbrev pub line : Entry → List ℕ
+line entry = entry_text entry ++ 10 ∷ []
+
+-- a field, with a blank before it
+abbrev pub field_text : Shown → List ℕ
+field_text Nothing = codes " -"
+field_text (Number n) = codes " " ++ decimal n
+field_text (Object number) = codes " @" ++ decimal number
+
+abbrev pub fields_text : List Shown → List ℕ
+fields_text [] = []
+fields_text (field ∷ fields) = field_text field ++ fields_text fields
+
+-- the rows from this number on
+abbrev pub rows_text : ℕ → List (List Shown) → List ℕ
+rows_text number [] = []
+rows_text number (row ∷ rows) = decimal number ++ codes ":" ++ fields_text row ++ 10 ∷ rows_text (number + 1) rows
+
+-- a graph's text: how many objects there are, and a row for each
+abbrev pub canon_text : List (List Shown) → List ℕ
+canon_text rows = codes "graph " ++ decimal (length rows) ++ 10 ∷ rows_text 0 rows

@@ -1,0 +1,51 @@
+//! What is asked of the heap.
+ghost use Rattle.std.specs.Prelude.{Some, ◌↔◌, IsTrue};
+ghost use Rattle.graph_model.specs.Text.{event_text};
+
+use std::fmt;
+
+/// One step that is asked of the heap. A session is a number from 1 to 32; a handle names one of the 64 registers of the
+/// session's transaction.
+#[derive(Clone, Copy, Debug, PartialEq, Eq)]
+pub enum Event {
+    /// Session `s` begins a transaction.
+    Begin { s: u32 },
+    /// Handle `h` is to hold the root object.
+    Root { s: u32, h: u64 },
+    /// Field `i` of the object that `h` holds is to be the number `v`.
+    Put { s: u32, h: u64, i: u64, v: u64 },
+    /// The transaction of session `s` ends, and what it wrote stays.
+    Seal { s: u32 },
+    /// All that was sealed is to be on the disk.
+    Force,
+}
+
+impl Event {
+    ghost use Rattle.graph_model.specs.SlowHeap.{IsSingleSession};
+
+    /// Whether the event is of session 1, or of none.
+    pub fn is_single_session(&self) -> bool
+        ensures { IsTrue result ↔ IsSingleSession self.now }
+    {
+        match self {
+            Event::Begin { s } | Event::Root { s, .. } | Event::Put { s, .. } | Event::Seal { s } =>
+                *s == 1,
+            Event::Force => true,
+        }
+    }
+}
+
+/// The event as a line of a script, without the newline.
+impl fmt::Display for Event {
+    ghost output = { λ event. Some (event_text event) };
+
+    fn fmt<W: fmt::Write>(&self, f: &mut fmt::Formatter<W>) -> fmt::Result {
+        match self {
+            Event::Begin { s } => write!(f, "{s} begin"),
+            Event::Root { s, h } => write!(f, "{s} root {h}"),
+            Event::Put { s, h, i, v } => write!(f, "{s} put {h} {i} {v}"),
+            Event::Seal { s } => write!(f, "{s} seal"),
+            Event::Force => f.write_str("force"),
+        }
+    }
+}

@@ -1,0 +1,153 @@
+//! What the heap answers.
+ghost use Rattle.std.specs.Prelude.{Some};
+ghost use Rattle.graph_model.specs.Text.{entry_text, refusal_text, reply_text};
+
+use crate::event::Event;
+use std::fmt;
+
+/// Why an event was refused. All but the last two leave the heap as it was.
+#[derive(Clone, Copy, Debug, PartialEq, Eq)]
+pub enum Refusal {
+    /// The heap has failed: the entry of that number, from 1, was answered `diskfault` or `stopped`.
+    Failed { entry: u64 },
+    /// The session has a transaction already.
+    AlreadyActive,
+    /// The session has no transaction.
+    NotActive,
+    /// No transaction number is left.
+    NumbersSpent,
+    /// There is no such handle, or it holds nothing.
+    BadHandle,
+    /// The number is too large for a field.
+    Range,
+    /// The object has no such field.
+    BadField,
+    /// The log has no room: so many bytes are used, the event needs so many, and so many are kept for what must not fail.
+    LogFull { used: u64, need: u64, reserved: u64 },
+    /// The disk failed in this event.
+    DiskFault,
+    /// The disk stopped in this event.
+    Stopped,
+}
+
+/// What an event was answered.
+#[derive(Clone, Copy, Debug, PartialEq, Eq)]
+pub enum Reply {
+    /// The transaction of that number began.
+    Begun { n: u64 },
+    /// It was done.
+    Done,
+    /// The transaction was sealed, the nth since the heap was opened.
+    Sealed { n: u64 },
+    /// All that was sealed is on the disk: that many transactions since the heap was opened.
+    Durable { n: u64 },
+    /// It was not done.
+    Refused { why: Refusal },
+}
+
+/// An event and its answer.
+#[derive(Clone, Copy, Debug, PartialEq, Eq)]
+pub struct Entry {
+    pub event: Event,
+    pub reply: Reply,
+}
+
+impl fmt::Display for Refusal {
+    ghost output = { λ refusal. Some (refusal_text refusal) };
+
+    fn fmt<W: fmt::Write>(&self, f: &mut fmt::Formatter<W>) -> fmt::Result {
+        match self {
+            Refusal::Failed { entry } => write!(f, "failed {entry}"),
+            Refusal::AlreadyActive => f.write_str("alreadyactive"),
+            Refusal::NotActive => f.write_str("notactive"),
+            Refusal::NumbersSpent => f.write_str("numbersspent"),
+            Refusal::BadHandle => f.write_str("badhandle"),
+            Refusal::Range => f.write_str("range"),
+            Refusal::BadField => f.write_str("badfield"),
+            Refusal::LogFull {
+                used,
+                need,
+                reserved,
+            } => write!(f, "logfull {used} {need} {reserved}"),
+            Refusal::DiskFault => f.write_str("diskfault"),
+            Refusal::Stopped => f.write_str("stopped"),
+        }
+    }
+}
+
+impl fmt::Display for Reply {
+    ghost output = { λ reply. Some (reply_text reply) };
+
+    fn fmt<W: fmt::Write>(&self, f: &mut fmt::Formatter<W>) -> fmt::Result {
+        match self {
+            Reply::Begun { n } => write!(f, "begun {n}"),
+            Reply::Done => f.write_str("done"),
+            Reply::Sealed { n } => write!(f, "sealed {n}"),
+            Reply::Durable { n } => write!(f, "durable {n}"),
+            Reply::Refused { why } => write!(f, "{why}"),
+        }
+    }
+}
+
+/// The event and its answer as a line of a script's output, without the newline.
+impl fmt::Display for Entry {
+    ghost output = { λ entry. Some (entry_text entry) };
+
+    fn fmt<W: fmt::Write>(&self, f: &mut fmt::Formatter<W>) -> fmt::Result {
+        write!(f, "{} -> {}", self.event, self.reply)
+    }
+}
+
+#[cfg(test)]
+mod tests {
+    use super::*;
+    use std::test::Fail;
+
+    #[test]
+    fn replies_are_written(rt: HostRuntime) -> Result<(), Fail> {
+        let alloc = rt.alloc();
+        let cases = [
+            (Reply::Begun { n: 12 }, "begun 12"),
+            (Reply::Durable { n: 0 }, "durable 0"),
+            (
+                Reply::Refused {
+                    why: Refusal::NumbersSpent,
+                },
+                "numbersspent",
+            ),
+            (
+                Reply::Refused {
+                    why: Refusal::Failed { entry: 30 },
+                },
+                "failed 30",
+            ),
+            (
+                Reply::Refused {
+                    why: Refusal::LogFull {
+                        used: 100,
+                        need: 20,
+                        reserved: 3,
+                    },
+                },
+                "logfull 100 20 3",
+            ),
+            (
+                Reply::Refused {
+                    why: Refusal::DiskFault,
+                },
+                "diskfault",
+            ),
+            (
+                Reply::Refused {
+                    why: Refusal::Stopped,
+                },
+                "stopped",
+            ),
+        ];
+        for (reply, want) in cases {
+            let text = format!(in alloc; "{reply}")?;
+            assert_eq!(rt; text.as_str(), want);
+        }
+        Ok(())
+    }
+}
