@@ -1,0 +1,262 @@
+-- A force, and what the disk holds behind an event.
+use Rattle.std.proofs.Common.{◌≡◌, ◌≢◌, ◌⊎◌, inl, inr, ℕ, ◌+◌, List, [], ◌∷◌, ◌++◌, length, vec_len, Option, Some, None, Result, Ok, Err, refl, sym, ap, ◌∙◌, subst, arith}
+use Rattle.std.specs.Prelude.{IfOk}
+use Rattle.std.specs.declared.alloc.AllocError.{AllocError}
+use Rattle.std.proofs.lemmas.List.{append-nil}
+use Rattle.disk_model.specs.Disk.{part, Only}
+use Rattle.disk_model.specs.declared.disk.DiskError.{DiskError}
+use Rattle.gate_slot.specs.Images.{same_part}
+use Rattle.graph_model.specs.declared.event.Event.{Event}
+use Rattle.graph_model.specs.declared.event.Event.TheVariants.{Begin, Root, Put, Seal, Force}
+use Rattle.graph_model.specs.declared.reply.Entry.{Entry}
+use Rattle.graph_model.specs.declared.reply.Refusal.{Refusal}
+use Rattle.graph_model.specs.declared.reply.Refusal.TheVariants.{Failed, DiskFault, Stopped}
+use Rattle.graph_model.specs.declared.reply.Reply.{Reply}
+use Rattle.graph_model.specs.declared.reply.Reply.TheVariants.{Begun, Done, Sealed, Durable, Refused}
+use Rattle.graph_model.specs.SlowHeap.{IsSingleSession}
+use Rattle.graph_model.specs.History.{Account, account, account_after, first_failure}
+use Rattle.graph_model.specs.HistoryLaws.{account-append, entries-account}
+use Rattle.graph_model.specs.Plain.{granted, reply_of}
+use Rattle.graph_model.specs.PlainLaws.{account_after-refused}
+use Rattle.heap_shell.specs.declared.log.Log.{Log}
+use Rattle.heap_shell.specs.declared.plan.Super.{Super}
+use Rattle.heap_shell.specs.declared.records.Record.{Record}
+use Rattle.heap_shell.specs.declared.working.Working.{Working}
+use Rattle.heap_shell.specs.Core.{Core, next_number, core_refusal, answer, with_entry, after_refusal, after}
+use Rattle.heap_shell.specs.CoreValid.{IsValid, IsReached}
+use Rattle.heap_shell.specs.CoreLawsCrash.{IsOnDisk, on_disk_waiting, forced-with_batch, disk_good, disk_whole, disk_plain}
+use Rattle.heap_shell.specs.CoreLawsRoom.{records_of-append}
+use Rattle.heap_shell.specs.CoreLawsRun.{IsIdle, failed_refusal, after_history, step_history}
+use Rattle.heap_shell.specs.CoreLawsStep.{valid_after}
+use Rattle.heap_shell.specs.Format.{SameOutside}
+use Rattle.heap_shell.specs.Image.{records_of, IsLegal}
+use Rattle.heap_shell.specs.Log.{with_batch, HoldsBatches}
+use Rattle.heap_shell.specs.LogState.{Keeps, IsPlaced}
+use Rattle.heap_shell.specs.Machine.{words}
+use Rattle.heap_shell.specs.Means.{Works, OnDisk, Means, Steps}
+use Rattle.heap_shell.specs.Plan.{frame_offset}
+use Rattle.heap_shell.specs.Record.{spellings}
+use Rattle.heap_shell.proofs.MeansLog.{hand_length, keeps_same}
+use Rattle.heap_shell.proofs.MeansRefusal.{force_same}
+use Rattle.heap_shell.specs.Working.{begin_refusal, active_after_begin, next_after_begin, root_refusal, active_after_root, put_refusal, seal_refusal, update_of, Writes, Seals, IsAsItWas}
+use Rattle.heap_shell.proofs.MeansStep.{Does, works_after, begin_does, root_does, put_does, seal_does}
+
+records_forced : (bs : List (List Record)) (p : List Record) → records_of (with_batch bs p) ++ [] ≡ records_of bs ++ p
+records_forced bs [] = refl
+records_forced bs (r ∷ rs) = append-nil (records_of (bs ++ (r ∷ rs) ∷ [])) ∙ records_of-append bs (r ∷ rs)
+
+-- what waited is on the disk
+pub force_does : (w new : Working) (c : Core) (reply : Reply) → IsValid c → Works w (account c.history) c → Keeps new.log (with_batch c.batches c.pending) []
+    → new.log.at ≡ w.log.at → new.log.room ≡ w.log.room → new.words ≡ w.words → new.active ≡ w.active → new.next ≡ w.next → new.sealed ≡ w.sealed → reply ≡ Durable w.sealed → Does c Force reply new
+force_does w new c reply valid works keeps at room stored active next sealed replied =
+    let a = account c.history in
+    let P : Core → Type 0 = λ d. Works new (account_after a (record { event = Force; reply = Durable (length a.sealed) })) d in
+    record {
+      replied = replied ∙ ap Durable works.sealed ∙ sym (ap (λ (o : Option Refusal). reply_of o (Durable (length a.sealed))) (force_same c valid));
+      works = works_after new c Force None (force_same c valid)
+          (λ e. subst P (sym (forced-with_batch c)) (record {
+            log = keeps;
+            place = at ∙ works.place;
+            room = room ∙ works.room;
+            stored = ap (λ (p : _). p.words) stored ∙ works.stored ∙ ap words (sym (records_forced c.batches c.pending));
+            active = active ∙ works.active;
+            next = next ∙ works.next;
+            sealed = sealed ∙ works.sealed;
+          }))
+          (λ why e. cc);
+    }
+
+-- an image whose log holds what a core may have on the disk
+pub legal_with : (s : Super) (c : Core) (bs bs' : List (List Record)) (old new : List ℕ) → IsReached c → IsOnDisk c bs' → IsLegal s bs old → SameOutside 64 (64 + s.log_bytes) old new
+    → HoldsBatches (part new 64 s.log_bytes) bs' → IsLegal s bs' new
+legal_with s c bs bs' old new reached on legal outside holds = record {
+  limits = legal.limits;
+  size = omega (arith, legal.size, outside.size);
+  super = same_part 0 64 old new outside.size (λ i low high. outside.before i (omega arith)) ∙ legal.super;
+  log = holds;
+  good = disk_good c bs' reached on;
+  whole = disk_whole c bs' reached on;
+  plain = disk_plain c bs' reached on;
+  frames = λ p f few one is. legal.frames p f few one (sym (outside.behind (frame_offset s.log_bytes p f) (omega arith)) ∙ is);
+}
+
+keeps_batches : (o : Option Refusal) (c : Core) (event : Event) → (event ≡ Force → ⊥) → ((after_refusal o c event).batches ≡ c.batches) × ((after_refusal o c event).room ≡ c.room)
+keeps_batches (Some why) c event other = (refl, refl)
+keeps_batches None c (Begin s) other = (refl, refl)
+keeps_batches None c (Root s h) other = (refl, refl)
+keeps_batches None c (Put s h i v) other = (refl, refl)
+keeps_batches None c (Seal s) other = (refl, refl)
+keeps_batches None c Force other = absurd (other refl)
+
+-- only a force asks anything of the disk
+pub disk_stays : (s : Super) (c : Core) (event : Event) (image : List ℕ) (may_leave : List ℕ → Type 0) → (event ≡ Force → ⊥) → OnDisk s c image may_leave → OnDisk s (after c event) image may_leave
+disk_stays s c event image may_leave other disk =
+    let same = keeps_batches (core_refusal c event) c event other in
+    record {
+      legal = let P : List (List Record) → Type 0 = λ bs. IsLegal s bs image in subst P (sym same.0) disk.legal;
+      only = disk.only;
+      room = disk.room ∙ sym same.1;
+    }
+
+-- the disk behind a force
+pub disk_forced : (s : Super) (c : Core) (old new : List ℕ) (may_leave' may_leave : List ℕ → Type 0) → IsValid c → IsIdle c → OnDisk s c old may_leave' → SameOutside 64 (64 + s.log_bytes) old new
+    → HoldsBatches (part new 64 s.log_bytes) (with_batch c.batches c.pending) → Only new may_leave → OnDisk s (after c Force) new may_leave
+disk_forced s c old new may_leave' may_leave valid idle disk outside holds only =
+    let forced_now : after_refusal (core_refusal c Force) c Force ≡ record c { batches = with_batch c.batches c.pending; pending = [] } =
+    ap (λ (o : Option Refusal). after_refusal o c Force) (force_same c valid) ∙ forced-with_batch c in
+    let P : Core → Type 0 = λ d. OnDisk s (with_entry d Force (answer c Force)) new may_leave in
+    subst P (sym forced_now) (record {
+      legal = legal_with s c c.batches (with_batch c.batches c.pending) old new (inl valid) (on_disk_waiting c idle) disk.legal outside holds;
+      only = only;
+      room = disk.room;
+    })
+
+-- an event that the disk did not cut short
+pub whole_steps : (s : Super) (c : Core) (event : Event) (reply : Reply) (w : Working) (failed : Option ℕ) (image : List ℕ) (may_leave : List ℕ → Type 0) → IsValid (after c event) → failed ≡ None
+    → Does c event reply w → OnDisk s (after c event) image may_leave → Steps s c event reply w failed image may_leave
+whole_steps s c event reply w failed image may_leave valid none does disk = record {
+  next = after c event;
+  step = inl (does.replied, refl);
+  means = record { failure = none ∙ sym valid.unfailed; works = λ e. does.works; disk = λ e. disk };
+}
+
+told_entry : (a : Account) (reply : Reply) → a.failed ≡ None → (reply ≡ Refused DiskFault) ⊎ (reply ≡ Refused Stopped) → Some (a.entries + 1) ≡ (account_after a (record { event = Force; reply = reply })).failed
+told_entry a reply none (inl is) =
+    sym (ap (λ (r : Reply). (account_after a (record { event = Force; reply = r })).failed) is ∙ ap (λ (o : Option ℕ). first_failure o (a.entries + 1)) none)
+told_entry a reply none (inr is) =
+    sym (ap (λ (r : Reply). (account_after a (record { event = Force; reply = r })).failed) is ∙ ap (λ (o : Option ℕ). first_failure o (a.entries + 1)) none)
+
+-- a force that the disk cut short
+pub cut_steps : (s : Super) (c : Core) (reply : Reply) (w new : Working) (entries : ℕ) (failed : Option ℕ) (image : List ℕ) (may_leave : List ℕ → Type 0) → IsValid c → Works w (account c.history) c
+    → vec_len w.log.hand ≢ 4 → (reply ≡ Refused DiskFault) ⊎ (reply ≡ Refused Stopped) → entries ≡ length c.history → failed ≡ Some (entries + 1) → Steps s c Force reply new failed image may_leave
+cut_steps s c reply w new entries failed image may_leave valid works waits told count is =
+    let a = account c.history in
+    let entry : Entry = record { event = Force; reply = reply } in
+    record {
+      next = with_entry c Force reply;
+      step = inr (record { force = refl; waits = λ none. waits (hand_length w.log c.batches c.pending works.log ∙ ap (λ (p : List Record). 4 + length (spellings p)) none); first = valid.unfailed; told = told }, refl);
+      means = record {
+        failure = is ∙ ap (λ (n : ℕ). Some (n + 1)) (count ∙ sym (entries-account c.history)) ∙ told_entry a reply valid.unfailed told ∙ ap (λ (b : Account). b.failed) (sym (account-append c.history entry));
+        works = λ none. let never : None ≡ Some (entries + 1) = sym none ∙ is in cc;
+        disk = λ none. let never : None ≡ Some (entries + 1) = sym none ∙ is in cc;
+      };
+    }
+
+-- a heap that has failed refuses everything
+pub failed_steps : (s : Super) (c : Core) (event : Event) (entry : ℕ) (w : Working) (failed : Option ℕ) (image : List ℕ) (may_leave : List ℕ → Type 0) → Means s c w failed image may_leave → failed ≡ Some entry
+    → Steps s c event (Refused (Failed entry)) w failed image may_leave
+failed_steps s c event entry w failed image may_leave means is =
+    let a = account c.history in
+    let refused = failed_refusal c event entry (sym means.failure ∙ is) in
+    let answered : answer c event ≡ Refused (Failed entry) = ap (λ (o : Option Refusal). reply_of o (granted (next_number c) c.g0 a event)) refused in
+    let said : account (after c event).history ≡ account_after a (record { event = event; reply = answer c event }) = ap account (after_history c event) ∙ account-append c.history _ in
+    record {
+      next = after c event;
+      step = inl (sym answered, refl);
+      means = record {
+        failure = means.failure ∙ sym (ap (λ (b : Account). b.failed) (said ∙ ap (λ (r : Reply). account_after a (record { event = event; reply = r })) answered ∙ account_after-refused a event (Failed entry) tt));
+        works = λ none. let never : None ≡ Some entry = sym none ∙ is in cc;
+        disk = λ none. let never : None ≡ Some entry = sym none ∙ is in cc;
+      };
+    }
+
+-- a heap that has not failed is a valid core
+pub unfailed_valid : (s : Super) (c : Core) (w : Working) (failed : Option ℕ) (image : List ℕ) (may_leave : List ℕ → Type 0) → Means s c w failed image may_leave → failed ≡ None → IsReached c → IsValid c
+unfailed_valid s c w failed image may_leave means none (inl valid) = valid
+unfailed_valid s c w failed image may_leave means none (inr bad) = let never : None ≡ Some bad.entry = sym none ∙ means.failure ∙ bad.failed in cc
+
+module _ (s : Super) (c : Core) (w : Working) (log : Log) (failed : Option ℕ) (old : List ℕ) (may_have_left : List ℕ → Type 0) (means : Means s c w failed old may_have_left) (none : failed ≡ None)
+    (placed : IsPlaced w.log log) (hand : log.hand.items ≡ w.log.hand.items) where
+  abbrev works : Works w (account c.history) c
+  works = means.works none
+
+  abbrev disk : OnDisk s c old may_have_left
+  disk = means.disk none
+
+  -- the log keeps the core's batches in memory
+  pub keeps : Keeps log c.batches c.pending
+  keeps = keeps_same w.log log c.batches c.pending (record { at = placed.at; room = placed.room; tail = placed.tail; in_hand = hand }) works.log
+
+  at : log.at ≡ 64
+  at = placed.at ∙ works.place
+
+  room : log.room ≡ s.log_bytes
+  room = placed.room ∙ works.room ∙ sym disk.room
+
+  in_log : (P : ℕ → ℕ → Type 0) → P log.at log.room → P 64 s.log_bytes
+  in_log P h = subst (P 64) room (let Q : ℕ → Type 0 = λ n. P n log.room in subst Q at h)
+
+  -- and they stand on the disk
+  pub holds : HoldsBatches (part old log.at log.room) c.batches
+  holds = let P : ℕ → ℕ → Type 0 = λ n m. HoldsBatches (part old n m) c.batches in
+      let Q : ℕ → Type 0 = λ n. P n log.room in subst Q (sym at) (subst (P 64) (sym room) disk.legal.log)
+
+  pub ok_steps : (new : Working) (image : List ℕ) (may_leave : List ℕ → Type 0) (reply : Reply) → IsReached c → IsIdle c → Keeps new.log (with_batch c.batches c.pending) []
+      → HoldsBatches (part image log.at log.room) (with_batch c.batches c.pending) → SameOutside log.at (log.at + log.room) old image → Only image may_leave
+      → new.log.at ≡ log.at → new.log.room ≡ log.room → new.words ≡ w.words → new.active ≡ w.active → new.next ≡ w.next → new.sealed ≡ w.sealed → reply ≡ Durable w.sealed
+      → Steps s c Force reply new failed image may_leave
+  ok_steps new image may_leave reply reached idle kept held outside only new_at new_room stored active next sealed replied =
+      let valid = unfailed_valid s c w failed old may_have_left means none reached in
+      whole_steps s c Force reply new failed image may_leave (valid_after c Force valid tt (λ e. idle)) none
+      (force_does w new c reply valid works kept (new_at ∙ placed.at) (new_room ∙ placed.room) stored active next sealed replied)
+      (disk_forced s c old image may_have_left may_leave valid idle disk
+      (let P : ℕ → ℕ → Type 0 = λ n m. SameOutside n (n + m) old image in in_log P outside)
+      (let P : ℕ → ℕ → Type 0 = λ n m. HoldsBatches (part image n m) (with_batch c.batches c.pending) in in_log P held)
+      only)
+
+  pub err_steps : (new : Working) (image : List ℕ) (may_leave : List ℕ → Type 0) (reply : Reply) (entries : ℕ) (result : Result (Unit {0}) DiskError) (e : DiskError) (now : Option ℕ) → IsReached c
+      → (vec_len log.hand ≡ 4 → result ≡ Ok tt) → result ≡ Err e → vec_len log.hand ≡ vec_len w.log.hand → (reply ≡ Refused DiskFault) ⊎ (reply ≡ Refused Stopped)
+      → entries ≡ length c.history → now ≡ Some (entries + 1) → Steps s c Force reply new now image may_leave
+  err_steps new image may_leave reply entries result e now reached waited is same told count fails =
+      let valid = unfailed_valid s c w failed old may_have_left means none reached in
+      cut_steps s c reply w new entries now image may_leave valid works (λ four. let never : Err e ≡ Ok tt = sym is ∙ waited (same ∙ four) in cc) told count fails
+
+module _ (s : Super) (c : Core) (w : Working) (failed : Option ℕ) (image : List ℕ) (may_leave : List ℕ → Type 0) (means : Means s c w failed image may_leave) (none : failed ≡ None) (reached : IsReached c) where
+  abbrev is_valid : IsValid c
+  is_valid = unfailed_valid s c w failed image may_leave means none reached
+
+  -- an event that asks nothing of the disk
+  pub quiet_steps : (event : Event) (reply : Reply) (new : Working) → IsSingleSession event → (event ≡ Force → ⊥) → Does c event reply new → Steps s c event reply new failed image may_leave
+  quiet_steps event reply new one other does =
+      whole_steps s c event reply new failed image may_leave (valid_after c event is_valid one (λ e. absurd (other e))) none does (disk_stays s c event image may_leave other (means.disk none))
+
+  quiet_result : (event : Event) (result : Result Reply AllocError) (new : Working) → IsSingleSession event → (event ≡ Force → ⊥) → IfOk result (λ reply. Does c event reply new)
+      → IfOk result (λ reply. Steps s c event reply new failed image may_leave)
+  quiet_result event (Ok reply) new one other does = quiet_steps event reply new one other does
+  quiet_result event (Err e) new one other does = tt
+
+  pub begin_steps : (event : Event) (n : ℕ) (new : Working) (reply : Reply) → event ≡ Begin n → IsSingleSession event → reply ≡ reply_of (begin_refusal w) (Begun w.next) → new.active ≡ active_after_begin (begin_refusal w) w → new.next ≡ next_after_begin (begin_refusal w) w.next
+      → new.log ≡ w.log → new.words ≡ w.words → new.sealed ≡ w.sealed → Steps s c event reply new failed image may_leave
+  begin_steps event n new reply is one replied active next log stored sealed =
+      let P : ℕ → Type 0 = λ m. Steps s c (Begin m) reply new failed image may_leave in
+      let Q : Event → Type 0 = λ x. Steps s c x reply new failed image may_leave in
+      subst Q (sym is) (subst P (sym (subst IsSingleSession is one)) (quiet_steps (Begin 1) reply new refl (λ e. cc) (begin_does w new c is_valid (means.works none) reply replied active next log stored sealed)))
+
+  pub root_steps : (event : Event) (n h : ℕ) (new : Working) (reply : Reply) → event ≡ Root n h → IsSingleSession event → reply ≡ reply_of (root_refusal w.active h) Done → new.active ≡ active_after_root (root_refusal w.active h) w.active h → new.next ≡ w.next
+      → new.log ≡ w.log → new.words ≡ w.words → new.sealed ≡ w.sealed → Steps s c event reply new failed image may_leave
+  root_steps event n h new reply is one replied active next log stored sealed =
+      let P : ℕ → Type 0 = λ m. Steps s c (Root m h) reply new failed image may_leave in
+      let Q : Event → Type 0 = λ x. Steps s c x reply new failed image may_leave in
+      subst Q (sym is) (subst P (sym (subst IsSingleSession is one)) (quiet_steps (Root 1 h) reply new refl (λ e. cc) (root_does w new c is_valid (means.works none) h reply replied active next log stored sealed)))
+
+  pub put_steps : (event : Event) (n h i v : ℕ) (new : Working) (result : Result Reply AllocError) → event ≡ Put n h i v → IsSingleSession event → IfOk result (λ reply. reply ≡ reply_of (put_refusal w.log w.active h i v) Done)
+      → (result ≡ Ok Done → Writes w new (λ x. update_of w.words.words x i v)) → ((why : Refusal) → result ≡ Ok (Refused why) → IsAsItWas w new)
+      → IfOk result (λ reply. Steps s c event reply new failed image may_leave)
+  put_steps event n h i v new result is one replied wrote stays =
+      let P : ℕ → Type 0 = λ m. IfOk result (λ reply. Steps s c (Put m h i v) reply new failed image may_leave) in
+      let Q : Event → Type 0 = λ x. IfOk result (λ reply. Steps s c x reply new failed image may_leave) in
+      subst Q (sym is) (subst P (sym (subst IsSingleSession is one)) (quiet_result (Put 1 h i v) result new refl (λ e. cc) (put_does w new c is_valid (means.works none) h i v result replied wrote stays)))
+
+  pub seal_steps : (event : Event) (n : ℕ) (new : Working) (result : Result Reply AllocError) → event ≡ Seal n → IsSingleSession event → IfOk result (λ reply. reply ≡ reply_of (seal_refusal w.active) (Sealed (w.sealed + 1)))
+      → ((number : ℕ) → result ≡ Ok (Sealed number) → Seals w new) → ((why : Refusal) → result ≡ Ok (Refused why) → IsAsItWas w new)
+      → IfOk result (λ reply. Steps s c event reply new failed image may_leave)
+  seal_steps event n new result is one replied sealed stays =
+      let P : ℕ → Type 0 = λ m. IfOk result (λ reply. Steps s c (Seal m) reply new failed image may_leave) in
+      let Q : Event → Type 0 = λ x. IfOk result (λ reply. Steps s c x reply new failed image may_leave) in
+      subst Q (sym is) (subst P (sym (subst IsSingleSession is one)) (quiet_result (Seal 1) result new refl (λ e. cc) (seal_does w new c is_valid (means.works none) result replied sealed stays)))
+
+-- what is kept of a heap and the entry that its history has got
+pub with_history : (s : Super) (c : Core) (event : Event) (reply : Reply) (w : Working) (failed : Option ℕ) (image : List ℕ) (may_leave : List ℕ → Type 0) (old new : List Entry)
+    → old ≡ c.history → new ≡ old ++ record { event = event; reply = reply } ∷ [] → (steps : Steps s c event reply w failed image may_leave) → new ≡ steps.next.history
+with_history s c event reply w failed image may_leave old new was is steps =
+    is ∙ ap (λ (l : List Entry). l ++ record { event = event; reply = reply } ∷ []) was ∙ sym (step_history c steps.next event reply steps.step)

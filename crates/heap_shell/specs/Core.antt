@@ -1,0 +1,159 @@
+-- The core: what each event is answered, and the state that it leaves.
+use Rattle.std.specs.Prelude.{◌≡◌, ◌≢◌, ◌⊎◌, ℕ, ◌+◌, ◌*◌, nat_lt, List, [], ◌∷◌, ◌++◌, length, Bool, true, false, Option, None, Some, unwrap_or, slice_get, count_by, if◌then◌else◌}
+use Rattle.graph_model.specs.declared.id.Id.{Id}
+use Rattle.graph_model.specs.declared.val.Val.{Val}
+use Rattle.graph_model.specs.declared.val.Val.TheVariants.{Null, Int}
+use Rattle.graph_model.specs.declared.event.Event.{Event}
+use Rattle.graph_model.specs.declared.event.Event.TheVariants.{Put, Seal, Force}
+use Rattle.graph_model.specs.declared.reply.Refusal.{Refusal}
+use Rattle.graph_model.specs.declared.reply.Refusal.TheVariants.{LogFull, DiskFault, Stopped}
+use Rattle.graph_model.specs.declared.reply.Reply.{Reply}
+use Rattle.graph_model.specs.declared.reply.Reply.TheVariants.{Refused}
+use Rattle.graph_model.specs.declared.reply.Entry.{Entry}
+use Rattle.graph_model.specs.Graph.{Graph, fields, new_graph}
+use Rattle.graph_model.specs.Transaction.{Transaction, held}
+use Rattle.graph_model.specs.History.{Account, account, account_after}
+use Rattle.graph_model.specs.Plain.{view, event_refusal, refusal_of, granted, reply_of}
+use Rattle.heap_shell.specs.declared.records.Record.{Record}
+use Rattle.heap_shell.specs.declared.records.Record.TheVariants.{Update, Commit}
+use Rattle.heap_shell.specs.Word.{word_of}
+use Rattle.heap_shell.specs.Record.{spellings}
+use Rattle.heap_shell.specs.Log.{batches_bytes, hand}
+
+-- The state of a heap since it was opened.
+pub record Core : Type 0 where
+  pub room : ℕ  -- the bytes of the log
+  pub first : ℕ  -- the next transaction's number at the opening
+  pub g0 : Graph  -- the graph at the opening
+  pub history : List Entry  -- the events since then and their replies
+  pub batches : List (List Record)  -- the log's batches on the disk
+  pub pending : List Record  -- the records behind them that wait to be forced
+
+-- a new heap, just opened
+abbrev pub fresh : ℕ → ℕ → Core
+fresh room first = record { room = room; first = first; g0 = new_graph; history = []; batches = []; pending = [] }
+
+-- the next transaction's number
+abbrev pub next_number : Core → ℕ
+next_number c = c.first + (account c.history).begun
+
+-- the record of a write of number v into field i of the object with these fields: the root, at address 0
+abbrev pub update : ℕ → List Val → ℕ → ℕ → Record
+update t vs i v = Update t 0 i (word_of (unwrap_or (slice_get vs i) Null)) (word_of (Int v))
+
+-- the record of a put into the object that a handle holds
+abbrev pub put_records : ℕ → Graph → Option Id → ℕ → ℕ → List Record
+put_records t g None i v = []
+put_records t g (Some id) i v = update t (fields g id) i v ∷ []
+
+-- the records of a call of a session, by its transaction
+abbrev pub call_records : Graph → Account → Option Transaction → Event → List Record
+call_records g0 a None event = []
+call_records g0 a (Some t) (Put s h i v) = put_records t.number (view g0 a t).graph (held (view g0 a t).registers h) i v
+call_records g0 a (Some t) (Seal s) = Commit t.number ∷ []
+call_records g0 a (Some t) event = []
+
+-- the records that an event appends
+abbrev pub event_records : Graph → Account → Event → List Record
+event_records g0 a (Put s h i v) = call_records g0 a (a.active s) (Put s h i v)
+event_records g0 a (Seal s) = call_records g0 a (a.active s) (Seal s)
+event_records g0 a event = []
+
+-- the log's bytes that are used: the forced batches, a gate, and the batch in hand
+abbrev pub used : Core → ℕ
+used c = length (batches_bytes c.batches) + 1 + length (hand c.pending)
+
+-- the bytes that records take behind those that wait, with those of a batch where none waits
+abbrev pub need : List Record → List Record → ℕ
+need pending [] = 0
+need [] (r ∷ rs) = length (spellings (r ∷ rs)) + 5
+need (p ∷ ps) (r ∷ rs) = length (spellings (r ∷ rs))
+
+abbrev pub is_put : Event → Bool
+is_put (Put s h i v) = true
+is_put event = false
+
+-- the bytes that are kept for the end of a transaction: a record, a batch, and the old word of each write
+abbrev pub reserved : Option Transaction → ℕ
+reserved None = 0
+reserved (Some t) = 10 + 19 * count_by is_put t.calls
+
+-- what is kept after an event, if it is granted
+abbrev pub reserved_after : Core → Event → ℕ
+reserved_after c event =
+    let a = account c.history in
+    reserved ((account_after a (record { event = event; reply = granted (next_number c) c.g0 a event })).active 1)
+
+abbrev pub full_log : ℕ → ℕ → ℕ → ℕ → Option Refusal
+full_log room used need reserved = if nat_lt room (used + need + reserved) then Some (LogFull used need reserved) else None
+
+-- why the log has no room for an event
+abbrev pub log_refusal : Core → Event → Option Refusal
+log_refusal c event = full_log c.room (used c) (need c.pending (event_records c.g0 (account c.history) event)) (reserved_after c event)
+
+-- the first reason of two
+abbrev pub first_of_two : Option Refusal → Option Refusal → Option Refusal
+first_of_two None second = second
+first_of_two (Some why) second = Some why
+
+-- why the core refuses an event
+abbrev pub core_refusal : Core → Event → Option Refusal
+core_refusal c event =
+    let a = account c.history in
+    refusal_of a.failed (first_of_two (event_refusal (next_number c) c.g0 a event) (log_refusal c event))
+
+-- what an event is answered where the disk does what it is asked
+abbrev pub answer : Core → Event → Reply
+answer c event = reply_of (core_refusal c event) (granted (next_number c) c.g0 (account c.history) event)
+
+-- the state with one entry more
+abbrev pub with_entry : Core → Event → Reply → Core
+with_entry c event reply = record c { history = c.history ++ record { event = event; reply = reply } ∷ [] }
+
+-- all that waits is on the disk, as one batch
+abbrev pub forced : Core → List Record → Core
+forced c [] = c
+forced c (r ∷ rs) = record c { batches = c.batches ++ (r ∷ rs) ∷ []; pending = [] }
+
+-- what an event that is granted does
+abbrev pub done : Core → Event → Core
+done c Force = forced c c.pending
+done c event = record c { pending = c.pending ++ event_records c.g0 (account c.history) event }
+
+-- what an event does that may be refused
+abbrev pub after_refusal : Option Refusal → Core → Event → Core
+after_refusal None c event = done c event
+after_refusal (Some why) c event = c
+
+-- the state after an event where the disk does what it is asked
+abbrev pub after : Core → Event → Core
+after c event = with_entry (after_refusal (core_refusal c event) c event) event (answer c event)
+
+-- the disk fails or stops in a force that has something to do
+pub record IsCutShort (c : Core) (event : Event) (reply : Reply) : Type 0 where
+  pub force : event ≡ Force
+  pub waits : c.pending ≢ []
+  pub first : (account c.history).failed ≡ None
+  pub told : (reply ≡ Refused DiskFault) ⊎ (reply ≡ Refused Stopped)
+
+-- From c an event may be answered so, and leave d.
+abbrev pub IsStep : Core → Event → Reply → Core → Type 0
+IsStep c event reply d =
+    ((reply ≡ answer c event) × (d ≡ after c event)) ⊎ (IsCutShort c event reply × (d ≡ with_entry c event reply))
+
+-- From c these events may lead to d, one step after another.
+abbrev pub IsRun : Core → List Event → Core → Type 0
+IsRun c [] d = d ≡ c
+IsRun c (event ∷ events) d = (reply : Reply) × (mid : Core) × IsStep c event reply mid × IsRun mid events d
+
+-- the writes and syncs of an event where the disk does what it is asked: a force of what waits makes four
+abbrev pub force_calls : List Record → ℕ
+force_calls [] = 0
+force_calls (r ∷ rs) = 4
+
+abbrev pub calls_if : Option ℕ → Core → Event → ℕ
+calls_if None c Force = force_calls c.pending
+calls_if failed c event = 0
+
+abbrev pub calls : Core → Event → ℕ
+calls c event = calls_if (account c.history).failed c event

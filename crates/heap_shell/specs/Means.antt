@@ -1,0 +1,62 @@
+-- When what an open heap keeps is a core.
+use Rattle.std.specs.Prelude.{◌≡◌, ℕ, ◌+◌, List, [], ◌++◌, length, map, is_some, count_by, Option, None, Some}
+use Rattle.disk_model.specs.Disk.{Only}
+use Rattle.disk_model.specs.declared.disk.Disk.{Ghosts}
+use Rattle.graph_model.specs.declared.event.Event.{Event}
+use Rattle.graph_model.specs.declared.reply.Reply.{Reply}
+use Rattle.graph_model.specs.Graph.{Graph}
+use Rattle.graph_model.specs.Transaction.{Transaction, run, serial}
+use Rattle.graph_model.specs.History.{Account, account}
+use Rattle.heap_shell.specs.declared.active.Active.{Active}
+use Rattle.heap_shell.specs.declared.heap.Heap.{Heap}
+use Rattle.heap_shell.specs.declared.plan.Super.{Super}
+use Rattle.heap_shell.specs.declared.records.Record.{Record}
+use Rattle.heap_shell.specs.declared.working.Working.{Working}
+use Rattle.heap_shell.specs.Core.{Core, is_put, IsStep}
+use Rattle.heap_shell.specs.Image.{records_of, IsLegal}
+use Rattle.heap_shell.specs.LogState.{Keeps}
+use Rattle.heap_shell.specs.Machine.{words, graph_of}
+use Rattle.heap_shell.specs.Plan.{log_offset}
+
+-- what is kept in memory of a transaction on a graph: its number, which handles hold an object, and how often it wrote
+abbrev pub active_of : Graph → Option Transaction → Option Active
+active_of g None = None
+active_of g (Some t) = Some (record { number = t.number; handles = map is_some (run g t).registers; writes = count_by is_put t.calls })
+
+-- The working state is that of a core whose history tells this account.
+pub record Works (w : Working) (a : Account) (c : Core) : Type 0 where
+  pub log : Keeps w.log c.batches c.pending
+  pub place : w.log.at ≡ log_offset
+  pub room : w.log.room ≡ c.room
+  pub stored : w.words.words ≡ words (records_of c.batches ++ c.pending)
+  pub active : w.active ≡ active_of (serial c.g0 a.sealed) (a.active 1)
+  pub next : w.next ≡ c.first + a.begun
+  pub sealed : w.sealed ≡ length a.sealed
+
+-- The disk holds a core's batches, and a crash can leave nothing else.
+pub record OnDisk (s : Super) (c : Core) (image : List ℕ) (may_leave : List ℕ → Type 0) : Type 0 where
+  pub legal : IsLegal s c.batches image
+  pub only : Only image may_leave
+  pub room : s.log_bytes ≡ c.room
+
+-- The working state and the disk are those of a core, until the disk stops or fails at an entry.
+pub record Means (s : Super) (c : Core) (w : Working) (failed : Option ℕ) (image : List ℕ) (may_leave : List ℕ → Type 0) : Type 0 where
+  pub failure : failed ≡ (account c.history).failed
+  pub works : failed ≡ None → Works w (account c.history) c
+  pub disk : failed ≡ None → OnDisk s c image may_leave
+
+-- An event was answered as from a core, and what is kept is what that leaves.
+pub record Steps (s : Super) (c : Core) (event : Event) (reply : Reply) (w : Working) (failed : Option ℕ) (image : List ℕ) (may_leave : List ℕ → Type 0) : Type 0 where
+  pub next : Core
+  pub step : IsStep c event reply next
+  pub means : Means s next w failed image may_leave
+
+-- the core of a heap that has just been opened, whose next transaction has this number
+abbrev pub opened : Super → List (List Record) → ℕ → Core
+opened s batches next = record { room = s.log_bytes; first = next; g0 = graph_of (records_of batches); history = []; batches = batches; pending = [] }
+
+module _ {D : Type 0} {g : Ghosts D} where
+  -- A heap is a core, and its history is the core's.
+  pub record IsHeap (s : Super) (c : Core) (heap : Heap D g) : Type 0 where
+    pub history : heap.history.entries.items ≡ c.history
+    pub means : Means s c heap.working heap.failed (g.bytes heap.disk) (g.may_leave heap.disk)

@@ -1,0 +1,44 @@
+-- What an opening finds.
+use Rattle.std.specs.Prelude.{◌≡◌, ◌+◌, List, [], Some, max}
+use Rattle.heap_shell.specs.declared.log.LogError.{LogError}
+use Rattle.heap_shell.specs.declared.log.LogError.TheVariants as logging
+use Rattle.heap_shell.specs.declared.plan.Super.{Super}
+use Rattle.heap_shell.specs.declared.status.At.TheVariants.{Batch}
+use Rattle.heap_shell.specs.declared.records.Record.{Record}
+use Rattle.heap_shell.specs.declared.recovery.OpenError.{OpenError}
+use Rattle.heap_shell.specs.declared.recovery.OpenError.TheVariants.{NoMemory, NotHeap, Damaged, Disk}
+use Rattle.heap_shell.specs.declared.recovery.Recovered.{Recovered}
+use Rattle.heap_shell.specs.Image.{records_of}
+use Rattle.heap_shell.specs.LogState.{Keeps}
+use Rattle.heap_shell.specs.Machine.{start, after_all, words}
+use Rattle.heap_shell.specs.MachineState.{state_of}
+use Rattle.heap_shell.specs.Plan.{log_offset}
+
+-- The parts of a heap, as a legal image with these numbers and batches has them.
+pub record IsRecovered (s : Super) (batches : List (List Record)) (found : Recovered) : Type 0 where
+  pub log : Keeps found.log batches []
+  pub place : found.log.at ≡ log_offset
+  pub room : found.log.room ≡ s.log_bytes
+  pub words : found.words.words ≡ words (records_of batches)
+  pub state : after_all start (records_of batches) ≡ Some (state_of found.state)
+  pub next : found.next ≡ max s.first ((state_of found.state).greatest + 1)
+
+-- Memory was refused or the disk failed: nothing is told of the image.
+abbrev pub IsFromOutside : OpenError → Type 0
+IsFromOutside NoMemory = Unit {0}
+IsFromOutside NotHeap = ⊥
+IsFromOutside (Damaged at) = ⊥
+IsFromOutside (Disk e) = Unit {0}
+
+-- The image is not legal, which the disk didn't hinder.
+abbrev pub IsFromImage : OpenError → Type 0
+IsFromImage NoMemory = ⊥
+IsFromImage NotHeap = Unit {0}
+IsFromImage (Damaged at) = Unit {0}
+IsFromImage (Disk e) = ⊥
+
+-- what a log's error is of an opening
+abbrev pub open_error : LogError → OpenError
+open_error logging.NoMemory = NoMemory
+open_error (logging.BadBatch at) = Damaged (Batch at)
+open_error (logging.Disk e) = Disk e

@@ -1,0 +1,205 @@
+//! The heap: events on an image, each of them one step.
+ghost use Rattle.std.specs.Prelude.{◌≡◌, ◌⊎◌, ◌+◌, ◌<◌, ◌≤◌, List, [], None, Err, IsTrue, IfOk, OnErr, vec_len, vec_capacity};
+ghost use Rattle.disk_model.specs.Disk.{HasCause, Only};
+ghost use Rattle.graph_model.specs.SlowHeap.{IsSingleSession};
+ghost use Rattle.graph_model.specs.declared.event.Event.TheVariants.{Force};
+ghost use Rattle.graph_model.specs.declared.reply.Refusal.TheVariants.{DiskFault, Stopped};
+ghost use Rattle.heap_shell.specs.declared.plan.Super.{Super};
+ghost use Rattle.heap_shell.specs.declared.records.Record.{Record};
+ghost use Rattle.heap_shell.specs.Image.{IsLegal};
+ghost use Rattle.heap_shell.specs.Causes.{step_device, reply_device, opened_device};
+ghost use Rattle.heap_shell.specs.Core.{Core, IsStep, fresh};
+ghost use Rattle.heap_shell.specs.CoreLawsRun.{IsIdle};
+ghost use Rattle.heap_shell.specs.CoreValid.{IsValid, IsReached};
+
+use crate::graph_text::root_text;
+use crate::history::History;
+use crate::recovery::{OpenError, Recovered, recover, root_values};
+use crate::working::Working;
+use disk_model::{Disk, DiskError};
+use graph_model::{Entry, Event, Refusal, Reply};
+use std::alloc::{AllocError, Global};
+
+/// A heap on a disk, for one session.
+#[derive(Debug, Drop)]
+pub struct Heap<D: Disk> {
+    disk: D,
+    working: Working,
+    history: History,
+    // How many commits the log held when the heap was opened.
+    before: u64,
+    // The entry at which the disk failed or stopped.
+    failed: Option<u64>,
+    ghost inside: { working.log.at + working.log.room ≤ D.extent disk },
+}
+
+fn refused(why: Refusal) -> Reply
+    ensures { result ≡ Reply.Refused why }
+{
+    Reply::Refused { why }
+}
+
+/// What an event is answered that the disk cut short.
+fn cut_short(e: DiskError) -> Reply
+    ensures device { reply_device result ≡ Err e }
+    ensures told { (result ≡ Reply.Refused DiskFault) ⊎ (result ≡ Reply.Refused Stopped) }
+{
+    refused(match e {
+        DiskError::Failed => Refusal::DiskFault,
+        DiskError::Stopped => Refusal::Stopped,
+    })
+}
+
+impl<D: Disk> Heap<D> {
+    ghost use Rattle.heap_shell.specs.HeapState.{opened_disk};
+    ghost use Rattle.heap_shell.specs.Means.{IsHeap, Steps, opened};
+
+    /// Opens the heap on the disk.
+    pub fn open(alloc: Global, mut disk: D) -> Result<Heap<D>, (OpenError, D)>
+        ensures extent { D.extent (opened_disk result) ≡ D.extent disk }
+        ensures cause { HasCause (D.faults disk) (D.faults (opened_disk result)) (D.stops disk) (D.stops (opened_disk result)) (opened_device result) }
+        // An opening only reads.
+        ensures no_first_stop { D.stops disk ≡ 0 → D.stops (opened_disk result) ≡ 0 }
+        ensures idle { IfOk result (λ heap. heap.working.active ≡ None) }
+
+        // A legal image is opened as the core that it stands for; an empty one as that of a new heap.
+        ensures means { IsTrue D.tells → (s : Super) (batches : List (List Record)) → IsLegal s batches (D.bytes disk) → Only (D.bytes disk) (D.may_leave disk) → IfOk result (λ heap. IsHeap s (opened s batches heap.working.next) heap) }
+        ensures fresh { IsTrue D.tells → (s : Super) → IsLegal s [] (D.bytes disk) → Only (D.bytes disk) (D.may_leave disk) → IfOk result (λ heap. IsHeap s (fresh s.log_bytes s.first) heap) }
+    {
+        match recover(alloc, &mut disk) {
+            Ok(found) => {
+                let Recovered {
+                    log,
+                    words,
+                    state,
+                    next,
+                } = found;
+                let working = Working {
+                    log,
+                    words,
+                    active: None,
+                    next,
+                    sealed: 0,
+                };
+                Ok(Heap {
+                    disk,
+                    working,
+                    history: History::new(alloc),
+                    before: state.commits(),
+                    failed: None,
+                })
+            }
+            Err(e) => Err((e, disk)),
+        }
+    }
+
+    /// Makes one step, and answers the event. Want of memory changes nothing.
+    pub fn step(&mut self, event: Event) -> Result<Reply, AllocError>
+        ensures extent { D.extent self.new.disk ≡ D.extent self.old.disk }
+        ensures cause { HasCause (D.faults self.old.disk) (D.faults self.new.disk) (D.stops self.old.disk) (D.stops self.new.disk) (step_device result) }
+
+        // Each event is a step of the core that the heap is.
+        ensures core { IsTrue D.tells → (s : Super) (c : Core) → IsHeap s c self.old → IsReached c → IsSingleSession event → (event ≡ Force → IsIdle c) → IfOk result (λ reply. (d : Core) × IsStep c event reply d × IsHeap s d self.new) }
+        ensures kept { (s : Super) (c : Core) → IsHeap s c self.old → OnErr result (IsHeap s c self.new) }
+    {
+        self.history.reserve()?;
+        let reply = self.reply_to(event)?;
+        self.history.push(Entry { event, reply });
+        Ok(reply)
+    }
+
+    fn reply_to(&mut self, event: Event) -> Result<Reply, AllocError>
+        ensures extent { D.extent self.new.disk ≡ D.extent self.old.disk }
+        ensures cause { HasCause (D.faults self.old.disk) (D.faults self.new.disk) (D.stops self.old.disk) (D.stops self.new.disk) (step_device result) }
+        ensures history { self.new.history ≡ self.old.history }
+        ensures core { IsTrue D.tells → (s : Super) (c : Core) → IsHeap s c self.old → IsReached c → IsSingleSession event → (event ≡ Force → IsIdle c) → IfOk result (λ reply. Steps s c event reply self.new.working self.new.failed (D.bytes self.new.disk) (D.may_leave self.new.disk)) }
+        ensures kept { (s : Super) (c : Core) → IsHeap s c self.old → OnErr result (IsHeap s c self.new) }
+    {
+        match self.failed {
+            Some(entry) => Ok(refused(Refusal::Failed { entry })),
+            None => self.answer(event),
+        }
+    }
+
+    fn answer(&mut self, event: Event) -> Result<Reply, AllocError>
+        ensures extent { D.extent self.new.disk ≡ D.extent self.old.disk }
+        ensures cause { HasCause (D.faults self.old.disk) (D.faults self.new.disk) (D.stops self.old.disk) (D.stops self.new.disk) (step_device result) }
+        ensures core { IsTrue D.tells → (s : Super) (c : Core) → IsHeap s c self.old → self.old.failed ≡ None → IsReached c → IsSingleSession event → (event ≡ Force → IsIdle c) → IfOk result (λ reply. Steps s c event reply self.new.working self.new.failed (D.bytes self.new.disk) (D.may_leave self.new.disk)) }
+        ensures kept { (s : Super) (c : Core) → IsHeap s c self.old → OnErr result (IsHeap s c self.new) }
+        ensures history { self.new.history ≡ self.old.history }
+    {
+        match event {
+            Event::Begin { .. } => Ok(self.working.begin()),
+            Event::Root { h, .. } => Ok(self.working.root(h)),
+            Event::Put { h, i, v, .. } => self.working.put(h, i, v),
+            Event::Seal { .. } => self.working.seal(),
+            Event::Force => self.force(),
+        }
+    }
+
+    fn force(&mut self) -> Result<Reply, AllocError>
+        ensures extent { D.extent self.new.disk ≡ D.extent self.old.disk }
+        ensures cause { HasCause (D.faults self.old.disk) (D.faults self.new.disk) (D.stops self.old.disk) (D.stops self.new.disk) (step_device result) }
+        ensures core { IsTrue D.tells → (s : Super) (c : Core) → IsHeap s c self.old → self.old.failed ≡ None → IsReached c → IsIdle c → IfOk result (λ reply. Steps s c Force reply self.new.working self.new.failed (D.bytes self.new.disk) (D.may_leave self.new.disk)) }
+        ensures kept { (s : Super) (c : Core) → IsHeap s c self.old → OnErr result (IsHeap s c self.new) }
+        ensures history { self.new.history ≡ self.old.history }
+    {
+        self.working.log.reserve()?;
+        match self.working.log.force(&mut self.disk) {
+            Ok(()) => Ok(Reply::Durable {
+                n: self.working.sealed,
+            }),
+            Err(e) => {
+                self.failed = Some(self.history.len() as u64 + 1);
+                Ok(cut_short(e))
+            }
+        }
+    }
+
+    /// The entries since the heap was opened.
+    pub fn history(&self) -> &History {
+        &self.history
+    }
+
+    /// The entry, from 1, at which the disk failed or stopped.
+    pub fn failed(&self) -> Option<u64> {
+        self.failed
+    }
+
+    /// How many commits the log holds.
+    pub fn commits(&self) -> u64 {
+        self.before.saturating_add(self.working.sealed)
+    }
+
+    /// Whether records wait to be forced.
+    pub fn pending(&self) -> bool {
+        self.working.log.pending()
+    }
+
+    /// Whether a transaction is active.
+    pub fn active(&self) -> bool {
+        self.working.active.is_some()
+    }
+
+    /// The text of the graph.
+    pub fn graph(&self, alloc: Global) -> Result<String, AllocError> {
+        match root_values(&self.working.words) {
+            Some(values) => root_text(alloc, &values),
+            None => root_text(alloc, &[]),
+        }
+    }
+
+    /// Gives the disk back.
+    pub fn close(self) -> D
+        ensures { result ≡ self.disk }
+    {
+        let Heap {
+            disk,
+            working: _,
+            history: _,
+            before: _,
+            failed: _,
+        } = self;
+        disk
+    }
+}

@@ -1,0 +1,199 @@
+//! An image is opened: what its superblock, its log and its words say.
+ghost use Rattle.std.specs.Prelude.{◌≡◌, ℕ, ◌+◌, ◌^◌, ◌<◌, ◌≤◌, List, None, Some, Ok, drop, take, map, length, vec_len, IsTrue, IsSome, IsOk, IfOk, IfErr, IfSome};
+ghost use Rattle.std.specs.List.{AllByRecursion};
+ghost use Rattle.disk_model.specs.Disk.{Narrows, HasCause};
+ghost use Rattle.disk_model.specs.Moments.{LeavesOnly};
+ghost use Rattle.graph_model.specs.RootGraph.{IsPlain, AllPlain};
+ghost use Rattle.heap_shell.specs.declared.plan.Super.{Super};
+ghost use Rattle.heap_shell.specs.declared.records.Record.{Record};
+ghost use Rattle.heap_shell.specs.Causes.{open_device};
+ghost use Rattle.heap_shell.specs.Image.{IsLegal};
+ghost use Rattle.heap_shell.specs.Machine.{start, after_all, words, AreWhole};
+ghost use Rattle.heap_shell.specs.MachineState.{state_of};
+ghost use Rattle.heap_shell.specs.Plan.{image_size};
+ghost use Rattle.heap_shell.specs.Record.{IsRecord};
+ghost use Rattle.heap_shell.specs.Recovered.{IsRecovered, IsFromOutside, IsFromImage};
+ghost use Rattle.heap_shell.specs.Super.{IsSuper, superblock};
+ghost use Rattle.heap_shell.specs.Word.{IsNumberWord, value_of};
+
+use crate::log::{Log, LogError};
+use crate::machine::{LogState, Unshaped};
+use crate::page_words::{PageWords, ROOT_FIELDS};
+use crate::plan::{SUPER_BYTES, Super};
+use crate::records::Record;
+use crate::status::At;
+use crate::superblock::read_super;
+use crate::words::{Word, decode};
+use disk_model::{Disk, DiskError};
+use graph_model::Val;
+use std::alloc::Global;
+
+/// Why a heap could not be opened.
+#[derive(Clone, Copy, Debug, PartialEq, Eq)]
+pub enum OpenError {
+    /// Memory was refused.
+    NoMemory,
+    /// The disk holds no heap.
+    NotHeap,
+    /// The disk holds a heap that is damaged there.
+    Damaged { at: At },
+    /// The disk failed or stopped.
+    Disk(DiskError),
+}
+
+impl From<LogError> for OpenError {
+    ghost use Rattle.heap_shell.specs.Recovered.{open_error};
+
+    ghost from_gives = { λ e error. error ≡ open_error e };
+
+    fn from(e: LogError) -> Self {
+        match e {
+            LogError::NoMemory => OpenError::NoMemory,
+            LogError::BadBatch { at } => OpenError::Damaged { at: At::Batch(at) },
+            LogError::Disk(e) => OpenError::Disk(e),
+        }
+    }
+}
+
+/// What is read of an image that is opened.
+#[derive(Debug, Drop)]
+pub struct Recovered {
+    /// The log, with nothing in hand.
+    pub log: Log,
+    /// The words after the log's records.
+    pub words: PageWords,
+    /// What the records say.
+    pub state: LogState,
+    /// The next transaction's number.
+    pub next: u32,
+}
+
+/// Reads the image on the disk.
+pub fn recover<D: Disk>(alloc: Global, disk: &mut D) -> Result<Recovered, OpenError>
+    ensures inside { IfOk result (λ found. found.log.at + found.log.room ≤ D.extent disk.new) }
+    ensures idle { IfOk result (λ found. vec_len found.log.hand ≡ 4) }
+    ensures next { IfOk result (λ found. 0 < found.next) }
+
+    // A legal image is found as it is, whatever its numbers and batches.
+    ensures found { IsTrue D.tells → (s : Super) (batches : List (List Record)) → IsLegal s batches (D.bytes disk.old) → IfOk result (IsRecovered s batches) }
+    ensures legal { IsTrue D.tells → (s : Super) (batches : List (List Record)) → IsLegal s batches (D.bytes disk.old) → IfErr result IsFromOutside }
+
+    // The disk is only read.
+    ensures bytes { IsTrue D.tells → D.bytes disk.new ≡ D.bytes disk.old }
+    ensures crash { IsTrue D.tells → Narrows (D.may_leave disk.old) (D.may_leave disk.new) }
+    ensures moments { IsTrue D.tells → LeavesOnly D.moment D.left_since disk.old disk.new (D.may_leave disk.old) }
+    ensures passed { IsTrue D.tells → D.passed disk.new ≡ D.passed disk.old }
+    ensures restarts { IsTrue D.tells → D.restarts disk.new ≡ D.restarts disk.old }
+    ensures extent { D.extent disk.new ≡ D.extent disk.old }
+    ensures cause { HasCause (D.faults disk.old) (D.faults disk.new) (D.stops disk.old) (D.stops disk.new) (open_device result) }
+    ensures no_first_stop { D.stops disk.old ≡ 0 → D.stops disk.new ≡ 0 }
+{
+    let found = read_plan(disk)?;
+    let plan = found.plan();
+    let (log, records) = Log::open(alloc, disk, plan.log_at(), found.log_bytes)?;
+    let (state, words) = replay(&records)?;
+    let next = found.first.max(state.greatest() + 1);
+    Ok(Recovered {
+        log,
+        words,
+        state,
+        next,
+    })
+}
+
+fn read_plan<D: Disk>(disk: &mut D) -> Result<Super, OpenError>
+    ensures good { IfOk result IsSuper }
+    ensures fits { IfOk result (λ s. image_size s.pages s.log_bytes ≤ D.extent disk.new) }
+    ensures found { IsTrue D.tells → (s : Super) → IsSuper s → take 64 (D.bytes disk.old) ≡ superblock s → image_size s.pages s.log_bytes ≤ D.extent disk.old → IfOk result (λ found. found ≡ s) }
+    ensures legal { IsTrue D.tells → (s : Super) → IsSuper s → take 64 (D.bytes disk.old) ≡ superblock s → image_size s.pages s.log_bytes ≤ D.extent disk.old → IfErr result IsFromOutside }
+
+    ensures bytes { IsTrue D.tells → D.bytes disk.new ≡ D.bytes disk.old }
+    ensures crash { IsTrue D.tells → Narrows (D.may_leave disk.old) (D.may_leave disk.new) }
+    ensures moments { IsTrue D.tells → LeavesOnly D.moment D.left_since disk.old disk.new (D.may_leave disk.old) }
+    ensures passed { IsTrue D.tells → D.passed disk.new ≡ D.passed disk.old }
+    ensures restarts { IsTrue D.tells → D.restarts disk.new ≡ D.restarts disk.old }
+    ensures extent { D.extent disk.new ≡ D.extent disk.old }
+    ensures cause { HasCause (D.faults disk.old) (D.faults disk.new) (D.stops disk.old) (D.stops disk.new) (open_device result) }
+    ensures no_first_stop { D.stops disk.old ≡ 0 → D.stops disk.new ≡ 0 }
+{
+    if disk.size() < SUPER_BYTES as u64 {
+        return Err(OpenError::NotHeap);
+    }
+    let mut bytes = [0u8; SUPER_BYTES];
+    disk.read(0, &mut bytes).map_err(OpenError::Disk)?;
+    let found = read_super(&bytes).ok_or(OpenError::NotHeap)?;
+    if disk.size() < found.plan().size() {
+        return Err(OpenError::NotHeap);
+    }
+    Ok(found)
+}
+
+/// The state and the words after the records.
+fn replay(records: &[Record]) -> Result<(LogState, PageWords), OpenError>
+    requires good { AllByRecursion IsRecord records.now }
+    requires few { length records.now < 2 ^ 32 }
+    ensures state { IfOk result (λ found. after_all start records.now ≡ Some (state_of found.0)) }
+    ensures words { IfOk result (λ found. found.1.words ≡ words records.now) }
+    ensures small { IfOk result (λ found. (state_of found.0).greatest ≤ 4294967294) }
+    ensures exact { AreWhole records.now → AllByRecursion IsNumberWord (drop 2 (words records.now)) → IsOk result }
+    ensures image { IfErr result IsFromImage }
+{
+    let (state, words) = replay_all(records)?;
+    if state.writer().is_some() {
+        return Err(OpenError::Damaged { at: At::Reserve });
+    }
+    if root_values(&words).is_none() {
+        return Err(OpenError::Damaged { at: At::Address(0) });
+    }
+    Ok((state, words))
+}
+
+/// The state and the words after the records, if each of them can follow.
+fn replay_all(records: &[Record]) -> Result<(LogState, PageWords), OpenError>
+    requires good { AllByRecursion IsRecord records.now }
+    requires few { length records.now < 2 ^ 32 }
+    ensures state { IfOk result (λ found. after_all start records.now ≡ Some (state_of found.0)) }
+    ensures words { IfOk result (λ found. found.1.words ≡ words records.now) }
+    ensures small { IfOk result (λ found. (state_of found.0).greatest ≤ 4294967294) }
+    ensures exact { IfErr result (λ e. after_all start records.now ≡ None) }
+    ensures image { IfErr result IsFromImage }
+{
+    let mut state = LogState::start();
+    let mut words = PageWords::first_contents();
+    for (i, record) in records.iter().enumerate() {
+        match state.after(record) {
+            Ok(()) => words.apply(record),
+            Err(Unshaped) => {
+                return Err(OpenError::Damaged {
+                    at: At::Rec(i as u64 + 1),
+                });
+            }
+        }
+    }
+    Ok((state, words))
+}
+
+/// What the root object's fields hold: nothing or a number, since there is no other object.
+pub fn root_values(words: &PageWords) -> Option<[Val; ROOT_FIELDS]>
+    ensures found { IfSome result (λ values. (values ≡ map value_of (drop 2 words.now.words)) × AllPlain values) }
+    ensures only { AllByRecursion IsNumberWord (drop 2 words.now.words) → IsSome result }
+{
+    let [a, b, c, d] = words.root_fields();
+    Some([
+        value_of_word(a)?,
+        value_of_word(b)?,
+        value_of_word(c)?,
+        value_of_word(d)?,
+    ])
+}
+
+fn value_of_word(word: u64) -> Option<Val>
+    ensures found { IfSome result (λ value. (value ≡ value_of word) × IsPlain value) }
+    ensures only { IsNumberWord word → IsSome result }
+{
+    match decode(word)? {
+        Word::Null => Some(Val::Null),
+        Word::Int(n) => Some(Val::Int(n)),
+        Word::Stable(_) | Word::Volatile(_) => None,
+    }
+}

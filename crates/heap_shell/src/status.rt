@@ -1,0 +1,99 @@
+//! How a run ends.
+ghost use Rattle.std.specs.Prelude.{◌≡◌, Some};
+ghost use Rattle.heap_shell.specs.Status.{at_text, status_text, status_code};
+
+use std::fmt;
+
+/// Where an image is damaged: what comes first in the order in which it is checked.
+#[derive(Clone, Copy, Debug, PartialEq, Eq)]
+pub enum At {
+    /// The batch at that offset in the log doesn't lie within the log or doesn't hold whole records.
+    Batch(u64),
+    /// The record of that LSN can't follow those before it.
+    Rec(u64),
+    /// The log has no room for the rollback of what was not committed.
+    Reserve,
+    /// The page of that number is ahead of the log.
+    Page(u32),
+    /// No object stands as it should at that word address.
+    Address(u32),
+}
+
+/// How a run ended.
+#[derive(Clone, Copy, Debug, PartialEq, Eq)]
+pub enum Status {
+    /// All was done and printed.
+    Done,
+    /// Memory was refused.
+    NoMemory,
+    /// The words of the command line are no command.
+    Usage,
+    /// The script has its first fault at that line, from 1; 0 stands for a script that is too long.
+    Script { line: u64 },
+    /// The script could not be read.
+    ReadFault,
+    /// The output could not be written.
+    WriteFault,
+    /// The disk failed.
+    DiskFault,
+    /// The disk holds no heap.
+    NotHeap,
+    /// The disk holds a heap that is damaged there.
+    Damaged { at: At },
+    /// The disk has `size` bytes of the `need` that the heap takes.
+    TooSmall { size: u64, need: u64 },
+}
+
+impl Status {
+    /// The exit status of the program.
+    pub fn code(&self) -> u8
+        ensures { result ≡ status_code self.now }
+    {
+        match self {
+            Status::Done => 0,
+            Status::NoMemory => 1,
+            Status::Usage => 2,
+            Status::Script { .. } => 3,
+            Status::ReadFault => 4,
+            Status::WriteFault => 5,
+            Status::DiskFault => 6,
+            Status::NotHeap => 7,
+            Status::Damaged { .. } => 8,
+            Status::TooSmall { .. } => 9,
+        }
+    }
+}
+
+impl fmt::Display for At {
+    ghost output = { λ at. Some (at_text at) };
+
+    fn fmt<W: fmt::Write>(&self, f: &mut fmt::Formatter<W>) -> fmt::Result {
+        match self {
+            At::Batch(offset) => write!(f, "batch {offset}"),
+            At::Rec(lsn) => write!(f, "record {lsn}"),
+            At::Reserve => f.write_str("reserve"),
+            At::Page(page) => write!(f, "page {page}"),
+            At::Address(address) => write!(f, "address {address}"),
+        }
+    }
+}
+
+/// The one line that the program writes on standard error.
+impl fmt::Display for Status {
+    ghost output = { λ status. Some (status_text status) };
+
+    fn fmt<W: fmt::Write>(&self, f: &mut fmt::Formatter<W>) -> fmt::Result {
+        match self {
+            Status::Done => f.write_str("done"),
+            Status::NoMemory => f.write_str("out of memory"),
+            Status::Usage => f.write_str("usage: heap_shell format|play|threads|graph|load"),
+            Status::Script { line } => write!(f, "script fault at line {line}"),
+            Status::ReadFault => f.write_str("cannot read the script"),
+            Status::WriteFault => f.write_str("cannot write the output"),
+            Status::DiskFault => f.write_str("the disk failed"),
+            Status::NotHeap => f.write_str("not a heap"),
+            Status::Damaged { at } => write!(f, "damaged at {at}"),
+            Status::TooSmall { size, need } => write!(f, "too small: {size} of {need}"),
+        }
+    }
+}

@@ -1,0 +1,225 @@
+//! The program over memory: what a script prints, on disks that stop or fail and streams that fail.
+use crate::{Status, run};
+use disk_model::{MemoryDisk, Pick};
+use graph_model::{Event, SlowHeap};
+use heap_io::{MemorySink, MemorySource};
+use std::alloc::{AllocError, Global};
+use std::process::Abort;
+use std::test::Fail;
+
+const DISK_BYTES: usize = 4_194_304;
+
+const RECORD_BYTES: usize = 4_194_304;
+
+const SINK_BYTES: usize = 65_536;
+
+const PICKS: [Pick; 4] = [Pick::Synced, Pick::Newest, Pick::AllOnes, Pick::AllOpen];
+
+const ONE_COMMIT: &str = "1 begin\n1 root 0\n1 put 0 0 7\n1 commit\n";
+
+/// A run that is over: its status and what it wrote.
+#[derive(Drop)]
+struct Played {
+    status: Status,
+    output: Vec<u8>,
+}
+
+fn words_of(alloc: Global, line: &str) -> Result<Vec<String>, AllocError> {
+    let mut words = Vec::new(alloc);
+    for word in line.split_whitespace() {
+        words.push(String::from_str(alloc, word)?)?;
+    }
+    Ok(words)
+}
+
+fn make_disk(alloc: Global, bytes: usize, pick: Pick) -> Result<MemoryDisk, AllocError> {
+    let zeros = vec![in alloc; 0u8; bytes]?;
+    MemoryDisk::of(
+        alloc,
+        zeros,
+        pick,
+        RECORD_BYTES,
+        Vec::new(alloc),
+        Vec::new(alloc),
+    )
+}
+
+/// Plays a script on a disk of memory, with streams whose listed calls fail.
+fn play_on(
+    alloc: Global,
+    line: &str,
+    script: &[u8],
+    disk: MemoryDisk,
+    fails: (Vec<u64>, Vec<u64>),
+) -> Result<(Played, MemoryDisk), AllocError> {
+    let words = words_of(alloc, line)?;
+    let mut source = MemorySource::of(script.to_vec(alloc)?, fails.0);
+    let mut sink = MemorySink::of(alloc, SINK_BYTES, fails.1)?;
+    let (status, disk) = run(alloc, &words, disk, &mut source, &mut sink);
+    let output = sink.bytes().to_vec(alloc)?;
+    Ok((Played { status, output }, disk))
+}
+
+fn play(alloc: Global, line: &str, script: &str, pick: Pick) -> Result<Played, AllocError> {
+    let disk = make_disk(alloc, DISK_BYTES, pick)?;
+    let none = (Vec::new(alloc), Vec::new(alloc));
+    Ok(play_on(alloc, line, script.as_bytes(), disk, none)?.0)
+}
+
+fn expect_done(rt: &impl Abort, played: &Played, output: &str) {
+    assert_eq!(rt; played.status, Status::Done);
+    assert_eq!(rt; played.output.as_slice(), output.as_bytes());
+}
+
+#[test]
+fn a_new_heap_is_empty(rt: HostRuntime) -> Result<(), Fail> {
+    let played = play(rt.alloc(), "heap play --fresh 1", "", Pick::Newest)?;
+    expect_done(&rt, &played, "graph 1\n0: - - - -\n");
+    Ok(())
+}
+
+#[test]
+fn a_commit_is_printed(rt: HostRuntime) -> Result<(), Fail> {
+    let played = play(rt.alloc(), "heap play --fresh 1", ONE_COMMIT, Pick::Newest)?;
+    expect_done(
+        &rt,
+        &played,
+        "1 begin -> begun 1\n1 root 0 -> done\n1 put 0 0 7 -> done\n1 seal -> sealed 1\nforce -> durable 1\ngraph 1\n0: 7 - - -\n",
+    );
+    Ok(())
+}
+
+const BEFORE_FORCE: &str =
+    "1 begin -> begun 1\n1 root 0 -> done\n1 put 0 0 7 -> done\n1 seal -> sealed 1\n";
+
+fn expect_stopped(
+    rt: &impl Abort,
+    alloc: Global,
+    line: &str,
+    pick: Pick,
+    end: &str,
+) -> Result<(), AllocError> {
+    let played = play(alloc, line, ONE_COMMIT, pick)?;
+    let mut output = String::from_str(alloc, BEFORE_FORCE)?;
+    output.push_str(end)?;
+    expect_done(rt, &played, output.as_str());
+    Ok(())
+}
+
+#[test]
+fn a_stop_in_a_force_leaves_the_commit_or_not(rt: HostRuntime) -> Result<(), Fail> {
+    let alloc = rt.alloc();
+    let gone = "force -> stopped\nrecovered 0\ngraph 1\n0: - - - -\n";
+    let kept = "force -> stopped\nrecovered 1\ngraph 1\n0: 7 - - -\n";
+    let durable = "force -> durable 1\nrecovered 1\ngraph 1\n0: 7 - - -\n";
+    let in_doubt = [gone, kept, gone, kept];
+    for (pick, end) in PICKS.iter().zip(in_doubt.iter()) {
+        expect_stopped(&rt, alloc, "heap play --fresh 1 --stop 3", *pick, end)?;
+    }
+    expect_stopped(
+        &rt,
+        alloc,
+        "heap play --fresh 1 --stop 2",
+        Pick::AllOpen,
+        gone,
+    )?;
+    expect_stopped(
+        &rt,
+        alloc,
+        "heap play --fresh 1 --stop 4",
+        Pick::Synced,
+        durable,
+    )?;
+    Ok(())
+}
+
+#[test]
+fn a_bad_script_leaves_the_disk(rt: HostRuntime) -> Result<(), Fail> {
+    let alloc = rt.alloc();
+    let cases = [
+        ("1 begin\n1 root 0\n1 pu", 3),
+        ("1 begin\n1 root 0\n", 3),
+        ("1 begin\n\n", 3),
+        ("\n1 commit\n", 2),
+        ("1 begin\n1 root 0\n1 put 0 4 1\n1 commit\n", 3),
+        ("01  begin\n1 root 00\n1 put 0 0 4611686018427387904\n", 3),
+        (" 1 begin\n", 1),
+    ];
+    for (script, bad) in cases.iter() {
+        let disk = make_disk(alloc, 64, Pick::Newest)?;
+        let none = (Vec::new(alloc), Vec::new(alloc));
+        let (played, disk) = play_on(alloc, "heap play --fresh 1", script.as_bytes(), disk, none)?;
+        assert_eq!(rt; played.status, Status::Script { line: *bad });
+        assert_eq!(rt; played.output.len(), 0);
+        assert_eq!(rt; disk.contents(), [0u8; 64].as_slice());
+    }
+    Ok(())
+}
+
+#[test]
+fn a_script_may_have_a_mebibyte(rt: HostRuntime) -> Result<(), Fail> {
+    let alloc = rt.alloc();
+    for (bytes, status) in [
+        (1_048_576usize, Status::Done),
+        (1_048_577, Status::Script { line: 0 }),
+    ]
+    .iter()
+    {
+        let disk = make_disk(alloc, DISK_BYTES, Pick::Newest)?;
+        let none = (Vec::new(alloc), Vec::new(alloc));
+        let script = vec![in alloc; b'\n'; *bytes]?;
+        let (played, _) = play_on(alloc, "heap play --fresh 1", &script, disk, none)?;
+        assert_eq!(rt; played.status, *status);
+    }
+    Ok(())
+}
+
+#[test]
+fn each_fault_has_its_status(rt: HostRuntime) -> Result<(), Fail> {
+    let alloc = rt.alloc();
+    let line = "heap play --fresh 1";
+    let first = vec![in alloc; 1u64]?;
+    let disk = make_disk(alloc, DISK_BYTES, Pick::Newest)?;
+    let (played, _) = play_on(alloc, line, b"", disk, (first, Vec::new(alloc)))?;
+    assert_eq!(rt; played.status, Status::ReadFault);
+    assert_eq!(rt; played.output.len(), 0);
+    let first = vec![in alloc; 1u64]?;
+    let disk = make_disk(alloc, DISK_BYTES, Pick::Newest)?;
+    let (played, _) = play_on(alloc, line, b"", disk, (Vec::new(alloc), first))?;
+    assert_eq!(rt; played.status, Status::WriteFault);
+    assert_eq!(rt; played.output.len(), 0);
+    let disk = make_disk(alloc, 1_050_751, Pick::Newest)?;
+    let none = (Vec::new(alloc), Vec::new(alloc));
+    let (played, _) = play_on(alloc, line, b"", disk, none)?;
+    assert_eq!(rt;
+        played.status,
+        Status::TooSmall {
+            size: 1_050_751,
+            need: 1_050_752
+        }
+    );
+    Ok(())
+}
+
+#[test]
+fn other_words_are_no_command(rt: HostRuntime) -> Result<(), Fail> {
+    let alloc = rt.alloc();
+    for line in [
+        "heap",
+        "heap play",
+        "heap play --fresh 0",
+        "heap play --fresh 16385",
+        "heap play --fresh 1 --stop",
+        "heap play --fresh 1 --stop x",
+        "heap play --fresh 1 --stop 18446744073709551616",
+        "heap play --fresh 000000000000000000001",
+        "heap play --help",
+        "heap graph",
+    ]
+    .iter()
+    {
+        let played = play(alloc, line, "", Pick::Newest)?;
+        assert_eq!(rt; played.status, Status::Usage, "{line}");
+    }
+    Ok(())
+}
