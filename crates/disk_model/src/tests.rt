@@ -79,42 +79,46 @@ fn a_restart_leaves_what_its_pick_says(rt: HostRuntime) -> Result<(), Fail> {
     Ok(())
 }
 
+/// A numbered call that fails: which, the answers, what they leave, and what a restart leaves of it.
+type Listed = (u64, [Result<(), DiskError>; 4], [u8; 6], [u8; 6]);
+
+const LISTED: [Listed; 5] = [
+    (
+        1,
+        [FAILED, DONE, DONE, DONE],
+        [10, 11, 32, 33, 44, 15],
+        [10, 11, 12, 13, 14, 15],
+    ),
+    (
+        2,
+        [DONE, FAILED, DONE, DONE],
+        [10, 21, 32, 33, 44, 15],
+        [10, 11, 12, 13, 14, 15],
+    ),
+    (
+        3,
+        [DONE, DONE, FAILED, DONE],
+        [10, 21, 22, 13, 44, 15],
+        [10, 21, 22, 13, 14, 15],
+    ),
+    (
+        4,
+        [DONE, DONE, DONE, FAILED],
+        [10, 21, 32, 33, 14, 15],
+        [10, 21, 22, 13, 14, 15],
+    ),
+    (
+        5,
+        [DONE, DONE, DONE, DONE],
+        [10, 21, 32, 33, 44, 15],
+        [10, 21, 22, 13, 14, 15],
+    ),
+];
+
 #[test]
 fn a_listed_call_fails_and_changes_nothing(rt: HostRuntime) -> Result<(), Fail> {
     let alloc = rt.alloc();
-    // the number that fails, the answers, what they leave, and what a restart leaves of it
-    for (number, expected, newest, left) in [
-        (
-            1,
-            [FAILED, DONE, DONE, DONE],
-            [10, 11, 32, 33, 44, 15],
-            [10, 11, 12, 13, 14, 15],
-        ),
-        (
-            2,
-            [DONE, FAILED, DONE, DONE],
-            [10, 21, 32, 33, 44, 15],
-            [10, 11, 12, 13, 14, 15],
-        ),
-        (
-            3,
-            [DONE, DONE, FAILED, DONE],
-            [10, 21, 22, 13, 44, 15],
-            [10, 21, 22, 13, 14, 15],
-        ),
-        (
-            4,
-            [DONE, DONE, DONE, FAILED],
-            [10, 21, 32, 33, 14, 15],
-            [10, 21, 22, 13, 14, 15],
-        ),
-        (
-            5,
-            [DONE, DONE, DONE, DONE],
-            [10, 21, 32, 33, 44, 15],
-            [10, 21, 22, 13, 14, 15],
-        ),
-    ] {
+    for (number, expected, newest, left) in LISTED {
         let failing = vec![in alloc; number]?;
         let mut disk = disk_of_six(alloc, Pick::Synced, 1000, failing, Vec::new(alloc))?;
         assert_eq!(rt; answers(&mut disk), expected, "at {number}");
