@@ -108,6 +108,8 @@ impl<D: Disk> Disk for FuseDisk<D> {
 
     ghost restarts = { λ fuse. D.restarts (fuse_inner fuse) };
 
+    ghost limit = { fuse_limit };
+
     fn size(&self) -> u64 {
         self.inner.size()
     }
@@ -207,4 +209,8 @@ impl<D: Disk> Disk for FuseDisk<D> {
     ghost reads_an_image = { λ tells fuse. D.reads_an_image tells (fuse_inner fuse) };
 
     ghost same_size = { λ tells fuse. D.same_size tells (fuse_inner fuse) };
+
+    ghost within_limit = { λ tells fuse. fuse.within };
+
+    ghost stopped_at_limit = { λ tells fuse. fuse.blown };
 }

@@ -328,10 +328,10 @@ impl MemoryDisk {
 }
 
 impl Disk for MemoryDisk {
-    ghost use Rattle.std.specs.Prelude.{◌≡◌, length, true, IsTrue, OnOk};
+    ghost use Rattle.std.specs.Prelude.{◌≡◌, length, true, refl, IsTrue, OnOk};
     ghost use Rattle.disk_model.specs.Disk.{overwrite, part, Torn, Follows, Narrows, Only, Elapses};
-    ghost use Rattle.disk_model.specs.Memory.{MayLeave, MightHaveLeft, changes_of, now_of, left_by, answer, read_fails, write_fails, sync_fails, after_read, after_write, after_sync, after_restart};
-    ghost use Rattle.disk_model.specs.MemoryLaws.{counts_now, only_now, reads_an_image};
+    ghost use Rattle.disk_model.specs.Memory.{MayLeave, MightHaveLeft, changes_of, now_of, limit_of, left_by, answer, read_fails, write_fails, sync_fails, after_read, after_write, after_sync, after_restart};
+    ghost use Rattle.disk_model.specs.MemoryLaws.{counts_now, only_now, reads_an_image, within_limit};
 
     ghost tells = { true };
 
@@ -352,6 +352,8 @@ impl Disk for MemoryDisk {
     ghost passed = { λ disk. disk.passed };
 
     ghost restarts = { λ disk. disk.restarts };
+
+    ghost limit = { limit_of };
 
     fn size(&self) -> u64 {
         self.newest.len() as u64
@@ -412,4 +414,8 @@ impl Disk for MemoryDisk {
     ghost reads_an_image = { λ tells. reads_an_image };
 
     ghost same_size = { λ tells disk image leaves. leaves.size };
+
+    ghost within_limit = { λ tells. within_limit };
+
+    ghost stopped_at_limit = { λ tells disk stopped. absurd (stopped refl) };
 }

@@ -48,6 +48,8 @@ impl Disk for Stopping {
 
     ghost restarts = { λ disk. 0 };
 
+    ghost limit = { λ disk. 0 };
+
     fn size(&self) -> u64 {
         8
     }
@@ -78,6 +80,10 @@ impl Disk for Stopping {
     ghost reads_an_image = { Prim.search rules };
 
     ghost same_size = { Prim.search rules };
+
+    ghost within_limit = { Prim.search rules };
+
+    ghost stopped_at_limit = { Prim.search rules };
 }
 
 #[test]
