@@ -23,8 +23,8 @@ abbrev pub with_targets : List Id → List Val → List Id
 with_targets ids [] = ids
 with_targets ids (v ∷ vs) = with_targets (with_target ids v) vs
 
--- Visits the numbered objects from the ith on, in order, and numbers what they refer to. Each object is visited once, so
--- there are no more turns than objects.
+-- Visits the numbered objects from the ith on, in order, and numbers what they refer to.
+-- Where each reference leads to an object, no more turns are needed than there are objects, since each is visited once.
 abbrev pub visit : Graph → (turns : ℕ) → ℕ → Option Id → List Id → List Id
 visit g zero i next ids = ids
 visit g (suc turns) i None ids = ids

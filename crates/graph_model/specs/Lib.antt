@@ -1,4 +1,5 @@
 pub mod Canon
+pub mod CanonLaws
 pub mod Graph
 pub mod History
 pub mod HistoryLaws

@@ -65,14 +65,16 @@ call_sound : (g0 : Graph) (a : Account) (t : Option Transaction) (event : Event)
 call_sound g0 a None event = tt
 call_sound g0 a (Some t) event = subst IsSoundReply (sym (call-reply (view g0 a t) t.number event)) tt
 
-granted_sound : (next : ℕ) (g0 : Graph) (a : Account) (event : Event) → IsSoundReply (granted next g0 a event)
+-- nor does what an event is answered that is not refused
+pub granted_sound : (next : ℕ) (g0 : Graph) (a : Account) (event : Event) → IsSoundReply (granted next g0 a event)
 granted_sound next g0 a (Begin s) = tt
 granted_sound next g0 a (Root s h) = call_sound g0 a (a.active s) (Root s h)
 granted_sound next g0 a (Put s h i v) = call_sound g0 a (a.active s) (Put s h i v)
 granted_sound next g0 a (Seal s) = tt
 granted_sound next g0 a Force = tt
 
-sound_either : (why : Option Refusal) (reply : Reply) → HasNoFault why → IsSoundReply reply → IsSoundReply (reply_of why reply)
+-- nor an answer that is a refusal or that one
+pub sound_either : (why : Option Refusal) (reply : Reply) → HasNoFault why → IsSoundReply reply → IsSoundReply (reply_of why reply)
 sound_either None reply h k = k
 sound_either (Some why) reply h k = h
 
