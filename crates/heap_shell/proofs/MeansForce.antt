@@ -1,5 +1,5 @@
 -- A force, and what the disk holds behind an event.
-use Rattle.std.proofs.Common.{◌≡◌, ◌≢◌, ◌⊎◌, inl, inr, ℕ, ◌+◌, List, [], ◌∷◌, ◌++◌, length, vec_len, Option, Some, None, Result, Ok, Err, refl, sym, ap, ◌∙◌, subst, arith}
+use Rattle.std.proofs.Common.{◌≡◌, ◌≢◌, ◌⊎◌, inl, inr, ℕ, ◌+◌, List, [], ◌∷◌, ◌++◌, length, vec_len, Option, Some, None, Result, Ok, Err, refl, sym, ap, ◌∙◌, subst, ⊎_elim, arith}
 use Rattle.std.specs.Prelude.{IfOk}
 use Rattle.std.specs.declared.alloc.AllocError.{AllocError}
 use Rattle.std.proofs.lemmas.List.{append-nil}
@@ -23,19 +23,22 @@ use Rattle.heap_shell.specs.declared.plan.Super.{Super}
 use Rattle.heap_shell.specs.declared.records.Record.{Record}
 use Rattle.heap_shell.specs.declared.working.Working.{Working}
 use Rattle.heap_shell.specs.Core.{Core, next_number, core_refusal, answer, with_entry, after_refusal, after}
+use Rattle.heap_shell.specs.CoreCrash.{KeepsCommits}
 use Rattle.heap_shell.specs.CoreValid.{IsValid, IsReached}
-use Rattle.heap_shell.specs.CoreLawsCrash.{IsOnDisk, on_disk_waiting, forced-with_batch, disk_good, disk_whole, disk_plain}
+use Rattle.heap_shell.specs.CoreLawsCrash.{IsOnDisk, on_disk_waiting, forced-with_batch, disk_good, disk_whole, disk_plain, crash_law}
 use Rattle.heap_shell.specs.CoreLawsRoom.{records_of-append}
-use Rattle.heap_shell.specs.CoreLawsRun.{IsIdle, failed_refusal, after_history, step_history}
+use Rattle.heap_shell.specs.CoreLawsRun.{IsIdle, failed_refusal, failed_after, after_history, step_history}
 use Rattle.heap_shell.specs.CoreLawsStep.{valid_after}
 use Rattle.heap_shell.specs.Format.{SameOutside}
 use Rattle.heap_shell.specs.Image.{records_of, IsLegal}
 use Rattle.heap_shell.specs.Log.{with_batch, HoldsBatches}
 use Rattle.heap_shell.specs.LogState.{Keeps, IsPlaced}
+use Rattle.heap_shell.specs.Machine as machine
 use Rattle.heap_shell.specs.Machine.{words}
 use Rattle.heap_shell.specs.Means.{Works, OnDisk, Means, Steps}
 use Rattle.heap_shell.specs.Plan.{frame_offset}
 use Rattle.heap_shell.specs.Record.{spellings}
+use Rattle.heap_shell.proofs.MeansLeft.{keeps_refused, keeps_cut}
 use Rattle.heap_shell.proofs.MeansLog.{hand_length, keeps_same}
 use Rattle.heap_shell.proofs.MeansRefusal.{force_same}
 use Rattle.heap_shell.specs.Working.{begin_refusal, active_after_begin, next_after_begin, root_refusal, active_after_root, put_refusal, seal_refusal, update_of, Writes, Seals, IsAsItWas}
@@ -117,7 +120,7 @@ pub whole_steps : (s : Super) (c : Core) (event : Event) (reply : Reply) (w : Wo
 whole_steps s c event reply w failed image may_leave valid none does disk = record {
   next = after c event;
   step = inl (does.replied, refl);
-  means = record { failure = none ∙ sym valid.unfailed; works = λ e. does.works; disk = λ e. disk };
+  means = record { failure = none ∙ sym valid.unfailed; works = λ e. does.works; disk = λ e. disk; left = λ some. absurd (some none) };
 }
 
 told_entry : (a : Account) (reply : Reply) → a.failed ≡ None → (reply ≡ Refused DiskFault) ⊎ (reply ≡ Refused Stopped) → Some (a.entries + 1) ≡ (account_after a (record { event = Force; reply = reply })).failed
@@ -128,8 +131,8 @@ told_entry a reply none (inr is) =
 
 -- a force that the disk cut short
 pub cut_steps : (s : Super) (c : Core) (reply : Reply) (w new : Working) (entries : ℕ) (failed : Option ℕ) (image : List ℕ) (may_leave : List ℕ → Type 0) → IsValid c → Works w (account c.history) c
-    → vec_len w.log.hand ≢ 4 → (reply ≡ Refused DiskFault) ⊎ (reply ≡ Refused Stopped) → entries ≡ length c.history → failed ≡ Some (entries + 1) → Steps s c Force reply new failed image may_leave
-cut_steps s c reply w new entries failed image may_leave valid works waits told count is =
+    → vec_len w.log.hand ≢ 4 → (reply ≡ Refused DiskFault) ⊎ (reply ≡ Refused Stopped) → entries ≡ length c.history → failed ≡ Some (entries + 1) → ((d : List ℕ) → may_leave d → KeepsCommits c d) → Steps s c Force reply new failed image may_leave
+cut_steps s c reply w new entries failed image may_leave valid works waits told count is left =
     let a = account c.history in
     let entry : Entry = record { event = Force; reply = reply } in
     record {
@@ -139,6 +142,7 @@ cut_steps s c reply w new entries failed image may_leave valid works waits told 
         failure = is ∙ ap (λ (n : ℕ). Some (n + 1)) (count ∙ sym (entries-account c.history)) ∙ told_entry a reply valid.unfailed told ∙ ap (λ (b : Account). b.failed) (sym (account-append c.history entry));
         works = λ none. let never : None ≡ Some (entries + 1) = sym none ∙ is in cc;
         disk = λ none. let never : None ≡ Some (entries + 1) = sym none ∙ is in cc;
+        left = λ some d leaves. keeps_cut c reply d told (left d leaves);
       };
     }
 
@@ -157,6 +161,7 @@ failed_steps s c event entry w failed image may_leave means is =
         failure = means.failure ∙ sym (ap (λ (b : Account). b.failed) (said ∙ ap (λ (r : Reply). account_after a (record { event = event; reply = r })) answered ∙ account_after-refused a event (Failed entry) tt));
         works = λ none. let never : None ≡ Some entry = sym none ∙ is in cc;
         disk = λ none. let never : None ≡ Some entry = sym none ∙ is in cc;
+        left = λ some d leaves. subst (λ (x : Core). KeepsCommits x d) (sym (failed_after c event entry (sym means.failure ∙ is))) (keeps_refused c event (Failed entry) d tt (means.left some d leaves));
       };
     }
 
@@ -204,12 +209,25 @@ module _ (s : Super) (c : Core) (w : Working) (log : Log) (failed : Option ℕ) 
       (let P : ℕ → ℕ → Type 0 = λ n m. HoldsBatches (part image n m) (with_batch c.batches c.pending) in in_log P held)
       only)
 
+  kept_batches : (bs : List (List Record)) (image : List ℕ) → IsReached c → IsOnDisk c bs → SameOutside 64 (64 + s.log_bytes) old image → HoldsBatches (part image log.at log.room) bs → KeepsCommits c image
+  kept_batches bs image reached on outside held =
+      let legal = legal_with s c c.batches bs old image reached on disk.legal outside (let P : ℕ → ℕ → Type 0 = λ n m. HoldsBatches (part image n m) bs in in_log P held) in
+      (machine.commits (records_of bs), crash_law c s bs image reached on legal)
+
+  -- what a crash leaves during a force are first commits
+  pub force_keeps : (image : List ℕ) → IsReached c → IsIdle c → SameOutside log.at (log.at + log.room) old image × (HoldsBatches (part image log.at log.room) c.batches ⊎ HoldsBatches (part image log.at log.room) (with_batch c.batches c.pending))
+      → KeepsCommits c image
+  force_keeps image reached idle found =
+      let outside = (let P : ℕ → ℕ → Type 0 = λ n m. SameOutside n (n + m) old image in in_log P found.0) in
+      ⊎_elim (λ held. kept_batches c.batches image reached (inl refl) outside held)
+      (λ held. kept_batches (with_batch c.batches c.pending) image reached (on_disk_waiting c idle) outside held) found.1
+
   pub err_steps : (new : Working) (image : List ℕ) (may_leave : List ℕ → Type 0) (reply : Reply) (entries : ℕ) (result : Result (Unit {0}) DiskError) (e : DiskError) (now : Option ℕ) → IsReached c
       → (vec_len log.hand ≡ 4 → result ≡ Ok tt) → result ≡ Err e → vec_len log.hand ≡ vec_len w.log.hand → (reply ≡ Refused DiskFault) ⊎ (reply ≡ Refused Stopped)
-      → entries ≡ length c.history → now ≡ Some (entries + 1) → Steps s c Force reply new now image may_leave
-  err_steps new image may_leave reply entries result e now reached waited is same told count fails =
+      → entries ≡ length c.history → now ≡ Some (entries + 1) → ((d : List ℕ) → may_leave d → KeepsCommits c d) → Steps s c Force reply new now image may_leave
+  err_steps new image may_leave reply entries result e now reached waited is same told count fails left =
       let valid = unfailed_valid s c w failed old may_have_left means none reached in
-      cut_steps s c reply w new entries now image may_leave valid works (λ four. let never : Err e ≡ Ok tt = sym is ∙ waited (same ∙ four) in cc) told count fails
+      cut_steps s c reply w new entries now image may_leave valid works (λ four. let never : Err e ≡ Ok tt = sym is ∙ waited (same ∙ four) in cc) told count fails left
 
 module _ (s : Super) (c : Core) (w : Working) (failed : Option ℕ) (image : List ℕ) (may_leave : List ℕ → Type 0) (means : Means s c w failed image may_leave) (none : failed ≡ None) (reached : IsReached c) where
   abbrev is_valid : IsValid c

@@ -1,6 +1,7 @@
 -- The log in memory and a core's: what is used of it, and one record more.
-use Rattle.std.proofs.Common.{◌≡◌, ℕ, ◌+◌, ◌<◌, cond, List, [], ◌∷◌, ◌++◌, length, vec_len, sym, ap, ◌∙◌, arith, length-append, append_assoc}
-use Rattle.std.proofs.lemmas.Bool.{lt-ltb}
+use Rattle.std.proofs.Common.{◌≡◌, ◌≢◌, ℕ, ◌+◌, ◌<◌, cond, refl, List, [], ◌∷◌, ◌++◌, length, vec_len, sym, ap, ◌∙◌, arith, length-append, append_assoc}
+use Rattle.std.specs.Prelude.{◌↔◌, IsTrue, nat_lt}
+use Rattle.std.proofs.lemmas.Bool.{lt-ltb, ltb-true}
 use Rattle.std.proofs.lemmas.List.{append-nil}
 use Rattle.std.proofs.lemmas.Grind.{flat_map-append}
 use Rattle.heap_shell.specs.declared.log.Log.{Log}
@@ -18,7 +19,7 @@ some_spelling : (r : Record) → 0 < length (spelling r)
 some_spelling (Update t object field was word) = omega arith
 some_spelling (Commit t) = omega arith
 
-some_spellings : (r : Record) (rs : List Record) → 0 < length (spellings (r ∷ rs))
+pub some_spellings : (r : Record) (rs : List Record) → 0 < length (spellings (r ∷ rs))
 some_spellings r rs = omega (arith, some_spelling r, length-append (spelling r) (spellings rs))
 
 -- the length of what is in hand
@@ -44,6 +45,14 @@ need_plain n (q ∷ qs) r e =
 -- the bytes that a record takes
 pub need_same : (log : Log) (bs : List (List Record)) (p : List Record) (r : Record) → Keeps log bs p → need_bytes (vec_len log.hand) (length (spelling r)) ≡ need p (r ∷ [])
 need_same log bs p r keeps = need_plain (vec_len log.hand) p r (hand_length log bs p keeps)
+
+waits_plain : (n : ℕ) (p : List Record) → n ≡ 4 + length (spellings p) → IsTrue (nat_lt 4 n) ↔ (p ≢ [])
+waits_plain n [] e = (λ more none. omega (arith, e, ltb-true 4 n more), λ some. absurd (some refl))
+waits_plain n (r ∷ rs) e = (λ more none. cc, λ some. lt-ltb 4 n (omega (arith, e, some_spellings r rs)))
+
+-- whether records wait
+pub some_waits : (log : Log) (bs : List (List Record)) (p : List Record) → Keeps log bs p → IsTrue (nat_lt 4 (vec_len log.hand)) ↔ (p ≢ [])
+some_waits log bs p keeps = waits_plain (vec_len log.hand) p (hand_length log bs p keeps)
 
 -- the log as it was
 pub keeps_same : (old new : Log) (bs : List (List Record)) (p : List Record) → SameLog old new old.hand.items → Keeps old bs p → Keeps new bs p

@@ -34,6 +34,7 @@ module _ (s : Super) (batches : List (List Record)) (old new : List ℕ) (may_ha
       only = λ image left. only image (narrows image left) ∙ sym read;
       room = refl;
     };
+    left = λ some. absurd (some refl);
   }
 
 -- nothing is greater than the first number of an empty heap

@@ -12,8 +12,9 @@ use Rattle.heap_shell.specs.Word.{IsNumberWord}
 use Rattle.heap_shell.specs.Record.{IsRecord}
 use Rattle.heap_shell.specs.Machine as machine
 use Rattle.heap_shell.specs.Log.{with_batch}
-use Rattle.heap_shell.specs.Image.{records_of, IsLegal, StandsFor}
+use Rattle.heap_shell.specs.Image.{records_of, IsLegal}
 use Rattle.heap_shell.specs.Core.{Core, forced}
+use Rattle.heap_shell.specs.CoreCrash.{StandsForFirst}
 use Rattle.heap_shell.specs.CoreValid.{IsTold, IsReached}
 use Rattle.heap_shell.specs.CoreLawsRecords.{told_whole, told_commits, told_graph, told_plain}
 use Rattle.heap_shell.specs.CoreLawsRoom.{records_of-append}
@@ -87,12 +88,6 @@ disk_whole c batches h on = let first = tell_first c batches h on in told_whole 
 -- they leave nothing but numbers in the root's fields
 pub disk_plain : (c : Core) (batches : List (List Record)) → IsReached c → IsOnDisk c batches → AllByRecursion IsNumberWord (drop 2 (machine.words (records_of batches)))
 disk_plain c batches h on = let first = tell_first c batches h on in told_plain _ first.0 None (records_of batches) first.1.told
-
--- An image stands for the first k commits of a core, and all that was acknowledged is among them.
-pub record StandsForFirst (c : Core) (k : ℕ) (image : List ℕ) : Type 0 where
-  pub stands : StandsFor (serial c.g0 (take k (commits c.history))) k image
-  pub kept : acknowledged c.history ≤ k
-  pub some : k ≤ length (commits c.history)
 
 -- A crash leaves an image of the first commits.
 pub crash_law : (c : Core) (s : Super) (batches : List (List Record)) (image : List ℕ) → IsReached c → IsOnDisk c batches → IsLegal s batches image

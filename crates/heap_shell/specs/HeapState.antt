@@ -1,5 +1,6 @@
 -- A heap, as the clauses of its calls see it.
-use Rattle.std.specs.Prelude.{Result, Ok, Err}
+use Rattle.std.specs.Prelude.{ℕ, ◌+◌, min, Result, Ok, Err}
+use Rattle.counts.specs.Count.{greatest}
 use Rattle.disk_model.specs.declared.disk.Disk.{Ghosts}
 use Rattle.heap_shell.specs.declared.heap.Heap.{Heap}
 use Rattle.heap_shell.specs.declared.recovery.OpenError.{OpenError}
@@ -12,3 +13,7 @@ opened_disk (Err e) = e.1
 -- the disk of a heap
 abbrev pub heap_disk : {D : Type 0} {g : Ghosts D} → Heap D g → D
 heap_disk heap = heap.disk
+
+-- how many commits its log holds: those at the opening and those since, where they can be counted
+abbrev pub commits_of : {D : Type 0} {g : Ghosts D} → Heap D g → ℕ
+commits_of heap = min (heap.before + heap.working.sealed) greatest

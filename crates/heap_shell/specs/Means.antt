@@ -1,5 +1,5 @@
 -- When what an open heap keeps is a core.
-use Rattle.std.specs.Prelude.{◌≡◌, ℕ, ◌+◌, List, [], ◌++◌, length, map, is_some, count_by, Option, None, Some}
+use Rattle.std.specs.Prelude.{◌≡◌, ◌≢◌, ℕ, ◌+◌, List, [], ◌++◌, length, map, is_some, count_by, Option, None, Some}
 use Rattle.disk_model.specs.Disk.{Only}
 use Rattle.disk_model.specs.declared.disk.Disk.{Ghosts}
 use Rattle.graph_model.specs.declared.event.Event.{Event}
@@ -13,6 +13,7 @@ use Rattle.heap_shell.specs.declared.plan.Super.{Super}
 use Rattle.heap_shell.specs.declared.records.Record.{Record}
 use Rattle.heap_shell.specs.declared.working.Working.{Working}
 use Rattle.heap_shell.specs.Core.{Core, is_put, IsStep}
+use Rattle.heap_shell.specs.CoreCrash.{KeepsCommits}
 use Rattle.heap_shell.specs.Image.{records_of, IsLegal}
 use Rattle.heap_shell.specs.LogState.{Keeps}
 use Rattle.heap_shell.specs.Machine.{words, graph_of}
@@ -23,12 +24,16 @@ abbrev pub active_of : Graph → Option Transaction → Option Active
 active_of g None = None
 active_of g (Some t) = Some (record { number = t.number; handles = map is_some (run g t).registers; writes = count_by is_put t.calls })
 
+-- the records on the disk and those that wait
+abbrev pub all_records : Core → List Record
+all_records c = records_of c.batches ++ c.pending
+
 -- The working state is that of a core whose history tells this account.
 pub record Works (w : Working) (a : Account) (c : Core) : Type 0 where
   pub log : Keeps w.log c.batches c.pending
   pub place : w.log.at ≡ log_offset
   pub room : w.log.room ≡ c.room
-  pub stored : w.words.words ≡ words (records_of c.batches ++ c.pending)
+  pub stored : w.words.words ≡ words (all_records c)
   pub active : w.active ≡ active_of (serial c.g0 a.sealed) (a.active 1)
   pub next : w.next ≡ c.first + a.begun
   pub sealed : w.sealed ≡ length a.sealed
@@ -39,11 +44,13 @@ pub record OnDisk (s : Super) (c : Core) (image : List ℕ) (may_leave : List �
   pub only : Only image may_leave
   pub room : s.log_bytes ≡ c.room
 
--- The working state and the disk are those of a core, until the disk stops or fails at an entry.
+-- The working state and the disk are those of a core, until the disk stops or fails at an entry. From then on a crash leaves
+-- its first commits.
 pub record Means (s : Super) (c : Core) (w : Working) (failed : Option ℕ) (image : List ℕ) (may_leave : List ℕ → Type 0) : Type 0 where
   pub failure : failed ≡ (account c.history).failed
   pub works : failed ≡ None → Works w (account c.history) c
   pub disk : failed ≡ None → OnDisk s c image may_leave
+  pub left : failed ≢ None → (image : List ℕ) → may_leave image → KeepsCommits c image
 
 -- An event was answered as from a core, and what is kept is what that leaves.
 pub record Steps (s : Super) (c : Core) (event : Event) (reply : Reply) (w : Working) (failed : Option ℕ) (image : List ℕ) (may_leave : List ℕ → Type 0) : Type 0 where

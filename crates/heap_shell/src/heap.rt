@@ -1,16 +1,26 @@
 //! The heap: events on an image, each of them one step.
-ghost use Rattle.std.specs.Prelude.{◌≡◌, ◌⊎◌, ◌+◌, ◌<◌, ◌≤◌, List, [], None, Err, IsTrue, IfOk, OnErr, vec_len, vec_capacity};
-ghost use Rattle.disk_model.specs.Disk.{HasCause, Only};
+ghost use Rattle.std.specs.Prelude.{◌≡◌, ◌≢◌, ◌⊎◌, ◌↔◌, ◌+◌, ◌<◌, ◌≤◌, List, [], drop, is_some, None, Err, IsTrue, IfOk, IfErr, OnErr, vec_len, vec_capacity, string_bytes};
+ghost use Rattle.std.specs.List.{AllByRecursion};
+ghost use Rattle.disk_model.specs.Disk.{HasCause, Narrows, Only};
+ghost use Rattle.disk_model.specs.Moments.{LeavesOnly};
+ghost use Rattle.gate_slot.specs.Passing.{Passes};
+ghost use Rattle.graph_model.specs.Canon.{canon};
+ghost use Rattle.graph_model.specs.Text.{canon_text};
 ghost use Rattle.graph_model.specs.SlowHeap.{IsSingleSession};
+ghost use Rattle.graph_model.specs.History.{account};
 ghost use Rattle.graph_model.specs.declared.event.Event.TheVariants.{Force};
 ghost use Rattle.graph_model.specs.declared.reply.Refusal.TheVariants.{DiskFault, Stopped};
 ghost use Rattle.heap_shell.specs.declared.plan.Super.{Super};
 ghost use Rattle.heap_shell.specs.declared.records.Record.{Record};
-ghost use Rattle.heap_shell.specs.Image.{IsLegal};
+ghost use Rattle.heap_shell.specs.Image.{records_of, IsLegal};
 ghost use Rattle.heap_shell.specs.Causes.{step_device, reply_device, opened_device};
-ghost use Rattle.heap_shell.specs.Core.{Core, IsStep, fresh};
+ghost use Rattle.heap_shell.specs.Core.{Core, IsStep, fresh, calls};
+ghost use Rattle.heap_shell.specs.CoreCrash.{KeepsCommits};
 ghost use Rattle.heap_shell.specs.CoreLawsRun.{IsIdle};
 ghost use Rattle.heap_shell.specs.CoreValid.{IsValid, IsReached};
+ghost use Rattle.heap_shell.specs.Machine.{words, graph_of, commits};
+ghost use Rattle.heap_shell.specs.Recovered.{IsFromOutside};
+ghost use Rattle.heap_shell.specs.Word.{IsNumberWord};
 
 use crate::graph_text::root_text;
 use crate::history::History;
@@ -51,16 +61,25 @@ fn cut_short(e: DiskError) -> Reply
 }
 
 impl<D: Disk> Heap<D> {
-    ghost use Rattle.heap_shell.specs.HeapState.{opened_disk};
-    ghost use Rattle.heap_shell.specs.Means.{IsHeap, Steps, opened};
+    ghost use Rattle.heap_shell.specs.HeapState.{opened_disk, commits_of};
+    ghost use Rattle.heap_shell.specs.Means.{IsHeap, Steps, opened, all_records};
 
     /// Opens the heap on the disk.
     pub fn open(alloc: Global, mut disk: D) -> Result<Heap<D>, (OpenError, D)>
         ensures extent { D.extent (opened_disk result) ≡ D.extent disk }
+        ensures limit { D.limit (opened_disk result) ≡ D.limit disk }
         ensures cause { HasCause (D.faults disk) (D.faults (opened_disk result)) (D.stops disk) (D.stops (opened_disk result)) (opened_device result) }
         // An opening only reads.
         ensures no_first_stop { D.stops disk ≡ 0 → D.stops (opened_disk result) ≡ 0 }
         ensures idle { IfOk result (λ heap. heap.working.active ≡ None) }
+        ensures crash { IsTrue D.tells → Narrows (D.may_leave disk) (D.may_leave (opened_disk result)) }
+        ensures moments { IsTrue D.tells → LeavesOnly D.moment D.left_since disk (opened_disk result) (D.may_leave disk) }
+        ensures passed { IsTrue D.tells → D.passed (opened_disk result) ≡ D.passed disk }
+        ensures restarts { IsTrue D.tells → D.restarts (opened_disk result) ≡ D.restarts disk }
+
+        // A legal image is refused only for want of memory or by the disk.
+        ensures legal { IsTrue D.tells → (s : Super) (batches : List (List Record)) → IsLegal s batches (D.bytes disk) → IfErr result (λ e. IsFromOutside e.0) }
+        ensures count { IsTrue D.tells → (s : Super) (batches : List (List Record)) → IsLegal s batches (D.bytes disk) → IfOk result (λ heap. commits_of heap ≡ commits (records_of batches)) }
 
         // A legal image is opened as the core that it stands for; an empty one as that of a new heap.
         ensures means { IsTrue D.tells → (s : Super) (batches : List (List Record)) → IsLegal s batches (D.bytes disk) → Only (D.bytes disk) (D.may_leave disk) → IfOk result (λ heap. IsHeap s (opened s batches heap.working.next) heap) }
@@ -96,11 +115,18 @@ impl<D: Disk> Heap<D> {
     /// Makes one step, and answers the event. Want of memory changes nothing.
     pub fn step(&mut self, event: Event) -> Result<Reply, AllocError>
         ensures extent { D.extent self.new.disk ≡ D.extent self.old.disk }
+        ensures limit { D.limit self.new.disk ≡ D.limit self.old.disk }
         ensures cause { HasCause (D.faults self.old.disk) (D.faults self.new.disk) (D.stops self.old.disk) (D.stops self.new.disk) (step_device result) }
 
         // Each event is a step of the core that the heap is.
         ensures core { IsTrue D.tells → (s : Super) (c : Core) → IsHeap s c self.old → IsReached c → IsSingleSession event → (event ≡ Force → IsIdle c) → IfOk result (λ reply. (d : Core) × IsStep c event reply d × IsHeap s d self.new) }
         ensures kept { (s : Super) (c : Core) → IsHeap s c self.old → OnErr result (IsHeap s c self.new) }
+        ensures untouched { OnErr result (self.new.disk ≡ self.old.disk) }
+
+        // At each moment of it a crash leaves first commits, among them all that were acknowledged before.
+        ensures moments { IsTrue D.tells → (s : Super) (c : Core) → IsHeap s c self.old → IsReached c → (event ≡ Force → IsIdle c) → LeavesOnly D.moment D.left_since self.old.disk self.new.disk (KeepsCommits c) }
+        ensures passes { IsTrue D.tells → (s : Super) (c : Core) → IsHeap s c self.old → IfOk result (λ reply. Passes (calls c event) (D.passed self.old.disk) (D.passed self.new.disk) (reply_device reply)) }
+        ensures restarts { IsTrue D.tells → D.restarts self.new.disk ≡ D.restarts self.old.disk }
     {
         self.history.reserve()?;
         let reply = self.reply_to(event)?;
@@ -110,10 +136,15 @@ impl<D: Disk> Heap<D> {
 
     fn reply_to(&mut self, event: Event) -> Result<Reply, AllocError>
         ensures extent { D.extent self.new.disk ≡ D.extent self.old.disk }
+        ensures limit { D.limit self.new.disk ≡ D.limit self.old.disk }
         ensures cause { HasCause (D.faults self.old.disk) (D.faults self.new.disk) (D.stops self.old.disk) (D.stops self.new.disk) (step_device result) }
         ensures history { self.new.history ≡ self.old.history }
         ensures core { IsTrue D.tells → (s : Super) (c : Core) → IsHeap s c self.old → IsReached c → IsSingleSession event → (event ≡ Force → IsIdle c) → IfOk result (λ reply. Steps s c event reply self.new.working self.new.failed (D.bytes self.new.disk) (D.may_leave self.new.disk)) }
         ensures kept { (s : Super) (c : Core) → IsHeap s c self.old → OnErr result (IsHeap s c self.new) }
+        ensures untouched { OnErr result (self.new.disk ≡ self.old.disk) }
+        ensures moments { IsTrue D.tells → (s : Super) (c : Core) → IsHeap s c self.old → IsReached c → (event ≡ Force → IsIdle c) → LeavesOnly D.moment D.left_since self.old.disk self.new.disk (KeepsCommits c) }
+        ensures passes { IsTrue D.tells → (s : Super) (c : Core) → IsHeap s c self.old → IfOk result (λ reply. Passes (calls c event) (D.passed self.old.disk) (D.passed self.new.disk) (reply_device reply)) }
+        ensures restarts { IsTrue D.tells → D.restarts self.new.disk ≡ D.restarts self.old.disk }
     {
         match self.failed {
             Some(entry) => Ok(refused(Refusal::Failed { entry })),
@@ -123,10 +154,15 @@ impl<D: Disk> Heap<D> {
 
     fn answer(&mut self, event: Event) -> Result<Reply, AllocError>
         ensures extent { D.extent self.new.disk ≡ D.extent self.old.disk }
+        ensures limit { D.limit self.new.disk ≡ D.limit self.old.disk }
         ensures cause { HasCause (D.faults self.old.disk) (D.faults self.new.disk) (D.stops self.old.disk) (D.stops self.new.disk) (step_device result) }
         ensures core { IsTrue D.tells → (s : Super) (c : Core) → IsHeap s c self.old → self.old.failed ≡ None → IsReached c → IsSingleSession event → (event ≡ Force → IsIdle c) → IfOk result (λ reply. Steps s c event reply self.new.working self.new.failed (D.bytes self.new.disk) (D.may_leave self.new.disk)) }
         ensures kept { (s : Super) (c : Core) → IsHeap s c self.old → OnErr result (IsHeap s c self.new) }
         ensures history { self.new.history ≡ self.old.history }
+        ensures untouched { OnErr result (self.new.disk ≡ self.old.disk) }
+        ensures moments { IsTrue D.tells → (s : Super) (c : Core) → IsHeap s c self.old → self.old.failed ≡ None → IsReached c → (event ≡ Force → IsIdle c) → LeavesOnly D.moment D.left_since self.old.disk self.new.disk (KeepsCommits c) }
+        ensures passes { IsTrue D.tells → (s : Super) (c : Core) → IsHeap s c self.old → self.old.failed ≡ None → IfOk result (λ reply. Passes (calls c event) (D.passed self.old.disk) (D.passed self.new.disk) (reply_device reply)) }
+        ensures restarts { IsTrue D.tells → D.restarts self.new.disk ≡ D.restarts self.old.disk }
     {
         match event {
             Event::Begin { .. } => Ok(self.working.begin()),
@@ -139,10 +175,15 @@ impl<D: Disk> Heap<D> {
 
     fn force(&mut self) -> Result<Reply, AllocError>
         ensures extent { D.extent self.new.disk ≡ D.extent self.old.disk }
+        ensures limit { D.limit self.new.disk ≡ D.limit self.old.disk }
         ensures cause { HasCause (D.faults self.old.disk) (D.faults self.new.disk) (D.stops self.old.disk) (D.stops self.new.disk) (step_device result) }
         ensures core { IsTrue D.tells → (s : Super) (c : Core) → IsHeap s c self.old → self.old.failed ≡ None → IsReached c → IsIdle c → IfOk result (λ reply. Steps s c Force reply self.new.working self.new.failed (D.bytes self.new.disk) (D.may_leave self.new.disk)) }
         ensures kept { (s : Super) (c : Core) → IsHeap s c self.old → OnErr result (IsHeap s c self.new) }
         ensures history { self.new.history ≡ self.old.history }
+        ensures untouched { OnErr result (self.new.disk ≡ self.old.disk) }
+        ensures moments { IsTrue D.tells → (s : Super) (c : Core) → IsHeap s c self.old → self.old.failed ≡ None → IsReached c → IsIdle c → LeavesOnly D.moment D.left_since self.old.disk self.new.disk (KeepsCommits c) }
+        ensures passes { IsTrue D.tells → (s : Super) (c : Core) → IsHeap s c self.old → self.old.failed ≡ None → IfOk result (λ reply. Passes (calls c Force) (D.passed self.old.disk) (D.passed self.new.disk) (reply_device reply)) }
+        ensures restarts { IsTrue D.tells → D.restarts self.new.disk ≡ D.restarts self.old.disk }
     {
         self.working.log.reserve()?;
         match self.working.log.force(&mut self.disk) {
@@ -157,32 +198,44 @@ impl<D: Disk> Heap<D> {
     }
 
     /// The entries since the heap was opened.
-    pub fn history(&self) -> &History {
+    pub fn history(&self) -> &History
+        ensures { (s : Super) (c : Core) → IsHeap s c self.now → result.now.entries.items ≡ c.history }
+    {
         &self.history
     }
 
     /// The entry, from 1, at which the disk failed or stopped.
-    pub fn failed(&self) -> Option<u64> {
+    pub fn failed(&self) -> Option<u64>
+        ensures { (s : Super) (c : Core) → IsHeap s c self.now → result ≡ (account c.history).failed }
+    {
         self.failed
     }
 
     /// How many commits the log holds.
-    pub fn commits(&self) -> u64 {
+    pub fn commits(&self) -> u64
+        ensures { result ≡ commits_of self.now }
+    {
         self.before.saturating_add(self.working.sealed)
     }
 
     /// Whether records wait to be forced.
-    pub fn pending(&self) -> bool {
+    pub fn pending(&self) -> bool
+        ensures { (s : Super) (c : Core) → IsHeap s c self.now → self.now.failed ≡ None → IsTrue result ↔ (c.pending ≢ []) }
+    {
         self.working.log.pending()
     }
 
     /// Whether a transaction is active.
-    pub fn active(&self) -> bool {
+    pub fn active(&self) -> bool
+        ensures { (s : Super) (c : Core) → IsHeap s c self.now → self.now.failed ≡ None → result ≡ is_some ((account c.history).active 1) }
+    {
         self.working.active.is_some()
     }
 
     /// The text of the graph.
-    pub fn graph(&self, alloc: Global) -> Result<String, AllocError> {
+    pub fn graph(&self, alloc: Global) -> Result<String, AllocError>
+        ensures text { (s : Super) (c : Core) → IsHeap s c self.now → self.now.failed ≡ None → AllByRecursion IsNumberWord (drop 2 (words (all_records c))) → IfOk result (λ text. string_bytes text ≡ canon_text (canon (graph_of (all_records c)))) }
+    {
         match root_values(&self.working.words) {
             Some(values) => root_text(alloc, &values),
             None => root_text(alloc, &[]),

@@ -73,6 +73,9 @@ pub fn recover<D: Disk>(alloc: Global, disk: &mut D) -> Result<Recovered, OpenEr
     ensures inside { IfOk result (λ found. found.log.at + found.log.room ≤ D.extent disk.new) }
     ensures idle { IfOk result (λ found. vec_len found.log.hand ≡ 4) }
     ensures next { IfOk result (λ found. 0 < found.next) }
+    // No image is opened that ends inside a transaction, or that leaves anything but numbers in the root's fields.
+    ensures whole { IfOk result (λ found. (state_of found.state).writer ≡ None) }
+    ensures numbers { IfOk result (λ found. AllByRecursion IsNumberWord (drop 2 found.words.words)) }
 
     // A legal image is found as it is, whatever its numbers and batches.
     ensures found { IsTrue D.tells → (s : Super) (batches : List (List Record)) → IsLegal s batches (D.bytes disk.old) → IfOk result (IsRecovered s batches) }
@@ -85,6 +88,7 @@ pub fn recover<D: Disk>(alloc: Global, disk: &mut D) -> Result<Recovered, OpenEr
     ensures passed { IsTrue D.tells → D.passed disk.new ≡ D.passed disk.old }
     ensures restarts { IsTrue D.tells → D.restarts disk.new ≡ D.restarts disk.old }
     ensures extent { D.extent disk.new ≡ D.extent disk.old }
+    ensures limit { D.limit disk.new ≡ D.limit disk.old }
     ensures cause { HasCause (D.faults disk.old) (D.faults disk.new) (D.stops disk.old) (D.stops disk.new) (open_device result) }
     ensures no_first_stop { D.stops disk.old ≡ 0 → D.stops disk.new ≡ 0 }
 {
@@ -113,6 +117,7 @@ fn read_plan<D: Disk>(disk: &mut D) -> Result<Super, OpenError>
     ensures passed { IsTrue D.tells → D.passed disk.new ≡ D.passed disk.old }
     ensures restarts { IsTrue D.tells → D.restarts disk.new ≡ D.restarts disk.old }
     ensures extent { D.extent disk.new ≡ D.extent disk.old }
+    ensures limit { D.limit disk.new ≡ D.limit disk.old }
     ensures cause { HasCause (D.faults disk.old) (D.faults disk.new) (D.stops disk.old) (D.stops disk.new) (open_device result) }
     ensures no_first_stop { D.stops disk.old ≡ 0 → D.stops disk.new ≡ 0 }
 {
@@ -135,6 +140,8 @@ fn replay(records: &[Record]) -> Result<(LogState, PageWords), OpenError>
     ensures state { IfOk result (λ found. after_all start records.now ≡ Some (state_of found.0)) }
     ensures words { IfOk result (λ found. found.1.words ≡ words records.now) }
     ensures small { IfOk result (λ found. (state_of found.0).greatest ≤ 4294967294) }
+    ensures whole { IfOk result (λ found. (state_of found.0).writer ≡ None) }
+    ensures numbers { IfOk result (λ found. AllByRecursion IsNumberWord (drop 2 found.1.words)) }
     ensures exact { AreWhole records.now → AllByRecursion IsNumberWord (drop 2 (words records.now)) → IsOk result }
     ensures image { IfErr result IsFromImage }
 {
@@ -176,6 +183,7 @@ fn replay_all(records: &[Record]) -> Result<(LogState, PageWords), OpenError>
 /// What the root object's fields hold: nothing or a number, since there is no other object.
 pub fn root_values(words: &PageWords) -> Option<[Val; ROOT_FIELDS]>
     ensures found { IfSome result (λ values. (values ≡ map value_of (drop 2 words.now.words)) × AllPlain values) }
+    ensures numbers { IsSome result → AllByRecursion IsNumberWord (drop 2 words.now.words) }
     ensures only { AllByRecursion IsNumberWord (drop 2 words.now.words) → IsSome result }
 {
     let [a, b, c, d] = words.root_fields();
@@ -189,6 +197,7 @@ pub fn root_values(words: &PageWords) -> Option<[Val; ROOT_FIELDS]>
 
 fn value_of_word(word: u64) -> Option<Val>
     ensures found { IfSome result (λ value. (value ≡ value_of word) × IsPlain value) }
+    ensures number { IsSome result → IsNumberWord word }
     ensures only { IsNumberWord word → IsSome result }
 {
     match decode(word)? {
