@@ -1,0 +1,200 @@
+-- One event of a play.
+use Rattle.std.proofs.Common.{◌≡◌, ◌≢◌, ◌⊎◌, inl, inr, ⊎_elim, ℕ, ◌+◌, ◌<◌, Bool, List, [], ◌∷◌, ◌++◌, Option, Some, None, Result, Ok, Err, refl, sym, ap, ◌∙◌, subst, arith, append_assoc}
+use Rattle.std.specs.Prelude.{IsTrue}
+use Rattle.std.proofs.lemmas.Grind.{flat_map-append}
+use Rattle.std.proofs.lemmas.List.{append-nil}
+use Rattle.counts.specs.Count.{counted}
+use Rattle.disk_model.specs.declared.disk.Disk.{Ghosts}
+use Rattle.disk_model.specs.declared.disk.DiskError.TheVariants as device
+use Rattle.disk_model.specs.Disk.{HasCause}
+use Rattle.disk_model.specs.Moments.{LeavesOnly, weaker}
+use Rattle.gate_slot.specs.Passing.{Passes}
+use Rattle.graph_model.specs.declared.event.Event.{Event}
+use Rattle.graph_model.specs.declared.event.Event.TheVariants.{Force}
+use Rattle.graph_model.specs.declared.reply.Entry.{Entry}
+use Rattle.graph_model.specs.declared.reply.Refusal.{Refusal}
+use Rattle.graph_model.specs.declared.reply.Refusal.TheVariants.{Failed, AlreadyActive, NotActive, NumbersSpent, BadHandle, Range, BadField, LogFull, DiskFault, Stopped}
+use Rattle.graph_model.specs.declared.reply.Reply.{Reply}
+use Rattle.graph_model.specs.declared.reply.Reply.TheVariants.{Begun, Done, Sealed, Durable, Refused}
+use Rattle.graph_model.specs.History.{account}
+use Rattle.graph_model.specs.Plain.{granted}
+use Rattle.graph_model.specs.PlainLaws.{IsSoundReply, granted_sound, sound_either}
+use Rattle.graph_model.specs.Text.{line}
+use Rattle.heap_shell.specs.declared.heap.Heap.{Heap}
+use Rattle.heap_shell.specs.declared.plan.Super.{Super}
+use Rattle.heap_shell.specs.declared.play.Ended.{Ended}
+use Rattle.heap_shell.specs.declared.play.Ended.TheVariants as ended
+use Rattle.heap_shell.specs.declared.records.Record.{Record}
+use Rattle.heap_shell.specs.declared.status.Status.{Status}
+use Rattle.heap_shell.specs.Causes.{reply_device}
+use Rattle.heap_shell.specs.Core.{Core, next_number, answer, with_entry, after, IsCutShort, IsStep, force_calls, calls_if, calls}
+use Rattle.heap_shell.specs.CoreCrash.{KeepsCommits, HasCommits}
+use Rattle.heap_shell.specs.CoreLawsPlay.{ready_valid, has_commits_on, keeps_has}
+use Rattle.heap_shell.specs.CoreLawsRun.{step_history, valid_step}
+use Rattle.heap_shell.specs.CoreLawsStep.{core_refusal-HasNoFault}
+use Rattle.heap_shell.specs.CoreRuns.{after_events, total_calls}
+use Rattle.heap_shell.specs.CoreValid.{IsValid, IsReached}
+use Rattle.heap_shell.specs.Means.{IsHeap}
+use Rattle.heap_shell.specs.Output.{WroteText}
+use Rattle.heap_shell.specs.Play.{AreReady, MakesAll, MakesShort, Makes, Ends, Plays, Wrote, ended_by, lines_text, WroteFront, WroteLines}
+use Rattle.heap_shell.proofs.MeansLeft.{heap_keeps}
+
+-- a reply that tells no fault of the disk
+sound_device : (reply : Reply) → IsSoundReply reply → (reply_device reply ≡ Ok tt) × (ended_by reply ≡ ended.Whole)
+sound_device (Begun n) sound = (refl, refl)
+sound_device Done sound = (refl, refl)
+sound_device (Sealed n) sound = (refl, refl)
+sound_device (Durable n) sound = (refl, refl)
+sound_device (Refused (Failed entry)) sound = (refl, refl)
+sound_device (Refused AlreadyActive) sound = (refl, refl)
+sound_device (Refused NotActive) sound = (refl, refl)
+sound_device (Refused NumbersSpent) sound = (refl, refl)
+sound_device (Refused BadHandle) sound = (refl, refl)
+sound_device (Refused Range) sound = (refl, refl)
+sound_device (Refused BadField) sound = (refl, refl)
+sound_device (Refused (LogFull used need reserved)) sound = (refl, refl)
+sound_device (Refused DiskFault) sound = absurd sound
+sound_device (Refused Stopped) sound = absurd sound
+
+forces_some : (p : List Record) → p ≢ [] → 0 < force_calls p
+forces_some [] some = absurd (some refl)
+forces_some (r ∷ rs) some = omega arith
+
+-- a force that was cut short had calls to make
+cut_calls : (c : Core) (event : Event) (reply : Reply) → IsCutShort c event reply → 0 < calls c event
+cut_calls c event reply cut =
+    let made : calls c event ≡ force_calls c.pending = ap (λ (e : Event). calls c e) cut.force ∙ ap (λ (o : Option ℕ). calls_if o c Force) cut.first in
+    let some = forces_some c.pending cut.waits in
+    omega (arith, made, some)
+
+answer_sound : (c : Core) (event : Event) → IsSoundReply (answer c event)
+answer_sound c event = sound_either _ _ (core_refusal-HasNoFault c event) (granted_sound (next_number c) c.g0 (account c.history) event)
+
+one_call : (n m k : ℕ) → n ≡ counted m k → n ≡ counted (m + 0) k
+one_call n m k e = let same : m ≡ m + 0 = omega arith in e ∙ ap (λ (i : ℕ). counted i k) same
+
+module _ {D : Type 0} {g : Ghosts D} (s : Super) (c d : Core) (event : Event) (reply : Reply) (old new : Heap D g) (ready : AreReady c (event ∷ [])) (step : IsStep c event reply d)
+    (cause : HasCause (g.faults old.disk) (g.faults new.disk) (g.stops old.disk) (g.stops new.disk) (reply_device reply))
+    (passes : Passes (calls c event) (g.passed old.disk) (g.passed new.disk) (reply_device reply)) where
+  abbrev one : List Event
+  one = event ∷ []
+
+  abbrev own : List ℕ
+  own = line (record { event = event; reply = reply })
+
+  whole_ends : reply ≡ answer c event → d ≡ after c event → (ended_by reply ≡ ended.Whole) × MakesAll c one d old new
+  whole_ends replied reached =
+      let sound = sound_device reply (subst IsSoundReply (sym replied) (answer_sound c event)) in
+      let P : Result (Unit {0}) _ → Type 0 = λ r. Passes (calls c event) (g.passed old.disk) (g.passed new.disk) r in
+      (sound.1, record { reached = reached; passes = one_call _ (calls c event) _ (subst P sound.0 passes).ok })
+
+  short_ends : IsCutShort c event reply → d ≡ with_entry c event reply → MakesShort c one d old new reply
+  short_ends cut reached = record {
+    before = [];
+    event = event;
+    parts = refl;
+    cut = cut;
+    reached = reached;
+    cause = cause;
+    passes = λ stopped.
+        let short = passes.stopped (ap reply_device stopped) (cut_calls c event reply cut) in
+        let same : short.0 ≡ 0 + short.0 = omega arith in (short.0, short.1, short.2 ∙ ap (λ (i : ℕ). counted i (g.passed old.disk)) same);
+  }
+
+  told_ends : IsCutShort c event reply → MakesShort c one d old new reply → Ends c one [] d old new (Ok (ended_by reply))
+  told_ends cut short = ⊎_elim
+      (λ (is : reply ≡ Refused DiskFault).
+      let P : Reply → Type 0 = λ r. MakesShort c one d old new r → Ends c one [] d old new (Ok (ended_by r)) in
+      subst P (sym is) (λ m. m) short)
+      (λ (is : reply ≡ Refused Stopped).
+      let P : Reply → Type 0 = λ r. MakesShort c one d old new r → Ends c one [] d old new (Ok (ended_by r)) in
+      subst P (sym is) (λ m. m) short)
+      cut.told
+
+  -- the event's reply says how the play goes on
+  pub one_ends : Ends c one [] d old new (Ok (ended_by reply))
+  one_ends = ⊎_elim
+      (λ (whole : (reply ≡ answer c event) × (d ≡ after c event)).
+      let is = whole_ends whole.0 whole.1 in
+      subst (λ (e : Ended). Ends c one [] d old new (Ok e)) (sym is.0) (refl, is.1))
+      (λ (cut : IsCutShort c event reply × (d ≡ with_entry c event reply)). told_ends cut.0 (short_ends cut.0 cut.1))
+      step
+
+  pub one_makes : Makes c one d old new
+  one_makes = ⊎_elim
+      (λ (whole : (reply ≡ answer c event) × (d ≡ after c event)). inl (whole_ends whole.0 whole.1).1)
+      (λ (cut : IsCutShort c event reply × (d ≡ with_entry c event reply)). inr (reply, short_ends cut.0 cut.1))
+      step
+
+  pub one_leaves : LeavesOnly g.moment g.left_since old.disk new.disk (KeepsCommits c) → LeavesOnly g.moment g.left_since old.disk new.disk (HasCommits d)
+  one_leaves moments =
+      let reached : IsReached c = inl ready.0 in
+      let next = valid_step c d event reply reached ready.1 ready.2 step in
+      weaker g.moment g.left_since old.disk new.disk (KeepsCommits c) (HasCommits d) moments
+      (λ image kept. has_commits_on c d one image reached next (reply, d, step, refl) (keeps_has c image kept))
+
+  -- the lines with that of the event
+  pub one_line : lines_text d.history ≡ lines_text c.history ++ line (record { event = event; reply = reply })
+  one_line =
+      let entry : Entry = record { event = event; reply = reply } in
+      ap lines_text (step_history c d event reply step)
+      ∙ flat_map-append line c.history (entry ∷ [])
+      ∙ ap (λ (l : List ℕ). lines_text c.history ++ l) (append-nil (line entry))
+
+  -- the event was made and its line written
+  pub plays_one : (told : Bool) (before after : List ℕ) → IsHeap s d new → LeavesOnly g.moment g.left_since old.disk new.disk (KeepsCommits c)
+      → (IsTrue told → after ≡ before ++ own) → Plays s c one old new told before after (Ok (ended_by reply))
+  plays_one told before after heap moments wrote = record {
+    made = one;
+    behind = [];
+    parts = refl;
+    core = d;
+    ends = one_ends;
+    heap = heap;
+    moments = one_leaves moments;
+    written = λ t w is. wrote t ∙ ap (λ (l : List ℕ). l ++ own) is ∙ append_assoc w (lines_text c.history) own ∙ ap (λ (l : List ℕ). w ++ l) (sym one_line);
+  }
+
+  -- the event was made, and its line not wholly written
+  pub plays_unwritten : (told : Bool) (before after : List ℕ) (status : Status) → IsHeap s d new → LeavesOnly g.moment g.left_since old.disk new.disk (KeepsCommits c)
+      → (IsTrue told → WroteFront before own after) → Plays s c one old new told before after (Err status)
+  plays_unwritten told before after status heap moments wrote = record {
+    made = one;
+    behind = [];
+    parts = refl;
+    core = d;
+    ends = one_makes;
+    heap = heap;
+    moments = one_leaves moments;
+    written = λ t w is.
+        let part = wrote t in
+        let front : WroteFront w (lines_text d.history) after = (
+          lines_text c.history ++ part.0,
+          part.1,
+          one_line ∙ ap (λ (l : List ℕ). lines_text c.history ++ l) part.2 ∙ sym (append_assoc (lines_text c.history) part.0 part.1),
+          part.3 ∙ ap (λ (l : List ℕ). l ++ part.0) is ∙ append_assoc w (lines_text c.history) part.0,
+        ) in
+        let lines : WroteLines w d.history after = (c.history, record { event = event; reply = reply } ∷ [], part.0, step_history c d event reply step, omega arith, part.3 ∙ ap (λ (l : List ℕ). l ++ part.0) is) in
+        (front, lines);
+  }
+
+-- memory was refused: nothing was made
+pub plays_nothing : {D : Type 0} {g : Ghosts D} (s : Super) (c : Core) (events : List Event) (old new : Heap D g) (told : Bool) (before : List ℕ) (status : Status) → IsHeap s c new → new.disk ≡ old.disk
+    → LeavesOnly g.moment g.left_since old.disk new.disk (KeepsCommits c) → Plays s c events old new told before before (Err status)
+plays_nothing {g = g} s c events old new told before status heap same moments = record {
+  made = [];
+  behind = events;
+  parts = refl;
+  core = c;
+  ends = inl (record { reached = refl; passes = ap g.passed same });
+  heap = heap;
+  moments = weaker g.moment g.left_since old.disk new.disk (KeepsCommits c) (HasCommits c) moments (λ image kept. keeps_has c image kept);
+  written = λ t w is.
+      let front : WroteFront w (lines_text c.history) before = (lines_text c.history, [], sym (append-nil (lines_text c.history)), is) in
+      let lines : WroteLines w c.history before = (c.history, [], [], sym (append-nil c.history), omega arith, is ∙ sym (append-nil (w ++ lines_text c.history))) in
+      (front, lines);
+}
+
+-- what a crash leaves of a heap
+pub heap_leaves : {D : Type 0} {g : Ghosts D} (s : Super) (c : Core) (heap : Heap D g) → IsHeap s c heap → IsReached c → (image : List ℕ) → g.may_leave heap.disk image → KeepsCommits c image
+heap_leaves s c heap means reached = heap_keeps s c heap.working heap.failed _ _ means.means reached

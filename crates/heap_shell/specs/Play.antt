@@ -1,0 +1,93 @@
+-- What a play makes of the events of a script.
+use Rattle.std.specs.Prelude.{◌≡◌, ◌⊎◌, ℕ, ◌+◌, ◌<◌, ◌≤◌, List, [], ◌∷◌, ◌++◌, length, Bool, IsTrue, Result, Ok, Err}
+use Rattle.std.specs.List.{flat_map}
+use Rattle.counts.specs.Count.{counted}
+use Rattle.disk_model.specs.declared.disk.Disk.{Ghosts}
+use Rattle.disk_model.specs.Disk.{HasCause}
+use Rattle.disk_model.specs.Moments.{LeavesOnly}
+use Rattle.graph_model.specs.declared.event.Event.{Event}
+use Rattle.graph_model.specs.declared.event.Event.TheVariants.{Force}
+use Rattle.graph_model.specs.declared.reply.Entry.{Entry}
+use Rattle.graph_model.specs.declared.reply.Refusal.TheVariants.{DiskFault, Stopped}
+use Rattle.graph_model.specs.declared.reply.Reply.{Reply}
+use Rattle.graph_model.specs.declared.reply.Reply.TheVariants.{Refused}
+use Rattle.graph_model.specs.SlowHeap.{IsSingleSession}
+use Rattle.graph_model.specs.Text.{line}
+use Rattle.heap_shell.specs.declared.heap.Heap.{Heap}
+use Rattle.heap_shell.specs.declared.plan.Super.{Super}
+use Rattle.heap_shell.specs.declared.play.Ended.{Ended}
+use Rattle.heap_shell.specs.declared.play.Ended.TheVariants as ended
+use Rattle.heap_shell.specs.declared.status.Status.{Status}
+use Rattle.heap_shell.specs.Causes.{reply_device}
+use Rattle.heap_shell.specs.Core.{Core, with_entry, after, IsCutShort, calls}
+use Rattle.heap_shell.specs.CoreCrash.{HasCommits}
+use Rattle.heap_shell.specs.CoreLawsRun.{IsIdle}
+use Rattle.heap_shell.specs.CoreRuns.{after_events, total_calls}
+use Rattle.heap_shell.specs.CoreValid.{IsValid}
+use Rattle.heap_shell.specs.Means.{IsHeap}
+
+-- the lines of a history
+abbrev pub lines_text : List Entry → List ℕ
+lines_text history = flat_map line history
+
+-- Events that a valid core may be asked one after another: they are session 1's, and a force comes while it has no transaction.
+abbrev pub AreReady : Core → List Event → Type 0
+AreReady c [] = IsValid c
+AreReady c (event ∷ events) = IsValid c × IsSingleSession event × (event ≡ Force → IsIdle c) × AreReady (after c event) events
+
+-- A first part of a text was written.
+abbrev pub WroteFront : List ℕ → List ℕ → List ℕ → Type 0
+WroteFront before text after = (front : List ℕ) × (rest : List ℕ) × (text ≡ front ++ rest) × (after ≡ before ++ front)
+
+-- The lines of all entries were written, but perhaps that of the last one.
+abbrev pub WroteLines : List ℕ → List Entry → List ℕ → Type 0
+WroteLines before history after = (whole : List Entry) × (last : List Entry) × (rest : List ℕ) × (history ≡ whole ++ last) × (length last ≤ 1) × (after ≡ (before ++ lines_text whole) ++ rest)
+
+-- The lines of a history were written, or a first part of them where the play ended in an error.
+abbrev pub Wrote : Result Ended Status → List ℕ → List Entry → List ℕ → Type 0
+Wrote (Ok ended) before history after = after ≡ before ++ lines_text history
+Wrote (Err status) before history after = WroteFront before (lines_text history) after × WroteLines before history after
+
+-- how a play ends with a reply
+abbrev pub ended_by : Reply → Ended
+ended_by (Refused DiskFault) = ended.DiskFault
+ended_by (Refused Stopped) = ended.Stopped
+ended_by reply = ended.Whole
+
+module _ {D : Type 0} {g : Ghosts D} where
+  -- All of these events were made, and the disk did what it was asked.
+  pub record MakesAll (c : Core) (made : List Event) (d : Core) (old new : Heap D g) : Type 0 where
+    pub reached : d ≡ after_events c made
+    pub passes : g.passed new.disk ≡ counted (total_calls c made) (g.passed old.disk)
+
+  -- In the last of these events the disk failed or stopped, as the reply says.
+  pub record MakesShort (c : Core) (made : List Event) (d : Core) (old new : Heap D g) (reply : Reply) : Type 0 where
+    pub before : List Event
+    pub event : Event
+    pub parts : made ≡ before ++ event ∷ []
+    pub cut : IsCutShort (after_events c before) event reply
+    pub reached : d ≡ with_entry (after_events c before) event reply
+    pub cause : HasCause (g.faults old.disk) (g.faults new.disk) (g.stops old.disk) (g.stops new.disk) (reply_device reply)
+    -- where it stopped, fewer calls of that event passed than it makes
+    pub passes : reply ≡ Refused Stopped → (k : ℕ) × (k < calls (after_events c before) event) × (g.passed new.disk ≡ counted (total_calls c before + k) (g.passed old.disk))
+
+  abbrev pub Makes : Core → List Event → Core → Heap D g → Heap D g → Type 0
+  Makes c made d old new = MakesAll c made d old new ⊎ ((reply : Reply) × MakesShort c made d old new reply)
+
+  -- How a play ended tells what was made.
+  abbrev pub Ends : Core → List Event → List Event → Core → Heap D g → Heap D g → Result Ended Status → Type 0
+  Ends c made behind d old new (Ok ended.Whole) = (behind ≡ []) × MakesAll c made d old new
+  Ends c made behind d old new (Ok ended.Stopped) = MakesShort c made d old new (Refused Stopped)
+  Ends c made behind d old new (Ok ended.DiskFault) = MakesShort c made d old new (Refused DiskFault)
+  Ends c made behind d old new (Err status) = Makes c made d old new
+
+  -- Events were played from a core on, and their lines written to a sink, which may tell what was written before and after.
+  pub record Plays (s : Super) (c : Core) (events : List Event) (old new : Heap D g) (told : Bool) (before after : List ℕ) (result : Result Ended Status) : Type 0 where
+    pub made : List Event
+    pub behind : List Event
+    pub parts : events ≡ made ++ behind
+    pub core : Core
+    pub ends : Ends c made behind core old new result
+    pub heap : IsHeap s core new
+    pub moments : LeavesOnly g.moment g.left_since old.disk new.disk (HasCommits core)
+    pub written : IsTrue told → (w : List ℕ) → before ≡ w ++ lines_text c.history → Wrote result w core.history after
