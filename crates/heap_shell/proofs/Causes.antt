@@ -12,6 +12,11 @@ pub rose_since : (a b c : ℕ) → a ≤ b → b ≤ c → Rose b c → Rose a c
 rose_since a b c ab bc (inl up) = inl (omega arith)
 rose_since a b c ab bc (inr full) = elim (cases_lt a b) [ inl up ↦ inl (omega arith) | inr same_count ↦ inr (omega arith) ]
 
+-- and until a later one
+pub rose_within : (a b c d : ℕ) → a ≤ b → b ≤ c → c ≤ d → Rose b c → Rose a d
+rose_within a b c d ab bc cd (inl up) = inl (omega arith)
+rose_within a b c d ab bc cd (inr full) = elim (cases_lt a d) [ inl up ↦ inl (omega arith) | inr same_count ↦ inr (omega arith) ]
+
 -- an error's count rose since the first call, if it rose in the last one
 pub cause_on : {A B : Type 0} (faults mid faults' stops mids stops' : ℕ) (result : Result A DiskError) (last : Result B DiskError) → faults ≤ mid → stops ≤ mids → HasCause mid faults' mids stops' last → ((e : DiskError) → result ≡ Err e → last ≡ Err e) → HasCause faults faults' stops stops' result
 cause_on faults mid faults' stops mids stops' result last f s cause same_error = record {

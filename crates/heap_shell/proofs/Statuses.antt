@@ -1,5 +1,6 @@
 -- How the ways in which a play may end go on.
-use Rattle.std.proofs.Common.{◌≡◌, inl, inr, ℕ, arith, refl}
+use Rattle.std.proofs.Common.{◌≡◌, inl, inr, ℕ, List, ◌++◌, Result, Ok, Err, arith, refl, subst}
+use Rattle.std.specs.Prelude.{IfErr}
 use Rattle.counts.specs.Count.{Rose}
 use Rattle.heap_shell.specs.declared.status.Status.{Status}
 use Rattle.heap_shell.specs.declared.status.Status.TheVariants.{Done, NoMemory, Usage, Script, ReadFault, WriteFault, DiskFault, NotHeap, Damaged, TooSmall}
@@ -9,6 +10,9 @@ use Rattle.disk_model.specs.Disk.{HasCause}
 use Rattle.heap_shell.specs.declared.recovery.OpenError.{OpenError}
 use Rattle.heap_shell.specs.declared.recovery.OpenError.TheVariants as opening
 use Rattle.heap_shell.specs.Causes.{IsOutputError, IsPlayStatus, error_device}
+use Rattle.heap_shell.specs.Headline.{IsEndOfPlay}
+use Rattle.heap_shell.specs.Output.{WroteText, status_after}
+use Rattle.heap_shell.specs.Recovered.{IsFromOutside}
 use Rattle.heap_shell.specs.StatusOf.{open_status}
 
 -- what suffices for the fault of the disk and of the sink may be weaker
@@ -36,6 +40,55 @@ output_status P before now DiskFault h = absurd h
 output_status P before now NotHeap h = absurd h
 output_status P before now (Damaged at) h = absurd h
 output_status P before now (TooSmall size need) h = absurd h
+
+-- an output error ends a play
+pub output_end : (before now : ℕ) (s : Status) → IsOutputError before now s → IsEndOfPlay s
+output_end before now Done h = absurd h
+output_end before now NoMemory h = tt
+output_end before now Usage h = absurd h
+output_end before now (Script line) h = absurd h
+output_end before now ReadFault h = absurd h
+output_end before now WriteFault h = tt
+output_end before now DiskFault h = absurd h
+output_end before now NotHeap h = absurd h
+output_end before now (Damaged at) h = absurd h
+output_end before now (TooSmall size need) h = absurd h
+
+-- it isn't that all was done
+pub output_not_done : (before now : ℕ) (s : Status) → IsOutputError before now s → s ≡ Done → ⊥
+output_not_done before now s h is = subst (IsOutputError before now) is h
+
+-- nor that the disk failed
+pub output_no_fault : (before now : ℕ) (s : Status) → IsOutputError before now s → s ≡ DiskFault → ⊥
+output_no_fault before now s h is = subst (IsOutputError before now) is h
+
+-- a play ends behind its output, whether it was written or not
+pub written_end : (before now : ℕ) (r : Result (Unit {0}) Status) → IfErr r (IsOutputError before now) → IsEndOfPlay (status_after r)
+written_end before now (Ok done) h = tt
+written_end before now (Err s) h = output_end before now s h
+
+pub written_no_fault : (before now : ℕ) (r : Result (Unit {0}) Status) → IfErr r (IsOutputError before now) → status_after r ≡ DiskFault → ⊥
+written_no_fault before now (Ok done) h is = cc
+written_no_fault before now (Err s) h is = output_no_fault before now s h is
+
+-- where all was done, all was written
+pub wrote_all : (faults faults' : ℕ) (r : Result (Unit {0}) Status) (before text after : List ℕ) → IfErr r (IsOutputError faults faults') → status_after r ≡ Done → WroteText r before text after → after ≡ before ++ text
+wrote_all faults faults' (Ok done) before text after h is wrote = wrote
+wrote_all faults faults' (Err s) before text after h is wrote = absurd (output_not_done faults faults' s h is)
+
+-- an opening that the outside hinders ends a play
+pub open_end : (e : OpenError) → IsFromOutside e → IsEndOfPlay (open_status e)
+open_end opening.NoMemory outside = tt
+open_end opening.NotHeap outside = absurd outside
+open_end (opening.Damaged at) outside = absurd outside
+open_end (opening.Disk e) outside = tt
+
+-- and isn't done
+pub open_not_done : (e : OpenError) → open_status e ≡ Done → ⊥
+open_not_done opening.NoMemory is = cc
+open_not_done opening.NotHeap is = cc
+open_not_done (opening.Damaged at) is = cc
+open_not_done (opening.Disk e) is = cc
 
 never : (s s' : ℕ) → s ≡ 0 → s' ≡ 0 → Rose s s' → ⊥
 never s s' none still (inl up) = omega arith

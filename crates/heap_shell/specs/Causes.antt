@@ -9,8 +9,8 @@ use Rattle.graph_model.specs.declared.reply.Reply.{Reply}
 use Rattle.graph_model.specs.declared.reply.Reply.TheVariants.{Refused}
 use Rattle.heap_shell.specs.declared.recovery.OpenError.{OpenError}
 use Rattle.heap_shell.specs.declared.recovery.OpenError.TheVariants as opening
-use Rattle.heap_shell.specs.declared.run.Ended.{Ended}
-use Rattle.heap_shell.specs.declared.run.Ended.TheVariants as ended
+use Rattle.heap_shell.specs.declared.play.Ended.{Ended}
+use Rattle.heap_shell.specs.declared.play.Ended.TheVariants as ended
 use Rattle.heap_shell.specs.declared.status.Status.{Status}
 use Rattle.heap_shell.specs.declared.status.Status.TheVariants as status
 

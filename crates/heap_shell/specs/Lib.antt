@@ -1,9 +1,12 @@
 pub mod Causes
 pub mod Command
 pub mod Core
+pub mod CoreCrash
 pub mod CoreLawsCalls
 pub mod CoreLawsCrash
 pub mod CoreLawsGranted
+pub mod CoreLawsGraph
+pub mod CoreLawsPlay
 pub mod CoreLawsRecords
 pub mod CoreLawsReplies
 pub mod CoreLawsRoom
@@ -16,6 +19,7 @@ pub mod Effect
 pub mod Format
 pub mod GivenBack
 pub mod HeapState
+pub mod Headline
 pub mod Image
 pub mod Log
 pub mod LogCause
@@ -25,7 +29,9 @@ pub mod Machine
 pub mod MachineState
 pub mod Means
 pub mod Number
+pub mod Output
 pub mod Plan
+pub mod Play
 pub mod Reader
 pub mod Record
 pub mod Recovered

@@ -14,6 +14,7 @@ mod machine;
 mod number;
 mod page_words;
 mod plan;
+mod play;
 mod records;
 mod recovery;
 mod run;
@@ -83,5 +84,7 @@ fn main(rt: HostRuntime) -> ExitCode {
     ExitCode::from(status.code())
 }
 
+#[cfg(test)]
+mod stops;
 #[cfg(test)]
 mod tests;

@@ -1,23 +1,40 @@
 //! The program's one call: from the words of its command line and a script to the printed graph.
-ghost use Rattle.std.specs.Prelude.{◌≡◌, ◌⊎◌, ℕ, ◌+◌, ◌<◌, ◌≤◌, ◌↔◌, None, Some, map, string_bytes, IfOk, IfErr, IsNone, IsTrue, OnOk};
-ghost use Rattle.counts.specs.Count.{Rose};
-ghost use Rattle.disk_model.specs.Disk.{HasCause};
-ghost use Rattle.heap_shell.specs.Causes.{DiskRose, IsOutputError, IsInputError, IsPlayStatus, played_device};
-ghost use Rattle.heap_shell.specs.HeapState.{heap_disk};
-ghost use Rattle.heap_shell.specs.Command.{command};
+ghost use Rattle.std.specs.Prelude.{◌≡◌, ◌≢◌, ◌⊎◌, ℕ, ◌+◌, ◌-◌, ◌<◌, ◌≤◌, ◌++◌, ◌↔◌, [], List, None, Some, Ok, Err, map, string_bytes, IfOk, IfErr, IsNone, IsSome, IsTrue, OnOk};
+ghost use Rattle.counts.specs.Count.{Rose, raised};
+ghost use Rattle.disk_model.specs.Disk.{Only, Narrows};
+ghost use Rattle.disk_model.specs.Fuse.{fuse_inner};
+ghost use Rattle.disk_model.specs.Moments.{LeavesOnly};
+ghost use Rattle.graph_model.specs.Graph.{Graph};
+ghost use Rattle.heap_shell.specs.declared.command.Play.{Play};
+ghost use Rattle.heap_shell.specs.declared.plan.Super.{Super};
+ghost use Rattle.heap_shell.specs.declared.script.Line.{Line};
+ghost use Rattle.heap_shell.specs.declared.script.ScriptError.TheVariants.{Fault};
 ghost use Rattle.heap_shell.specs.declared.status.Status.TheVariants.{NoMemory, WriteFault};
-ghost use Rattle.heap_shell.specs.StatusOf.{script_status, input_status, format_status, open_status};
+ghost use Rattle.heap_shell.specs.Causes.{DiskRose, IsOutputError, IsInputError, IsPlayStatus};
+ghost use Rattle.heap_shell.specs.Command.{command};
+ghost use Rattle.heap_shell.specs.Core.{Core};
+ghost use Rattle.heap_shell.specs.CoreCrash.{KeepsCommits};
+ghost use Rattle.heap_shell.specs.CoreLawsRun.{IsIdle};
+ghost use Rattle.heap_shell.specs.CoreRuns.{after_events};
+ghost use Rattle.heap_shell.specs.Format.{IsFormatting};
+ghost use Rattle.heap_shell.specs.Headline.{made_super, made_core, graph_text, recovered_line, IsPlayed, Runs, IsPlayable, IsEndOfPlay, IsSound, IsUntouching, EndsUnread, EndsUnmade, FailsByScript, restarts_of};
+ghost use Rattle.heap_shell.specs.HeapState.{commits_of};
+ghost use Rattle.heap_shell.specs.Image.{IsLegal};
+ghost use Rattle.heap_shell.specs.Means.{IsHeap};
+ghost use Rattle.heap_shell.specs.Output.{WroteText, HasGraph, Recovers, status_after};
 ghost use Rattle.heap_shell.specs.Plan.{image_size};
+ghost use Rattle.heap_shell.specs.Script.{script, events};
+ghost use Rattle.heap_shell.specs.StatusOf.{script_status, input_status, format_status, open_status};
 
 use crate::command::read_words;
 use crate::format::{FormatError, format};
 use crate::heap::Heap;
 use crate::plan::Super;
+use crate::play::{Ended, play_lines};
 use crate::recovery::OpenError;
 use crate::script::{Line, MOST_BYTES, ScriptError, read_script};
 use crate::status::Status;
 use disk_model::{Disk, FuseDisk};
-use graph_model::{Event, Refusal, Reply};
 use heap_io::{Sink, SinkFailed, Source, TakeAllError, put_all, take_all};
 use std::alloc::{AllocError, Global};
 
@@ -90,17 +107,6 @@ impl From<OpenError> for Status {
     }
 }
 
-/// How the events of a script ended.
-#[derive(Clone, Copy, Debug, PartialEq, Eq)]
-enum Ended {
-    /// All were made.
-    Whole,
-    /// The disk stopped in the last one that was made.
-    Stopped,
-    /// The disk failed in it.
-    DiskFault,
-}
-
 /// Plays the script that `source` gives on a heap that is made afresh on `disk`, and writes the replies and the graph to
 /// `sink`, as the words of the command line say.
 pub fn run<D: Disk, S: Source, K: Sink>(
@@ -112,7 +118,12 @@ pub fn run<D: Disk, S: Source, K: Sink>(
 ) -> (Status, D)
     // Which words are a command.
     ensures usage { result.0 ≡ Status.Usage ↔ IsNone (command (map string_bytes words.now)) }
-    ensures usage_untouched { result.0 ≡ Status.Usage → result.1 ≡ disk }
+    // Which scripts are bad, and where; nothing but reading it goes before.
+    ensures script_fault { IsTrue S.tells → (line : ℕ) → result.0 ≡ Status.Script line → script (S.left source.old) ≡ Err (Fault line) }
+    ensures script_told { IsTrue S.tells → (line : ℕ) → script (S.left source.old) ≡ Err (Fault line) → EndsUnread (Status.Script line) result.0 }
+    // Which disks are too small.
+    ensures too_small { (size need : ℕ) → result.0 ≡ Status.TooSmall size need → (play : Play) → command (map string_bytes words.now) ≡ Some play → (size ≡ D.extent disk) × (need ≡ image_size play.pages 1048576) × (size < need) }
+    ensures small_told { (play : Play) → command (map string_bytes words.now) ≡ Some play → D.extent disk < image_size play.pages 1048576 → EndsUnmade (Status.TooSmall (D.extent disk) (image_size play.pages 1048576)) result.0 }
 
     // Each fault comes from outside.
     ensures read_fault { result.0 ≡ Status.ReadFault → Rose (S.faults source.old) (S.faults source.new) }
@@ -120,6 +131,24 @@ pub fn run<D: Disk, S: Source, K: Sink>(
     ensures disk_fault { result.0 ≡ Status.DiskFault → DiskRose (D.faults disk) (D.stops disk) (D.faults result.1) (D.stops result.1) }
 
     ensures extent { D.extent result.1 ≡ D.extent disk }
+    // A run that ends before it makes a heap leaves the disk as it was.
+    ensures untouched { IsUntouching result.0 → result.1 ≡ disk }
+    // One that is done has read its script to the end.
+    ensures read_whole { IsTrue S.tells → result.0 ≡ Status.Done → S.left source.new ≡ [] }
+
+    // The sentence that the stable heap is for: either no heap was made, or the script was played on a new one.
+    ensures headline { IsTrue D.tells → Only (D.bytes disk) (D.may_leave disk) → (play : Play) → command (map string_bytes words.now) ≡ Some play
+        → Runs play (λ lines. IsTrue S.tells → script (S.left source.old) ≡ Ok lines) result.0
+        (λ P. LeavesOnly D.moment D.left_since disk result.1 (λ image. IsFormatting (made_super play.pages) (D.bytes disk) image ⊎ P image)) (D.may_leave result.1)
+        (¬ DiskRose (D.faults disk) (D.stops disk) (D.faults result.1) (D.stops result.1)) K.tells (K.written sink.old) (K.written sink.new) }
+
+    // The heap that it made is never damaged, and without a fault it is done.
+    ensures sound { IsTrue D.tells → Only (D.bytes disk) (D.may_leave disk) → IsSound result.0 }
+    ensures complete { IsTrue D.tells → Only (D.bytes disk) (D.may_leave disk) → (play : Play) → command (map string_bytes words.now) ≡ Some play → image_size play.pages 1048576 ≤ D.extent disk
+        → IsTrue S.tells → (lines : List Line) → script (S.left source.old) ≡ Ok lines
+        → ¬ Rose (S.faults source.old) (S.faults source.new) → ¬ Rose (K.faults sink.old) (K.faults sink.new) → ¬ DiskRose (D.faults disk) (D.stops disk) (D.faults result.1) (D.stops result.1)
+        → (result.0 ≡ Status.Done) ⊎ (result.0 ≡ NoMemory) }
+    ensures restarts { IsTrue D.tells → result.0 ≡ Status.Done → (play : Play) → command (map string_bytes words.now) ≡ Some play → D.restarts result.1 ≡ restarts_of play.stop (D.restarts disk) }
 {
     let Some(play) = read_words(words) else {
         return (Status::Usage, disk);
@@ -146,6 +175,9 @@ pub fn run<D: Disk, S: Source, K: Sink>(
 /// The script, read to its end.
 fn read_input<S: Source>(alloc: Global, source: &mut S) -> Result<Vec<Line>, Status>
     ensures cause { IfErr result (IsInputError (S.faults source.old) (S.faults source.new)) }
+    ensures script { IfOk result (λ lines. (bytes : List ℕ) × (script bytes ≡ Ok lines.items) × (IsTrue S.tells → bytes ≡ S.left source.old)) }
+    ensures end { IsTrue S.tells → OnOk result (S.left source.new ≡ []) }
+    ensures fault { IsTrue S.tells → IfErr result (FailsByScript (S.left source.old)) }
 {
     let bytes = take_all(alloc, source, MOST_BYTES)?;
     Ok(read_script(alloc, &bytes)?)
@@ -162,6 +194,9 @@ fn play_whole<D: Disk, K: Sink>(
     ensures kept { D.faults disk + D.stops disk ≤ D.faults result.1 + D.stops result.1 }
     ensures sink { K.faults sink.old ≤ K.faults sink.new }
     ensures extent { D.extent result.1 ≡ D.extent disk }
+    ensures played { IsTrue D.tells → (pages : ℕ) → IsLegal (made_super pages) [] (D.bytes disk) → Only (D.bytes disk) (D.may_leave disk) → IsPlayable (events script.now)
+        → IsPlayed None (events script.now) result.0 (λ P. LeavesOnly D.moment D.left_since disk result.1 P) (D.may_leave result.1) (¬ DiskRose (D.faults disk) (D.stops disk) (D.faults result.1) (D.stops result.1)) K.tells (K.written sink.old) (K.written sink.new) }
+    ensures restarts { IsTrue D.tells → D.restarts result.1 ≡ D.restarts disk }
 {
     let mut heap = match Heap::open(alloc, disk) {
         Ok(heap) => heap,
@@ -169,7 +204,7 @@ fn play_whole<D: Disk, K: Sink>(
     };
     match play_lines(alloc, &mut heap, script, sink) {
         Ok(Ended::Whole) => {
-            let status = print_graph(alloc, &heap, sink);
+            let status = status_after(write_graph(alloc, &heap, sink));
             (status, heap.close())
         }
         Ok(Ended::Stopped | Ended::DiskFault) => (Status::DiskFault, heap.close()),
@@ -189,6 +224,9 @@ fn play_stopped<D: Disk, K: Sink>(
     ensures kept { D.faults disk + D.stops disk ≤ D.faults result.1 + D.stops result.1 }
     ensures sink { K.faults sink.old ≤ K.faults sink.new }
     ensures extent { D.extent result.1 ≡ D.extent disk }
+    ensures played { IsTrue D.tells → (pages : ℕ) → IsLegal (made_super pages) [] (D.bytes disk) → Only (D.bytes disk) (D.may_leave disk) → IsPlayable (events script.now)
+        → IsPlayed (Some calls) (events script.now) result.0 (λ P. LeavesOnly D.moment D.left_since disk result.1 P) (D.may_leave result.1) (¬ DiskRose (D.faults disk) (D.stops disk) (D.faults result.1) (D.stops result.1)) K.tells (K.written sink.old) (K.written sink.new) }
+    ensures restarts { IsTrue D.tells → result.0 ≡ Status.Done → D.restarts result.1 ≡ raised (D.restarts disk) }
 {
     let mut heap = match Heap::open(alloc, FuseDisk::new(disk, calls)) {
         Ok(heap) => heap,
@@ -196,89 +234,37 @@ fn play_stopped<D: Disk, K: Sink>(
     };
     let before = heap.commits();
     match play_lines(alloc, &mut heap, script, sink) {
-        Ok(Ended::Whole | Ended::Stopped) => {
-            let mut disk = heap.close().into_inner();
-            disk.restart();
-            print_recovered(alloc, disk, before, sink)
-        }
+        Ok(Ended::Whole | Ended::Stopped) => start_again(alloc, heap.close(), before, sink),
         Ok(Ended::DiskFault) => (Status::DiskFault, heap.close().into_inner()),
         Err(status) => (status, heap.close().into_inner()),
     }
 }
 
-/// Makes the events of the lines in order, up to one at which the disk stops or fails.
-fn play_lines<D: Disk, K: Sink>(
+/// Starts the disk behind the fuse again, and prints what came back.
+fn start_again<D: Disk, K: Sink>(
     alloc: Global,
-    heap: &mut Heap<D>,
-    lines: &[Line],
+    fuse: FuseDisk<D>,
+    before: u64,
     sink: &mut K,
-) -> Result<Ended, Status>
-    ensures cause { HasCause (D.faults (heap_disk heap.old)) (D.faults (heap_disk heap.new)) (D.stops (heap_disk heap.old)) (D.stops (heap_disk heap.new)) (played_device result) }
-    ensures output { IfErr result (IsOutputError (K.faults sink.old) (K.faults sink.new)) }
+) -> (Status, D)
+    ensures status { IsPlayStatus (DiskRose (D.faults (fuse_inner fuse)) (D.stops (fuse_inner fuse)) (D.faults result.1) (D.stops result.1)) (Rose (K.faults sink.old) (K.faults sink.new)) result.0 }
+    ensures kept { D.faults (fuse_inner fuse) + D.stops (fuse_inner fuse) ≤ D.faults result.1 + D.stops result.1 }
     ensures sink { K.faults sink.old ≤ K.faults sink.new }
-    ensures extent { D.extent (heap_disk heap.new) ≡ D.extent (heap_disk heap.old) }
+    ensures extent { D.extent result.1 ≡ D.extent (fuse_inner fuse) }
+    ensures restarts { IsTrue D.tells → D.restarts result.1 ≡ raised (D.restarts (fuse_inner fuse)) }
+    ensures moments { IsTrue D.tells → (c : Core) → ((image : List ℕ) → D.may_leave (fuse_inner fuse) image → KeepsCommits c image) → LeavesOnly D.moment D.left_since (fuse_inner fuse) result.1 (KeepsCommits c) }
+    ensures recovers { IsTrue D.tells → (c : Core) → ((image : List ℕ) → D.may_leave (fuse_inner fuse) image → KeepsCommits c image) → before ≡ 0 → Recovers c result.0 (D.may_leave result.1) K.tells (K.written sink.old) (K.written sink.new) }
 {
-    for line in lines {
-        let ended = match line {
-            Line::One(event) => play_event(alloc, heap, *event, sink)?,
-            Line::Commit { s } => play_commit(alloc, heap, *s, sink)?,
-        };
-        if ended != Ended::Whole {
-            return Ok(ended);
-        }
-    }
-    Ok(Ended::Whole)
+    let mut disk = fuse.into_inner();
+    disk.restart();
+    print_recovered(alloc, disk, before, sink)
 }
 
-fn play_commit<D: Disk, K: Sink>(
-    alloc: Global,
-    heap: &mut Heap<D>,
-    s: u32,
-    sink: &mut K,
-) -> Result<Ended, Status>
-    ensures cause { HasCause (D.faults (heap_disk heap.old)) (D.faults (heap_disk heap.new)) (D.stops (heap_disk heap.old)) (D.stops (heap_disk heap.new)) (played_device result) }
-    ensures output { IfErr result (IsOutputError (K.faults sink.old) (K.faults sink.new)) }
-    ensures sink { K.faults sink.old ≤ K.faults sink.new }
-    ensures extent { D.extent (heap_disk heap.new) ≡ D.extent (heap_disk heap.old) }
+/// How a run ends that has written its output, or could not.
+fn status_after(written: Result<(), Status>) -> Status
+    ensures { result ≡ status_after written }
 {
-    let ended = play_event(alloc, heap, Event::Seal { s }, sink)?;
-    if ended != Ended::Whole {
-        return Ok(ended);
-    }
-    play_event(alloc, heap, Event::Force, sink)
-}
-
-/// Makes one event and writes its line.
-fn play_event<D: Disk, K: Sink>(
-    alloc: Global,
-    heap: &mut Heap<D>,
-    event: Event,
-    sink: &mut K,
-) -> Result<Ended, Status>
-    ensures cause { HasCause (D.faults (heap_disk heap.old)) (D.faults (heap_disk heap.new)) (D.stops (heap_disk heap.old)) (D.stops (heap_disk heap.new)) (played_device result) }
-    ensures output { IfErr result (IsOutputError (K.faults sink.old) (K.faults sink.new)) }
-    ensures sink { K.faults sink.old ≤ K.faults sink.new }
-    ensures extent { D.extent (heap_disk heap.new) ≡ D.extent (heap_disk heap.old) }
-{
-    let reply = heap.step(event)?;
-    let line = format!(in alloc; "{event} -> {reply}\n")?;
-    put_all(sink, line.as_bytes())?;
-    Ok(match reply {
-        Reply::Refused {
-            why: Refusal::DiskFault,
-        } => Ended::DiskFault,
-        Reply::Refused {
-            why: Refusal::Stopped,
-        } => Ended::Stopped,
-        _ => Ended::Whole,
-    })
-}
-
-fn print_graph<D: Disk, K: Sink>(alloc: Global, heap: &Heap<D>, sink: &mut K) -> Status
-    ensures status { IsPlayStatus ⊥ (Rose (K.faults sink.old) (K.faults sink.new)) result }
-    ensures sink { K.faults sink.old ≤ K.faults sink.new }
-{
-    match write_graph(alloc, heap, sink) {
+    match written {
         Ok(()) => Status::Done,
         Err(status) => status,
     }
@@ -287,6 +273,7 @@ fn print_graph<D: Disk, K: Sink>(alloc: Global, heap: &Heap<D>, sink: &mut K) ->
 fn write_graph<D: Disk, K: Sink>(alloc: Global, heap: &Heap<D>, sink: &mut K) -> Result<(), Status>
     ensures output { IfErr result (IsOutputError (K.faults sink.old) (K.faults sink.new)) }
     ensures sink { K.faults sink.old ≤ K.faults sink.new }
+    ensures wrote { IsTrue K.tells → (s : Super) (c : Core) (g : Graph) → IsHeap s c heap.now → HasGraph c g → WroteText result (K.written sink.old) (graph_text g) (K.written sink.new) }
 {
     let text = heap.graph(alloc)?;
     Ok(put_all(sink, text.as_bytes())?)
@@ -303,15 +290,16 @@ fn print_recovered<D: Disk, K: Sink>(
     ensures kept { D.faults disk + D.stops disk ≤ D.faults result.1 + D.stops result.1 }
     ensures sink { K.faults sink.old ≤ K.faults sink.new }
     ensures extent { D.extent result.1 ≡ D.extent disk }
+    ensures restarts { IsTrue D.tells → D.restarts result.1 ≡ D.restarts disk }
+    ensures moments { IsTrue D.tells → LeavesOnly D.moment D.left_since disk result.1 (D.may_leave disk) }
+    ensures recovers { IsTrue D.tells → (c : Core) → KeepsCommits c (D.bytes disk) → Only (D.bytes disk) (D.may_leave disk) → before ≡ 0 → Recovers c result.0 (D.may_leave result.1) K.tells (K.written sink.old) (K.written sink.new) }
 {
     let heap = match Heap::open(alloc, disk) {
         Ok(heap) => heap,
         Err((e, disk)) => return (Status::from(e), disk),
     };
-    match write_recovered(alloc, &heap, before, sink) {
-        Ok(()) => (Status::Done, heap.close()),
-        Err(status) => (status, heap.close()),
-    }
+    let status = status_after(write_recovered(alloc, &heap, before, sink));
+    (status, heap.close())
 }
 
 fn write_recovered<D: Disk, K: Sink>(
@@ -322,6 +310,7 @@ fn write_recovered<D: Disk, K: Sink>(
 ) -> Result<(), Status>
     ensures output { IfErr result (IsOutputError (K.faults sink.old) (K.faults sink.new)) }
     ensures sink { K.faults sink.old ≤ K.faults sink.new }
+    ensures wrote { IsTrue K.tells → (s : Super) (c : Core) (g : Graph) → IsHeap s c heap.now → HasGraph c g → WroteText result (K.written sink.old) (recovered_line (commits_of heap.now - before) ++ graph_text g) (K.written sink.new) }
 {
     let commits = heap.commits().saturating_sub(before);
     let line = format!(in alloc; "recovered {commits}\n")?;

@@ -1,0 +1,68 @@
+-- How the end of a stopped run comes out: the heap is opened again, and what came back is printed.
+use Rattle.std.proofs.Common.{◌≡◌, ℕ, ◌-◌, List, [], ◌++◌, take, Bool, Result, Ok, Err, refl, sym, ap, ◌∙◌, subst}
+use Rattle.std.specs.Prelude.{drop, IsTrue, IfErr}
+use Rattle.std.specs.List.{AllByRecursion}
+use Rattle.std.proofs.lemmas.List.{append-nil}
+use Rattle.disk_model.specs.Disk.{Only, Narrows}
+use Rattle.graph_model.specs.Graph.{Graph}
+use Rattle.graph_model.specs.Transaction.{serial}
+use Rattle.graph_model.specs.History.{commits}
+use Rattle.heap_shell.specs.declared.records.Record.{Record}
+use Rattle.heap_shell.specs.declared.recovery.OpenError.{OpenError}
+use Rattle.heap_shell.specs.declared.status.Status.{Status}
+use Rattle.heap_shell.specs.Causes.{IsOutputError}
+use Rattle.heap_shell.specs.Core.{Core}
+use Rattle.heap_shell.specs.CoreCrash.{KeepsCommits}
+use Rattle.heap_shell.specs.Headline.{recovered_line, graph_text}
+use Rattle.heap_shell.specs.Image.{records_of, StandsFor}
+use Rattle.heap_shell.specs.Machine.{words, graph_of}
+use Rattle.heap_shell.specs.Means.{opened}
+use Rattle.heap_shell.specs.Output.{WroteText, HasGraph, Recovers, status_after}
+use Rattle.heap_shell.specs.Recovered.{IsFromOutside}
+use Rattle.heap_shell.specs.StatusOf.{open_status}
+use Rattle.heap_shell.specs.Word.{IsNumberWord}
+use Rattle.heap_shell.proofs.Statuses.{written_end, wrote_all, open_end, open_not_done}
+use Rattle.heap_shell.proofs.Written.{none_written, wrote_some}
+
+-- the heap that is opened of an image has the graph that the image stands for
+pub opened_graph : (g : Graph) (k next : ℕ) (image : List ℕ) (stands : StandsFor g k image) → HasGraph (opened stands.super stands.batches next) g
+opened_graph g k next image stands =
+    let rs = records_of stands.batches in
+    let all : rs ++ [] ≡ rs = append-nil rs in
+    record {
+      unfailed = refl;
+      plain = subst (λ (l : List Record). AllByRecursion IsNumberWord (drop 2 (words l))) (sym all) stands.legal.plain;
+      is = ap graph_of all ∙ stands.graph;
+    }
+
+module _ (c : Core) (image : List ℕ) (may_have_left may_leave : List ℕ → Type 0) (keeps : KeepsCommits c image) (only : Only image may_have_left) (narrows : Narrows may_have_left may_leave) where
+  abbrev first : Graph
+  first = serial c.g0 (take keeps.0 (commits c.history))
+
+  still : (left : List ℕ) → may_leave left → KeepsCommits c left
+  still left leaves = subst (KeepsCommits c) (sym (only left (narrows left leaves))) keeps
+
+  -- it couldn't be opened
+  pub recovers_nothing : (e : OpenError) (s : Status) (told : Bool) (before : List ℕ) → IsFromOutside e → s ≡ open_status e → Recovers c s may_leave told before before
+  recovers_nothing e s told before outside is = subst (λ (x : Status). Recovers c x may_leave told before before) (sym is) (record {
+    end = open_end e outside;
+    kept = still;
+    count = keeps.0;
+    least = keeps.1.kept;
+    most = keeps.1.some;
+    written = λ tells. none_written before (recovered_line keeps.0 ++ graph_text first);
+    whole = λ tells done. absurd (open_not_done e done);
+  })
+
+  -- it was opened, and what came back printed, as far as the sink took it
+  pub recovers_first : (r : Result (Unit {0}) Status) (s : Status) (told : Bool) (faults faults' : ℕ) (before after : List ℕ) → s ≡ status_after r → IfErr r (IsOutputError faults faults')
+      → (IsTrue told → WroteText r before (recovered_line keeps.0 ++ graph_text first) after) → Recovers c s may_leave told before after
+  recovers_first r s told faults faults' before after is error wrote = subst (λ (x : Status). Recovers c x may_leave told before after) (sym is) (record {
+    end = written_end faults faults' r error;
+    kept = still;
+    count = keeps.0;
+    least = keeps.1.kept;
+    most = keeps.1.some;
+    written = λ tells. wrote_some r before _ after (wrote tells);
+    whole = λ tells done. wrote_all faults faults' r before _ after error done (wrote tells);
+  })

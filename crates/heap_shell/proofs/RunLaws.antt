@@ -1,0 +1,94 @@
+-- What a run promises, from what its parts promise.
+use Rattle.std.proofs.Common.{◌≡◌, ◌⊎◌, inl, inr, ℕ, ◌+◌, ◌≤◌, Bool, List, Option, refl}
+use Rattle.disk_model.specs.declared.disk.Disk.{Ghosts}
+use Rattle.disk_model.specs.Moments.{LeavesOnly, joined}
+use Rattle.graph_model.specs.declared.event.Event.{Event}
+use Rattle.heap_shell.specs.declared.format.FormatError.{FormatError}
+use Rattle.heap_shell.specs.declared.format.FormatError.TheVariants as format
+use Rattle.heap_shell.specs.declared.status.Status.{Status}
+use Rattle.heap_shell.specs.declared.status.Status.TheVariants as status
+use Rattle.heap_shell.specs.Causes.{DiskRose, IsInputError, IsPlayStatus}
+use Rattle.heap_shell.specs.CoreCrash.{HasCommits}
+use Rattle.heap_shell.specs.Headline.{IsEndOfPlay, IsSound, IsPlayed, IsUnmade}
+use Rattle.heap_shell.specs.StatusOf.{format_status}
+use Rattle.heap_shell.proofs.Causes.{rose_since}
+
+-- a run that has not read its script has made no heap
+pub input_unmade : (before now : ℕ) (e : Status) → IsInputError before now e → IsUnmade e
+input_unmade before now status.Done h = absurd h
+input_unmade before now status.NoMemory h = tt
+input_unmade before now status.Usage h = absurd h
+input_unmade before now (status.Script line) h = tt
+input_unmade before now status.ReadFault h = tt
+input_unmade before now status.WriteFault h = absurd h
+input_unmade before now status.DiskFault h = absurd h
+input_unmade before now status.NotHeap h = absurd h
+input_unmade before now (status.Damaged at) h = absurd h
+input_unmade before now (status.TooSmall size need) h = absurd h
+
+-- nor one that could not make it
+pub format_unmade : (e : FormatError) → IsUnmade (format_status e)
+format_unmade (format.TooSmall size need) = tt
+format_unmade (format.Disk e) = tt
+
+-- a play as a part of a longer run
+pub played_within : (stop : Option ℕ) (events : List Event) (result : Status) (each each' : (List ℕ → Type 0) → Type 0) (may_leave : List ℕ → Type 0) (unharmed unharmed' : Type 0) (told : Bool) (before after : List ℕ)
+    → ((P : List ℕ → Type 0) → each P → each' P) → (unharmed' → unharmed) → IsPlayed stop events result each may_leave unharmed told before after → IsPlayed stop events result each' may_leave unharmed' told before after
+played_within stop events result each each' may_leave unharmed unharmed' told before after wider same played = record {
+  made = played.made;
+  behind = played.behind;
+  parts = played.parts;
+  core = played.core;
+  run = played.run;
+  last = played.last;
+  end = played.end;
+  done = played.done;
+  exact = λ u. played.exact (same u);
+  moments = wider (HasCommits played.core) played.moments;
+  kept = played.kept;
+  replies = played.replies;
+  count = played.count;
+  least = played.least;
+  most = played.most;
+  all = played.all;
+  written = played.written;
+  cut = played.cut;
+  lines = played.lines;
+  whole = played.whole;
+}
+
+-- a play on the heap that was made, as a part of the run that made it
+pub made_played : {D : Type 0} (g : Ghosts D) (stop : Option ℕ) (events : List Event) (result : Status) (disk made final : D) (formatting may_leave : List ℕ → Type 0) (told : Bool) (before after : List ℕ)
+    → LeavesOnly g.moment g.left_since disk made formatting → g.faults disk + g.stops disk ≤ g.faults made + g.stops made → g.faults made + g.stops made ≤ g.faults final + g.stops final
+    → IsPlayed stop events result (λ P. LeavesOnly g.moment g.left_since made final P) may_leave (DiskRose (g.faults made) (g.stops made) (g.faults final) (g.stops final) → ⊥) told before after
+    → IsPlayed stop events result (λ P. LeavesOnly g.moment g.left_since disk final (λ image. formatting image ⊎ P image)) may_leave (DiskRose (g.faults disk) (g.stops disk) (g.faults final) (g.stops final) → ⊥) told before after
+made_played g stop events result disk made final formatting may_leave told before after making first last played =
+    played_within stop events result _ _ may_leave _ _ told before after
+    (λ P since. joined g.moment g.left_since disk made final formatting P making since)
+    (λ unharmed rose. unharmed (rose_since _ _ _ first last rose)) played
+
+-- a play says nothing against the image
+pub end_sound : (result : Status) → IsEndOfPlay result → IsSound result
+end_sound status.Done h = tt
+end_sound status.NoMemory h = tt
+end_sound status.Usage h = absurd h
+end_sound (status.Script line) h = absurd h
+end_sound status.ReadFault h = absurd h
+end_sound status.WriteFault h = tt
+end_sound status.DiskFault h = tt
+end_sound status.NotHeap h = absurd h
+end_sound (status.Damaged at) h = absurd h
+end_sound (status.TooSmall size need) h = absurd h
+
+-- without a fault it is done, or memory was refused
+pub end_done : (disk sink : Type 0) (result : Status) → IsEndOfPlay result → IsPlayStatus disk sink result → (disk → ⊥) → (sink → ⊥) → (result ≡ status.Done) ⊎ (result ≡ status.NoMemory)
+end_done disk sink status.Done h cause no_disk no_sink = inl refl
+end_done disk sink status.NoMemory h cause no_disk no_sink = inr refl
+end_done disk sink status.Usage h cause no_disk no_sink = absurd h
+end_done disk sink (status.Script line) h cause no_disk no_sink = absurd h
+end_done disk sink status.ReadFault h cause no_disk no_sink = absurd h
+end_done disk sink status.WriteFault h cause no_disk no_sink = absurd (no_sink cause)
+end_done disk sink status.DiskFault h cause no_disk no_sink = absurd (no_disk cause)
+end_done disk sink status.NotHeap h cause no_disk no_sink = absurd h
+end_done disk sink (status.Damaged at) h cause no_disk no_sink = absurd h
+end_done disk sink (status.TooSmall size need) h cause no_disk no_sink = absurd h
