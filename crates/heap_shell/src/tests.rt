@@ -15,13 +15,13 @@ const SINK_BYTES: usize = 65_536;
 
 const PICKS: [Pick; 4] = [Pick::Synced, Pick::Newest, Pick::AllOnes, Pick::AllOpen];
 
-const ONE_COMMIT: &str = "1 begin\n1 root 0\n1 put 0 0 7\n1 commit\n";
+pub const ONE_COMMIT: &str = "1 begin\n1 root 0\n1 put 0 0 7\n1 commit\n";
 
 /// A run that is over: its status and what it wrote.
 #[derive(Drop)]
-struct Played {
-    status: Status,
-    output: Vec<u8>,
+pub struct Played {
+    pub status: Status,
+    pub output: Vec<u8>,
 }
 
 fn words_of(alloc: Global, line: &str) -> Result<Vec<String>, AllocError> {
@@ -32,7 +32,7 @@ fn words_of(alloc: Global, line: &str) -> Result<Vec<String>, AllocError> {
     Ok(words)
 }
 
-fn make_disk(alloc: Global, bytes: usize, pick: Pick) -> Result<MemoryDisk, AllocError> {
+pub fn make_disk(alloc: Global, bytes: usize, pick: Pick) -> Result<MemoryDisk, AllocError> {
     let zeros = vec![in alloc; 0u8; bytes]?;
     MemoryDisk::of(
         alloc,
@@ -45,7 +45,7 @@ fn make_disk(alloc: Global, bytes: usize, pick: Pick) -> Result<MemoryDisk, Allo
 }
 
 /// Plays a script on a disk of memory, with streams whose listed calls fail.
-fn play_on(
+pub fn play_on(
     alloc: Global,
     line: &str,
     script: &[u8],

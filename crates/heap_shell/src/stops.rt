@@ -1,0 +1,236 @@
+//! A script played with a stop at each of its device calls, by each pick of a restart: the first commits come back, and
+//! among them all that were acknowledged. What is expected comes from the slow heap, which has no log and no disk.
+use crate::Status;
+use crate::script::{Line, read_script};
+use crate::tests::{ONE_COMMIT, Played, make_disk, play_on};
+use disk_model::Pick;
+use graph_model::{Entry, Event, SlowHeap};
+use std::alloc::{AllocError, Global};
+use std::process::Abort;
+use std::str;
+use std::test::Fail;
+
+/// The bytes of a heap of one page a space.
+const HEAP_BYTES: usize = 1_050_752;
+
+/// The writes and syncs of a force, of which the last two are those of the gate.
+const FORCE_CALLS: usize = 4;
+
+/// More calls than the scripts make.
+const MOST_CALLS: usize = 12;
+
+/// Two picks: by the first a gate that was written and not synced is closed, by the second it is open.
+type Pair = (Pick, Pick);
+
+const WRITTEN: Pair = (Pick::Synced, Pick::Newest);
+
+const FILLED: Pair = (Pick::AllOnes, Pick::AllOpen);
+
+/// The second transaction writes a field of the first one again, and another one twice.
+const TWO_COMMITS: &str =
+    "1 begin\n1 root 0\n1 put 0 0 7\n1 put 0 3 4611686018427387903\n1 commit\n1 begin\n1 root 0\n1 put 0 0 8\n1 put 0 1 9\n1 put 0 1 10\n1 commit\n";
+
+/// A script and what the slow heap answers to it.
+#[derive(Drop)]
+struct Told {
+    script: &'static str,
+    heap: SlowHeap,
+    lines: String,
+    forces: usize,
+}
+
+impl Told {
+    fn of(rt: &impl Abort, alloc: Global, script: &'static str) -> Result<Told, Fail> {
+        let mut told = Told {
+            script,
+            heap: SlowHeap::new(alloc)?,
+            lines: String::new(alloc),
+            forces: 0,
+        };
+        for line in &read_script(alloc, script.as_bytes())? {
+            match line {
+                Line::One(event) => told.ask(rt, *event)?,
+                Line::Commit { s } => {
+                    told.ask(rt, Event::Seal { s: *s })?;
+                    told.ask(rt, Event::Force)?;
+                }
+            }
+        }
+        Ok(told)
+    }
+
+    fn ask(&mut self, rt: &impl Abort, event: Event) -> Result<(), AllocError> {
+        assert!(rt; event.is_single_session());
+        let reply = self.heap.step(event)?;
+        writeln!(self.lines, "{}", Entry { event, reply })?;
+        if event == Event::Force {
+            self.forces = self.forces.saturating_add(1);
+        }
+        Ok(())
+    }
+}
+
+/// What a play printed whose disk was started again: the lines of its events, how many commits came back, and the graph.
+#[derive(Clone, Copy)]
+struct Restarted<'a> {
+    lines: &'a str,
+    recovered: usize,
+    graph: &'a str,
+}
+
+fn read_restarted(output: &[u8]) -> Option<Restarted<'_>> {
+    let text = str::from_utf8(output).ok()?;
+    let (lines, rest) = text.split_once("recovered ")?;
+    let (count, graph) = rest.split_once("\n")?;
+    Some(Restarted {
+        lines,
+        recovered: count.parse::<usize>().ok()?,
+        graph,
+    })
+}
+
+fn count_lines(text: &str, front: &str) -> usize {
+    text.lines().filter(|line| line.starts_with(front)).count()
+}
+
+/// How many commits the lines acknowledge.
+fn acknowledged(lines: &str) -> usize {
+    lines
+        .lines()
+        .filter_map(|line| line.strip_prefix("force -> durable "))
+        .filter_map(|count| count.parse::<usize>().ok())
+        .max()
+        .unwrap_or(0)
+}
+
+/// Whether the lines are the first ones that were told, where the last may be that of a force that stopped.
+fn are_first(lines: &str, told: &str) -> bool {
+    match lines.strip_suffix("force -> stopped\n") {
+        None => told == lines,
+        Some(before) => match told.strip_prefix(before) {
+            None => false,
+            Some(rest) => rest.starts_with("force -> durable "),
+        },
+    }
+}
+
+fn play_to(
+    alloc: Global,
+    script: &str,
+    pick: Pick,
+    stop: Option<usize>,
+) -> Result<Played, AllocError> {
+    let line = match stop {
+        None => String::from_str(alloc, "heap play --fresh 1")?,
+        Some(calls) => format!(in alloc; "heap play --fresh 1 --stop {calls}")?,
+    };
+    let disk = make_disk(alloc, HEAP_BYTES, pick)?;
+    let none = (Vec::new(alloc), Vec::new(alloc));
+    Ok(play_on(alloc, line.as_str(), script.as_bytes(), disk, none)?.0)
+}
+
+/// Plays the script with a stop after so many calls, and says whether it came and how many commits came back.
+fn check_stop(
+    rt: &impl Abort,
+    alloc: Global,
+    told: &Told,
+    pick: Pick,
+    calls: usize,
+) -> Result<(bool, usize), Fail> {
+    let played = play_to(alloc, told.script, pick, Some(calls))?;
+    assert_eq!(rt; played.status, Status::Done);
+    let found = read_restarted(&played.output).expect(rt, "no number of commits");
+    let stopped = found.lines.ends_with("force -> stopped\n");
+    assert!(rt;
+        are_first(found.lines, told.lines.as_str()),
+        "{pick:?}, {calls}"
+    );
+    assert_eq!(rt; count_lines(found.graph, "recovered "), 0);
+    assert!(rt;
+        acknowledged(found.lines) <= found.recovered,
+        "{pick:?}, {calls}"
+    );
+    assert!(rt;
+        found.recovered <= count_lines(found.lines, "1 seal -> sealed "),
+        "{pick:?}, {calls}"
+    );
+    assert!(rt; found.recovered <= told.heap.sealed());
+    let graph = told.heap.text(found.recovered)?;
+    assert_eq!(rt;
+        found.graph.as_bytes(),
+        graph.as_slice(),
+        "{pick:?}, {calls}"
+    );
+    Ok((stopped, found.recovered))
+}
+
+/// How many commits come back after each stop, of the first call and of each one behind it until none stops.
+fn check_stops(
+    rt: &impl Abort,
+    alloc: Global,
+    told: &Told,
+    pick: Pick,
+) -> Result<Vec<usize>, Fail> {
+    let mut recovered = Vec::new(alloc);
+    for calls in 0..MOST_CALLS {
+        let (stopped, commits) = check_stop(rt, alloc, told, pick, calls)?;
+        if !stopped {
+            break;
+        }
+        recovered.push(commits)?;
+    }
+    assert_eq!(rt;
+        recovered.len(),
+        told.forces.saturating_mul(FORCE_CALLS),
+        "{pick:?}"
+    );
+    Ok(recovered)
+}
+
+fn expect_whole(rt: &impl Abort, alloc: Global, told: &Told) -> Result<(), Fail> {
+    let played = play_to(alloc, told.script, Pick::Newest, None)?;
+    let mut output = told.lines.clone()?.into_bytes();
+    output.extend_from_slice(&told.heap.text(told.heap.sealed())?)?;
+    assert_eq!(rt; played.status, Status::Done);
+    assert_eq!(rt; played.output.as_slice(), output.as_slice());
+    Ok(())
+}
+
+/// Only a stop of the last call of a force leaves it to the pick whether the commit comes back.
+fn expect_doubt(rt: &impl Abort, lost: &[usize], kept: &[usize]) {
+    for (calls, (lost, kept)) in lost.iter().zip(kept.iter()).enumerate() {
+        let last = calls % FORCE_CALLS == FORCE_CALLS - 1;
+        assert_eq!(rt; *kept, lost.saturating_add(usize::from(last)), "{calls}");
+    }
+}
+
+fn check_script(
+    rt: &impl Abort,
+    alloc: Global,
+    script: &'static str,
+    (closed, open): Pair,
+) -> Result<(), Fail> {
+    let told = Told::of(rt, alloc, script)?;
+    expect_whole(rt, alloc, &told)?;
+    let lost = check_stops(rt, alloc, &told, closed)?;
+    let kept = check_stops(rt, alloc, &told, open)?;
+    expect_doubt(rt, &lost, &kept);
+    Ok(())
+}
+
+// Three tests, since code that is only tried plays slowly, and each has a minute.
+#[test]
+fn each_stop_with_each_pick_leaves_the_first_commits(rt: HostRuntime) -> Result<(), Fail> {
+    check_script(&rt, rt.alloc(), ONE_COMMIT, WRITTEN)?;
+    check_script(&rt, rt.alloc(), ONE_COMMIT, FILLED)
+}
+
+#[test]
+fn two_commits_come_back_from_written_bytes(rt: HostRuntime) -> Result<(), Fail> {
+    check_script(&rt, rt.alloc(), TWO_COMMITS, WRITTEN)
+}
+
+#[test]
+fn two_commits_come_back_from_filled_bytes(rt: HostRuntime) -> Result<(), Fail> {
+    check_script(&rt, rt.alloc(), TWO_COMMITS, FILLED)
+}
