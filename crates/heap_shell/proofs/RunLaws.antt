@@ -1,15 +1,19 @@
 -- What a run promises, from what its parts promise.
-use Rattle.std.proofs.Common.{◌≡◌, ◌⊎◌, inl, inr, ℕ, ◌+◌, ◌≤◌, Bool, List, Option, refl}
+use Rattle.std.proofs.Common.{◌≡◌, ◌⊎◌, inl, inr, ℕ, ◌+◌, ◌≤◌, Bool, List, [], Option, refl}
 use Rattle.disk_model.specs.declared.disk.Disk.{Ghosts}
-use Rattle.disk_model.specs.Moments.{LeavesOnly, joined}
+use Rattle.disk_model.specs.Disk.{Only}
+use Rattle.disk_model.specs.Moments.{LeavesOnly}
 use Rattle.graph_model.specs.declared.event.Event.{Event}
 use Rattle.heap_shell.specs.declared.format.FormatError.{FormatError}
 use Rattle.heap_shell.specs.declared.format.FormatError.TheVariants as format
+use Rattle.heap_shell.specs.declared.plan.Super.{Super}
 use Rattle.heap_shell.specs.declared.status.Status.{Status}
 use Rattle.heap_shell.specs.declared.status.Status.TheVariants as status
 use Rattle.heap_shell.specs.Causes.{DiskRose, IsInputError, IsPlayStatus}
 use Rattle.heap_shell.specs.CoreCrash.{HasCommits}
-use Rattle.heap_shell.specs.Headline.{IsEndOfPlay, IsSound, IsPlayed, IsUnmade}
+use Rattle.heap_shell.specs.Headline.{IsEndOfPlay, IsSound, SinceMade, IsPlayed, IsUnmade}
+use Rattle.heap_shell.specs.Format.{IsFormatting}
+use Rattle.heap_shell.specs.Image.{IsLegal}
 use Rattle.heap_shell.specs.StatusOf.{format_status}
 use Rattle.heap_shell.proofs.Causes.{rose_since}
 
@@ -58,13 +62,14 @@ played_within stop events result each each' may_leave unharmed unharmed' told be
 }
 
 -- a play on the heap that was made, as a part of the run that made it
-pub made_played : {D : Type 0} (g : Ghosts D) (stop : Option ℕ) (events : List Event) (result : Status) (disk made final : D) (formatting may_leave : List ℕ → Type 0) (told : Bool) (before after : List ℕ)
-    → LeavesOnly g.moment g.left_since disk made formatting → g.faults disk + g.stops disk ≤ g.faults made + g.stops made → g.faults made + g.stops made ≤ g.faults final + g.stops final
+pub made_played : {D : Type 0} (g : Ghosts D) (stop : Option ℕ) (events : List Event) (result : Status) (s : Super) (disk made final : D) (may_leave : List ℕ → Type 0) (told : Bool) (before after : List ℕ)
+    → LeavesOnly g.moment g.left_since disk made (IsFormatting s (g.bytes disk)) → IsLegal s [] (g.bytes made) → Only (g.bytes made) (g.may_leave made)
+    → g.faults disk + g.stops disk ≤ g.faults made + g.stops made → g.faults made + g.stops made ≤ g.faults final + g.stops final
     → IsPlayed stop events result (λ P. LeavesOnly g.moment g.left_since made final P) may_leave (DiskRose (g.faults made) (g.stops made) (g.faults final) (g.stops final) → ⊥) told before after
-    → IsPlayed stop events result (λ P. LeavesOnly g.moment g.left_since disk final (λ image. formatting image ⊎ P image)) may_leave (DiskRose (g.faults disk) (g.stops disk) (g.faults final) (g.stops final) → ⊥) told before after
-made_played g stop events result disk made final formatting may_leave told before after making first last played =
+    → IsPlayed stop events result (λ P. SinceMade g.moment g.left_since g.bytes g.may_leave s disk final P) may_leave (DiskRose (g.faults disk) (g.stops disk) (g.faults final) (g.stops final) → ⊥) told before after
+made_played g stop events result s disk made final may_leave told before after making empty only first last played =
     played_within stop events result _ _ may_leave _ _ told before after
-    (λ P since. joined g.moment g.left_since disk made final formatting P making since)
+    (λ P since. record { made = made; making = making; empty = empty; only = only; since = since })
     (λ unharmed rose. unharmed (rose_since _ _ _ first last rose)) played
 
 -- a play says nothing against the image

@@ -2,6 +2,8 @@
 use Rattle.std.specs.Prelude.{◌≡◌, ◌⊎◌, ℕ, ◌≤◌, List, [], ◌∷◌, ◌++◌, length, take, codes, Bool, IsTrue, Option, None, Some, Result, Ok, Err}
 use Rattle.std.specs.Fmt.{decimal}
 use Rattle.counts.specs.Count.{raised}
+use Rattle.disk_model.specs.Disk.{Only}
+use Rattle.disk_model.specs.Moments.{LeavesOnly}
 use Rattle.graph_model.specs.declared.event.Event.{Event}
 use Rattle.graph_model.specs.declared.reply.Refusal.TheVariants.{Stopped}
 use Rattle.graph_model.specs.declared.reply.Reply.{Reply}
@@ -20,6 +22,8 @@ use Rattle.heap_shell.specs.Core.{Core, fresh, with_entry, IsCutShort, IsRun}
 use Rattle.heap_shell.specs.CoreCrash.{KeepsCommits, HasCommits}
 use Rattle.heap_shell.specs.CoreReplies.{call_replies_of}
 use Rattle.heap_shell.specs.CoreRuns.{after_events, total_calls, StopsAt}
+use Rattle.heap_shell.specs.Format.{IsFormatting}
+use Rattle.heap_shell.specs.Image.{IsLegal}
 use Rattle.heap_shell.specs.Play.{lines_text, AreReady, WroteFront, WroteLines}
 use Rattle.heap_shell.specs.CoreLawsRun.{IsIdle}
 use Rattle.heap_shell.specs.Script.{script, events}
@@ -98,6 +102,15 @@ abbrev pub FailsByScript : List ℕ → Status → Type 0
 FailsByScript bytes (status.Script line) = script bytes ≡ Err (Fault line)
 FailsByScript bytes s = Unit {0}
 
+-- What a crash leaves from the moment on at which a new heap was made. Until then it leaves no heap, the old image, or the new
+-- heap; at that moment the new heap and nothing else; and since then what has P.
+pub record SinceMade {D : Type 0} (moment : D → ℕ) (left_since : D → ℕ → List ℕ → Type 0) (bytes : D → List ℕ) (may_leave : D → List ℕ → Type 0) (s : Super) (old new : D) (P : List ℕ → Type 0) : Type 0 where
+  pub made : D
+  pub making : LeavesOnly moment left_since old made (IsFormatting s (bytes old))
+  pub empty : IsLegal s [] (bytes made)
+  pub only : Only (bytes made) (may_leave made)
+  pub since : LeavesOnly moment left_since made new P
+
 -- A script was played on a new heap. Each crash left first commits, also one at the end, which has all that was
 -- acknowledged; what was printed is the history of the events that were made and the graph of its first commits; and the
 -- calls of each commit had the replies that they have when the commits run one after another.
@@ -169,13 +182,13 @@ IsUnmade status.DiskFault = Unit {0}
 IsUnmade (status.TooSmall size need) = Unit {0}
 IsUnmade s = ⊥
 
--- No heap was made, and nothing was written.
-pub record IsNotMade (result : Status) (each : (List ℕ → Type 0) → Type 0) (told : Bool) (before after : List ℕ) : Type 0 where
+-- No heap was made, and nothing was written. A crash left no heap, the old image, or the new heap.
+pub record IsNotMade (result : Status) (making : Type 0) (told : Bool) (before after : List ℕ) : Type 0 where
   pub reason : IsUnmade result
   pub nothing : IsTrue told → after ≡ before
-  pub moments : each (λ image. ⊥)
+  pub moments : making
 
 -- Either no heap was made, or a script was played on a new one.
-abbrev pub Runs : Play → (List Line → Type 0) → Status → ((List ℕ → Type 0) → Type 0) → (List ℕ → Type 0) → Type 0 → Bool → List ℕ → List ℕ → Type 0
-Runs play is_script result each may_leave unharmed told before after =
-    IsNotMade result each told before after ⊎ ((lines : List Line) × is_script lines × IsPlayed play.stop (events lines) result each may_leave unharmed told before after)
+abbrev pub Runs : Play → (List Line → Type 0) → Status → Type 0 → ((List ℕ → Type 0) → Type 0) → (List ℕ → Type 0) → Type 0 → Bool → List ℕ → List ℕ → Type 0
+Runs play is_script result making each may_leave unharmed told before after =
+    IsNotMade result making told before after ⊎ ((lines : List Line) × is_script lines × IsPlayed play.stop (events lines) result each may_leave unharmed told before after)
