@@ -29,6 +29,10 @@ use Rattle.heap_shell.specs.CoreLawsRun.{IsIdle}
 use Rattle.heap_shell.specs.Script.{script, events}
 use Rattle.heap_shell.specs.declared.script.ScriptError.TheVariants.{Fault}
 
+-- A claim of a disk that tells its bytes and keeps the disk model, and on which nothing waits.
+abbrev pub OfTold : Bool → List ℕ → (List ℕ → Type 0) → Type 0 → Type 0
+OfTold tells bytes may_leave claim = IsTrue tells → Only bytes may_leave → claim
+
 -- the superblock of the heap that a run makes, with so many pages
 abbrev pub made_super : ℕ → Super
 made_super pages = record { pages = pages; log_bytes = 1048576; first = 1 }

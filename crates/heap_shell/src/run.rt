@@ -17,7 +17,7 @@ ghost use Rattle.heap_shell.specs.CoreCrash.{KeepsCommits};
 ghost use Rattle.heap_shell.specs.CoreLawsRun.{IsIdle};
 ghost use Rattle.heap_shell.specs.CoreRuns.{after_events};
 ghost use Rattle.heap_shell.specs.Format.{IsFormatting};
-ghost use Rattle.heap_shell.specs.Headline.{made_super, made_core, graph_text, recovered_line, IsPlayed, Runs, SinceMade, IsPlayable, IsEndOfPlay, IsSound, IsUntouching, EndsUnread, EndsUnmade, FailsByScript, restarts_of};
+ghost use Rattle.heap_shell.specs.Headline.{made_super, made_core, graph_text, recovered_line, OfTold, IsPlayed, Runs, SinceMade, IsPlayable, IsEndOfPlay, IsSound, IsUntouching, EndsUnread, EndsUnmade, FailsByScript, restarts_of};
 ghost use Rattle.heap_shell.specs.HeapState.{commits_of};
 ghost use Rattle.heap_shell.specs.Image.{IsLegal};
 ghost use Rattle.heap_shell.specs.Means.{IsHeap};
@@ -137,18 +137,18 @@ pub fn run<D: Disk, S: Source, K: Sink>(
     ensures read_whole { IsTrue S.tells → result.0 ≡ Status.Done → S.left source.new ≡ [] }
 
     // The sentence that the stable heap is for: either no heap was made, or the script was played on a new one.
-    ensures headline { IsTrue D.tells → Only (D.bytes disk) (D.may_leave disk) → (play : Play) → command (map string_bytes words.now) ≡ Some play
+    ensures headline { OfTold D.tells (D.bytes disk) (D.may_leave disk) ((play : Play) → command (map string_bytes words.now) ≡ Some play
         → Runs play (λ lines. IsTrue S.tells → script (S.left source.old) ≡ Ok lines) result.0
         (LeavesOnly D.moment D.left_since disk result.1 (IsFormatting (made_super play.pages) (D.bytes disk)))
         (λ P. SinceMade D.moment D.left_since D.bytes D.may_leave (made_super play.pages) disk result.1 P) (D.may_leave result.1)
-        (¬ DiskRose (D.faults disk) (D.stops disk) (D.faults result.1) (D.stops result.1)) K.tells (K.written sink.old) (K.written sink.new) }
+        (¬ DiskRose (D.faults disk) (D.stops disk) (D.faults result.1) (D.stops result.1)) K.tells (K.written sink.old) (K.written sink.new)) }
 
     // The heap that it made is never damaged, and without a fault it is done.
-    ensures sound { IsTrue D.tells → Only (D.bytes disk) (D.may_leave disk) → IsSound result.0 }
-    ensures complete { IsTrue D.tells → Only (D.bytes disk) (D.may_leave disk) → (play : Play) → command (map string_bytes words.now) ≡ Some play → image_size play.pages 1048576 ≤ D.extent disk
+    ensures sound { OfTold D.tells (D.bytes disk) (D.may_leave disk) (IsSound result.0) }
+    ensures complete { OfTold D.tells (D.bytes disk) (D.may_leave disk) ((play : Play) → command (map string_bytes words.now) ≡ Some play → image_size play.pages 1048576 ≤ D.extent disk
         → IsTrue S.tells → (lines : List Line) → script (S.left source.old) ≡ Ok lines
         → ¬ Rose (S.faults source.old) (S.faults source.new) → ¬ Rose (K.faults sink.old) (K.faults sink.new) → ¬ DiskRose (D.faults disk) (D.stops disk) (D.faults result.1) (D.stops result.1)
-        → (result.0 ≡ Status.Done) ⊎ (result.0 ≡ NoMemory) }
+        → (result.0 ≡ Status.Done) ⊎ (result.0 ≡ NoMemory)) }
     ensures restarts { IsTrue D.tells → result.0 ≡ Status.Done → (play : Play) → command (map string_bytes words.now) ≡ Some play → D.restarts result.1 ≡ restarts_of play.stop (D.restarts disk) }
 {
     let Some(play) = read_words(words) else {
