@@ -12,7 +12,8 @@ pub record Passes (n before now : ℕ) (result : Result (Unit {0}) DiskError) : 
   pub some : (k : ℕ) × (k ≤ n) × (now ≡ counted k before)
   pub stopped : result ≡ Err Stopped → 0 < n → (k : ℕ) × (k < n) × (now ≡ counted k before)
 
-counted-add : (m n before : ℕ) → counted m (counted n before) ≡ counted (n + m) before
+-- so many more, and then so many more
+pub counted-add : (m n before : ℕ) → counted m (counted n before) ≡ counted (n + m) before
 counted-add zero n before = let same : n ≡ n + 0 = omega arith in ap (λ (k : ℕ). counted k before) same
 counted-add (suc m) n before = let same : suc (n + m) ≡ n + suc m = omega arith in ap raised (counted-add m n before) ∙ ap (λ (k : ℕ). counted k before) same
 

@@ -22,15 +22,12 @@ use Rattle.heap_shell.specs.Core.{Core, next_number, put_records, call_records, 
 use Rattle.heap_shell.specs.CoreValid.{IsTold, Agrees, IsValid}
 use Rattle.heap_shell.specs.CoreLawsGranted.{told_as, held_as}
 use Rattle.heap_shell.specs.CoreLawsRoom.{reserved-call}
+use Rattle.heap_shell.specs.CoreLawsRun.{first_alone}
 use Rattle.heap_shell.specs.CoreLawsStep.{unfailed_refusal, log_root, log_seal, log_force}
 use Rattle.heap_shell.specs.LogRoom.{need_bytes}
 use Rattle.heap_shell.specs.Means.{active_of, Works}
 use Rattle.heap_shell.specs.Working.{no_room, begin_refusal, root_refusal, put_refusal, seal_refusal}
 use Rattle.heap_shell.proofs.MeansLog.{used_same, need_same}
-
-first_alone : (o p : Option Refusal) → p ≡ None → first_of_two o p ≡ o
-first_alone None p e = e
-first_alone (Some why) p e = refl
 
 two_first : (b d : Bool) (x y : Refusal) (o : Option Refusal) → first_of_two (cond b (Some x) (cond d (Some y) None)) o ≡ cond b (Some x) (cond d (Some y) o)
 two_first true d x y o = refl

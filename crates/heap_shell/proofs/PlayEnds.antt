@@ -27,13 +27,14 @@ use Rattle.heap_shell.specs.CoreCrash.{KeepsCommits, HasCommits}
 use Rattle.heap_shell.specs.CoreLawsCalls.{total_calls-append}
 use Rattle.heap_shell.specs.CoreLawsCrash.{commits-sealed}
 use Rattle.heap_shell.specs.CoreLawsGraph.{idle_graph}
-use Rattle.heap_shell.specs.CoreLawsPlay.{ready_valid, ready_behind, makes_run, grows}
+use Rattle.heap_shell.specs.CoreLawsPlay.{ready_valid, ready_behind, ready_front, makes_run, grows}
 use Rattle.heap_shell.specs.CoreLawsReplies.{answers_fresh, run_answers, replies_law}
 use Rattle.heap_shell.specs.CoreLawsRun.{IsIdle, reached_agrees}
 use Rattle.heap_shell.specs.CoreReplies.{call_replies_of, AnswersSerially}
 use Rattle.heap_shell.specs.CoreRuns.{after_events, total_calls, StopsAt}
 use Rattle.heap_shell.specs.CoreValid.{IsValid, IsReached}
-use Rattle.heap_shell.specs.Headline.{made_core, graph_text, recovered_text, recovered_line, output, IsWhole, IsCutBy, HasMade, StopsLast, IsExact, IsEndOfPlay, IsPlayable, IsPlayed}
+use Rattle.heap_shell.specs.Headline.{made_core, graph_text, recovered_text, recovered_line, output, IsWhole, IsCutBy, HasMade, StopsLast, IsExact, IsEndOfPlay, IsPlayed}
+use Rattle.heap_shell.specs.Playable.{IsPlayable}
 use Rattle.heap_shell.specs.Output.{WroteText, HasGraph, Recovers, status_after}
 use Rattle.heap_shell.specs.Play.{AreReady, MakesAll, MakesShort, Makes, Ends, Plays, Wrote, lines_text, WroteFront, WroteLines}
 use Rattle.heap_shell.proofs.Causes.{disk_rose}
@@ -53,10 +54,6 @@ counted-sum (suc m) n small =
 single : (c : Core) (events : List Event) → AreReady c events → AllByRecursion IsSingleSession events
 single c [] ready = tt
 single c (event ∷ events) ready = (ready.1, single (after c event) events ready.3)
-
-single_front : (front behind : List Event) → AllByRecursion IsSingleSession (front ++ behind) → AllByRecursion IsSingleSession front
-single_front [] behind one = tt
-single_front (event ∷ front) behind one = (one.0, single_front front behind one.1)
 
 text_front : (written : Result (Unit {0}) Status) (old first text between new : List ℕ) → between ≡ old ++ first → WroteText written between text new → WroteFront old (first ++ text) new
 text_front written old first text between new lines wrote = then_front old first text between new lines (wrote_some written between text new wrote)
@@ -80,7 +77,7 @@ module _ {D : Type 0} {g : Ghosts D} (s : Super) (events : List Event) (playable
   run_reached = makes_run made_core made plays.behind core old new ready makes
 
   made_single : AllByRecursion IsSingleSession made
-  made_single = single_front made plays.behind (single made_core (made ++ plays.behind) ready)
+  made_single = single made_core made (ready_front made_core made plays.behind ready)
 
   -- the graph at the opening was new
   g0 : core.g0 ≡ new_graph

@@ -1,9 +1,10 @@
 -- How plays go on.
-use Rattle.std.proofs.Common.{◌≡◌, inl, inr, ⊎_elim, zero, suc, ℕ, ◌+◌, ◌≤◌, ◌<◌, Bool, List, [], ◌∷◌, ◌++◌, Result, Ok, Err, refl, sym, ap, ◌∙◌, subst, arith, append_assoc}
+use Rattle.std.proofs.Common.{◌≡◌, inl, inr, ⊎_elim, ℕ, ◌+◌, ◌≤◌, ◌<◌, Bool, List, [], ◌∷◌, ◌++◌, Result, Ok, Err, refl, sym, ap, ◌∙◌, subst, arith, append_assoc}
 use Rattle.std.proofs.lemmas.List.{append-nil}
-use Rattle.counts.specs.Count.{raised, counted}
+use Rattle.counts.specs.Count.{counted}
 use Rattle.disk_model.specs.declared.disk.Disk.{Ghosts}
 use Rattle.disk_model.specs.Moments.{LeavesOnly, begins, joined, weaker}
+use Rattle.gate_slot.specs.Passing.{counted-add}
 use Rattle.graph_model.specs.declared.event.Event.{Event}
 use Rattle.graph_model.specs.declared.reply.Refusal.TheVariants.{DiskFault, Stopped}
 use Rattle.graph_model.specs.declared.reply.Reply.{Reply}
@@ -23,10 +24,6 @@ use Rattle.heap_shell.specs.CoreLawsPlay.{ready_valid, ready_behind, makes_run, 
 use Rattle.heap_shell.specs.Means.{IsHeap}
 use Rattle.heap_shell.specs.Play.{AreReady, MakesAll, MakesShort, Makes, Ends, Plays}
 use Rattle.heap_shell.proofs.Causes.{cause_on}
-
-counted-add : (m n before : ℕ) → counted m (counted n before) ≡ counted (n + m) before
-counted-add zero n before = let same : n ≡ n + 0 = omega arith in ap (λ (k : ℕ). counted k before) same
-counted-add (suc m) n before = let same : suc (n + m) ≡ n + suc m = omega arith in ap raised (counted-add m n before) ∙ ap (λ (k : ℕ). counted k before) same
 
 -- the passes of two runs, one after the other
 counted_then : (m n both before mid now : ℕ) → n + m ≡ both → mid ≡ counted n before → now ≡ counted m mid → now ≡ counted both before

@@ -17,7 +17,8 @@ use Rattle.heap_shell.specs.CoreLawsCrash.{crash_law}
 use Rattle.heap_shell.specs.CoreLawsPlay.{has_commits_on, keeps_has}
 use Rattle.heap_shell.specs.CoreLawsStep.{valid_fresh}
 use Rattle.heap_shell.specs.CoreValid.{IsValid}
-use Rattle.heap_shell.specs.Headline.{made_super, made_core, output, IsExact, IsEndOfPlay, IsPlayable, IsPlayed}
+use Rattle.heap_shell.specs.Headline.{made_super, made_core, output, IsExact, IsEndOfPlay, IsPlayed}
+use Rattle.heap_shell.specs.Playable.{IsPlayable}
 use Rattle.heap_shell.specs.Image.{records_of, IsLegal}
 use Rattle.heap_shell.specs.Machine.{commits}
 use Rattle.heap_shell.specs.Play.{Plays}

@@ -1,5 +1,5 @@
 -- Why a run ends as it does.
-use Rattle.std.specs.Prelude.{ℕ, ◌+◌, Result, Ok, Err}
+use Rattle.std.specs.Prelude.{◌≡◌, ℕ, ◌+◌, List, Result, Ok, Err}
 use Rattle.std.specs.declared.alloc.AllocError.{AllocError}
 use Rattle.counts.specs.Count.{Rose}
 use Rattle.disk_model.specs.declared.disk.DiskError.{DiskError}
@@ -11,8 +11,10 @@ use Rattle.heap_shell.specs.declared.recovery.OpenError.{OpenError}
 use Rattle.heap_shell.specs.declared.recovery.OpenError.TheVariants as opening
 use Rattle.heap_shell.specs.declared.play.Ended.{Ended}
 use Rattle.heap_shell.specs.declared.play.Ended.TheVariants as ended
+use Rattle.heap_shell.specs.declared.script.ScriptError.TheVariants.{Fault}
 use Rattle.heap_shell.specs.declared.status.Status.{Status}
 use Rattle.heap_shell.specs.declared.status.Status.TheVariants as status
+use Rattle.heap_shell.specs.Script.{script}
 
 -- what the disk answered in a step
 abbrev pub reply_device : Reply → Result (Unit {0}) DiskError
@@ -74,3 +76,8 @@ IsPlayStatus disk sink status.DiskFault = disk
 IsPlayStatus disk sink status.NotHeap = Unit {0}
 IsPlayStatus disk sink (status.Damaged at) = Unit {0}
 IsPlayStatus disk sink s = ⊥
+
+-- Where a script is bad, reading it tells its first bad line.
+abbrev pub FailsByScript : List ℕ → Status → Type 0
+FailsByScript bytes (status.Script line) = script bytes ≡ Err (Fault line)
+FailsByScript bytes s = Unit {0}

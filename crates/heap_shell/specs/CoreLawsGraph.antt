@@ -22,7 +22,7 @@ use Rattle.heap_shell.specs.CoreLawsPlay.{script_single, script_follows, script_
 use Rattle.heap_shell.specs.CoreLawsRecords.{told_plain}
 use Rattle.heap_shell.specs.CoreLawsRun.{IsIdle, ForcesFollow, seal_idle, force_idle}
 use Rattle.heap_shell.specs.CoreLawsStep.{valid_fresh, valid_after}
-use Rattle.heap_shell.specs.Headline.{IsPlayable}
+use Rattle.heap_shell.specs.Playable.{IsPlayable}
 use Rattle.heap_shell.specs.Means.{all_records}
 use Rattle.heap_shell.specs.Output.{HasGraph}
 use Rattle.heap_shell.specs.Script.{lines as text_lines, words, line_of, place_after, line_at, Reading, start, with_line, read_line, take_line, ended, finish, script, line_events, events}

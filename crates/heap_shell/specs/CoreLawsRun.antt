@@ -127,7 +127,8 @@ valid_step c d event reply (inl valid) one idle (inr cut) = subst IsReached (sym
 valid_step c d event reply (inr failed) one idle (inl whole) = subst IsReached (sym whole.1) (inr (failed_stays c event failed))
 valid_step c d event reply (inr failed) one idle (inr cut) = let never = cut.0.first in let is = failed.failed in cc
 
-first_alone : (o p : Option Refusal) → p ≡ None → first_of_two o p ≡ o
+-- the first of two reasons, where the second is none
+pub first_alone : (o p : Option Refusal) → p ≡ None → first_of_two o p ≡ o
 first_alone None p e = e
 first_alone (Some why) p e = refl
 

@@ -1,5 +1,5 @@
 -- What a run of the program promises.
-use Rattle.std.specs.Prelude.{◌≡◌, ◌⊎◌, ℕ, ◌≤◌, List, [], ◌∷◌, ◌++◌, length, take, codes, Bool, IsTrue, Option, None, Some, Result, Ok, Err}
+use Rattle.std.specs.Prelude.{◌≡◌, ◌⊎◌, ℕ, ◌≤◌, List, [], ◌∷◌, ◌++◌, length, take, codes, Bool, IsTrue, Option, None, Some}
 use Rattle.std.specs.Fmt.{decimal}
 use Rattle.counts.specs.Count.{raised}
 use Rattle.disk_model.specs.Disk.{Only}
@@ -24,10 +24,8 @@ use Rattle.heap_shell.specs.CoreReplies.{call_replies_of}
 use Rattle.heap_shell.specs.CoreRuns.{after_events, total_calls, StopsAt}
 use Rattle.heap_shell.specs.Format.{IsFormatting}
 use Rattle.heap_shell.specs.Image.{IsLegal}
-use Rattle.heap_shell.specs.Play.{lines_text, AreReady, WroteFront, WroteLines}
-use Rattle.heap_shell.specs.CoreLawsRun.{IsIdle}
-use Rattle.heap_shell.specs.Script.{script, events}
-use Rattle.heap_shell.specs.declared.script.ScriptError.TheVariants.{Fault}
+use Rattle.heap_shell.specs.Play.{lines_text, WroteFront, WroteLines}
+use Rattle.heap_shell.specs.Script.{events}
 
 -- A claim of a disk that tells its bytes and keeps the disk model, and on which nothing waits.
 abbrev pub OfTold : Bool → List ℕ → (List ℕ → Type 0) → Type 0 → Type 0
@@ -93,18 +91,6 @@ IsEndOfPlay status.NoMemory = Unit {0}
 IsEndOfPlay status.WriteFault = Unit {0}
 IsEndOfPlay status.DiskFault = Unit {0}
 IsEndOfPlay s = ⊥
-
--- The events of a script: a new heap may be asked them one after another, no transaction is active behind them, and they
--- make fewer device calls than can be counted.
-pub record IsPlayable (events : List Event) : Type 0 where
-  pub ready : AreReady made_core events
-  pub idle : IsIdle (after_events made_core events)
-  pub few : total_calls made_core events ≤ 8388608
-
--- Where a script is bad, reading it tells its first bad line.
-abbrev pub FailsByScript : List ℕ → Status → Type 0
-FailsByScript bytes (status.Script line) = script bytes ≡ Err (Fault line)
-FailsByScript bytes s = Unit {0}
 
 -- What a crash leaves from the moment on at which a new heap was made. Until then it leaves no heap, the old image, or the new
 -- heap; at that moment the new heap and nothing else; and since then what has P.

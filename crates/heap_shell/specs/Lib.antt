@@ -32,6 +32,7 @@ pub mod Number
 pub mod Output
 pub mod Plan
 pub mod Play
+pub mod Playable
 pub mod Reader
 pub mod Record
 pub mod Recovered

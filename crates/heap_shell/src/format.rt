@@ -1,5 +1,5 @@
 //! An empty heap is made on a disk.
-ghost use Rattle.std.specs.Prelude.{◌≡◌, ℕ, ◌+◌, ◌<◌, ◌≤◌, List, [], replicate, IsTrue, IfOk, IfErr, IsErrAnd, OnOk};
+ghost use Rattle.std.specs.Prelude.{◌≡◌, ℕ, ◌+◌, ◌<◌, ◌≤◌, List, [], replicate, IsTrue, IfOk, IsErrAnd, OnOk};
 ghost use Rattle.disk_model.specs.Disk.{Only, Follows, HasCause};
 ghost use Rattle.disk_model.specs.Moments.{LeavesOnly};
 ghost use Rattle.heap_shell.specs.declared.format.FormatError.TheVariants.{TooSmall};

@@ -1,5 +1,5 @@
 //! The heap: events on an image, each of them one step.
-ghost use Rattle.std.specs.Prelude.{◌≡◌, ◌≢◌, ◌⊎◌, ◌↔◌, ◌+◌, ◌<◌, ◌≤◌, List, [], drop, is_some, None, Err, IsTrue, IfOk, IfErr, OnErr, vec_len, vec_capacity, string_bytes};
+ghost use Rattle.std.specs.Prelude.{◌≡◌, ◌≢◌, ◌⊎◌, ◌↔◌, ◌+◌, ◌<◌, ◌≤◌, List, [], drop, is_some, None, Err, IsTrue, IfOk, IfErr, OnErr, string_bytes};
 ghost use Rattle.std.specs.List.{AllByRecursion};
 ghost use Rattle.disk_model.specs.Disk.{HasCause, Narrows, Only};
 ghost use Rattle.disk_model.specs.Moments.{LeavesOnly};
@@ -17,7 +17,7 @@ ghost use Rattle.heap_shell.specs.Causes.{step_device, reply_device, opened_devi
 ghost use Rattle.heap_shell.specs.Core.{Core, IsStep, fresh, calls};
 ghost use Rattle.heap_shell.specs.CoreCrash.{KeepsCommits};
 ghost use Rattle.heap_shell.specs.CoreLawsRun.{IsIdle};
-ghost use Rattle.heap_shell.specs.CoreValid.{IsValid, IsReached};
+ghost use Rattle.heap_shell.specs.CoreValid.{IsReached};
 ghost use Rattle.heap_shell.specs.Machine.{words, graph_of, commits};
 ghost use Rattle.heap_shell.specs.Recovered.{IsFromOutside};
 ghost use Rattle.heap_shell.specs.Word.{IsNumberWord};
@@ -25,7 +25,7 @@ ghost use Rattle.heap_shell.specs.Word.{IsNumberWord};
 use crate::graph_text::root_text;
 use crate::history::History;
 use crate::recovery::{OpenError, Recovered, recover, root_values};
-use crate::working::Working;
+use crate::working::{Working, refused};
 use disk_model::{Disk, DiskError};
 use graph_model::{Entry, Event, Refusal, Reply};
 use std::alloc::{AllocError, Global};
@@ -41,12 +41,6 @@ pub struct Heap<D: Disk> {
     // The entry at which the disk failed or stopped.
     failed: Option<u64>,
     ghost inside: { working.log.at + working.log.room ≤ D.extent disk },
-}
-
-fn refused(why: Refusal) -> Reply
-    ensures { result ≡ Reply.Refused why }
-{
-    Reply::Refused { why }
 }
 
 /// What an event is answered that the disk cut short.

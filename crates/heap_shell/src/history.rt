@@ -1,5 +1,5 @@
 //! The history of a heap: each event and its answer.
-ghost use Rattle.std.specs.Prelude.{◌≡◌, ◌<◌, [], ◌∷◌, ◌++◌, length, vec_len, vec_capacity, OnOk};
+ghost use Rattle.std.specs.Prelude.{◌≡◌, ◌<◌, [], ◌∷◌, ◌++◌, vec_len, vec_capacity, OnOk};
 
 use graph_model::Entry;
 use std::alloc::{AllocError, Global};

@@ -1,5 +1,5 @@
 //! An image is opened: what its superblock, its log and its words say.
-ghost use Rattle.std.specs.Prelude.{◌≡◌, ℕ, ◌+◌, ◌^◌, ◌<◌, ◌≤◌, List, None, Some, Ok, drop, take, map, length, vec_len, IsTrue, IsSome, IsOk, IfOk, IfErr, IfSome};
+ghost use Rattle.std.specs.Prelude.{◌≡◌, ◌+◌, ◌^◌, ◌<◌, ◌≤◌, List, None, Some, Ok, drop, take, map, length, vec_len, IsTrue, IsSome, IsOk, IfOk, IfErr, IfSome};
 ghost use Rattle.std.specs.List.{AllByRecursion};
 ghost use Rattle.disk_model.specs.Disk.{Narrows, HasCause};
 ghost use Rattle.disk_model.specs.Moments.{LeavesOnly};

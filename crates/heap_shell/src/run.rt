@@ -1,7 +1,7 @@
 //! The program's one call: from the words of its command line and a script to the printed graph.
-ghost use Rattle.std.specs.Prelude.{◌≡◌, ◌≢◌, ◌⊎◌, ℕ, ◌+◌, ◌-◌, ◌<◌, ◌≤◌, ◌++◌, ◌↔◌, [], List, None, Some, Ok, Err, map, string_bytes, IfOk, IfErr, IsNone, IsSome, IsTrue, OnOk};
+ghost use Rattle.std.specs.Prelude.{◌≡◌, ◌⊎◌, ℕ, ◌+◌, ◌-◌, ◌<◌, ◌≤◌, ◌++◌, ◌↔◌, [], List, None, Some, Ok, Err, map, string_bytes, IfOk, IfErr, IsNone, IsTrue, OnOk};
 ghost use Rattle.counts.specs.Count.{Rose, raised};
-ghost use Rattle.disk_model.specs.Disk.{Only, Narrows};
+ghost use Rattle.disk_model.specs.Disk.{Only};
 ghost use Rattle.disk_model.specs.Fuse.{fuse_inner};
 ghost use Rattle.disk_model.specs.Moments.{LeavesOnly};
 ghost use Rattle.graph_model.specs.Graph.{Graph};
@@ -10,14 +10,13 @@ ghost use Rattle.heap_shell.specs.declared.plan.Super.{Super};
 ghost use Rattle.heap_shell.specs.declared.script.Line.{Line};
 ghost use Rattle.heap_shell.specs.declared.script.ScriptError.TheVariants.{Fault};
 ghost use Rattle.heap_shell.specs.declared.status.Status.TheVariants.{NoMemory, WriteFault};
-ghost use Rattle.heap_shell.specs.Causes.{DiskRose, IsOutputError, IsInputError, IsPlayStatus};
+ghost use Rattle.heap_shell.specs.Causes.{DiskRose, IsOutputError, IsInputError, IsPlayStatus, FailsByScript};
 ghost use Rattle.heap_shell.specs.Command.{command};
 ghost use Rattle.heap_shell.specs.Core.{Core};
 ghost use Rattle.heap_shell.specs.CoreCrash.{KeepsCommits};
-ghost use Rattle.heap_shell.specs.CoreLawsRun.{IsIdle};
-ghost use Rattle.heap_shell.specs.CoreRuns.{after_events};
 ghost use Rattle.heap_shell.specs.Format.{IsFormatting};
-ghost use Rattle.heap_shell.specs.Headline.{made_super, made_core, graph_text, recovered_line, OfTold, IsPlayed, Runs, SinceMade, IsPlayable, IsEndOfPlay, IsSound, IsUntouching, EndsUnread, EndsUnmade, FailsByScript, restarts_of};
+ghost use Rattle.heap_shell.specs.Headline.{made_super, graph_text, recovered_line, OfTold, IsPlayed, Runs, SinceMade, IsSound, IsUntouching, EndsUnread, EndsUnmade, restarts_of};
+ghost use Rattle.heap_shell.specs.Playable.{IsPlayable};
 ghost use Rattle.heap_shell.specs.HeapState.{commits_of};
 ghost use Rattle.heap_shell.specs.Image.{IsLegal};
 ghost use Rattle.heap_shell.specs.Means.{IsHeap};

@@ -1,7 +1,6 @@
 //! The program over memory: what a script prints, on disks that stop or fail and streams that fail.
 use crate::{Status, run};
 use disk_model::{MemoryDisk, Pick};
-use graph_model::{Event, SlowHeap};
 use heap_io::{MemorySink, MemorySource};
 use std::alloc::{AllocError, Global};
 use std::process::Abort;

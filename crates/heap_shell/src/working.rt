@@ -1,5 +1,5 @@
 //! What an open heap keeps in memory, and how the events of a session change it.
-ghost use Rattle.std.specs.Prelude.{◌≡◌, ℕ, ◌+◌, ◌<◌, ◌≤◌, ◌++◌, Ok, vec_len, OnErr, IfOk};
+ghost use Rattle.std.specs.Prelude.{◌≡◌, ◌+◌, ◌<◌, ◌≤◌, Ok, vec_len, OnErr, IfOk};
 ghost use Rattle.graph_model.specs.Plain.{reply_of};
 ghost use Rattle.graph_model.specs.declared.reply.Reply.TheVariants.{Begun, Done, Sealed};
 ghost use Rattle.heap_shell.specs.LogRoom.{used_bytes};
@@ -35,7 +35,8 @@ pub struct Working {
     ghost counted: { sealed + active_count active < next },
 }
 
-fn refused(why: Refusal) -> Reply
+/// The answer of an event that is refused.
+pub fn refused(why: Refusal) -> Reply
     ensures { result ≡ Reply.Refused why }
 {
     Reply::Refused { why }
