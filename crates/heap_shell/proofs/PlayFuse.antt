@@ -1,9 +1,13 @@
 -- A play on a disk behind a fuse.
-use Rattle.std.specs.Prelude.{ℕ, List}
+use Rattle.std.proofs.Common.{◌≡◌, ℕ, List, ap}
 use Rattle.disk_model.specs.declared.disk.Disk.{Ghosts}
 use Rattle.disk_model.specs.declared.fuse.FuseDisk.{FuseDisk}
-use Rattle.disk_model.specs.Fuse.{fuse_inner}
+use Rattle.disk_model.specs.Fuse.{FuseOrigin, fuse_inner}
 use Rattle.disk_model.specs.Moments.{LeavesOnly}
+
+-- fuses that are made of the same let through as much
+pub same_limit : {D : Type 0} (a b : FuseOrigin D) → a ≡ b → a.limit ≡ b.limit
+same_limit {D} a b same = ap (λ (o : FuseOrigin D). o.limit) same
 
 module _ {D : Type 0} {g : Ghosts D} where
   -- what a crash leaves of the disk behind a fuse

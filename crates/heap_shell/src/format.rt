@@ -40,7 +40,7 @@ pub fn format<D: Disk>(mut disk: D, of: &Super) -> Result<D, (FormatError, D)>
     ensures moments { IsTrue D.tells → Only (D.bytes disk) (D.may_leave disk) → LeavesOnly D.moment D.left_since disk (given_back result) (IsFormatting of.now (D.bytes disk)) }
     ensures restarts { IsTrue D.tells → D.restarts (given_back result) ≡ D.restarts disk }
     ensures extent { D.extent (given_back result) ≡ D.extent disk }
-    ensures limit { D.limit (given_back result) ≡ D.limit disk }
+    ensures origin { D.origin (given_back result) ≡ D.origin disk }
     ensures cause { HasCause (D.faults disk) (D.faults (given_back result)) (D.stops disk) (D.stops (given_back result)) (device_result result) }
 {
     let size = disk.size();
@@ -63,7 +63,7 @@ fn write_empty<D: Disk>(disk: &mut D, of: &Super) -> Result<(), DiskError>
     ensures moments { IsTrue D.tells → Only (D.bytes disk.old) (D.may_leave disk.old) → LeavesOnly D.moment D.left_since disk.old disk.new (IsFormatting of.now (D.bytes disk.old)) }
     ensures restarts { IsTrue D.tells → D.restarts disk.new ≡ D.restarts disk.old }
     ensures extent { D.extent disk.new ≡ D.extent disk.old }
-    ensures limit { D.limit disk.new ≡ D.limit disk.old }
+    ensures origin { D.origin disk.new ≡ D.origin disk.old }
     ensures cause { HasCause (D.faults disk.old) (D.faults disk.new) (D.stops disk.old) (D.stops disk.new) result }
 {
     close_gate(disk, 0)?;
@@ -83,7 +83,7 @@ fn write_zeros<D: Disk>(disk: &mut D, from: u64, end: u64) -> Result<(), DiskErr
     ensures moments { IsTrue D.tells → LeavesOnly D.moment D.left_since disk.old disk.new (λ c. (d : List ℕ) × D.may_leave disk.old d × SameOutside from end d c) }
     ensures restarts { IsTrue D.tells → D.restarts disk.new ≡ D.restarts disk.old }
     ensures extent { D.extent disk.new ≡ D.extent disk.old }
-    ensures limit { D.limit disk.new ≡ D.limit disk.old }
+    ensures origin { D.origin disk.new ≡ D.origin disk.old }
     ensures cause { HasCause (D.faults disk.old) (D.faults disk.new) (D.stops disk.old) (D.stops disk.new) result }
 {
     let mut at = from;

@@ -44,7 +44,7 @@ loop-at-preserved g c =
       moments = λ tells. goes_on d.moment d.left_since c.args.disk.now c.loop-at.disk c.write.new.self _ (d.may_leave c.write.new.self) (i.moments tells) (c.write.ensures.time tells) (crash tells);
       restarts = λ tells. c.write.ensures.restarts tells ∙ i.restarts tells;
       extent = c.write.ensures.extent ∙ i.extent;
-      limit = c.write.ensures.limit ∙ i.limit;
+      origin = c.write.ensures.origin ∙ i.origin;
       faults = omega (arith, c.write.ensures.cause.faults_kept, i.faults);
       stops = omega (arith, c.write.ensures.cause.stops_kept, i.stops);
     }

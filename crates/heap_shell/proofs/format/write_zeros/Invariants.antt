@@ -18,7 +18,7 @@ invariant-loop-at g l =
       moments : IsTrue d.tells → LeavesOnly d.moment d.left_since l.fn.disk l.disk (λ c. (o : List ℕ) × d.may_leave l.fn.disk o × SameOutside l.from l.end o c);
       restarts : IsTrue d.tells → d.restarts l.disk ≡ d.restarts l.fn.disk;
       extent : d.extent l.disk ≡ d.extent l.fn.disk;
-      limit : d.limit l.disk ≡ d.limit l.fn.disk;
+      origin : d.origin l.disk ≡ d.origin l.fn.disk;
       faults : d.faults l.fn.disk ≤ d.faults l.disk;
       stops : d.stops l.fn.disk ≤ d.stops l.disk;
     }

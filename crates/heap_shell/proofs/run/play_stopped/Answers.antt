@@ -15,7 +15,7 @@ use Rattle.heap_shell.specs.Image.{IsLegal}
 use Rattle.heap_shell.specs.Script.{events}
 use Rattle.heap_shell.proofs.Causes.{rose_within}
 use Rattle.heap_shell.proofs.PlayEnds.{kept, all_lines, some_lines, ends_early, ends_recovered, ends_made, exact_some, lines_more}
-use Rattle.heap_shell.proofs.PlayFuse.{fuse_since}
+use Rattle.heap_shell.proofs.PlayFuse.{same_limit, fuse_since}
 use Rattle.heap_shell.proofs.PlayOpen.{only_new, opening_then, ends_unopened, since_made}
 use Rattle.heap_shell.proofs.Statuses.{open_fault, output_end, output_not_done, output_no_fault}
 use Rattle.heap_shell.proofs.Written.{whole_front}
@@ -67,7 +67,7 @@ returns-in-Ok-Whole g c = record {
       let only_f = subst (λ x. Only (d.bytes x) (d.may_leave x)) (sym inner) only in
       let plays = c.play_lines.ensures.plays tells s made_core (c.in-Ok.ensures.fresh tells s legal_f only_f) playable.ready in
       let since = fuse_since c.new.result new.disk (HasCommits plays.core) (since_made pages es playable c.new.result old new k.tells before after c.play_lines.result legal_f only_f (c.in-Ok.ensures.moments tells) plays) in
-      let limit = c.play_lines.ensures.limit ∙ c.in-Ok.ensures.limit ∙ c.new.ensures.limit in
+      let limit = same_limit _ _ (c.play_lines.ensures.origin ∙ c.in-Ok.ensures.origin ∙ c.new.ensures.origin) in
       let within = subst (λ n. fuse_passed new.disk ≤ n) limit new.disk.within in
       let exact : (Rose (d.faults (fuse_inner old.disk) + d.stops (fuse_inner old.disk)) (d.faults (fuse_inner new.disk) + d.stops (fuse_inner new.disk)) → ⊥) → IsExact (Some c.args.calls) plays.made plays.core = λ unrisen. exact_some s es playable old new k.tells before after c.play_lines.result plays c.args.calls (c.in-Ok.ensures.passed tells ∙ c.new.ensures.passed) (c.in-Ok.ensures.no_first_stop c.new.ensures.stops) within
       (λ stopped. new.disk.blown stopped ∙ limit) unrisen in
@@ -101,7 +101,7 @@ returns-in-Ok-DiskFault-clause-played g c tells pages legal only playable =
     let only_f = subst (λ x. Only (d.bytes x) (d.may_leave x)) (sym inner) only in
     let plays = c.play_lines.ensures.plays tells s made_core (c.in-Ok.ensures.fresh tells s legal_f only_f) playable.ready in
     let since = fuse_since c.new.result new.disk (HasCommits plays.core) (since_made pages es playable c.new.result old new k.tells before after c.play_lines.result legal_f only_f (c.in-Ok.ensures.moments tells) plays) in
-    let limit = c.play_lines.ensures.limit ∙ c.in-Ok.ensures.limit ∙ c.new.ensures.limit in
+    let limit = same_limit _ _ (c.play_lines.ensures.origin ∙ c.in-Ok.ensures.origin ∙ c.new.ensures.origin) in
     let within = subst (λ n. fuse_passed new.disk ≤ n) limit new.disk.within in
     let exact : (Rose (d.faults (fuse_inner old.disk) + d.stops (fuse_inner old.disk)) (d.faults (fuse_inner new.disk) + d.stops (fuse_inner new.disk)) → ⊥) → IsExact (Some c.args.calls) plays.made plays.core = λ unrisen. exact_some s es playable old new k.tells before after c.play_lines.result plays c.args.calls (c.in-Ok.ensures.passed tells ∙ c.new.ensures.passed) (c.in-Ok.ensures.no_first_stop c.new.ensures.stops) within
     (λ stopped. new.disk.blown stopped ∙ limit) unrisen in
@@ -127,7 +127,7 @@ returns-in-Err-play_lines-clause-played g c tells pages legal only playable =
     let only_f = subst (λ x. Only (d.bytes x) (d.may_leave x)) (sym inner) only in
     let plays = c.play_lines.ensures.plays tells s made_core (c.in-Ok.ensures.fresh tells s legal_f only_f) playable.ready in
     let since = fuse_since c.new.result new.disk (HasCommits plays.core) (since_made pages es playable c.new.result old new k.tells before after c.play_lines.result legal_f only_f (c.in-Ok.ensures.moments tells) plays) in
-    let limit = c.play_lines.ensures.limit ∙ c.in-Ok.ensures.limit ∙ c.new.ensures.limit in
+    let limit = same_limit _ _ (c.play_lines.ensures.origin ∙ c.in-Ok.ensures.origin ∙ c.new.ensures.origin) in
     let within = subst (λ n. fuse_passed new.disk ≤ n) limit new.disk.within in
     let exact : (Rose (d.faults (fuse_inner old.disk) + d.stops (fuse_inner old.disk)) (d.faults (fuse_inner new.disk) + d.stops (fuse_inner new.disk)) → ⊥) → IsExact (Some c.args.calls) plays.made plays.core = λ unrisen. exact_some s es playable old new k.tells before after c.play_lines.result plays c.args.calls (c.in-Ok.ensures.passed tells ∙ c.new.ensures.passed) (c.in-Ok.ensures.no_first_stop c.new.ensures.stops) within
     (λ stopped. new.disk.blown stopped ∙ limit) unrisen in
