@@ -20,7 +20,8 @@ pub struct FuseDisk<D: Disk> {
     began: Snapshot<D>,
     pub ghost within: { passed ≤ limit },
     pub ghost blown: { stops ≢ 0 → passed ≡ limit },
-    pub ghost since: { D.stops began.value ≤ D.stops inner },
+    pub ghost faults_kept: { D.faults began.value ≤ D.faults inner },
+    pub ghost stops_kept: { D.stops began.value ≤ D.stops inner },
     // Unless its disk itself stops, both count the same calls.
     pub ghost tied: { IsTrue D.tells → ¬ Rose (D.stops began.value) (D.stops inner) → D.passed inner ≡ counted passed (D.passed began.value) },
 }

@@ -1,4 +1,4 @@
-use Rattle.std.proofs.Common.{◌≡◌, inl, ◌+◌, List, Ok, Err, rules, refl, ◌∙◌, subst, take, ◌≤◌, length, arith}
+use Rattle.std.proofs.Common.{◌≡◌, inl, ◌+◌, List, Ok, Err, rules, refl, ◌∙◌, subst, take, arith}
 use Rattle.std.proofs.lemmas.List.{take_all}
 use Rattle.heap_shell.specs.declared.play.Ended.{Ended}
 use Rattle.heap_shell.specs.declared.play.Ended.TheVariants as ended
