@@ -35,7 +35,7 @@ use Rattle.heap_shell.specs.LogRoom.{need_bytes}
 use Rattle.heap_shell.specs.Machine.{words, put_record}
 use Rattle.heap_shell.specs.Means.{active_of, Works}
 use Rattle.heap_shell.specs.Record.{spelling}
-use Rattle.heap_shell.specs.Word.{word_of}
+use Rattle.heap_shell.specs.ValueWord.{word_of}
 use Rattle.heap_shell.specs.Working.{begin_refusal, active_after_begin, next_after_begin, root_refusal, active_after_root, with_root, put_refusal, no_room, seal_refusal, update_of, Writes, Seals, SameLog, IsAsItWas}
 use Rattle.heap_shell.proofs.MeansLog.{keeps_same, keeps_more}
 use Rattle.heap_shell.proofs.MeansRefusal.{begin_same, root_same, seal_same, put_same, holds_held}

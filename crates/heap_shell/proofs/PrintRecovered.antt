@@ -20,7 +20,7 @@ use Rattle.heap_shell.specs.Means.{opened}
 use Rattle.heap_shell.specs.Output.{WroteText, HasGraph, Recovers, status_after}
 use Rattle.heap_shell.specs.Recovered.{IsFromOutside}
 use Rattle.heap_shell.specs.StatusOf.{open_status}
-use Rattle.heap_shell.specs.Word.{IsNumberWord}
+use Rattle.heap_shell.specs.ValueWord.{IsNumberWord}
 use Rattle.heap_shell.proofs.Statuses.{written_end, wrote_all, open_end, open_not_done}
 use Rattle.heap_shell.proofs.Written.{none_written, wrote_some}
 

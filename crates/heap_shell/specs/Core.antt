@@ -16,7 +16,7 @@ use Rattle.graph_model.specs.History.{Account, account, account_after}
 use Rattle.graph_model.specs.Plain.{view, event_refusal, refusal_of, granted, reply_of}
 use Rattle.heap_shell.specs.declared.records.Record.{Record}
 use Rattle.heap_shell.specs.declared.records.Record.TheVariants.{Update, Commit}
-use Rattle.heap_shell.specs.Word.{word_of}
+use Rattle.heap_shell.specs.ValueWord.{word_of}
 use Rattle.heap_shell.specs.Record.{spellings}
 use Rattle.heap_shell.specs.Log.{batches_bytes, hand}
 

@@ -9,7 +9,7 @@ use Rattle.heap_shell.specs.Plan.{log_offset, image_size, frame_offset}
 use Rattle.heap_shell.specs.Super.{IsSuper, superblock}
 use Rattle.heap_shell.specs.Record.{IsRecord}
 use Rattle.heap_shell.specs.Machine.{words, graph_of, commits, AreWhole}
-use Rattle.heap_shell.specs.Word.{IsNumberWord}
+use Rattle.heap_shell.specs.ValueWord.{IsNumberWord}
 use Rattle.heap_shell.specs.Log.{HoldsBatches}
 
 -- the records of batches, in order

@@ -41,5 +41,5 @@ pub mod Script
 pub mod Status
 pub mod StatusOf
 pub mod Super
-pub mod Word
+pub mod ValueWord
 pub mod Working

@@ -3,7 +3,7 @@ use Rattle.std.specs.Prelude.{◌≡◌, ℕ, ◌+◌, ◌==◌, nat_lt, List, [
 use Rattle.graph_model.specs.Graph.{Graph, root_graph}
 use Rattle.heap_shell.specs.declared.records.Record.{Record}
 use Rattle.heap_shell.specs.declared.records.Record.TheVariants.{Update, Commit}
-use Rattle.heap_shell.specs.Word.{value_of}
+use Rattle.heap_shell.specs.ValueWord.{value_of}
 
 -- the first contents of the used words: the root object's header, its birth and its four null fields
 abbrev pub first_contents : List ℕ

@@ -20,7 +20,7 @@ ghost use Rattle.heap_shell.specs.CoreLawsRun.{IsIdle};
 ghost use Rattle.heap_shell.specs.CoreValid.{IsReached};
 ghost use Rattle.heap_shell.specs.Machine.{words, graph_of, commits};
 ghost use Rattle.heap_shell.specs.Recovered.{IsFromOutside};
-ghost use Rattle.heap_shell.specs.Word.{IsNumberWord};
+ghost use Rattle.heap_shell.specs.ValueWord.{IsNumberWord};
 
 use crate::graph_text::root_text;
 use crate::history::History;

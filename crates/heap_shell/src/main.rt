@@ -21,7 +21,6 @@ mod run;
 mod script;
 mod status;
 mod superblock;
-mod words;
 mod working;
 
 use disk_model::{MemoryDisk, Pick};

@@ -4,9 +4,9 @@ ghost use Rattle.std.specs.Int.{w16, w32, w64, to_le_bytes};
 ghost use Rattle.heap_shell.specs.declared.records.Record.{Record};
 ghost use Rattle.heap_shell.specs.declared.records.Record.TheVariants.{Update, Commit};
 ghost use Rattle.heap_shell.specs.Record.{spelling, Begins, Reads, IsNumber, IsRecord};
-ghost use Rattle.heap_shell.specs.Word.{IsFieldWord};
+ghost use Rattle.heap_words.specs.Word.{IsFieldWord};
 
-use crate::words::decode as decode_word;
+use heap_words::decode as decode_word;
 use std::alloc::AllocError;
 
 const UPDATE: u8 = 1;

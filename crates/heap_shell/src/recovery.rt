@@ -14,7 +14,7 @@ ghost use Rattle.heap_shell.specs.Plan.{image_size};
 ghost use Rattle.heap_shell.specs.Record.{IsRecord};
 ghost use Rattle.heap_shell.specs.Recovered.{IsRecovered, IsFromOutside, IsFromImage};
 ghost use Rattle.heap_shell.specs.Super.{IsSuper, superblock};
-ghost use Rattle.heap_shell.specs.Word.{IsNumberWord, value_of};
+ghost use Rattle.heap_shell.specs.ValueWord.{IsNumberWord, value_of};
 
 use crate::log::{Log, LogError};
 use crate::machine::{LogState, Unshaped};
@@ -23,9 +23,9 @@ use crate::plan::{SUPER_BYTES, Super};
 use crate::records::Record;
 use crate::status::At;
 use crate::superblock::read_super;
-use crate::words::{Word, decode};
 use disk_model::{Disk, DiskError};
 use graph_model::Val;
+use heap_words::{Word, decode};
 use std::alloc::Global;
 
 /// Why a heap could not be opened.

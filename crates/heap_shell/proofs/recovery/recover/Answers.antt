@@ -9,7 +9,7 @@ use Rattle.heap_shell.specs.Image.{IsLegal, records_of}
 use Rattle.heap_shell.specs.Log.{HoldsBatches}
 use Rattle.heap_shell.specs.LogCause.{log_device_result}
 use Rattle.heap_shell.specs.Machine.{start, after_all, words, AreWhole}
-use Rattle.heap_shell.specs.Word.{IsNumberWord}
+use Rattle.heap_shell.specs.ValueWord.{IsNumberWord}
 use Rattle.heap_shell.specs.Plan.{image_size, log_offset}
 use Rattle.heap_shell.specs.Recovered.{open_error}
 use Rattle.heap_shell.proofs.Causes.{cause_then}
