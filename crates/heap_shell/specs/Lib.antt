@@ -34,7 +34,6 @@ pub mod Plan
 pub mod Play
 pub mod Playable
 pub mod Reader
-pub mod Record
 pub mod Recovered
 pub mod Reserve
 pub mod Script

@@ -15,7 +15,6 @@ mod number;
 mod page_words;
 mod plan;
 mod play;
-mod records;
 mod recovery;
 mod run;
 mod script;

@@ -3,7 +3,7 @@ use Rattle.std.specs.List.{AllByRecursion}
 use Rattle.std.specs.Prelude.{IsOk}
 use Rattle.disk_model.specs.Disk.{part}
 use Rattle.heap_shell.specs.declared.plan.Super.{Super}
-use Rattle.heap_shell.specs.declared.records.Record.{Record}
+use Rattle.log_records.specs.declared.Record.{Record}
 use Rattle.heap_shell.specs.Causes.{open_device}
 use Rattle.heap_shell.specs.Image.{IsLegal, records_of}
 use Rattle.heap_shell.specs.Log.{HoldsBatches}
