@@ -1,0 +1,56 @@
+//! The 64-bit words of an object's fields, and what they mean.
+#![tactic(auto)]
+
+ghost use Rattle.std.specs.Prelude.{◌≡◌, Some, IfSome};
+ghost use Rattle.heap_words.specs.declared.Word.{Word};
+ghost use Rattle.heap_words.specs.Word.{bits, IsWord};
+
+/// The stable words of the largest heap.
+pub const STABLE_WORDS: u32 = 2_097_152;
+
+/// The words of a transaction's volatile area.
+pub const VOLATILE_WORDS: u32 = 4_096;
+
+/// The first whole number that is too large for a word.
+pub const NO_INT: u64 = 4_611_686_018_427_387_904;
+
+/// What a field's word means.
+#[derive(Clone, Copy, Debug, PartialEq, Eq)]
+pub enum Word {
+    /// No value.
+    Null,
+    /// A whole number below 2^62.
+    Int(u64),
+    /// A reference to the stable object at that word address, below 2,097,152.
+    Stable(u32),
+    /// A reference to the volatile object that starts at that word of its transaction's area, below 4,096.
+    Volatile(u32),
+}
+
+/// The word that has that meaning.
+pub fn encode(word: Word) -> u64
+    requires { IsWord word }
+    ensures { result ≡ bits word }
+{
+    match word {
+        Word::Null => 0,
+        Word::Int(n) => 4 * n + 1,
+        Word::Stable(address) => 4 * u64::from(address) + 2,
+        Word::Volatile(index) => 4 * u64::from(index) + 3,
+    }
+}
+
+/// What the word means, if it is a field's word.
+pub fn decode(w: u64) -> Option<Word>
+    ensures found { IfSome result (λ word. IsWord word × (w ≡ bits word)) }
+    ensures only { (word : Word) → IsWord word → w ≡ bits word → result ≡ Some word }
+{
+    let rest = w / 4;
+    match w % 4 {
+        1 => Some(Word::Int(rest)),
+        2 if rest < u64::from(STABLE_WORDS) => Some(Word::Stable(rest as u32)),
+        3 if rest < u64::from(VOLATILE_WORDS) => Some(Word::Volatile(rest as u32)),
+        _ if w == 0 => Some(Word::Null),
+        _ => None,
+    }
+}

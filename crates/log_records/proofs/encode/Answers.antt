@@ -1,0 +1,8 @@
+use Rattle.std.proofs.Common.{ap, sym, ◌∙◌}
+use Rattle.log_records.specs.Record.{spelling}
+use Rattle.log_records.proofs.Fields.{appended}
+use Rattle.log_records.proofs.encode.Goals as goal
+
+pub returns-in-Update-clause-ok : goal.returns-in-Update-clause-ok
+returns-in-Update-clause-ok c =
+    appended c.extend_from_slice.result c.args.into.now.items c.extend_from_slice.new.self.items c.update_bytes.result (spelling c.args.rec.now) c.extend_from_slice.ensures.items (c.update_bytes.ensures ∙ sym (ap spelling c.in-Update.is))
