@@ -4,14 +4,19 @@ use Rattle.counts.specs.Count.{raised}
 use Rattle.disk_model.specs.declared.disk.Disk.{Ghosts}
 use Rattle.disk_model.specs.declared.fuse.FuseDisk.{FuseDisk}
 
+-- What a fuse is made of: a disk, as it was then, and how many writes and syncs are let through to it.
+pub record FuseOrigin (D : Type 0) : Type 0 where
+  pub disk : D
+  pub limit : ℕ
+
 module _ {D : Type 0} {g : Ghosts D} where
   -- the disk inside
   abbrev pub fuse_inner : FuseDisk D g → D
   fuse_inner fuse = fuse.inner
 
-  -- the disk that it was made of, as it was then
-  abbrev pub fuse_began : FuseDisk D g → D
-  fuse_began fuse = fuse.began.value
+  -- what it was made of
+  abbrev pub fuse_origin : FuseDisk D g → FuseOrigin D
+  fuse_origin fuse = record { disk = fuse.began.value; limit = fuse.limit }
 
   -- how many writes and syncs it lets through
   abbrev pub fuse_limit : FuseDisk D g → ℕ
@@ -32,11 +37,6 @@ module _ {D : Type 0} {g : Ghosts D} where
   -- it has stopped, and everything stops from now on
   abbrev pub IsBlown : FuseDisk D g → Type 0
   IsBlown fuse = fuse_stops fuse ≢ 0
-
-  -- it is the fuse of the same disk, for as many calls
-  pub record IsSameFuse (old new : FuseDisk D g) : Type 0 where
-    pub limit : fuse_limit new ≡ fuse_limit old
-    pub began : fuse_began new ≡ fuse_began old
 
   -- A call found the disk stopped: it does nothing but count that.
   pub record Stops (old new : FuseDisk D g) : Type 0 where

@@ -1,7 +1,7 @@
 -- The disk in memory, as its callers see it: what it began with, and each change since.
-use Rattle.std.specs.Prelude.{◌≡◌, ℕ, ◌+◌, ◌-◌, ◌≤◌, ◌==◌, max, Bool, false, ◌&&◌, ◌||◌, nat_lt, nat_le, if◌then◌else◌, List, [], ◌∷◌, ◌++◌, length, map, take, replicate, slice_index, Result, Ok, Err}
+use Rattle.std.specs.Prelude.{◌≡◌, ℕ, ◌+◌, ◌-◌, ◌≤◌, ◌==◌, Bool, false, ◌&&◌, ◌||◌, nat_lt, nat_le, if◌then◌else◌, List, [], ◌∷◌, ◌++◌, length, map, take, replicate, slice_index, Result, Ok, Err}
 use Rattle.std.specs.List.{range_with_len, list_any}
-use Rattle.counts.specs.Count.{raised, greatest}
+use Rattle.counts.specs.Count.{raised}
 use Rattle.disk_model.specs.Disk.{overwrite}
 use Rattle.disk_model.specs.declared.disk.DiskError.{DiskError}
 use Rattle.disk_model.specs.declared.disk.DiskError.TheVariants.{Failed}
@@ -100,11 +100,6 @@ changes_of disk = length disk.changes
 -- what it holds now
 abbrev pub now_of : Memory → Contents
 now_of disk = contents_of disk.pick disk.first disk.changes
-
--- How many writes and syncs it lets through: it never stops, and its count of them stands still at the greatest. No
--- count is above that, so this is the greatest.
-abbrev pub limit_of : Memory → ℕ
-limit_of disk = max disk.passed greatest
 
 -- a crash since that moment might have left this
 abbrev pub MightHaveLeft : Memory → ℕ → List ℕ → Type 0

@@ -2,7 +2,7 @@
 use Rattle.std.specs.Prelude.{◌≡◌, ℕ, ◌≤◌, List, refl}
 use Rattle.std.proofs.Common.{sym, ap, subst, arith}
 use Rattle.std.proofs.lemmas.List.{take_all}
-use Rattle.disk_model.specs.Memory.{Memory, Contents, MayLeave, MightHaveLeft, changes_of, at_moment, now_of, contents_of, limit_of}
+use Rattle.disk_model.specs.Memory.{Memory, Contents, MayLeave, MightHaveLeft, changes_of, at_moment, now_of, contents_of}
 
 -- after all of its changes it holds what it holds now
 at_last : (disk : Memory) → at_moment disk (changes_of disk) ≡ now_of disk
@@ -20,6 +20,3 @@ only_now disk image (k, from, to, leaves) =
 
 pub reads_an_image : (disk : Memory) → MayLeave (now_of disk) (now_of disk).newest
 reads_an_image disk = record { size = refl; same = λ k out. refl }
-
-pub within_limit : (disk : Memory) → disk.passed ≤ limit_of disk
-within_limit disk = omega arith

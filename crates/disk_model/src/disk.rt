@@ -1,5 +1,5 @@
 //! The disk as its callers see it: what a read gives, and what a crash at each moment may leave.
-ghost use Rattle.std.specs.Prelude.{◌≡◌, ◌≢◌, ℕ, ◌+◌, ◌≤◌, Bool, List, length, IsTrue, OnOk};
+ghost use Rattle.std.specs.Prelude.{◌≡◌, ℕ, ◌+◌, ◌≤◌, Bool, List, length, IsTrue, OnOk};
 ghost use Rattle.counts.specs.Count.{raised};
 ghost use Rattle.disk_model.specs.Disk.{overwrite, part, Torn, Follows, Narrows, Only, Elapses, HasCause, passed_after};
 
@@ -14,7 +14,7 @@ pub enum DiskError {
 
 /// A disk of a fixed number of bytes, which may fail or stop at any call.
 ///
-/// Each disk tells its size, its limit and two counts. Of one that `tells`, clauses also speak of its bytes, and of the images that
+/// Each disk tells its size, what it was made of and two counts. Of one that `tells`, clauses also speak of its bytes, and of the images that
 /// a crash may leave: until a sync any bytes where something was written, and the bytes as they were everywhere else.
 pub trait Disk {
     /// Whether the disk tells its bytes and keeps the disk model.
@@ -47,8 +47,11 @@ pub trait Disk {
     /// How often the disk was restarted.
     ghost restarts: { Self → ℕ };
 
-    /// How many writes and syncs it lets through until it stops, which never changes.
-    ghost limit: { Self → ℕ };
+    /// What it was made of, as a disk of its kind tells it.
+    ghost Origin: { Type 0 };
+
+    /// That, which never changes: by it code that knows nothing but this trait says that a disk is still the same one.
+    ghost origin: { Self → Origin };
 
     /// The number of bytes, which never changes.
     fn size(&self) -> u64
@@ -66,7 +69,7 @@ pub trait Disk {
         ensures restarts { IsTrue tells → restarts self.new ≡ restarts self.old }
 
         ensures extent { extent self.new ≡ extent self.old }
-        ensures limit { limit self.new ≡ limit self.old }
+        ensures origin { origin self.new ≡ origin self.old }
         ensures cause { HasCause (faults self.old) (faults self.new) (stops self.old) (stops self.new) result }
         // The first stop is never a read's.
         ensures no_first_stop { stops self.old ≡ 0 → stops self.new ≡ 0 };
@@ -82,7 +85,7 @@ pub trait Disk {
         ensures restarts { IsTrue tells → restarts self.new ≡ restarts self.old }
 
         ensures extent { extent self.new ≡ extent self.old }
-        ensures limit { limit self.new ≡ limit self.old }
+        ensures origin { origin self.new ≡ origin self.old }
         ensures cause { HasCause (faults self.old) (faults self.new) (stops self.old) (stops self.new) result };
 
     /// Waits until all that was written is on the disk: after it a crash leaves what a read gives.
@@ -95,7 +98,7 @@ pub trait Disk {
         ensures restarts { IsTrue tells → restarts self.new ≡ restarts self.old }
 
         ensures extent { extent self.new ≡ extent self.old }
-        ensures limit { limit self.new ≡ limit self.old }
+        ensures origin { origin self.new ≡ origin self.old }
         ensures cause { HasCause (faults self.old) (faults self.new) (stops self.old) (stops self.new) result };
 
     /// Starts the disk again after a crash. It then reads as one of the images that the crash could leave.
@@ -107,7 +110,7 @@ pub trait Disk {
         ensures restarts { IsTrue tells → restarts self.new ≡ raised (restarts self.old) }
 
         ensures extent { extent self.new ≡ extent self.old }
-        ensures limit { limit self.new ≡ limit self.old }
+        ensures origin { origin self.new ≡ origin self.old }
         ensures faults { faults self.new ≡ faults self.old }
         ensures stops { stops self.new ≡ stops self.old };
 
@@ -122,10 +125,4 @@ pub trait Disk {
 
     /// Each image has the disk's size.
     ghost same_size: { IsTrue tells → (disk : Self) (c : List ℕ) → may_leave disk c → length c ≡ extent disk };
-
-    /// It has let through no more than its limit.
-    ghost within_limit: { IsTrue tells → (disk : Self) → passed disk ≤ limit disk };
-
-    /// It stops only behind its limit.
-    ghost stopped_at_limit: { IsTrue tells → (disk : Self) → stops disk ≢ 0 → passed disk ≡ limit disk };
 }

@@ -1,6 +1,6 @@
 //! A disk that stops after a number of writes and syncs, for trying a crash at each of them.
 ghost use Rattle.std.specs.Prelude.{◌≡◌, ◌≢◌, ℕ, ◌≤◌, ◌↔◌, IsTrue};
-ghost use Rattle.counts.specs.Count.{counted};
+ghost use Rattle.counts.specs.Count.{counted, Rose};
 ghost use Rattle.disk_model.specs.Answer.{as_failure};
 
 use crate::{Disk, DiskError};
@@ -20,18 +20,19 @@ pub struct FuseDisk<D: Disk> {
     began: Snapshot<D>,
     pub ghost within: { passed ≤ limit },
     pub ghost blown: { stops ≢ 0 → passed ≡ limit },
-    // Unless its disk itself has stopped, both count the same calls.
-    pub ghost tied: { IsTrue D.tells → D.stops inner ≡ 0 → D.passed inner ≡ counted passed (D.passed began.value) },
+    pub ghost faults_kept: { D.faults began.value ≤ D.faults inner },
+    pub ghost stops_kept: { D.stops began.value ≤ D.stops inner },
+    // Unless its disk itself stops, both count the same calls.
+    pub ghost tied: { IsTrue D.tells → ¬ Rose (D.stops began.value) (D.stops inner) → D.passed inner ≡ counted passed (D.passed began.value) },
 }
 
 impl<D: Disk> FuseDisk<D> {
-    ghost use Rattle.disk_model.specs.Fuse.{fuse_inner, fuse_began, fuse_limit, fuse_passed, fuse_stops, IsSpent, IsSameFuse, Stops};
+    ghost use Rattle.disk_model.specs.Fuse.{fuse_inner, fuse_origin, fuse_passed, fuse_stops, IsSpent, Stops};
 
     /// A fuse for `limit` writes and syncs, none of which has passed yet.
     pub fn new(disk: D, limit: u64) -> FuseDisk<D>
         ensures inner { fuse_inner result ≡ disk }
-        ensures began { fuse_began result ≡ disk }
-        ensures limit { fuse_limit result ≡ limit }
+        ensures origin { fuse_origin result ≡ record { disk = disk; limit = limit } }
         ensures passed { fuse_passed result ≡ 0 }
         ensures stops { fuse_stops result ≡ 0 }
     {
@@ -68,7 +69,7 @@ impl<D: Disk> FuseDisk<D> {
         requires { IsSpent self.old }
         ensures result { result ≡ DiskError.Stopped }
         ensures stops { Stops self.old self.new }
-        ensures same { IsSameFuse self.old self.new }
+        ensures origin { fuse_origin self.new ≡ fuse_origin self.old }
     {
         self.stops.raise();
         DiskError::Stopped
@@ -86,7 +87,7 @@ impl<D: Disk> Disk for FuseDisk<D> {
     ghost use Rattle.std.specs.Prelude.{◌≡◌, ◌≢◌, ◌+◌, ◌<◌, ◌≤◌, ◌↔◌, length, IsTrue, OnOk, Err};
     ghost use Rattle.counts.specs.Count.{raised};
     ghost use Rattle.disk_model.specs.Disk.{overwrite, part, Torn, Follows, Narrows, Only, Elapses, HasCause, passed_after};
-    ghost use Rattle.disk_model.specs.Fuse.{fuse_inner, fuse_limit, fuse_passed, fuse_stops, IsSpent, IsBlown, IsSameFuse, Stops, Passes, Reaches};
+    ghost use Rattle.disk_model.specs.Fuse.{FuseOrigin, fuse_inner, fuse_origin, fuse_limit, fuse_passed, fuse_stops, IsSpent, IsBlown, Stops, Passes, Reaches};
 
     ghost tells = { D.tells };
 
@@ -108,7 +109,9 @@ impl<D: Disk> Disk for FuseDisk<D> {
 
     ghost restarts = { λ fuse. D.restarts (fuse_inner fuse) };
 
-    ghost limit = { fuse_limit };
+    ghost Origin = { FuseOrigin D };
+
+    ghost origin = { fuse_origin };
 
     fn size(&self) -> u64 {
         self.inner.size()
@@ -121,7 +124,7 @@ impl<D: Disk> Disk for FuseDisk<D> {
         ensures stopped { (result ≡ Err DiskError.Stopped) ↔ IsBlown self.old }
         ensures stops { IsBlown self.old → Stops self.old self.new }
         ensures reaches { fuse_stops self.old ≡ 0 → Reaches self.old self.new }
-        ensures fuse { IsSameFuse self.old self.new }
+        ensures origin { fuse_origin self.new ≡ fuse_origin self.old }
 
         ensures read { IsTrue D.tells → OnOk result (into.new ≡ part (D.bytes (fuse_inner self.old)) at (length into.old)) }
         ensures bytes { IsTrue D.tells → D.bytes (fuse_inner self.new) ≡ D.bytes (fuse_inner self.old) }
@@ -144,7 +147,7 @@ impl<D: Disk> Disk for FuseDisk<D> {
         ensures stopped { (result ≡ Err DiskError.Stopped) ↔ IsSpent self.old }
         ensures stops { IsSpent self.old → Stops self.old self.new }
         ensures passes { fuse_passed self.old < fuse_limit self.old → Passes self.old self.new }
-        ensures fuse { IsSameFuse self.old self.new }
+        ensures origin { fuse_origin self.new ≡ fuse_origin self.old }
 
         ensures written { IsTrue D.tells → OnOk result (D.bytes (fuse_inner self.new) ≡ overwrite (D.bytes (fuse_inner self.old)) at piece.now) }
         ensures crash { IsTrue D.tells → Follows (Torn at (length piece.now)) (D.may_leave (fuse_inner self.old)) (D.may_leave (fuse_inner self.new)) }
@@ -167,7 +170,7 @@ impl<D: Disk> Disk for FuseDisk<D> {
         ensures stopped { (result ≡ Err DiskError.Stopped) ↔ IsSpent self.old }
         ensures stops { IsSpent self.old → Stops self.old self.new }
         ensures passes { fuse_passed self.old < fuse_limit self.old → Passes self.old self.new }
-        ensures fuse { IsSameFuse self.old self.new }
+        ensures origin { fuse_origin self.new ≡ fuse_origin self.old }
 
         ensures durable { IsTrue D.tells → OnOk result (Only (D.bytes (fuse_inner self.old)) (D.may_leave (fuse_inner self.new))) }
         ensures bytes { IsTrue D.tells → D.bytes (fuse_inner self.new) ≡ D.bytes (fuse_inner self.old) }
@@ -189,7 +192,7 @@ impl<D: Disk> Disk for FuseDisk<D> {
     /// Restarts the disk inside. The fuse stays as it is.
     fn restart(&mut self)
         ensures reaches { Reaches self.old self.new }
-        ensures fuse { IsSameFuse self.old self.new }
+        ensures origin { fuse_origin self.new ≡ fuse_origin self.old }
 
         ensures left { IsTrue D.tells → D.may_leave (fuse_inner self.old) (D.bytes (fuse_inner self.new)) }
         ensures durable { IsTrue D.tells → Only (D.bytes (fuse_inner self.new)) (D.may_leave (fuse_inner self.new)) }
@@ -209,8 +212,4 @@ impl<D: Disk> Disk for FuseDisk<D> {
     ghost reads_an_image = { λ tells fuse. D.reads_an_image tells (fuse_inner fuse) };
 
     ghost same_size = { λ tells fuse. D.same_size tells (fuse_inner fuse) };
-
-    ghost within_limit = { λ tells fuse. fuse.within };
-
-    ghost stopped_at_limit = { λ tells fuse. fuse.blown };
 }

@@ -330,8 +330,8 @@ impl MemoryDisk {
 impl Disk for MemoryDisk {
     ghost use Rattle.std.specs.Prelude.{◌≡◌, length, true, refl, IsTrue, OnOk};
     ghost use Rattle.disk_model.specs.Disk.{overwrite, part, Torn, Follows, Narrows, Only, Elapses};
-    ghost use Rattle.disk_model.specs.Memory.{MayLeave, MightHaveLeft, changes_of, now_of, limit_of, left_by, answer, read_fails, write_fails, sync_fails, after_read, after_write, after_sync, after_restart};
-    ghost use Rattle.disk_model.specs.MemoryLaws.{counts_now, only_now, reads_an_image, within_limit};
+    ghost use Rattle.disk_model.specs.Memory.{MayLeave, MightHaveLeft, changes_of, now_of, left_by, answer, read_fails, write_fails, sync_fails, after_read, after_write, after_sync, after_restart};
+    ghost use Rattle.disk_model.specs.MemoryLaws.{counts_now, only_now, reads_an_image};
 
     ghost tells = { true };
 
@@ -353,7 +353,9 @@ impl Disk for MemoryDisk {
 
     ghost restarts = { λ disk. disk.restarts };
 
-    ghost limit = { limit_of };
+    ghost Origin = { Unit {0} };
+
+    ghost origin = { λ disk. tt };
 
     fn size(&self) -> u64 {
         self.newest.len() as u64
@@ -414,8 +416,4 @@ impl Disk for MemoryDisk {
     ghost reads_an_image = { λ tells. reads_an_image };
 
     ghost same_size = { λ tells disk image leaves. leaves.size };
-
-    ghost within_limit = { λ tells. within_limit };
-
-    ghost stopped_at_limit = { λ tells disk stopped. absurd (stopped refl) };
 }

@@ -1,5 +1,5 @@
 //! Tries of the disk in memory and of the fuse, and a caller that is proved by the disk's clauses alone.
-ghost use Rattle.std.specs.Prelude.{◌≡◌, ℕ, ◌+◌, ◌<◌, ◌≤◌, List, length, IsTrue, OnOk, IfOk, Err};
+ghost use Rattle.std.specs.Prelude.{◌≡◌, ℕ, ◌+◌, ◌<◌, ◌≤◌, List, length, IsTrue, OnOk, IfOk};
 ghost use Rattle.disk_model.specs.Disk.{Torn, Only};
 ghost use Rattle.disk_model.specs.Moments.{LeavesOnly};
 ghost use Rattle.disk_model.specs.Memory.{now_of};
@@ -8,14 +8,13 @@ use crate::{Disk, DiskError, FuseDisk, MemoryDisk, Pick};
 use std::alloc::{AllocError, Global};
 use std::test::Fail;
 
-/// Two calls: at each moment of both a crash leaves all but the range as it was. They stop only behind the disk's limit.
+/// Two calls: at each moment of both a crash leaves all but the range as it was.
 fn write_and_sync<D: Disk>(disk: &mut D, at: u64, piece: &[u8]) -> Result<(), DiskError>
     requires { at + length piece.now ≤ D.extent disk.old }
     ensures moments { IsTrue D.tells → Only (D.bytes disk.old) (D.may_leave disk.old) → LeavesOnly D.moment D.left_since disk.old disk.new (Torn at (length piece.now) (D.bytes disk.old)) }
     ensures durable { IsTrue D.tells → OnOk result (Only (D.bytes disk.new) (D.may_leave disk.new)) }
     ensures extent { D.extent disk.new ≡ D.extent disk.old }
-    ensures limit { D.limit disk.new ≡ D.limit disk.old }
-    ensures stopped { IsTrue D.tells → result ≡ Err DiskError.Stopped → D.passed disk.new ≡ D.limit disk.new }
+    ensures origin { D.origin disk.new ≡ D.origin disk.old }
 {
     disk.write(at, piece)?;
     disk.sync()

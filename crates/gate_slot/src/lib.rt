@@ -30,7 +30,7 @@ pub fn close_gate<D: Disk>(disk: &mut D, gate: u64) -> Result<(), DiskError>
     ensures restarts { IsTrue D.tells → D.restarts disk.new ≡ D.restarts disk.old }
 
     ensures extent { D.extent disk.new ≡ D.extent disk.old }
-    ensures limit { D.limit disk.new ≡ D.limit disk.old }
+    ensures origin { D.origin disk.new ≡ D.origin disk.old }
     ensures cause { HasCause (D.faults disk.old) (D.faults disk.new) (D.stops disk.old) (D.stops disk.new) result }
     // A closed gate is only read, and the first stop is never a read's.
     ensures no_first_stop { IsTrue D.tells → IsClosed gate (D.bytes disk.old) → D.stops disk.old ≡ 0 → D.stops disk.new ≡ 0 }
@@ -64,7 +64,7 @@ pub fn fill_and_open<D: Disk>(
     ensures restarts { IsTrue D.tells → D.restarts disk.new ≡ D.restarts disk.old }
 
     ensures extent { D.extent disk.new ≡ D.extent disk.old }
-    ensures limit { D.limit disk.new ≡ D.limit disk.old }
+    ensures origin { D.origin disk.new ≡ D.origin disk.old }
     ensures cause { HasCause (D.faults disk.old) (D.faults disk.new) (D.stops disk.old) (D.stops disk.new) result }
 {
     disk.write(at, bytes)?;

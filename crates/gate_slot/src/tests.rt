@@ -48,7 +48,9 @@ impl Disk for Stopping {
 
     ghost restarts = { λ disk. 0 };
 
-    ghost limit = { λ disk. 0 };
+    ghost Origin = { Unit {0} };
+
+    ghost origin = { λ disk. tt };
 
     fn size(&self) -> u64 {
         8
@@ -80,10 +82,6 @@ impl Disk for Stopping {
     ghost reads_an_image = { Prim.search rules };
 
     ghost same_size = { Prim.search rules };
-
-    ghost within_limit = { Prim.search rules };
-
-    ghost stopped_at_limit = { Prim.search rules };
 }
 
 #[test]

@@ -12,6 +12,11 @@ pub rose_since : (a b c : ℕ) → a ≤ b → b ≤ c → Rose b c → Rose a c
 rose_since a b c ab bc (inl up) = inl (omega arith)
 rose_since a b c ab bc (inr full) = elim (cases_lt a b) [ inl up ↦ inl (omega arith) | inr same_count ↦ inr (omega arith) ]
 
+-- what rose until an earlier moment rose until a later one
+pub rose_until : (a b c : ℕ) → b ≤ c → Rose a b → Rose a c
+rose_until a b c bc (inl up) = inl (omega arith)
+rose_until a b c bc (inr full) = inr full
+
 -- and until a later one
 pub rose_within : (a b c d : ℕ) → a ≤ b → b ≤ c → c ≤ d → Rose b c → Rose a d
 rose_within a b c d ab bc cd (inl up) = inl (omega arith)

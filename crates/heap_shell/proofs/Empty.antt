@@ -1,13 +1,17 @@
 -- An empty heap, as it is written over an image.
-use Rattle.std.proofs.Common.{◌≡◌, ◌⊎◌, inl, inr, ⊎_elim, ℕ, ◌+◌, ◌-◌, ◌*◌, ◌<◌, ◌≤◌, List, [], ◌∷◌, ◌++◌, length, get_or, take, drop, refl, sym, ◌∙◌, ap, subst, arith, append_assoc, length-append, length-drop}
+use Rattle.std.proofs.Common.{◌≡◌, ◌⊎◌, inl, inr, ⊎_elim, ℕ, ◌+◌, ◌-◌, ◌*◌, ◌<◌, ◌≤◌, List, [], ◌∷◌, ◌++◌, length, get_or, take, drop, slice_index, ◌==◌, if◌then◌else◌, Result, OnOk, refl, sym, ◌∙◌, ap, subst, arith, append_assoc, length-append, length-drop}
 use Rattle.std.proofs.lemmas.Bool.{cases_eq}
 use Rattle.std.proofs.lemmas.Grind.{same_number_lists}
 use Rattle.std.proofs.lemmas.List.{take_at, drop_at, drop_more, get_or-drop, length-take-le}
+use Rattle.std.proofs.lemmas.Result.{on_ok_weaker}
+use Rattle.counts.specs.Count.{counted}
+use Rattle.disk_model.specs.declared.disk.DiskError.{DiskError}
 use Rattle.disk_model.specs.Disk.{part, Only}
 use Rattle.disk_model.specs.Moments.{LeavesOnly, weaker, joined}
 use Rattle.gate_slot.specs.Gate.{filled, IsClosed, SameButGate, IsFilling}
+use Rattle.gate_slot.specs.Passing.{counted-add}
 use Rattle.image_plan.specs.declared.superblock.Super.{Super}
-use Rattle.heap_shell.specs.Format.{AreZero, SameOutside, IsFormatting}
+use Rattle.heap_shell.specs.Format.{AreZero, SameOutside, IsFormatting, zero_writes, format_calls}
 use Rattle.heap_shell.specs.Image.{IsLegal}
 use Rattle.heap_shell.specs.Log.{HoldsBatches}
 use Rattle.heap_shell.specs.Machine.{start}
@@ -98,8 +102,8 @@ filling s old seen d c large good zero fill = elim (cases_eq (get_or c 0 0) 1) [
 
 module _ {D : Type 0} (moment : D → ℕ) (left_since : D → ℕ → List ℕ → Type 0) where
   -- two runs, of which each leaves what has P
-  pub then : (old mid new : D) (P : List ℕ → Type 0) → LeavesOnly moment left_since old mid P → LeavesOnly moment left_since mid new P → LeavesOnly moment left_since old new P
-  then old mid new P first second = weaker moment left_since old new (λ c. P c ⊎ P c) P (joined moment left_since old mid new P P first second) (λ c. ⊎_elim (λ p. p) (λ p. p))
+  pub run_then : (old mid new : D) (P : List ℕ → Type 0) → LeavesOnly moment left_since old mid P → LeavesOnly moment left_since mid new P → LeavesOnly moment left_since old new P
+  run_then old mid new P first second = weaker moment left_since old new (λ c. P c ⊎ P c) P (joined moment left_since old mid new P P first second) (λ c. ⊎_elim (λ p. p) (λ p. p))
 
   -- while the old gate is closed, or left alone
   pub closing_run : (disk new : D) (s : Super) (old : List ℕ) (may_leave : List ℕ → Type 0) → Only old may_leave → LeavesOnly moment left_since disk new (λ c. (d : List ℕ) × may_leave d × SameButGate 0 d c) → (IsClosed 0 old → LeavesOnly moment left_since disk new may_leave) → LeavesOnly moment left_since disk new (IsFormatting s old)
@@ -107,3 +111,12 @@ module _ {D : Type 0} (moment : D → ℕ) (left_since : D → ℕ → List ℕ 
     | inl is_open ↦ weaker moment left_since disk new _ (IsFormatting s old) run (λ c left. closing s old left.0 c is_open (only left.0 left.1) left.2)
     | inr shut ↦ weaker moment left_since disk new may_leave (IsFormatting s old) (alone shut) (λ c left. inr (inl (only c left)))
   ]
+
+-- the calls of a format: those that close the gate, the zeros, and the four behind them
+pub made_calls : (before closed zeroed now size : ℕ) (image : List ℕ) (result : Result (Unit {0}) DiskError) → closed ≡ counted (if slice_index image 0 == 1 then 2 else 0) before
+    → zeroed ≡ counted (zero_writes (size - 64)) closed → OnOk result (now ≡ counted 4 zeroed) → OnOk result (now ≡ counted (format_calls size image) before)
+made_calls before closed zeroed now size image result first second last =
+    let gate : ℕ = if slice_index image 0 == 1 then 2 else 0 in
+    let both : zeroed ≡ counted (gate + zero_writes (size - 64)) before = second ∙ ap (counted (zero_writes (size - 64))) first ∙ counted-add (zero_writes (size - 64)) gate before in
+    let all = λ (is : now ≡ counted 4 zeroed). is ∙ ap (counted 4) both ∙ counted-add 4 (gate + zero_writes (size - 64)) before in
+    on_ok_weaker result all last

@@ -1,5 +1,5 @@
 -- How a play tells what a run promises.
-use Rattle.std.proofs.Common.{◌≡◌, ◌≢◌, ◌⊎◌, inl, inr, ⊎_elim, ℕ, ◌+◌, ◌<◌, ◌≤◌, zero, suc, Bool, List, [], ◌∷◌, ◌++◌, length, take, Option, Some, None, Result, Ok, Err, refl, sym, ap, ◌∙◌, subst, arith, append_assoc}
+use Rattle.std.proofs.Common.{◌≡◌, ◌≢◌, ◌⊎◌, inl, inr, ⊎_elim, ℕ, ◌+◌, ◌≤◌, min, zero, suc, Bool, List, [], ◌∷◌, ◌++◌, length, take, Option, Some, None, Result, Ok, Err, refl, sym, ap, ◌∙◌, subst, arith, append_assoc}
 use Rattle.std.specs.Prelude.{IsTrue, IfErr, if◌then◌else◌}
 use Rattle.std.specs.List.{AllByRecursion}
 use Rattle.std.proofs.lemmas.Bool.{lt-ltb}
@@ -14,7 +14,7 @@ use Rattle.graph_model.specs.declared.reply.Reply.TheVariants.{Refused}
 use Rattle.graph_model.specs.Graph.{Graph, new_graph}
 use Rattle.graph_model.specs.SlowHeap.{IsSingleSession}
 use Rattle.graph_model.specs.Transaction.{Transaction, serial, serial_replies}
-use Rattle.graph_model.specs.History.{account, sealed, commits, acknowledged}
+use Rattle.graph_model.specs.History.{sealed, commits, acknowledged}
 use Rattle.heap_shell.specs.declared.heap.Heap.{Heap}
 use Rattle.image_plan.specs.declared.superblock.Super.{Super}
 use Rattle.heap_shell.specs.declared.play.Ended.{Ended}
@@ -30,10 +30,10 @@ use Rattle.heap_shell.specs.CoreLawsGraph.{idle_graph}
 use Rattle.heap_shell.specs.CoreLawsPlay.{ready_valid, ready_behind, ready_front, makes_run, grows}
 use Rattle.heap_shell.specs.CoreLawsReplies.{answers_fresh, run_answers, replies_law}
 use Rattle.heap_shell.specs.CoreLawsRun.{IsIdle, reached_agrees}
-use Rattle.heap_shell.specs.CoreReplies.{call_replies_of, AnswersSerially}
-use Rattle.heap_shell.specs.CoreRuns.{after_events, total_calls, StopsAt}
+use Rattle.heap_shell.specs.CoreReplies.{call_replies_of}
+use Rattle.heap_shell.specs.CoreRuns.{after_events, total_calls}
 use Rattle.heap_shell.specs.CoreValid.{IsValid, IsReached}
-use Rattle.heap_shell.specs.Headline.{made_core, graph_text, recovered_text, recovered_line, output, IsWhole, IsCutBy, HasMade, StopsLast, IsExact, IsEndOfPlay, IsPlayed}
+use Rattle.heap_shell.specs.Headline.{made_core, graph_text, recovered_text, recovered_line, IsWhole, IsCutBy, HasMade, StopsLast, IsExact, IsEndOfPlay, IsPlayed}
 use Rattle.heap_shell.specs.Playable.{IsPlayable}
 use Rattle.heap_shell.specs.Output.{WroteText, HasGraph, Recovers, status_after}
 use Rattle.heap_shell.specs.Play.{AreReady, MakesAll, MakesShort, Makes, Ends, Plays, Wrote, lines_text, WroteFront, WroteLines}
@@ -140,12 +140,12 @@ module _ {D : Type 0} {g : Ghosts D} (s : Super) (events : List Event) (playable
       inr (some.0, record { before = short.before; event = short.event; parts = short.parts; cut = short.cut; reached = short.reached }))
       makes
 
-  module _ (each : (List ℕ → Type 0) → Type 0) (may_leave : List ℕ → Type 0) (unharmed : Type 0) (moments : each (HasCommits core)) where
+  module _ (each : (List ℕ → Type 0) → Type 0) (may_leave : List ℕ → Type 0) (unharmed : Type 0) (passed : ℕ → Type 0) (moments : each (HasCommits core)) where
     -- The play ended before the graph was to be written.
     pub ends_early : (stop : Option ℕ) (by : Status) → IsEndOfPlay by → (by ≡ status.Done → ⊥)
         → (IsTrue told → WroteFront before (lines_text core.history) after × WroteLines before core.history after) → (IsTrue told → by ≡ status.DiskFault → after ≡ before ++ lines_text core.history)
         → (unharmed → IsExact stop made core) → ((image : List ℕ) → may_leave image → KeepsCommits core image)
-        → IsPlayed stop events by each may_leave unharmed told before after
+        → IsPlayed stop events by each may_leave unharmed passed told before after
     ends_early stop by is_end not_done part out place left = record {
       made = made;
       behind = plays.behind;
@@ -156,6 +156,7 @@ module _ {D : Type 0} {g : Ghosts D} (s : Super) (events : List Event) (playable
       end = is_end;
       done = λ is. absurd (not_done is);
       exact = place;
+      calls = λ u is. absurd (not_done is);
       moments = moments;
       kept = left;
       replies = replies;
@@ -173,8 +174,8 @@ module _ {D : Type 0} {g : Ghosts D} (s : Super) (events : List Event) (playable
     pub ends_whole : (written : Result (Unit {0}) Status) (faults faults' : ℕ) (after' : List ℕ) → plays.behind ≡ [] → IsWhole made core → (IsTrue told → after ≡ before ++ lines_text core.history)
         → IfErr written (IsOutputError faults faults') → (IsTrue told → WroteText written after (graph_text (serial core.g0 (sealed core.history))) after')
         → ((image : List ℕ) → may_leave image → KeepsCommits core image)
-        → IsPlayed None events (status_after written) each may_leave unharmed told before after'
-    ends_whole output_result faults faults' after' none reached out fails wrote left =
+        → passed (total_calls made_core made) → IsPlayed None events (status_after written) each may_leave unharmed passed told before after'
+    ends_whole output_result faults faults' after' none reached out fails wrote left calls =
         let P : List ℕ → Type 0 = λ text. WroteText output_result after text after' in
         let full = λ (t : IsTrue told). subst P all_graph (wrote t) in
         let text = graph_text (serial new_graph (take all (commits core.history))) in
@@ -188,6 +189,7 @@ module _ {D : Type 0} {g : Ghosts D} (s : Super) (events : List Event) (playable
           end = written_end faults faults' output_result fails;
           done = λ is. (none, reached);
           exact = λ u. reached;
+          calls = λ u is. calls;
           moments = moments;
           kept = left;
           replies = replies;
@@ -207,8 +209,8 @@ module _ {D : Type 0} {g : Ghosts D} (s : Super) (events : List Event) (playable
     -- The heap was opened again, and what came back was to be written.
     pub ends_recovered : (n : ℕ) (by : Status) (after' : List ℕ) → HasMade (Some n) made plays.behind core → (unharmed → IsExact (Some n) made core)
         → (IsTrue told → after ≡ before ++ lines_text core.history) → Recovers core by may_leave told after after'
-        → IsPlayed (Some n) events by each may_leave unharmed told before after'
-    ends_recovered n by after' has place out recovers =
+        → (unharmed → passed (min n (total_calls made_core made))) → IsPlayed (Some n) events by each may_leave unharmed passed told before after'
+    ends_recovered n by after' has place out recovers calls =
         let text = λ (x : Graph). recovered_line recovers.count ++ graph_text (serial x (take recovers.count (commits core.history))) in
         let front = λ (t : IsTrue told). subst (λ (x : Graph). WroteFront after (text x) after') g0 (recovers.written t) in
         let full = λ (t : IsTrue told) (is : by ≡ status.Done). subst (λ (x : Graph). after' ≡ after ++ text x) g0 (recovers.whole t is) in
@@ -222,6 +224,7 @@ module _ {D : Type 0} {g : Ghosts D} (s : Super) (events : List Event) (playable
           end = recovers.end;
           done = λ is. has;
           exact = place;
+          calls = λ u is. calls u;
           moments = moments;
           kept = recovers.kept;
           replies = replies;
@@ -255,38 +258,54 @@ module _ {D : Type 0} {g : Ghosts D} (s : Super) (events : List Event) (playable
           (λ (is : reply ≡ Refused Stopped). disk_rose _ _ _ _ (reply_device reply) device.Stopped short.cause (ap reply_device is))
           short.cut.told
 
-  -- Where it does so up to its limit, it stops in the event that has more calls than are left.
-  pub exact_some : (n : ℕ) → g.passed old.disk ≡ 0 → g.stops old.disk ≡ 0 → g.passed new.disk ≤ n → (g.stops new.disk ≢ 0 → g.passed new.disk ≡ n)
-      → (Rose (g.faults old.disk) (g.faults new.disk) → ⊥) → IsExact (Some n) made core
-  exact_some n none still within at unharmed = ⊎_elim
-      (λ (all : MakesAll made_core made core old new).
-      let passes : g.passed new.disk ≡ total_calls made_core made =
-      all.passes ∙ ap (counted (total_calls made_core made)) none ∙ counted-sum (total_calls made_core made) 0 (omega (arith, few)) ∙ omega arith in
-      inl (all.reached, omega (arith, passes)))
-      (λ (some : (reply : Reply) × MakesShort made_core made core old new reply). inr (stopped_last some.0 some.1))
-      makes
-    where
-      is_stopped : (reply : Reply) → MakesShort made_core made core old new reply → reply ≡ Refused Stopped
-      is_stopped reply short = ⊎_elim (λ (is : reply ≡ Refused DiskFault). absurd (unharmed (short.cause.failed (ap reply_device is)))) (λ (is : reply ≡ Refused Stopped). is) short.cut.told
+  -- The disk does what it is asked up to a limit.
+  module _ (n : ℕ) (none : g.passed old.disk ≡ 0) (still : g.stops old.disk ≡ 0) (within : g.passed new.disk ≤ n) (at : g.stops new.disk ≢ 0 → g.passed new.disk ≡ n) (unharmed : Rose (g.faults old.disk) (g.faults new.disk) → ⊥) where
+    passes_all : MakesAll made_core made core old new → g.passed new.disk ≡ total_calls made_core made
+    passes_all all =
+        all.passes ∙ ap (counted (total_calls made_core made)) none ∙ counted-sum (total_calls made_core made) 0 (omega (arith, few)) ∙ omega arith
 
-      has_stopped : (reply : Reply) → MakesShort made_core made core old new reply → reply ≡ Refused Stopped → g.stops new.disk ≢ 0
-      has_stopped reply short is none_yet = elim (short.cause.stopped (ap reply_device is)) [ inl up ↦ omega arith | inr full ↦ omega arith ]
+    module _ (reply : Reply) (short : MakesShort made_core made core old new reply) where
+      is_stopped : reply ≡ Refused Stopped
+      is_stopped = ⊎_elim (λ (is : reply ≡ Refused DiskFault). absurd (unharmed (short.cause.failed (ap reply_device is)))) (λ (is : reply ≡ Refused Stopped). is) short.cut.told
 
-      stopped_last : (reply : Reply) → MakesShort made_core made core old new reply → StopsLast n made core
-      stopped_last reply short =
-          let is = is_stopped reply short in
-          let passes = short.passes is in
-          let total : total_calls made_core made ≡ total_calls made_core short.before + total_calls (after_events made_core short.before) (short.event ∷ []) =
-          ap (total_calls made_core) short.parts ∙ total_calls-append made_core short.before (short.event ∷ []) in
-          let here : n ≡ total_calls made_core short.before + passes.0 =
-          sym (at (has_stopped reply short is)) ∙ passes.2 ∙ ap (counted (total_calls made_core short.before + passes.0)) none
-          ∙ counted-sum (total_calls made_core short.before + passes.0) 0 (omega (arith, few, total, passes.1)) ∙ omega arith in
-          let below = passes.1 in
+      has_stopped : g.stops new.disk ≢ 0
+      has_stopped none_yet = elim (short.cause.stopped (ap reply_device is_stopped)) [ inl up ↦ omega arith | inr full ↦ omega arith ]
+
+      total : total_calls made_core made ≡ total_calls made_core short.before + total_calls (after_events made_core short.before) (short.event ∷ [])
+      total = ap (total_calls made_core) short.parts ∙ total_calls-append made_core short.before (short.event ∷ [])
+
+      here : n ≡ total_calls made_core short.before + (short.passes is_stopped).0
+      here =
+          let passes = short.passes is_stopped in
+          sym (at has_stopped) ∙ passes.2 ∙ ap (counted (total_calls made_core short.before + passes.0)) none
+          ∙ counted-sum (total_calls made_core short.before + passes.0) 0 (omega (arith, few, total, passes.1)) ∙ omega arith
+
+      stopped_last : StopsLast n made core
+      stopped_last =
+          let below = (short.passes is_stopped).1 in
+          let place = here in
           record {
             at = record { before = short.before; event = short.event; behind = []; parts = short.parts; made = omega arith; short = omega arith };
             last = refl;
-            reached = short.reached ∙ ap (λ (r : Reply). with_entry (after_events made_core short.before) short.event r) is;
+            reached = short.reached ∙ ap (λ (r : Reply). with_entry (after_events made_core short.before) short.event r) is_stopped;
           }
+
+      passes_few : g.passed new.disk ≡ min n (total_calls made_core made)
+      passes_few = omega (arith, at has_stopped, here, total, (short.passes is_stopped).1)
+
+    -- It stops in the event that has more calls than are left.
+    pub exact_some : IsExact (Some n) made core
+    exact_some = ⊎_elim
+        (λ (all : MakesAll made_core made core old new). inl (all.reached, omega (arith, passes_all all)))
+        (λ (some : (reply : Reply) × MakesShort made_core made core old new reply). inr (stopped_last some.0 some.1))
+        makes
+
+    -- It lets through the calls of all events, or as many as it was to.
+    pub passes_some : g.passed new.disk ≡ min n (total_calls made_core made)
+    passes_some = ⊎_elim
+        (λ (all : MakesAll made_core made core old new). omega (arith, passes_all all))
+        (λ (some : (reply : Reply) × MakesShort made_core made core old new reply). passes_few some.0 some.1)
+        makes
 
   -- A play that the disk's failing didn't end has made all events, or the disk has stopped.
   pub ends_made : (n : ℕ) {e : Ended} → result ≡ Ok e → (e ≡ ended.DiskFault → ⊥) → HasMade (Some n) made plays.behind core

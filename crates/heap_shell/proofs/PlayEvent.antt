@@ -1,23 +1,20 @@
 -- One event of a play.
-use Rattle.std.proofs.Common.{◌≡◌, ◌≢◌, ◌⊎◌, inl, inr, ⊎_elim, ℕ, ◌+◌, ◌<◌, Bool, List, [], ◌∷◌, ◌++◌, Option, Some, None, Result, Ok, Err, refl, sym, ap, ◌∙◌, subst, arith, append_assoc}
+use Rattle.std.proofs.Common.{◌≡◌, ◌≢◌, inl, inr, ⊎_elim, ℕ, ◌+◌, ◌<◌, Bool, List, [], ◌∷◌, ◌++◌, Option, Result, Ok, Err, refl, sym, ap, ◌∙◌, subst, arith, append_assoc}
 use Rattle.std.specs.Prelude.{IsTrue}
 use Rattle.std.proofs.lemmas.Grind.{flat_map-append}
 use Rattle.std.proofs.lemmas.List.{append-nil}
 use Rattle.counts.specs.Count.{counted}
 use Rattle.disk_model.specs.declared.disk.Disk.{Ghosts}
-use Rattle.disk_model.specs.declared.disk.DiskError.TheVariants as device
 use Rattle.disk_model.specs.Disk.{HasCause}
 use Rattle.disk_model.specs.Moments.{LeavesOnly, weaker}
 use Rattle.gate_slot.specs.Passing.{Passes}
 use Rattle.graph_model.specs.declared.event.Event.{Event}
 use Rattle.graph_model.specs.declared.event.Event.TheVariants.{Force}
 use Rattle.graph_model.specs.declared.reply.Entry.{Entry}
-use Rattle.graph_model.specs.declared.reply.Refusal.{Refusal}
 use Rattle.graph_model.specs.declared.reply.Refusal.TheVariants.{Failed, AlreadyActive, NotActive, NumbersSpent, BadHandle, Range, BadField, LogFull, DiskFault, Stopped}
 use Rattle.graph_model.specs.declared.reply.Reply.{Reply}
 use Rattle.graph_model.specs.declared.reply.Reply.TheVariants.{Begun, Done, Sealed, Durable, Refused}
 use Rattle.graph_model.specs.History.{account}
-use Rattle.graph_model.specs.Plain.{granted}
 use Rattle.graph_model.specs.PlainLaws.{IsSoundReply, granted_sound, sound_either}
 use Rattle.graph_model.specs.Text.{line}
 use Rattle.heap_shell.specs.declared.heap.Heap.{Heap}
@@ -29,14 +26,12 @@ use Rattle.heap_shell.specs.declared.status.Status.{Status}
 use Rattle.heap_shell.specs.Causes.{reply_device}
 use Rattle.heap_shell.specs.Core.{Core, next_number, answer, with_entry, after, IsCutShort, IsStep, force_calls, calls_if, calls}
 use Rattle.heap_shell.specs.CoreCrash.{KeepsCommits, HasCommits}
-use Rattle.heap_shell.specs.CoreLawsPlay.{ready_valid, has_commits_on, keeps_has}
+use Rattle.heap_shell.specs.CoreLawsPlay.{has_commits_on, keeps_has}
 use Rattle.heap_shell.specs.CoreLawsRun.{step_history, valid_step}
 use Rattle.heap_shell.specs.CoreLawsStep.{core_refusal-HasNoFault}
-use Rattle.heap_shell.specs.CoreRuns.{after_events, total_calls}
-use Rattle.heap_shell.specs.CoreValid.{IsValid, IsReached}
+use Rattle.heap_shell.specs.CoreValid.{IsReached}
 use Rattle.heap_shell.specs.Means.{IsHeap}
-use Rattle.heap_shell.specs.Output.{WroteText}
-use Rattle.heap_shell.specs.Play.{AreReady, MakesAll, MakesShort, Makes, Ends, Plays, Wrote, ended_by, lines_text, WroteFront, WroteLines}
+use Rattle.heap_shell.specs.Play.{AreReady, MakesAll, MakesShort, Makes, Ends, Plays, ended_by, lines_text, WroteFront, WroteLines}
 use Rattle.heap_shell.proofs.MeansLeft.{heap_keeps}
 
 -- a reply that tells no fault of the disk

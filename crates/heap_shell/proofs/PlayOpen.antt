@@ -1,17 +1,14 @@
 -- A play opens the heap that was made for it.
-use Rattle.std.proofs.Common.{◌≡◌, ◌⊎◌, inl, inr, ⊎_elim, ℕ, ◌≤◌, Bool, List, [], ◌++◌, Option, Some, None, Result, refl, sym, ◌∙◌, subst, arith}
-use Rattle.std.specs.Prelude.{IsTrue}
+use Rattle.std.proofs.Common.{◌≡◌, ◌⊎◌, inl, ⊎_elim, ℕ, Bool, List, [], ◌++◌, Option, Some, None, Result, refl, sym, ◌∙◌, subst, arith}
 use Rattle.std.proofs.lemmas.List.{append-nil}
 use Rattle.disk_model.specs.declared.disk.Disk.{Ghosts}
 use Rattle.disk_model.specs.Disk.{Only}
 use Rattle.disk_model.specs.Moments.{LeavesOnly, joined, weaker}
 use Rattle.graph_model.specs.declared.event.Event.{Event}
-use Rattle.graph_model.specs.Plain.{no_number}
 use Rattle.heap_shell.specs.declared.heap.Heap.{Heap}
 use Rattle.heap_shell.specs.declared.play.Ended.{Ended}
 use Rattle.heap_shell.specs.declared.recovery.OpenError.{OpenError}
 use Rattle.heap_shell.specs.declared.status.Status.{Status}
-use Rattle.heap_shell.specs.Core.{Core}
 use Rattle.heap_shell.specs.CoreCrash.{KeepsCommits, HasCommits}
 use Rattle.heap_shell.specs.CoreLawsCrash.{crash_law}
 use Rattle.heap_shell.specs.CoreLawsPlay.{has_commits_on, keeps_has}
@@ -51,9 +48,9 @@ nothing_exact None = refl
 nothing_exact (Some n) = inl (refl, omega arith)
 
 -- The heap was not opened: no event was made, and nothing was written.
-pub ends_unopened : (stop : Option ℕ) (events : List Event) (e : OpenError) (by : Status) (each : (List ℕ → Type 0) → Type 0) (may_leave : List ℕ → Type 0) (unharmed : Type 0) (told : Bool) (before : List ℕ) → by ≡ open_status e → IsFromOutside e
-    → each (HasCommits made_core) → ((image : List ℕ) → may_leave image → KeepsCommits made_core image) → IsPlayed stop events by each may_leave unharmed told before before
-ends_unopened stop events e by each may_leave unharmed told before is outside moments left = record {
+pub ends_unopened : (stop : Option ℕ) (events : List Event) (e : OpenError) (by : Status) (each : (List ℕ → Type 0) → Type 0) (may_leave : List ℕ → Type 0) (unharmed : Type 0) (passed : ℕ → Type 0) (told : Bool) (before : List ℕ) → by ≡ open_status e → IsFromOutside e
+    → each (HasCommits made_core) → ((image : List ℕ) → may_leave image → KeepsCommits made_core image) → IsPlayed stop events by each may_leave unharmed passed told before before
+ends_unopened stop events e by each may_leave unharmed passed told before is outside moments left = record {
   made = [];
   behind = events;
   parts = refl;
@@ -63,6 +60,7 @@ ends_unopened stop events e by each may_leave unharmed told before is outside mo
   end = subst IsEndOfPlay (sym is) (open_end e outside);
   done = λ done. absurd (open_not_done e (sym is ∙ done));
   exact = λ u. nothing_exact stop;
+  calls = λ u done. absurd (open_not_done e (sym is ∙ done));
   moments = moments;
   kept = left;
   replies = refl;

@@ -1,5 +1,5 @@
 -- How the end of a stopped run comes out: the heap is opened again, and what came back is printed.
-use Rattle.std.proofs.Common.{◌≡◌, ℕ, ◌-◌, List, [], ◌++◌, take, Bool, Result, Ok, Err, refl, sym, ap, ◌∙◌, subst}
+use Rattle.std.proofs.Common.{◌≡◌, ℕ, List, [], ◌++◌, take, Bool, Result, refl, sym, ap, ◌∙◌, subst}
 use Rattle.std.specs.Prelude.{drop, IsTrue, IfErr}
 use Rattle.std.specs.List.{AllByRecursion}
 use Rattle.std.proofs.lemmas.List.{append-nil}

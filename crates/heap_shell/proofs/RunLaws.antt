@@ -1,8 +1,10 @@
 -- What a run promises, from what its parts promise.
-use Rattle.std.proofs.Common.{◌≡◌, ◌⊎◌, inl, inr, ℕ, ◌+◌, ◌≤◌, Bool, List, [], Option, refl}
+use Rattle.std.proofs.Common.{◌≡◌, ◌⊎◌, inl, inr, ℕ, ◌+◌, ◌≤◌, Bool, List, [], Option, refl, ap, ◌∙◌}
+use Rattle.counts.specs.Count.{counted}
 use Rattle.disk_model.specs.declared.disk.Disk.{Ghosts}
 use Rattle.disk_model.specs.Disk.{Only}
 use Rattle.disk_model.specs.Moments.{LeavesOnly}
+use Rattle.gate_slot.specs.Passing.{counted-add}
 use Rattle.graph_model.specs.declared.event.Event.{Event}
 use Rattle.heap_shell.specs.declared.format.FormatError.{FormatError}
 use Rattle.heap_shell.specs.declared.format.FormatError.TheVariants as format
@@ -11,7 +13,8 @@ use Rattle.heap_shell.specs.declared.status.Status.{Status}
 use Rattle.heap_shell.specs.declared.status.Status.TheVariants as status
 use Rattle.heap_shell.specs.Causes.{DiskRose, IsInputError, IsPlayStatus}
 use Rattle.heap_shell.specs.CoreCrash.{HasCommits}
-use Rattle.heap_shell.specs.Headline.{IsEndOfPlay, IsSound, SinceMade, IsPlayed, IsUnmade}
+use Rattle.heap_shell.specs.CoreRuns.{total_calls}
+use Rattle.heap_shell.specs.Headline.{made_core, let_through, IsEndOfPlay, IsSound, SinceMade, IsPlayed, IsUnmade}
 use Rattle.heap_shell.specs.Format.{IsFormatting}
 use Rattle.heap_shell.specs.Image.{IsLegal}
 use Rattle.heap_shell.specs.StatusOf.{format_status}
@@ -36,9 +39,9 @@ format_unmade (format.TooSmall size need) = tt
 format_unmade (format.Disk e) = tt
 
 -- a play as a part of a longer run
-pub played_within : (stop : Option ℕ) (events : List Event) (result : Status) (each each' : (List ℕ → Type 0) → Type 0) (may_leave : List ℕ → Type 0) (unharmed unharmed' : Type 0) (told : Bool) (before after : List ℕ)
-    → ((P : List ℕ → Type 0) → each P → each' P) → (unharmed' → unharmed) → IsPlayed stop events result each may_leave unharmed told before after → IsPlayed stop events result each' may_leave unharmed' told before after
-played_within stop events result each each' may_leave unharmed unharmed' told before after wider same played = record {
+pub played_within : (stop : Option ℕ) (events : List Event) (result : Status) (each each' : (List ℕ → Type 0) → Type 0) (may_leave : List ℕ → Type 0) (unharmed unharmed' : Type 0) (passed passed' : ℕ → Type 0) (told : Bool) (before after : List ℕ)
+    → ((P : List ℕ → Type 0) → each P → each' P) → (unharmed' → unharmed) → ((n : ℕ) → passed n → passed' n) → IsPlayed stop events result each may_leave unharmed passed told before after → IsPlayed stop events result each' may_leave unharmed' passed' told before after
+played_within stop events result each each' may_leave unharmed unharmed' passed passed' told before after wider same more played = record {
   made = played.made;
   behind = played.behind;
   parts = played.parts;
@@ -48,6 +51,7 @@ played_within stop events result each each' may_leave unharmed unharmed' told be
   end = played.end;
   done = played.done;
   exact = λ u. played.exact (same u);
+  calls = λ u is. more (let_through stop (total_calls made_core played.made)) (played.calls (same u) is);
   moments = wider (HasCommits played.core) played.moments;
   kept = played.kept;
   replies = played.replies;
@@ -62,15 +66,16 @@ played_within stop events result each each' may_leave unharmed unharmed' told be
 }
 
 -- a play on the heap that was made, as a part of the run that made it
-pub made_played : {D : Type 0} (g : Ghosts D) (stop : Option ℕ) (events : List Event) (result : Status) (s : Super) (disk made final : D) (may_leave : List ℕ → Type 0) (told : Bool) (before after : List ℕ)
+pub made_played : {D : Type 0} (g : Ghosts D) (stop : Option ℕ) (events : List Event) (result : Status) (s : Super) (disk made final : D) (calls : ℕ) (may_leave : List ℕ → Type 0) (told : Bool) (before after : List ℕ)
     → LeavesOnly g.moment g.left_since disk made (IsFormatting s (g.bytes disk)) → IsLegal s [] (g.bytes made) → Only (g.bytes made) (g.may_leave made)
-    → g.faults disk + g.stops disk ≤ g.faults made + g.stops made → g.faults made + g.stops made ≤ g.faults final + g.stops final
-    → IsPlayed stop events result (λ P. LeavesOnly g.moment g.left_since made final P) may_leave (DiskRose (g.faults made) (g.stops made) (g.faults final) (g.stops final) → ⊥) told before after
-    → IsPlayed stop events result (λ P. SinceMade g.moment g.left_since g.bytes g.may_leave s disk final P) may_leave (DiskRose (g.faults disk) (g.stops disk) (g.faults final) (g.stops final) → ⊥) told before after
-made_played g stop events result s disk made final may_leave told before after making empty only first last played =
-    played_within stop events result _ _ may_leave _ _ told before after
+    → g.passed made ≡ counted calls (g.passed disk) → g.faults disk + g.stops disk ≤ g.faults made + g.stops made → g.faults made + g.stops made ≤ g.faults final + g.stops final
+    → IsPlayed stop events result (λ P. LeavesOnly g.moment g.left_since made final P) may_leave (DiskRose (g.faults made) (g.stops made) (g.faults final) (g.stops final) → ⊥) (λ n. g.passed final ≡ counted n (g.passed made)) told before after
+    → IsPlayed stop events result (λ P. SinceMade g.moment g.left_since g.bytes g.may_leave s disk final P) may_leave (DiskRose (g.faults disk) (g.stops disk) (g.faults final) (g.stops final) → ⊥) (λ n. g.passed final ≡ counted (calls + n) (g.passed disk)) told before after
+made_played g stop events result s disk made final calls may_leave told before after making empty only passed first last played =
+    played_within stop events result _ _ may_leave _ _ _ _ told before after
     (λ P since. record { made = made; making = making; empty = empty; only = only; since = since })
-    (λ unharmed rose. unharmed (rose_since _ _ _ first last rose)) played
+    (λ unharmed rose. unharmed (rose_since _ _ _ first last rose))
+    (λ n is. is ∙ ap (counted n) passed ∙ counted-add n calls (g.passed disk)) played
 
 -- a play says nothing against the image
 pub end_sound : (result : Status) → IsEndOfPlay result → IsSound result

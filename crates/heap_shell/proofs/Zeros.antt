@@ -1,10 +1,12 @@
 -- What writing zeros piece by piece leaves of an image.
-use Rattle.std.proofs.Common.{◌≡◌, inl, inr, ℕ, ◌+◌, ◌-◌, ◌≤◌, List, length, get_or, replicate, ◌∙◌, arith}
+use Rattle.std.proofs.Common.{◌≡◌, inl, inr, ℕ, ◌+◌, ◌-◌, ◌<◌, ◌≤◌, min, List, length, get_or, replicate, ap, ◌∙◌, arith}
 use Rattle.std.proofs.lemmas.Bool.{cases_lt}
 use Rattle.std.proofs.lemmas.List.{length-replicate, get_or-replicate, get_or_past}
+use Rattle.counts.specs.Count.{raised, counted}
 use Rattle.disk_model.specs.Disk.{overwrite, Torn, Follows}
 use Rattle.gate_slot.specs.Images.{torn_outside, torn_overwrite, overwrite_inside}
-use Rattle.heap_shell.specs.Format.{SameOutside, AreZero}
+use Rattle.gate_slot.specs.Passing.{counted-add}
+use Rattle.heap_shell.specs.Format.{SameOutside, AreZero, zero_writes}
 
 -- what was not touched at all
 pub same : (from end : ℕ) (image : List ℕ) → SameOutside from end image image
@@ -51,3 +53,16 @@ zero_at n k = elim (cases_lt k n) [
   | inl inside ↦ get_or-replicate n k 0 0 inside
   | inr past ↦ get_or_past (replicate n 0) k 0 (omega (arith, length-replicate {A = ℕ} n 0))
 ]
+
+-- a piece more is one write more
+piece_more : (left n : ℕ) → 0 < left → n ≡ min left 65536 → 1 + zero_writes (left - n) ≡ zero_writes left
+piece_more left n some is = omega arith
+
+-- what is left to be counted behind a piece more
+pub passed_on : (at n end mid now : ℕ) → at < end → n ≡ min (end - at) 65536 → now ≡ raised mid → counted (zero_writes (end - (at + n))) now ≡ counted (zero_writes (end - at)) mid
+passed_on at n end mid now some is more =
+    let rest : end - (at + n) ≡ (end - at) - n = omega arith in
+    ap (λ (k : ℕ). counted (zero_writes k) now) rest
+    ∙ ap (counted (zero_writes ((end - at) - n))) more
+    ∙ counted-add (zero_writes ((end - at) - n)) 1 mid
+    ∙ ap (λ (k : ℕ). counted k mid) (piece_more (end - at) n (omega arith) is)

@@ -1,5 +1,5 @@
 -- What is made of a disk's image while an empty heap is written over it.
-use Rattle.std.specs.Prelude.{◌≡◌, ◌⊎◌, ℕ, ◌<◌, ◌≤◌, List, [], length, slice_index}
+use Rattle.std.specs.Prelude.{◌≡◌, ◌⊎◌, ℕ, ◌+◌, ◌-◌, ◌/◌, ◌<◌, ◌≤◌, ◌==◌, List, [], length, slice_index, if◌then◌else◌}
 use Rattle.gate_slot.specs.Gate.{IsClosed}
 use Rattle.image_plan.specs.declared.superblock.Super.{Super}
 use Rattle.heap_shell.specs.Image.{IsLegal}
@@ -17,3 +17,11 @@ AreZero from end image = (i : ℕ) → from ≤ i → i < end → slice_index im
 -- While an empty heap is made over an old image, a crash leaves no heap, the old image, or the new empty heap.
 abbrev pub IsFormatting : Super → List ℕ → List ℕ → Type 0
 IsFormatting s old image = IsClosed 0 image ⊎ (image ≡ old) ⊎ IsLegal s [] image
+
+-- the writes of so many zeros, in pieces of 65,536 bytes
+abbrev pub zero_writes : ℕ → ℕ
+zero_writes bytes = (bytes + 65535) / 65536
+
+-- the writes and syncs of a format: two to close an open gate, the zeros behind the superblock, and four to fill and open it
+abbrev pub format_calls : ℕ → List ℕ → ℕ
+format_calls size image = (if slice_index image 0 == 1 then 2 else 0) + zero_writes (size - 64) + 4

@@ -1,5 +1,5 @@
 -- What a run of the program promises.
-use Rattle.std.specs.Prelude.{◌≡◌, ◌⊎◌, ℕ, ◌≤◌, List, [], ◌∷◌, ◌++◌, length, take, codes, Bool, IsTrue, Option, None, Some}
+use Rattle.std.specs.Prelude.{◌≡◌, ◌⊎◌, ℕ, ◌≤◌, min, List, [], ◌∷◌, ◌++◌, length, take, codes, Bool, IsTrue, Option, None, Some}
 use Rattle.std.specs.Fmt.{decimal}
 use Rattle.counts.specs.Count.{raised}
 use Rattle.disk_model.specs.Disk.{Only}
@@ -56,6 +56,11 @@ recovered_text (Some n) k = recovered_line k
 abbrev pub output : Option ℕ → Core → ℕ → List ℕ
 output stop c k = lines_text c.history ++ (recovered_text stop k ++ graph_text (serial new_graph (take k (commits c.history))))
 
+-- how many of these calls a disk lets through that stops after some, or never
+abbrev pub let_through : Option ℕ → ℕ → ℕ
+let_through None calls = calls
+let_through (Some n) calls = min n calls
+
 -- The disk did what it was asked in all of these events.
 abbrev pub IsWhole : List Event → Core → Type 0
 IsWhole made c = c ≡ after_events made_core made
@@ -104,7 +109,7 @@ pub record SinceMade {D : Type 0} (moment : D → ℕ) (left_since : D → ℕ �
 -- A script was played on a new heap. Each crash left first commits, also one at the end, which has all that was
 -- acknowledged; what was printed is the history of the events that were made and the graph of its first commits; and the
 -- calls of each commit had the replies that they have when the commits run one after another.
-pub record IsPlayed (stop : Option ℕ) (events : List Event) (result : Status) (each : (List ℕ → Type 0) → Type 0) (may_leave : List ℕ → Type 0) (unharmed : Type 0) (told : Bool) (before after : List ℕ) : Type 0 where
+pub record IsPlayed (stop : Option ℕ) (events : List Event) (result : Status) (each : (List ℕ → Type 0) → Type 0) (may_leave : List ℕ → Type 0) (unharmed : Type 0) (passed : ℕ → Type 0) (told : Bool) (before after : List ℕ) : Type 0 where
   -- the events that were made, and the history that they gave
   pub made : List Event
   pub behind : List Event
@@ -115,6 +120,7 @@ pub record IsPlayed (stop : Option ℕ) (events : List Event) (result : Status) 
   pub end : IsEndOfPlay result
   pub done : result ≡ status.Done → HasMade stop made behind core
   pub exact : unharmed → IsExact stop made core
+  pub calls : unharmed → result ≡ status.Done → passed (let_through stop (total_calls made_core made))
   -- what crashes leave
   pub moments : each (HasCommits core)
   pub kept : (image : List ℕ) → may_leave image → KeepsCommits core image
@@ -179,6 +185,6 @@ pub record IsNotMade (result : Status) (making : Type 0) (told : Bool) (before a
   pub moments : making
 
 -- Either no heap was made, or a script was played on a new one.
-abbrev pub Runs : Play → (List Line → Type 0) → Status → Type 0 → ((List ℕ → Type 0) → Type 0) → (List ℕ → Type 0) → Type 0 → Bool → List ℕ → List ℕ → Type 0
-Runs play is_script result making each may_leave unharmed told before after =
-    IsNotMade result making told before after ⊎ ((lines : List Line) × is_script lines × IsPlayed play.stop (events lines) result each may_leave unharmed told before after)
+abbrev pub Runs : Play → (List Line → Type 0) → Status → Type 0 → ((List ℕ → Type 0) → Type 0) → (List ℕ → Type 0) → Type 0 → (ℕ → Type 0) → Bool → List ℕ → List ℕ → Type 0
+Runs play is_script result making each may_leave unharmed passed told before after =
+    IsNotMade result making told before after ⊎ ((lines : List Line) × is_script lines × IsPlayed play.stop (events lines) result each may_leave unharmed passed told before after)

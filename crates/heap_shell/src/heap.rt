@@ -61,7 +61,7 @@ impl<D: Disk> Heap<D> {
     /// Opens the heap on the disk.
     pub fn open(alloc: Global, mut disk: D) -> Result<Heap<D>, (OpenError, D)>
         ensures extent { D.extent (opened_disk result) ≡ D.extent disk }
-        ensures limit { D.limit (opened_disk result) ≡ D.limit disk }
+        ensures origin { D.origin (opened_disk result) ≡ D.origin disk }
         ensures cause { HasCause (D.faults disk) (D.faults (opened_disk result)) (D.stops disk) (D.stops (opened_disk result)) (opened_device result) }
         // An opening only reads.
         ensures no_first_stop { D.stops disk ≡ 0 → D.stops (opened_disk result) ≡ 0 }
@@ -109,7 +109,7 @@ impl<D: Disk> Heap<D> {
     /// Makes one step, and answers the event. Want of memory changes nothing.
     pub fn step(&mut self, event: Event) -> Result<Reply, AllocError>
         ensures extent { D.extent self.new.disk ≡ D.extent self.old.disk }
-        ensures limit { D.limit self.new.disk ≡ D.limit self.old.disk }
+        ensures origin { D.origin self.new.disk ≡ D.origin self.old.disk }
         ensures cause { HasCause (D.faults self.old.disk) (D.faults self.new.disk) (D.stops self.old.disk) (D.stops self.new.disk) (step_device result) }
 
         // Each event is a step of the core that the heap is.
@@ -130,7 +130,7 @@ impl<D: Disk> Heap<D> {
 
     fn reply_to(&mut self, event: Event) -> Result<Reply, AllocError>
         ensures extent { D.extent self.new.disk ≡ D.extent self.old.disk }
-        ensures limit { D.limit self.new.disk ≡ D.limit self.old.disk }
+        ensures origin { D.origin self.new.disk ≡ D.origin self.old.disk }
         ensures cause { HasCause (D.faults self.old.disk) (D.faults self.new.disk) (D.stops self.old.disk) (D.stops self.new.disk) (step_device result) }
         ensures history { self.new.history ≡ self.old.history }
         ensures core { IsTrue D.tells → (s : Super) (c : Core) → IsHeap s c self.old → IsReached c → IsSingleSession event → (event ≡ Force → IsIdle c) → IfOk result (λ reply. Steps s c event reply self.new.working self.new.failed (D.bytes self.new.disk) (D.may_leave self.new.disk)) }
@@ -148,7 +148,7 @@ impl<D: Disk> Heap<D> {
 
     fn answer(&mut self, event: Event) -> Result<Reply, AllocError>
         ensures extent { D.extent self.new.disk ≡ D.extent self.old.disk }
-        ensures limit { D.limit self.new.disk ≡ D.limit self.old.disk }
+        ensures origin { D.origin self.new.disk ≡ D.origin self.old.disk }
         ensures cause { HasCause (D.faults self.old.disk) (D.faults self.new.disk) (D.stops self.old.disk) (D.stops self.new.disk) (step_device result) }
         ensures core { IsTrue D.tells → (s : Super) (c : Core) → IsHeap s c self.old → self.old.failed ≡ None → IsReached c → IsSingleSession event → (event ≡ Force → IsIdle c) → IfOk result (λ reply. Steps s c event reply self.new.working self.new.failed (D.bytes self.new.disk) (D.may_leave self.new.disk)) }
         ensures kept { (s : Super) (c : Core) → IsHeap s c self.old → OnErr result (IsHeap s c self.new) }
@@ -169,7 +169,7 @@ impl<D: Disk> Heap<D> {
 
     fn force(&mut self) -> Result<Reply, AllocError>
         ensures extent { D.extent self.new.disk ≡ D.extent self.old.disk }
-        ensures limit { D.limit self.new.disk ≡ D.limit self.old.disk }
+        ensures origin { D.origin self.new.disk ≡ D.origin self.old.disk }
         ensures cause { HasCause (D.faults self.old.disk) (D.faults self.new.disk) (D.stops self.old.disk) (D.stops self.new.disk) (step_device result) }
         ensures core { IsTrue D.tells → (s : Super) (c : Core) → IsHeap s c self.old → self.old.failed ≡ None → IsReached c → IsIdle c → IfOk result (λ reply. Steps s c Force reply self.new.working self.new.failed (D.bytes self.new.disk) (D.may_leave self.new.disk)) }
         ensures kept { (s : Super) (c : Core) → IsHeap s c self.old → OnErr result (IsHeap s c self.new) }

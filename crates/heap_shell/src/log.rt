@@ -98,7 +98,7 @@ impl Log {
         ensures passed { IsTrue D.tells → D.passed disk.new ≡ D.passed disk.old }
         ensures restarts { IsTrue D.tells → D.restarts disk.new ≡ D.restarts disk.old }
         ensures extent { D.extent disk.new ≡ D.extent disk.old }
-        ensures limit { D.limit disk.new ≡ D.limit disk.old }
+        ensures origin { D.origin disk.new ≡ D.origin disk.old }
         ensures cause { HasCause (D.faults disk.old) (D.faults disk.new) (D.stops disk.old) (D.stops disk.new) (log_device_result result) }
         ensures no_first_stop { D.stops disk.old ≡ 0 → D.stops disk.new ≡ 0 }
     {
@@ -197,7 +197,7 @@ impl Log {
         ensures restarts { IsTrue D.tells → D.restarts disk.new ≡ D.restarts disk.old }
 
         ensures extent { D.extent disk.new ≡ D.extent disk.old }
-        ensures limit { D.limit disk.new ≡ D.limit disk.old }
+        ensures origin { D.origin disk.new ≡ D.origin disk.old }
         ensures cause { HasCause (D.faults disk.old) (D.faults disk.new) (D.stops disk.old) (D.stops disk.new) result }
 
         ensures nothing_waits { vec_len self.new.hand ≡ 4 }

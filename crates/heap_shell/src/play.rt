@@ -57,7 +57,7 @@ pub fn play_lines<D: Disk, K: Sink>(
     ensures output { IfErr result (IsOutputError (K.faults sink.old) (K.faults sink.new)) }
     ensures sink { K.faults sink.old ≤ K.faults sink.new }
     ensures extent { D.extent (heap_disk heap.new) ≡ D.extent (heap_disk heap.old) }
-    ensures limit { D.limit (heap_disk heap.new) ≡ D.limit (heap_disk heap.old) }
+    ensures origin { D.origin (heap_disk heap.new) ≡ D.origin (heap_disk heap.old) }
     ensures restarts { IsTrue D.tells → D.restarts (heap_disk heap.new) ≡ D.restarts (heap_disk heap.old) }
     ensures plays { IsTrue D.tells → (of : Super) (c : Core) → IsHeap of c heap.old → AreReady c (events lines.now) → Plays of c (events lines.now) heap.old heap.new K.tells (K.written sink.old) (K.written sink.new) result }
 {
@@ -80,7 +80,7 @@ fn play_line<D: Disk, K: Sink>(
     ensures output { IfErr result (IsOutputError (K.faults sink.old) (K.faults sink.new)) }
     ensures sink { K.faults sink.old ≤ K.faults sink.new }
     ensures extent { D.extent (heap_disk heap.new) ≡ D.extent (heap_disk heap.old) }
-    ensures limit { D.limit (heap_disk heap.new) ≡ D.limit (heap_disk heap.old) }
+    ensures origin { D.origin (heap_disk heap.new) ≡ D.origin (heap_disk heap.old) }
     ensures restarts { IsTrue D.tells → D.restarts (heap_disk heap.new) ≡ D.restarts (heap_disk heap.old) }
     ensures plays { IsTrue D.tells → (of : Super) (c : Core) → IsHeap of c heap.old → AreReady c (line_events line) → Plays of c (line_events line) heap.old heap.new K.tells (K.written sink.old) (K.written sink.new) result }
 {
@@ -100,7 +100,7 @@ fn play_commit<D: Disk, K: Sink>(
     ensures output { IfErr result (IsOutputError (K.faults sink.old) (K.faults sink.new)) }
     ensures sink { K.faults sink.old ≤ K.faults sink.new }
     ensures extent { D.extent (heap_disk heap.new) ≡ D.extent (heap_disk heap.old) }
-    ensures limit { D.limit (heap_disk heap.new) ≡ D.limit (heap_disk heap.old) }
+    ensures origin { D.origin (heap_disk heap.new) ≡ D.origin (heap_disk heap.old) }
     ensures restarts { IsTrue D.tells → D.restarts (heap_disk heap.new) ≡ D.restarts (heap_disk heap.old) }
     ensures plays { IsTrue D.tells → (of : Super) (c : Core) → IsHeap of c heap.old → AreReady c (Seal s ∷ Force ∷ []) → Plays of c (Seal s ∷ Force ∷ []) heap.old heap.new K.tells (K.written sink.old) (K.written sink.new) result }
 {
@@ -122,7 +122,7 @@ fn play_event<D: Disk, K: Sink>(
     ensures output { IfErr result (IsOutputError (K.faults sink.old) (K.faults sink.new)) }
     ensures sink { K.faults sink.old ≤ K.faults sink.new }
     ensures extent { D.extent (heap_disk heap.new) ≡ D.extent (heap_disk heap.old) }
-    ensures limit { D.limit (heap_disk heap.new) ≡ D.limit (heap_disk heap.old) }
+    ensures origin { D.origin (heap_disk heap.new) ≡ D.origin (heap_disk heap.old) }
     ensures restarts { IsTrue D.tells → D.restarts (heap_disk heap.new) ≡ D.restarts (heap_disk heap.old) }
     ensures plays { IsTrue D.tells → (of : Super) (c : Core) → IsHeap of c heap.old → AreReady c (event ∷ []) → Plays of c (event ∷ []) heap.old heap.new K.tells (K.written sink.old) (K.written sink.new) result }
 {

@@ -87,7 +87,7 @@ pub fn recover<D: Disk>(alloc: Global, disk: &mut D) -> Result<Recovered, OpenEr
     ensures passed { IsTrue D.tells → D.passed disk.new ≡ D.passed disk.old }
     ensures restarts { IsTrue D.tells → D.restarts disk.new ≡ D.restarts disk.old }
     ensures extent { D.extent disk.new ≡ D.extent disk.old }
-    ensures limit { D.limit disk.new ≡ D.limit disk.old }
+    ensures origin { D.origin disk.new ≡ D.origin disk.old }
     ensures cause { HasCause (D.faults disk.old) (D.faults disk.new) (D.stops disk.old) (D.stops disk.new) (open_device result) }
     ensures no_first_stop { D.stops disk.old ≡ 0 → D.stops disk.new ≡ 0 }
 {
@@ -116,7 +116,7 @@ fn read_plan<D: Disk>(disk: &mut D) -> Result<Super, OpenError>
     ensures passed { IsTrue D.tells → D.passed disk.new ≡ D.passed disk.old }
     ensures restarts { IsTrue D.tells → D.restarts disk.new ≡ D.restarts disk.old }
     ensures extent { D.extent disk.new ≡ D.extent disk.old }
-    ensures limit { D.limit disk.new ≡ D.limit disk.old }
+    ensures origin { D.origin disk.new ≡ D.origin disk.old }
     ensures cause { HasCause (D.faults disk.old) (D.faults disk.new) (D.stops disk.old) (D.stops disk.new) (open_device result) }
     ensures no_first_stop { D.stops disk.old ≡ 0 → D.stops disk.new ≡ 0 }
 {

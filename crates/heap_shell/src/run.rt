@@ -1,6 +1,6 @@
 //! The program's one call: from the words of its command line and a script to the printed graph.
 ghost use Rattle.std.specs.Prelude.{◌≡◌, ◌⊎◌, ℕ, ◌+◌, ◌-◌, ◌<◌, ◌≤◌, ◌++◌, ◌↔◌, [], List, None, Some, Ok, Err, map, string_bytes, IfOk, IfErr, IsNone, IsTrue, OnOk};
-ghost use Rattle.counts.specs.Count.{Rose, raised};
+ghost use Rattle.counts.specs.Count.{Rose, raised, counted};
 ghost use Rattle.disk_model.specs.Disk.{Only};
 ghost use Rattle.disk_model.specs.Fuse.{fuse_inner};
 ghost use Rattle.disk_model.specs.Moments.{LeavesOnly};
@@ -14,7 +14,7 @@ ghost use Rattle.heap_shell.specs.Causes.{DiskRose, IsOutputError, IsInputError,
 ghost use Rattle.heap_shell.specs.Command.{command};
 ghost use Rattle.heap_shell.specs.Core.{Core};
 ghost use Rattle.heap_shell.specs.CoreCrash.{KeepsCommits};
-ghost use Rattle.heap_shell.specs.Format.{IsFormatting};
+ghost use Rattle.heap_shell.specs.Format.{IsFormatting, format_calls};
 ghost use Rattle.heap_shell.specs.Headline.{made_super, graph_text, recovered_line, OfTold, IsPlayed, Runs, SinceMade, IsSound, IsUntouching, EndsUnread, EndsUnmade, restarts_of};
 ghost use Rattle.heap_shell.specs.Playable.{IsPlayable};
 ghost use Rattle.heap_shell.specs.HeapState.{commits_of};
@@ -140,7 +140,8 @@ pub fn run<D: Disk, S: Source, K: Sink>(
         → Runs play (λ lines. IsTrue S.tells → script (S.left source.old) ≡ Ok lines) result.0
         (LeavesOnly D.moment D.left_since disk result.1 (IsFormatting (made_super play.pages) (D.bytes disk)))
         (λ P. SinceMade D.moment D.left_since D.bytes D.may_leave (made_super play.pages) disk result.1 P) (D.may_leave result.1)
-        (¬ DiskRose (D.faults disk) (D.stops disk) (D.faults result.1) (D.stops result.1)) K.tells (K.written sink.old) (K.written sink.new)) }
+        (¬ DiskRose (D.faults disk) (D.stops disk) (D.faults result.1) (D.stops result.1))
+        (λ n. D.passed result.1 ≡ counted (format_calls (image_size play.pages 1048576) (D.bytes disk) + n) (D.passed disk)) K.tells (K.written sink.old) (K.written sink.new)) }
 
     // The heap that it made is never damaged, and without a fault it is done.
     ensures sound { OfTold D.tells (D.bytes disk) (D.may_leave disk) (IsSound result.0) }
@@ -195,7 +196,7 @@ fn play_whole<D: Disk, K: Sink>(
     ensures sink { K.faults sink.old ≤ K.faults sink.new }
     ensures extent { D.extent result.1 ≡ D.extent disk }
     ensures played { IsTrue D.tells → (pages : ℕ) → IsLegal (made_super pages) [] (D.bytes disk) → Only (D.bytes disk) (D.may_leave disk) → IsPlayable (events script.now)
-        → IsPlayed None (events script.now) result.0 (λ P. LeavesOnly D.moment D.left_since disk result.1 P) (D.may_leave result.1) (¬ DiskRose (D.faults disk) (D.stops disk) (D.faults result.1) (D.stops result.1)) K.tells (K.written sink.old) (K.written sink.new) }
+        → IsPlayed None (events script.now) result.0 (λ P. LeavesOnly D.moment D.left_since disk result.1 P) (D.may_leave result.1) (¬ DiskRose (D.faults disk) (D.stops disk) (D.faults result.1) (D.stops result.1)) (λ n. D.passed result.1 ≡ counted n (D.passed disk)) K.tells (K.written sink.old) (K.written sink.new) }
     ensures restarts { IsTrue D.tells → D.restarts result.1 ≡ D.restarts disk }
 {
     let mut heap = match Heap::open(alloc, disk) {
@@ -225,7 +226,7 @@ fn play_stopped<D: Disk, K: Sink>(
     ensures sink { K.faults sink.old ≤ K.faults sink.new }
     ensures extent { D.extent result.1 ≡ D.extent disk }
     ensures played { IsTrue D.tells → (pages : ℕ) → IsLegal (made_super pages) [] (D.bytes disk) → Only (D.bytes disk) (D.may_leave disk) → IsPlayable (events script.now)
-        → IsPlayed (Some calls) (events script.now) result.0 (λ P. LeavesOnly D.moment D.left_since disk result.1 P) (D.may_leave result.1) (¬ DiskRose (D.faults disk) (D.stops disk) (D.faults result.1) (D.stops result.1)) K.tells (K.written sink.old) (K.written sink.new) }
+        → IsPlayed (Some calls) (events script.now) result.0 (λ P. LeavesOnly D.moment D.left_since disk result.1 P) (D.may_leave result.1) (¬ DiskRose (D.faults disk) (D.stops disk) (D.faults result.1) (D.stops result.1)) (λ n. D.passed result.1 ≡ counted n (D.passed disk)) K.tells (K.written sink.old) (K.written sink.new) }
     ensures restarts { IsTrue D.tells → result.0 ≡ Status.Done → D.restarts result.1 ≡ raised (D.restarts disk) }
 {
     let mut heap = match Heap::open(alloc, FuseDisk::new(disk, calls)) {
@@ -251,6 +252,7 @@ fn start_again<D: Disk, K: Sink>(
     ensures kept { D.faults (fuse_inner fuse) + D.stops (fuse_inner fuse) ≤ D.faults result.1 + D.stops result.1 }
     ensures sink { K.faults sink.old ≤ K.faults sink.new }
     ensures extent { D.extent result.1 ≡ D.extent (fuse_inner fuse) }
+    ensures passed { IsTrue D.tells → D.passed result.1 ≡ D.passed (fuse_inner fuse) }
     ensures restarts { IsTrue D.tells → D.restarts result.1 ≡ raised (D.restarts (fuse_inner fuse)) }
     ensures moments { IsTrue D.tells → (c : Core) → ((image : List ℕ) → D.may_leave (fuse_inner fuse) image → KeepsCommits c image) → LeavesOnly D.moment D.left_since (fuse_inner fuse) result.1 (KeepsCommits c) }
     ensures recovers { IsTrue D.tells → (c : Core) → ((image : List ℕ) → D.may_leave (fuse_inner fuse) image → KeepsCommits c image) → before ≡ 0 → Recovers c result.0 (D.may_leave result.1) K.tells (K.written sink.old) (K.written sink.new) }
@@ -290,6 +292,7 @@ fn print_recovered<D: Disk, K: Sink>(
     ensures kept { D.faults disk + D.stops disk ≤ D.faults result.1 + D.stops result.1 }
     ensures sink { K.faults sink.old ≤ K.faults sink.new }
     ensures extent { D.extent result.1 ≡ D.extent disk }
+    ensures passed { IsTrue D.tells → D.passed result.1 ≡ D.passed disk }
     ensures restarts { IsTrue D.tells → D.restarts result.1 ≡ D.restarts disk }
     ensures moments { IsTrue D.tells → LeavesOnly D.moment D.left_since disk result.1 (D.may_leave disk) }
     ensures recovers { IsTrue D.tells → (c : Core) → KeepsCommits c (D.bytes disk) → Only (D.bytes disk) (D.may_leave disk) → before ≡ 0 → Recovers c result.0 (D.may_leave result.1) K.tells (K.written sink.old) (K.written sink.new) }

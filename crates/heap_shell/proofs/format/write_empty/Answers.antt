@@ -1,13 +1,14 @@
-use Rattle.std.proofs.Common.{◌≡◌, ℕ, ◌≤◌, List, [], take, drop, length, get_or, ap, sym, ◌∙◌, arith, subst}
+use Rattle.std.proofs.Common.{◌≡◌, ℕ, ◌-◌, ◌≤◌, List, [], take, drop, length, get_or, ap, sym, ◌∙◌, arith, subst}
 use Rattle.std.proofs.lemmas.Result.{on_ok_weaker}
+use Rattle.counts.specs.Count.{counted}
 use Rattle.disk_model.specs.Moments.{weaker}
 use Rattle.gate_slot.specs.Gate.{filled, IsClosedInEach, IsFilling}
 use Rattle.image_plan.specs.declared.plan.Plan.{Plan}
 use Rattle.image_plan.specs.Super.{superblock}
 use Rattle.image_plan.specs.Plan.{image_size}
-use Rattle.heap_shell.specs.Format.{AreZero, IsFormatting}
+use Rattle.heap_shell.specs.Format.{AreZero, IsFormatting, zero_writes}
 use Rattle.heap_shell.specs.Image.{IsLegal}
-use Rattle.heap_shell.proofs.Empty.{empty, zeroing, filling, closing_run, then}
+use Rattle.heap_shell.proofs.Empty.{empty, zeroing, filling, closing_run, run_then, made_calls}
 use Rattle.heap_shell.proofs.format.write_empty.Goals as goal
 
 pub returns-clause-made : goal.returns-clause-made
@@ -42,4 +43,13 @@ returns-clause-moments g c tells only =
     let second = weaker d.moment d.left_since c.close_gate.new.disk c.write_zeros.new.disk _ P (c.write_zeros.ensures.moments tells) (λ f left. zeroing s old left.0 f c.size.result (shut_1 left.0 left.1) left.2) in
     let third = weaker d.moment d.left_since c.write_zeros.new.disk c.fill_and_open.new.disk _ P (c.fill_and_open.ensures.moments tells shut_2)
     (λ f left. filling s old seen left.0 f large c.requires.good zero_all (subst (λ (t : List ℕ). IsFilling 0 1 t seen left.0 f) sb left.2)) in
-    then d.moment d.left_since c.args.disk.now c.write_zeros.new.disk c.fill_and_open.new.disk P (then d.moment d.left_since c.args.disk.now c.close_gate.new.disk c.write_zeros.new.disk P first second) third
+    run_then d.moment d.left_since c.args.disk.now c.write_zeros.new.disk c.fill_and_open.new.disk P (run_then d.moment d.left_since c.args.disk.now c.close_gate.new.disk c.write_zeros.new.disk P first second) third
+
+pub returns-clause-passed : goal.returns-clause-passed
+returns-clause-passed g c tells =
+    let d = g.D.Disk in
+    let s = c.args.of.now in
+    let end : c.size.result ≡ image_size s.pages s.log_bytes = c.size.ensures ∙ ap (λ (p : Plan). image_size p.pages p.log_bytes) c.plan.ensures in
+    made_calls _ _ _ (d.passed c.fill_and_open.new.disk) (image_size s.pages s.log_bytes) (d.bytes c.args.disk.now) c.fill_and_open.result (c.in_ok-close_gate.ensures.passes tells).ok
+    (c.in_ok-write_zeros.ensures.passed tells ∙ ap (λ (n : ℕ). counted (zero_writes (n - 64)) (d.passed c.close_gate.new.disk)) end)
+    (c.fill_and_open.ensures.passes tells).ok

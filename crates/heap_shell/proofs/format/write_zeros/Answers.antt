@@ -2,7 +2,7 @@ use Rattle.std.proofs.Common.{◌≡◌, ℕ, ◌+◌, ◌≤◌, List, arith, l
 use Rattle.std.proofs.lemmas.List.{length-replicate}
 use Rattle.disk_model.specs.Disk.{overwrite}
 use Rattle.disk_model.specs.Moments.{goes_on}
-use Rattle.heap_shell.proofs.Zeros.{crash_on, zero_on, outside_on, zero_at}
+use Rattle.heap_shell.proofs.Zeros.{crash_on, zero_on, outside_on, zero_at, passed_on}
 use Rattle.heap_shell.proofs.Causes.{cause_on}
 use Rattle.heap_shell.proofs.format.write_zeros.Goals as goal
 
@@ -42,9 +42,10 @@ loop-at-preserved g c =
       outside = λ tells. outside_on c.args.from c.loop-at.at c.args.end (d.bytes c.args.disk.now) (d.bytes c.loop-at.disk) c.zeros.result.now (d.bytes c.write.new.self) i.low (omega (arith, size)) (omega (arith, size, fits tells)) (written tells) (i.outside tells);
       crash = crash;
       moments = λ tells. goes_on d.moment d.left_since c.args.disk.now c.loop-at.disk c.write.new.self _ (d.may_leave c.write.new.self) (i.moments tells) (c.write.ensures.time tells) (crash tells);
+      passed = λ tells. passed_on c.loop-at.at c.if-left.piece c.args.end (d.passed c.loop-at.disk) (d.passed c.write.new.self) (omega arith) (omega arith) (c.in_ok-write.ensures.passed tells) ∙ i.passed tells;
       restarts = λ tells. c.write.ensures.restarts tells ∙ i.restarts tells;
       extent = c.write.ensures.extent ∙ i.extent;
-      limit = c.write.ensures.limit ∙ i.limit;
+      origin = c.write.ensures.origin ∙ i.origin;
       faults = omega (arith, c.write.ensures.cause.faults_kept, i.faults);
       stops = omega (arith, c.write.ensures.cause.stops_kept, i.stops);
     }

@@ -1,8 +1,9 @@
 use Rattle.std.proofs.Common.{◌≡◌, ℕ, ◌-◌, ◌≤◌, List}
 use Rattle.std.specs.Prelude.{IsTrue}
+use Rattle.counts.specs.Count.{counted}
 use Rattle.disk_model.specs.Disk.{Follows}
 use Rattle.disk_model.specs.Moments.{LeavesOnly}
-use Rattle.heap_shell.specs.Format.{SameOutside, AreZero}
+use Rattle.heap_shell.specs.Format.{SameOutside, AreZero, zero_writes}
 use Rattle.heap_shell.proofs.format.write_zeros.Given as goal
 
 -- up to `at` the bytes are zero, and all else is as it was
@@ -16,9 +17,11 @@ invariant-loop-at g l =
       outside : IsTrue d.tells → SameOutside l.from l.end (d.bytes l.fn.disk) (d.bytes l.disk);
       crash : IsTrue d.tells → Follows (SameOutside l.from l.end) (d.may_leave l.fn.disk) (d.may_leave l.disk);
       moments : IsTrue d.tells → LeavesOnly d.moment d.left_since l.fn.disk l.disk (λ c. (o : List ℕ) × d.may_leave l.fn.disk o × SameOutside l.from l.end o c);
+      -- what is left is still to be counted
+      passed : IsTrue d.tells → counted (zero_writes (l.end - l.at)) (d.passed l.disk) ≡ counted (zero_writes (l.end - l.from)) (d.passed l.fn.disk);
       restarts : IsTrue d.tells → d.restarts l.disk ≡ d.restarts l.fn.disk;
       extent : d.extent l.disk ≡ d.extent l.fn.disk;
-      limit : d.limit l.disk ≡ d.limit l.fn.disk;
+      origin : d.origin l.disk ≡ d.origin l.fn.disk;
       faults : d.faults l.fn.disk ≤ d.faults l.disk;
       stops : d.stops l.fn.disk ≤ d.stops l.disk;
     }

@@ -1,4 +1,4 @@
-use Rattle.std.proofs.Common.{◌≡◌, [], ◌∷◌, Ok, Err, rules, sym, subst}
+use Rattle.std.proofs.Common.{◌≡◌, [], ◌∷◌, Ok, Err, rules, subst}
 use Rattle.graph_model.specs.declared.event.Event.TheVariants.{Seal, Force}
 use Rattle.heap_shell.specs.declared.play.Ended.{Ended}
 use Rattle.heap_shell.specs.declared.play.Ended.TheVariants as ended

@@ -1,5 +1,4 @@
 use Rattle.std.proofs.Common.{◌≡◌, [], ◌∷◌, inl, Ok, Err, rules, sym, subst}
-use Rattle.std.specs.Prelude.{Result}
 use Rattle.heap_shell.specs.declared.play.Ended.{Ended}
 use Rattle.heap_shell.specs.declared.status.Status.TheVariants.{NoMemory}
 use Rattle.heap_shell.specs.Play.{Plays}

@@ -1,4 +1,4 @@
-use Rattle.std.proofs.Common.{◌≡◌, inl, ◌+◌, List, Ok, Err, rules, refl, ◌∙◌, subst, take, ◌≤◌, length, arith}
+use Rattle.std.proofs.Common.{◌≡◌, inl, ◌+◌, List, Ok, Err, rules, refl, ◌∙◌, subst, take, arith}
 use Rattle.std.proofs.lemmas.List.{take_all}
 use Rattle.heap_shell.specs.declared.play.Ended.{Ended}
 use Rattle.heap_shell.specs.declared.play.Ended.TheVariants as ended
@@ -18,7 +18,7 @@ loop-line-init g c =
       cause = search rules;
       sink = omega arith;
       extent = search rules;
-      limit = search rules;
+      origin = search rules;
       restarts = λ tells. refl;
       plays = λ tells of core is ready.
           let valid = ready_valid core (events c.args.lines.now) ready in
@@ -52,7 +52,7 @@ loop-line-preserved g c =
       cause = search rules;
       sink = search rules;
       extent = search rules;
-      limit = search rules;
+      origin = search rules;
       restarts = λ tells. c.play_line.ensures.restarts tells ∙ i.restarts tells;
       plays = λ tells of core heap ready.
           let P : Ended → Type 0 = λ e. Plays of core (events (take (c.loop-line.line-index + 1) c.args.lines.now)) c.args.heap.now c.play_line.new.heap k.tells (k.written c.args.sink.now) (k.written c.play_line.new.sink) (Ok e) in

@@ -21,7 +21,7 @@ invariant-loop-line g l =
       cause : HasCause (d.faults (heap_disk l.fn.heap)) (d.faults (heap_disk l.heap)) (d.stops (heap_disk l.fn.heap)) (d.stops (heap_disk l.heap)) well;
       sink : k.faults l.fn.sink ≤ k.faults l.sink;
       extent : d.extent (heap_disk l.heap) ≡ d.extent (heap_disk l.fn.heap);
-      limit : d.limit (heap_disk l.heap) ≡ d.limit (heap_disk l.fn.heap);
+      origin : d.origin (heap_disk l.heap) ≡ d.origin (heap_disk l.fn.heap);
       restarts : IsTrue d.tells → d.restarts (heap_disk l.heap) ≡ d.restarts (heap_disk l.fn.heap);
       plays : IsTrue d.tells → (of : Super) (c : Core) → IsHeap of c l.fn.heap → AreReady c (events l.lines) → Plays of c (events (take l.line-index l.lines)) l.fn.heap l.heap k.tells (k.written l.fn.sink) (k.written l.sink) (Ok ended.Whole);
     }

@@ -1,5 +1,4 @@
-use Rattle.std.proofs.Common.{◌≡◌, [], Err, rules, sym, refl}
-use Rattle.std.proofs.lemmas.List.{append-nil}
+use Rattle.std.proofs.Common.{◌≡◌, Err, rules}
 use Rattle.graph_model.specs.Text.{line}
 use Rattle.heap_shell.specs.declared.status.Status.TheVariants.{NoMemory, WriteFault}
 use Rattle.heap_shell.proofs.Written.{none_written, front_written}

@@ -1,5 +1,6 @@
-use Rattle.std.proofs.Common.{◌≡◌, inl, List, [], None, Ok, Err, rules, refl, sym, ap, ◌∙◌, subst}
+use Rattle.std.proofs.Common.{[], None, Ok, Err, rules, refl, sym, ap, ◌∙◌, subst}
 use Rattle.std.proofs.lemmas.List.{append-nil}
+use Rattle.counts.specs.Count.{counted}
 use Rattle.disk_model.specs.Moments.{weaker}
 use Rattle.graph_model.specs.History.{sealed}
 use Rattle.graph_model.specs.Transaction.{serial}
@@ -8,6 +9,7 @@ use Rattle.heap_shell.specs.declared.play.Ended.TheVariants as ended
 use Rattle.heap_shell.specs.declared.status.Status.TheVariants as status
 use Rattle.heap_shell.specs.CoreCrash.{HasCommits}
 use Rattle.heap_shell.specs.CoreLawsPlay.{keeps_has}
+use Rattle.heap_shell.specs.CoreRuns.{total_calls}
 use Rattle.heap_shell.specs.Headline.{made_super, made_core}
 use Rattle.heap_shell.specs.Play.{Plays}
 use Rattle.heap_shell.specs.Script.{events}
@@ -22,7 +24,7 @@ pub returns-in-Err-clause-played : goal.returns-in-Err-clause-played
 returns-in-Err-clause-played g c tells pages legal only playable =
     let d = g.D.Disk in
     let new = only_new pages (d.bytes c.args.disk) (d.may_leave c.args.disk) legal only in
-    ends_unopened None (events c.args.script.now) c.in-Err.e c.from.result _ _ _ g.K.Sink.tells (g.K.Sink.written c.args.sink.now) c.from.ensures (c.in-Err.ensures.legal tells (made_super pages) [] legal)
+    ends_unopened None (events c.args.script.now) c.in-Err.e c.from.result _ _ _ _ g.K.Sink.tells (g.K.Sink.written c.args.sink.now) c.from.ensures (c.in-Err.ensures.legal tells (made_super pages) [] legal)
     (weaker d.moment d.left_since c.args.disk c.in-Err.disk (d.may_leave c.args.disk) (HasCommits made_core) (c.in-Err.ensures.moments tells) (λ image left. keeps_has made_core image (new image left)))
     (λ image left. new image (c.in-Err.ensures.crash tells image left))
 
@@ -38,13 +40,14 @@ returns-in-Ok-Whole-clause-played g c tells pages legal only playable =
     let plays = subst P c.in-Ok-Whole.field-0-is (c.in-Ok-Whole.ensures.plays tells s made_core (c.in-Ok.ensures.fresh tells s legal only) playable.ready) in
     let whole = plays.ends in
     let has = whole_graph s es playable old new k.tells (k.written c.args.sink.now) (k.written c.play_lines.new.sink) (Ok ended.Whole) plays whole.0 whole.1.reached in
-    rw (c.close.ensures, c.status_after-status.ensures) (ends_whole s es playable old new k.tells (k.written c.args.sink.now) (k.written c.play_lines.new.sink) (Ok ended.Whole) plays _ _ _
+    rw (c.close.ensures, c.status_after-status.ensures) (ends_whole s es playable old new k.tells (k.written c.args.sink.now) (k.written c.play_lines.new.sink) (Ok ended.Whole) plays _ _ _ _
     (since_made pages es playable c.args.disk old new k.tells (k.written c.args.sink.now) (k.written c.play_lines.new.sink) (Ok ended.Whole) legal only (c.in-Ok.ensures.moments tells) plays)
     c.write_graph.result _ _ (k.written c.write_graph.new.sink) whole.0 whole.1.reached
     (all_lines s es playable old new k.tells (k.written c.args.sink.now) (k.written c.play_lines.new.sink) (Ok ended.Whole) plays refl)
     c.write_graph.ensures.output
     (λ t. c.write_graph.ensures.wrote t s plays.core (serial plays.core.g0 (sealed plays.core.history)) plays.heap has)
-    (kept s es playable old new k.tells (k.written c.args.sink.now) (k.written c.play_lines.new.sink) (Ok ended.Whole) plays))
+    (kept s es playable old new k.tells (k.written c.args.sink.now) (k.written c.play_lines.new.sink) (Ok ended.Whole) plays)
+    (whole.1.passes ∙ ap (counted (total_calls made_core plays.made)) (c.in-Ok.ensures.passed tells)))
 
 pub returns-in-Ok-Whole-clause-restarts : goal.returns-in-Ok-Whole-clause-restarts
 returns-in-Ok-Whole-clause-restarts g c tells = ap g.D.Disk.restarts c.close.ensures ∙ c.in-Ok-Whole.ensures.restarts tells ∙ c.in-Ok.ensures.restarts tells
@@ -66,7 +69,7 @@ returns-in-Ok-Stopped g c =
           let new = c.play_lines.new.heap in
           let plays = c.play_lines.ensures.plays tells s made_core (c.in-Ok.ensures.fresh tells s legal only) playable.ready in
           let lines = all_lines s es playable old new k.tells (k.written c.args.sink.now) (k.written c.play_lines.new.sink) c.play_lines.result plays c.in-Ok-Stopped.is in
-          rw c.close-in-Ok-Stopped.ensures (ends_early s es playable old new k.tells (k.written c.args.sink.now) (k.written c.play_lines.new.sink) c.play_lines.result plays _ _ _
+          rw c.close-in-Ok-Stopped.ensures (ends_early s es playable old new k.tells (k.written c.args.sink.now) (k.written c.play_lines.new.sink) c.play_lines.result plays _ _ _ _
           (since_made pages es playable c.args.disk old new k.tells (k.written c.args.sink.now) (k.written c.play_lines.new.sink) c.play_lines.result legal only (c.in-Ok.ensures.moments tells) plays)
           None status.DiskFault tt (λ is. cc) (λ t. (whole_front _ _ _ (lines t), lines_more s es playable old new k.tells (k.written c.args.sink.now) (k.written c.play_lines.new.sink) c.play_lines.result plays _ [] (lines t) (sym (append-nil _)))) (λ t fault. lines t)
           (λ unharmed. exact_none s es playable old new k.tells (k.written c.args.sink.now) (k.written c.play_lines.new.sink) c.play_lines.result plays
@@ -86,7 +89,7 @@ returns-in-Err-play_lines-clause-played g c tells pages legal only playable =
     let e = c.in-Err-play_lines.status in
     let plays = c.in-Err-play_lines.ensures.plays tells s made_core (c.in-Ok.ensures.fresh tells s legal only) playable.ready in
     let error = c.in-Err-play_lines.ensures.output in
-    rw c.close-in-Err-play_lines.ensures (ends_early s es playable old new k.tells (k.written c.args.sink.now) (k.written c.play_lines.new.sink) (Err e) plays _ _ _
+    rw c.close-in-Err-play_lines.ensures (ends_early s es playable old new k.tells (k.written c.args.sink.now) (k.written c.play_lines.new.sink) (Err e) plays _ _ _ _
     (since_made pages es playable c.args.disk old new k.tells (k.written c.args.sink.now) (k.written c.play_lines.new.sink) (Err e) legal only (c.in-Ok.ensures.moments tells) plays)
     None e (output_end _ _ e error) (output_not_done _ _ e error)
     (some_lines s es playable old new k.tells (k.written c.args.sink.now) (k.written c.play_lines.new.sink) (Err e) plays refl)

@@ -1,4 +1,4 @@
-use Rattle.std.proofs.Common.{◌≡◌, inr, ℕ, ◌+◌, ◌≤◌, List, Option, Some, None, Ok, arith, sym, ap, ◌∙◌, subst}
+use Rattle.std.proofs.Common.{◌≡◌, inr, ◌+◌, ◌≤◌, List, Some, None, Ok, arith, sym, ap, ◌∙◌, subst}
 use Rattle.heap_shell.specs.declared.script.Line.{Line}
 use Rattle.heap_shell.specs.CoreLawsGraph.{script_playable}
 use Rattle.heap_shell.specs.Headline.{made_super}
@@ -18,8 +18,8 @@ returns-in-None-clause-headline g c tells only play is =
     let played = c.play_whole.ensures.played tells c.in-Some.play.pages made.0 made.1 playable in
     let first : d.faults c.args.disk + d.stops c.args.disk ≤ d.faults c.in-Ok-format.disk + d.stops c.in-Ok-format.disk = omega (arith, c.in-Ok-format.ensures.cause.faults_kept, c.in-Ok-format.ensures.cause.stops_kept) in
     let same : play ≡ c.in-Some.play = cc (is, c.in-Some.is, c.read_words.ensures) in
-    let all = made_played d None (events c.deref.result.now) c.play_whole.result.0 (made_super c.in-Some.play.pages) c.args.disk c.in-Ok-format.disk c.play_whole.result.1 (d.may_leave c.play_whole.result.1) k.tells (k.written c.args.sink.now) (k.written c.play_whole.new.sink)
-    (c.in-Ok-format.ensures.moments tells only) made.0 made.1 first c.play_whole.ensures.kept played in
+    let all = made_played d None (events c.deref.result.now) c.play_whole.result.0 (made_super c.in-Some.play.pages) c.args.disk c.in-Ok-format.disk c.play_whole.result.1 _ (d.may_leave c.play_whole.result.1) k.tells (k.written c.args.sink.now) (k.written c.play_whole.new.sink)
+    (c.in-Ok-format.ensures.moments tells only) made.0 made.1 (c.in-Ok-format.ensures.passed tells) first c.play_whole.ensures.kept played in
     rw same (inr (c.deref.result.now, (λ t. ap script (sym (read.2 t)) ∙ read.1 ∙ ap (λ (ls : List Line). Ok ls) (sym c.deref.ensures.value)), rw c.in-None.is all))
 
 pub returns-in-None-clause-sound : goal.returns-in-None-clause-sound
@@ -53,8 +53,8 @@ returns-clause-headline g c tells only play is =
     let played = c.play_stopped.ensures.played tells c.in-Some.play.pages made.0 made.1 playable in
     let first : d.faults c.args.disk + d.stops c.args.disk ≤ d.faults c.in-Ok-format.disk + d.stops c.in-Ok-format.disk = omega (arith, c.in-Ok-format.ensures.cause.faults_kept, c.in-Ok-format.ensures.cause.stops_kept) in
     let same : play ≡ c.in-Some.play = cc (is, c.in-Some.is, c.read_words.ensures) in
-    let all = made_played d (Some c.in-Some-stop.calls) (events c.deref-in-Some-stop.result.now) c.play_stopped.result.0 (made_super c.in-Some.play.pages) c.args.disk c.in-Ok-format.disk c.play_stopped.result.1 (d.may_leave c.play_stopped.result.1) k.tells (k.written c.args.sink.now) (k.written c.play_stopped.new.sink)
-    (c.in-Ok-format.ensures.moments tells only) made.0 made.1 first c.play_stopped.ensures.kept played in
+    let all = made_played d (Some c.in-Some-stop.calls) (events c.deref-in-Some-stop.result.now) c.play_stopped.result.0 (made_super c.in-Some.play.pages) c.args.disk c.in-Ok-format.disk c.play_stopped.result.1 _ (d.may_leave c.play_stopped.result.1) k.tells (k.written c.args.sink.now) (k.written c.play_stopped.new.sink)
+    (c.in-Ok-format.ensures.moments tells only) made.0 made.1 (c.in-Ok-format.ensures.passed tells) first c.play_stopped.ensures.kept played in
     rw same (inr (c.deref-in-Some-stop.result.now, (λ t. ap script (sym (read.2 t)) ∙ read.1 ∙ ap (λ (ls : List Line). Ok ls) (sym c.deref-in-Some-stop.ensures.value)), rw c.in-Some-stop.is all))
 
 pub returns-clause-sound : goal.returns-clause-sound
