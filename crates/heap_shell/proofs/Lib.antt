@@ -2,7 +2,6 @@ mod Calls
 mod Causes
 mod Digits
 mod Empty
-mod Fields
 mod Lines
 mod LogBytes
 mod LogForce
@@ -24,7 +23,6 @@ mod PrintRecovered
 mod Replay
 mod RootText
 mod RunLaws
-mod Spelled
 mod Statuses
 mod Written
 mod Zeros

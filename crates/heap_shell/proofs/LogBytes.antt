@@ -7,7 +7,7 @@ use Rattle.disk_model.specs.Disk.{overwrite, part}
 use Rattle.gate_slot.specs.Gate.{IsOutside, IsClosed, IsFilling, filled}
 use Rattle.gate_slot.specs.GateLaws.{length_filled, filled_outside, filled_next}
 use Rattle.gate_slot.specs.Images.{length_part, part_index, same_part, overwrite_within, overwrite-append}
-use Rattle.heap_shell.specs.declared.records.Record.{Record}
+use Rattle.log_records.specs.declared.Record.{Record}
 use Rattle.heap_shell.specs.Format.{SameOutside}
 use Rattle.heap_shell.specs.Log.{framed, batch, batches_bytes, HoldsBatches}
 

@@ -7,12 +7,12 @@ use Rattle.disk_model.specs.Disk.{part, Only}
 use Rattle.disk_model.specs.Moments.{LeavesOnly, weaker}
 use Rattle.gate_slot.specs.Gate.{IsClosed, IsClosedInEach, IsFilling, filled}
 use Rattle.heap_shell.specs.declared.log.Log.{Log}
-use Rattle.heap_shell.specs.declared.records.Record.{Record}
+use Rattle.log_records.specs.declared.Record.{Record}
 use Rattle.heap_shell.specs.Format.{SameOutside}
 use Rattle.heap_shell.specs.Log.{framed, batch, batches_bytes, with_batch, HoldsBatches}
 use Rattle.heap_shell.specs.LogRoom.{used_bytes}
 use Rattle.heap_shell.specs.LogState.{Keeps}
-use Rattle.heap_shell.specs.Record.{spellings}
+use Rattle.log_records.specs.Record.{spellings}
 use Rattle.heap_shell.proofs.LogBytes.{batches_bytes-push, closed_gate, holds_forced, holds_in_force}
 
 -- where records wait there is one batch more

@@ -4,12 +4,12 @@ use Rattle.std.proofs.lemmas.List.{append-nil, take_at, drop_at, drop-drop, get_
 use Rattle.std.specs.List.{AllByRecursion}
 use Rattle.disk_model.specs.Disk.{part}
 use Rattle.heap_shell.specs.declared.log.Log.{Log}
-use Rattle.heap_shell.specs.declared.records.Record.{Record}
-use Rattle.heap_shell.specs.declared.records.Record.TheVariants.{Update, Commit}
+use Rattle.log_records.specs.declared.Record.{Record}
+use Rattle.log_records.specs.declared.Record.TheVariants.{Update, Commit}
 use Rattle.heap_shell.specs.Image.{records_of}
 use Rattle.heap_shell.specs.Log.{batch, batches_bytes, HoldsBatches}
 use Rattle.heap_shell.specs.LogState.{Keeps}
-use Rattle.heap_shell.specs.Record.{spelling, spellings, IsRecord}
+use Rattle.log_records.specs.Record.{spelling, spellings, IsRecord}
 
 -- Where records were spelled, those that are left are spelled in the rest of the bytes, and all others were read.
 pub record IsReading (records first now : List Record) (rest : List ℕ) : Type 0 where

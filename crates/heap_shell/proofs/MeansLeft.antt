@@ -21,7 +21,7 @@ use Rattle.graph_model.specs.HistoryLaws.{account-append}
 use Rattle.graph_model.specs.PlainLaws.{IsNoFault, account_after-refused}
 use Rattle.heap_shell.specs.declared.log.Log.{Log}
 use Rattle.heap_shell.specs.declared.plan.Super.{Super}
-use Rattle.heap_shell.specs.declared.records.Record.{Record}
+use Rattle.log_records.specs.declared.Record.{Record}
 use Rattle.heap_shell.specs.declared.working.Working.{Working}
 use Rattle.heap_shell.specs.Causes.{reply_device}
 use Rattle.heap_shell.specs.Core.{Core, with_entry, force_calls, calls_if, calls}
@@ -32,7 +32,7 @@ use Rattle.heap_shell.specs.Image.{records_of, StandsFor, IsLegal}
 use Rattle.heap_shell.specs.LogState.{Keeps}
 use Rattle.heap_shell.specs.Machine as machine
 use Rattle.heap_shell.specs.Means.{Means}
-use Rattle.heap_shell.specs.Record.{spellings}
+use Rattle.log_records.specs.Record.{spellings}
 use Rattle.heap_shell.proofs.MeansLog.{hand_length, some_spellings}
 
 -- an entry that neither commits nor acknowledges anything

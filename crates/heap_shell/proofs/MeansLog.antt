@@ -5,14 +5,14 @@ use Rattle.std.proofs.lemmas.Bool.{lt-ltb, ltb-true}
 use Rattle.std.proofs.lemmas.List.{append-nil}
 use Rattle.std.proofs.lemmas.Grind.{flat_map-append}
 use Rattle.heap_shell.specs.declared.log.Log.{Log}
-use Rattle.heap_shell.specs.declared.records.Record.{Record}
-use Rattle.heap_shell.specs.declared.records.Record.TheVariants.{Update, Commit}
+use Rattle.log_records.specs.declared.Record.{Record}
+use Rattle.log_records.specs.declared.Record.TheVariants.{Update, Commit}
 use Rattle.heap_shell.specs.Core.{need}
 use Rattle.heap_shell.specs.CoreLawsRoom.{length-hand-append}
 use Rattle.heap_shell.specs.Log.{batches_bytes, hand}
 use Rattle.heap_shell.specs.LogRoom.{used_bytes, need_bytes}
 use Rattle.heap_shell.specs.LogState.{Keeps}
-use Rattle.heap_shell.specs.Record.{spelling, spellings}
+use Rattle.log_records.specs.Record.{spelling, spellings}
 use Rattle.heap_shell.specs.Working.{SameLog}
 
 some_spelling : (r : Record) → 0 < length (spelling r)

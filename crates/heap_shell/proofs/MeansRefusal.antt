@@ -16,7 +16,7 @@ use Rattle.graph_model.specs.Plain as plain
 use Rattle.graph_model.specs.Plain.{view, no_number, no_int, call_refusal}
 use Rattle.graph_model.specs.PlainLaws.{call_reply-done}
 use Rattle.heap_shell.specs.declared.active.Active.{Active}
-use Rattle.heap_shell.specs.declared.records.Record.{Record}
+use Rattle.log_records.specs.declared.Record.{Record}
 use Rattle.heap_shell.specs.declared.working.Working.{Working}
 use Rattle.heap_shell.specs.Core.{Core, next_number, put_records, call_records, used, need, is_put, reserved, full_log, first_of_two, log_refusal, core_refusal}
 use Rattle.heap_shell.specs.CoreValid.{IsTold, Agrees, IsValid}

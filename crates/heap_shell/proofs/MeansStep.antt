@@ -22,8 +22,8 @@ use Rattle.graph_model.specs.HistoryLaws.{account-append, run-append}
 use Rattle.graph_model.specs.Plain.{view, granted, reply_of}
 use Rattle.graph_model.specs.PlainLaws.{IsNoFault, HasNoFault, account_after-refused, call_reply-done}
 use Rattle.heap_shell.specs.declared.active.Active.{Active}
-use Rattle.heap_shell.specs.declared.records.Record.{Record}
-use Rattle.heap_shell.specs.declared.records.Record.TheVariants.{Update, Commit}
+use Rattle.log_records.specs.declared.Record.{Record}
+use Rattle.log_records.specs.declared.Record.TheVariants.{Update, Commit}
 use Rattle.heap_shell.specs.declared.working.Working.{Working}
 use Rattle.heap_shell.specs.Core.{Core, next_number, is_put, update, put_records, call_records, core_refusal, answer, with_entry, done, after_refusal, after}
 use Rattle.heap_shell.specs.CoreValid.{IsTold, IsValid}
@@ -34,8 +34,8 @@ use Rattle.heap_shell.specs.Image.{records_of}
 use Rattle.heap_shell.specs.LogRoom.{need_bytes}
 use Rattle.heap_shell.specs.Machine.{words, put_record}
 use Rattle.heap_shell.specs.Means.{active_of, Works}
-use Rattle.heap_shell.specs.Record.{spelling}
-use Rattle.heap_shell.specs.Word.{word_of}
+use Rattle.log_records.specs.Record.{spelling}
+use Rattle.heap_shell.specs.ValueWord.{word_of}
 use Rattle.heap_shell.specs.Working.{begin_refusal, active_after_begin, next_after_begin, root_refusal, active_after_root, with_root, put_refusal, no_room, seal_refusal, update_of, Writes, Seals, SameLog, IsAsItWas}
 use Rattle.heap_shell.proofs.MeansLog.{keeps_same, keeps_more}
 use Rattle.heap_shell.proofs.MeansRefusal.{begin_same, root_same, seal_same, put_same, holds_held}

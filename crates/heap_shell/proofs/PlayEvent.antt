@@ -21,7 +21,7 @@ use Rattle.heap_shell.specs.declared.heap.Heap.{Heap}
 use Rattle.heap_shell.specs.declared.plan.Super.{Super}
 use Rattle.heap_shell.specs.declared.play.Ended.{Ended}
 use Rattle.heap_shell.specs.declared.play.Ended.TheVariants as ended
-use Rattle.heap_shell.specs.declared.records.Record.{Record}
+use Rattle.log_records.specs.declared.Record.{Record}
 use Rattle.heap_shell.specs.declared.status.Status.{Status}
 use Rattle.heap_shell.specs.Causes.{reply_device}
 use Rattle.heap_shell.specs.Core.{Core, next_number, answer, with_entry, after, IsCutShort, IsStep, force_calls, calls_if, calls}

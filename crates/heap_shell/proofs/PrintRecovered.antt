@@ -7,7 +7,7 @@ use Rattle.disk_model.specs.Disk.{Only, Narrows}
 use Rattle.graph_model.specs.Graph.{Graph}
 use Rattle.graph_model.specs.Transaction.{serial}
 use Rattle.graph_model.specs.History.{commits}
-use Rattle.heap_shell.specs.declared.records.Record.{Record}
+use Rattle.log_records.specs.declared.Record.{Record}
 use Rattle.heap_shell.specs.declared.recovery.OpenError.{OpenError}
 use Rattle.heap_shell.specs.declared.status.Status.{Status}
 use Rattle.heap_shell.specs.Causes.{IsOutputError}
@@ -20,7 +20,7 @@ use Rattle.heap_shell.specs.Means.{opened}
 use Rattle.heap_shell.specs.Output.{WroteText, HasGraph, Recovers, status_after}
 use Rattle.heap_shell.specs.Recovered.{IsFromOutside}
 use Rattle.heap_shell.specs.StatusOf.{open_status}
-use Rattle.heap_shell.specs.Word.{IsNumberWord}
+use Rattle.heap_shell.specs.ValueWord.{IsNumberWord}
 use Rattle.heap_shell.proofs.Statuses.{written_end, wrote_all, open_end, open_not_done}
 use Rattle.heap_shell.proofs.Written.{none_written, wrote_some}
 

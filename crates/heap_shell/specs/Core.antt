@@ -14,10 +14,10 @@ use Rattle.graph_model.specs.Graph.{Graph, fields, new_graph}
 use Rattle.graph_model.specs.Transaction.{Transaction, held}
 use Rattle.graph_model.specs.History.{Account, account, account_after}
 use Rattle.graph_model.specs.Plain.{view, event_refusal, refusal_of, granted, reply_of}
-use Rattle.heap_shell.specs.declared.records.Record.{Record}
-use Rattle.heap_shell.specs.declared.records.Record.TheVariants.{Update, Commit}
-use Rattle.heap_shell.specs.Word.{word_of}
-use Rattle.heap_shell.specs.Record.{spellings}
+use Rattle.log_records.specs.declared.Record.{Record}
+use Rattle.log_records.specs.declared.Record.TheVariants.{Update, Commit}
+use Rattle.heap_shell.specs.ValueWord.{word_of}
+use Rattle.log_records.specs.Record.{spellings}
 use Rattle.heap_shell.specs.Log.{batches_bytes, hand}
 
 -- The state of a heap since it was opened.

@@ -10,7 +10,7 @@ use Rattle.graph_model.specs.declared.reply.Reply.TheVariants.{Refused}
 use Rattle.graph_model.specs.PlainLaws.{IsSoundReply}
 use Rattle.graph_model.specs.SlowHeap.{IsSingleSession}
 use Rattle.graph_model.specs.History.{account}
-use Rattle.heap_shell.specs.declared.records.Record.{Record}
+use Rattle.log_records.specs.declared.Record.{Record}
 use Rattle.heap_shell.specs.Core.{Core, answer, with_entry, after, IsCutShort, IsStep, IsRun, force_calls, calls_if, calls}
 use Rattle.heap_shell.specs.CoreRuns.{after_events, total_calls, StopsAt}
 use Rattle.heap_shell.specs.CoreValid.{IsValid, IsReached}

@@ -7,9 +7,9 @@ use Rattle.std.proofs.lemmas.List.{append-nil}
 use Rattle.graph_model.specs.Transaction.{Transaction, serial}
 use Rattle.graph_model.specs.History.{sealed, commits, acknowledged}
 use Rattle.heap_shell.specs.declared.plan.Super.{Super}
-use Rattle.heap_shell.specs.declared.records.Record.{Record}
-use Rattle.heap_shell.specs.Word.{IsNumberWord}
-use Rattle.heap_shell.specs.Record.{IsRecord}
+use Rattle.log_records.specs.declared.Record.{Record}
+use Rattle.heap_shell.specs.ValueWord.{IsNumberWord}
+use Rattle.log_records.specs.Record.{IsRecord}
 use Rattle.heap_shell.specs.Machine as machine
 use Rattle.heap_shell.specs.Log.{with_batch}
 use Rattle.heap_shell.specs.Image.{records_of, IsLegal}

@@ -17,9 +17,9 @@ use Rattle.graph_model.specs.History.{Account, account_after, with_call}
 use Rattle.graph_model.specs.HistoryLaws.{run-append, serial-append, serial-take}
 use Rattle.graph_model.specs.RootAlone.{new_graph-IsRootAlone, serial-IsRootAlone, run-SeesRootAlone, held-HoldRootAlone, HoldRootAlone, IsRootAlone}
 use Rattle.graph_model.specs.Plain.{view, no_number, no_int, put_refusal}
-use Rattle.heap_shell.specs.declared.records.Record.{Record}
-use Rattle.heap_shell.specs.declared.records.Record.TheVariants.{Commit}
-use Rattle.heap_shell.specs.Record.{IsNumber}
+use Rattle.log_records.specs.declared.Record.{Record}
+use Rattle.log_records.specs.declared.Record.TheVariants.{Commit}
+use Rattle.log_records.specs.Record.{IsNumber}
 use Rattle.heap_shell.specs.Log.{batches_bytes, hand}
 use Rattle.heap_shell.specs.Machine.{graph_of, commits}
 use Rattle.heap_shell.specs.Image.{records_of}

@@ -17,7 +17,7 @@ use Rattle.graph_model.specs.History.{Account, account, account_after, commits, 
 use Rattle.graph_model.specs.HistoryLaws.{account-append, call_replies-append, call-reply}
 use Rattle.graph_model.specs.Plain.{no_number, event_refusal, refusal_of, granted, reply_of}
 use Rattle.graph_model.specs.PlainLaws.{IsNoFault, HasNoFault, call_reply-done, account_after-refused}
-use Rattle.heap_shell.specs.declared.records.Record.{Record}
+use Rattle.log_records.specs.declared.Record.{Record}
 use Rattle.heap_shell.specs.Core.{Core, fresh, next_number, log_refusal, first_of_two, core_refusal, forced, done, after_refusal, IsStep, IsRun}
 use Rattle.heap_shell.specs.CoreValid.{IsReached}
 use Rattle.heap_shell.specs.CoreReplies.{Heard, nothing_heard, hear, heard_in, call_replies_of, HearsSerial, AnswersSerially}

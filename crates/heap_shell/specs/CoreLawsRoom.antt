@@ -9,8 +9,8 @@ use Rattle.std.proofs.lemmas.Grind.{flat_map-append}
 use Rattle.graph_model.specs.declared.event.Event.{Event}
 use Rattle.graph_model.specs.declared.reply.Refusal.{Refusal}
 use Rattle.graph_model.specs.declared.reply.Refusal.TheVariants.{LogFull}
-use Rattle.heap_shell.specs.declared.records.Record.{Record}
-use Rattle.heap_shell.specs.Record.{spelling, spellings}
+use Rattle.log_records.specs.declared.Record.{Record}
+use Rattle.log_records.specs.Record.{spelling, spellings}
 use Rattle.heap_shell.specs.Log.{framed, batch, batches_bytes, hand}
 use Rattle.heap_shell.specs.Image.{records_of}
 use Rattle.heap_shell.specs.Core.{need, is_put, reserved, full_log}

@@ -17,8 +17,8 @@ use Rattle.graph_model.specs.History.{Account, account, account_after}
 use Rattle.graph_model.specs.HistoryLaws.{account-append}
 use Rattle.graph_model.specs.Plain.{view, no_number, put_refusal, call_refusal, event_refusal, refusal_of, granted, reply_of}
 use Rattle.graph_model.specs.PlainLaws.{IsNoFault, IsSoundReply, HasNoFault, plain_reply-IsSoundReply, call_reply-done, account_after-refused}
-use Rattle.heap_shell.specs.declared.records.Record.{Record}
-use Rattle.heap_shell.specs.Record.{IsRecord}
+use Rattle.log_records.specs.declared.Record.{Record}
+use Rattle.log_records.specs.Record.{IsRecord}
 use Rattle.heap_shell.specs.Image.{records_of}
 use Rattle.heap_shell.specs.Core.{Core, fresh, next_number, call_records, event_records, used, need, reserved, reserved_after, log_refusal, first_of_two, core_refusal, with_entry, forced, done, after_refusal, after}
 use Rattle.heap_shell.specs.CoreValid.{Agrees, IsValid}

@@ -7,9 +7,9 @@ use Rattle.graph_model.specs.Graph.{Graph, root_graph, new_graph}
 use Rattle.graph_model.specs.Transaction.{Transaction, serial}
 use Rattle.graph_model.specs.History.{Account, account}
 use Rattle.graph_model.specs.Plain.{view, no_number}
-use Rattle.heap_shell.specs.declared.records.Record.{Record}
-use Rattle.heap_shell.specs.Word.{word_of}
-use Rattle.heap_shell.specs.Record.{IsRecord}
+use Rattle.log_records.specs.declared.Record.{Record}
+use Rattle.heap_shell.specs.ValueWord.{word_of}
+use Rattle.log_records.specs.Record.{IsRecord}
 use Rattle.heap_shell.specs.Machine.{State, words, may_write, start, after_all}
 use Rattle.heap_shell.specs.Image.{records_of}
 use Rattle.heap_shell.specs.Core.{Core, used, reserved}

@@ -1,7 +1,7 @@
 -- Where a record writes.
 use Rattle.std.specs.Prelude.{◌+◌, ◌<◌}
-use Rattle.heap_shell.specs.declared.records.Record.{Record}
-use Rattle.heap_shell.specs.declared.records.Record.TheVariants.{Update, Commit}
+use Rattle.log_records.specs.declared.Record.{Record}
+use Rattle.log_records.specs.declared.Record.TheVariants.{Update, Commit}
 
 -- a record writes within the used words, those of the root object
 abbrev pub IsInside : Record → Type 0

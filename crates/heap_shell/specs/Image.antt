@@ -4,12 +4,12 @@ use Rattle.std.specs.List.{flat_map, AllByRecursion}
 use Rattle.disk_model.specs.Disk.{part}
 use Rattle.graph_model.specs.Graph.{Graph}
 use Rattle.heap_shell.specs.declared.plan.Super.{Super}
-use Rattle.heap_shell.specs.declared.records.Record.{Record}
+use Rattle.log_records.specs.declared.Record.{Record}
 use Rattle.heap_shell.specs.Plan.{log_offset, image_size, frame_offset}
 use Rattle.heap_shell.specs.Super.{IsSuper, superblock}
-use Rattle.heap_shell.specs.Record.{IsRecord}
+use Rattle.log_records.specs.Record.{IsRecord}
 use Rattle.heap_shell.specs.Machine.{words, graph_of, commits, AreWhole}
-use Rattle.heap_shell.specs.Word.{IsNumberWord}
+use Rattle.heap_shell.specs.ValueWord.{IsNumberWord}
 use Rattle.heap_shell.specs.Log.{HoldsBatches}
 
 -- the records of batches, in order

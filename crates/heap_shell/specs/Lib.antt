@@ -34,12 +34,11 @@ pub mod Plan
 pub mod Play
 pub mod Playable
 pub mod Reader
-pub mod Record
 pub mod Recovered
 pub mod Reserve
 pub mod Script
 pub mod Status
 pub mod StatusOf
 pub mod Super
-pub mod Word
+pub mod ValueWord
 pub mod Working

@@ -2,8 +2,8 @@
 use Rattle.std.specs.Prelude.{◌≡◌, ◌≢◌, ℕ, List, [], ◌∷◌, ◌++◌, length}
 use Rattle.std.specs.List.{flat_map}
 use Rattle.std.specs.Int.{w32, to_le_bytes}
-use Rattle.heap_shell.specs.declared.records.Record.{Record}
-use Rattle.heap_shell.specs.Record.{spellings}
+use Rattle.log_records.specs.declared.Record.{Record}
+use Rattle.log_records.specs.Record.{spellings}
 
 -- a length and that many bytes of records
 abbrev pub framed : List Record → List ℕ

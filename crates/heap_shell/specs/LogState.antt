@@ -1,8 +1,8 @@
 -- What a log in memory stands for.
 use Rattle.std.specs.Prelude.{◌≡◌, ℕ, List, ◌++◌, length}
 use Rattle.heap_shell.specs.declared.log.Log.{Log}
-use Rattle.heap_shell.specs.declared.records.Record.{Record}
-use Rattle.heap_shell.specs.Record.{spellings}
+use Rattle.log_records.specs.declared.Record.{Record}
+use Rattle.log_records.specs.Record.{spellings}
 use Rattle.heap_shell.specs.Log.{batches_bytes}
 
 -- The log knows where these batches end, and these records wait in it behind room for their length.

@@ -1,9 +1,9 @@
 -- What a list of records says: the words that they leave, and which of them can follow which.
 use Rattle.std.specs.Prelude.{◌≡◌, ℕ, ◌+◌, ◌==◌, nat_lt, List, [], ◌∷◌, Bool, true, false, ◌&&◌, Option, None, Some, fold, map, drop, max, slice_set, count_by, option_and_then, if◌then◌else◌}
 use Rattle.graph_model.specs.Graph.{Graph, root_graph}
-use Rattle.heap_shell.specs.declared.records.Record.{Record}
-use Rattle.heap_shell.specs.declared.records.Record.TheVariants.{Update, Commit}
-use Rattle.heap_shell.specs.Word.{value_of}
+use Rattle.log_records.specs.declared.Record.{Record}
+use Rattle.log_records.specs.declared.Record.TheVariants.{Update, Commit}
+use Rattle.heap_shell.specs.ValueWord.{value_of}
 
 -- the first contents of the used words: the root object's header, its birth and its four null fields
 abbrev pub first_contents : List ℕ

@@ -10,7 +10,7 @@ use Rattle.graph_model.specs.History.{Account, account}
 use Rattle.heap_shell.specs.declared.active.Active.{Active}
 use Rattle.heap_shell.specs.declared.heap.Heap.{Heap}
 use Rattle.heap_shell.specs.declared.plan.Super.{Super}
-use Rattle.heap_shell.specs.declared.records.Record.{Record}
+use Rattle.log_records.specs.declared.Record.{Record}
 use Rattle.heap_shell.specs.declared.working.Working.{Working}
 use Rattle.heap_shell.specs.Core.{Core, is_put, IsStep}
 use Rattle.heap_shell.specs.CoreCrash.{KeepsCommits}

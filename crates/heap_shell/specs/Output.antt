@@ -12,7 +12,7 @@ use Rattle.heap_shell.specs.Headline.{IsEndOfPlay, recovered_line, graph_text}
 use Rattle.heap_shell.specs.Machine.{words, graph_of}
 use Rattle.heap_shell.specs.Means.{all_records}
 use Rattle.heap_shell.specs.Play.{WroteFront}
-use Rattle.heap_shell.specs.Word.{IsNumberWord}
+use Rattle.heap_shell.specs.ValueWord.{IsNumberWord}
 
 -- All of a text was written, or a first part of it where that ended in an error.
 abbrev pub WroteText : Result (Unit {0}) Status → List ℕ → List ℕ → List ℕ → Type 0

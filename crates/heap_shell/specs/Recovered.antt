@@ -4,7 +4,7 @@ use Rattle.heap_shell.specs.declared.log.LogError.{LogError}
 use Rattle.heap_shell.specs.declared.log.LogError.TheVariants as logging
 use Rattle.heap_shell.specs.declared.plan.Super.{Super}
 use Rattle.heap_shell.specs.declared.status.At.TheVariants.{Batch}
-use Rattle.heap_shell.specs.declared.records.Record.{Record}
+use Rattle.log_records.specs.declared.Record.{Record}
 use Rattle.heap_shell.specs.declared.recovery.OpenError.{OpenError}
 use Rattle.heap_shell.specs.declared.recovery.OpenError.TheVariants.{NoMemory, NotHeap, Damaged, Disk}
 use Rattle.heap_shell.specs.declared.recovery.Recovered.{Recovered}

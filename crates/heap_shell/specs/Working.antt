@@ -4,14 +4,14 @@ use Rattle.graph_model.specs.declared.reply.Refusal.{Refusal}
 use Rattle.graph_model.specs.declared.reply.Refusal.TheVariants.{AlreadyActive, NotActive, NumbersSpent, BadHandle, Range, BadField}
 use Rattle.graph_model.specs.Plain.{no_number, no_int}
 use Rattle.heap_shell.specs.declared.active.Active.{Active}
-use Rattle.heap_shell.specs.declared.records.Record.{Record}
-use Rattle.heap_shell.specs.declared.records.Record.TheVariants.{Update, Commit}
+use Rattle.log_records.specs.declared.Record.{Record}
+use Rattle.log_records.specs.declared.Record.TheVariants.{Update, Commit}
 use Rattle.heap_shell.specs.declared.log.Log.{Log}
 use Rattle.heap_shell.specs.declared.working.Working.{Working}
 use Rattle.heap_shell.specs.Core.{full_log}
 use Rattle.heap_shell.specs.LogRoom.{used_bytes, need_bytes}
 use Rattle.heap_shell.specs.Machine.{put_record}
-use Rattle.heap_shell.specs.Record.{spelling}
+use Rattle.log_records.specs.Record.{spelling}
 
 -- why the log has no room, by what an event needs and what is kept after it
 abbrev pub no_room : Log → ℕ → ℕ → Option Refusal

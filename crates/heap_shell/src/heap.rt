@@ -11,7 +11,7 @@ ghost use Rattle.graph_model.specs.History.{account};
 ghost use Rattle.graph_model.specs.declared.event.Event.TheVariants.{Force};
 ghost use Rattle.graph_model.specs.declared.reply.Refusal.TheVariants.{DiskFault, Stopped};
 ghost use Rattle.heap_shell.specs.declared.plan.Super.{Super};
-ghost use Rattle.heap_shell.specs.declared.records.Record.{Record};
+ghost use Rattle.log_records.specs.declared.Record.{Record};
 ghost use Rattle.heap_shell.specs.Image.{records_of, IsLegal};
 ghost use Rattle.heap_shell.specs.Causes.{step_device, reply_device, opened_device};
 ghost use Rattle.heap_shell.specs.Core.{Core, IsStep, fresh, calls};
@@ -20,7 +20,7 @@ ghost use Rattle.heap_shell.specs.CoreLawsRun.{IsIdle};
 ghost use Rattle.heap_shell.specs.CoreValid.{IsReached};
 ghost use Rattle.heap_shell.specs.Machine.{words, graph_of, commits};
 ghost use Rattle.heap_shell.specs.Recovered.{IsFromOutside};
-ghost use Rattle.heap_shell.specs.Word.{IsNumberWord};
+ghost use Rattle.heap_shell.specs.ValueWord.{IsNumberWord};
 
 use crate::graph_text::root_text;
 use crate::history::History;

@@ -5,8 +5,8 @@ ghost use Rattle.std.specs.List.{AllByRecursion};
 ghost use Rattle.disk_model.specs.Disk.{part, Only, Narrows, HasCause};
 ghost use Rattle.disk_model.specs.Moments.{LeavesOnly};
 ghost use Rattle.gate_slot.specs.Passing.{Passes};
-ghost use Rattle.heap_shell.specs.declared.records.Record.{Record};
-ghost use Rattle.heap_shell.specs.Record.{spelling, spellings, IsRecord};
+ghost use Rattle.log_records.specs.declared.Record.{Record};
+ghost use Rattle.log_records.specs.Record.{spelling, spellings, IsRecord};
 ghost use Rattle.heap_shell.specs.Format.{SameOutside};
 ghost use Rattle.heap_shell.specs.Image.{records_of};
 ghost use Rattle.heap_shell.specs.Log.{batch, batches_bytes, with_batch, HoldsBatches};
@@ -14,9 +14,9 @@ ghost use Rattle.heap_shell.specs.declared.log.LogError.TheVariants.{NoMemory, B
 ghost use Rattle.heap_shell.specs.LogCause.{log_device_result};
 ghost use Rattle.heap_shell.specs.LogRoom.{used_bytes, need_bytes};
 
-use crate::records::{self, Record};
 use disk_model::{Disk, DiskError};
 use gate_slot::{CLOSED, OPEN, fill_and_open};
+use log_records::Record;
 use std::alloc::{AllocError, AllocFailed, Global};
 
 /// The bytes of a batch beside its records: its gate and its length.
@@ -146,7 +146,7 @@ impl Log {
     pub fn need(&self, rec: &Record) -> u64
         ensures { result ≡ need_bytes (vec_len self.now.hand) (length (spelling rec.now)) }
     {
-        let own = records::length(rec);
+        let own = log_records::length(rec);
         if self.pending() {
             own
         } else {
@@ -174,7 +174,7 @@ impl Log {
         ensures err { OnErr result (self.new.hand.items ≡ self.old.hand.items) }
         ensures place { IsPlaced self.old self.new }
     {
-        records::encode(rec, &mut self.hand)
+        log_records::encode(rec, &mut self.hand)
     }
 
     /// Writes all records that wait as one batch, in four device calls. Without any it makes none. After an error
@@ -305,7 +305,7 @@ fn read_records(bytes: &[u8], into: &mut Vec<Record>) -> Result<bool, AllocError
 {
     let mut rest = bytes;
     while !rest.is_empty() {
-        let Some((record, length)) = records::decode(rest) else {
+        let Some((record, length)) = log_records::decode(rest) else {
             return Ok(false);
         };
         into.push(record)?;

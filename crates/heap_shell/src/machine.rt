@@ -4,7 +4,7 @@ ghost use Rattle.heap_shell.specs.Machine.{start, may_write, after};
 ghost use Rattle.heap_shell.specs.Effect.{IsInside};
 
 use crate::page_words::{FIELDS_AT, ROOT_WORDS};
-use crate::records::Record;
+use log_records::Record;
 
 /// A record can't follow those before it.
 #[derive(Clone, Copy, Debug, PartialEq, Eq)]

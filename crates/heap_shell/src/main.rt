@@ -15,13 +15,11 @@ mod number;
 mod page_words;
 mod plan;
 mod play;
-mod records;
 mod recovery;
 mod run;
 mod script;
 mod status;
 mod superblock;
-mod words;
 mod working;
 
 use disk_model::{MemoryDisk, Pick};

@@ -3,7 +3,7 @@ ghost use Rattle.std.specs.Prelude.{◌≡◌, ◌+◌, drop};
 ghost use Rattle.heap_shell.specs.Machine.{first_contents, put_record};
 ghost use Rattle.heap_shell.specs.Effect.{IsInside};
 
-use crate::records::Record;
+use log_records::Record;
 
 /// The words of the root object: its header, its birth and its fields.
 pub const ROOT_WORDS: usize = 6;

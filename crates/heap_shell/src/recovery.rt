@@ -5,27 +5,27 @@ ghost use Rattle.disk_model.specs.Disk.{Narrows, HasCause};
 ghost use Rattle.disk_model.specs.Moments.{LeavesOnly};
 ghost use Rattle.graph_model.specs.RootGraph.{IsPlain, AllPlain};
 ghost use Rattle.heap_shell.specs.declared.plan.Super.{Super};
-ghost use Rattle.heap_shell.specs.declared.records.Record.{Record};
+ghost use Rattle.log_records.specs.declared.Record.{Record};
 ghost use Rattle.heap_shell.specs.Causes.{open_device};
 ghost use Rattle.heap_shell.specs.Image.{IsLegal};
 ghost use Rattle.heap_shell.specs.Machine.{start, after_all, words, AreWhole};
 ghost use Rattle.heap_shell.specs.MachineState.{state_of};
 ghost use Rattle.heap_shell.specs.Plan.{image_size};
-ghost use Rattle.heap_shell.specs.Record.{IsRecord};
+ghost use Rattle.log_records.specs.Record.{IsRecord};
 ghost use Rattle.heap_shell.specs.Recovered.{IsRecovered, IsFromOutside, IsFromImage};
 ghost use Rattle.heap_shell.specs.Super.{IsSuper, superblock};
-ghost use Rattle.heap_shell.specs.Word.{IsNumberWord, value_of};
+ghost use Rattle.heap_shell.specs.ValueWord.{IsNumberWord, value_of};
 
 use crate::log::{Log, LogError};
 use crate::machine::{LogState, Unshaped};
 use crate::page_words::{PageWords, ROOT_FIELDS};
 use crate::plan::{SUPER_BYTES, Super};
-use crate::records::Record;
 use crate::status::At;
 use crate::superblock::read_super;
-use crate::words::{Word, decode};
 use disk_model::{Disk, DiskError};
 use graph_model::Val;
+use heap_words::{Word, decode};
+use log_records::Record;
 use std::alloc::Global;
 
 /// Why a heap could not be opened.

@@ -9,9 +9,9 @@ use crate::active::{Active, HANDLES, UNDO_BYTES};
 use crate::log::Log;
 use crate::log_room::log_refusal;
 use crate::page_words::{PageWords, ROOT_FIELDS};
-use crate::records::{LAST_NUMBER, Record};
-use crate::words::{NO_INT, Word, encode};
 use graph_model::{Refusal, Reply};
+use heap_words::{NO_INT, Word, encode};
+use log_records::{LAST_NUMBER, Record};
 use std::alloc::AllocError;
 
 /// The first number that no transaction has.

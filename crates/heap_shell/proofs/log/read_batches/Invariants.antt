@@ -1,9 +1,9 @@
 use Rattle.std.proofs.Common.{◌-◌, ◌<◌, ◌≤◌, List, length, drop, vec_len}
 use Rattle.std.specs.List.{AllByRecursion}
-use Rattle.heap_shell.specs.declared.records.Record.{Record}
+use Rattle.log_records.specs.declared.Record.{Record}
 use Rattle.heap_shell.specs.Image.{records_of}
 use Rattle.heap_shell.specs.Log.{HoldsBatches}
-use Rattle.heap_shell.specs.Record.{IsRecord}
+use Rattle.log_records.specs.Record.{IsRecord}
 use Rattle.heap_shell.proofs.LogReading.{IsWalking}
 use Rattle.heap_shell.proofs.log.read_batches.Given as goal
 

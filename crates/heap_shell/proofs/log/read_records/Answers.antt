@@ -1,7 +1,7 @@
 use Rattle.std.proofs.Common.{◌≡◌, ℕ, ◌<◌, ◌≤◌, length, ◌∙◌, ap, List, arith, rules, length-drop}
 use Rattle.std.proofs.lemmas.Bool.Decides.{nat_tests}
 use Rattle.std.proofs.lemmas.List.{take_rest}
-use Rattle.heap_shell.specs.Record.{spelling}
+use Rattle.log_records.specs.Record.{spelling}
 use Rattle.heap_shell.proofs.LogReading.{finds_next, reads_on, read_all, good_push, spelling_some, fewer}
 use Rattle.heap_shell.proofs.log.read_records.Goals as goal
 

@@ -1,7 +1,7 @@
 use Rattle.std.proofs.Common.{◌≡◌, ◌+◌, ◌≤◌, List, length, vec_len}
 use Rattle.std.specs.List.{AllByRecursion}
-use Rattle.heap_shell.specs.declared.records.Record.{Record}
-use Rattle.heap_shell.specs.Record.{spellings, IsRecord}
+use Rattle.log_records.specs.declared.Record.{Record}
+use Rattle.log_records.specs.Record.{spellings, IsRecord}
 use Rattle.heap_shell.proofs.LogReading.{IsReading}
 use Rattle.heap_shell.proofs.log.read_records.Given as goal
 

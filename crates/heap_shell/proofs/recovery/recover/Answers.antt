@@ -3,13 +3,13 @@ use Rattle.std.specs.List.{AllByRecursion}
 use Rattle.std.specs.Prelude.{IsOk}
 use Rattle.disk_model.specs.Disk.{part}
 use Rattle.heap_shell.specs.declared.plan.Super.{Super}
-use Rattle.heap_shell.specs.declared.records.Record.{Record}
+use Rattle.log_records.specs.declared.Record.{Record}
 use Rattle.heap_shell.specs.Causes.{open_device}
 use Rattle.heap_shell.specs.Image.{IsLegal, records_of}
 use Rattle.heap_shell.specs.Log.{HoldsBatches}
 use Rattle.heap_shell.specs.LogCause.{log_device_result}
 use Rattle.heap_shell.specs.Machine.{start, after_all, words, AreWhole}
-use Rattle.heap_shell.specs.Word.{IsNumberWord}
+use Rattle.heap_shell.specs.ValueWord.{IsNumberWord}
 use Rattle.heap_shell.specs.Plan.{image_size, log_offset}
 use Rattle.heap_shell.specs.Recovered.{open_error}
 use Rattle.heap_shell.proofs.Causes.{cause_then}

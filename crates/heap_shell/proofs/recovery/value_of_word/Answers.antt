@@ -1,5 +1,5 @@
 use Rattle.std.proofs.Common.{⊎_elim}
-use Rattle.heap_shell.specs.declared.words.Word.TheVariants.{Null, Int}
+use Rattle.heap_words.specs.declared.Word.TheVariants.{Null, Int}
 use Rattle.heap_shell.proofs.recovery.value_of_word.Goals as goal
 
 pub returns-in_err-decode-clause-only : goal.returns-in_err-decode-clause-only

@@ -1,9 +1,9 @@
 -- What the bytes of an update's spelling say of its fields.
 use Rattle.std.proofs.Common.{◌≡◌, ℕ, List, ◌∷◌, ◌++◌, get_or, drop, refl, ap, ◌∙◌, arith}
 use Rattle.std.specs.Int.{w16, w32, w64, to_le_bytes}
-use Rattle.heap_shell.specs.declared.records.Record.{Record}
-use Rattle.heap_shell.specs.declared.records.Record.TheVariants.{Update, Commit}
-use Rattle.heap_shell.specs.Record.{Begins, IsUpdate, IsRecord}
+use Rattle.log_records.specs.declared.Record.{Record}
+use Rattle.log_records.specs.declared.Record.TheVariants.{Update, Commit}
+use Rattle.log_records.specs.Record.{Begins, IsUpdate, IsRecord}
 
 -- the record is an update, and these bytes begin with its fields
 pub record HasUpdate (bytes : List ℕ) (rec : Record) : Type 0 where

@@ -1,12 +1,14 @@
-//! The records of the log, and how they are spelled.
+//! The records of the log, and how they are spelled: a byte of its kind, then its fields, lowest bytes first.
+#![tactic(auto)]
+
 ghost use Rattle.std.specs.Prelude.{◌≡◌, ◌^◌, ◌<◌, ◌∷◌, ◌++◌, List, ℕ, length, take, Some, IfSome, OnOk, OnErr};
 ghost use Rattle.std.specs.Int.{w16, w32, w64, to_le_bytes};
-ghost use Rattle.heap_shell.specs.declared.records.Record.{Record};
-ghost use Rattle.heap_shell.specs.declared.records.Record.TheVariants.{Update, Commit};
-ghost use Rattle.heap_shell.specs.Record.{spelling, Begins, Reads, IsNumber, IsRecord};
-ghost use Rattle.heap_shell.specs.Word.{IsFieldWord};
+ghost use Rattle.log_records.specs.declared.Record.{Record};
+ghost use Rattle.log_records.specs.declared.Record.TheVariants.{Update, Commit};
+ghost use Rattle.log_records.specs.Record.{spelling, Begins, Reads, IsNumber, IsRecord};
+ghost use Rattle.heap_words.specs.Word.{IsFieldWord};
 
-use crate::words::decode as decode_word;
+use heap_words::decode as decode_word;
 use std::alloc::AllocError;
 
 const UPDATE: u8 = 1;
@@ -22,10 +24,10 @@ pub const COMMIT_BYTES: usize = 5;
 /// The greatest number of a transaction.
 pub const LAST_NUMBER: u32 = 4_294_967_294;
 
-/// A record of the log.
+/// A record of the log. Its bytes are read again only where `t` is from 1 to 4,294,967,294 and each word is one of a field.
 #[derive(Clone, Copy, Debug, PartialEq, Eq)]
 pub enum Record {
-    /// Transaction `t` wrote `word` into a field of the object at that address, where `was` stood.
+    /// Transaction `t` wrote `word` into a field of the object at word address `object`, where `was` stood.
     Update {
         t: u32,
         object: u32,
@@ -167,3 +169,6 @@ pub fn decode(bytes: &[u8]) -> Option<(Record, usize)>
         _ => None,
     }
 }
+
+#[cfg(test)]
+mod tests;

@@ -1,6 +1,6 @@
 use Rattle.std.proofs.Common.{arith}
-use Rattle.heap_shell.proofs.Fields.{found_4}
-use Rattle.heap_shell.proofs.records.u32_at.Goals as goal
+use Rattle.log_records.proofs.Fields.{found_4}
+use Rattle.log_records.proofs.u32_at.Goals as goal
 
 pub returns-clause-found : goal.returns-clause-found
 returns-clause-found c =

@@ -1,7 +1,7 @@
 use Rattle.std.proofs.Common.{ap, sym, ◌∙◌}
-use Rattle.heap_shell.specs.Record.{spelling}
-use Rattle.heap_shell.proofs.Fields.{appended}
-use Rattle.heap_shell.proofs.records.encode.Goals as goal
+use Rattle.log_records.specs.Record.{spelling}
+use Rattle.log_records.proofs.Fields.{appended}
+use Rattle.log_records.proofs.encode.Goals as goal
 
 pub returns-in-Update-clause-ok : goal.returns-in-Update-clause-ok
 returns-in-Update-clause-ok c =

@@ -1,5 +1,5 @@
-use Rattle.heap_shell.proofs.Spelled.{has_update, whole_update}
-use Rattle.heap_shell.proofs.records.update_at.Goals as goal
+use Rattle.log_records.proofs.Spelled.{has_update, whole_update}
+use Rattle.log_records.proofs.update_at.Goals as goal
 
 pub returns-in_err-field-clause-only : goal.returns-in_err-field-clause-only
 returns-in_err-field-clause-only c rec good begins =

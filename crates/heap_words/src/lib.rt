@@ -1,7 +1,9 @@
-//! The words of a page, and what they mean.
+//! The 64-bit words of an object's fields, and what they mean.
+#![tactic(auto)]
+
 ghost use Rattle.std.specs.Prelude.{◌≡◌, Some, IfSome};
-ghost use Rattle.heap_shell.specs.declared.words.Word.{Word};
-ghost use Rattle.heap_shell.specs.Word.{bits, IsWord};
+ghost use Rattle.heap_words.specs.declared.Word.{Word};
+ghost use Rattle.heap_words.specs.Word.{bits, IsWord};
 
 /// The stable words of the largest heap.
 pub const STABLE_WORDS: u32 = 2_097_152;

@@ -1,0 +1,22 @@
+-- What a field's word means.
+use Rattle.std.specs.Prelude.{◌≡◌, ℕ, ◌+◌, ◌*◌, ◌^◌, ◌<◌}
+use Rattle.heap_words.specs.declared.Word.{Word}
+use Rattle.heap_words.specs.declared.Word.TheVariants.{Null, Int, Stable, Volatile}
+
+-- the word that has a meaning
+abbrev pub bits : Word → ℕ
+bits Null = 0
+bits (Int n) = 4 * n + 1
+bits (Stable address) = 4 * address + 2
+bits (Volatile index) = 4 * index + 3
+
+-- the bounds of a meaning
+abbrev pub IsWord : Word → Type 0
+IsWord Null = Unit {0}
+IsWord (Int n) = n < 2 ^ 62
+IsWord (Stable address) = address < 2097152
+IsWord (Volatile index) = index < 4096
+
+-- a word that a field may have
+abbrev pub IsFieldWord : ℕ → Type 0
+IsFieldWord w = (word : Word) × IsWord word × (w ≡ bits word)
