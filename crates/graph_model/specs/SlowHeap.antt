@@ -4,7 +4,7 @@ use Rattle.graph_model.specs.declared.id.Id.{Id}
 use Rattle.graph_model.specs.declared.val.Val.{Val}
 use Rattle.graph_model.specs.declared.val.Val.TheVariants.{Null, Int}
 use Rattle.graph_model.specs.declared.event.Event.{Event}
-use Rattle.graph_model.specs.declared.event.Event.TheVariants.{Begin, Seal, Abort, Force}
+use Rattle.graph_model.specs.declared.event.Event.TheVariants.{Force}
 use Rattle.graph_model.specs.declared.reply.Refusal.{Refusal}
 use Rattle.graph_model.specs.declared.open_transaction.Called.{Called}
 use Rattle.graph_model.specs.declared.open_transaction.OpenTransaction.{OpenTransaction}
@@ -17,14 +17,6 @@ use Rattle.graph_model.specs.Plain.{view, view_refusal}
 abbrev pub IsSingleSession : Event → Type 0
 IsSingleSession Force = Unit {0}
 IsSingleSession event = session_of event ≡ 1
-
--- a call of session 1's transaction
-abbrev pub IsCall : Event → Type 0
-IsCall (Begin s) = ⊥
-IsCall (Seal s) = ⊥
-IsCall (Abort s) = ⊥
-IsCall Force = ⊥
-IsCall event = session_of event ≡ 1
 
 -- a field that is null or a number
 abbrev pub val_of : Option ℕ → Val

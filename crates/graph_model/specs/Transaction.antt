@@ -4,7 +4,7 @@ use Rattle.graph_model.specs.declared.id.Id.{Id}
 use Rattle.graph_model.specs.declared.val.Val.{Val}
 use Rattle.graph_model.specs.declared.val.Val.TheVariants.{Null, Int, Ref}
 use Rattle.graph_model.specs.declared.event.Event.{Event}
-use Rattle.graph_model.specs.declared.event.Event.TheVariants.{Root, Put, Clear, Drop, Get, Same, Len}
+use Rattle.graph_model.specs.declared.event.Event.TheVariants.{Begin, Root, Put, Clear, Drop, Get, Same, Len, Seal, Abort, Force}
 use Rattle.graph_model.specs.declared.reply.Reply.{Reply}
 use Rattle.graph_model.specs.declared.reply.Reply.TheVariants as answer
 use Rattle.graph_model.specs.Graph.{Graph, is_same_id, root, fields, with_field}
@@ -71,6 +71,14 @@ read view h v = record { view = record { graph = view.graph; registers = with_re
 -- nothing changes
 abbrev pub tell : View → Reply → Outcome
 tell view reply = record { view = view; reply = reply }
+
+-- Calls are what a transaction does between its begin and its end.
+abbrev pub IsCall : Event → Type 0
+IsCall (Begin s) = ⊥
+IsCall (Seal s) = ⊥
+IsCall (Abort s) = ⊥
+IsCall Force = ⊥
+IsCall event = Unit {0}
 
 -- one call of transaction t; other events call nothing
 abbrev pub call : View → ℕ → Event → Outcome

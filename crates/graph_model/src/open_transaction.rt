@@ -1,5 +1,5 @@
 //! A transaction that has not ended, as the slow heap keeps it.
-ghost use Rattle.std.specs.Prelude.{◌≡◌, Some, if◌then◌else◌};
+ghost use Rattle.std.specs.Prelude.{◌≡◌, ℕ, if◌then◌else◌};
 ghost use Rattle.graph_model.specs.Graph.{root};
 ghost use Rattle.graph_model.specs.Transaction.{held, no_registers};
 
@@ -56,7 +56,10 @@ impl OpenTransaction {
             Event::Same { h, h2, .. } => self.same(h, h2),
             Event::Len { h, .. } => self.len(h),
             Event::Begin { .. } | Event::Seal { .. } | Event::Abort { .. } | Event::Force => {
-                Ok(self.told(Reply::Done))
+                Ok(Called {
+                reply: Reply::Done,
+                after: self,
+            })
             }
         }
     }
@@ -68,27 +71,22 @@ impl OpenTransaction {
         h < HANDLES && self.holds_root[h as usize]
     }
 
-    // The same transaction after a call that was answered so.
-    fn told(self, reply: Reply) -> Called
-        ensures reply { result.reply ≡ reply }
-        ensures after { result.after ≡ self }
-    {
-        Called { reply, after: self }
-    }
-
     fn root(self, h: u64) -> Result<Called, Refusal>
-        ensures { IsCalled self (Event.Root 1 h) result }
+        ensures { (s : ℕ) → IsCalled self (Event.Root s h) result }
     {
         if h >= HANDLES {
             return Err(Refusal::BadHandle);
         }
         let mut after = self;
         after.holds_root[h as usize] = true;
-        Ok(after.told(Reply::Done))
+        Ok(Called {
+            reply: Reply::Done,
+            after,
+        })
     }
 
     fn put(self, h: u64, i: u64, v: u64) -> Result<Called, Refusal>
-        ensures { IsCalled self (Event.Put 1 h i v) result }
+        ensures { (s : ℕ) → IsCalled self (Event.Put s h i v) result }
     {
         if !self.is_held(h) {
             return Err(Refusal::BadHandle);
@@ -101,11 +99,14 @@ impl OpenTransaction {
         }
         let mut after = self;
         after.fields[i as usize] = Some(v);
-        Ok(after.told(Reply::Done))
+        Ok(Called {
+            reply: Reply::Done,
+            after,
+        })
     }
 
     fn clear(self, h: u64, i: u64) -> Result<Called, Refusal>
-        ensures { IsCalled self (Event.Clear 1 h i) result }
+        ensures { (s : ℕ) → IsCalled self (Event.Clear s h i) result }
     {
         if !self.is_held(h) {
             return Err(Refusal::BadHandle);
@@ -115,23 +116,29 @@ impl OpenTransaction {
         }
         let mut after = self;
         after.fields[i as usize] = None;
-        Ok(after.told(Reply::Done))
+        Ok(Called {
+            reply: Reply::Done,
+            after,
+        })
     }
 
     fn empty(self, h: u64) -> Result<Called, Refusal>
-        ensures { IsCalled self (Event.Drop 1 h) result }
+        ensures { (s : ℕ) → IsCalled self (Event.Drop s h) result }
     {
         if h >= HANDLES {
             return Err(Refusal::BadHandle);
         }
         let mut after = self;
         after.holds_root[h as usize] = false;
-        Ok(after.told(Reply::Done))
+        Ok(Called {
+            reply: Reply::Done,
+            after,
+        })
     }
 
     // Handle h2 stays as it is, since no field refers to anything.
     fn get(self, h: u64, i: u64, h2: u64) -> Result<Called, Refusal>
-        ensures { IsCalled self (Event.Get 1 h i h2) result }
+        ensures { (s : ℕ) → IsCalled self (Event.Get s h i h2) result }
     {
         if h2 >= HANDLES || !self.is_held(h) {
             return Err(Refusal::BadHandle);
@@ -139,29 +146,36 @@ impl OpenTransaction {
         if i >= self.fields.len() as u64 {
             return Err(Refusal::BadField);
         }
-        match self.fields[i as usize] {
-            None => Ok(self.told(Reply::Null)),
-            Some(v) => Ok(self.told(Reply::Int { v })),
-        }
+        let reply = match self.fields[i as usize] {
+            None => Reply::Null,
+            Some(v) => Reply::Int { v },
+        };
+        Ok(Called { reply, after: self })
     }
 
     // Two handles that hold anything hold the root.
     fn same(self, h: u64, h2: u64) -> Result<Called, Refusal>
-        ensures { IsCalled self (Event.Same 1 h h2) result }
+        ensures { (s : ℕ) → IsCalled self (Event.Same s h h2) result }
     {
         if !self.is_held(h) || !self.is_held(h2) {
             return Err(Refusal::BadHandle);
         }
-        Ok(self.told(Reply::Yes))
+        Ok(Called {
+            reply: Reply::Yes,
+            after: self,
+        })
     }
 
     fn len(self, h: u64) -> Result<Called, Refusal>
-        ensures { IsCalled self (Event.Len 1 h) result }
+        ensures { (s : ℕ) → IsCalled self (Event.Len s h) result }
     {
         if !self.is_held(h) {
             return Err(Refusal::BadHandle);
         }
         let n = self.fields.len() as u64;
-        Ok(self.told(Reply::Length { n }))
+        Ok(Called {
+            reply: Reply::Length { n },
+            after: self,
+        })
     }
 }

@@ -2,13 +2,13 @@
 ghost use Rattle.std.specs.Prelude.{◌≡◌, ◌≤◌, ◌++◌, List, [], ◌∷◌, length, map, take, slice_index_or, IfOk, OnErr, OnOk};
 ghost use Rattle.std.specs.String.{string_bytes};
 ghost use Rattle.graph_model.specs.Graph.{new_graph};
-ghost use Rattle.graph_model.specs.Transaction.{serial};
+ghost use Rattle.graph_model.specs.Transaction.{IsCall, serial};
 ghost use Rattle.graph_model.specs.History.{account, sealed};
 ghost use Rattle.graph_model.specs.Plain.{plain_reply};
 ghost use Rattle.graph_model.specs.Canon.{canon};
 ghost use Rattle.graph_model.specs.Text.{canon_text, field_text, fields_text};
 ghost use Rattle.graph_model.specs.RootGraph.{plain_shown};
-ghost use Rattle.graph_model.specs.SlowHeap.{IsSingleSession, IsCall, val_of};
+ghost use Rattle.graph_model.specs.SlowHeap.{IsSingleSession, val_of};
 
 use crate::event::Event;
 use crate::open_transaction::{OpenTransaction, RootFields};
@@ -125,7 +125,8 @@ impl SlowHeap {
 
     // A call of the transaction.
     fn call(&mut self, event: Event) -> Result<Reply, AllocError>
-        requires { IsCall event }
+        requires call { IsCall event }
+        requires session { IsSingleSession event }
         ensures reply { IfOk result (λ reply. reply ≡ plain_reply 1 new_graph (account self.old) event) }
         ensures entry { IfOk result (λ reply. self.new ≡ self.old ++ (record { event = event; reply = reply }) ∷ []) }
         ensures err { OnErr result (self.new ≡ self.old) }
