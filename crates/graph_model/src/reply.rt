@@ -37,8 +37,22 @@ pub enum Reply {
     Begun { n: u64 },
     /// It was done.
     Done,
+    /// The field is null.
+    Null,
+    /// The field is this number.
+    Int { v: u64 },
+    /// The field is a reference.
+    Reference,
+    /// It is so.
+    Yes,
+    /// It is not so.
+    No,
+    /// The object has that many fields.
+    Length { n: u64 },
     /// The transaction was sealed, the nth since the heap was opened.
     Sealed { n: u64 },
+    /// The transaction ended, and nothing of it stays.
+    Aborted,
     /// All that was sealed is on the disk: that many transactions since the heap was opened.
     Durable { n: u64 },
     /// It was not done.
@@ -82,7 +96,14 @@ impl fmt::Display for Reply {
         match self {
             Reply::Begun { n } => write!(f, "begun {n}"),
             Reply::Done => f.write_str("done"),
+            Reply::Null => f.write_str("null"),
+            Reply::Int { v } => write!(f, "int {v}"),
+            Reply::Reference => f.write_str("ref"),
+            Reply::Yes => f.write_str("yes"),
+            Reply::No => f.write_str("no"),
+            Reply::Length { n } => write!(f, "len {n}"),
             Reply::Sealed { n } => write!(f, "sealed {n}"),
+            Reply::Aborted => f.write_str("aborted"),
             Reply::Durable { n } => write!(f, "durable {n}"),
             Reply::Refused { why } => write!(f, "{why}"),
         }

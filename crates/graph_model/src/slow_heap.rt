@@ -2,13 +2,13 @@
 ghost use Rattle.std.specs.Prelude.{◌≡◌, ◌≤◌, ◌++◌, List, [], ◌∷◌, length, map, take, slice_index_or, IfOk, OnErr, OnOk};
 ghost use Rattle.std.specs.String.{string_bytes};
 ghost use Rattle.graph_model.specs.Graph.{new_graph};
-ghost use Rattle.graph_model.specs.Transaction.{serial};
+ghost use Rattle.graph_model.specs.Transaction.{IsCall, serial};
 ghost use Rattle.graph_model.specs.History.{account, sealed};
 ghost use Rattle.graph_model.specs.Plain.{plain_reply};
 ghost use Rattle.graph_model.specs.Canon.{canon};
 ghost use Rattle.graph_model.specs.Text.{canon_text, field_text, fields_text};
 ghost use Rattle.graph_model.specs.RootGraph.{plain_shown};
-ghost use Rattle.graph_model.specs.SlowHeap.{IsSingleSession, IsCall, IsSeenAfter, val_of};
+ghost use Rattle.graph_model.specs.SlowHeap.{IsSingleSession, val_of};
 
 use crate::event::Event;
 use crate::open_transaction::{OpenTransaction, RootFields};
@@ -94,10 +94,10 @@ impl SlowHeap {
     {
         match event {
             Event::Begin { .. } => self.begin(),
-            Event::Root { h, .. } => self.hold_root(h),
-            Event::Put { h, i, v, .. } => self.put(h, i, v),
             Event::Seal { .. } => self.seal(),
+            Event::Abort { .. } => self.abort(),
             Event::Force => self.force(),
+            _ => self.call(event),
         }
     }
 
@@ -123,35 +123,24 @@ impl SlowHeap {
         Ok(reply)
     }
 
-    fn hold_root(&mut self, h: u64) -> Result<Reply, AllocError>
-        ensures reply { IfOk result (λ reply. reply ≡ plain_reply 1 new_graph (account self.old) (Event.Root SESSION h)) }
-        ensures entry { IfOk result (λ reply. self.new ≡ self.old ++ (record { event = Event.Root SESSION h; reply = reply }) ∷ []) }
+    // A call of the transaction.
+    fn call(&mut self, event: Event) -> Result<Reply, AllocError>
+        requires call { IsCall event }
+        requires session { IsSingleSession event }
+        ensures reply { IfOk result (λ reply. reply ≡ plain_reply 1 new_graph (account self.old) event) }
+        ensures entry { IfOk result (λ reply. self.new ≡ self.old ++ (record { event = event; reply = reply }) ∷ []) }
         ensures err { OnErr result (self.new ≡ self.old) }
     {
-        let event = Event::Root { s: SESSION, h };
         match self.active {
             None => self.refuse(event, Refusal::NotActive),
-            Some(_) if h >= 64 => self.refuse(event, Refusal::BadHandle),
-            Some(transaction) => self.call(event, transaction.with_root(h)),
-        }
-    }
-
-    fn put(&mut self, h: u64, i: u64, v: u64) -> Result<Reply, AllocError>
-        ensures reply { IfOk result (λ reply. reply ≡ plain_reply 1 new_graph (account self.old) (Event.Put SESSION h i v)) }
-        ensures entry { IfOk result (λ reply. self.new ≡ self.old ++ (record { event = Event.Put SESSION h i v; reply = reply }) ∷ []) }
-        ensures err { OnErr result (self.new ≡ self.old) }
-    {
-        let event = Event::Put {
-            s: SESSION,
-            h,
-            i,
-            v,
-        };
-        match self.active {
-            None => self.refuse(event, Refusal::NotActive),
-            Some(transaction) => match transaction.put_refusal(h, i, v) {
-                Some(why) => self.refuse(event, why),
-                None => self.call(event, transaction.with_put(i, v)),
+            Some(transaction) => match transaction.call(event) {
+                Err(why) => self.refuse(event, why),
+                Ok(called) => {
+                    let reply = called.reply;
+                    self.history.push(Entry { event, reply })?;
+                    self.active = Some(called.after);
+                    Ok(reply)
+                }
             },
         }
     }
@@ -171,6 +160,21 @@ impl SlowHeap {
         self.states.reserve(1)?;
         self.history.push(Entry { event, reply })?;
         self.states.push(transaction.fields).unwrap();
+        self.active = None;
+        Ok(reply)
+    }
+
+    fn abort(&mut self) -> Result<Reply, AllocError>
+        ensures reply { IfOk result (λ reply. reply ≡ plain_reply 1 new_graph (account self.old) (Event.Abort SESSION)) }
+        ensures entry { IfOk result (λ reply. self.new ≡ self.old ++ (record { event = Event.Abort SESSION; reply = reply }) ∷ []) }
+        ensures err { OnErr result (self.new ≡ self.old) }
+    {
+        let event = Event::Abort { s: SESSION };
+        if self.active.is_none() {
+            return self.refuse(event, Refusal::NotActive);
+        }
+        let reply = Reply::Aborted;
+        self.history.push(Entry { event, reply })?;
         self.active = None;
         Ok(reply)
     }
@@ -197,20 +201,6 @@ impl SlowHeap {
     {
         let reply = Reply::Refused { why };
         self.history.push(Entry { event, reply })?;
-        Ok(reply)
-    }
-
-    // A call of the transaction, which leaves this of it.
-    fn call(&mut self, event: Event, after: OpenTransaction) -> Result<Reply, AllocError>
-        requires call { IsCall event }
-        requires after { IsSeenAfter (account self.old) event after }
-        ensures reply { IfOk result (λ reply. reply ≡ Reply.Done) }
-        ensures entry { IfOk result (λ reply. self.new ≡ self.old ++ (record { event = event; reply = reply }) ∷ []) }
-        ensures err { OnErr result (self.new ≡ self.old) }
-    {
-        let reply = Reply::Done;
-        self.history.push(Entry { event, reply })?;
-        self.active = Some(after);
         Ok(reply)
     }
 }
