@@ -19,7 +19,7 @@ use Rattle.graph_model.specs.HistoryLaws.{account-append, entries-account}
 use Rattle.graph_model.specs.Plain.{granted, reply_of}
 use Rattle.graph_model.specs.PlainLaws.{account_after-refused}
 use Rattle.heap_shell.specs.declared.log.Log.{Log}
-use Rattle.heap_shell.specs.declared.plan.Super.{Super}
+use Rattle.image_plan.specs.declared.superblock.Super.{Super}
 use Rattle.log_records.specs.declared.Record.{Record}
 use Rattle.heap_shell.specs.declared.working.Working.{Working}
 use Rattle.heap_shell.specs.Core.{Core, next_number, core_refusal, answer, with_entry, after_refusal, after}
@@ -36,7 +36,7 @@ use Rattle.heap_shell.specs.LogState.{Keeps, IsPlaced}
 use Rattle.heap_shell.specs.Machine as machine
 use Rattle.heap_shell.specs.Machine.{words}
 use Rattle.heap_shell.specs.Means.{Works, OnDisk, Means, Steps}
-use Rattle.heap_shell.specs.Plan.{frame_offset}
+use Rattle.image_plan.specs.Plan.{frame_offset}
 use Rattle.log_records.specs.Record.{spellings}
 use Rattle.heap_shell.proofs.MeansLeft.{keeps_refused, keeps_cut}
 use Rattle.heap_shell.proofs.MeansLog.{hand_length, keeps_same}

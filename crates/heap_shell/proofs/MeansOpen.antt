@@ -2,7 +2,7 @@
 use Rattle.std.proofs.Common.{◌≡◌, ℕ, ◌≤◌, List, [], Some, None, refl, sym, ap, ◌∙◌, subst, arith}
 use Rattle.std.proofs.lemmas.List.{append-nil}
 use Rattle.disk_model.specs.Disk.{Only, Narrows}
-use Rattle.heap_shell.specs.declared.plan.Super.{Super}
+use Rattle.image_plan.specs.declared.superblock.Super.{Super}
 use Rattle.log_records.specs.declared.Record.{Record}
 use Rattle.heap_shell.specs.declared.recovery.Recovered.{Recovered}
 use Rattle.heap_shell.specs.declared.working.Working.{Working}

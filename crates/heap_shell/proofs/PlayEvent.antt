@@ -18,7 +18,7 @@ use Rattle.graph_model.specs.History.{account}
 use Rattle.graph_model.specs.PlainLaws.{IsSoundReply, granted_sound, sound_either}
 use Rattle.graph_model.specs.Text.{line}
 use Rattle.heap_shell.specs.declared.heap.Heap.{Heap}
-use Rattle.heap_shell.specs.declared.plan.Super.{Super}
+use Rattle.image_plan.specs.declared.superblock.Super.{Super}
 use Rattle.heap_shell.specs.declared.play.Ended.{Ended}
 use Rattle.heap_shell.specs.declared.play.Ended.TheVariants as ended
 use Rattle.log_records.specs.declared.Record.{Record}

@@ -1,7 +1,7 @@
 -- What is made of a disk's image while an empty heap is written over it.
 use Rattle.std.specs.Prelude.{◌≡◌, ◌⊎◌, ℕ, ◌+◌, ◌-◌, ◌/◌, ◌<◌, ◌≤◌, ◌==◌, List, [], length, slice_index, if◌then◌else◌}
 use Rattle.gate_slot.specs.Gate.{IsClosed}
-use Rattle.heap_shell.specs.declared.plan.Super.{Super}
+use Rattle.image_plan.specs.declared.superblock.Super.{Super}
 use Rattle.heap_shell.specs.Image.{IsLegal}
 
 -- new has the size of old, and the same bytes outside of those from `from` to `end`

@@ -3,10 +3,10 @@ use Rattle.std.specs.Prelude.{◌≡◌, ◌≢◌, ℕ, ◌*◌, ◌<◌, ◌�
 use Rattle.std.specs.List.{flat_map, AllByRecursion}
 use Rattle.disk_model.specs.Disk.{part}
 use Rattle.graph_model.specs.Graph.{Graph}
-use Rattle.heap_shell.specs.declared.plan.Super.{Super}
+use Rattle.image_plan.specs.declared.superblock.Super.{Super}
 use Rattle.log_records.specs.declared.Record.{Record}
-use Rattle.heap_shell.specs.Plan.{log_offset, image_size, frame_offset}
-use Rattle.heap_shell.specs.Super.{IsSuper, superblock}
+use Rattle.image_plan.specs.Plan.{log_offset, image_size, frame_offset}
+use Rattle.image_plan.specs.Super.{IsSuper, superblock}
 use Rattle.log_records.specs.Record.{IsRecord}
 use Rattle.heap_shell.specs.Machine.{words, graph_of, commits, AreWhole}
 use Rattle.heap_shell.specs.ValueWord.{IsNumberWord}

@@ -30,7 +30,6 @@ pub mod MachineState
 pub mod Means
 pub mod Number
 pub mod Output
-pub mod Plan
 pub mod Play
 pub mod Playable
 pub mod Reader
@@ -39,6 +38,5 @@ pub mod Reserve
 pub mod Script
 pub mod Status
 pub mod StatusOf
-pub mod Super
 pub mod ValueWord
 pub mod Working

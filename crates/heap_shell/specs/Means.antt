@@ -9,7 +9,7 @@ use Rattle.graph_model.specs.Transaction.{Transaction, run, serial}
 use Rattle.graph_model.specs.History.{Account, account}
 use Rattle.heap_shell.specs.declared.active.Active.{Active}
 use Rattle.heap_shell.specs.declared.heap.Heap.{Heap}
-use Rattle.heap_shell.specs.declared.plan.Super.{Super}
+use Rattle.image_plan.specs.declared.superblock.Super.{Super}
 use Rattle.log_records.specs.declared.Record.{Record}
 use Rattle.heap_shell.specs.declared.working.Working.{Working}
 use Rattle.heap_shell.specs.Core.{Core, is_put, IsStep}
@@ -17,7 +17,7 @@ use Rattle.heap_shell.specs.CoreCrash.{KeepsCommits}
 use Rattle.heap_shell.specs.Image.{records_of, IsLegal}
 use Rattle.heap_shell.specs.LogState.{Keeps}
 use Rattle.heap_shell.specs.Machine.{words, graph_of}
-use Rattle.heap_shell.specs.Plan.{log_offset}
+use Rattle.image_plan.specs.Plan.{log_offset}
 
 -- what is kept in memory of a transaction on a graph: its number, which handles hold an object, and how often it wrote
 abbrev pub active_of : Graph → Option Transaction → Option Active

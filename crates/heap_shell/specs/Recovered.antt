@@ -2,7 +2,7 @@
 use Rattle.std.specs.Prelude.{◌≡◌, ◌+◌, List, [], Some, max}
 use Rattle.heap_shell.specs.declared.log.LogError.{LogError}
 use Rattle.heap_shell.specs.declared.log.LogError.TheVariants as logging
-use Rattle.heap_shell.specs.declared.plan.Super.{Super}
+use Rattle.image_plan.specs.declared.superblock.Super.{Super}
 use Rattle.heap_shell.specs.declared.status.At.TheVariants.{Batch}
 use Rattle.log_records.specs.declared.Record.{Record}
 use Rattle.heap_shell.specs.declared.recovery.OpenError.{OpenError}
@@ -12,7 +12,7 @@ use Rattle.heap_shell.specs.Image.{records_of}
 use Rattle.heap_shell.specs.LogState.{Keeps}
 use Rattle.heap_shell.specs.Machine.{start, after_all, words}
 use Rattle.heap_shell.specs.MachineState.{state_of}
-use Rattle.heap_shell.specs.Plan.{log_offset}
+use Rattle.image_plan.specs.Plan.{log_offset}
 
 -- The parts of a heap, as a legal image with these numbers and batches has them.
 pub record IsRecovered (s : Super) (batches : List (List Record)) (found : Recovered) : Type 0 where

@@ -7,13 +7,12 @@ ghost use Rattle.heap_shell.specs.declared.format.FormatError.TheVariants.{TooSm
 ghost use Rattle.heap_shell.specs.Format.{SameOutside, AreZero, IsFormatting, zero_writes, format_calls};
 ghost use Rattle.heap_shell.specs.GivenBack.{given_back, device_result, FailsByDisk};
 ghost use Rattle.heap_shell.specs.Image.{IsLegal};
-ghost use Rattle.heap_shell.specs.Plan.{image_size};
-ghost use Rattle.heap_shell.specs.Super.{IsSuper};
+ghost use Rattle.image_plan.specs.Plan.{image_size};
+ghost use Rattle.image_plan.specs.Super.{IsSuper};
 
-use crate::plan::{SUPER_BYTES, Super};
-use crate::superblock::write_super;
 use disk_model::{Disk, DiskError};
 use gate_slot::{close_gate, fill_and_open};
+use image_plan::{SUPER_BYTES, Super, write_super};
 
 /// The bytes of each write of a format.
 const PIECE: usize = 65_536;

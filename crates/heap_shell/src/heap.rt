@@ -10,7 +10,7 @@ ghost use Rattle.graph_model.specs.SlowHeap.{IsSingleSession};
 ghost use Rattle.graph_model.specs.History.{account};
 ghost use Rattle.graph_model.specs.declared.event.Event.TheVariants.{Force};
 ghost use Rattle.graph_model.specs.declared.reply.Refusal.TheVariants.{DiskFault, Stopped};
-ghost use Rattle.heap_shell.specs.declared.plan.Super.{Super};
+ghost use Rattle.image_plan.specs.declared.superblock.Super.{Super};
 ghost use Rattle.log_records.specs.declared.Record.{Record};
 ghost use Rattle.heap_shell.specs.Image.{records_of, IsLegal};
 ghost use Rattle.heap_shell.specs.Causes.{step_device, reply_device, opened_device};

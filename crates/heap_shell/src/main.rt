@@ -13,13 +13,11 @@ mod log_room;
 mod machine;
 mod number;
 mod page_words;
-mod plan;
 mod play;
 mod recovery;
 mod run;
 mod script;
 mod status;
-mod superblock;
 mod working;
 
 use disk_model::{MemoryDisk, Pick};

@@ -3,7 +3,7 @@ ghost use Rattle.std.specs.Prelude.{◌≡◌, ◌≤◌, [], ◌∷◌, IfErr, 
 ghost use Rattle.disk_model.specs.Disk.{HasCause};
 ghost use Rattle.graph_model.specs.declared.event.Event.TheVariants.{Seal, Force};
 ghost use Rattle.graph_model.specs.Text.{line};
-ghost use Rattle.heap_shell.specs.declared.plan.Super.{Super};
+ghost use Rattle.image_plan.specs.declared.superblock.Super.{Super};
 ghost use Rattle.heap_shell.specs.Causes.{IsOutputError, played_device};
 ghost use Rattle.heap_shell.specs.Core.{Core};
 ghost use Rattle.heap_shell.specs.HeapState.{heap_disk};

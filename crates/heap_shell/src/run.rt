@@ -6,7 +6,7 @@ ghost use Rattle.disk_model.specs.Fuse.{fuse_inner};
 ghost use Rattle.disk_model.specs.Moments.{LeavesOnly};
 ghost use Rattle.graph_model.specs.Graph.{Graph};
 ghost use Rattle.heap_shell.specs.declared.command.Play.{Play};
-ghost use Rattle.heap_shell.specs.declared.plan.Super.{Super};
+ghost use Rattle.image_plan.specs.declared.superblock.Super.{Super};
 ghost use Rattle.heap_shell.specs.declared.script.Line.{Line};
 ghost use Rattle.heap_shell.specs.declared.script.ScriptError.TheVariants.{Fault};
 ghost use Rattle.heap_shell.specs.declared.status.Status.TheVariants.{NoMemory, WriteFault};
@@ -21,20 +21,20 @@ ghost use Rattle.heap_shell.specs.HeapState.{commits_of};
 ghost use Rattle.heap_shell.specs.Image.{IsLegal};
 ghost use Rattle.heap_shell.specs.Means.{IsHeap};
 ghost use Rattle.heap_shell.specs.Output.{WroteText, HasGraph, Recovers, status_after};
-ghost use Rattle.heap_shell.specs.Plan.{image_size};
+ghost use Rattle.image_plan.specs.Plan.{image_size};
 ghost use Rattle.heap_shell.specs.Script.{script, events};
 ghost use Rattle.heap_shell.specs.StatusOf.{script_status, input_status, format_status, open_status};
 
 use crate::command::read_words;
 use crate::format::{FormatError, format};
 use crate::heap::Heap;
-use crate::plan::Super;
 use crate::play::{Ended, play_lines};
 use crate::recovery::OpenError;
 use crate::script::{Line, MOST_BYTES, ScriptError, read_script};
 use crate::status::Status;
 use disk_model::{Disk, FuseDisk};
 use heap_io::{Sink, SinkFailed, Source, TakeAllError, put_all, take_all};
+use image_plan::Super;
 use std::alloc::{AllocError, Global};
 
 /// The bytes of the log of a heap that is made afresh.

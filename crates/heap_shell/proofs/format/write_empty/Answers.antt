@@ -3,9 +3,9 @@ use Rattle.std.proofs.lemmas.Result.{on_ok_weaker}
 use Rattle.counts.specs.Count.{counted}
 use Rattle.disk_model.specs.Moments.{weaker}
 use Rattle.gate_slot.specs.Gate.{filled, IsClosedInEach, IsFilling}
-use Rattle.heap_shell.specs.declared.plan.Plan.{Plan}
-use Rattle.heap_shell.specs.Super.{superblock}
-use Rattle.heap_shell.specs.Plan.{image_size}
+use Rattle.image_plan.specs.declared.plan.Plan.{Plan}
+use Rattle.image_plan.specs.Super.{superblock}
+use Rattle.image_plan.specs.Plan.{image_size}
 use Rattle.heap_shell.specs.Format.{AreZero, IsFormatting, zero_writes}
 use Rattle.heap_shell.specs.Image.{IsLegal}
 use Rattle.heap_shell.proofs.Empty.{empty, zeroing, filling, closing_run, run_then, made_calls}

@@ -1,7 +1,7 @@
 -- The superblock at the front of an image.
 use Rattle.std.specs.Prelude.{ℕ, ◌^◌, ◌<◌, ◌≤◌, List, ◌∷◌, ◌++◌, replicate, codes}
 use Rattle.std.specs.Int.{w32, to_le_bytes}
-use Rattle.heap_shell.specs.declared.plan.Super.{Super}
+use Rattle.image_plan.specs.declared.superblock.Super.{Super}
 
 -- the limits of a heap's numbers
 pub record IsSuper (s : Super) : Type 0 where

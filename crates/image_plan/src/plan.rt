@@ -1,6 +1,6 @@
 //! Where the parts of an image lie.
-ghost use Rattle.std.specs.Prelude.{◌≡◌, ◌+◌, ◌*◌, ◌<◌, ◌≤◌, ◌↔◌, Some, IfSome, IsTrue};
-ghost use Rattle.heap_shell.specs.Plan.{log_offset, image_size, frame_offset};
+ghost use Rattle.std.specs.Prelude.{◌≡◌, ◌+◌, ◌*◌, ◌<◌, ◌≤◌};
+ghost use Rattle.image_plan.specs.Plan.{log_offset, image_size, frame_offset};
 
 /// The bytes of the superblock, which the log follows.
 pub const SUPER_BYTES: usize = 64;
@@ -46,50 +46,19 @@ impl Plan {
             + FRAMES_PER_PAGE * FRAME_BYTES * u64::from(self.pages)
     }
 
-    /// Where the log begins.
+    /// The byte of the image where the log begins.
     pub fn log_at(&self) -> u64
         ensures { result ≡ log_offset }
     {
         SUPER_BYTES as u64
     }
 
-    /// Where frame `f`, 0 or 1, of page `p` begins.
+    /// Where frame `f`, 0 or 1, of page `p` begins. The pages of both spaces are numbered from 0 on.
     pub fn frame_at(&self, p: u32, f: u32) -> u64
         ensures place { result ≡ frame_offset self.now.log_bytes p f }
         ensures behind_log { log_offset + self.now.log_bytes ≤ result }
         ensures inside { p < 2 * self.now.pages → f < 2 → result + 528 ≤ image_size self.now.pages self.now.log_bytes }
     {
         self.log_at() + u64::from(self.log_bytes) + (2 * u64::from(p) + u64::from(f)) * FRAME_BYTES
-    }
-}
-
-/// What the superblock says of a heap: the numbers that it was made with.
-#[derive(Clone, Copy, Debug, PartialEq, Eq)]
-pub struct Super {
-    /// The pages of each space, 1 to 16,384.
-    pub pages: u32,
-    /// The bytes of the log, 64 to 1,073,741,824.
-    pub log_bytes: u32,
-    /// The first transaction number, from 1.
-    pub first: u32,
-}
-
-impl Super {
-    ghost use Rattle.heap_shell.specs.Super.{IsSuper};
-
-    /// The plan of the heap.
-    pub fn plan(&self) -> Plan
-        ensures { result ≡ record { pages = self.now.pages; log_bytes = self.now.log_bytes } }
-    {
-        Plan::of(self.pages, self.log_bytes)
-    }
-
-    /// Whether the numbers are within their limits.
-    pub fn is_within_limits(&self) -> bool
-        ensures { IsTrue result ↔ IsSuper self.now }
-    {
-        (1..=MOST_PAGES).contains(&self.pages)
-            && (LEAST_LOG..=MOST_LOG).contains(&self.log_bytes)
-            && self.first >= 1
     }
 }
