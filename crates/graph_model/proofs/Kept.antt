@@ -14,7 +14,7 @@ use Rattle.graph_model.specs.declared.open_transaction.Called.{Called}
 use Rattle.graph_model.specs.declared.open_transaction.OpenTransaction.{OpenTransaction}
 use Rattle.graph_model.specs.Graph.{Graph, new_graph, root_graph}
 use Rattle.graph_model.specs.Transaction.{Registers, Transaction, View, Outcome, IsCall, no_registers, call, run, serial}
-use Rattle.graph_model.specs.History.{Account, account, account_after, with_call, session_of, calls}
+use Rattle.graph_model.specs.History.{Account, account, account_after, with_call, session_of, makes_call}
 use Rattle.graph_model.specs.HistoryLaws.{IsCallReply, call-IsCallReply, account-append, account_after-call, run-append, serial-append}
 use Rattle.graph_model.specs.Plain.{view, view_refusal, call_refusal, call_reply, reply_of, plain_reply}
 use Rattle.graph_model.specs.PlainLaws.{IsNoFault, plain_reply-call, account_after-refused}
@@ -140,8 +140,8 @@ plain_call a next states before event k is one =
     let told = reply_to_call a (a.active 1) before event k.seen in (
       told.0,
       plain_reply-call 1 new_graph a event k.unfailed is
-      ∙ ap (λ s. reply_of (call_refusal new_graph a (a.active s) event) (call_reply new_graph a (a.active s) event)) (call_session event is one)
-      ∙ told.1,
+          ∙ ap (λ s. reply_of (call_refusal new_graph a (a.active s) event) (call_reply new_graph a (a.active s) event)) (call_session event is one)
+          ∙ told.1,
     )
 
 -- what a call is answered that is refused
@@ -169,11 +169,11 @@ pub kept_called : (a : Account) (next : ℕ) (states : List (List (Option ℕ)))
 kept_called a next states before event called k is one granted =
     let told = subst IsCallReply (ap (λ (o : Outcome). o.reply) (granted.1 0)) (call-IsCallReply (seen_by before) 0 event) in
     let P : Account → Type 0 = λ b. IsKept b next (Some called.after) states in
-    let Q : ℕ → Type 0 = λ s. P (record (calls a s event) { entries = a.entries + 1 }) in
+    let Q : ℕ → Type 0 = λ s. P (record (makes_call a s event) { entries = a.entries + 1 }) in
     subst P (sym (account_after-call a event called.reply told)) (subst Q (sym (call_session event is one)) (record {
       unfailed = k.unfailed;
       numbered = k.numbered;
-      seen = called_seen a (record (calls a 1 event) { entries = a.entries + 1 }) (a.active 1) before called.after event refl k.seen (λ t. ap (λ (o : Outcome). o.view) (granted.1 t));
+      seen = called_seen a (record (makes_call a 1 event) { entries = a.entries + 1 }) (a.active 1) before called.after event refl k.seen (λ t. ap (λ (o : Outcome). o.view) (granted.1 t));
       count = k.count;
       graphs = k.graphs;
     }))

@@ -1,7 +1,8 @@
 -- What the calls of a transaction that has not ended do, where it sees the root alone.
-use Rattle.std.proofs.Common.{◌≡◌, ℕ, Bool, true, ◌<◌, ◌≤◌, List, map, length, get_or, Option, Some, None, refl, sym, ap, ◌∙◌, arith}
+use Rattle.std.proofs.Common.{◌≡◌, ℕ, Bool, true, false, inl, inr, ◌<◌, ◌≤◌, List, map, length, get_or, Option, Some, None, refl, sym, ap, ◌∙◌, arith}
 use Rattle.std.proofs.lemmas.List.{length-map, map-set, get_or-map, get_or_read}
-use Rattle.std.specs.Prelude.{nat_lt, slice_set, slice_index_or, if◌then◌else◌}
+use Rattle.std.specs.Prelude.{◌↔◌, IsTrue, nat_lt, slice_set, slice_index_or, if◌then◌else◌}
+use Rattle.std.proofs.lemmas.Bool.{cases_lt}
 use Rattle.std.proofs.lemmas.Bool.Decides.{nat_tests}
 use Rattle.graph_model.specs.declared.id.Id.{Id}
 use Rattle.graph_model.specs.declared.val.Val.{Val}
@@ -23,11 +24,15 @@ outcome g rs = record { view = record { graph = g; registers = rs }; reply = Don
 pub held_root : (b : Bool) (o : Option Id) → b ≡ true → o ≡ (if b then Some root else None) → o ≡ Some root
 held_root b o h e = e ∙ ap (λ c. if c then Some root else None) h
 
+-- a test that fails
+pub past_of : (b : Bool) (i n : ℕ) → IsTrue b ↔ (i < n) → b ≡ false → n ≤ i
+past_of b i n decides fails = elim (cases_lt i n) [ inl lt ↦ let is : true ≡ false = sym (decides.1 lt) ∙ fails in cc | inr le ↦ le ]
+
 -- there is such a handle
 pub handle_within : (h : ℕ) → h < 64 → handle_refusal h ≡ None
 handle_within h lt = grind (arith, nat_tests)
 
--- nor does it keep a field from being read
+-- which is no reason to refuse a read
 pub second_within : (h : ℕ) (o : Option Refusal) → h < 64 → (if nat_lt 63 h then Some BadHandle else o) ≡ o
 second_within h o lt = grind (arith, nat_tests)
 

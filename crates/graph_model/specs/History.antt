@@ -9,7 +9,7 @@ use Rattle.graph_model.specs.declared.reply.Reply.TheVariants.{Begun, Sealed, Ab
 use Rattle.graph_model.specs.declared.reply.Entry.{Entry}
 use Rattle.graph_model.specs.Transaction.{Transaction}
 
--- the session of an event, and 0 of `force`, which is of none
+-- the session of an event, and 0 for `force`, which is of none
 abbrev pub session_of : Event → ℕ
 session_of (Begin s) = s
 session_of (Root s h) = s
@@ -51,8 +51,8 @@ abbrev pub begins : Account → ℕ → ℕ → Account
 begins a s n = record a { begun = a.begun + 1; active = with_active a.active s (Some (record { number = n; calls = [] })) }
 
 -- the transaction of session s makes a call
-abbrev pub calls : Account → ℕ → Event → Account
-calls a s event = record a { active = with_active a.active s (with_call (a.active s) event) }
+abbrev pub makes_call : Account → ℕ → Event → Account
+makes_call a s event = record a { active = with_active a.active s (with_call (a.active s) event) }
 
 -- the transaction of session s ends, and is sealed
 abbrev pub seals : Account → ℕ → Account
@@ -62,14 +62,14 @@ seals a s = record a { active = with_active a.active s None; sealed = a.sealed +
 abbrev pub aborts : Account → ℕ → Account
 aborts a s = record a { active = with_active a.active s None }
 
--- what an entry adds, by its reply: every reply but these answers a call that was not refused
+-- what an entry adds, by its reply: a reply that isn't named here is one to a call that was not refused
 abbrev pub done : Account → Event → Reply → Account
 done a event (Begun n) = begins a (session_of event) n
 done a event (Sealed n) = seals a (session_of event)
 done a event Aborted = aborts a (session_of event)
 done a event (Durable n) = record a { acknowledged = max a.acknowledged n }
 done a event (Refused why) = a
-done a event reply = calls a (session_of event) event
+done a event reply = makes_call a (session_of event) event
 
 -- the first entry at which the disk stopped or failed
 abbrev pub first_failure : Option ℕ → ℕ → Option ℕ

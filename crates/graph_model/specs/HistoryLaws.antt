@@ -15,7 +15,7 @@ use Rattle.graph_model.specs.declared.val.Val.{Val}
 use Rattle.graph_model.specs.declared.val.Val.TheVariants.{Null, Int, Ref}
 use Rattle.graph_model.specs.Graph.{Graph, is_same_id}
 use Rattle.graph_model.specs.Transaction.{Registers, no_registers, View, Transaction, held, fields_of, with_referred, value_reply, same_reply, call, after_calls, call_replies, fresh_view, run, serial}
-use Rattle.graph_model.specs.History.{Account, account_after, account, nothing_yet, session_of, calls}
+use Rattle.graph_model.specs.History.{Account, account_after, account, nothing_yet, session_of, makes_call}
 
 -- what a history says with one entry more
 pub account-append : (h : List Entry) (e : Entry) → account (h ++ e ∷ []) ≡ account_after (account h) e
@@ -167,7 +167,7 @@ call-reply v t c order = refl
 
 -- what a history says with one call more that was not refused
 pub account_after-call : (a : Account) (event : Event) (reply : Reply) → IsCallReply reply
-    → account_after a (record { event = event; reply = reply }) ≡ record (calls a (session_of event) event) { entries = a.entries + 1 }
+    → account_after a (record { event = event; reply = reply }) ≡ record (makes_call a (session_of event) event) { entries = a.entries + 1 }
 account_after-call a event (Begun n) never = absurd never
 account_after-call a event (Sealed n) never = absurd never
 account_after-call a event Aborted never = absurd never

@@ -23,14 +23,19 @@ no_int = 4611686018427387904
 abbrev pub view : Graph → Account → Transaction → View
 view g0 a t = run (serial g0 a.sealed) t
 
--- there are 64 handles
+-- why a handle can't be named
 abbrev pub handle_refusal : ℕ → Option Refusal
 handle_refusal h = if nat_lt 63 h then Some BadHandle else None
 
--- why what a handle holds can't be read
-abbrev pub held_refusal : Option Id → Option Refusal
-held_refusal None = Some BadHandle
-held_refusal (Some id) = None
+-- why what a handle holds can't be asked for its length
+abbrev pub len_refusal : Option Id → Option Refusal
+len_refusal None = Some BadHandle
+len_refusal (Some id) = None
+
+-- why what two handles hold can't be compared
+abbrev pub same_refusal : Option Id → Option Id → Option Refusal
+same_refusal (Some id) (Some other) = None
+same_refusal o p = Some BadHandle
 
 -- why a field of the object that a handle holds can't be read or be null
 abbrev pub field_refusal : Graph → Option Id → ℕ → Option Refusal
@@ -42,12 +47,7 @@ abbrev pub put_refusal : Graph → Option Id → ℕ → ℕ → Option Refusal
 put_refusal g None i v = Some BadHandle
 put_refusal g (Some id) i v = if nat_le no_int v then Some Range else field_refusal g (Some id) i
 
--- why two handles can't be compared
-abbrev pub same_refusal : Option Id → Option Id → Option Refusal
-same_refusal (Some id) (Some other) = None
-same_refusal held other = Some BadHandle
-
--- why a call is refused where the transaction sees this
+-- why a call is refused where its transaction sees this; a handle above 63 holds nothing
 abbrev pub view_refusal : View → Event → Option Refusal
 view_refusal view (Root s h) = handle_refusal h
 view_refusal view (Put s h i v) = put_refusal view.graph (held view.registers h) i v
@@ -55,10 +55,10 @@ view_refusal view (Clear s h i) = field_refusal view.graph (held view.registers 
 view_refusal view (Drop s h) = handle_refusal h
 view_refusal view (Get s h i h2) = if nat_lt 63 h2 then Some BadHandle else field_refusal view.graph (held view.registers h) i
 view_refusal view (Same s h h2) = same_refusal (held view.registers h) (held view.registers h2)
-view_refusal view (Len s h) = held_refusal (held view.registers h)
+view_refusal view (Len s h) = len_refusal (held view.registers h)
 view_refusal view event = None
 
--- why a call of a session is refused, or the end of its transaction, by that transaction
+-- why a call of a session is refused, or the end of its transaction
 abbrev pub call_refusal : Graph → Account → Option Transaction → Event → Option Refusal
 call_refusal g0 a None event = Some NotActive
 call_refusal g0 a (Some t) event = view_refusal (view g0 a t) event

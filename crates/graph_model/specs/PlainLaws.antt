@@ -11,7 +11,7 @@ use Rattle.graph_model.specs.declared.reply.Reply.TheVariants.{Done, Refused}
 use Rattle.graph_model.specs.Graph.{Graph, fields}
 use Rattle.graph_model.specs.Transaction.{View, Transaction, IsCall, held}
 use Rattle.graph_model.specs.History.{Account, session_of, answered, account_after}
-use Rattle.graph_model.specs.Plain.{no_number, no_int, handle_refusal, held_refusal, field_refusal, put_refusal, same_refusal, view_refusal, call_refusal, event_refusal, refusal_of, call_reply, granted, reply_of, plain_reply, view}
+use Rattle.graph_model.specs.Plain.{no_number, no_int, handle_refusal, len_refusal, field_refusal, put_refusal, same_refusal, view_refusal, call_refusal, event_refusal, refusal_of, call_reply, granted, reply_of, plain_reply, view}
 use Rattle.graph_model.specs.HistoryLaws.{IsCallReply, IsOrder, call-IsCallReply, call-reply}
 
 -- a refusal that doesn't come from the disk
@@ -37,9 +37,9 @@ no_fault_if false why o h k = k
 handle_no_fault : (h : ℕ) → HasNoFault (handle_refusal h)
 handle_no_fault h = no_fault_if (nat_lt 63 h) BadHandle None tt tt
 
-held_no_fault : (o : Option Id) → HasNoFault (held_refusal o)
-held_no_fault None = tt
-held_no_fault (Some id) = tt
+len_no_fault : (o : Option Id) → HasNoFault (len_refusal o)
+len_no_fault None = tt
+len_no_fault (Some id) = tt
 
 field_no_fault : (g : Graph) (o : Option Id) (i : ℕ) → HasNoFault (field_refusal g o i)
 field_no_fault g None i = tt
@@ -61,7 +61,7 @@ view_no_fault v (Clear s h i) = field_no_fault v.graph (held v.registers h) i
 view_no_fault v (Drop s h) = handle_no_fault h
 view_no_fault v (Get s h i h2) = no_fault_if (nat_lt 63 h2) BadHandle (field_refusal v.graph (held v.registers h) i) tt (field_no_fault v.graph (held v.registers h) i)
 view_no_fault v (Same s h h2) = same_no_fault (held v.registers h) (held v.registers h2)
-view_no_fault v (Len s h) = held_no_fault (held v.registers h)
+view_no_fault v (Len s h) = len_no_fault (held v.registers h)
 view_no_fault v event = tt
 
 call_no_fault : (g0 : Graph) (a : Account) (t : Option Transaction) (event : Event) → HasNoFault (call_refusal g0 a t event)

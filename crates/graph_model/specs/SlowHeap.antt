@@ -43,10 +43,10 @@ IsActiveAs a None (Some open_transaction) = ⊥
 IsActiveAs a (Some t) None = ⊥
 IsActiveAs a (Some t) (Some open_transaction) = view new_graph a t ≡ seen_by open_transaction
 
--- A call was made of a transaction that has not ended, or refused, as the model says.
+-- A call is refused as the model refuses it, or is answered and leaves what the model says.
 abbrev pub IsCalled : OpenTransaction → Event → Result Called Refusal → Type 0
-IsCalled before event (Ok called) = (view_refusal (seen_by before) event ≡ None) × ((t : ℕ) → call (seen_by before) t event ≡ record { view = seen_by called.after; reply = called.reply })
 IsCalled before event (Err why) = view_refusal (seen_by before) event ≡ Some why
+IsCalled before event (Ok called) = (view_refusal (seen_by before) event ≡ None) × ((t : ℕ) → call (seen_by before) t event ≡ record { view = seen_by called.after; reply = called.reply })
 
 -- What the slow heap keeps is what its history says.
 pub record IsKept (a : Account) (next : ℕ) (active : Option OpenTransaction) (states : List (List (Option ℕ))) : Type 0 where

@@ -40,12 +40,12 @@ abbrev pub put_value : Graph → Option Id → ℕ → Val → Graph
 put_value g None i v = g
 put_value g (Some id) i v = with_field g id i v
 
--- the handles where h holds what a value refers to, if it is a reference
+-- the handles where h holds what a value refers to; they stay as they are if it is no reference
 abbrev pub with_referred : Registers → ℕ → Val → Registers
 with_referred registers h (Ref id) = slice_set registers h (Some id)
 with_referred registers h v = registers
 
--- what a field of that value is answered
+-- what a read of that value is answered
 abbrev pub value_reply : Val → Reply
 value_reply Null = answer.Null
 value_reply (Int v) = answer.Int v
@@ -54,25 +54,25 @@ value_reply (Ref id) = answer.Reference
 -- whether two handles hold the same object
 abbrev pub same_reply : Option Id → Option Id → Reply
 same_reply (Some id) (Some other) = if is_same_id id other then answer.Yes else answer.No
-same_reply held other = answer.No
+same_reply o p = answer.No
 
--- a write of a field, and its reply
+-- handle h holds this object, or nothing
+abbrev pub hold : View → ℕ → Option Id → Outcome
+hold view h o = record { view = record { graph = view.graph; registers = slice_set view.registers h o }; reply = answer.Done }
+
+-- field i of what handle h holds has this value
 abbrev pub write : View → ℕ → ℕ → Val → Outcome
 write view h i v = record { view = record { graph = put_value view.graph (held view.registers h) i v; registers = view.registers }; reply = answer.Done }
 
--- handle h holds this, and the reply
-abbrev pub hold : View → ℕ → Option Id → Outcome
-hold view h object = record { view = record { graph = view.graph; registers = slice_set view.registers h object }; reply = answer.Done }
-
--- a field of this value is read into handle h
+-- a field of this value is read, and handle h holds what it refers to
 abbrev pub read : View → ℕ → Val → Outcome
 read view h v = record { view = record { graph = view.graph; registers = with_referred view.registers h v }; reply = value_reply v }
 
--- nothing changes
+-- nothing changes, and this is answered
 abbrev pub tell : View → Reply → Outcome
 tell view reply = record { view = view; reply = reply }
 
--- Calls are what a transaction does between its begin and its end.
+-- a call is what a transaction does between its begin and its end
 abbrev pub IsCall : Event → Type 0
 IsCall (Begin s) = ⊥
 IsCall (Seal s) = ⊥

@@ -1,5 +1,5 @@
 //! A transaction that has not ended, as the slow heap keeps it.
-ghost use Rattle.std.specs.Prelude.{◌≡◌, ℕ, if◌then◌else◌};
+ghost use Rattle.std.specs.Prelude.{◌≡◌, ◌<◌, ◌↔◌, ℕ, IsTrue, if◌then◌else◌};
 ghost use Rattle.graph_model.specs.Graph.{root};
 ghost use Rattle.graph_model.specs.Transaction.{held, no_registers};
 
@@ -57,24 +57,17 @@ impl OpenTransaction {
             Event::Len { h, .. } => self.len(h),
             Event::Begin { .. } | Event::Seal { .. } | Event::Abort { .. } | Event::Force => {
                 Ok(Called {
-                reply: Reply::Done,
-                after: self,
-            })
+                    reply: Reply::Done,
+                    after: self,
+                })
             }
         }
-    }
-
-    // Whether there is a handle of that number and it holds the root.
-    fn is_held(&self, h: u64) -> bool
-        ensures { held (registers_of self.now) h ≡ (if result then Some root else None) }
-    {
-        h < HANDLES && self.holds_root[h as usize]
     }
 
     fn root(self, h: u64) -> Result<Called, Refusal>
         ensures { (s : ℕ) → IsCalled self (Event.Root s h) result }
     {
-        if h >= HANDLES {
+        if !is_handle(h) {
             return Err(Refusal::BadHandle);
         }
         let mut after = self;
@@ -94,7 +87,7 @@ impl OpenTransaction {
         if v >= NO_INT {
             return Err(Refusal::Range);
         }
-        if i >= self.fields.len() as u64 {
+        if !self.has_field(i) {
             return Err(Refusal::BadField);
         }
         let mut after = self;
@@ -111,7 +104,7 @@ impl OpenTransaction {
         if !self.is_held(h) {
             return Err(Refusal::BadHandle);
         }
-        if i >= self.fields.len() as u64 {
+        if !self.has_field(i) {
             return Err(Refusal::BadField);
         }
         let mut after = self;
@@ -125,7 +118,7 @@ impl OpenTransaction {
     fn empty(self, h: u64) -> Result<Called, Refusal>
         ensures { (s : ℕ) → IsCalled self (Event.Drop s h) result }
     {
-        if h >= HANDLES {
+        if !is_handle(h) {
             return Err(Refusal::BadHandle);
         }
         let mut after = self;
@@ -136,14 +129,14 @@ impl OpenTransaction {
         })
     }
 
-    // Handle h2 stays as it is, since no field refers to anything.
+    // No field refers to anything, so handle h2 stays as it is.
     fn get(self, h: u64, i: u64, h2: u64) -> Result<Called, Refusal>
         ensures { (s : ℕ) → IsCalled self (Event.Get s h i h2) result }
     {
-        if h2 >= HANDLES || !self.is_held(h) {
+        if !self.is_held(h) || !is_handle(h2) {
             return Err(Refusal::BadHandle);
         }
-        if i >= self.fields.len() as u64 {
+        if !self.has_field(i) {
             return Err(Refusal::BadField);
         }
         let reply = match self.fields[i as usize] {
@@ -153,7 +146,7 @@ impl OpenTransaction {
         Ok(Called { reply, after: self })
     }
 
-    // Two handles that hold anything hold the root.
+    // Handles that hold anything hold the root.
     fn same(self, h: u64, h2: u64) -> Result<Called, Refusal>
         ensures { (s : ℕ) → IsCalled self (Event.Same s h h2) result }
     {
@@ -178,4 +171,25 @@ impl OpenTransaction {
             after: self,
         })
     }
+
+    // Whether there is a handle of that number and it holds the root.
+    fn is_held(&self, h: u64) -> bool
+        ensures { held (registers_of self.now) h ≡ (if result then Some root else None) }
+    {
+        is_handle(h) && self.holds_root[h as usize]
+    }
+
+    // Whether the root has a field of that number.
+    fn has_field(&self, i: u64) -> bool
+        ensures { IsTrue result ↔ (i < 4) }
+    {
+        i < self.fields.len() as u64
+    }
+}
+
+// Whether there is a handle of that number.
+fn is_handle(h: u64) -> bool
+    ensures { IsTrue result ↔ (h < 64) }
+{
+    h < HANDLES
 }
