@@ -2,8 +2,8 @@
 use Rattle.std.specs.Prelude.{ℕ, ◌≤◌, List, length, take}
 use Rattle.graph_model.specs.Transaction.{serial}
 use Rattle.graph_model.specs.History.{commits, acknowledged}
-use Rattle.heap_shell.specs.Core.{Core}
-use Rattle.heap_shell.specs.Image.{StandsFor}
+use Rattle.heap_model.specs.Core.{Core}
+use Rattle.heap_model.specs.Image.{StandsFor}
 
 -- An image stands for the first k commits of a core, and all that was acknowledged is among them.
 pub record StandsForFirst (c : Core) (k : ℕ) (image : List ℕ) : Type 0 where

@@ -1,7 +1,7 @@
 -- Events, one after another, where the disk does what it is asked.
 use Rattle.std.specs.Prelude.{◌≡◌, ℕ, ◌+◌, ◌≤◌, ◌<◌, List, [], ◌∷◌, ◌++◌}
 use Rattle.graph_model.specs.declared.event.Event.{Event}
-use Rattle.heap_shell.specs.Core.{Core, after, calls}
+use Rattle.heap_model.specs.Core.{Core, after, calls}
 
 -- the state after these events
 abbrev pub after_events : Core → List Event → Core

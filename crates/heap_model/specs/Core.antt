@@ -1,24 +1,27 @@
 -- The core: what each event is answered, and the state that it leaves.
-use Rattle.std.specs.Prelude.{◌≡◌, ◌≢◌, ◌⊎◌, ℕ, ◌+◌, ◌*◌, nat_lt, List, [], ◌∷◌, ◌++◌, length, Bool, true, false, Option, None, Some, unwrap_or, slice_get, count_by, if◌then◌else◌}
+use Rattle.std.specs.Prelude.{◌≡◌, ◌≢◌, ◌⊎◌, ℕ, ◌+◌, ◌*◌, nat_lt, List, [], ◌∷◌, ◌++◌, length, Bool, true, false, Option, None, Some, slice_index_or, count_by, if◌then◌else◌}
 use Rattle.graph_model.specs.declared.id.Id.{Id}
 use Rattle.graph_model.specs.declared.val.Val.{Val}
 use Rattle.graph_model.specs.declared.val.Val.TheVariants.{Null, Int}
 use Rattle.graph_model.specs.declared.event.Event.{Event}
-use Rattle.graph_model.specs.declared.event.Event.TheVariants.{Put, Seal, Force}
+use Rattle.graph_model.specs.declared.event.Event.TheVariants.{Put, Clear, Seal, Abort, Force}
 use Rattle.graph_model.specs.declared.reply.Refusal.{Refusal}
 use Rattle.graph_model.specs.declared.reply.Refusal.TheVariants.{LogFull, DiskFault, Stopped}
 use Rattle.graph_model.specs.declared.reply.Reply.{Reply}
 use Rattle.graph_model.specs.declared.reply.Reply.TheVariants.{Refused}
 use Rattle.graph_model.specs.declared.reply.Entry.{Entry}
 use Rattle.graph_model.specs.Graph.{Graph, fields, new_graph}
-use Rattle.graph_model.specs.Transaction.{Transaction, held}
+use Rattle.graph_model.specs.Transaction.{View, Transaction, held}
 use Rattle.graph_model.specs.History.{Account, account, account_after}
 use Rattle.graph_model.specs.Plain.{view, event_refusal, refusal_of, granted, reply_of}
 use Rattle.log_records.specs.declared.Record.{Record}
 use Rattle.log_records.specs.declared.Record.TheVariants.{Update, Commit}
-use Rattle.heap_shell.specs.ValueWord.{word_of}
+use Rattle.heap_model.specs.ValueWord.{word_of}
 use Rattle.log_records.specs.Record.{spellings}
-use Rattle.heap_shell.specs.Log.{batches_bytes, hand}
+use Rattle.log_machine.specs.declared.UndoEntry.{UndoEntry}
+use Rattle.gated_log.specs.Log.{records_of}
+use Rattle.gated_log.specs.Log.{batches_bytes, hand}
+use Rattle.log_machine.specs.Machine.{undo_of, abort_records}
 
 -- The state of a heap since it was opened.
 pub record Core : Type 0 where
@@ -37,27 +40,43 @@ fresh room first = record { room = room; first = first; g0 = new_graph; history 
 abbrev pub next_number : Core → ℕ
 next_number c = c.first + (account c.history).begun
 
--- the record of a write of number v into field i of the object with these fields: the root, at address 0
-abbrev pub update : ℕ → List Val → ℕ → ℕ → Record
-update t vs i v = Update t 0 i (word_of (unwrap_or (slice_get vs i) Null)) (word_of (Int v))
+-- the records on the disk and those that wait
+abbrev pub all_records : Core → List Record
+all_records c = records_of c.batches ++ c.pending
 
--- the record of a put into the object that a handle holds
-abbrev pub put_records : ℕ → Graph → Option Id → ℕ → ℕ → List Record
-put_records t g None i v = []
-put_records t g (Some id) i v = update t (fields g id) i v ∷ []
+-- the record of a write of a value into field i of the object with these fields: the root, at address 0
+abbrev pub update : ℕ → List Val → ℕ → Val → Record
+update t vs i v = Update t 0 i (word_of (slice_index_or vs i Null)) (word_of v)
 
--- the records of a call of a session, by its transaction
-abbrev pub call_records : Graph → Account → Option Transaction → Event → List Record
-call_records g0 a None event = []
-call_records g0 a (Some t) (Put s h i v) = put_records t.number (view g0 a t).graph (held (view g0 a t).registers h) i v
-call_records g0 a (Some t) (Seal s) = Commit t.number ∷ []
-call_records g0 a (Some t) event = []
+-- the record of a write into the object that a handle holds
+abbrev pub write_records : ℕ → Graph → Option Id → ℕ → Val → List Record
+write_records t g None i v = []
+write_records t g (Some id) i v = update t (fields g id) i v ∷ []
+
+-- the same, where the transaction sees this
+abbrev pub view_records : ℕ → View → ℕ → ℕ → Val → List Record
+view_records t view h i v = write_records t view.graph (held view.registers h) i v
+
+-- the records of a call of a session, by its transaction and the writes that may be taken back
+abbrev pub call_records : Graph → Account → List UndoEntry → Option Transaction → Event → List Record
+call_records g0 a undo None event = []
+call_records g0 a undo (Some t) (Put s h i v) = view_records t.number (view g0 a t) h i (Int v)
+call_records g0 a undo (Some t) (Clear s h i) = view_records t.number (view g0 a t) h i Null
+call_records g0 a undo (Some t) (Seal s) = Commit t.number ∷ []
+call_records g0 a undo (Some t) (Abort s) = abort_records t.number undo
+call_records g0 a undo (Some t) event = []
+
+-- the records that an event appends, where these writes may be taken back
+abbrev pub records_for : Graph → Account → List UndoEntry → Event → List Record
+records_for g0 a undo (Put s h i v) = call_records g0 a undo (a.active s) (Put s h i v)
+records_for g0 a undo (Clear s h i) = call_records g0 a undo (a.active s) (Clear s h i)
+records_for g0 a undo (Seal s) = call_records g0 a undo (a.active s) (Seal s)
+records_for g0 a undo (Abort s) = call_records g0 a undo (a.active s) (Abort s)
+records_for g0 a undo event = []
 
 -- the records that an event appends
-abbrev pub event_records : Graph → Account → Event → List Record
-event_records g0 a (Put s h i v) = call_records g0 a (a.active s) (Put s h i v)
-event_records g0 a (Seal s) = call_records g0 a (a.active s) (Seal s)
-event_records g0 a event = []
+abbrev pub event_records : Core → Event → List Record
+event_records c event = records_for c.g0 (account c.history) (undo_of (all_records c)) event
 
 -- the log's bytes that are used: the forced batches, a gate, and the batch in hand
 abbrev pub used : Core → ℕ
@@ -69,14 +88,15 @@ need pending [] = 0
 need [] (r ∷ rs) = length (spellings (r ∷ rs)) + 5
 need (p ∷ ps) (r ∷ rs) = length (spellings (r ∷ rs))
 
-abbrev pub is_put : Event → Bool
-is_put (Put s h i v) = true
-is_put event = false
+abbrev pub is_write : Event → Bool
+is_write (Put s h i v) = true
+is_write (Clear s h i) = true
+is_write event = false
 
 -- the bytes that are kept for the end of a transaction: a record, a batch, and the old word of each write
 abbrev pub reserved : Option Transaction → ℕ
 reserved None = 0
-reserved (Some t) = 10 + 19 * count_by is_put t.calls
+reserved (Some t) = 10 + 19 * count_by is_write t.calls
 
 -- what is kept after an event, if it is granted
 abbrev pub reserved_after : Core → Event → ℕ
@@ -89,7 +109,7 @@ full_log room used need reserved = if nat_lt room (used + need + reserved) then 
 
 -- why the log has no room for an event
 abbrev pub log_refusal : Core → Event → Option Refusal
-log_refusal c event = full_log c.room (used c) (need c.pending (event_records c.g0 (account c.history) event)) (reserved_after c event)
+log_refusal c event = full_log c.room (used c) (need c.pending (event_records c event)) (reserved_after c event)
 
 -- the first reason of two
 abbrev pub first_of_two : Option Refusal → Option Refusal → Option Refusal
@@ -118,7 +138,7 @@ forced c (r ∷ rs) = record c { batches = c.batches ++ (r ∷ rs) ∷ []; pendi
 -- what an event that is granted does
 abbrev pub done : Core → Event → Core
 done c Force = forced c c.pending
-done c event = record c { pending = c.pending ++ event_records c.g0 (account c.history) event }
+done c event = record c { pending = c.pending ++ event_records c event }
 
 -- what an event does that may be refused
 abbrev pub after_refusal : Option Refusal → Core → Event → Core

@@ -1,14 +1,13 @@
 -- What the calls of each transaction were answered, as a history tells it.
 use Rattle.std.specs.Prelude.{◌≡◌, ℕ, ◌==◌, List, [], ◌∷◌, ◌++◌, fold, MatchOption, if◌then◌else◌}
 use Rattle.graph_model.specs.declared.event.Event.{Event}
-use Rattle.graph_model.specs.declared.event.Event.TheVariants.{Begin, Root, Put, Seal}
 use Rattle.graph_model.specs.declared.reply.Entry.{Entry}
 use Rattle.graph_model.specs.declared.reply.Reply.{Reply}
-use Rattle.graph_model.specs.declared.reply.Reply.TheVariants.{Begun, Sealed, Refused}
+use Rattle.graph_model.specs.declared.reply.Reply.TheVariants.{Begun, Sealed, Aborted, Durable, Refused}
 use Rattle.graph_model.specs.Graph.{Graph}
 use Rattle.graph_model.specs.Transaction.{replies, serial, serial_replies}
-use Rattle.graph_model.specs.History.{Account, account}
-use Rattle.heap_shell.specs.Core.{Core}
+use Rattle.graph_model.specs.History.{Account, account, session_of}
+use Rattle.heap_model.specs.Core.{Core}
 
 -- The replies to the calls of transactions.
 pub record Heard : Type 0 where
@@ -23,18 +22,22 @@ nothing_heard = record { active = λ s. []; sealed = [] }
 abbrev pub with_replies : (ℕ → List Reply) → ℕ → List Reply → ℕ → List Reply
 with_replies active s own session = if session == s then own else active session
 
--- what a call's reply adds: a call that was refused is none of its transaction
+-- what a call's reply adds
 abbrev pub hear_call : Heard → ℕ → Reply → Heard
-hear_call heard s (Refused why) = heard
 hear_call heard s reply = record heard { active = with_replies heard.active s (heard.active s ++ reply ∷ []) }
 
--- what an event's reply adds
+-- the replies to the calls of a session's transaction are complete
+abbrev pub hear_seal : Heard → ℕ → Heard
+hear_seal heard s = record heard { active = with_replies heard.active s []; sealed = heard.sealed ++ heard.active s ∷ [] }
+
+-- what an event's reply adds: every reply but these answers a call that was not refused
 abbrev pub hear : Heard → Event → Reply → Heard
-hear heard (Begin s) (Begun n) = record heard { active = with_replies heard.active s [] }
-hear heard (Root s h) reply = hear_call heard s reply
-hear heard (Put s h i v) reply = hear_call heard s reply
-hear heard (Seal s) (Sealed n) = record heard { active = with_replies heard.active s []; sealed = heard.sealed ++ heard.active s ∷ [] }
-hear heard event reply = heard
+hear heard event (Begun n) = record heard { active = with_replies heard.active (session_of event) [] }
+hear heard event (Sealed n) = hear_seal heard (session_of event)
+hear heard event Aborted = record heard { active = with_replies heard.active (session_of event) [] }
+hear heard event (Durable n) = heard
+hear heard event (Refused why) = heard
+hear heard event reply = hear_call heard (session_of event) reply
 
 -- all that a history tells of the replies
 abbrev pub heard_in : List Entry → Heard
