@@ -5,3 +5,4 @@ pub mod CoreRuns
 pub mod CoreValid
 pub mod Image
 pub mod ValueWord
+pub mod CoreLawsRecords
