@@ -56,10 +56,7 @@ impl OpenTransaction {
             Event::Same { h, h2, .. } => self.same(h, h2),
             Event::Len { h, .. } => self.len(h),
             Event::Begin { .. } | Event::Seal { .. } | Event::Abort { .. } | Event::Force => {
-                Ok(Called {
-                    reply: Reply::Done,
-                    after: self,
-                })
+                Ok(self.told(Reply::Done))
             }
         }
     }
@@ -72,10 +69,7 @@ impl OpenTransaction {
         }
         let mut after = self;
         after.holds_root[h as usize] = true;
-        Ok(Called {
-            reply: Reply::Done,
-            after,
-        })
+        Ok(after.told(Reply::Done))
     }
 
     fn put(self, h: u64, i: u64, v: u64) -> Result<Called, Refusal>
@@ -92,10 +86,7 @@ impl OpenTransaction {
         }
         let mut after = self;
         after.fields[i as usize] = Some(v);
-        Ok(Called {
-            reply: Reply::Done,
-            after,
-        })
+        Ok(after.told(Reply::Done))
     }
 
     fn clear(self, h: u64, i: u64) -> Result<Called, Refusal>
@@ -109,10 +100,7 @@ impl OpenTransaction {
         }
         let mut after = self;
         after.fields[i as usize] = None;
-        Ok(Called {
-            reply: Reply::Done,
-            after,
-        })
+        Ok(after.told(Reply::Done))
     }
 
     fn empty(self, h: u64) -> Result<Called, Refusal>
@@ -123,10 +111,7 @@ impl OpenTransaction {
         }
         let mut after = self;
         after.holds_root[h as usize] = false;
-        Ok(Called {
-            reply: Reply::Done,
-            after,
-        })
+        Ok(after.told(Reply::Done))
     }
 
     // No field refers to anything, so handle h2 stays as it is.
@@ -139,11 +124,10 @@ impl OpenTransaction {
         if !self.has_field(i) {
             return Err(Refusal::BadField);
         }
-        let reply = match self.fields[i as usize] {
-            None => Reply::Null,
-            Some(v) => Reply::Int { v },
-        };
-        Ok(Called { reply, after: self })
+        match self.fields[i as usize] {
+            None => Ok(self.told(Reply::Null)),
+            Some(v) => Ok(self.told(Reply::Int { v })),
+        }
     }
 
     // Handles that hold anything hold the root.
@@ -153,10 +137,7 @@ impl OpenTransaction {
         if !self.is_held(h) || !self.is_held(h2) {
             return Err(Refusal::BadHandle);
         }
-        Ok(Called {
-            reply: Reply::Yes,
-            after: self,
-        })
+        Ok(self.told(Reply::Yes))
     }
 
     fn len(self, h: u64) -> Result<Called, Refusal>
@@ -166,10 +147,14 @@ impl OpenTransaction {
             return Err(Refusal::BadHandle);
         }
         let n = self.fields.len() as u64;
-        Ok(Called {
-            reply: Reply::Length { n },
-            after: self,
-        })
+        Ok(self.told(Reply::Length { n }))
+    }
+
+    // The transaction after a call that was answered so.
+    fn told(self, reply: Reply) -> Called
+        ensures { result ≡ record { reply = reply; after = self } }
+    {
+        Called { reply, after: self }
     }
 
     // Whether there is a handle of that number and it holds the root.

@@ -14,11 +14,11 @@ returns-in-None c =
     let root = held_root _ _ c.if-not-is_held.false c.is_held.ensures in
     let second = second_within c.args.h2 _ (c.is_handle.ensures.0 c.if-not-is_handle.false) in
     let within = c.has_field.ensures.0 c.if-not-has_field.false in
-    λ s. (second ∙ within_fields c.args.self.fields _ _ root (omega arith), λ t. reads c.args.self c.args.h c.args.i c.args.h2 None root (omega arith) c.in-None.is)
+    rw c.told.ensures (λ s. (second ∙ within_fields c.args.self.fields _ _ root (omega arith), λ t. reads c.args.self c.args.h c.args.i c.args.h2 None root (omega arith) c.in-None.is))
 
 pub returns-in-Some : goal.returns-in-Some
 returns-in-Some c =
     let root = held_root _ _ c.if-not-is_held.false c.is_held.ensures in
     let second = second_within c.args.h2 _ (c.is_handle.ensures.0 c.if-not-is_handle.false) in
     let within = c.has_field.ensures.0 c.if-not-has_field.false in
-    λ s. (second ∙ within_fields c.args.self.fields _ _ root (omega arith), λ t. reads c.args.self c.args.h c.args.i c.args.h2 (Some c.in-Some.v) root (omega arith) c.in-Some.is)
+    rw c.told-in-Some.ensures (λ s. (second ∙ within_fields c.args.self.fields _ _ root (omega arith), λ t. reads c.args.self c.args.h c.args.i c.args.h2 (Some c.in-Some.v) root (omega arith) c.in-Some.is))

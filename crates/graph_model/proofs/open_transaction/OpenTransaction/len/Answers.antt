@@ -9,4 +9,4 @@ use Rattle.graph_model.proofs.open_transaction.OpenTransaction.len.Goals as goal
 pub returns : goal.returns
 returns c =
     let root = held_root _ _ c.if-not-is_held.false c.is_held.ensures in
-    λ s. (ap len_refusal root, λ t. ap (λ n. tell (seen_by c.args.self) (Length n)) (root_length c.args.self.fields _ root ∙ omega arith))
+    rw c.told.ensures (λ s. (ap len_refusal root, λ t. ap (λ n. tell (seen_by c.args.self) (Length n)) (root_length c.args.self.fields _ root ∙ omega arith)))

@@ -12,4 +12,4 @@ pub returns : goal.returns
 returns c =
     let root = held_root _ _ c.if-not-is_held.false c.is_held.ensures in
     let within = c.has_field.ensures.0 c.if-not-has_field.false in
-    λ s. (put_small _ _ _ _ (omega arith) ∙ within_fields c.args.self.fields _ _ root (omega arith), λ t. writes c.args.self c.args.h c.args.i (Some c.args.v) root)
+    rw c.told.ensures (λ s. (put_small _ _ _ _ (omega arith) ∙ within_fields c.args.self.fields _ _ root (omega arith), λ t. writes c.args.self c.args.h c.args.i (Some c.args.v) root))
