@@ -6,3 +6,6 @@ pub mod CoreValid
 pub mod Image
 pub mod ValueWord
 pub mod CoreLawsRecords
+pub mod CoreLawsRoom
+pub mod CoreLawsGranted
+pub mod CoreLawsStep
