@@ -9,3 +9,7 @@ pub mod CoreLawsRecords
 pub mod CoreLawsRoom
 pub mod CoreLawsGranted
 pub mod CoreLawsStep
+pub mod CoreLawsRun
+pub mod CoreLawsCrash
+pub mod CoreLawsReplies
+pub mod CoreLawsCalls
