@@ -1,5 +1,5 @@
 -- What holds of the writes that may be taken back.
-use Rattle.std.specs.Prelude.{ℕ, ◌+◌, ◌^◌, ◌<◌}
+use Rattle.std.specs.Prelude.{◌+◌, ◌^◌, ◌<◌}
 use Rattle.heap_words.specs.Word.{IsFieldWord}
 use Rattle.log_machine.specs.declared.UndoEntry.{UndoEntry}
 
