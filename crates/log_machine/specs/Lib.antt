@@ -1,1 +1,4 @@
 pub mod Machine
+pub mod UndoEntry
+pub mod Effect
+pub mod MachineLaws

@@ -1,5 +1,5 @@
 -- What a list of records says: the words that they leave, which writes may still be taken back, and which records can follow.
-use Rattle.std.specs.Prelude.{◌≡◌, ℕ, ◌+◌, ◌*◌, ◌==◌, nat_lt, List, [], ◌∷◌, length, Bool, true, false, not, ◌&&◌, Option, None, Some, fold, max, slice_set, count_by, option_and_then, if◌then◌else◌}
+use Rattle.std.specs.Prelude.{ℕ, ◌+◌, ◌*◌, ◌==◌, nat_lt, List, [], ◌∷◌, length, Bool, true, false, not, ◌&&◌, Option, None, Some, fold, max, slice_set, count_by, option_and_then, if◌then◌else◌}
 use Rattle.log_records.specs.declared.Record.{Record}
 use Rattle.log_records.specs.declared.Record.TheVariants.{Update, Undo, Commit, End}
 use Rattle.log_machine.specs.declared.UndoEntry.{UndoEntry}
