@@ -1,2 +1,3 @@
-pub mod Digits
-pub mod Lines
+mod Calls
+mod Digits
+mod Lines

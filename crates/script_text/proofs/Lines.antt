@@ -3,11 +3,11 @@ use Rattle.std.proofs.Common.{◌≡◌, ℕ, suc, ◌+◌, ◌<◌, ◌≤◌, 
 use Rattle.std.specs.List.{position_or_len, before_first, after_first, onto_first}
 use Rattle.std.proofs.lemmas.Bool.{cases_Bool}
 use Rattle.std.proofs.lemmas.List.{length-drop}
-use Rattle.script_text.specs.declared.script.Line.{Line}
-use Rattle.script_text.specs.declared.script.Place.{Place}
+use Rattle.script_text.specs.declared.line.Line.{Line}
 use Rattle.script_text.specs.declared.script.ScriptError.{ScriptError}
 use Rattle.script_text.specs.declared.script.ScriptError.TheVariants.{NoMemory, Fault}
-use Rattle.script_text.specs.Script.{lines, Reading, line_at, with_line, read_line, take_line, finish, Fails}
+use Rattle.script_text.specs.Line.{read_text}
+use Rattle.script_text.specs.Script.{lines, Reading, with_line, read_line, take_line, finish, Fails}
 
 abbrev is_newline : ℕ → Bool
 is_newline b = eqb b 10
@@ -59,14 +59,14 @@ ok r = Ok r
 ok_is : (x y : Reading) → ok x ≡ ok y → x ≡ y
 ok_is x y e = cc
 
-number_with : (r next : Reading) (found : Option (Line × Place)) → with_line r found ≡ ok next → next.number ≡ r.number + 1
+number_with : (r next : Reading) (found : Option Line) → with_line r found ≡ ok next → next.number ≡ r.number + 1
 number_with r next None e = absurd cc
 number_with r next (Some found) e = let same = ok_is _ next e in ap (λ (x : Reading). x.number) (sym same)
 
 -- each line counts
 pub number-next : (r next : Reading) (text : List ℕ) → read_line r text ≡ ok next → next.number ≡ r.number + 1
 number-next r next [] e = ap (λ (x : Reading). x.number) (sym (ok_is _ next e))
-number-next r next (b ∷ bs) e = number_with r next (line_at r.place (b ∷ bs)) e
+number-next r next (b ∷ bs) e = number_with r next (read_text (b ∷ bs)) e
 
 -- what follows the first line is shorter
 pub length-after : (bytes : List ℕ) → 0 < length bytes → length (after_first is_newline bytes) + 1 ≤ length bytes

@@ -2,3 +2,4 @@ pub mod Line
 pub mod Number
 pub mod Reader
 pub mod Script
+pub mod ScriptLaws

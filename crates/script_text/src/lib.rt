@@ -5,6 +5,8 @@ mod line;
 mod number;
 mod output;
 mod script;
+#[cfg(test)]
+mod tests;
 
 pub use line::Line;
 pub use number::read_number;
