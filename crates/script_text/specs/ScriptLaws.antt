@@ -1,5 +1,5 @@
 -- Laws of scripts: whose events they ask for, and how many.
-use Rattle.std.proofs.Common.{◌≡◌, ℕ, ◌+◌, ◌*◌, ◌≤◌, Bool, true, false, List, [], ◌∷◌, ◌++◌, length, fold, Option, Some, None, Result, Ok, Err, refl, sym, subst, arith, length-append}
+use Rattle.std.proofs.Common.{◌≡◌, ℕ, ◌+◌, ◌*◌, ◌≤◌, Bool, true, false, List, [], ◌∷◌, ◌++◌, length, fold, Option, Some, None, Result, Ok, Err, refl, subst, arith, length-append}
 use Rattle.std.specs.Prelude.{◌==◌, nat_lt, IfSome, IfOk, option_map, option_and_then, find, bytes_eq, codes, if◌then◌else◌}
 use Rattle.std.specs.List.{AllByRecursion, onto_first}
 use Rattle.std.proofs.lemmas.Bool.{ltb-false}
@@ -17,6 +17,7 @@ use Rattle.script_text.specs.Script.{lines as text_lines, Reading, start, with_l
 abbrev IsSound : Line → Type 0
 IsSound line = AllByRecursion IsSingleSession (line_events line) × (length (line_events line) ≤ 2)
 
+-- The line is sound, if there is one.
 abbrev IsSoundIn : Option Line → Type 0
 IsSoundIn found = IfSome found IsSound
 
@@ -58,7 +59,7 @@ text_sound text = then_sound line_of (words text) line_sound
 abbrev IsRead : ℕ → Result Reading ScriptError → Type 0
 IsRead n read = IfOk read (λ r. AllByRecursion IsSound r.found × (length r.found ≤ n))
 
-pub AllByRecursion-append : {X : Type 0} (P : X → Type 0) (xs ys : List X) → AllByRecursion P xs → AllByRecursion P ys → AllByRecursion P (xs ++ ys)
+AllByRecursion-append : {X : Type 0} (P : X → Type 0) (xs ys : List X) → AllByRecursion P xs → AllByRecursion P ys → AllByRecursion P (xs ++ ys)
 AllByRecursion-append P [] ys h k = k
 AllByRecursion-append P (x ∷ xs) ys h k = (h.0, AllByRecursion-append P xs ys h.1 k)
 

@@ -19,12 +19,14 @@ pub enum Line {
     Commit { s: u32 },
 }
 
+/// Whether the first or the last byte is a blank.
 fn has_outer_blank(text: &[u8]) -> bool
     ensures { result ≡ has_outer_blank text.now }
 {
     text.first() == Some(&b' ') || text.last() == Some(&b' ')
 }
 
+/// What stands between the blanks, without the empty pieces.
 fn pieces_of(alloc: Global, text: &[u8]) -> Result<Vec<&[u8]>, AllocError>
     ensures { IfOk result (λ v. map (λ word. word.now) v.items ≡ pieces text.now) }
 {
@@ -109,6 +111,7 @@ fn call_of(verb: &[u8], words: &[&[u8]]) -> Option<Line>
     }
 }
 
+/// Whether the word spells the session's number.
 fn is_session(word: &[u8]) -> bool
     ensures { result ≡ is_number (number word.now) 1 }
 {

@@ -63,6 +63,7 @@ impl Reader {
     }
 }
 
+/// Where the first newline is.
 fn newline(bytes: &[u8]) -> Option<usize>
     ensures { result ≡ position (λ b. b == 10) bytes.now }
 {
@@ -80,6 +81,7 @@ fn cut_line(bytes: &[u8]) -> (&[u8], &[u8])
     }
 }
 
+/// The lines of a script that is not too long.
 fn read_lines(alloc: Global, bytes: &[u8]) -> Result<Vec<Line>, ScriptError>
     ensures { Gives (λ v. v.items) result (finish (fold take_line (Ok start) (lines bytes.now))) }
 {
