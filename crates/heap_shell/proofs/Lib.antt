@@ -3,9 +3,6 @@ mod Causes
 mod Digits
 mod Empty
 mod Lines
-mod LogBytes
-mod LogForce
-mod LogReading
 mod MeansForce
 mod MeansLeft
 mod MeansLog

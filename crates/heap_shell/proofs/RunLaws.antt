@@ -6,9 +6,9 @@ use Rattle.disk_model.specs.Disk.{Only}
 use Rattle.disk_model.specs.Moments.{LeavesOnly}
 use Rattle.gate_slot.specs.Passing.{counted-add}
 use Rattle.graph_model.specs.declared.event.Event.{Event}
+use Rattle.image_plan.specs.declared.superblock.Super.{Super}
 use Rattle.heap_shell.specs.declared.format.FormatError.{FormatError}
 use Rattle.heap_shell.specs.declared.format.FormatError.TheVariants as format
-use Rattle.image_plan.specs.declared.superblock.Super.{Super}
 use Rattle.heap_shell.specs.declared.status.Status.{Status}
 use Rattle.heap_shell.specs.declared.status.Status.TheVariants as status
 use Rattle.heap_shell.specs.Causes.{DiskRose, IsInputError, IsPlayStatus}

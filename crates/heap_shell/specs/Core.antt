@@ -1,5 +1,6 @@
 -- The core: what each event is answered, and the state that it leaves.
 use Rattle.std.specs.Prelude.{◌≡◌, ◌≢◌, ◌⊎◌, ℕ, ◌+◌, ◌*◌, nat_lt, List, [], ◌∷◌, ◌++◌, length, Bool, true, false, Option, None, Some, unwrap_or, slice_get, count_by, if◌then◌else◌}
+use Rattle.gated_log.specs.Log.{batches_bytes, hand}
 use Rattle.graph_model.specs.declared.id.Id.{Id}
 use Rattle.graph_model.specs.declared.val.Val.{Val}
 use Rattle.graph_model.specs.declared.val.Val.TheVariants.{Null, Int}
@@ -16,9 +17,8 @@ use Rattle.graph_model.specs.History.{Account, account, account_after}
 use Rattle.graph_model.specs.Plain.{view, event_refusal, refusal_of, granted, reply_of}
 use Rattle.log_records.specs.declared.Record.{Record}
 use Rattle.log_records.specs.declared.Record.TheVariants.{Update, Commit}
-use Rattle.heap_shell.specs.ValueWord.{word_of}
 use Rattle.log_records.specs.Record.{spellings}
-use Rattle.heap_shell.specs.Log.{batches_bytes, hand}
+use Rattle.heap_shell.specs.ValueWord.{word_of}
 
 -- The state of a heap since it was opened.
 pub record Core : Type 0 where

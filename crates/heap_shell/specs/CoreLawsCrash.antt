@@ -4,15 +4,15 @@ use Rattle.std.specs.Prelude.{drop}
 use Rattle.std.specs.List.{AllByRecursion}
 use Rattle.std.specs.Option.{option_to_list}
 use Rattle.std.proofs.lemmas.List.{append-nil}
+use Rattle.gated_log.specs.Log.{with_batch, records_of}
 use Rattle.graph_model.specs.Transaction.{Transaction, serial}
 use Rattle.graph_model.specs.History.{sealed, commits, acknowledged}
 use Rattle.image_plan.specs.declared.superblock.Super.{Super}
 use Rattle.log_records.specs.declared.Record.{Record}
-use Rattle.heap_shell.specs.ValueWord.{IsNumberWord}
 use Rattle.log_records.specs.Record.{IsRecord}
+use Rattle.heap_shell.specs.ValueWord.{IsNumberWord}
 use Rattle.heap_shell.specs.Machine as machine
-use Rattle.heap_shell.specs.Log.{with_batch}
-use Rattle.heap_shell.specs.Image.{records_of, IsLegal}
+use Rattle.heap_shell.specs.Image.{IsLegal}
 use Rattle.heap_shell.specs.Core.{Core, forced}
 use Rattle.heap_shell.specs.CoreCrash.{StandsForFirst}
 use Rattle.heap_shell.specs.CoreValid.{IsTold, IsReached}

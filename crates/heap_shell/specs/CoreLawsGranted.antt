@@ -4,6 +4,7 @@ use Rattle.std.specs.Prelude.{nat_le, option_to_list}
 use Rattle.std.proofs.lemmas.Bool.{leb-false}
 use Rattle.std.proofs.lemmas.List.{append-nil}
 use Rattle.std.proofs.Math.Seq.{take-length}
+use Rattle.gated_log.specs.Log.{batches_bytes, hand, records_of}
 use Rattle.graph_model.specs.declared.id.Id.{Id}
 use Rattle.graph_model.specs.declared.event.Event.{Event}
 use Rattle.graph_model.specs.declared.event.Event.TheVariants.{Begin, Root, Put, Seal, Force}
@@ -20,9 +21,7 @@ use Rattle.graph_model.specs.Plain.{view, no_number, no_int, put_refusal}
 use Rattle.log_records.specs.declared.Record.{Record}
 use Rattle.log_records.specs.declared.Record.TheVariants.{Commit}
 use Rattle.log_records.specs.Record.{IsNumber}
-use Rattle.heap_shell.specs.Log.{batches_bytes, hand}
 use Rattle.heap_shell.specs.Machine.{graph_of, commits}
-use Rattle.heap_shell.specs.Image.{records_of}
 use Rattle.heap_shell.specs.Core.{Core, put_records, call_records, used, need, is_put, reserved, forced}
 use Rattle.heap_shell.specs.CoreValid.{IsTold, graph_with, graph_now, IsNumbered, Agrees}
 use Rattle.heap_shell.specs.CoreLawsRecords.{told_commits, told_graph, told_begin, told_call, told_put, told_commit}

@@ -17,8 +17,8 @@ use Rattle.graph_model.specs.SlowHeap.{IsSingleSession}
 use Rattle.graph_model.specs.Transaction.{Transaction, serial}
 use Rattle.graph_model.specs.History.{Account, account, account_after, done, cut_short, answered, sealed, commits}
 use Rattle.graph_model.specs.HistoryLaws.{account-append}
-use Rattle.heap_shell.specs.declared.heap.Heap.{Heap}
 use Rattle.log_records.specs.declared.Record.{Record}
+use Rattle.heap_shell.specs.declared.heap.Heap.{Heap}
 use Rattle.heap_shell.specs.declared.script.Line.{Line}
 use Rattle.heap_shell.specs.declared.script.Line.TheVariants.{One, Commit}
 use Rattle.heap_shell.specs.declared.script.Place.{Place}

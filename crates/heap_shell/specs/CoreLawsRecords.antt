@@ -11,12 +11,12 @@ use Rattle.graph_model.specs.declared.val.Val.TheVariants.{Null, Int, Ref}
 use Rattle.graph_model.specs.Graph.{Graph, root, fields, with_field, root_graph, new_graph}
 use Rattle.graph_model.specs.RootGraph.{AllPlain, fields-root_graph, with_field-root_graph}
 use Rattle.graph_model.specs.Transaction.{Transaction}
-use Rattle.log_records.specs.declared.Record.{Record}
-use Rattle.log_records.specs.declared.Record.TheVariants.{Update, Commit}
 use Rattle.heap_words.specs.declared.Word.TheVariants as means
 use Rattle.heap_words.specs.Word.{IsFieldWord}
-use Rattle.heap_shell.specs.ValueWord.{IsNumberWord, word_of, value_of}
+use Rattle.log_records.specs.declared.Record.{Record}
+use Rattle.log_records.specs.declared.Record.TheVariants.{Update, Commit}
 use Rattle.log_records.specs.Record.{IsNumber, IsRecord}
+use Rattle.heap_shell.specs.ValueWord.{IsNumberWord, word_of, value_of}
 use Rattle.heap_shell.specs.Machine.{State, put_record, first_contents, words, graph_of, is_commit, commits, may_write, start, after, after_all, AreWhole}
 use Rattle.heap_shell.specs.Core.{update}
 use Rattle.heap_shell.specs.CoreValid.{IsNumberVal, IsTold}

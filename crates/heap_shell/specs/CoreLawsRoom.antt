@@ -6,13 +6,12 @@ use Rattle.std.proofs.lemmas.Bool.{le-ltb, ltb-false}
 use Rattle.std.proofs.lemmas.List.{append-nil}
 use Rattle.std.proofs.lemmas.List.Sums.{sum_by-append}
 use Rattle.std.proofs.lemmas.Grind.{flat_map-append}
+use Rattle.gated_log.specs.Log.{framed, batch, batches_bytes, hand, records_of}
 use Rattle.graph_model.specs.declared.event.Event.{Event}
 use Rattle.graph_model.specs.declared.reply.Refusal.{Refusal}
 use Rattle.graph_model.specs.declared.reply.Refusal.TheVariants.{LogFull}
 use Rattle.log_records.specs.declared.Record.{Record}
 use Rattle.log_records.specs.Record.{spelling, spellings}
-use Rattle.heap_shell.specs.Log.{framed, batch, batches_bytes, hand}
-use Rattle.heap_shell.specs.Image.{records_of}
 use Rattle.heap_shell.specs.Core.{need, is_put, reserved, full_log}
 
 -- the records of batches with one more

@@ -3,6 +3,7 @@ use Rattle.std.proofs.Common.{◌≡◌, ℕ, ◌+◌, ◌≤◌, Bool, true, fa
 use Rattle.std.specs.Prelude.{◌==◌}
 use Rattle.std.specs.List.{AllByRecursion}
 use Rattle.std.proofs.lemmas.Bool.{eqb-false}
+use Rattle.gated_log.specs.Log.{records_of}
 use Rattle.graph_model.specs.declared.event.Event.{Event}
 use Rattle.graph_model.specs.declared.event.Event.TheVariants.{Begin, Root, Put, Seal, Force}
 use Rattle.graph_model.specs.declared.reply.Entry.{Entry}
@@ -19,7 +20,6 @@ use Rattle.graph_model.specs.Plain.{view, no_number, put_refusal, call_refusal, 
 use Rattle.graph_model.specs.PlainLaws.{IsNoFault, IsSoundReply, HasNoFault, plain_reply-IsSoundReply, call_reply-done, account_after-refused}
 use Rattle.log_records.specs.declared.Record.{Record}
 use Rattle.log_records.specs.Record.{IsRecord}
-use Rattle.heap_shell.specs.Image.{records_of}
 use Rattle.heap_shell.specs.Core.{Core, fresh, next_number, call_records, event_records, used, need, reserved, reserved_after, log_refusal, first_of_two, core_refusal, with_entry, forced, done, after_refusal, after}
 use Rattle.heap_shell.specs.CoreValid.{Agrees, IsValid}
 use Rattle.heap_shell.specs.CoreLawsRecords.{AllByRecursion-behind, told_new}

@@ -1,6 +1,7 @@
 -- What holds of every core that the events of one session reach from a new heap, while the disk does what it is asked.
 use Rattle.std.specs.Prelude.{◌≡◌, ◌⊎◌, ℕ, ◌+◌, ◌^◌, ◌<◌, ◌≤◌, List, ◌∷◌, ◌++◌, length, map, take, true, Option, None, Some, MatchOption}
 use Rattle.std.specs.List.{AllByRecursion}
+use Rattle.gated_log.specs.Log.{records_of}
 use Rattle.graph_model.specs.declared.val.Val.{Val}
 use Rattle.graph_model.specs.declared.val.Val.TheVariants.{Null, Int, Ref}
 use Rattle.graph_model.specs.Graph.{Graph, root_graph, new_graph}
@@ -8,10 +9,9 @@ use Rattle.graph_model.specs.Transaction.{Transaction, serial}
 use Rattle.graph_model.specs.History.{Account, account}
 use Rattle.graph_model.specs.Plain.{view, no_number}
 use Rattle.log_records.specs.declared.Record.{Record}
-use Rattle.heap_shell.specs.ValueWord.{word_of}
 use Rattle.log_records.specs.Record.{IsRecord}
+use Rattle.heap_shell.specs.ValueWord.{word_of}
 use Rattle.heap_shell.specs.Machine.{State, words, may_write, start, after_all}
-use Rattle.heap_shell.specs.Image.{records_of}
 use Rattle.heap_shell.specs.Core.{Core, used, reserved}
 
 -- null or a number below 2 ^ 62

@@ -13,8 +13,8 @@ use Rattle.graph_model.specs.Transaction.{serial, serial_replies}
 use Rattle.graph_model.specs.History.{sealed, commits, acknowledged}
 use Rattle.graph_model.specs.Canon.{canon}
 use Rattle.graph_model.specs.Text.{canon_text}
-use Rattle.heap_shell.specs.declared.command.Play.{Play}
 use Rattle.image_plan.specs.declared.superblock.Super.{Super}
+use Rattle.heap_shell.specs.declared.command.Play.{Play}
 use Rattle.heap_shell.specs.declared.script.Line.{Line}
 use Rattle.heap_shell.specs.declared.status.Status.{Status}
 use Rattle.heap_shell.specs.declared.status.Status.TheVariants as status

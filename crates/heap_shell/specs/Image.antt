@@ -1,20 +1,16 @@
 -- What an image of a disk stands for.
 use Rattle.std.specs.Prelude.{◌≡◌, ◌≢◌, ℕ, ◌*◌, ◌<◌, ◌≤◌, List, length, take, drop, slice_index}
-use Rattle.std.specs.List.{flat_map, AllByRecursion}
+use Rattle.std.specs.List.{AllByRecursion}
 use Rattle.disk_model.specs.Disk.{part}
+use Rattle.gated_log.specs.Log.{records_of, HoldsBatches}
 use Rattle.graph_model.specs.Graph.{Graph}
 use Rattle.image_plan.specs.declared.superblock.Super.{Super}
-use Rattle.log_records.specs.declared.Record.{Record}
 use Rattle.image_plan.specs.Plan.{log_offset, image_size, frame_offset}
 use Rattle.image_plan.specs.Super.{IsSuper, superblock}
+use Rattle.log_records.specs.declared.Record.{Record}
 use Rattle.log_records.specs.Record.{IsRecord}
 use Rattle.heap_shell.specs.Machine.{words, graph_of, commits, AreWhole}
 use Rattle.heap_shell.specs.ValueWord.{IsNumberWord}
-use Rattle.heap_shell.specs.Log.{HoldsBatches}
-
--- the records of batches, in order
-abbrev pub records_of : List (List Record) → List Record
-records_of batches = flat_map (λ records. records) batches
 
 -- A legal image of a heap with these numbers: its log holds these batches, whose records are whole transactions and
 -- leave nothing but numbers in the root's fields, and no page has been stored.

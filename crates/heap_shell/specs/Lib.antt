@@ -21,10 +21,6 @@ pub mod GivenBack
 pub mod HeapState
 pub mod Headline
 pub mod Image
-pub mod Log
-pub mod LogCause
-pub mod LogRoom
-pub mod LogState
 pub mod Machine
 pub mod MachineState
 pub mod Means

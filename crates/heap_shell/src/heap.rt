@@ -4,6 +4,8 @@ ghost use Rattle.std.specs.List.{AllByRecursion};
 ghost use Rattle.disk_model.specs.Disk.{HasCause, Narrows, Only};
 ghost use Rattle.disk_model.specs.Moments.{LeavesOnly};
 ghost use Rattle.gate_slot.specs.Passing.{Passes};
+ghost use Rattle.gated_log.specs.Log.{records_of};
+ghost use Rattle.gated_log.specs.LogState.{log_place, log_room};
 ghost use Rattle.graph_model.specs.Canon.{canon};
 ghost use Rattle.graph_model.specs.Text.{canon_text};
 ghost use Rattle.graph_model.specs.SlowHeap.{IsSingleSession};
@@ -12,7 +14,7 @@ ghost use Rattle.graph_model.specs.declared.event.Event.TheVariants.{Force};
 ghost use Rattle.graph_model.specs.declared.reply.Refusal.TheVariants.{DiskFault, Stopped};
 ghost use Rattle.image_plan.specs.declared.superblock.Super.{Super};
 ghost use Rattle.log_records.specs.declared.Record.{Record};
-ghost use Rattle.heap_shell.specs.Image.{records_of, IsLegal};
+ghost use Rattle.heap_shell.specs.Image.{IsLegal};
 ghost use Rattle.heap_shell.specs.Causes.{step_device, reply_device, opened_device};
 ghost use Rattle.heap_shell.specs.Core.{Core, IsStep, fresh, calls};
 ghost use Rattle.heap_shell.specs.CoreCrash.{KeepsCommits};
@@ -40,7 +42,7 @@ pub struct Heap<D: Disk> {
     before: u64,
     // The entry at which the disk failed or stopped.
     failed: Option<u64>,
-    ghost inside: { working.log.at + working.log.room ≤ D.extent disk },
+    ghost inside: { log_place working.log + log_room working.log ≤ D.extent disk },
 }
 
 /// What an event is answered that the disk cut short.

@@ -5,8 +5,9 @@ ghost use Rattle.disk_model.specs.Disk.{Only};
 ghost use Rattle.disk_model.specs.Fuse.{fuse_inner};
 ghost use Rattle.disk_model.specs.Moments.{LeavesOnly};
 ghost use Rattle.graph_model.specs.Graph.{Graph};
-ghost use Rattle.heap_shell.specs.declared.command.Play.{Play};
 ghost use Rattle.image_plan.specs.declared.superblock.Super.{Super};
+ghost use Rattle.image_plan.specs.Plan.{image_size};
+ghost use Rattle.heap_shell.specs.declared.command.Play.{Play};
 ghost use Rattle.heap_shell.specs.declared.script.Line.{Line};
 ghost use Rattle.heap_shell.specs.declared.script.ScriptError.TheVariants.{Fault};
 ghost use Rattle.heap_shell.specs.declared.status.Status.TheVariants.{NoMemory, WriteFault};
@@ -21,7 +22,6 @@ ghost use Rattle.heap_shell.specs.HeapState.{commits_of};
 ghost use Rattle.heap_shell.specs.Image.{IsLegal};
 ghost use Rattle.heap_shell.specs.Means.{IsHeap};
 ghost use Rattle.heap_shell.specs.Output.{WroteText, HasGraph, Recovers, status_after};
-ghost use Rattle.image_plan.specs.Plan.{image_size};
 ghost use Rattle.heap_shell.specs.Script.{script, events};
 ghost use Rattle.heap_shell.specs.StatusOf.{script_status, input_status, format_status, open_status};
 

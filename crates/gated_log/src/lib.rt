@@ -1,18 +1,18 @@
-//! The log on the disk: batches of whole events, each behind its gate, and the records in hand that are not forced yet.
+//! A log in a part of a disk: batches of records, each behind its gate, and the records in hand that are not forced yet.
+#![tactic(auto)]
+
 ghost use Rattle.std.specs.Prelude.{◌≡◌, ◌≢◌, ◌⊎◌, ℕ, ◌+◌, ◌-◌, ◌^◌, ◌<◌, ◌≤◌, ◌++◌, List, [], ◌∷◌, length, drop, nat_lt, vec_len, vec_capacity, IsTrue, OnOk, OnErr, IfOk, IfSome, IsSomeAnd, Some, Ok, Err, if◌then◌else◌};
 ghost use Rattle.std.specs.Int.{w32, to_le_bytes};
 ghost use Rattle.std.specs.List.{AllByRecursion};
-ghost use Rattle.disk_model.specs.Disk.{part, Only, Narrows, HasCause};
+ghost use Rattle.disk_model.specs.Disk.{part, Only, Narrows, HasCause, SameOutside};
 ghost use Rattle.disk_model.specs.Moments.{LeavesOnly};
 ghost use Rattle.gate_slot.specs.Passing.{Passes};
 ghost use Rattle.log_records.specs.declared.Record.{Record};
 ghost use Rattle.log_records.specs.Record.{spelling, spellings, IsRecord};
-ghost use Rattle.heap_shell.specs.Format.{SameOutside};
-ghost use Rattle.heap_shell.specs.Image.{records_of};
-ghost use Rattle.heap_shell.specs.Log.{batch, batches_bytes, with_batch, HoldsBatches};
-ghost use Rattle.heap_shell.specs.declared.log.LogError.TheVariants.{NoMemory, BadBatch};
-ghost use Rattle.heap_shell.specs.LogCause.{log_device_result};
-ghost use Rattle.heap_shell.specs.LogRoom.{used_bytes, need_bytes};
+ghost use Rattle.gated_log.specs.Log.{records_of, batch, batches_bytes, with_batch, HoldsBatches};
+ghost use Rattle.gated_log.specs.declared.LogError.TheVariants.{NoMemory, BadBatch};
+ghost use Rattle.gated_log.specs.LogCause.{log_device_result};
+ghost use Rattle.gated_log.specs.LogRoom.{used_bytes};
 
 use disk_model::{Disk, DiskError};
 use gate_slot::{CLOSED, OPEN, fill_and_open};
@@ -20,7 +20,7 @@ use log_records::Record;
 use std::alloc::{AllocError, AllocFailed, Global};
 
 /// The bytes of a batch beside its records: its gate and its length.
-pub const BATCH_HEAD: usize = 5;
+const BATCH_HEAD: usize = 5;
 
 /// Where the length of a batch will stand.
 const NO_LENGTH: [u8; 4] = [0; 4];
@@ -52,7 +52,7 @@ impl<T: Drop> From<AllocFailed<T>> for LogError {
     }
 }
 
-/// A log that lies in a part of a disk.
+/// A log that lies in a part of a disk. What was forced is there after a crash; a record that waits is in memory alone.
 #[derive(Debug, Drop)]
 pub struct Log {
     // Where the log begins on the disk.
@@ -63,16 +63,16 @@ pub struct Log {
     tail: u32,
     // Room for the length of a batch, and the records that wait, spelled.
     hand: Vec<u8>,
-    ghost small: { room < 2 ^ 32 },
+    pub ghost small: { room < 2 ^ 32 },
     ghost has_head: { 4 ≤ vec_len hand },
     ghost fits: { used_bytes tail (vec_len hand) ≤ room },
     ghost inside: { at + room < 2 ^ 64 },
 }
 
 impl Log {
-    ghost use Rattle.heap_shell.specs.LogState.{Keeps, IsPlaced};
+    ghost use Rattle.gated_log.specs.LogState.{log_place, log_room, log_tail, log_hand, hand_size, is_waiting, IsHandEmpty, IsReady, log_used, log_need, Keeps, IsPlaced};
 
-    /// Reads the log of `room` bytes at `at`, and the records of its batches in order.
+    /// Reads the log of `room` bytes from byte `at` of the disk on, and the records of its batches in order.
     pub fn open<D: Disk>(
         alloc: Global,
         disk: &mut D,
@@ -83,7 +83,7 @@ impl Log {
         requires small { at + room < 2 ^ 64 }
         requires some { 0 < room }
 
-        ensures place { IfOk result (λ found. (found.0.at ≡ at) × (found.0.room ≡ room) × (vec_len found.0.hand ≡ 4)) }
+        ensures place { IfOk result (λ found. (log_place found.0 ≡ at) × (log_room found.0 ≡ room) × IsHandEmpty found.0) }
         ensures good { IfOk result (λ found. AllByRecursion IsRecord found.1.items) }
         ensures few { IfOk result (λ found. vec_len found.1 ≤ room) }
 
@@ -117,15 +117,15 @@ impl Log {
 
     /// Whether records wait to be forced.
     pub fn pending(&self) -> bool
-        ensures { result ≡ nat_lt 4 (vec_len self.now.hand) }
+        ensures { result ≡ is_waiting self.now }
     {
         self.hand.len() > NO_LENGTH.len()
     }
 
     /// The bytes that are used: the forced batches, a gate, and a batch of the records that wait.
     pub fn used(&self) -> u64
-        ensures value { result ≡ used_bytes self.now.tail (vec_len self.now.hand) }
-        ensures fits { result ≤ self.now.room }
+        ensures value { result ≡ log_used self.now }
+        ensures fits { result ≤ log_room self.now }
     {
         let forced = u64::from(self.tail) + 1;
         if self.pending() {
@@ -137,14 +137,14 @@ impl Log {
 
     /// The bytes of the log.
     pub fn room(&self) -> u64
-        ensures { result ≡ self.now.room }
+        ensures { result ≡ log_room self.now }
     {
         u64::from(self.room)
     }
 
     /// The bytes that the record takes, with those of a batch where it is the first that waits.
     pub fn need(&self, rec: &Record) -> u64
-        ensures { result ≡ need_bytes (vec_len self.now.hand) (length (spelling rec.now)) }
+        ensures { result ≡ log_need self.now (length (spelling rec.now)) }
     {
         let own = log_records::length(rec);
         if self.pending() {
@@ -156,22 +156,22 @@ impl Log {
 
     /// Takes the memory that a force needs.
     pub fn reserve(&mut self) -> Result<(), AllocError>
-        ensures room { OnOk result (vec_len self.new.hand < vec_capacity self.new.hand) }
+        ensures ready { OnOk result (IsReady self.new) }
         ensures place { IsPlaced self.old self.new }
-        ensures hand { self.new.hand.items ≡ self.old.hand.items }
-        ensures len { vec_len self.new.hand ≡ vec_len self.old.hand }
+        ensures hand { log_hand self.new ≡ log_hand self.old }
+        ensures len { hand_size self.new ≡ hand_size self.old }
     {
         self.hand.reserve(1)
     }
 
     /// Adds a record behind those that wait, where the log has room for it. An `Err` changes nothing.
     pub fn append(&mut self, rec: &Record) -> Result<(), AllocError>
-        requires { used_bytes self.old.tail (vec_len self.old.hand) + need_bytes (vec_len self.old.hand) (length (spelling rec.now)) ≤ self.old.room }
+        requires { log_used self.old + log_need self.old (length (spelling rec.now)) ≤ log_room self.old }
 
         ensures added { (batches : List (List Record)) (pending : List Record) → Keeps self.old batches pending → OnOk result (Keeps self.new batches (pending ++ rec.now ∷ [])) }
-        ensures ok { OnOk result (self.new.hand.items ≡ self.old.hand.items ++ spelling rec.now) }
-        ensures used { OnOk result (used_bytes self.new.tail (vec_len self.new.hand) ≡ used_bytes self.old.tail (vec_len self.old.hand) + need_bytes (vec_len self.old.hand) (length (spelling rec.now))) }
-        ensures err { OnErr result (self.new.hand.items ≡ self.old.hand.items) }
+        ensures ok { OnOk result (log_hand self.new ≡ log_hand self.old ++ spelling rec.now) }
+        ensures used { OnOk result (log_used self.new ≡ log_used self.old + log_need self.old (length (spelling rec.now))) }
+        ensures err { OnErr result (log_hand self.new ≡ log_hand self.old) }
         ensures place { IsPlaced self.old self.new }
     {
         log_records::encode(rec, &mut self.hand)
@@ -180,31 +180,31 @@ impl Log {
     /// Writes all records that wait as one batch, in four device calls. Without any it makes none. After an error
     /// nothing waits any more, and the log is of no use before it is opened again.
     pub fn force<D: Disk>(&mut self, disk: &mut D) -> Result<(), DiskError>
-        requires inside { self.old.at + self.old.room ≤ D.extent disk.old }
-        requires room { vec_len self.old.hand < vec_capacity self.old.hand }
+        requires inside { log_place self.old + log_room self.old ≤ D.extent disk.old }
+        requires ready { IsReady self.old }
 
         // Where nothing waits there is nothing to do.
-        ensures idle { vec_len self.old.hand ≡ 4 → (result ≡ Ok tt) × (disk.new ≡ disk.old) × (self.new ≡ self.old) }
+        ensures idle { IsHandEmpty self.old → (result ≡ Ok tt) × (disk.new ≡ disk.old) × (self.new ≡ self.old) }
 
-        ensures held { IsTrue D.tells → (batches : List (List Record)) (pending : List Record) → Keeps self.old batches pending → HoldsBatches (part (D.bytes disk.old) self.old.at self.old.room) batches → OnOk result (Keeps self.new (with_batch batches pending) [] × HoldsBatches (part (D.bytes disk.new) self.old.at self.old.room) (with_batch batches pending)) }
-        ensures outside { IsTrue D.tells → OnOk result (SameOutside self.old.at (self.old.at + self.old.room) (D.bytes disk.old) (D.bytes disk.new)) }
+        ensures held { IsTrue D.tells → (batches : List (List Record)) (pending : List Record) → Keeps self.old batches pending → HoldsBatches (part (D.bytes disk.old) (log_place self.old) (log_room self.old)) batches → OnOk result (Keeps self.new (with_batch batches pending) [] × HoldsBatches (part (D.bytes disk.new) (log_place self.old) (log_room self.old)) (with_batch batches pending)) }
+        ensures outside { IsTrue D.tells → OnOk result (SameOutside (log_place self.old) (log_place self.old + log_room self.old) (D.bytes disk.old) (D.bytes disk.new)) }
         ensures durable { IsTrue D.tells → Only (D.bytes disk.old) (D.may_leave disk.old) → OnOk result (Only (D.bytes disk.new) (D.may_leave disk.new)) }
 
         // A crash at any moment leaves the batches as they were, or with one more, and all that is outside of the log.
-        ensures moments { IsTrue D.tells → Only (D.bytes disk.old) (D.may_leave disk.old) → (batches : List (List Record)) (pending : List Record) → Keeps self.old batches pending → HoldsBatches (part (D.bytes disk.old) self.old.at self.old.room) batches
-            → LeavesOnly D.moment D.left_since disk.old disk.new (λ c. SameOutside self.old.at (self.old.at + self.old.room) (D.bytes disk.old) c × (HoldsBatches (part c self.old.at self.old.room) batches ⊎ HoldsBatches (part c self.old.at self.old.room) (with_batch batches pending))) }
-        ensures passes { IsTrue D.tells → Passes (if nat_lt 4 (vec_len self.old.hand) then 4 else 0) (D.passed disk.old) (D.passed disk.new) result }
+        ensures moments { IsTrue D.tells → Only (D.bytes disk.old) (D.may_leave disk.old) → (batches : List (List Record)) (pending : List Record) → Keeps self.old batches pending → HoldsBatches (part (D.bytes disk.old) (log_place self.old) (log_room self.old)) batches
+            → LeavesOnly D.moment D.left_since disk.old disk.new (λ c. SameOutside (log_place self.old) (log_place self.old + log_room self.old) (D.bytes disk.old) c × (HoldsBatches (part c (log_place self.old) (log_room self.old)) batches ⊎ HoldsBatches (part c (log_place self.old) (log_room self.old)) (with_batch batches pending))) }
+        ensures passes { IsTrue D.tells → Passes (if is_waiting self.old then 4 else 0) (D.passed disk.old) (D.passed disk.new) result }
         ensures restarts { IsTrue D.tells → D.restarts disk.new ≡ D.restarts disk.old }
 
         ensures extent { D.extent disk.new ≡ D.extent disk.old }
         ensures origin { D.origin disk.new ≡ D.origin disk.old }
         ensures cause { HasCause (D.faults disk.old) (D.faults disk.new) (D.stops disk.old) (D.stops disk.new) result }
 
-        ensures nothing_waits { vec_len self.new.hand ≡ 4 }
-        ensures used { used_bytes self.new.tail (vec_len self.new.hand) ≤ used_bytes self.old.tail (vec_len self.old.hand) }
-        ensures at { self.new.at ≡ self.old.at }
-        ensures same_room { self.new.room ≡ self.old.room }
-        ensures err { OnErr result (self.new.tail ≡ self.old.tail) }
+        ensures nothing_waits { IsHandEmpty self.new }
+        ensures used { log_used self.new ≤ log_used self.old }
+        ensures at { log_place self.new ≡ log_place self.old }
+        ensures same_room { log_room self.new ≡ log_room self.old }
+        ensures err { OnErr result (log_tail self.new ≡ log_tail self.old) }
     {
         if !self.pending() {
             return Ok(());
@@ -313,3 +313,6 @@ fn read_records(bytes: &[u8], into: &mut Vec<Record>) -> Result<bool, AllocError
     }
     Ok(true)
 }
+
+#[cfg(test)]
+mod tests;

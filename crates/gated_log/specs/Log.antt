@@ -1,4 +1,4 @@
--- The log: batches of whole events, each behind an open gate, up to the first closed gate.
+-- A log's bytes: batches of records, each behind an open gate, up to the first closed gate.
 use Rattle.std.specs.Prelude.{◌≡◌, ◌≢◌, ℕ, List, [], ◌∷◌, ◌++◌, length}
 use Rattle.std.specs.List.{flat_map}
 use Rattle.std.specs.Int.{w32, to_le_bytes}
@@ -15,6 +15,10 @@ batch records = 1 ∷ framed records
 
 abbrev pub batches_bytes : List (List Record) → List ℕ
 batches_bytes batches = flat_map batch batches
+
+-- the records of batches, in order
+abbrev pub records_of : List (List Record) → List Record
+records_of batches = flat_map (λ records. records) batches
 
 -- The log's bytes hold these batches: they stand there, and behind them is a closed gate.
 pub record HoldsBatches (log : List ℕ) (batches : List (List Record)) : Type 0 where

@@ -1,8 +1,8 @@
 use Rattle.std.proofs.Common.{◌≡◌, ℕ, List, ◌<◌, ◌-◌, ◌+◌, ◌^◌, length, take, drop, refl, ◌∙◌, sym, ap, arith, length-drop}
 use Rattle.std.proofs.lemmas.List.{take_rest}
-use Rattle.heap_shell.specs.Log.{batch}
-use Rattle.heap_shell.proofs.LogReading.{at_tail, finds_batch, walked_all, walks_on}
-use Rattle.heap_shell.proofs.log.read_batches.Goals as goal
+use Rattle.gated_log.specs.Log.{batch}
+use Rattle.gated_log.proofs.LogReading.{at_tail, finds_batch, walked_all, walks_on}
+use Rattle.gated_log.proofs.read_batches.Goals as goal
 
 pub returns-in_default-clause-whole : goal.returns-in_default-clause-whole
 returns-in_default-clause-whole c batches holds good offset is =

@@ -2,8 +2,9 @@ use Rattle.std.proofs.Common.{◌≡◌, ℕ, ◌<◌, ◌≤◌, length, ◌∙
 use Rattle.std.proofs.lemmas.Bool.Decides.{nat_tests}
 use Rattle.std.proofs.lemmas.List.{take_rest}
 use Rattle.log_records.specs.Record.{spelling}
-use Rattle.heap_shell.proofs.LogReading.{finds_next, reads_on, read_all, good_push, spelling_some, fewer}
-use Rattle.heap_shell.proofs.log.read_records.Goals as goal
+use Rattle.log_records.specs.RecordLaws.{some_spelling}
+use Rattle.gated_log.proofs.LogReading.{finds_next, reads_on, read_all, good_push, fewer}
+use Rattle.gated_log.proofs.read_records.Goals as goal
 
 pub returns-in_default-clause-whole : goal.returns-in_default-clause-whole
 returns-in_default-clause-whole c records good spelled =
@@ -15,7 +16,7 @@ pub loop-rest-preserved : goal.loop-rest-preserved
 loop-rest-preserved c =
     let some : 0 < length c.loop-rest.rest.now = grind (arith, nat_tests) in
     let behind = take_rest c.loop-rest.rest.now c.in-Some.length in
-    let one : 1 ≤ c.in-Some.length = omega (arith, spelling_some c.in-Some.record, c.in-Some.ensures.found.2) in
+    let one : 1 ≤ c.in-Some.length = omega (arith, some_spelling c.in-Some.record, c.in-Some.ensures.found.2) in
     record {
       good = rw c.in_ok-push.ensures.items (good_push _ _ c.loop-rest.invariant.good c.in-Some.ensures.found.0);
       few = fewer _ _ _ (length c.loop-rest.rest.now) c.in-Some.length _ _ c.in_ok-push.ensures.len one some (ap (λ (l : List ℕ). length l) behind ∙ length-drop c.in-Some.length c.loop-rest.rest.now) c.loop-rest.invariant.few;

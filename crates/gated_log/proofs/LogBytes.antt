@@ -4,12 +4,12 @@ use Rattle.std.proofs.lemmas.Bool.{cases_eq}
 use Rattle.std.proofs.lemmas.Grind.{flat_map-append}
 use Rattle.std.proofs.lemmas.List.{append-nil, take-append-drop, take-take, take_at, get_or_at}
 use Rattle.disk_model.specs.Disk.{overwrite, part}
+use Rattle.disk_model.specs.Disk.{SameOutside}
 use Rattle.gate_slot.specs.Gate.{IsOutside, IsClosed, IsFilling, filled}
 use Rattle.gate_slot.specs.GateLaws.{length_filled, filled_outside, filled_next}
 use Rattle.gate_slot.specs.Images.{length_part, part_index, same_part, overwrite_within, overwrite-append}
 use Rattle.log_records.specs.declared.Record.{Record}
-use Rattle.heap_shell.specs.Format.{SameOutside}
-use Rattle.heap_shell.specs.Log.{framed, batch, batches_bytes, HoldsBatches}
+use Rattle.gated_log.specs.Log.{framed, batch, batches_bytes, HoldsBatches}
 
 -- one batch more
 pub batches_bytes-push : (batches : List (List Record)) (records : List Record) → batches_bytes (batches ++ records ∷ []) ≡ batches_bytes batches ++ batch records

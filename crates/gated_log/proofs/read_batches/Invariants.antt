@@ -1,11 +1,11 @@
 use Rattle.std.proofs.Common.{◌-◌, ◌<◌, ◌≤◌, List, length, drop, vec_len}
 use Rattle.std.specs.List.{AllByRecursion}
 use Rattle.log_records.specs.declared.Record.{Record}
-use Rattle.heap_shell.specs.Image.{records_of}
-use Rattle.heap_shell.specs.Log.{HoldsBatches}
 use Rattle.log_records.specs.Record.{IsRecord}
-use Rattle.heap_shell.proofs.LogReading.{IsWalking}
-use Rattle.heap_shell.proofs.log.read_batches.Given as goal
+use Rattle.gated_log.specs.Log.{records_of}
+use Rattle.gated_log.specs.Log.{HoldsBatches}
+use Rattle.gated_log.proofs.LogReading.{IsWalking}
+use Rattle.gated_log.proofs.read_batches.Given as goal
 
 abbrev pub invariant-loop-tail : goal.invariant-loop-tail
 invariant-loop-tail l = record {

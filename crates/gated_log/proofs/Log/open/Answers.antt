@@ -1,8 +1,8 @@
 use Rattle.std.proofs.Common.{◌≡◌, Err, is_ok, true, length, ◌∙◌, sym, ap, arith, rules}
 use Rattle.disk_model.specs.Disk.{part}
-use Rattle.heap_shell.specs.declared.log.LogError.TheVariants.{BadBatch}
-use Rattle.heap_shell.proofs.LogReading.{area_read, on_ok, keeps_read}
-use Rattle.heap_shell.proofs.log.Log.open.Goals as goal
+use Rattle.gated_log.specs.declared.LogError.TheVariants.{BadBatch}
+use Rattle.gated_log.proofs.LogReading.{area_read, on_ok, keeps_read}
+use Rattle.gated_log.proofs.Log.open.Goals as goal
 
 pub returns-in_err-records-clause-whole : goal.returns-in_err-records-clause-whole
 returns-in_err-records-clause-whole g c told batches holds good offset is =

@@ -5,15 +5,16 @@ use Rattle.std.proofs.lemmas.List.{append-nil, drop_at, length-take-le}
 use Rattle.std.specs.Int.{w32, to_le_bytes}
 use Rattle.disk_model.specs.Disk.{part, Only}
 use Rattle.disk_model.specs.Moments.{LeavesOnly, weaker}
+use Rattle.disk_model.specs.Disk.{SameOutside}
 use Rattle.gate_slot.specs.Gate.{IsClosed, IsClosedInEach, IsFilling, filled}
-use Rattle.heap_shell.specs.declared.log.Log.{Log}
 use Rattle.log_records.specs.declared.Record.{Record}
-use Rattle.heap_shell.specs.Format.{SameOutside}
-use Rattle.heap_shell.specs.Log.{framed, batch, batches_bytes, with_batch, HoldsBatches}
-use Rattle.heap_shell.specs.LogRoom.{used_bytes}
-use Rattle.heap_shell.specs.LogState.{Keeps}
 use Rattle.log_records.specs.Record.{spellings}
-use Rattle.heap_shell.proofs.LogBytes.{batches_bytes-push, closed_gate, holds_forced, holds_in_force}
+use Rattle.gated_log.specs.declared.Log.{Log}
+use Rattle.gated_log.specs.Log.{framed, batch, batches_bytes, with_batch, HoldsBatches}
+use Rattle.gated_log.specs.LogRoom.{used_bytes}
+use Rattle.gated_log.specs.LogLaws.{hand_size-Keeps}
+use Rattle.gated_log.specs.LogState.{Keeps}
+use Rattle.gated_log.proofs.LogBytes.{batches_bytes-push, closed_gate, holds_forced, holds_in_force}
 
 -- where records wait there is one batch more
 with_some : (batches : List (List Record)) (pending : List Record) → 0 < length (spellings pending) → with_batch batches pending ≡ batches ++ pending ∷ []
@@ -29,7 +30,7 @@ used_waiting tail hand is = rw is refl
 module _ (log : Log) (image hand : List ℕ) (batches : List (List Record)) (pending : List Record) (waits : nat_lt 4 (vec_len log.hand) ≡ true)
     (closes : hand ≡ to_le_bytes w32 (vec_len log.hand - 4) ++ drop 4 log.hand.items ++ 0 ∷ []) (keeps : Keeps log batches pending) where
   size : vec_len log.hand ≡ 4 + length (spellings pending)
-  size = log.hand.ok.0 ∙ ap length keeps.items ∙ length-append keeps.head (spellings pending) ∙ ap (λ (k : ℕ). k + length (spellings pending)) keeps.four
+  size = hand_size-Keeps log batches pending keeps
 
   with_more : with_batch batches pending ≡ batches ++ pending ∷ []
   with_more = with_some batches pending (omega (arith, size, waiting (vec_len log.hand) waits))

@@ -3,13 +3,13 @@ use Rattle.std.proofs.Common.{◌≡◌, ℕ, ◌+◌, ◌-◌, ◌<◌, ◌≤�
 use Rattle.std.proofs.lemmas.List.{append-nil, take_at, drop_at, drop-drop, get_or-drop}
 use Rattle.std.specs.List.{AllByRecursion}
 use Rattle.disk_model.specs.Disk.{part}
-use Rattle.heap_shell.specs.declared.log.Log.{Log}
 use Rattle.log_records.specs.declared.Record.{Record}
-use Rattle.log_records.specs.declared.Record.TheVariants.{Update, Commit}
-use Rattle.heap_shell.specs.Image.{records_of}
-use Rattle.heap_shell.specs.Log.{batch, batches_bytes, HoldsBatches}
-use Rattle.heap_shell.specs.LogState.{Keeps}
 use Rattle.log_records.specs.Record.{spelling, spellings, IsRecord}
+use Rattle.log_records.specs.RecordLaws.{some_spelling}
+use Rattle.gated_log.specs.declared.Log.{Log}
+use Rattle.gated_log.specs.Log.{records_of}
+use Rattle.gated_log.specs.Log.{batch, batches_bytes, HoldsBatches}
+use Rattle.gated_log.specs.LogState.{Keeps}
 
 -- Where records were spelled, those that are left are spelled in the rest of the bytes, and all others were read.
 pub record IsReading (records first now : List Record) (rest : List ℕ) : Type 0 where
@@ -47,18 +47,13 @@ read_all records first now rest so_far none = at_left so_far.left so_far.spelled
   where
     at_left : (left : List Record) → rest ≡ spellings left → first ++ records ≡ now ++ left → now ≡ first ++ records
     at_left [] spelled read = sym (read ∙ append-nil now)
-    at_left ((Update t object field was word) ∷ left) spelled read = absurd (omega (arith, none, ap (λ (l : List ℕ). length l) spelled))
-    at_left ((Commit t) ∷ left) spelled read = absurd (omega (arith, none, ap (λ (l : List ℕ). length l) spelled))
+    at_left (rec ∷ left) spelled read =
+        absurd (omega (arith, none, ap (λ (l : List ℕ). length l) spelled, length-append (spelling rec) (spellings left), some_spelling rec))
 
 -- a record is added to good ones
 pub good_push : (records : List Record) (rec : Record) → AllByRecursion IsRecord records → IsRecord rec → AllByRecursion IsRecord (records ++ rec ∷ [])
 good_push [] rec good one = (one, tt)
 good_push (r ∷ rs) rec good one = (good.0, good_push rs rec good.1 one)
-
--- no record is spelled by nothing
-pub spelling_some : (rec : Record) → 1 ≤ length (spelling rec)
-spelling_some (Update t object field was word) = omega arith
-spelling_some (Commit t) = omega arith
 
 -- one record more was read
 pub reads_on : (records first now : List Record) (rest : List ℕ) (found : Option (Record × ℕ)) → IsNext records first now rest found

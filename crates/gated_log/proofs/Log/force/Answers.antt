@@ -1,8 +1,8 @@
 use Rattle.std.proofs.Common.{◌≡◌, ◌++◌, ◌∷◌, [], sym, ◌∙◌, ap, drop, take, length, nat_lt, true, ℕ, ◌-◌, ◌+◌, ◌≤◌, List, vec_len, arith, rules}
 use Rattle.std.specs.Int.{w32, to_le_bytes}
-use Rattle.heap_shell.proofs.LogBytes.{forced_outside}
-use Rattle.heap_shell.proofs.LogForce.{used_waiting, keeps_forced, forced, moments}
-use Rattle.heap_shell.proofs.log.Log.force.Goals as goal
+use Rattle.gated_log.proofs.LogBytes.{forced_outside}
+use Rattle.gated_log.proofs.LogForce.{used_waiting, keeps_forced, forced, moments}
+use Rattle.gated_log.proofs.Log.force.Goals as goal
 
 pub returns-clause-held : goal.returns-clause-held
 returns-clause-held g c told batches pending keeps holds =

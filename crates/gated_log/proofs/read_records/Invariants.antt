@@ -2,8 +2,8 @@ use Rattle.std.proofs.Common.{◌≡◌, ◌+◌, ◌≤◌, List, length, vec_l
 use Rattle.std.specs.List.{AllByRecursion}
 use Rattle.log_records.specs.declared.Record.{Record}
 use Rattle.log_records.specs.Record.{spellings, IsRecord}
-use Rattle.heap_shell.proofs.LogReading.{IsReading}
-use Rattle.heap_shell.proofs.log.read_records.Given as goal
+use Rattle.gated_log.proofs.LogReading.{IsReading}
+use Rattle.gated_log.proofs.read_records.Given as goal
 
 abbrev pub invariant-loop-rest : goal.invariant-loop-rest
 invariant-loop-rest l = record {
