@@ -1,5 +1,5 @@
 -- What a disk holds, and what a crash may leave of it. An image is the list of a disk's bytes.
-use Rattle.std.specs.Prelude.{◌≡◌, ℕ, ◌+◌, ◌≤◌, ◌⊎◌, List, ◌++◌, length, take, drop, Result, Err}
+use Rattle.std.specs.Prelude.{◌≡◌, ℕ, ◌+◌, ◌<◌, ◌≤◌, ◌⊎◌, List, ◌++◌, length, take, drop, slice_index, Result, Err}
 use Rattle.counts.specs.Count.{raised, Rose}
 use Rattle.disk_model.specs.declared.disk.DiskError.{DiskError}
 use Rattle.disk_model.specs.declared.disk.DiskError.TheVariants.{Failed, Stopped}
@@ -17,6 +17,12 @@ pub record Torn (at n : ℕ) (old new : List ℕ) : Type 0 where
   pub before : take at new ≡ take at old
   pub after : drop (at + n) new ≡ drop (at + n) old
   pub size : length new ≡ length old
+
+-- new has the size of old, and the same bytes outside of those from `from` to `end`
+pub record SameOutside (from end : ℕ) (old new : List ℕ) : Type 0 where
+  pub size : length new ≡ length old
+  pub before : (i : ℕ) → i < from → slice_index new i ≡ slice_index old i
+  pub behind : (i : ℕ) → end ≤ i → slice_index new i ≡ slice_index old i
 
 -- each image that a crash may leave now is one from before after a step
 abbrev pub Follows : (List ℕ → List ℕ → Type 0) → (List ℕ → Type 0) → (List ℕ → Type 0) → Type 0

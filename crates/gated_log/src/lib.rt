@@ -1,2 +1,318 @@
-//! Temporary.
+//! A log in a part of a disk: batches of records, each behind its gate, and the records in hand that are not forced yet.
 #![tactic(auto)]
+
+ghost use Rattle.std.specs.Prelude.{◌≡◌, ◌≢◌, ◌⊎◌, ℕ, ◌+◌, ◌-◌, ◌^◌, ◌<◌, ◌≤◌, ◌++◌, List, [], ◌∷◌, length, drop, nat_lt, vec_len, vec_capacity, IsTrue, OnOk, OnErr, IfOk, IfSome, IsSomeAnd, Some, Ok, Err, if◌then◌else◌};
+ghost use Rattle.std.specs.Int.{w32, to_le_bytes};
+ghost use Rattle.std.specs.List.{AllByRecursion};
+ghost use Rattle.disk_model.specs.Disk.{part, Only, Narrows, HasCause, SameOutside};
+ghost use Rattle.disk_model.specs.Moments.{LeavesOnly};
+ghost use Rattle.gate_slot.specs.Passing.{Passes};
+ghost use Rattle.log_records.specs.declared.Record.{Record};
+ghost use Rattle.log_records.specs.Record.{spelling, spellings, IsRecord};
+ghost use Rattle.gated_log.specs.Log.{records_of, batch, batches_bytes, with_batch, HoldsBatches};
+ghost use Rattle.gated_log.specs.declared.LogError.TheVariants.{NoMemory, BadBatch};
+ghost use Rattle.gated_log.specs.LogCause.{log_device_result};
+ghost use Rattle.gated_log.specs.LogRoom.{used_bytes};
+
+use disk_model::{Disk, DiskError};
+use gate_slot::{CLOSED, OPEN, fill_and_open};
+use log_records::Record;
+use std::alloc::{AllocError, AllocFailed, Global};
+
+/// The bytes of a batch beside its records: its gate and its length.
+const BATCH_HEAD: usize = 5;
+
+/// Where the length of a batch will stand.
+const NO_LENGTH: [u8; 4] = [0; 4];
+
+/// Why a log could not be opened.
+#[derive(Clone, Copy, Debug, PartialEq, Eq)]
+pub enum LogError {
+    /// Memory was refused.
+    NoMemory,
+    /// The batch at that offset in the log doesn't lie within it, or doesn't hold whole records.
+    BadBatch { at: u64 },
+    /// The disk failed or stopped.
+    Disk(DiskError),
+}
+
+impl From<AllocError> for LogError {
+    ghost from_gives = { λ _ e. e ≡ NoMemory };
+
+    fn from(_: AllocError) -> Self {
+        LogError::NoMemory
+    }
+}
+
+impl<T: Drop> From<AllocFailed<T>> for LogError {
+    ghost from_gives = { λ _ e. e ≡ NoMemory };
+
+    fn from(_: AllocFailed<T>) -> Self {
+        LogError::NoMemory
+    }
+}
+
+/// A log that lies in a part of a disk. What was forced is there after a crash; a record that waits is in memory alone.
+#[derive(Debug, Drop)]
+pub struct Log {
+    // Where the log begins on the disk.
+    at: u64,
+    // Its bytes.
+    room: u32,
+    // The offset in it of the closed gate behind the forced batches.
+    tail: u32,
+    // Room for the length of a batch, and the records that wait, spelled.
+    hand: Vec<u8>,
+    pub ghost small: { room < 2 ^ 32 },
+    ghost has_head: { 4 ≤ vec_len hand },
+    ghost fits: { used_bytes tail (vec_len hand) ≤ room },
+    ghost inside: { at + room < 2 ^ 64 },
+}
+
+impl Log {
+    ghost use Rattle.gated_log.specs.LogState.{log_place, log_room, log_tail, log_hand, hand_size, is_waiting, IsHandEmpty, IsReady, log_used, log_need, Keeps, IsPlaced};
+
+    /// Reads the log of `room` bytes from byte `at` of the disk on, and the records of its batches in order.
+    pub fn open<D: Disk>(
+        alloc: Global,
+        disk: &mut D,
+        at: u64,
+        room: u32,
+    ) -> Result<(Log, Vec<Record>), LogError>
+        requires inside { at + room ≤ D.extent disk.old }
+        requires small { at + room < 2 ^ 64 }
+        requires some { 0 < room }
+
+        ensures place { IfOk result (λ found. (log_place found.0 ≡ at) × (log_room found.0 ≡ room) × IsHandEmpty found.0) }
+        ensures good { IfOk result (λ found. AllByRecursion IsRecord found.1.items) }
+        ensures few { IfOk result (λ found. vec_len found.1 ≤ room) }
+
+        // Where the log holds batches, it finds them and their records.
+        ensures held { IsTrue D.tells → (batches : List (List Record)) → HoldsBatches (part (D.bytes disk.old) at room) batches → AllByRecursion IsRecord (records_of batches) → IfOk result (λ found. Keeps found.0 batches [] × (found.1.items ≡ records_of batches)) }
+        ensures whole { IsTrue D.tells → (batches : List (List Record)) → HoldsBatches (part (D.bytes disk.old) at room) batches → AllByRecursion IsRecord (records_of batches) → (offset : ℕ) → result ≢ Err (BadBatch offset) }
+
+        // The disk is only read.
+        ensures bytes { IsTrue D.tells → D.bytes disk.new ≡ D.bytes disk.old }
+        ensures crash { IsTrue D.tells → Narrows (D.may_leave disk.old) (D.may_leave disk.new) }
+        ensures moments { IsTrue D.tells → LeavesOnly D.moment D.left_since disk.old disk.new (D.may_leave disk.old) }
+        ensures passed { IsTrue D.tells → D.passed disk.new ≡ D.passed disk.old }
+        ensures restarts { IsTrue D.tells → D.restarts disk.new ≡ D.restarts disk.old }
+        ensures extent { D.extent disk.new ≡ D.extent disk.old }
+        ensures origin { D.origin disk.new ≡ D.origin disk.old }
+        ensures cause { HasCause (D.faults disk.old) (D.faults disk.new) (D.stops disk.old) (D.stops disk.new) (log_device_result result) }
+        ensures no_first_stop { D.stops disk.old ≡ 0 → D.stops disk.new ≡ 0 }
+    {
+        let hand = Vec::from_array(alloc, NO_LENGTH)?;
+        let mut area = vec![in alloc; 0u8; room as usize]?;
+        disk.read(at, &mut area).map_err(LogError::Disk)?;
+        let (records, tail) = read_batches(alloc, &area)?;
+        let log = Log {
+            at,
+            room,
+            tail,
+            hand,
+        };
+        Ok((log, records))
+    }
+
+    /// Whether records wait to be forced.
+    pub fn pending(&self) -> bool
+        ensures { result ≡ is_waiting self.now }
+    {
+        self.hand.len() > NO_LENGTH.len()
+    }
+
+    /// The bytes that are used: the forced batches, a gate, and a batch of the records that wait.
+    pub fn used(&self) -> u64
+        ensures value { result ≡ log_used self.now }
+        ensures fits { result ≤ log_room self.now }
+    {
+        let forced = u64::from(self.tail) + 1;
+        if self.pending() {
+            forced + 1 + self.hand.len() as u64
+        } else {
+            forced
+        }
+    }
+
+    /// The bytes of the log.
+    pub fn room(&self) -> u64
+        ensures { result ≡ log_room self.now }
+    {
+        u64::from(self.room)
+    }
+
+    /// The bytes that the record takes, with those of a batch where it is the first that waits.
+    pub fn need(&self, rec: &Record) -> u64
+        ensures { result ≡ log_need self.now (length (spelling rec.now)) }
+    {
+        let own = log_records::length(rec);
+        if self.pending() {
+            own
+        } else {
+            own + BATCH_HEAD as u64
+        }
+    }
+
+    /// Takes the memory that a force needs.
+    pub fn reserve(&mut self) -> Result<(), AllocError>
+        ensures ready { OnOk result (IsReady self.new) }
+        ensures place { IsPlaced self.old self.new }
+        ensures hand { log_hand self.new ≡ log_hand self.old }
+        ensures len { hand_size self.new ≡ hand_size self.old }
+    {
+        self.hand.reserve(1)
+    }
+
+    /// Adds a record behind those that wait, where the log has room for it. An `Err` changes nothing.
+    pub fn append(&mut self, rec: &Record) -> Result<(), AllocError>
+        requires { log_used self.old + log_need self.old (length (spelling rec.now)) ≤ log_room self.old }
+
+        ensures added { (batches : List (List Record)) (pending : List Record) → Keeps self.old batches pending → OnOk result (Keeps self.new batches (pending ++ rec.now ∷ [])) }
+        ensures ok { OnOk result (log_hand self.new ≡ log_hand self.old ++ spelling rec.now) }
+        ensures used { OnOk result (log_used self.new ≡ log_used self.old + log_need self.old (length (spelling rec.now))) }
+        ensures err { OnErr result (log_hand self.new ≡ log_hand self.old) }
+        ensures place { IsPlaced self.old self.new }
+    {
+        log_records::encode(rec, &mut self.hand)
+    }
+
+    /// Writes all records that wait as one batch, in four device calls. Without any it makes none. After an error
+    /// nothing waits any more, and the log is of no use before it is opened again.
+    pub fn force<D: Disk>(&mut self, disk: &mut D) -> Result<(), DiskError>
+        requires inside { log_place self.old + log_room self.old ≤ D.extent disk.old }
+        requires ready { IsReady self.old }
+
+        // Where nothing waits there is nothing to do.
+        ensures idle { IsHandEmpty self.old → (result ≡ Ok tt) × (disk.new ≡ disk.old) × (self.new ≡ self.old) }
+
+        ensures held { IsTrue D.tells → (batches : List (List Record)) (pending : List Record) → Keeps self.old batches pending → HoldsBatches (part (D.bytes disk.old) (log_place self.old) (log_room self.old)) batches → OnOk result (Keeps self.new (with_batch batches pending) [] × HoldsBatches (part (D.bytes disk.new) (log_place self.old) (log_room self.old)) (with_batch batches pending)) }
+        ensures outside { IsTrue D.tells → OnOk result (SameOutside (log_place self.old) (log_place self.old + log_room self.old) (D.bytes disk.old) (D.bytes disk.new)) }
+        ensures durable { IsTrue D.tells → Only (D.bytes disk.old) (D.may_leave disk.old) → OnOk result (Only (D.bytes disk.new) (D.may_leave disk.new)) }
+
+        // A crash at any moment leaves the batches as they were, or with one more, and all that is outside of the log.
+        ensures moments { IsTrue D.tells → Only (D.bytes disk.old) (D.may_leave disk.old) → (batches : List (List Record)) (pending : List Record) → Keeps self.old batches pending → HoldsBatches (part (D.bytes disk.old) (log_place self.old) (log_room self.old)) batches
+            → LeavesOnly D.moment D.left_since disk.old disk.new (λ c. SameOutside (log_place self.old) (log_place self.old + log_room self.old) (D.bytes disk.old) c × (HoldsBatches (part c (log_place self.old) (log_room self.old)) batches ⊎ HoldsBatches (part c (log_place self.old) (log_room self.old)) (with_batch batches pending))) }
+        ensures passes { IsTrue D.tells → Passes (if is_waiting self.old then 4 else 0) (D.passed disk.old) (D.passed disk.new) result }
+        ensures restarts { IsTrue D.tells → D.restarts disk.new ≡ D.restarts disk.old }
+
+        ensures extent { D.extent disk.new ≡ D.extent disk.old }
+        ensures origin { D.origin disk.new ≡ D.origin disk.old }
+        ensures cause { HasCause (D.faults disk.old) (D.faults disk.new) (D.stops disk.old) (D.stops disk.new) result }
+
+        ensures nothing_waits { IsHandEmpty self.new }
+        ensures used { log_used self.new ≤ log_used self.old }
+        ensures at { log_place self.new ≡ log_place self.old }
+        ensures same_room { log_room self.new ≡ log_room self.old }
+        ensures err { OnErr result (log_tail self.new ≡ log_tail self.old) }
+    {
+        if !self.pending() {
+            return Ok(());
+        }
+        let gate = self.at + u64::from(self.tail);
+        close_batch(&mut self.hand);
+        let size = self.hand.len() as u32;
+        let written = fill_and_open(disk, gate, gate + 1, &self.hand);
+        self.hand.truncate(NO_LENGTH.len());
+        written?;
+        self.tail += size;
+        Ok(())
+    }
+}
+
+/// Makes a batch of the records: puts their length in front, and the next closed gate behind.
+fn close_batch(hand: &mut Vec<u8>)
+    requires head { 4 ≤ vec_len hand.old }
+    requires small { vec_len hand.old < 2 ^ 32 }
+    requires room { vec_len hand.old < vec_capacity hand.old }
+    ensures items { hand.new.items ≡ to_le_bytes w32 (vec_len hand.old - 4) ++ drop 4 hand.old.items ++ 0 ∷ [] }
+    ensures len { vec_len hand.new ≡ vec_len hand.old + 1 }
+{
+    let size = (hand.len() - NO_LENGTH.len()) as u32;
+    put_length(hand, size);
+    hand.push_reserved(CLOSED);
+}
+
+/// Writes the length into the first four bytes.
+fn put_length(hand: &mut [u8], size: u32)
+    requires { 4 ≤ length hand.old }
+    ensures { hand.new ≡ to_le_bytes w32 size ++ drop 4 hand.old }
+{
+    hand[..4].copy_from_slice(&size.to_le_bytes());
+}
+
+/// The records of the batches in a log, and the offset of the closed gate behind them.
+fn read_batches(alloc: Global, area: &[u8]) -> Result<(Vec<Record>, u32), LogError>
+    requires some { 0 < length area.now }
+    requires small { length area.now < 2 ^ 32 }
+    ensures inside { IfOk result (λ found. found.1 < length area.now) }
+    ensures good { IfOk result (λ found. AllByRecursion IsRecord found.0.items) }
+    ensures few { IfOk result (λ found. vec_len found.0 ≤ length area.now) }
+    ensures no_disk { log_device_result result ≡ Ok tt }
+    ensures held { (batches : List (List Record)) → HoldsBatches area.now batches → AllByRecursion IsRecord (records_of batches) → IfOk result (λ found. (found.0.items ≡ records_of batches) × (found.1 ≡ length (batches_bytes batches))) }
+    ensures whole { (batches : List (List Record)) → HoldsBatches area.now batches → AllByRecursion IsRecord (records_of batches) → (offset : ℕ) → result ≢ Err (BadBatch offset) }
+{
+    let mut records = Vec::new(alloc);
+    let mut tail = 0usize;
+    while area[tail] == OPEN {
+        let Some(size) = read_batch(&area[tail..], &mut records)? else {
+            return Err(LogError::BadBatch { at: tail as u64 });
+        };
+        tail += size;
+    }
+    Ok((records, tail as u32))
+}
+
+/// Adds the records of the batch whose gate comes first, and says how many bytes it takes, if it lies in these bytes with
+/// the next gate behind it and holds whole records.
+fn read_batch(bytes: &[u8], into: &mut Vec<Record>) -> Result<Option<usize>, AllocError>
+    requires { AllByRecursion IsRecord into.old.items }
+    ensures good { AllByRecursion IsRecord into.new.items }
+    ensures inside { IfOk result (λ found. IfSome found (λ size. (0 < size) × (size < length bytes.now))) }
+    ensures few { IfOk result (λ found. IfSome found (λ size. vec_len into.new ≤ vec_len into.old + size)) }
+    ensures whole { (records : List Record) (behind : List ℕ) → length bytes.now < 2 ^ 32 → 0 < length behind → AllByRecursion IsRecord records → bytes.now ≡ batch records ++ behind → IfOk result (λ found. (found ≡ Some (length (batch records))) × (into.new.items ≡ into.old.items ++ records)) }
+{
+    let Some(body) = batch_body(bytes) else {
+        return Ok(None);
+    };
+    if read_records(body, into)? {
+        Ok(Some(BATCH_HEAD + body.len()))
+    } else {
+        Ok(None)
+    }
+}
+
+/// The records' bytes of the batch whose gate comes first, if it lies in these bytes with the next gate behind it.
+fn batch_body(bytes: &[u8]) -> Option<&[u8]>
+    ensures inside { IfSome result (λ body. 5 + length body.now < length bytes.now) }
+    ensures whole { (records : List Record) (behind : List ℕ) → length bytes.now < 2 ^ 32 → 0 < length behind → bytes.now ≡ batch records ++ behind → IsSomeAnd result (λ body. body.now ≡ spellings records) }
+{
+    let (head, rest) = bytes.split_first_chunk::<BATCH_HEAD>()?;
+    let length = u32::from_le_bytes([head[1], head[2], head[3], head[4]]) as usize;
+    if length < rest.len() {
+        Some(&rest[..length])
+    } else {
+        None
+    }
+}
+
+/// Adds the records that the bytes spell, and says whether they spell whole ones.
+fn read_records(bytes: &[u8], into: &mut Vec<Record>) -> Result<bool, AllocError>
+    requires { AllByRecursion IsRecord into.old.items }
+    ensures good { AllByRecursion IsRecord into.new.items }
+    ensures few { vec_len into.new ≤ vec_len into.old + length bytes.now }
+    ensures whole { (records : List Record) → AllByRecursion IsRecord records → bytes.now ≡ spellings records → IfOk result (λ whole. IsTrue whole × (into.new.items ≡ into.old.items ++ records)) }
+{
+    let mut rest = bytes;
+    while !rest.is_empty() {
+        let Some((record, length)) = log_records::decode(rest) else {
+            return Ok(false);
+        };
+        into.push(record)?;
+        rest = &rest[length..];
+    }
+    Ok(true)
+}
+
+#[cfg(test)]
+mod tests;

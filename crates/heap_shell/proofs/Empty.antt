@@ -6,17 +6,17 @@ use Rattle.std.proofs.lemmas.List.{take_at, drop_at, drop_more, get_or-drop, len
 use Rattle.std.proofs.lemmas.Result.{on_ok_weaker}
 use Rattle.counts.specs.Count.{counted}
 use Rattle.disk_model.specs.declared.disk.DiskError.{DiskError}
-use Rattle.disk_model.specs.Disk.{part, Only}
+use Rattle.disk_model.specs.Disk.{part, Only, SameOutside}
 use Rattle.disk_model.specs.Moments.{LeavesOnly, weaker, joined}
 use Rattle.gate_slot.specs.Gate.{filled, IsClosed, SameButGate, IsFilling}
 use Rattle.gate_slot.specs.Passing.{counted-add}
+use Rattle.gated_log.specs.Log.{HoldsBatches}
 use Rattle.image_plan.specs.declared.superblock.Super.{Super}
-use Rattle.heap_shell.specs.Format.{AreZero, SameOutside, IsFormatting, zero_writes, format_calls}
-use Rattle.heap_shell.specs.Image.{IsLegal}
-use Rattle.heap_shell.specs.Log.{HoldsBatches}
-use Rattle.heap_shell.specs.Machine.{start}
 use Rattle.image_plan.specs.Plan.{image_size, frame_offset}
 use Rattle.image_plan.specs.Super.{IsSuper, superblock}
+use Rattle.heap_shell.specs.Format.{AreZero, IsFormatting, zero_writes, format_calls}
+use Rattle.heap_model.specs.Image.{IsLegal}
+use Rattle.log_machine.specs.Machine.{start}
 
 -- what is written over the front of an image, behind its first byte
 put_front : (t image : List ℕ) → length t ≡ 63 → 64 ≤ length image → filled 0 1 t image ≡ 1 ∷ t ++ drop 64 image

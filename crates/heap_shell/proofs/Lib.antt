@@ -1,11 +1,6 @@
 mod Calls
 mod Causes
-mod Digits
 mod Empty
-mod Lines
-mod LogBytes
-mod LogForce
-mod LogReading
 mod MeansForce
 mod MeansLeft
 mod MeansLog

@@ -1,11 +1,15 @@
 -- A force, and what the disk holds behind an event.
-use Rattle.std.proofs.Common.{◌≡◌, ◌≢◌, ◌⊎◌, inl, inr, ℕ, ◌+◌, List, [], ◌∷◌, ◌++◌, length, vec_len, Option, Some, None, Result, Ok, Err, refl, sym, ap, ◌∙◌, subst, ⊎_elim, arith}
+use Rattle.std.proofs.Common.{◌≡◌, ◌⊎◌, inl, inr, ℕ, ◌+◌, List, [], ◌∷◌, ◌++◌, length, Option, Some, None, Result, Ok, Err, refl, sym, ap, ◌∙◌, subst, ⊎_elim, arith}
 use Rattle.std.specs.Prelude.{IfOk}
 use Rattle.std.specs.declared.alloc.AllocError.{AllocError}
 use Rattle.std.proofs.lemmas.List.{append-nil}
-use Rattle.disk_model.specs.Disk.{part, Only}
+use Rattle.disk_model.specs.Disk.{part, Only, SameOutside}
 use Rattle.disk_model.specs.declared.disk.DiskError.{DiskError}
 use Rattle.gate_slot.specs.Images.{same_part}
+use Rattle.gated_log.specs.declared.Log.{Log}
+use Rattle.gated_log.specs.Log.{records_of, with_batch, HoldsBatches}
+use Rattle.gated_log.specs.LogLaws.{hand_size-Keeps}
+use Rattle.gated_log.specs.LogState.{log_place, log_room, log_hand, hand_size, IsHandEmpty, Keeps, IsPlaced}
 use Rattle.graph_model.specs.declared.event.Event.{Event}
 use Rattle.graph_model.specs.declared.event.Event.TheVariants.{Begin, Root, Put, Seal, Force}
 use Rattle.graph_model.specs.declared.reply.Entry.{Entry}
@@ -18,28 +22,24 @@ use Rattle.graph_model.specs.History.{Account, account, account_after, first_fai
 use Rattle.graph_model.specs.HistoryLaws.{account-append, entries-account}
 use Rattle.graph_model.specs.Plain.{granted, reply_of}
 use Rattle.graph_model.specs.PlainLaws.{account_after-refused}
-use Rattle.heap_shell.specs.declared.log.Log.{Log}
 use Rattle.image_plan.specs.declared.superblock.Super.{Super}
-use Rattle.log_records.specs.declared.Record.{Record}
-use Rattle.heap_shell.specs.declared.working.Working.{Working}
-use Rattle.heap_shell.specs.Core.{Core, next_number, core_refusal, answer, with_entry, after_refusal, after}
-use Rattle.heap_shell.specs.CoreCrash.{KeepsCommits}
-use Rattle.heap_shell.specs.CoreValid.{IsValid, IsReached}
-use Rattle.heap_shell.specs.CoreLawsCrash.{IsOnDisk, on_disk_waiting, forced-with_batch, disk_good, disk_whole, disk_plain, crash_law}
-use Rattle.heap_shell.specs.CoreLawsRoom.{records_of-append}
-use Rattle.heap_shell.specs.CoreLawsRun.{IsIdle, failed_refusal, failed_after, after_history, step_history}
-use Rattle.heap_shell.specs.CoreLawsStep.{valid_after}
-use Rattle.heap_shell.specs.Format.{SameOutside}
-use Rattle.heap_shell.specs.Image.{records_of, IsLegal}
-use Rattle.heap_shell.specs.Log.{with_batch, HoldsBatches}
-use Rattle.heap_shell.specs.LogState.{Keeps, IsPlaced}
-use Rattle.heap_shell.specs.Machine as machine
-use Rattle.heap_shell.specs.Machine.{words}
-use Rattle.heap_shell.specs.Means.{Works, OnDisk, Means, Steps}
 use Rattle.image_plan.specs.Plan.{frame_offset}
+use Rattle.log_records.specs.declared.Record.{Record}
 use Rattle.log_records.specs.Record.{spellings}
+use Rattle.heap_shell.specs.declared.working.Working.{Working}
+use Rattle.heap_model.specs.Core.{Core, next_number, core_refusal, answer, with_entry, after_refusal, after}
+use Rattle.heap_model.specs.CoreCrash.{KeepsCommits}
+use Rattle.heap_model.specs.CoreValid.{IsValid, IsReached}
+use Rattle.heap_model.specs.CoreLawsCrash.{IsOnDisk, on_disk_waiting, forced-with_batch, disk_good, disk_whole, disk_plain, crash_law}
+use Rattle.heap_model.specs.CoreLawsRoom.{records_of-append}
+use Rattle.heap_model.specs.CoreLawsRun.{IsIdle, failed_refusal, failed_after, after_history, step_history}
+use Rattle.heap_model.specs.CoreLawsStep.{valid_after}
+use Rattle.heap_model.specs.Image.{IsLegal}
+use Rattle.log_machine.specs.Machine as machine
+use Rattle.log_machine.specs.Machine.{words}
+use Rattle.heap_shell.specs.Means.{Works, OnDisk, Means, Steps}
 use Rattle.heap_shell.proofs.MeansLeft.{keeps_refused, keeps_cut}
-use Rattle.heap_shell.proofs.MeansLog.{hand_length, keeps_same}
+use Rattle.heap_shell.proofs.MeansLog.{keeps_same}
 use Rattle.heap_shell.proofs.MeansRefusal.{force_same}
 use Rattle.heap_shell.specs.Working.{begin_refusal, active_after_begin, next_after_begin, root_refusal, active_after_root, put_refusal, seal_refusal, update_of, Writes, Seals, IsAsItWas}
 use Rattle.heap_shell.proofs.MeansStep.{Does, works_after, begin_does, root_does, put_does, seal_does}
@@ -50,7 +50,7 @@ records_forced bs (r ∷ rs) = append-nil (records_of (bs ++ (r ∷ rs) ∷ []))
 
 -- what waited is on the disk
 pub force_does : (w new : Working) (c : Core) (reply : Reply) → IsValid c → Works w (account c.history) c → Keeps new.log (with_batch c.batches c.pending) []
-    → new.log.at ≡ w.log.at → new.log.room ≡ w.log.room → new.words ≡ w.words → new.active ≡ w.active → new.next ≡ w.next → new.sealed ≡ w.sealed → reply ≡ Durable w.sealed → Does c Force reply new
+    → log_place new.log ≡ log_place w.log → log_room new.log ≡ log_room w.log → new.words ≡ w.words → new.active ≡ w.active → new.next ≡ w.next → new.sealed ≡ w.sealed → reply ≡ Durable w.sealed → Does c Force reply new
 force_does w new c reply valid works keeps at room stored active next sealed replied =
     let a = account c.history in
     let P : Core → Type 0 = λ d. Works new (account_after a (record { event = Force; reply = Durable (length a.sealed) })) d in
@@ -131,13 +131,13 @@ told_entry a reply none (inr is) =
 
 -- a force that the disk cut short
 pub cut_steps : (s : Super) (c : Core) (reply : Reply) (w new : Working) (entries : ℕ) (failed : Option ℕ) (image : List ℕ) (may_leave : List ℕ → Type 0) → IsValid c → Works w (account c.history) c
-    → vec_len w.log.hand ≢ 4 → (reply ≡ Refused DiskFault) ⊎ (reply ≡ Refused Stopped) → entries ≡ length c.history → failed ≡ Some (entries + 1) → ((d : List ℕ) → may_leave d → KeepsCommits c d) → Steps s c Force reply new failed image may_leave
+    → ¬ IsHandEmpty w.log → (reply ≡ Refused DiskFault) ⊎ (reply ≡ Refused Stopped) → entries ≡ length c.history → failed ≡ Some (entries + 1) → ((d : List ℕ) → may_leave d → KeepsCommits c d) → Steps s c Force reply new failed image may_leave
 cut_steps s c reply w new entries failed image may_leave valid works waits told count is left =
     let a = account c.history in
     let entry : Entry = record { event = Force; reply = reply } in
     record {
       next = with_entry c Force reply;
-      step = inr (record { force = refl; waits = λ none. waits (hand_length w.log c.batches c.pending works.log ∙ ap (λ (p : List Record). 4 + length (spellings p)) none); first = valid.unfailed; told = told }, refl);
+      step = inr (record { force = refl; waits = λ none. waits (hand_size-Keeps w.log c.batches c.pending works.log ∙ ap (λ (p : List Record). 4 + length (spellings p)) none); first = valid.unfailed; told = told }, refl);
       means = record {
         failure = is ∙ ap (λ (n : ℕ). Some (n + 1)) (count ∙ sym (entries-account c.history)) ∙ told_entry a reply valid.unfailed told ∙ ap (λ (b : Account). b.failed) (sym (account-append c.history entry));
         works = λ none. let never : None ≡ Some (entries + 1) = sym none ∙ is in cc;
@@ -171,7 +171,7 @@ unfailed_valid s c w failed image may_leave means none (inl valid) = valid
 unfailed_valid s c w failed image may_leave means none (inr bad) = let never : None ≡ Some bad.entry = sym none ∙ means.failure ∙ bad.failed in cc
 
 module _ (s : Super) (c : Core) (w : Working) (log : Log) (failed : Option ℕ) (old : List ℕ) (may_have_left : List ℕ → Type 0) (means : Means s c w failed old may_have_left) (none : failed ≡ None)
-    (placed : IsPlaced w.log log) (hand : log.hand.items ≡ w.log.hand.items) where
+    (placed : IsPlaced w.log log) (hand : log_hand log ≡ log_hand w.log) where
   abbrev works : Works w (account c.history) c
   works = means.works none
 
@@ -182,23 +182,23 @@ module _ (s : Super) (c : Core) (w : Working) (log : Log) (failed : Option ℕ) 
   pub keeps : Keeps log c.batches c.pending
   keeps = keeps_same w.log log c.batches c.pending (record { at = placed.at; room = placed.room; tail = placed.tail; in_hand = hand }) works.log
 
-  at : log.at ≡ 64
+  at : log_place log ≡ 64
   at = placed.at ∙ works.place
 
-  room : log.room ≡ s.log_bytes
+  room : log_room log ≡ s.log_bytes
   room = placed.room ∙ works.room ∙ sym disk.room
 
-  in_log : (P : ℕ → ℕ → Type 0) → P log.at log.room → P 64 s.log_bytes
-  in_log P h = subst (P 64) room (let Q : ℕ → Type 0 = λ n. P n log.room in subst Q at h)
+  in_log : (P : ℕ → ℕ → Type 0) → P (log_place log) (log_room log) → P 64 s.log_bytes
+  in_log P h = subst (P 64) room (let Q : ℕ → Type 0 = λ n. P n (log_room log) in subst Q at h)
 
   -- and they stand on the disk
-  pub holds : HoldsBatches (part old log.at log.room) c.batches
+  pub holds : HoldsBatches (part old (log_place log) (log_room log)) c.batches
   holds = let P : ℕ → ℕ → Type 0 = λ n m. HoldsBatches (part old n m) c.batches in
-      let Q : ℕ → Type 0 = λ n. P n log.room in subst Q (sym at) (subst (P 64) (sym room) disk.legal.log)
+      let Q : ℕ → Type 0 = λ n. P n (log_room log) in subst Q (sym at) (subst (P 64) (sym room) disk.legal.log)
 
   pub ok_steps : (new : Working) (image : List ℕ) (may_leave : List ℕ → Type 0) (reply : Reply) → IsReached c → IsIdle c → Keeps new.log (with_batch c.batches c.pending) []
-      → HoldsBatches (part image log.at log.room) (with_batch c.batches c.pending) → SameOutside log.at (log.at + log.room) old image → Only image may_leave
-      → new.log.at ≡ log.at → new.log.room ≡ log.room → new.words ≡ w.words → new.active ≡ w.active → new.next ≡ w.next → new.sealed ≡ w.sealed → reply ≡ Durable w.sealed
+      → HoldsBatches (part image (log_place log) (log_room log)) (with_batch c.batches c.pending) → SameOutside (log_place log) (log_place log + log_room log) old image → Only image may_leave
+      → log_place new.log ≡ log_place log → log_room new.log ≡ log_room log → new.words ≡ w.words → new.active ≡ w.active → new.next ≡ w.next → new.sealed ≡ w.sealed → reply ≡ Durable w.sealed
       → Steps s c Force reply new failed image may_leave
   ok_steps new image may_leave reply reached idle kept held outside only new_at new_room stored active next sealed replied =
       let valid = unfailed_valid s c w failed old may_have_left means none reached in
@@ -209,13 +209,13 @@ module _ (s : Super) (c : Core) (w : Working) (log : Log) (failed : Option ℕ) 
       (let P : ℕ → ℕ → Type 0 = λ n m. HoldsBatches (part image n m) (with_batch c.batches c.pending) in in_log P held)
       only)
 
-  kept_batches : (bs : List (List Record)) (image : List ℕ) → IsReached c → IsOnDisk c bs → SameOutside 64 (64 + s.log_bytes) old image → HoldsBatches (part image log.at log.room) bs → KeepsCommits c image
+  kept_batches : (bs : List (List Record)) (image : List ℕ) → IsReached c → IsOnDisk c bs → SameOutside 64 (64 + s.log_bytes) old image → HoldsBatches (part image (log_place log) (log_room log)) bs → KeepsCommits c image
   kept_batches bs image reached on outside held =
       let legal = legal_with s c c.batches bs old image reached on disk.legal outside (let P : ℕ → ℕ → Type 0 = λ n m. HoldsBatches (part image n m) bs in in_log P held) in
       (machine.commits (records_of bs), crash_law c s bs image reached on legal)
 
   -- what a crash leaves during a force are first commits
-  pub force_keeps : (image : List ℕ) → IsReached c → IsIdle c → SameOutside log.at (log.at + log.room) old image × (HoldsBatches (part image log.at log.room) c.batches ⊎ HoldsBatches (part image log.at log.room) (with_batch c.batches c.pending))
+  pub force_keeps : (image : List ℕ) → IsReached c → IsIdle c → SameOutside (log_place log) (log_place log + log_room log) old image × (HoldsBatches (part image (log_place log) (log_room log)) c.batches ⊎ HoldsBatches (part image (log_place log) (log_room log)) (with_batch c.batches c.pending))
       → KeepsCommits c image
   force_keeps image reached idle found =
       let outside = (let P : ℕ → ℕ → Type 0 = λ n m. SameOutside n (n + m) old image in in_log P found.0) in
@@ -223,7 +223,7 @@ module _ (s : Super) (c : Core) (w : Working) (log : Log) (failed : Option ℕ) 
       (λ held. kept_batches (with_batch c.batches c.pending) image reached (on_disk_waiting c idle) outside held) found.1
 
   pub err_steps : (new : Working) (image : List ℕ) (may_leave : List ℕ → Type 0) (reply : Reply) (entries : ℕ) (result : Result (Unit {0}) DiskError) (e : DiskError) (now : Option ℕ) → IsReached c
-      → (vec_len log.hand ≡ 4 → result ≡ Ok tt) → result ≡ Err e → vec_len log.hand ≡ vec_len w.log.hand → (reply ≡ Refused DiskFault) ⊎ (reply ≡ Refused Stopped)
+      → (IsHandEmpty log → result ≡ Ok tt) → result ≡ Err e → hand_size log ≡ hand_size w.log → (reply ≡ Refused DiskFault) ⊎ (reply ≡ Refused Stopped)
       → entries ≡ length c.history → now ≡ Some (entries + 1) → ((d : List ℕ) → may_leave d → KeepsCommits c d) → Steps s c Force reply new now image may_leave
   err_steps new image may_leave reply entries result e now reached waited is same told count fails left =
       let valid = unfailed_valid s c w failed old may_have_left means none reached in

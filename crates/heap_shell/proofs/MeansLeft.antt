@@ -1,5 +1,5 @@
 -- What a crash leaves of a heap, and how many device calls an event makes.
-use Rattle.std.proofs.Common.{◌≡◌, ◌⊎◌, inl, inr, ℕ, ◌+◌, ◌≤◌, cond, List, [], ◌∷◌, ◌++◌, length, take, vec_len, Option, Some, None, Result, Ok, Err, refl, sym, ap, ◌∙◌, subst, arith}
+use Rattle.std.proofs.Common.{◌≡◌, ◌⊎◌, inl, inr, ℕ, ◌+◌, ◌≤◌, cond, List, [], ◌∷◌, ◌++◌, length, take, Option, Some, None, Result, Ok, Err, refl, sym, ap, ◌∙◌, subst, arith}
 use Rattle.std.specs.Prelude.{IfOk, OnOk, nat_lt, if◌then◌else◌}
 use Rattle.std.specs.Option.{option_to_list}
 use Rattle.std.specs.declared.alloc.AllocError.{AllocError}
@@ -8,6 +8,10 @@ use Rattle.counts.specs.Count.{counted}
 use Rattle.disk_model.specs.Moments.{LeavesOnly, begins}
 use Rattle.disk_model.specs.declared.disk.DiskError.{DiskError}
 use Rattle.gate_slot.specs.Passing.{Passes}
+use Rattle.gated_log.specs.declared.Log.{Log}
+use Rattle.gated_log.specs.Log.{records_of}
+use Rattle.gated_log.specs.LogLaws.{hand_size-Keeps}
+use Rattle.gated_log.specs.LogState.{hand_size, is_waiting, Keeps}
 use Rattle.graph_model.specs.declared.event.Event.{Event}
 use Rattle.graph_model.specs.declared.event.Event.TheVariants.{Begin, Root, Put, Seal, Force}
 use Rattle.graph_model.specs.declared.reply.Entry.{Entry}
@@ -19,21 +23,19 @@ use Rattle.graph_model.specs.Transaction.{Transaction, serial}
 use Rattle.graph_model.specs.History.{Account, account, account_after, sealed, commits, acknowledged}
 use Rattle.graph_model.specs.HistoryLaws.{account-append}
 use Rattle.graph_model.specs.PlainLaws.{IsNoFault, account_after-refused}
-use Rattle.heap_shell.specs.declared.log.Log.{Log}
 use Rattle.image_plan.specs.declared.superblock.Super.{Super}
 use Rattle.log_records.specs.declared.Record.{Record}
+use Rattle.log_records.specs.Record.{spellings}
 use Rattle.heap_shell.specs.declared.working.Working.{Working}
 use Rattle.heap_shell.specs.Causes.{reply_device}
-use Rattle.heap_shell.specs.Core.{Core, with_entry, force_calls, calls_if, calls}
-use Rattle.heap_shell.specs.CoreCrash.{KeepsCommits}
-use Rattle.heap_shell.specs.CoreLawsCrash.{crash_law}
-use Rattle.heap_shell.specs.CoreValid.{IsReached}
-use Rattle.heap_shell.specs.Image.{records_of, StandsFor, IsLegal}
-use Rattle.heap_shell.specs.LogState.{Keeps}
-use Rattle.heap_shell.specs.Machine as machine
+use Rattle.heap_model.specs.Core.{Core, with_entry, force_calls, calls_if, calls}
+use Rattle.heap_model.specs.CoreCrash.{KeepsCommits}
+use Rattle.heap_model.specs.CoreLawsCrash.{crash_law}
+use Rattle.heap_model.specs.CoreValid.{IsReached}
+use Rattle.heap_model.specs.Image.{StandsFor, IsLegal}
+use Rattle.log_machine.specs.Machine as machine
 use Rattle.heap_shell.specs.Means.{Means}
-use Rattle.log_records.specs.Record.{spellings}
-use Rattle.heap_shell.proofs.MeansLog.{hand_length, some_spellings}
+use Rattle.heap_shell.proofs.MeansLog.{some_spellings}
 
 -- an entry that neither commits nor acknowledges anything
 keeps_entry : (c : Core) (event : Event) (reply : Reply) (b : Account) (image : List ℕ) → account_after (account c.history) (record { event = event; reply = reply }) ≡ b
@@ -120,6 +122,6 @@ hand_calls n (r ∷ rs) is = ap (λ b. cond b 4 0) (lt-ltb 4 n (omega (arith, is
 
 -- a force makes four calls where something waits
 pub force_passes : (c : Core) (log : Log) (before now : ℕ) (result : Result (Unit {0}) DiskError) → (account c.history).failed ≡ None → Keeps log c.batches c.pending
-    → Passes (if nat_lt 4 (vec_len log.hand) then 4 else 0) before now result → Passes (calls c Force) before now result
+    → Passes (if is_waiting log then 4 else 0) before now result → Passes (calls c Force) before now result
 force_passes c log before now result none keeps passes =
-    subst (λ (n : ℕ). Passes n before now result) (hand_calls (vec_len log.hand) c.pending (hand_length log c.batches c.pending keeps) ∙ ap (λ (o : Option ℕ). calls_if o c Force) (sym none)) passes
+    subst (λ (n : ℕ). Passes n before now result) (hand_calls (hand_size log) c.pending (hand_size-Keeps log c.batches c.pending keeps) ∙ ap (λ (o : Option ℕ). calls_if o c Force) (sym none)) passes

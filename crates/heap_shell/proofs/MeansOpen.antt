@@ -2,13 +2,14 @@
 use Rattle.std.proofs.Common.{◌≡◌, ℕ, ◌≤◌, List, [], Some, None, refl, sym, ap, ◌∙◌, subst, arith}
 use Rattle.std.proofs.lemmas.List.{append-nil}
 use Rattle.disk_model.specs.Disk.{Only, Narrows}
+use Rattle.gated_log.specs.Log.{records_of}
 use Rattle.image_plan.specs.declared.superblock.Super.{Super}
 use Rattle.log_records.specs.declared.Record.{Record}
 use Rattle.heap_shell.specs.declared.recovery.Recovered.{Recovered}
 use Rattle.heap_shell.specs.declared.working.Working.{Working}
-use Rattle.heap_shell.specs.Core.{fresh}
-use Rattle.heap_shell.specs.Image.{records_of, IsLegal}
-use Rattle.heap_shell.specs.Machine.{State, start, words}
+use Rattle.heap_model.specs.Core.{fresh}
+use Rattle.heap_model.specs.Image.{IsLegal}
+use Rattle.log_machine.specs.Machine.{State, start, words}
 use Rattle.heap_shell.specs.MachineState.{state_of}
 use Rattle.heap_shell.specs.Means.{Means, opened}
 use Rattle.heap_shell.specs.Recovered.{IsRecovered}

@@ -1,6 +1,7 @@
 -- The working state refuses what a core refuses.
-use Rattle.std.proofs.Common.{◌≡◌, ◌⊎◌, inl, inr, ℕ, ◌+◌, ◌*◌, Bool, true, false, cond, zero, suc, List, [], ◌∷◌, length, map, vec_len, Option, Some, None, is_some, refl, sym, ap, ◌∙◌, subst, arith}
+use Rattle.std.proofs.Common.{◌≡◌, ◌⊎◌, inl, inr, ℕ, ◌+◌, ◌*◌, Bool, true, false, cond, zero, suc, List, [], ◌∷◌, length, map, Option, Some, None, is_some, refl, sym, ap, ◌∙◌, subst, arith}
 use Rattle.std.specs.Prelude.{◌==◌, nat_le, slice_get, unwrap_or, count_by}
+use Rattle.gated_log.specs.LogState.{log_room, log_need}
 use Rattle.graph_model.specs.declared.id.Id.{Id}
 use Rattle.graph_model.specs.declared.val.Val.{Val}
 use Rattle.graph_model.specs.declared.event.Event.{Event}
@@ -15,16 +16,15 @@ use Rattle.graph_model.specs.History.{Account, account, account_after, with_call
 use Rattle.graph_model.specs.Plain as plain
 use Rattle.graph_model.specs.Plain.{view, no_number, no_int, call_refusal}
 use Rattle.graph_model.specs.PlainLaws.{call_reply-done}
-use Rattle.heap_shell.specs.declared.active.Active.{Active}
 use Rattle.log_records.specs.declared.Record.{Record}
+use Rattle.heap_shell.specs.declared.active.Active.{Active}
 use Rattle.heap_shell.specs.declared.working.Working.{Working}
-use Rattle.heap_shell.specs.Core.{Core, next_number, put_records, call_records, used, need, is_put, reserved, full_log, first_of_two, log_refusal, core_refusal}
-use Rattle.heap_shell.specs.CoreValid.{IsTold, Agrees, IsValid}
-use Rattle.heap_shell.specs.CoreLawsGranted.{told_as, held_as}
-use Rattle.heap_shell.specs.CoreLawsRoom.{reserved-call}
-use Rattle.heap_shell.specs.CoreLawsRun.{first_alone}
-use Rattle.heap_shell.specs.CoreLawsStep.{unfailed_refusal, log_root, log_seal, log_force}
-use Rattle.heap_shell.specs.LogRoom.{need_bytes}
+use Rattle.heap_model.specs.Core.{Core, next_number, put_records, call_records, used, need, is_put, reserved, full_log, first_of_two, log_refusal, core_refusal}
+use Rattle.heap_model.specs.CoreValid.{IsTold, Agrees, IsValid}
+use Rattle.heap_model.specs.CoreLawsGranted.{told_as, held_as}
+use Rattle.heap_model.specs.CoreLawsRoom.{reserved-call}
+use Rattle.heap_model.specs.CoreLawsRun.{first_alone}
+use Rattle.heap_model.specs.CoreLawsStep.{unfailed_refusal, log_root, log_seal, log_force}
 use Rattle.heap_shell.specs.Means.{active_of, Works}
 use Rattle.heap_shell.specs.Working.{no_room, begin_refusal, root_refusal, put_refusal, seal_refusal}
 use Rattle.heap_shell.proofs.MeansLog.{used_same, need_same}
@@ -51,7 +51,7 @@ begin_same w c valid works =
     let a = account c.history in
     let active : is_some (a.active 1) ≡ is_some w.active = sym (ap is_some works.active ∙ is_some_active (serial c.g0 a.sealed) (a.active 1)) in
     let room : full_log c.room (used c) (need c.pending []) 10 ≡ no_room w.log 0 10 =
-    full_same c.room w.log.room (used c) _ (need c.pending []) 0 10 10 (sym works.room) (sym (used_same w.log c.batches c.pending works.log)) (need_none c.pending) refl in
+    full_same c.room (log_room w.log) (used c) _ (need c.pending []) 0 10 10 (sym works.room) (sym (used_same w.log c.batches c.pending works.log)) (need_none c.pending) refl in
     unfailed_refusal c (Begin 1) valid.unfailed
     ∙ two_first (is_some (a.active 1)) (next_number c == no_number) AlreadyActive NumbersSpent (log_refusal c (Begin 1))
     ∙ ap (λ (b : Bool). cond b (Some AlreadyActive) (cond (next_number c == no_number) (Some NumbersSpent) (log_refusal c (Begin 1)))) active
@@ -120,7 +120,7 @@ put_cases w a c (Some t) h i v e agrees works =
     let regs = (view c.g0 a t).registers in
     let four : length (fields g root) ≡ 4 = four_fields g (length a.sealed) (Some t) _ (told_as a c (Some t) e agrees) in
     let more = reserved-call t.number t.calls (Put 1 h i v) in
-    let full = no_room w.log (need_bytes (vec_len w.log.hand) 27) (10 + 19 * (count_by is_put t.calls + 1)) in
+    let full = no_room w.log (log_need w.log 27) (10 + 19 * (count_by is_put t.calls + 1)) in
     put_held g four t.number i v c.room (used c) (reserved (with_call (Some t) (Put 1 h i v))) c.pending (held regs h) full (held_as a c t h agrees)
     (λ some. full_same _ _ _ _ _ _ _ _ (sym works.room) (sym (used_same w.log c.batches c.pending works.log))
     (sym (need_same w.log c.batches c.pending _ works.log)) (more ∙ omega arith))

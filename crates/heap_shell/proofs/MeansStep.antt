@@ -1,9 +1,11 @@
 -- The working state answers and does what a core does.
-use Rattle.std.proofs.Common.{◌≡◌, ◌⊎◌, inl, inr, ℕ, ◌+◌, ◌*◌, Bool, false, cond, zero, suc, List, [], ◌∷◌, ◌++◌, length, map, drop, vec_len, Option, Some, None, Result, Ok, Err, is_some, refl, sym, ap, ◌∙◌, subst, arith, length-append, append_assoc}
+use Rattle.std.proofs.Common.{◌≡◌, ◌⊎◌, inl, inr, ℕ, ◌+◌, ◌*◌, Bool, false, cond, zero, suc, List, [], ◌∷◌, ◌++◌, length, map, drop, Option, Some, None, Result, Ok, Err, is_some, refl, sym, ap, ◌∙◌, subst, arith, length-append, append_assoc}
 use Rattle.std.proofs.lemmas.List.Sums.{sum_by-append}
 use Rattle.std.specs.declared.alloc.AllocError.{AllocError}
 use Rattle.std.specs.Prelude.{IfOk, nat_le, slice_get, slice_index, unwrap_or, count_by, replicate, option_to_list}
 use Rattle.std.proofs.lemmas.List.{append-nil, map-set}
+use Rattle.gated_log.specs.Log.{records_of}
+use Rattle.gated_log.specs.LogState.{log_hand, log_need}
 use Rattle.graph_model.specs.declared.id.Id.{Id}
 use Rattle.graph_model.specs.declared.val.Val.{Val}
 use Rattle.graph_model.specs.declared.val.Val.TheVariants.{Null}
@@ -21,21 +23,19 @@ use Rattle.graph_model.specs.History.{Account, account, account_after, with_call
 use Rattle.graph_model.specs.HistoryLaws.{account-append, run-append}
 use Rattle.graph_model.specs.Plain.{view, granted, reply_of}
 use Rattle.graph_model.specs.PlainLaws.{IsNoFault, HasNoFault, account_after-refused, call_reply-done}
-use Rattle.heap_shell.specs.declared.active.Active.{Active}
 use Rattle.log_records.specs.declared.Record.{Record}
 use Rattle.log_records.specs.declared.Record.TheVariants.{Update, Commit}
-use Rattle.heap_shell.specs.declared.working.Working.{Working}
-use Rattle.heap_shell.specs.Core.{Core, next_number, is_put, update, put_records, call_records, core_refusal, answer, with_entry, done, after_refusal, after}
-use Rattle.heap_shell.specs.CoreValid.{IsTold, IsValid}
-use Rattle.heap_shell.specs.CoreLawsGranted.{told_as, held_as}
-use Rattle.heap_shell.specs.CoreLawsRecords.{words-append}
-use Rattle.heap_shell.specs.CoreLawsStep.{core_refusal-HasNoFault, done_history}
-use Rattle.heap_shell.specs.Image.{records_of}
-use Rattle.heap_shell.specs.LogRoom.{need_bytes}
-use Rattle.heap_shell.specs.Machine.{words, put_record}
-use Rattle.heap_shell.specs.Means.{active_of, Works}
 use Rattle.log_records.specs.Record.{spelling}
-use Rattle.heap_shell.specs.ValueWord.{word_of}
+use Rattle.heap_shell.specs.declared.active.Active.{Active}
+use Rattle.heap_shell.specs.declared.working.Working.{Working}
+use Rattle.heap_model.specs.Core.{Core, next_number, is_put, update, put_records, call_records, core_refusal, answer, with_entry, done, after_refusal, after}
+use Rattle.heap_model.specs.CoreValid.{IsTold, IsValid}
+use Rattle.heap_model.specs.CoreLawsGranted.{told_as, held_as}
+use Rattle.heap_model.specs.CoreLawsRecords.{words-append}
+use Rattle.heap_model.specs.CoreLawsStep.{core_refusal-HasNoFault, done_history}
+use Rattle.log_machine.specs.Machine.{words, put_record}
+use Rattle.heap_shell.specs.Means.{active_of, Works}
+use Rattle.heap_model.specs.ValueWord.{word_of}
 use Rattle.heap_shell.specs.Working.{begin_refusal, active_after_begin, next_after_begin, root_refusal, active_after_root, with_root, put_refusal, no_room, seal_refusal, update_of, Writes, Seals, SameLog, IsAsItWas}
 use Rattle.heap_shell.proofs.MeansLog.{keeps_same, keeps_more}
 use Rattle.heap_shell.proofs.MeansRefusal.{begin_same, root_same, seal_same, put_same, holds_held}
@@ -199,7 +199,7 @@ module _ (w new : Working) (c : Core) (valid : IsValid c) (works : Works w (acco
   }
 
   -- one record more waits
-  appended : (b : Account) (r : Record) (more : List Record) → more ≡ r ∷ [] → SameLog w.log new.log (w.log.hand.items ++ spelling r) → new.words.words ≡ put_record w.words.words r
+  appended : (b : Account) (r : Record) (more : List Record) → more ≡ r ∷ [] → SameLog w.log new.log (log_hand w.log ++ spelling r) → new.words.words ≡ put_record w.words.words r
       → new.active ≡ active_of (serial c.g0 b.sealed) (b.active 1) → new.next ≡ c.first + b.begun → new.sealed ≡ length b.sealed
       → Works new b (record c { pending = c.pending ++ more })
   appended b r more is log stored active next sealed =
@@ -227,7 +227,7 @@ module _ (w new : Working) (c : Core) (valid : IsValid c) (works : Works w (acco
     held_root : (h i v : ℕ) → put_refusal w.log w.active h i v ≡ None → (held (view c.g0 a t).registers h ≡ None) ⊎ (held (view c.g0 a t).registers h ≡ Some root) → held (view c.g0 a t).registers h ≡ Some root
     held_root h i v e (inr some) = some
     held_root h i v e (inl none) =
-        let full = no_room w.log (need_bytes (vec_len w.log.hand) 27) (10 + 19 * (count_by is_put t.calls + 1)) in
+        let full = no_room w.log (log_need w.log 27) (10 + 19 * (count_by is_put t.calls + 1)) in
         let never : None ≡ Some BadHandle = sym e ∙ ap (λ (o : Option Active). put_refusal w.log o h i v) in_memory
         ∙ ap (λ (b : Bool). cond b (cond (nat_le 4611686018427387904 v) (Some Range) (cond (nat_le 4 i) (Some BadField) full)) (Some BadHandle)) (holds_held (view c.g0 a t).registers h ∙ ap is_some none) in
         cc
@@ -248,7 +248,7 @@ module _ (w new : Working) (c : Core) (valid : IsValid c) (works : Works w (acco
         let rec_same = update_same writes.active i v writes.was_active in
         let r = update t.number (fields (view c.g0 a t).graph root) i v in
         appended (account_after a (record { event = Put 1 h i v; reply = Done })) r (call_records c.g0 a (a.active 1) (Put 1 h i v)) (put_more h i v some)
-        (let P : Record → Type 0 = λ x. SameLog w.log new.log (w.log.hand.items ++ spelling x) in subst P rec_same writes.log)
+        (let P : Record → Type 0 = λ x. SameLog w.log new.log (log_hand w.log ++ spelling x) in subst P rec_same writes.log)
         (writes.words ∙ ap (put_record w.words.words) rec_same)
         (writes.now_active ∙ ap (λ (x : Active). Some (in_hand x.number x.handles (x.writes + 1))) (its_active writes.active writes.was_active)
         ∙ put_call (serial c.g0 a.sealed) t h i v ∙ ap (λ (o : Option Transaction). active_of (serial c.g0 a.sealed) (with_call o (Put 1 h i v))) (sym is_active))
@@ -260,7 +260,7 @@ module _ (w new : Working) (c : Core) (valid : IsValid c) (works : Works w (acco
         let number : seals.active.number ≡ t.number = ap (λ (x : Active). x.number) (its_active seals.active seals.was_active) in
         appended (account_after a (record { event = Seal 1; reply = Sealed (length a.sealed + 1) })) (Commit t.number) (call_records c.g0 a (a.active 1) (Seal 1))
         (ap (λ (o : Option Transaction). call_records c.g0 a o (Seal 1)) is_active)
-        (let P : ℕ → Type 0 = λ n. SameLog w.log new.log (w.log.hand.items ++ spelling (Commit n)) in subst P number seals.log)
+        (let P : ℕ → Type 0 = λ n. SameLog w.log new.log (log_hand w.log ++ spelling (Commit n)) in subst P number seals.log)
         (ap (λ (p : _). p.words) seals.words)
         seals.not_active
         (seals.next ∙ works.next)

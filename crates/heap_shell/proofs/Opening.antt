@@ -1,10 +1,10 @@
 -- What an opening finds in a legal image.
 use Rattle.std.proofs.Common.{◌≡◌, ◌≢◌, ℕ, List, [], ◌∷◌, length, get_or, refl, arith}
 use Rattle.std.specs.List.{AllByRecursion}
-use Rattle.heap_shell.specs.declared.log.LogError.{LogError}
-use Rattle.heap_shell.specs.declared.log.LogError.TheVariants as logging
+use Rattle.gated_log.specs.declared.LogError.{LogError}
+use Rattle.gated_log.specs.declared.LogError.TheVariants as logging
+use Rattle.gated_log.specs.LogCause.{log_device_error}
 use Rattle.heap_shell.specs.Causes.{error_device}
-use Rattle.heap_shell.specs.LogCause.{log_device_error}
 use Rattle.heap_shell.specs.Recovered.{IsFromOutside, open_error}
 
 -- a log that is not damaged fails by the outside

@@ -15,24 +15,24 @@ use Rattle.graph_model.specs.Graph.{Graph, new_graph}
 use Rattle.graph_model.specs.SlowHeap.{IsSingleSession}
 use Rattle.graph_model.specs.Transaction.{Transaction, serial, serial_replies}
 use Rattle.graph_model.specs.History.{sealed, commits, acknowledged}
-use Rattle.heap_shell.specs.declared.heap.Heap.{Heap}
 use Rattle.image_plan.specs.declared.superblock.Super.{Super}
+use Rattle.heap_shell.specs.declared.heap.Heap.{Heap}
 use Rattle.heap_shell.specs.declared.play.Ended.{Ended}
 use Rattle.heap_shell.specs.declared.play.Ended.TheVariants as ended
 use Rattle.heap_shell.specs.declared.status.Status.{Status}
 use Rattle.heap_shell.specs.declared.status.Status.TheVariants as status
 use Rattle.heap_shell.specs.Causes.{DiskRose, IsOutputError, reply_device}
-use Rattle.heap_shell.specs.Core.{Core, with_entry, after, IsRun}
-use Rattle.heap_shell.specs.CoreCrash.{KeepsCommits, HasCommits}
-use Rattle.heap_shell.specs.CoreLawsCalls.{total_calls-append}
-use Rattle.heap_shell.specs.CoreLawsCrash.{commits-sealed}
+use Rattle.heap_model.specs.Core.{Core, with_entry, after, IsRun}
+use Rattle.heap_model.specs.CoreCrash.{KeepsCommits, HasCommits}
+use Rattle.heap_model.specs.CoreLawsCalls.{total_calls-append}
+use Rattle.heap_model.specs.CoreLawsCrash.{commits-sealed}
 use Rattle.heap_shell.specs.CoreLawsGraph.{idle_graph}
 use Rattle.heap_shell.specs.CoreLawsPlay.{ready_valid, ready_behind, ready_front, makes_run, grows}
-use Rattle.heap_shell.specs.CoreLawsReplies.{answers_fresh, run_answers, replies_law}
-use Rattle.heap_shell.specs.CoreLawsRun.{IsIdle, reached_agrees}
-use Rattle.heap_shell.specs.CoreReplies.{call_replies_of}
-use Rattle.heap_shell.specs.CoreRuns.{after_events, total_calls}
-use Rattle.heap_shell.specs.CoreValid.{IsValid, IsReached}
+use Rattle.heap_model.specs.CoreLawsReplies.{answers_fresh, run_answers, replies_law}
+use Rattle.heap_model.specs.CoreLawsRun.{IsIdle, reached_agrees}
+use Rattle.heap_model.specs.CoreReplies.{call_replies_of}
+use Rattle.heap_model.specs.CoreRuns.{after_events, total_calls}
+use Rattle.heap_model.specs.CoreValid.{IsValid, IsReached}
 use Rattle.heap_shell.specs.Headline.{made_core, graph_text, recovered_text, recovered_line, IsWhole, IsCutBy, HasMade, StopsLast, IsExact, IsEndOfPlay, IsPlayed}
 use Rattle.heap_shell.specs.Playable.{IsPlayable}
 use Rattle.heap_shell.specs.Output.{WroteText, HasGraph, Recovers, status_after}

@@ -4,17 +4,17 @@ use Rattle.std.proofs.lemmas.List.{append-nil, take_more, drop_more}
 use Rattle.std.proofs.lemmas.Grind.{flat_map-append}
 use Rattle.disk_model.specs.declared.disk.Disk.{Ghosts}
 use Rattle.graph_model.specs.declared.event.Event.{Event}
-use Rattle.heap_shell.specs.declared.heap.Heap.{Heap}
 use Rattle.image_plan.specs.declared.superblock.Super.{Super}
+use Rattle.heap_shell.specs.declared.heap.Heap.{Heap}
 use Rattle.heap_shell.specs.declared.play.Ended.{Ended}
 use Rattle.heap_shell.specs.declared.play.Ended.TheVariants as ended
-use Rattle.heap_shell.specs.declared.script.Line.{Line}
+use Rattle.script_text.specs.declared.script.Line.{Line}
 use Rattle.heap_shell.specs.declared.status.Status.{Status}
-use Rattle.heap_shell.specs.Core.{Core}
+use Rattle.heap_model.specs.Core.{Core}
 use Rattle.heap_shell.specs.CoreLawsPlay.{ready_front}
 use Rattle.heap_shell.specs.Means.{IsHeap}
 use Rattle.heap_shell.specs.Play.{AreReady, Plays}
-use Rattle.heap_shell.specs.Script.{line_events, events}
+use Rattle.script_text.specs.Script.{line_events, events}
 use Rattle.heap_shell.proofs.PlayLaws.{plays_on, plays_then}
 
 events_next : (lines : List Line) (i : ℕ) (d : Line) → i < length lines → events (take (i + 1) lines) ≡ events (take i lines) ++ line_events (get_or lines i d)

@@ -4,20 +4,21 @@ use Rattle.std.proofs.lemmas.List.{append-nil}
 use Rattle.disk_model.specs.declared.disk.Disk.{Ghosts}
 use Rattle.disk_model.specs.Disk.{Only}
 use Rattle.disk_model.specs.Moments.{LeavesOnly, joined, weaker}
+use Rattle.gated_log.specs.Log.{records_of}
 use Rattle.graph_model.specs.declared.event.Event.{Event}
 use Rattle.heap_shell.specs.declared.heap.Heap.{Heap}
 use Rattle.heap_shell.specs.declared.play.Ended.{Ended}
 use Rattle.heap_shell.specs.declared.recovery.OpenError.{OpenError}
 use Rattle.heap_shell.specs.declared.status.Status.{Status}
-use Rattle.heap_shell.specs.CoreCrash.{KeepsCommits, HasCommits}
-use Rattle.heap_shell.specs.CoreLawsCrash.{crash_law}
+use Rattle.heap_model.specs.CoreCrash.{KeepsCommits, HasCommits}
+use Rattle.heap_model.specs.CoreLawsCrash.{crash_law}
 use Rattle.heap_shell.specs.CoreLawsPlay.{has_commits_on, keeps_has}
-use Rattle.heap_shell.specs.CoreLawsStep.{valid_fresh}
-use Rattle.heap_shell.specs.CoreValid.{IsValid}
+use Rattle.heap_model.specs.CoreLawsStep.{valid_fresh}
+use Rattle.heap_model.specs.CoreValid.{IsValid}
 use Rattle.heap_shell.specs.Headline.{made_super, made_core, output, IsExact, IsEndOfPlay, IsPlayed}
 use Rattle.heap_shell.specs.Playable.{IsPlayable}
-use Rattle.heap_shell.specs.Image.{records_of, IsLegal}
-use Rattle.heap_shell.specs.Machine.{commits}
+use Rattle.heap_model.specs.Image.{IsLegal}
+use Rattle.log_machine.specs.Machine.{commits}
 use Rattle.heap_shell.specs.Play.{Plays}
 use Rattle.heap_shell.specs.Recovered.{IsFromOutside}
 use Rattle.heap_shell.specs.StatusOf.{open_status}

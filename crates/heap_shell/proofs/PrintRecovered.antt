@@ -4,6 +4,7 @@ use Rattle.std.specs.Prelude.{drop, IsTrue, IfErr}
 use Rattle.std.specs.List.{AllByRecursion}
 use Rattle.std.proofs.lemmas.List.{append-nil}
 use Rattle.disk_model.specs.Disk.{Only, Narrows}
+use Rattle.gated_log.specs.Log.{records_of}
 use Rattle.graph_model.specs.Graph.{Graph}
 use Rattle.graph_model.specs.Transaction.{serial}
 use Rattle.graph_model.specs.History.{commits}
@@ -11,16 +12,16 @@ use Rattle.log_records.specs.declared.Record.{Record}
 use Rattle.heap_shell.specs.declared.recovery.OpenError.{OpenError}
 use Rattle.heap_shell.specs.declared.status.Status.{Status}
 use Rattle.heap_shell.specs.Causes.{IsOutputError}
-use Rattle.heap_shell.specs.Core.{Core}
-use Rattle.heap_shell.specs.CoreCrash.{KeepsCommits}
+use Rattle.heap_model.specs.Core.{Core}
+use Rattle.heap_model.specs.CoreCrash.{KeepsCommits}
 use Rattle.heap_shell.specs.Headline.{recovered_line, graph_text}
-use Rattle.heap_shell.specs.Image.{records_of, StandsFor}
-use Rattle.heap_shell.specs.Machine.{words, graph_of}
+use Rattle.heap_model.specs.Image.{StandsFor}
+use Rattle.log_machine.specs.Machine.{words, graph_of}
 use Rattle.heap_shell.specs.Means.{opened}
 use Rattle.heap_shell.specs.Output.{WroteText, HasGraph, Recovers, status_after}
 use Rattle.heap_shell.specs.Recovered.{IsFromOutside}
 use Rattle.heap_shell.specs.StatusOf.{open_status}
-use Rattle.heap_shell.specs.ValueWord.{IsNumberWord}
+use Rattle.heap_model.specs.ValueWord.{IsNumberWord}
 use Rattle.heap_shell.proofs.Statuses.{written_end, wrote_all, open_end, open_not_done}
 use Rattle.heap_shell.proofs.Written.{none_written, wrote_some}
 

@@ -6,9 +6,9 @@ use Rattle.std.specs.Prelude.{nat_lt, ◌&&◌}
 use Rattle.std.proofs.lemmas.List.{take_more, drop_more}
 use Rattle.log_records.specs.declared.Record.{Record}
 use Rattle.log_records.specs.declared.Record.TheVariants.{Update, Commit}
-use Rattle.heap_shell.specs.CoreLawsRecords.{after_all-append, words-append}
-use Rattle.heap_shell.specs.Machine.{State, start, after, after_all, may_write, put_record, words}
 use Rattle.log_records.specs.Record.{IsRecord}
+use Rattle.heap_model.specs.CoreLawsRecords.{after_all-append, words-append}
+use Rattle.log_machine.specs.Machine.{State, start, after, after_all, may_write, put_record, words}
 
 -- one record more adds at most one commit, and its number may be the greatest
 pub record Bounds (i : ℕ) (s : State) : Type 0 where

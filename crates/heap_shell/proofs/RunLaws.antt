@@ -6,17 +6,17 @@ use Rattle.disk_model.specs.Disk.{Only}
 use Rattle.disk_model.specs.Moments.{LeavesOnly}
 use Rattle.gate_slot.specs.Passing.{counted-add}
 use Rattle.graph_model.specs.declared.event.Event.{Event}
+use Rattle.image_plan.specs.declared.superblock.Super.{Super}
 use Rattle.heap_shell.specs.declared.format.FormatError.{FormatError}
 use Rattle.heap_shell.specs.declared.format.FormatError.TheVariants as format
-use Rattle.image_plan.specs.declared.superblock.Super.{Super}
 use Rattle.heap_shell.specs.declared.status.Status.{Status}
 use Rattle.heap_shell.specs.declared.status.Status.TheVariants as status
 use Rattle.heap_shell.specs.Causes.{DiskRose, IsInputError, IsPlayStatus}
-use Rattle.heap_shell.specs.CoreCrash.{HasCommits}
-use Rattle.heap_shell.specs.CoreRuns.{total_calls}
+use Rattle.heap_model.specs.CoreCrash.{HasCommits}
+use Rattle.heap_model.specs.CoreRuns.{total_calls}
 use Rattle.heap_shell.specs.Headline.{made_core, let_through, IsEndOfPlay, IsSound, SinceMade, IsPlayed, IsUnmade}
 use Rattle.heap_shell.specs.Format.{IsFormatting}
-use Rattle.heap_shell.specs.Image.{IsLegal}
+use Rattle.heap_model.specs.Image.{IsLegal}
 use Rattle.heap_shell.specs.StatusOf.{format_status}
 use Rattle.heap_shell.proofs.Causes.{rose_since}
 

@@ -3,10 +3,10 @@ use Rattle.std.proofs.Common.{◌≡◌, inl, inr, ℕ, ◌+◌, ◌-◌, ◌<�
 use Rattle.std.proofs.lemmas.Bool.{cases_lt}
 use Rattle.std.proofs.lemmas.List.{length-replicate, get_or-replicate, get_or_past}
 use Rattle.counts.specs.Count.{raised, counted}
-use Rattle.disk_model.specs.Disk.{overwrite, Torn, Follows}
+use Rattle.disk_model.specs.Disk.{overwrite, Torn, Follows, SameOutside}
 use Rattle.gate_slot.specs.Images.{torn_outside, torn_overwrite, overwrite_inside}
 use Rattle.gate_slot.specs.Passing.{counted-add}
-use Rattle.heap_shell.specs.Format.{SameOutside, AreZero, zero_writes}
+use Rattle.heap_shell.specs.Format.{AreZero, zero_writes}
 
 -- what was not touched at all
 pub same : (from end : ℕ) (image : List ℕ) → SameOutside from end image image

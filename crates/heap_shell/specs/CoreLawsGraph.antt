@@ -8,24 +8,24 @@ use Rattle.graph_model.specs.declared.event.Event.TheVariants.{Begin, Root, Put,
 use Rattle.graph_model.specs.SlowHeap.{IsSingleSession}
 use Rattle.graph_model.specs.Transaction.{Transaction, serial}
 use Rattle.graph_model.specs.History.{account, sealed}
-use Rattle.heap_shell.specs.declared.script.Line.{Line}
-use Rattle.heap_shell.specs.declared.script.Line.TheVariants.{One, Commit}
-use Rattle.heap_shell.specs.declared.script.Place.{Place}
-use Rattle.heap_shell.specs.declared.script.Place.TheVariants.{Between, Begun, Inside}
-use Rattle.heap_shell.specs.declared.script.ScriptError.{ScriptError}
-use Rattle.heap_shell.specs.declared.script.ScriptError.TheVariants.{Fault}
-use Rattle.heap_shell.specs.Core.{Core, fresh, answer, after}
-use Rattle.heap_shell.specs.CoreRuns.{after_events}
-use Rattle.heap_shell.specs.CoreValid.{IsValid, graph_with}
-use Rattle.heap_shell.specs.CoreLawsGranted.{graph_now-told}
+use Rattle.script_text.specs.declared.script.Line.{Line}
+use Rattle.script_text.specs.declared.script.Line.TheVariants.{One, Commit}
+use Rattle.script_text.specs.declared.script.Place.{Place}
+use Rattle.script_text.specs.declared.script.Place.TheVariants.{Between, Begun, Inside}
+use Rattle.script_text.specs.declared.script.ScriptError.{ScriptError}
+use Rattle.script_text.specs.declared.script.ScriptError.TheVariants.{Fault}
+use Rattle.heap_model.specs.Core.{Core, fresh, answer, after}
+use Rattle.heap_model.specs.CoreRuns.{after_events}
+use Rattle.heap_model.specs.CoreValid.{IsValid, graph_with}
+use Rattle.heap_model.specs.CoreLawsGranted.{graph_now-told}
 use Rattle.heap_shell.specs.CoreLawsPlay.{script_single, script_follows, script_ready, script_short}
-use Rattle.heap_shell.specs.CoreLawsRecords.{told_plain}
-use Rattle.heap_shell.specs.CoreLawsRun.{IsIdle, ForcesFollow, seal_idle, force_idle}
-use Rattle.heap_shell.specs.CoreLawsStep.{valid_fresh, valid_after}
+use Rattle.heap_model.specs.CoreLawsRecords.{told_plain}
+use Rattle.heap_model.specs.CoreLawsRun.{IsIdle, ForcesFollow, seal_idle, force_idle}
+use Rattle.heap_model.specs.CoreLawsStep.{valid_fresh, valid_after}
 use Rattle.heap_shell.specs.Playable.{IsPlayable}
 use Rattle.heap_shell.specs.Means.{all_records}
 use Rattle.heap_shell.specs.Output.{HasGraph}
-use Rattle.heap_shell.specs.Script.{lines as text_lines, words, line_of, place_after, line_at, Reading, start, with_line, read_line, take_line, ended, finish, script, line_events, events}
+use Rattle.script_text.specs.Script.{lines as text_lines, words, line_of, place_after, line_at, Reading, start, with_line, read_line, take_line, ended, finish, script, line_events, events}
 
 -- whether events end where no transaction is active: behind a seal or a force, or at the start if it is so there
 abbrev ends_idle : Bool → List Event → Bool

@@ -17,28 +17,28 @@ use Rattle.graph_model.specs.SlowHeap.{IsSingleSession}
 use Rattle.graph_model.specs.Transaction.{Transaction, serial}
 use Rattle.graph_model.specs.History.{Account, account, account_after, done, cut_short, answered, sealed, commits}
 use Rattle.graph_model.specs.HistoryLaws.{account-append}
-use Rattle.heap_shell.specs.declared.heap.Heap.{Heap}
 use Rattle.log_records.specs.declared.Record.{Record}
-use Rattle.heap_shell.specs.declared.script.Line.{Line}
-use Rattle.heap_shell.specs.declared.script.Line.TheVariants.{One, Commit}
-use Rattle.heap_shell.specs.declared.script.Place.{Place}
-use Rattle.heap_shell.specs.declared.script.Place.TheVariants as places
-use Rattle.heap_shell.specs.declared.script.ScriptError.{ScriptError}
-use Rattle.heap_shell.specs.declared.script.ScriptError.TheVariants.{Fault}
-use Rattle.heap_shell.specs.Core.{Core, fresh, answer, after, IsStep, IsRun, force_calls, calls_if}
-use Rattle.heap_shell.specs.CoreCrash.{KeepsCommits, HasCommits}
-use Rattle.heap_shell.specs.CoreRuns.{after_events, total_calls}
-use Rattle.heap_shell.specs.CoreValid.{IsValid, IsReached}
-use Rattle.heap_shell.specs.CoreLawsCalls.{whole_run, run_step}
-use Rattle.heap_shell.specs.CoreLawsCrash.{commits-sealed}
-use Rattle.heap_shell.specs.CoreLawsRecords.{AllByRecursion-append}
-use Rattle.heap_shell.specs.CoreLawsReplies.{step_g0}
-use Rattle.heap_shell.specs.CoreLawsRun.{step_history, valid_step, IsIdle, ForcesFollow, seal_idle, force_idle}
-use Rattle.heap_shell.specs.CoreLawsStep.{valid_fresh, valid_after}
-use Rattle.heap_shell.specs.Image.{StandsFor}
+use Rattle.heap_shell.specs.declared.heap.Heap.{Heap}
+use Rattle.script_text.specs.declared.script.Line.{Line}
+use Rattle.script_text.specs.declared.script.Line.TheVariants.{One, Commit}
+use Rattle.script_text.specs.declared.script.Place.{Place}
+use Rattle.script_text.specs.declared.script.Place.TheVariants as places
+use Rattle.script_text.specs.declared.script.ScriptError.{ScriptError}
+use Rattle.script_text.specs.declared.script.ScriptError.TheVariants.{Fault}
+use Rattle.heap_model.specs.Core.{Core, fresh, answer, after, IsStep, IsRun, force_calls, calls_if}
+use Rattle.heap_model.specs.CoreCrash.{KeepsCommits, HasCommits}
+use Rattle.heap_model.specs.CoreRuns.{after_events, total_calls}
+use Rattle.heap_model.specs.CoreValid.{IsValid, IsReached}
+use Rattle.heap_model.specs.CoreLawsCalls.{whole_run, run_step}
+use Rattle.heap_model.specs.CoreLawsCrash.{commits-sealed}
+use Rattle.heap_model.specs.CoreLawsRecords.{AllByRecursion-append}
+use Rattle.heap_model.specs.CoreLawsReplies.{step_g0}
+use Rattle.heap_model.specs.CoreLawsRun.{step_history, valid_step, IsIdle, ForcesFollow, seal_idle, force_idle}
+use Rattle.heap_model.specs.CoreLawsStep.{valid_fresh, valid_after}
+use Rattle.heap_model.specs.Image.{StandsFor}
 use Rattle.heap_shell.specs.Play.{AreReady, Makes}
-use Rattle.heap_shell.specs.Number.{number}
-use Rattle.heap_shell.specs.Script.{lines as text_lines, words, is_number, put_of, call_of, line_of, place_after, line_at, Reading, start, with_line, read_line, take_line, ended, finish, script, line_events, events}
+use Rattle.script_text.specs.Number.{number}
+use Rattle.script_text.specs.Script.{lines as text_lines, words, is_number, put_of, call_of, line_of, place_after, line_at, Reading, start, with_line, read_line, take_line, ended, finish, script, line_events, events}
 
 -- a core that may be asked events is valid
 pub ready_valid : (c : Core) (events : List Event) → AreReady c events → IsValid c

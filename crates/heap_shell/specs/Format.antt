@@ -1,14 +1,8 @@
 -- What is made of a disk's image while an empty heap is written over it.
-use Rattle.std.specs.Prelude.{◌≡◌, ◌⊎◌, ℕ, ◌+◌, ◌-◌, ◌/◌, ◌<◌, ◌≤◌, ◌==◌, List, [], length, slice_index, if◌then◌else◌}
+use Rattle.std.specs.Prelude.{◌≡◌, ◌⊎◌, ℕ, ◌+◌, ◌-◌, ◌/◌, ◌<◌, ◌≤◌, ◌==◌, List, [], slice_index, if◌then◌else◌}
 use Rattle.gate_slot.specs.Gate.{IsClosed}
 use Rattle.image_plan.specs.declared.superblock.Super.{Super}
-use Rattle.heap_shell.specs.Image.{IsLegal}
-
--- new has the size of old, and the same bytes outside of those from `from` to `end`
-pub record SameOutside (from end : ℕ) (old new : List ℕ) : Type 0 where
-  pub size : length new ≡ length old
-  pub before : (i : ℕ) → i < from → slice_index new i ≡ slice_index old i
-  pub behind : (i : ℕ) → end ≤ i → slice_index new i ≡ slice_index old i
+use Rattle.heap_model.specs.Image.{IsLegal}
 
 -- the bytes from `from` to `end` are zero
 abbrev pub AreZero : ℕ → ℕ → List ℕ → Type 0

@@ -13,19 +13,19 @@ use Rattle.graph_model.specs.Transaction.{serial, serial_replies}
 use Rattle.graph_model.specs.History.{sealed, commits, acknowledged}
 use Rattle.graph_model.specs.Canon.{canon}
 use Rattle.graph_model.specs.Text.{canon_text}
-use Rattle.heap_shell.specs.declared.command.Play.{Play}
 use Rattle.image_plan.specs.declared.superblock.Super.{Super}
-use Rattle.heap_shell.specs.declared.script.Line.{Line}
+use Rattle.heap_shell.specs.declared.command.Play.{Play}
+use Rattle.script_text.specs.declared.script.Line.{Line}
 use Rattle.heap_shell.specs.declared.status.Status.{Status}
 use Rattle.heap_shell.specs.declared.status.Status.TheVariants as status
-use Rattle.heap_shell.specs.Core.{Core, fresh, with_entry, IsCutShort, IsRun}
-use Rattle.heap_shell.specs.CoreCrash.{KeepsCommits, HasCommits}
-use Rattle.heap_shell.specs.CoreReplies.{call_replies_of}
-use Rattle.heap_shell.specs.CoreRuns.{after_events, total_calls, StopsAt}
+use Rattle.heap_model.specs.Core.{Core, fresh, with_entry, IsCutShort, IsRun}
+use Rattle.heap_model.specs.CoreCrash.{KeepsCommits, HasCommits}
+use Rattle.heap_model.specs.CoreReplies.{call_replies_of}
+use Rattle.heap_model.specs.CoreRuns.{after_events, total_calls, StopsAt}
 use Rattle.heap_shell.specs.Format.{IsFormatting}
-use Rattle.heap_shell.specs.Image.{IsLegal}
+use Rattle.heap_model.specs.Image.{IsLegal}
 use Rattle.heap_shell.specs.Play.{lines_text, WroteFront, WroteLines}
-use Rattle.heap_shell.specs.Script.{events}
+use Rattle.script_text.specs.Script.{events}
 
 -- A claim of a disk that tells its bytes and keeps the disk model, and on which nothing waits.
 abbrev pub OfTold : Bool → List ℕ → (List ℕ → Type 0) → Type 0 → Type 0

@@ -2,22 +2,23 @@
 use Rattle.std.specs.Prelude.{◌≡◌, ◌≢◌, ℕ, ◌+◌, List, [], ◌++◌, length, map, is_some, count_by, Option, None, Some}
 use Rattle.disk_model.specs.Disk.{Only}
 use Rattle.disk_model.specs.declared.disk.Disk.{Ghosts}
+use Rattle.gated_log.specs.Log.{records_of}
+use Rattle.gated_log.specs.LogState.{Keeps, log_place, log_room}
 use Rattle.graph_model.specs.declared.event.Event.{Event}
 use Rattle.graph_model.specs.declared.reply.Reply.{Reply}
 use Rattle.graph_model.specs.Graph.{Graph}
 use Rattle.graph_model.specs.Transaction.{Transaction, run, serial}
 use Rattle.graph_model.specs.History.{Account, account}
+use Rattle.image_plan.specs.declared.superblock.Super.{Super}
+use Rattle.image_plan.specs.Plan.{log_offset}
+use Rattle.log_records.specs.declared.Record.{Record}
 use Rattle.heap_shell.specs.declared.active.Active.{Active}
 use Rattle.heap_shell.specs.declared.heap.Heap.{Heap}
-use Rattle.image_plan.specs.declared.superblock.Super.{Super}
-use Rattle.log_records.specs.declared.Record.{Record}
 use Rattle.heap_shell.specs.declared.working.Working.{Working}
-use Rattle.heap_shell.specs.Core.{Core, is_put, IsStep}
-use Rattle.heap_shell.specs.CoreCrash.{KeepsCommits}
-use Rattle.heap_shell.specs.Image.{records_of, IsLegal}
-use Rattle.heap_shell.specs.LogState.{Keeps}
-use Rattle.heap_shell.specs.Machine.{words, graph_of}
-use Rattle.image_plan.specs.Plan.{log_offset}
+use Rattle.heap_model.specs.Core.{Core, is_put, IsStep}
+use Rattle.heap_model.specs.CoreCrash.{KeepsCommits}
+use Rattle.heap_model.specs.Image.{IsLegal}
+use Rattle.log_machine.specs.Machine.{words, graph_of}
 
 -- what is kept in memory of a transaction on a graph: its number, which handles hold an object, and how often it wrote
 abbrev pub active_of : Graph → Option Transaction → Option Active
@@ -31,8 +32,8 @@ all_records c = records_of c.batches ++ c.pending
 -- The working state is that of a core whose history tells this account.
 pub record Works (w : Working) (a : Account) (c : Core) : Type 0 where
   pub log : Keeps w.log c.batches c.pending
-  pub place : w.log.at ≡ log_offset
-  pub room : w.log.room ≡ c.room
+  pub place : log_place w.log ≡ log_offset
+  pub room : log_room w.log ≡ c.room
   pub stored : w.words.words ≡ words (all_records c)
   pub active : w.active ≡ active_of (serial c.g0 a.sealed) (a.active 1)
   pub next : w.next ≡ c.first + a.begun

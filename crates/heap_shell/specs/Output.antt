@@ -6,13 +6,13 @@ use Rattle.graph_model.specs.History.{account, commits, acknowledged}
 use Rattle.graph_model.specs.Transaction.{serial}
 use Rattle.heap_shell.specs.declared.status.Status.{Status}
 use Rattle.heap_shell.specs.declared.status.Status.TheVariants.{Done}
-use Rattle.heap_shell.specs.Core.{Core}
-use Rattle.heap_shell.specs.CoreCrash.{KeepsCommits}
+use Rattle.heap_model.specs.Core.{Core}
+use Rattle.heap_model.specs.CoreCrash.{KeepsCommits}
 use Rattle.heap_shell.specs.Headline.{IsEndOfPlay, recovered_line, graph_text}
-use Rattle.heap_shell.specs.Machine.{words, graph_of}
+use Rattle.log_machine.specs.Machine.{words, graph_of}
 use Rattle.heap_shell.specs.Means.{all_records}
 use Rattle.heap_shell.specs.Play.{WroteFront}
-use Rattle.heap_shell.specs.ValueWord.{IsNumberWord}
+use Rattle.heap_model.specs.ValueWord.{IsNumberWord}
 
 -- All of a text was written, or a first part of it where that ended in an error.
 abbrev pub WroteText : Result (Unit {0}) Status → List ℕ → List ℕ → List ℕ → Type 0

@@ -13,17 +13,17 @@ use Rattle.graph_model.specs.declared.reply.Reply.{Reply}
 use Rattle.graph_model.specs.declared.reply.Reply.TheVariants.{Refused}
 use Rattle.graph_model.specs.SlowHeap.{IsSingleSession}
 use Rattle.graph_model.specs.Text.{line}
-use Rattle.heap_shell.specs.declared.heap.Heap.{Heap}
 use Rattle.image_plan.specs.declared.superblock.Super.{Super}
+use Rattle.heap_shell.specs.declared.heap.Heap.{Heap}
 use Rattle.heap_shell.specs.declared.play.Ended.{Ended}
 use Rattle.heap_shell.specs.declared.play.Ended.TheVariants as ended
 use Rattle.heap_shell.specs.declared.status.Status.{Status}
 use Rattle.heap_shell.specs.Causes.{reply_device}
-use Rattle.heap_shell.specs.Core.{Core, with_entry, after, IsCutShort, calls}
-use Rattle.heap_shell.specs.CoreCrash.{HasCommits}
-use Rattle.heap_shell.specs.CoreLawsRun.{IsIdle}
-use Rattle.heap_shell.specs.CoreRuns.{after_events, total_calls}
-use Rattle.heap_shell.specs.CoreValid.{IsValid}
+use Rattle.heap_model.specs.Core.{Core, with_entry, after, IsCutShort, calls}
+use Rattle.heap_model.specs.CoreCrash.{HasCommits}
+use Rattle.heap_model.specs.CoreLawsRun.{IsIdle}
+use Rattle.heap_model.specs.CoreRuns.{after_events, total_calls}
+use Rattle.heap_model.specs.CoreValid.{IsValid}
 use Rattle.heap_shell.specs.Means.{IsHeap}
 
 -- the lines of a history

@@ -1,8 +1,8 @@
 -- What a play needs of the events of a script.
 use Rattle.std.specs.Prelude.{◌≤◌, List}
 use Rattle.graph_model.specs.declared.event.Event.{Event}
-use Rattle.heap_shell.specs.CoreLawsRun.{IsIdle}
-use Rattle.heap_shell.specs.CoreRuns.{after_events, total_calls}
+use Rattle.heap_model.specs.CoreLawsRun.{IsIdle}
+use Rattle.heap_model.specs.CoreRuns.{after_events, total_calls}
 use Rattle.heap_shell.specs.Headline.{made_core}
 use Rattle.heap_shell.specs.Play.{AreReady}
 

@@ -1,24 +1,24 @@
 -- What an opening finds.
 use Rattle.std.specs.Prelude.{◌≡◌, ◌+◌, List, [], Some, max}
-use Rattle.heap_shell.specs.declared.log.LogError.{LogError}
-use Rattle.heap_shell.specs.declared.log.LogError.TheVariants as logging
+use Rattle.gated_log.specs.declared.LogError.{LogError}
+use Rattle.gated_log.specs.declared.LogError.TheVariants as logging
+use Rattle.gated_log.specs.Log.{records_of}
+use Rattle.gated_log.specs.LogState.{Keeps, log_place, log_room}
 use Rattle.image_plan.specs.declared.superblock.Super.{Super}
-use Rattle.heap_shell.specs.declared.status.At.TheVariants.{Batch}
+use Rattle.image_plan.specs.Plan.{log_offset}
 use Rattle.log_records.specs.declared.Record.{Record}
+use Rattle.heap_shell.specs.declared.status.At.TheVariants.{Batch}
 use Rattle.heap_shell.specs.declared.recovery.OpenError.{OpenError}
 use Rattle.heap_shell.specs.declared.recovery.OpenError.TheVariants.{NoMemory, NotHeap, Damaged, Disk}
 use Rattle.heap_shell.specs.declared.recovery.Recovered.{Recovered}
-use Rattle.heap_shell.specs.Image.{records_of}
-use Rattle.heap_shell.specs.LogState.{Keeps}
-use Rattle.heap_shell.specs.Machine.{start, after_all, words}
+use Rattle.log_machine.specs.Machine.{start, after_all, words}
 use Rattle.heap_shell.specs.MachineState.{state_of}
-use Rattle.image_plan.specs.Plan.{log_offset}
 
 -- The parts of a heap, as a legal image with these numbers and batches has them.
 pub record IsRecovered (s : Super) (batches : List (List Record)) (found : Recovered) : Type 0 where
   pub log : Keeps found.log batches []
-  pub place : found.log.at ≡ log_offset
-  pub room : found.log.room ≡ s.log_bytes
+  pub place : log_place found.log ≡ log_offset
+  pub room : log_room found.log ≡ s.log_bytes
   pub words : found.words.words ≡ words (records_of batches)
   pub state : after_all start (records_of batches) ≡ Some (state_of found.state)
   pub next : found.next ≡ max s.first ((state_of found.state).greatest + 1)

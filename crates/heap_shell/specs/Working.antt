@@ -1,21 +1,21 @@
 -- What the events of a session do to the working state.
-use Rattle.std.specs.Prelude.{◌≡◌, ℕ, ◌+◌, ◌*◌, ◌==◌, nat_lt, nat_le, List, ◌++◌, drop, replicate, Bool, true, false, Option, None, Some, is_some, unwrap_or, slice_get, slice_set, slice_index, vec_len, if◌then◌else◌}
+use Rattle.std.specs.Prelude.{◌≡◌, ℕ, ◌+◌, ◌*◌, ◌==◌, nat_lt, nat_le, List, ◌++◌, drop, replicate, Bool, true, false, Option, None, Some, is_some, unwrap_or, slice_get, slice_set, slice_index, if◌then◌else◌}
+use Rattle.gated_log.specs.declared.Log.{Log}
+use Rattle.gated_log.specs.LogState.{log_place, log_room, log_tail, log_hand, log_used, log_need}
 use Rattle.graph_model.specs.declared.reply.Refusal.{Refusal}
 use Rattle.graph_model.specs.declared.reply.Refusal.TheVariants.{AlreadyActive, NotActive, NumbersSpent, BadHandle, Range, BadField}
 use Rattle.graph_model.specs.Plain.{no_number, no_int}
-use Rattle.heap_shell.specs.declared.active.Active.{Active}
 use Rattle.log_records.specs.declared.Record.{Record}
 use Rattle.log_records.specs.declared.Record.TheVariants.{Update, Commit}
-use Rattle.heap_shell.specs.declared.log.Log.{Log}
-use Rattle.heap_shell.specs.declared.working.Working.{Working}
-use Rattle.heap_shell.specs.Core.{full_log}
-use Rattle.heap_shell.specs.LogRoom.{used_bytes, need_bytes}
-use Rattle.heap_shell.specs.Machine.{put_record}
 use Rattle.log_records.specs.Record.{spelling}
+use Rattle.heap_shell.specs.declared.active.Active.{Active}
+use Rattle.heap_shell.specs.declared.working.Working.{Working}
+use Rattle.heap_model.specs.Core.{full_log}
+use Rattle.log_machine.specs.Machine.{put_record}
 
 -- why the log has no room, by what an event needs and what is kept after it
 abbrev pub no_room : Log → ℕ → ℕ → Option Refusal
-no_room log need reserved = full_log log.room (used_bytes log.tail (vec_len log.hand)) need reserved
+no_room log need reserved = full_log (log_room log) (log_used log) need reserved
 
 abbrev pub begin_refusal : Working → Option Refusal
 begin_refusal w =
@@ -58,7 +58,7 @@ put_refusal log (Some a) h i v =
     if holds_root a h then
     (if nat_le no_int v then Some Range
     else if nat_le 4 i then Some BadField
-    else no_room log (need_bytes (vec_len log.hand) 27) (10 + 19 * (a.writes + 1)))
+    else no_room log (log_need log 27) (10 + 19 * (a.writes + 1)))
     else Some BadHandle
 
 abbrev pub seal_refusal : Option Active → Option Refusal
@@ -71,14 +71,14 @@ update_of words a i v = Update a.number 0 i (slice_index (drop 2 words) i) (4 * 
 
 -- the log is where it was, with these records in hand
 pub record SameLog (old new : Log) (hand : List ℕ) : Type 0 where
-  pub at : new.at ≡ old.at
-  pub room : new.room ≡ old.room
-  pub tail : new.tail ≡ old.tail
-  pub in_hand : new.hand.items ≡ hand
+  pub at : log_place new ≡ log_place old
+  pub room : log_room new ≡ log_room old
+  pub tail : log_tail new ≡ log_tail old
+  pub in_hand : log_hand new ≡ hand
 
 -- The working state is as it was.
 pub record IsAsItWas (old new : Working) : Type 0 where
-  pub log : SameLog old.log new.log old.log.hand.items
+  pub log : SameLog old.log new.log (log_hand old.log)
   pub words : new.words ≡ old.words
   pub active : new.active ≡ old.active
   pub next : new.next ≡ old.next
@@ -88,7 +88,7 @@ pub record IsAsItWas (old new : Working) : Type 0 where
 pub record Writes (old new : Working) (rec : Active → Record) : Type 0 where
   pub active : Active
   pub was_active : old.active ≡ Some active
-  pub log : SameLog old.log new.log (old.log.hand.items ++ spelling (rec active))
+  pub log : SameLog old.log new.log (log_hand old.log ++ spelling (rec active))
   pub words : new.words.words ≡ put_record old.words.words (rec active)
   pub now_active : new.active ≡ Some (record { number = active.number; handles = active.handles; writes = active.writes + 1 })
   pub next : new.next ≡ old.next
@@ -98,7 +98,7 @@ pub record Writes (old new : Working) (rec : Active → Record) : Type 0 where
 pub record Seals (old new : Working) : Type 0 where
   pub active : Active
   pub was_active : old.active ≡ Some active
-  pub log : SameLog old.log new.log (old.log.hand.items ++ spelling (Commit active.number))
+  pub log : SameLog old.log new.log (log_hand old.log ++ spelling (Commit active.number))
   pub words : new.words ≡ old.words
   pub not_active : new.active ≡ None
   pub next : new.next ≡ old.next

@@ -1,14 +1,14 @@
 //! An empty heap is made on a disk.
 ghost use Rattle.std.specs.Prelude.{◌≡◌, ℕ, ◌+◌, ◌-◌, ◌<◌, ◌≤◌, List, [], replicate, IsTrue, IfOk, IsErrAnd, OnOk};
 ghost use Rattle.counts.specs.Count.{counted};
-ghost use Rattle.disk_model.specs.Disk.{Only, Follows, HasCause};
+ghost use Rattle.disk_model.specs.Disk.{Only, Follows, HasCause, SameOutside};
 ghost use Rattle.disk_model.specs.Moments.{LeavesOnly};
-ghost use Rattle.heap_shell.specs.declared.format.FormatError.TheVariants.{TooSmall};
-ghost use Rattle.heap_shell.specs.Format.{SameOutside, AreZero, IsFormatting, zero_writes, format_calls};
-ghost use Rattle.heap_shell.specs.GivenBack.{given_back, device_result, FailsByDisk};
-ghost use Rattle.heap_shell.specs.Image.{IsLegal};
 ghost use Rattle.image_plan.specs.Plan.{image_size};
 ghost use Rattle.image_plan.specs.Super.{IsSuper};
+ghost use Rattle.heap_shell.specs.declared.format.FormatError.TheVariants.{TooSmall};
+ghost use Rattle.heap_shell.specs.Format.{AreZero, IsFormatting, zero_writes, format_calls};
+ghost use Rattle.heap_shell.specs.GivenBack.{given_back, device_result, FailsByDisk};
+ghost use Rattle.heap_model.specs.Image.{IsLegal};
 
 use disk_model::{Disk, DiskError};
 use gate_slot::{close_gate, fill_and_open};

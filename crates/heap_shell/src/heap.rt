@@ -4,6 +4,8 @@ ghost use Rattle.std.specs.List.{AllByRecursion};
 ghost use Rattle.disk_model.specs.Disk.{HasCause, Narrows, Only};
 ghost use Rattle.disk_model.specs.Moments.{LeavesOnly};
 ghost use Rattle.gate_slot.specs.Passing.{Passes};
+ghost use Rattle.gated_log.specs.Log.{records_of};
+ghost use Rattle.gated_log.specs.LogState.{log_place, log_room};
 ghost use Rattle.graph_model.specs.Canon.{canon};
 ghost use Rattle.graph_model.specs.Text.{canon_text};
 ghost use Rattle.graph_model.specs.SlowHeap.{IsSingleSession};
@@ -12,15 +14,15 @@ ghost use Rattle.graph_model.specs.declared.event.Event.TheVariants.{Force};
 ghost use Rattle.graph_model.specs.declared.reply.Refusal.TheVariants.{DiskFault, Stopped};
 ghost use Rattle.image_plan.specs.declared.superblock.Super.{Super};
 ghost use Rattle.log_records.specs.declared.Record.{Record};
-ghost use Rattle.heap_shell.specs.Image.{records_of, IsLegal};
+ghost use Rattle.heap_model.specs.Image.{IsLegal};
 ghost use Rattle.heap_shell.specs.Causes.{step_device, reply_device, opened_device};
-ghost use Rattle.heap_shell.specs.Core.{Core, IsStep, fresh, calls};
-ghost use Rattle.heap_shell.specs.CoreCrash.{KeepsCommits};
-ghost use Rattle.heap_shell.specs.CoreLawsRun.{IsIdle};
-ghost use Rattle.heap_shell.specs.CoreValid.{IsReached};
-ghost use Rattle.heap_shell.specs.Machine.{words, graph_of, commits};
+ghost use Rattle.heap_model.specs.Core.{Core, IsStep, fresh, calls};
+ghost use Rattle.heap_model.specs.CoreCrash.{KeepsCommits};
+ghost use Rattle.heap_model.specs.CoreLawsRun.{IsIdle};
+ghost use Rattle.heap_model.specs.CoreValid.{IsReached};
+ghost use Rattle.log_machine.specs.Machine.{words, graph_of, commits};
 ghost use Rattle.heap_shell.specs.Recovered.{IsFromOutside};
-ghost use Rattle.heap_shell.specs.ValueWord.{IsNumberWord};
+ghost use Rattle.heap_model.specs.ValueWord.{IsNumberWord};
 
 use crate::graph_text::root_text;
 use crate::history::History;
@@ -40,7 +42,7 @@ pub struct Heap<D: Disk> {
     before: u64,
     // The entry at which the disk failed or stopped.
     failed: Option<u64>,
-    ghost inside: { working.log.at + working.log.room ≤ D.extent disk },
+    ghost inside: { log_place working.log + log_room working.log ≤ D.extent disk },
 }
 
 /// What an event is answered that the disk cut short.

@@ -2,7 +2,7 @@
 ghost use Rattle.std.specs.Prelude.{◌≡◌, ◌<◌, ◌^◌};
 ghost use Rattle.heap_shell.specs.Working.{no_room};
 
-use crate::log::Log;
+use gated_log::Log;
 use graph_model::Refusal;
 
 /// Why the log has no room for an event, if it hasn't: by the bytes that the event needs, and those kept after it.

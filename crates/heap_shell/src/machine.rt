@@ -1,6 +1,6 @@
 //! The state of the heap after a list of records.
 ghost use Rattle.std.specs.Prelude.{◌≡◌, ◌+◌, ◌<◌, ◌^◌, None, Some, nat_lt, OnOk, OnErr};
-ghost use Rattle.heap_shell.specs.Machine.{start, may_write, after};
+ghost use Rattle.log_machine.specs.Machine.{start, may_write, after};
 ghost use Rattle.heap_shell.specs.Effect.{IsInside};
 
 use crate::page_words::{FIELDS_AT, ROOT_WORDS};

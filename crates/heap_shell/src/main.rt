@@ -8,7 +8,6 @@ mod format;
 mod graph_text;
 mod heap;
 mod history;
-mod log;
 mod log_room;
 mod machine;
 mod number;

@@ -1,6 +1,6 @@
 //! The words of the heap's pages: for now those of the root object, which is all that there is.
 ghost use Rattle.std.specs.Prelude.{◌≡◌, ◌+◌, drop};
-ghost use Rattle.heap_shell.specs.Machine.{first_contents, put_record};
+ghost use Rattle.log_machine.specs.Machine.{first_contents, put_record};
 ghost use Rattle.heap_shell.specs.Effect.{IsInside};
 
 use log_records::Record;

@@ -5,12 +5,12 @@ ghost use Rattle.graph_model.specs.declared.event.Event.TheVariants.{Seal, Force
 ghost use Rattle.graph_model.specs.Text.{line};
 ghost use Rattle.image_plan.specs.declared.superblock.Super.{Super};
 ghost use Rattle.heap_shell.specs.Causes.{IsOutputError, played_device};
-ghost use Rattle.heap_shell.specs.Core.{Core};
+ghost use Rattle.heap_model.specs.Core.{Core};
 ghost use Rattle.heap_shell.specs.HeapState.{heap_disk};
 ghost use Rattle.heap_shell.specs.Means.{IsHeap};
 ghost use Rattle.heap_shell.specs.Output.{WroteText};
 ghost use Rattle.heap_shell.specs.Play.{AreReady, Plays, ended_by};
-ghost use Rattle.heap_shell.specs.Script.{line_events, events};
+ghost use Rattle.script_text.specs.Script.{line_events, events};
 
 use crate::heap::Heap;
 use crate::script::Line;

@@ -3,24 +3,25 @@ ghost use Rattle.std.specs.Prelude.{◌≡◌, ◌+◌, ◌^◌, ◌<◌, ◌≤
 ghost use Rattle.std.specs.List.{AllByRecursion};
 ghost use Rattle.disk_model.specs.Disk.{Narrows, HasCause};
 ghost use Rattle.disk_model.specs.Moments.{LeavesOnly};
+ghost use Rattle.gated_log.specs.LogState.{log_place, log_room, IsHandEmpty};
 ghost use Rattle.graph_model.specs.RootGraph.{IsPlain, AllPlain};
 ghost use Rattle.image_plan.specs.declared.superblock.Super.{Super};
-ghost use Rattle.log_records.specs.declared.Record.{Record};
-ghost use Rattle.heap_shell.specs.Causes.{open_device};
-ghost use Rattle.heap_shell.specs.Image.{IsLegal};
-ghost use Rattle.heap_shell.specs.Machine.{start, after_all, words, AreWhole};
-ghost use Rattle.heap_shell.specs.MachineState.{state_of};
 ghost use Rattle.image_plan.specs.Plan.{image_size};
-ghost use Rattle.log_records.specs.Record.{IsRecord};
-ghost use Rattle.heap_shell.specs.Recovered.{IsRecovered, IsFromOutside, IsFromImage};
 ghost use Rattle.image_plan.specs.Super.{IsSuper, superblock};
-ghost use Rattle.heap_shell.specs.ValueWord.{IsNumberWord, value_of};
+ghost use Rattle.log_records.specs.declared.Record.{Record};
+ghost use Rattle.log_records.specs.Record.{IsRecord};
+ghost use Rattle.heap_shell.specs.Causes.{open_device};
+ghost use Rattle.heap_model.specs.Image.{IsLegal};
+ghost use Rattle.log_machine.specs.Machine.{start, after_all, words, AreWhole};
+ghost use Rattle.heap_shell.specs.MachineState.{state_of};
+ghost use Rattle.heap_shell.specs.Recovered.{IsRecovered, IsFromOutside, IsFromImage};
+ghost use Rattle.heap_model.specs.ValueWord.{IsNumberWord, value_of};
 
-use crate::log::{Log, LogError};
 use crate::machine::{LogState, Unshaped};
 use crate::page_words::{PageWords, ROOT_FIELDS};
 use crate::status::At;
 use disk_model::{Disk, DiskError};
+use gated_log::{Log, LogError};
 use graph_model::Val;
 use heap_words::{Word, decode};
 use image_plan::{SUPER_BYTES, Super, read_super};
@@ -69,8 +70,8 @@ pub struct Recovered {
 
 /// Reads the image on the disk.
 pub fn recover<D: Disk>(alloc: Global, disk: &mut D) -> Result<Recovered, OpenError>
-    ensures inside { IfOk result (λ found. found.log.at + found.log.room ≤ D.extent disk.new) }
-    ensures idle { IfOk result (λ found. vec_len found.log.hand ≡ 4) }
+    ensures inside { IfOk result (λ found. log_place found.log + log_room found.log ≤ D.extent disk.new) }
+    ensures idle { IfOk result (λ found. IsHandEmpty found.log) }
     ensures next { IfOk result (λ found. 0 < found.next) }
     // No image is opened that ends inside a transaction, or that leaves anything but numbers in the root's fields.
     ensures whole { IfOk result (λ found. (state_of found.state).writer ≡ None) }

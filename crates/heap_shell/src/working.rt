@@ -1,14 +1,14 @@
 //! What an open heap keeps in memory, and how the events of a session change it.
-ghost use Rattle.std.specs.Prelude.{◌≡◌, ◌+◌, ◌<◌, ◌≤◌, Ok, vec_len, OnErr, IfOk};
+ghost use Rattle.std.specs.Prelude.{◌≡◌, ◌+◌, ◌<◌, ◌≤◌, Ok, OnErr, IfOk};
+ghost use Rattle.gated_log.specs.LogState.{log_place, log_room, log_used};
 ghost use Rattle.graph_model.specs.Plain.{reply_of};
 ghost use Rattle.graph_model.specs.declared.reply.Reply.TheVariants.{Begun, Done, Sealed};
-ghost use Rattle.heap_shell.specs.LogRoom.{used_bytes};
 ghost use Rattle.heap_shell.specs.Reserve.{active_count, active_reserve};
 
 use crate::active::{Active, HANDLES, UNDO_BYTES};
-use crate::log::Log;
 use crate::log_room::log_refusal;
 use crate::page_words::{PageWords, ROOT_FIELDS};
+use gated_log::Log;
 use graph_model::{Refusal, Reply};
 use heap_words::{NO_INT, Word, encode};
 use log_records::{LAST_NUMBER, Record};
@@ -31,7 +31,7 @@ pub struct Working {
     /// How many transactions were sealed since the heap was opened.
     pub sealed: u64,
     // The log has room for what is kept for the active transaction's end.
-    ghost reserve: { used_bytes log.tail (vec_len log.hand) + active_reserve active ≤ log.room },
+    ghost reserve: { log_used log + active_reserve active ≤ log_room log },
     ghost counted: { sealed + active_count active < next },
 }
 
@@ -95,8 +95,8 @@ impl Working {
         ensures done { result ≡ Ok Done → Writes self.old self.new (λ a. update_of self.old.words.words a i v) }
         ensures refused { (why : _) → result ≡ Ok (Reply.Refused why) → IsAsItWas self.old self.new }
         ensures err { OnErr result (IsAsItWas self.old self.new) }
-        ensures at { self.new.log.at ≡ self.old.log.at }
-        ensures room { self.new.log.room ≡ self.old.log.room }
+        ensures at { log_place self.new.log ≡ log_place self.old.log }
+        ensures room { log_room self.new.log ≡ log_room self.old.log }
     {
         let Some(active) = &mut self.active else {
             return Ok(refused(Refusal::NotActive));
@@ -134,8 +134,8 @@ impl Working {
         ensures sealed { (number : _) → result ≡ Ok (Sealed number) → Seals self.old self.new }
         ensures refused { (why : _) → result ≡ Ok (Reply.Refused why) → IsAsItWas self.old self.new }
         ensures err { OnErr result (IsAsItWas self.old self.new) }
-        ensures at { self.new.log.at ≡ self.old.log.at }
-        ensures room { self.new.log.room ≡ self.old.log.room }
+        ensures at { log_place self.new.log ≡ log_place self.old.log }
+        ensures room { log_room self.new.log ≡ log_room self.old.log }
     {
         let Some(active) = &self.active else {
             return Ok(refused(Refusal::NotActive));

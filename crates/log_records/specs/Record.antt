@@ -3,9 +3,9 @@ use Rattle.std.specs.Prelude.{◌≡◌, ℕ, ◌^◌, ◌<◌, ◌≤◌, List,
 use Rattle.std.specs.Borrow.{Bor}
 use Rattle.std.specs.List.{flat_map}
 use Rattle.std.specs.Int.{w16, w32, w64, to_le_bytes}
+use Rattle.heap_words.specs.Word.{IsFieldWord}
 use Rattle.log_records.specs.declared.Record.{Record}
 use Rattle.log_records.specs.declared.Record.TheVariants.{Update, Undo, Commit, End}
-use Rattle.heap_words.specs.Word.{IsFieldWord}
 
 -- the bytes of a record: its kind and its fields, lowest bytes first
 abbrev pub spelling : Record → List ℕ

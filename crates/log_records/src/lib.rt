@@ -3,10 +3,10 @@
 
 ghost use Rattle.std.specs.Prelude.{◌≡◌, ◌^◌, ◌<◌, ◌∷◌, ◌++◌, List, ℕ, length, take, Some, IfSome, OnOk, OnErr};
 ghost use Rattle.std.specs.Int.{w16, w32, w64, to_le_bytes};
+ghost use Rattle.heap_words.specs.Word.{IsFieldWord};
 ghost use Rattle.log_records.specs.declared.Record.{Record};
 ghost use Rattle.log_records.specs.declared.Record.TheVariants.{Update, Undo, Commit, End};
 ghost use Rattle.log_records.specs.Record.{spelling, Begins, Reads, IsNumber, IsRecord};
-ghost use Rattle.heap_words.specs.Word.{IsFieldWord};
 
 use heap_words::decode as decode_word;
 use std::alloc::AllocError;

@@ -1,9 +1,9 @@
 use Rattle.std.proofs.Common.{◌≡◌, ℕ, ◌-◌, ◌≤◌, List}
 use Rattle.std.specs.Prelude.{IsTrue}
 use Rattle.counts.specs.Count.{counted}
-use Rattle.disk_model.specs.Disk.{Follows}
+use Rattle.disk_model.specs.Disk.{Follows, SameOutside}
 use Rattle.disk_model.specs.Moments.{LeavesOnly}
-use Rattle.heap_shell.specs.Format.{SameOutside, AreZero, zero_writes}
+use Rattle.heap_shell.specs.Format.{AreZero, zero_writes}
 use Rattle.heap_shell.proofs.format.write_zeros.Given as goal
 
 -- up to `at` the bytes are zero, and all else is as it was

@@ -2,10 +2,10 @@ use Rattle.std.proofs.Common.{◌≡◌, inl, ◌+◌, List, Ok, Err, rules, ref
 use Rattle.std.proofs.lemmas.List.{take_all}
 use Rattle.heap_shell.specs.declared.play.Ended.{Ended}
 use Rattle.heap_shell.specs.declared.play.Ended.TheVariants as ended
-use Rattle.heap_shell.specs.declared.script.Line.{Line}
+use Rattle.script_text.specs.declared.script.Line.{Line}
 use Rattle.heap_shell.specs.CoreLawsPlay.{ready_valid, keeps_has}
 use Rattle.heap_shell.specs.Play.{Plays}
-use Rattle.heap_shell.specs.Script.{events}
+use Rattle.script_text.specs.Script.{events}
 use Rattle.heap_shell.proofs.PlayEvent.{heap_leaves}
 use Rattle.heap_shell.proofs.PlayLaws.{plays_none}
 use Rattle.heap_shell.proofs.PlayLoop.{line_more, line_last}

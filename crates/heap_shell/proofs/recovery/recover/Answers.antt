@@ -2,15 +2,15 @@ use Rattle.std.proofs.Common.{◌≡◌, ℕ, ◌+◌, ◌≤◌, List, drop, Er
 use Rattle.std.specs.List.{AllByRecursion}
 use Rattle.std.specs.Prelude.{IsOk}
 use Rattle.disk_model.specs.Disk.{part}
+use Rattle.gated_log.specs.Log.{records_of, HoldsBatches}
+use Rattle.gated_log.specs.LogCause.{log_device_result}
 use Rattle.image_plan.specs.declared.superblock.Super.{Super}
+use Rattle.image_plan.specs.Plan.{image_size, log_offset}
 use Rattle.log_records.specs.declared.Record.{Record}
 use Rattle.heap_shell.specs.Causes.{open_device}
-use Rattle.heap_shell.specs.Image.{IsLegal, records_of}
-use Rattle.heap_shell.specs.Log.{HoldsBatches}
-use Rattle.heap_shell.specs.LogCause.{log_device_result}
-use Rattle.heap_shell.specs.Machine.{start, after_all, words, AreWhole}
-use Rattle.heap_shell.specs.ValueWord.{IsNumberWord}
-use Rattle.image_plan.specs.Plan.{image_size, log_offset}
+use Rattle.heap_model.specs.Image.{IsLegal}
+use Rattle.log_machine.specs.Machine.{start, after_all, words, AreWhole}
+use Rattle.heap_model.specs.ValueWord.{IsNumberWord}
 use Rattle.heap_shell.specs.Recovered.{open_error}
 use Rattle.heap_shell.proofs.Causes.{cause_then}
 use Rattle.heap_shell.proofs.Opening.{outside_of, same_device}

@@ -1,5 +1,5 @@
 use Rattle.std.proofs.Common.{◌≡◌, take, Some}
-use Rattle.heap_shell.specs.Machine.{start, after_all, words}
+use Rattle.log_machine.specs.Machine.{start, after_all, words}
 use Rattle.heap_shell.specs.MachineState.{state_of}
 use Rattle.heap_shell.proofs.Replay.{Bounds}
 use Rattle.heap_shell.proofs.recovery.replay_all.Given as goal

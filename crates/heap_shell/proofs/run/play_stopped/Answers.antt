@@ -7,11 +7,11 @@ use Rattle.disk_model.specs.Moments.{LeavesOnly, weaker}
 use Rattle.heap_shell.specs.declared.status.Status.{Status}
 use Rattle.heap_shell.specs.declared.status.Status.TheVariants as status
 use Rattle.heap_shell.specs.Causes.{DiskRose, IsPlayStatus}
-use Rattle.heap_shell.specs.CoreCrash.{KeepsCommits, HasCommits}
+use Rattle.heap_model.specs.CoreCrash.{KeepsCommits, HasCommits}
 use Rattle.heap_shell.specs.CoreLawsPlay.{keeps_has}
 use Rattle.heap_shell.specs.Headline.{made_super, made_core, IsExact}
-use Rattle.heap_shell.specs.Image.{IsLegal}
-use Rattle.heap_shell.specs.Script.{events}
+use Rattle.heap_model.specs.Image.{IsLegal}
+use Rattle.script_text.specs.Script.{events}
 use Rattle.heap_shell.proofs.Causes.{rose_within, rose_until}
 use Rattle.heap_shell.proofs.PlayEnds.{kept, all_lines, some_lines, ends_early, ends_recovered, ends_made, exact_some, passes_some, lines_more}
 use Rattle.heap_shell.proofs.PlayFuse.{same_disk, same_limit, fuse_since, fuse_passes}

@@ -7,12 +7,12 @@ use Rattle.graph_model.specs.Transaction.{serial}
 use Rattle.heap_shell.specs.declared.play.Ended.{Ended}
 use Rattle.heap_shell.specs.declared.play.Ended.TheVariants as ended
 use Rattle.heap_shell.specs.declared.status.Status.TheVariants as status
-use Rattle.heap_shell.specs.CoreCrash.{HasCommits}
+use Rattle.heap_model.specs.CoreCrash.{HasCommits}
 use Rattle.heap_shell.specs.CoreLawsPlay.{keeps_has}
-use Rattle.heap_shell.specs.CoreRuns.{total_calls}
+use Rattle.heap_model.specs.CoreRuns.{total_calls}
 use Rattle.heap_shell.specs.Headline.{made_super, made_core}
 use Rattle.heap_shell.specs.Play.{Plays}
-use Rattle.heap_shell.specs.Script.{events}
+use Rattle.script_text.specs.Script.{events}
 use Rattle.heap_shell.proofs.Causes.{disk_rose_since}
 use Rattle.heap_shell.proofs.PlayEnds.{kept, whole_graph, all_lines, some_lines, ends_early, ends_whole, exact_none, lines_more}
 use Rattle.heap_shell.proofs.PlayOpen.{only_new, ends_unopened, since_made}

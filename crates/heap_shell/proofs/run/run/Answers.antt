@@ -1,9 +1,9 @@
 use Rattle.std.proofs.Common.{◌≡◌, inr, ◌+◌, ◌≤◌, List, Some, None, Ok, arith, sym, ap, ◌∙◌, subst}
-use Rattle.heap_shell.specs.declared.script.Line.{Line}
+use Rattle.script_text.specs.declared.script.Line.{Line}
 use Rattle.heap_shell.specs.CoreLawsGraph.{script_playable}
 use Rattle.heap_shell.specs.Headline.{made_super}
 use Rattle.heap_shell.specs.Playable.{IsPlayable}
-use Rattle.heap_shell.specs.Script.{script, events}
+use Rattle.script_text.specs.Script.{script, events}
 use Rattle.heap_shell.proofs.Causes.{rose_since}
 use Rattle.heap_shell.proofs.RunLaws.{made_played, end_sound, end_done}
 use Rattle.heap_shell.proofs.run.run.Goals as goal

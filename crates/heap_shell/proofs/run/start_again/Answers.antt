@@ -1,6 +1,6 @@
 use Rattle.std.proofs.Common.{ℕ, List, sym, subst}
 use Rattle.disk_model.specs.Moments.{LeavesOnly, begins, goes_on, weaker}
-use Rattle.heap_shell.specs.CoreCrash.{KeepsCommits}
+use Rattle.heap_model.specs.CoreCrash.{KeepsCommits}
 use Rattle.heap_shell.proofs.PlayOpen.{opening_then}
 use Rattle.heap_shell.proofs.run.start_again.Goals as goal
 

@@ -3,8 +3,8 @@ use Rattle.std.specs.Prelude.{IfOk}
 use Rattle.gate_slot.specs.Passing.{Passes}
 use Rattle.graph_model.specs.declared.event.Event.{Event}
 use Rattle.heap_shell.specs.Causes.{reply_device}
-use Rattle.heap_shell.specs.Core.{calls}
-use Rattle.heap_shell.specs.CoreCrash.{KeepsCommits}
+use Rattle.heap_model.specs.Core.{calls}
+use Rattle.heap_model.specs.CoreCrash.{KeepsCommits}
 use Rattle.heap_shell.proofs.MeansLeft.{heap_keeps, stays, quiet_passes, quiet_passes_result}
 use Rattle.heap_shell.proofs.MeansForce.{begin_steps, root_steps, put_steps, seal_steps}
 use Rattle.heap_shell.proofs.heap.Heap.answer.Goals as goal

@@ -3,8 +3,8 @@ use Rattle.disk_model.specs.Moments.{weaker}
 use Rattle.disk_model.specs.declared.disk.DiskError.{DiskError}
 use Rattle.gate_slot.specs.Passing.{Passes}
 use Rattle.graph_model.specs.declared.event.Event.TheVariants.{Force}
-use Rattle.heap_shell.specs.Core.{calls}
-use Rattle.heap_shell.specs.CoreCrash.{KeepsCommits}
+use Rattle.heap_model.specs.Core.{calls}
+use Rattle.heap_model.specs.CoreCrash.{KeepsCommits}
 use Rattle.heap_shell.proofs.MeansLeft.{heap_keeps, stays, force_passes}
 use Rattle.heap_shell.proofs.MeansForce.{keeps, holds, force_keeps, ok_steps, err_steps}
 use Rattle.heap_shell.proofs.heap.Heap.force.Goals as goal

@@ -1,6 +1,6 @@
 use Rattle.std.proofs.Common.{[], refl, arith}
-use Rattle.heap_shell.specs.CoreLawsRecords.{commits-start}
-use Rattle.heap_shell.specs.Image.{records_of}
+use Rattle.gated_log.specs.Log.{records_of}
+use Rattle.heap_model.specs.CoreLawsRecords.{commits-start}
 use Rattle.heap_shell.specs.MachineState.{state_of}
 use Rattle.heap_shell.proofs.MeansOpen.{opened_means, fresh_means}
 use Rattle.heap_shell.proofs.heap.Heap.open.Goals as goal

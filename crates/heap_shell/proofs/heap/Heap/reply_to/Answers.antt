@@ -1,7 +1,7 @@
 use Rattle.std.proofs.Common.{sym, ◌∙◌, subst}
 use Rattle.graph_model.specs.declared.reply.Reply.{Reply}
 use Rattle.heap_shell.specs.Means.{Steps}
-use Rattle.heap_shell.specs.CoreCrash.{KeepsCommits}
+use Rattle.heap_model.specs.CoreCrash.{KeepsCommits}
 use Rattle.heap_shell.proofs.MeansLeft.{heap_keeps, stays, failed_passes}
 use Rattle.heap_shell.proofs.MeansForce.{failed_steps}
 use Rattle.heap_shell.proofs.heap.Heap.reply_to.Goals as goal

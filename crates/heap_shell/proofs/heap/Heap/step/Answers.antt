@@ -1,7 +1,7 @@
 use Rattle.std.proofs.Common.{List, ◌++◌, ◌∷◌, [], ap, ◌∙◌}
 use Rattle.graph_model.specs.declared.reply.Entry.{Entry}
 use Rattle.heap_shell.specs.declared.history.History.{History}
-use Rattle.heap_shell.specs.CoreCrash.{KeepsCommits}
+use Rattle.heap_model.specs.CoreCrash.{KeepsCommits}
 use Rattle.heap_shell.proofs.MeansLeft.{heap_keeps, stays}
 use Rattle.heap_shell.proofs.MeansForce.{with_history}
 use Rattle.heap_shell.proofs.heap.Heap.step.Goals as goal

@@ -1,0 +1,3 @@
+mod LogBytes
+mod LogForce
+mod LogReading

@@ -1,0 +1,46 @@
+use Rattle.std.proofs.Common.{◌≡◌, ◌++◌, ◌∷◌, [], sym, ◌∙◌, ap, drop, take, length, nat_lt, true, ℕ, ◌-◌, ◌+◌, ◌≤◌, List, vec_len, arith, rules}
+use Rattle.std.specs.Int.{w32, to_le_bytes}
+use Rattle.gated_log.proofs.LogBytes.{forced_outside}
+use Rattle.gated_log.proofs.LogForce.{used_waiting, keeps_forced, forced, moments}
+use Rattle.gated_log.proofs.Log.force.Goals as goal
+
+pub returns-clause-held : goal.returns-clause-held
+returns-clause-held g c told batches pending keeps holds =
+    let log = c.args.self.now in
+    let image = g.D.Disk.bytes c.args.disk.now in
+    let waits : nat_lt 4 (vec_len log.hand) ≡ true = search rules in
+    let closes : c.deref.result.now ≡ to_le_bytes w32 (vec_len log.hand - 4) ++ drop 4 log.hand.items ++ 0 ∷ [] = c.deref.ensures.value ∙ c.close_batch.ensures.items in
+    let inside : log.at + log.room ≤ length image = omega (arith, g.met.D.Disk.same_size told c.args.disk.now image (g.met.D.Disk.reads_an_image told c.args.disk.now), c.requires.inside) in
+    let size : c.len-size.result ≡ length c.deref.result.now = omega (arith, c.deref.ensures.len, c.len-size.ensures) in
+    let items : c.truncate.new.self.items ≡ take 4 c.deref.result.now = c.truncate.ensures.items ∙ ap (λ (l : List ℕ). take 4 l) (sym c.deref.ensures.value) in
+    let new = forced log image c.deref.result.now batches pending waits closes keeps c.from.result c.from.ensures inside holds in (
+      keeps_forced log image c.deref.result.now batches pending waits closes keeps _ (ap (λ (k : ℕ). log.tail + k) size) items,
+      rw (c.in_ok-written.ensures.filled told) new,
+    )
+
+pub returns-clause-outside : goal.returns-clause-outside
+returns-clause-outside g c told =
+    let log = c.args.self.now in
+    let image = g.D.Disk.bytes c.args.disk.now in
+    let waits : nat_lt 4 (vec_len log.hand) ≡ true = search rules in
+    let inside : log.at + log.room ≤ length image = omega (arith, g.met.D.Disk.same_size told c.args.disk.now image (g.met.D.Disk.reads_an_image told c.args.disk.now), c.requires.inside) in
+    let fits : c.from.result + 1 + length c.deref.result.now ≤ log.room = omega (arith, log.fits, used_waiting log.tail (vec_len log.hand) waits, c.deref.ensures.len, c.close_batch.ensures.len, c.from.ensures) in
+    rw (c.in_ok-written.ensures.filled told) (forced_outside log.at log.room c.from.result c.deref.result.now image inside fits)
+
+pub returns-clause-moments : goal.returns-clause-moments
+returns-clause-moments g c told only batches pending keeps holds =
+    let log = c.args.self.now in
+    let image = g.D.Disk.bytes c.args.disk.now in
+    let waits : nat_lt 4 (vec_len log.hand) ≡ true = search rules in
+    let closes : c.deref.result.now ≡ to_le_bytes w32 (vec_len log.hand - 4) ++ drop 4 log.hand.items ++ 0 ∷ [] = c.deref.ensures.value ∙ c.close_batch.ensures.items in
+    let inside : log.at + log.room ≤ length image = omega (arith, g.met.D.Disk.same_size told c.args.disk.now image (g.met.D.Disk.reads_an_image told c.args.disk.now), c.requires.inside) in
+    moments log image c.deref.result.now batches pending waits closes keeps c.from.result c.from.ensures inside holds g.D.Disk.moment g.D.Disk.left_since _ _ _ only (c.fill_and_open-written.ensures.moments told)
+
+pub returns-in_err-written-clause-moments : goal.returns-in_err-written-clause-moments
+returns-in_err-written-clause-moments g c told only batches pending keeps holds =
+    let log = c.args.self.now in
+    let image = g.D.Disk.bytes c.args.disk.now in
+    let waits : nat_lt 4 (vec_len log.hand) ≡ true = search rules in
+    let closes : c.deref.result.now ≡ to_le_bytes w32 (vec_len log.hand - 4) ++ drop 4 log.hand.items ++ 0 ∷ [] = c.deref.ensures.value ∙ c.close_batch.ensures.items in
+    let inside : log.at + log.room ≤ length image = omega (arith, g.met.D.Disk.same_size told c.args.disk.now image (g.met.D.Disk.reads_an_image told c.args.disk.now), c.requires.inside) in
+    moments log image c.deref.result.now batches pending waits closes keeps c.from.result c.from.ensures inside holds g.D.Disk.moment g.D.Disk.left_since _ _ _ only (c.fill_and_open-written.ensures.moments told)

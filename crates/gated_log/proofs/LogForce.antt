@@ -1,0 +1,89 @@
+-- A force, from the log in memory to the image.
+use Rattle.std.proofs.Common.{◌≡◌, ◌⊎◌, ℕ, ◌+◌, ◌-◌, ◌<◌, ◌≤◌, List, [], ◌∷◌, ◌++◌, length, take, drop, true, nat_lt, vec_len, refl, sym, ◌∙◌, ap, subst, arith, length-append}
+use Rattle.std.proofs.lemmas.Bool.Decides.{nat_tests}
+use Rattle.std.proofs.lemmas.List.{append-nil, drop_at, length-take-le}
+use Rattle.std.specs.Int.{w32, to_le_bytes}
+use Rattle.disk_model.specs.Disk.{part, Only}
+use Rattle.disk_model.specs.Moments.{LeavesOnly, weaker}
+use Rattle.disk_model.specs.Disk.{SameOutside}
+use Rattle.gate_slot.specs.Gate.{IsClosed, IsClosedInEach, IsFilling, filled}
+use Rattle.log_records.specs.declared.Record.{Record}
+use Rattle.log_records.specs.Record.{spellings}
+use Rattle.gated_log.specs.declared.Log.{Log}
+use Rattle.gated_log.specs.Log.{framed, batch, batches_bytes, with_batch, HoldsBatches}
+use Rattle.gated_log.specs.LogRoom.{used_bytes}
+use Rattle.gated_log.specs.LogLaws.{hand_size-Keeps}
+use Rattle.gated_log.specs.LogState.{Keeps}
+use Rattle.gated_log.proofs.LogBytes.{batches_bytes-push, closed_gate, holds_forced, holds_in_force}
+
+-- where records wait there is one batch more
+with_some : (batches : List (List Record)) (pending : List Record) → 0 < length (spellings pending) → with_batch batches pending ≡ batches ++ pending ∷ []
+with_some batches [] some = absurd (omega arith)
+with_some batches (r ∷ rs) some = refl
+
+pub waiting : (hand : ℕ) → nat_lt 4 hand ≡ true → 4 < hand
+waiting hand is = grind (arith, nat_tests)
+
+pub used_waiting : (tail hand : ℕ) → nat_lt 4 hand ≡ true → used_bytes tail hand ≡ tail + 2 + hand
+used_waiting tail hand is = rw is refl
+
+module _ (log : Log) (image hand : List ℕ) (batches : List (List Record)) (pending : List Record) (waits : nat_lt 4 (vec_len log.hand) ≡ true)
+    (closes : hand ≡ to_le_bytes w32 (vec_len log.hand - 4) ++ drop 4 log.hand.items ++ 0 ∷ []) (keeps : Keeps log batches pending) where
+  size : vec_len log.hand ≡ 4 + length (spellings pending)
+  size = hand_size-Keeps log batches pending keeps
+
+  with_more : with_batch batches pending ≡ batches ++ pending ∷ []
+  with_more = with_some batches pending (omega (arith, size, waiting (vec_len log.hand) waits))
+
+  closed_hand : hand ≡ framed pending ++ 0 ∷ []
+  closed_hand =
+      let length_is : vec_len log.hand - 4 ≡ length (spellings pending) = omega (arith, size) in
+      closes ∙ ap (λ (l : List ℕ). to_le_bytes w32 (vec_len log.hand - 4) ++ l ++ 0 ∷ []) (ap (λ (l : List ℕ). drop 4 l) keeps.items ∙ drop_at keeps.head (spellings pending) 4 keeps.four)
+      ∙ ap (λ (k : ℕ). to_le_bytes w32 k ++ spellings pending ++ 0 ∷ []) length_is
+
+  batch_length : length (framed pending ++ 0 ∷ []) ≡ 5 + length (spellings pending)
+  batch_length = length-append (framed pending) (0 ∷ []) ∙ ap (λ (k : ℕ). k + 1) (length-append (to_le_bytes w32 (length (spellings pending))) (spellings pending)) ∙ omega arith
+
+  fits : log.tail + 1 + length (framed pending ++ 0 ∷ []) ≤ log.room
+  fits = omega (arith, log.fits, used_waiting log.tail (vec_len log.hand) waits, size, batch_length)
+
+  -- the log in memory, behind the new batch
+  pub keeps_forced : (new : Log) → new.tail ≡ log.tail + length hand → new.hand.items ≡ take 4 hand → Keeps new (with_batch batches pending) []
+  keeps_forced new tail items =
+      rw with_more record {
+        tail = tail ∙ ap (λ (l : List ℕ). log.tail + length l) closed_hand ∙ longer;
+        head = take 4 hand;
+        four = length-take-le 4 hand (omega (arith, ap length closed_hand, batch_length));
+        items = items ∙ sym (append-nil (take 4 hand));
+      }
+    where
+      longer : log.tail + length (framed pending ++ 0 ∷ []) ≡ length (batches_bytes (batches ++ pending ∷ []))
+      longer = omega (arith, keeps.tail, ap length (batches_bytes-push batches pending), length-append (batches_bytes batches) (batch pending), length-append (framed pending) (0 ∷ []))
+
+  module _ (tail : ℕ) (same : tail ≡ log.tail) (inside : log.at + log.room ≤ length image) (holds : HoldsBatches (part image log.at log.room) batches) where
+    abbrev gate : ℕ
+    gate = log.at + tail
+
+    end : tail ≡ length (batches_bytes batches)
+    end = same ∙ keeps.tail
+
+    room_left : tail + 1 + length (framed pending ++ 0 ∷ []) ≤ log.room
+    room_left = omega (arith, fits, same)
+
+    closed : IsClosed gate image
+    closed = closed_gate log.at log.room tail image batches pending end inside room_left holds
+
+    pub forced : HoldsBatches (part (filled gate (gate + 1) hand image) log.at log.room) (with_batch batches pending)
+    forced = rw (with_more, closed_hand) (holds_forced log.at log.room tail image batches pending end inside room_left holds)
+
+    in_force : (new : List ℕ) → IsFilling gate (gate + 1) hand image image new
+        → SameOutside log.at (log.at + log.room) image new × (HoldsBatches (part new log.at log.room) batches ⊎ HoldsBatches (part new log.at log.room) (with_batch batches pending))
+    in_force new filling = rw with_more (holds_in_force log.at log.room tail image batches pending end inside room_left holds new (rw closed_hand at filling))
+
+    -- each moment of a force
+    pub moments : {D : Type 0} (moment : D → ℕ) (left_since : D → ℕ → List ℕ → Type 0) (may_leave : List ℕ → Type 0) (old new : D) → Only image may_leave
+        → (IsClosedInEach gate may_leave → LeavesOnly moment left_since old new (λ c. (d : List ℕ) × may_leave d × IsFilling gate (gate + 1) hand image d c))
+        → LeavesOnly moment left_since old new (λ c. SameOutside log.at (log.at + log.room) image c × (HoldsBatches (part c log.at log.room) batches ⊎ HoldsBatches (part c log.at log.room) (with_batch batches pending)))
+    moments moment left_since may_leave old new only run =
+        weaker moment left_since old new _ _ (run (λ c left. subst (λ (d : List ℕ). IsClosed gate d) (sym (only c left)) closed))
+        (λ c from. in_force c (subst (λ (d : List ℕ). IsFilling gate (gate + 1) hand image d c) (only from.0 from.1) from.2))

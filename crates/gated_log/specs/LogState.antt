@@ -1,0 +1,60 @@
+-- A log in memory, as its callers see it, and what it stands for.
+use Rattle.std.specs.Prelude.{◌≡◌, ℕ, ◌<◌, Bool, List, ◌++◌, length, nat_lt, vec_len, vec_capacity}
+use Rattle.log_records.specs.declared.Record.{Record}
+use Rattle.log_records.specs.Record.{spellings}
+use Rattle.gated_log.specs.declared.Log.{Log}
+use Rattle.gated_log.specs.Log.{batches_bytes}
+use Rattle.gated_log.specs.LogRoom.{used_bytes, need_bytes}
+
+-- where it begins on the disk
+abbrev pub log_place : Log → ℕ
+log_place log = log.at
+
+-- its bytes
+abbrev pub log_room : Log → ℕ
+log_room log = log.room
+
+-- the offset in it of the closed gate behind the forced batches
+abbrev pub log_tail : Log → ℕ
+log_tail log = log.tail
+
+-- what is in hand: four bytes of room for a batch's length, and the records that wait, spelled
+abbrev pub log_hand : Log → List ℕ
+log_hand log = log.hand.items
+
+-- how many bytes are in hand
+abbrev pub hand_size : Log → ℕ
+hand_size log = vec_len log.hand
+
+-- whether a record waits
+abbrev pub is_waiting : Log → Bool
+is_waiting log = nat_lt 4 (hand_size log)
+
+-- no record waits
+abbrev pub IsHandEmpty : Log → Type 0
+IsHandEmpty log = hand_size log ≡ 4
+
+-- the memory that a force needs was taken
+abbrev pub IsReady : Log → Type 0
+IsReady log = hand_size log < vec_capacity log.hand
+
+-- the bytes that are used: the forced batches, a gate, and a batch of the records that wait
+abbrev pub log_used : Log → ℕ
+log_used log = used_bytes (log_tail log) (hand_size log)
+
+-- what a record of that many bytes takes, with a batch's gate and length where it is the first that waits
+abbrev pub log_need : Log → ℕ → ℕ
+log_need log own = need_bytes (hand_size log) own
+
+-- The log knows where these batches end, and these records wait in it behind room for their length.
+pub record Keeps (log : Log) (batches : List (List Record)) (pending : List Record) : Type 0 where
+  pub tail : log_tail log ≡ length (batches_bytes batches)
+  pub head : List ℕ
+  pub four : length head ≡ 4
+  pub items : log_hand log ≡ head ++ spellings pending
+
+-- the log lies where it did, and ends there too
+pub record IsPlaced (old new : Log) : Type 0 where
+  pub at : log_place new ≡ log_place old
+  pub room : log_room new ≡ log_room old
+  pub tail : log_tail new ≡ log_tail old
