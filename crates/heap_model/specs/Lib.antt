@@ -13,3 +13,4 @@ pub mod CoreLawsRun
 pub mod CoreLawsCrash
 pub mod CoreLawsReplies
 pub mod CoreLawsCalls
+pub mod Opening
