@@ -1,18 +1,17 @@
 -- What the calls of a transaction that has not ended do, where it sees the root alone.
 use Rattle.std.proofs.Common.{◌≡◌, ℕ, Bool, true, false, inl, inr, ◌<◌, ◌≤◌, List, map, length, get_or, Option, Some, None, refl, sym, ap, ◌∙◌, arith}
-use Rattle.std.proofs.lemmas.List.{length-map, map-set, get_or-map, get_or_read}
+use Rattle.std.proofs.lemmas.List.{length-map, map-set, get_or-map}
 use Rattle.std.specs.Prelude.{◌↔◌, IsTrue, nat_lt, slice_set, slice_index_or, if◌then◌else◌}
 use Rattle.std.proofs.lemmas.Bool.{cases_lt}
 use Rattle.std.proofs.lemmas.Bool.Decides.{nat_tests}
 use Rattle.graph_model.specs.declared.id.Id.{Id}
-use Rattle.graph_model.specs.declared.val.Val.{Val}
 use Rattle.graph_model.specs.declared.val.Val.TheVariants.{Null}
 use Rattle.graph_model.specs.declared.reply.Refusal.{Refusal}
 use Rattle.graph_model.specs.declared.reply.Refusal.TheVariants.{BadHandle, BadField}
 use Rattle.graph_model.specs.declared.reply.Reply.TheVariants.{Done}
 use Rattle.graph_model.specs.declared.open_transaction.OpenTransaction.{OpenTransaction}
-use Rattle.graph_model.specs.Graph.{Graph, root, root_graph, fields}
-use Rattle.graph_model.specs.Transaction.{Registers, View, Outcome, held, fields_of, put_value, with_referred, value_reply, hold, write, read}
+use Rattle.graph_model.specs.Graph.{Graph, root, root_graph}
+use Rattle.graph_model.specs.Transaction.{Registers, Outcome, held, fields_of, put_value, with_referred, value_reply, hold, write, read}
 use Rattle.graph_model.specs.RootGraph.{fields-root_graph, with_field-root_graph}
 use Rattle.graph_model.specs.SlowHeap.{val_of, holding, registers_of, seen_by}
 use Rattle.graph_model.specs.Plain.{handle_refusal, field_refusal, put_refusal, no_int}
@@ -44,16 +43,13 @@ root_fields fs o e = ap (fields_of (root_graph (map val_of fs))) e ∙ fields-ro
 pub root_length : (fs : List (Option ℕ)) (o : Option Id) → o ≡ Some root → length (fields_of (root_graph (map val_of fs)) o) ≡ length fs
 root_length fs o e = ap length (root_fields fs o e) ∙ length-map fs val_of
 
-length_of_fields : (fs : List (Option ℕ)) → length (fields (root_graph (map val_of fs)) root) ≡ length fs
-length_of_fields fs = ap length (fields-root_graph (map val_of fs)) ∙ length-map fs val_of
-
 -- a field past the last is refused
 pub past_fields : (fs : List (Option ℕ)) (o : Option Id) (i : ℕ) → o ≡ Some root → length fs ≤ i → field_refusal (root_graph (map val_of fs)) o i ≡ Some BadField
-past_fields fs o i e le = rw e (rw length_of_fields (grind (arith, nat_tests)))
+past_fields fs o i e le = rw e (rw (root_length fs (Some root) refl) (grind (arith, nat_tests)))
 
 -- a field within is not
 pub within_fields : (fs : List (Option ℕ)) (o : Option Id) (i : ℕ) → o ≡ Some root → i < length fs → field_refusal (root_graph (map val_of fs)) o i ≡ None
-within_fields fs o i e lt = rw e (rw length_of_fields (grind (arith, nat_tests)))
+within_fields fs o i e lt = rw e (rw (root_length fs (Some root) refl) (grind (arith, nat_tests)))
 
 -- a number that is small enough is refused only for its field
 pub put_small : (g : Graph) (o : Option Id) (i v : ℕ) → v < no_int → put_refusal g o i v ≡ field_refusal g o i

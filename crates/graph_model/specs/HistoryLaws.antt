@@ -9,8 +9,7 @@ use Rattle.graph_model.specs.declared.event.Event.{Event}
 use Rattle.graph_model.specs.declared.event.Event.TheVariants.{Begin, Root, Put, Clear, Drop, Get, Same, Len, Seal, Abort, Force}
 use Rattle.graph_model.specs.declared.reply.Entry.{Entry}
 use Rattle.graph_model.specs.declared.reply.Reply.{Reply}
-use Rattle.graph_model.specs.declared.reply.Reply.TheVariants as answer
-use Rattle.graph_model.specs.declared.reply.Reply.TheVariants.{Begun, Done, Reference, Yes, No, Length, Sealed, Aborted, Durable, Refused}
+use Rattle.graph_model.specs.declared.reply.Reply.TheVariants.{Begun, Done, Yes, No, Sealed, Aborted, Durable, Refused}
 use Rattle.graph_model.specs.declared.val.Val.{Val}
 use Rattle.graph_model.specs.declared.val.Val.TheVariants.{Null, Int, Ref}
 use Rattle.graph_model.specs.Graph.{Graph, is_same_id}
@@ -152,13 +151,14 @@ call-IsCallReply v t (Seal s) = tt
 call-IsCallReply v t (Abort s) = tt
 call-IsCallReply v t Force = tt
 
--- a call that asks nothing is answered `done`
+-- an order is an event that asks nothing
 abbrev pub IsOrder : Event → Type 0
 IsOrder (Get s h i h2) = ⊥
 IsOrder (Same s h h2) = ⊥
 IsOrder (Len s h) = ⊥
 IsOrder event = Unit {0}
 
+-- an order that isn't refused is answered `done`
 pub call-reply : (v : View) (t : ℕ) (c : Event) → IsOrder c → (call v t c).reply ≡ Done
 call-reply v t (Get s h i h2) order = absurd order
 call-reply v t (Same s h h2) order = absurd order

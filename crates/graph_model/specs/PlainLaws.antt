@@ -5,7 +5,7 @@ use Rattle.graph_model.specs.declared.id.Id.{Id}
 use Rattle.graph_model.specs.declared.event.Event.{Event}
 use Rattle.graph_model.specs.declared.event.Event.TheVariants.{Begin, Root, Put, Clear, Drop, Get, Same, Len, Seal, Abort, Force}
 use Rattle.graph_model.specs.declared.reply.Refusal.{Refusal}
-use Rattle.graph_model.specs.declared.reply.Refusal.TheVariants.{Failed, AlreadyActive, NotActive, NumbersSpent, BadHandle, Range, BadField, LogFull, DiskFault, Stopped}
+use Rattle.graph_model.specs.declared.reply.Refusal.TheVariants.{AlreadyActive, NumbersSpent, BadHandle, Range, BadField, DiskFault, Stopped}
 use Rattle.graph_model.specs.declared.reply.Reply.{Reply}
 use Rattle.graph_model.specs.declared.reply.Reply.TheVariants.{Done, Refused}
 use Rattle.graph_model.specs.Graph.{Graph, fields}
@@ -106,7 +106,7 @@ pub plain_reply-IsSoundReply : (first : ℕ) (g0 : Graph) (a : Account) (event :
 plain_reply-IsSoundReply first g0 a event =
     sound_either _ _ (failed_no_fault a.failed _ (event_no_fault (first + a.begun) g0 a event)) (granted_sound (first + a.begun) g0 a event)
 
--- a call that asks nothing and isn't refused is answered `done`
+-- an order that isn't refused is answered `done`
 pub call_reply-done : (g0 : Graph) (a : Account) (t : Option Transaction) (event : Event) → IsOrder event → call_reply g0 a t event ≡ Done
 call_reply-done g0 a None event order = refl
 call_reply-done g0 a (Some t) event order = call-reply (view g0 a t) t.number event order
