@@ -2,12 +2,10 @@ pub mod Causes
 pub mod Command
 pub mod CoreLawsGraph
 pub mod CoreLawsPlay
-pub mod Effect
 pub mod Format
 pub mod GivenBack
 pub mod HeapState
 pub mod Headline
-pub mod MachineState
 pub mod Means
 pub mod Output
 pub mod Play

@@ -189,7 +189,7 @@ rollback_good s can = rollback_records s.writer s.undo can.writer can.entries
 
 one_counted : (s m : State) (r : Record) → after s r ≡ Some m → m.commits ≡ cond (is_commit r) 1 0 + s.commits
 one_counted s m (Update t object field was word) e = let same = ap (λ (x : State). x.commits) (told_if _ _ _ e).1 in omega arith
-one_counted s m (Undo t object field word) e = 
+one_counted s m (Undo t object field word) e =
     option_and_then_some (λ rest. Some (with_rest s t rest)) _ m e (λ rest newest is. let same : s.commits ≡ m.commits = cc is in omega arith)
 one_counted s m (Commit t) e = let same = ap (λ (x : State). x.commits) (told_if _ _ _ e).1 in omega arith
 one_counted s m (End t) e = let same = ap (λ (x : State). x.commits) (told_if _ _ _ e).1 in omega arith
