@@ -1,5 +1,5 @@
--- Where a record writes.
-use Rattle.std.specs.Prelude.{◌+◌, ◌<◌}
+-- Whose record it is, and where it writes.
+use Rattle.std.specs.Prelude.{ℕ, ◌+◌, ◌<◌}
 use Rattle.log_records.specs.declared.Record.{Record}
 use Rattle.log_records.specs.declared.Record.TheVariants.{Update, Undo, Commit, End}
 
@@ -16,3 +16,10 @@ AddsEntry (Update t object field was word) = Unit {0}
 AddsEntry (Undo t object field word) = ⊥
 AddsEntry (Commit t) = ⊥
 AddsEntry (End t) = ⊥
+
+-- the transaction of a record
+abbrev pub number_of : Record → ℕ
+number_of (Update t object field was word) = t
+number_of (Undo t object field word) = t
+number_of (Commit t) = t
+number_of (End t) = t
