@@ -1,13 +1,13 @@
 -- A record that can follow writes within the used words.
-use Rattle.std.proofs.Common.{◌≡◌, ◌+◌, ◌<◌, Bool, true, false, cond, List, [], ◌∷◌, ◌++◌, reverse, Option, None, Some, is_some, option_and_then, ℕ, refl, subst, sym, ap, ◌∙◌}
+use Rattle.std.proofs.Common.{◌≡◌, Bool, true, false, cond, List, [], ◌∷◌, ◌++◌, reverse, Option, None, Some, is_some, option_and_then, ℕ, refl, subst, ap}
 use Rattle.std.specs.List.{AllByRecursion}
 use Rattle.std.proofs.lemmas.Bool.{ltb-true, and_parts}
 use Rattle.std.proofs.lemmas.List.{reverse-append}
 use Rattle.log_records.specs.declared.Record.{Record}
 use Rattle.log_records.specs.declared.Record.TheVariants.{Update, Undo, Commit, End}
 use Rattle.log_machine.specs.declared.UndoEntry.{UndoEntry}
-use Rattle.log_machine.specs.Machine.{State, may_write, without_newest, after}
-use Rattle.log_machine.specs.MachineLaws.{AllByRecursion-append, TakesNewest, taken_newest}
+use Rattle.log_machine.specs.Machine.{State, without_newest, after}
+use Rattle.log_machine.specs.MachineLaws.{AllByRecursion-append, taken_newest}
 use Rattle.log_machine.specs.Effect.{IsInside}
 use Rattle.log_machine.specs.UndoEntry.{LiesInside}
 
@@ -21,14 +21,17 @@ pub AllByRecursion-front : {X : Type 0} (P : X → Type 0) (xs ys : List X) → 
 AllByRecursion-front P [] ys h = tt
 AllByRecursion-front P (x ∷ xs) ys h = (h.0, AllByRecursion-front P xs ys h.1)
 
+-- a choice gave something only where its test passed
 chosen : {X : Type 0} (b : Bool) (x : X) → is_some (cond b (Some x) None) ≡ true → b ≡ true
 chosen true x e = refl
 chosen false x e = e
 
+-- something came of an option only where there was something
 known : {X Y : Type 0} (f : X → Y) (o : Option X) → is_some (option_and_then (λ x. Some (f x)) o) ≡ true → is_some o ≡ true
 known f None e = e
 known f (Some x) e = refl
 
+-- an undo that can follow writes where the newest write did
 undo_inside : (writer : ℕ) (undo : List UndoEntry) (t : ℕ) (write : UndoEntry) → AllByRecursion LiesInside undo → is_some (without_newest writer undo t write) ≡ true → LiesInside write
 undo_inside writer [] t write inside e = absurd (cc e)
 undo_inside writer (u ∷ us) t write inside e =

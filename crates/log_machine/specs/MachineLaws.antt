@@ -2,7 +2,7 @@
 use Rattle.std.proofs.Common.{◌≡◌, ◌≢◌, ℕ, ◌+◌, ◌*◌, ◌<◌, ◌≤◌, max, Bool, true, false, cond, List, [], ◌∷◌, ◌++◌, length, Option, None, Some, refl, sym, ap, ◌∙◌, subst, arith, length-append}
 use Rattle.std.specs.Prelude.{fold, ◌==◌, option_and_then}
 use Rattle.std.specs.List.{AllByRecursion}
-use Rattle.std.proofs.lemmas.Bool.{eq-eqb, eqb-true, ltb-true, and_parts, and_from}
+use Rattle.std.proofs.lemmas.Bool.{eq-eqb, eqb-true, lt-ltb, ltb-true, and_parts, and_from}
 use Rattle.std.proofs.lemmas.Option.{option_and_then_some}
 use Rattle.std.proofs.lemmas.List.Sums.{fold-append, sum_by-cons, sum_by-append}
 use Rattle.log_records.specs.declared.Record.{Record}
@@ -24,6 +24,7 @@ pub AllByRecursion-append : {X : Type 0} (P : X → Type 0) (xs ys : List X) →
 AllByRecursion-append P [] ys h k = k
 AllByRecursion-append P (x ∷ xs) ys h k = (h.0, AllByRecursion-append P xs ys h.1 k)
 
+-- more records behind these, where their first was taken or not
 along_append : (o : Option State) (m : State) (rs more : List Record)
     → ((s : State) → after_all s rs ≡ Some m → after_all s (rs ++ more) ≡ after_all m more)
     → option_and_then (λ next. after_all next rs) o ≡ Some m → option_and_then (λ next. after_all next (rs ++ more)) o ≡ after_all m more
@@ -35,6 +36,7 @@ pub after_all-append2 : (s m : State) (rs more : List Record) → after_all s rs
 after_all-append2 s m [] more e = let same : s ≡ m = cc e in ap (λ (x : State). after_all x more) same
 after_all-append2 s m (r ∷ rs) more e = along_append (after s r) m rs more (λ x. after_all-append2 x m rs more) e
 
+-- a state stays where nothing follows it
 one_after : (o : Option State) → option_and_then (λ next. Some next) o ≡ o
 one_after None = refl
 one_after (Some s) = refl
@@ -47,10 +49,21 @@ after_all-append s m rs r e = after_all-append2 s m rs (r ∷ []) e ∙ one_afte
 pub after_all_none : (s m : State) (rs : List Record) (r : Record) (rest : List Record) → after_all s rs ≡ Some m → after m r ≡ None → after_all s (rs ++ r ∷ rest) ≡ None
 after_all_none s m rs r rest e stuck = after_all-append2 s m rs (r ∷ rest) e ∙ ap (λ (x : Option State). option_and_then (λ next. after_all next rest) x) stuck
 
+-- the state behind a write that can follow
+pub after-Update : (s : State) (t object field was word : ℕ) → object + 2 + field < 6 → may_write s.writer s.undo t ≡ true
+    → after s (Update t object field was word) ≡ Some (record { writer = t; undo = record { object = object; field = field; was = was } ∷ s.undo; commits = s.commits; greatest = max s.greatest t })
+after-Update s t object field was word inside own =
+    ap (λ b. cond b (Some (record { writer = t; undo = record { object = object; field = field; was = was } ∷ s.undo; commits = s.commits; greatest = max s.greatest t })) None) (and_from _ _ (lt-ltb _ _ inside) own)
+
+-- and behind a commit
+pub after-Commit : (s : State) (t : ℕ) → may_write s.writer s.undo t ≡ true → after s (Commit t) ≡ Some (record { writer = t; undo = []; commits = s.commits + 1; greatest = max s.greatest t })
+after-Commit s t own = ap (λ b. cond b (Some (record { writer = t; undo = []; commits = s.commits + 1; greatest = max s.greatest t })) None) own
+
 -- the words with more records behind these
 pub words-append : (rs more : List Record) → words (rs ++ more) ≡ fold put_record (words rs) more
 words-append rs more = fold-append put_record first_contents rs more
 
+-- a write is that write
 same_write : (u : UndoEntry) → is_same_write u u ≡ true
 same_write u = and_from _ _ (and_from _ _ (eq-eqb u.object u.object refl) (eq-eqb u.field u.field refl)) (eq-eqb u.was u.was refl)
 
@@ -58,6 +71,7 @@ same_write u = and_from _ _ (and_from _ _ (eq-eqb u.object u.object refl) (eq-eq
 newest_taken : (writer t : ℕ) (u : UndoEntry) (us : List UndoEntry) → (writer == t) ≡ true → without_newest writer (u ∷ us) t u ≡ Some us
 newest_taken writer t u us own = ap (λ b. cond b (Some us) None) (and_from (writer == t) (is_same_write u u) own (same_write u))
 
+-- the writer may go on
 own_writes : (t : ℕ) (undo : List UndoEntry) → may_write t undo t ≡ true
 own_writes t [] = refl
 own_writes t (u ∷ us) = eq-eqb t t refl
@@ -98,7 +112,8 @@ pub abort_good : (t : ℕ) (undo : List UndoEntry) → IsNumber t → AllByRecur
 abort_good t [] number good = (number, tt)
 abort_good t (u ∷ us) number good = (record { number = number; object_fits = good.0.object_fits; field_fits = good.0.field_fits; old_word = good.0.was_word }, abort_good t us number good.1)
 
-told_if : {X : Type 0} (b : Bool) (x y : X) → cond b (Some x) None ≡ Some y → (b ≡ true) × (x ≡ y)
+-- a choice gives what it was made of
+pub told_if : {X : Type 0} (b : Bool) (x y : X) → cond b (Some x) None ≡ Some y → (b ≡ true) × (x ≡ y)
 told_if true x y e = (refl, cc e)
 told_if false x y e = absurd (cc e)
 
@@ -107,6 +122,7 @@ pub record TakesNewest (writer : ℕ) (undo : List UndoEntry) (t : ℕ) (write :
   pub own : writer ≡ t
   pub is : undo ≡ write ∷ rest
 
+-- one write is another, where each part is
 same_entry : (u v : UndoEntry) → is_same_write u v ≡ true → u ≡ v
 same_entry u v e =
     let parts = and_parts _ _ e in
@@ -124,7 +140,7 @@ taken_newest writer (u ∷ us) t write rest e =
     record { own = eqb-true _ _ parts.0; is = ap (λ (x : UndoEntry). x ∷ us) (same_entry u write parts.1) ∙ ap (λ (x : List UndoEntry). write ∷ x) told.1 }
 
 -- the state when a transaction has taken a write back, and this is left
-abbrev with_rest : State → ℕ → List UndoEntry → State
+abbrev pub with_rest : State → ℕ → List UndoEntry → State
 with_rest s t rest = record { writer = t; undo = rest; commits = s.commits; greatest = max s.greatest t }
 
 -- one record more leaves writes that can be taken back
@@ -151,6 +167,7 @@ pub good_after_all : (s m : State) (rs : List Record) → AllByRecursion IsRecor
 good_after_all s m [] good can e = let same : s ≡ m = cc e in subst (λ (x : State). CanRollBack x) same can
 good_after_all s m (r ∷ rs) good can e = option_and_then_some (λ next. after_all next rs) (after s r) m e (λ next first rest. good_after_all next m rs good.1 (good_after s next r good.0 can first) rest)
 
+-- there is nothing to take back before the first record
 can_start : CanRollBack start
 can_start = record { entries = tt; inside = tt; writer = λ some. absurd (some refl); known = omega arith }
 
@@ -158,6 +175,7 @@ can_start = record { entries = tt; inside = tt; writer = λ some. absurd (some r
 pub good_undo : (rs : List Record) (s : State) → AllByRecursion IsRecord rs → after_all start rs ≡ Some s → CanRollBack s
 good_undo rs s good e = good_after_all start s rs good can_start e
 
+-- an opening takes a transaction's writes back one after another
 rollback_on : (writer k g : ℕ) (undo : List UndoEntry) → writer ≤ g
     → after_all (record { writer = writer; undo = undo; commits = k; greatest = g }) (rollback writer undo) ≡ Some (record { writer = writer; undo = []; commits = k; greatest = g })
 rollback_on writer k g [] known = refl
@@ -179,6 +197,7 @@ pub rollback_commits : (writer : ℕ) (undo : List UndoEntry) → commits (rollb
 rollback_commits writer [] = refl
 rollback_commits writer (u ∷ us) = abort_commits writer (u ∷ us)
 
+-- the records of an opening have spellings
 rollback_records : (writer : ℕ) (undo : List UndoEntry) → (undo ≢ [] → IsNumber writer) → AllByRecursion IsEntry undo → AllByRecursion IsRecord (rollback writer undo)
 rollback_records writer [] number entries = tt
 rollback_records writer (u ∷ us) number entries = abort_good writer (u ∷ us) (number (λ none. cc none)) entries
@@ -187,6 +206,7 @@ rollback_records writer (u ∷ us) number entries = abort_good writer (u ∷ us)
 pub rollback_good : (s : State) → CanRollBack s → AllByRecursion IsRecord (rollback s.writer s.undo)
 rollback_good s can = rollback_records s.writer s.undo can.writer can.entries
 
+-- one record is a commit or none
 one_counted : (s m : State) (r : Record) → after s r ≡ Some m → m.commits ≡ cond (is_commit r) 1 0 + s.commits
 one_counted s m (Update t object field was word) e = let same = ap (λ (x : State). x.commits) (told_if _ _ _ e).1 in omega arith
 one_counted s m (Undo t object field word) e =

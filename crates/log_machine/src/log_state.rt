@@ -32,7 +32,7 @@ impl From<AllocError> for AfterError {
     }
 }
 
-/// What the records so far say.
+/// What the records so far say: which writes may be taken back, how many transactions are committed, and the greatest number.
 #[derive(Debug, Drop)]
 pub struct LogState {
     writer: u32,
@@ -68,7 +68,7 @@ impl LogState {
         }
     }
 
-    /// The transaction whose writes may still be taken back, if there are any.
+    /// The number of the transaction whose writes may still be taken back, if there are any; 0 before the first record.
     pub fn writer(&self) -> u32
         ensures { result ≡ self.now.writer }
     {
@@ -107,14 +107,13 @@ impl LogState {
         abort_records(alloc, self.writer, &self.undo)
     }
 
-    /// Takes one record more, or tells that it can't follow. After any error the state is as before.
+    /// Takes one record more, or tells that it can't follow. After any error the state is as before. Only an `Update` may
+    /// lack memory.
     pub fn after(&mut self, rec: &Record) -> Result<(), AfterError>
         requires { self.old.commits + 1 < 2 ^ 64 }
         ensures ok { OnOk result (after self.old rec.now ≡ Some self.new) }
         ensures inside { OnOk result (IsInside rec.now) }
         ensures unshaped { (result ≡ Err AfterError.Unshaped) ↔ (after self.old rec.now ≡ None) }
-
-        // No other record needs memory.
         ensures no_memory { result ≡ Err AfterError.NoMemory → AddsEntry rec.now }
         ensures err { OnErr result (self.new ≡ self.old) }
     {
@@ -146,6 +145,7 @@ impl LogState {
         Ok(())
     }
 
+    // Adds a write of transaction `t` that may be taken back.
     fn add(&mut self, t: u32, write: UndoEntry) -> Result<(), AllocError>
         requires { LiesInside write }
         ensures ok { OnOk result (self.new ≡ record self.old { writer = t; undo = write ∷ self.old.undo }) }
@@ -156,6 +156,7 @@ impl LogState {
         Ok(())
     }
 
+    // The record can follow those before it.
     fn can_follow(&self, rec: &Record) -> bool
         ensures { result ≡ is_some (after self.now rec.now) }
     {
@@ -177,18 +178,21 @@ impl LogState {
         }
     }
 
+    // No other transaction's writes may be taken back.
     fn may_write(&self, t: u32) -> bool
         ensures { result ≡ may_write self.now.writer self.now.undo t }
     {
         self.undo.is_empty() || self.writer == t
     }
 
+    // The transaction has no writes that may be taken back.
     fn has_ended(&self, t: u32) -> bool
         ensures { result ≡ has_ended self.now.writer self.now.undo t }
     {
         self.undo.is_empty() || self.writer != t
     }
 
+    // This is the newest write that may be taken back, and the transaction's.
     fn is_newest(&self, t: u32, write: UndoEntry) -> bool
         ensures { result ≡ is_some (without_newest self.now.writer self.now.undo t write) }
     {
@@ -199,12 +203,14 @@ impl LogState {
     }
 }
 
+// What a write replaced.
 fn entry(object: u32, field: u16, was: u64) -> UndoEntry
     ensures { result ≡ record { object = object; field = field; was = was } }
 {
     UndoEntry { object, field, was }
 }
 
+// The number of the record's transaction.
 fn number(rec: &Record) -> u32
     ensures { result ≡ number_of rec.now }
 {
@@ -216,6 +222,7 @@ fn number(rec: &Record) -> u32
     }
 }
 
+// The field is one of the used words.
 fn is_inside(object: u32, field: u16) -> bool
     ensures { result ≡ nat_lt (object + 2 + field) 6 }
 {

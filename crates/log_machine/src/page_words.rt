@@ -76,7 +76,7 @@ impl PageWords {
         }
     }
 
-    /// Takes these writes back, of which the newest stands last.
+    /// Takes these writes back, of which the newest stands last: it goes first.
     pub fn take_back(&mut self, undo: &[UndoEntry])
         requires { AllByRecursion LiesInside undo.now }
         ensures { self.new ≡ taken_back (reverse undo.now) self.old }
@@ -86,6 +86,7 @@ impl PageWords {
         }
     }
 
+    // Puts one word into a field of the object at a word address.
     fn put(&mut self, object: u32, field: u16, word: u64)
         requires { object + 2 + field < 6 }
         ensures { self.new ≡ with_word self.old object field word }

@@ -1,4 +1,4 @@
-use Rattle.std.proofs.Common.{subst, ap}
+use Rattle.std.proofs.Common.{subst}
 use Rattle.std.specs.List.{AllByRecursion}
 use Rattle.log_machine.specs.Machine.{State}
 use Rattle.log_machine.specs.UndoEntry.{LiesInside}
