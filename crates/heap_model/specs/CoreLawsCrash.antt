@@ -12,7 +12,7 @@ use Rattle.log_records.specs.declared.Record.{Record}
 use Rattle.log_records.specs.Record.{IsRecord}
 use Rattle.gated_log.specs.Log.{batches_bytes, hand, records_of, with_batch}
 use Rattle.log_machine.specs.Machine as machine
-use Rattle.heap_model.specs.Core.{Core, used, forced}
+use Rattle.heap_model.specs.Core.{Core, forced}
 use Rattle.heap_model.specs.CoreCrash.{StandsForFirst}
 use Rattle.heap_model.specs.CoreValid.{IsTold, IsReached}
 use Rattle.heap_model.specs.CoreLawsRecords.{told_commits, told_graph, told_plain}

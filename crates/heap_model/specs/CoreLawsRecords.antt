@@ -1,11 +1,9 @@
 -- Laws of records that tell a graph: what they leave, and one record more.
-use Rattle.std.proofs.Common.{◌≡◌, ℕ, ◌+◌, ◌*◌, ◌/◌, ◌%◌, ◌^◌, ◌<◌, zero, suc, inl, inr, Bool, true, false, cond, List, [], ◌∷◌, ◌++◌, map, length, drop, Option, Some, None, refl, sym, ap, ◌∙◌, subst, arith, append_assoc}
-use Rattle.std.specs.Prelude.{slice_index_or, slice_set, option_and_then, ◌&&◌, ◌==◌, nat_lt, max}
+use Rattle.std.proofs.Common.{◌≡◌, ℕ, ◌+◌, ◌*◌, ◌/◌, ◌%◌, ◌<◌, zero, suc, inl, inr, true, cond, List, [], ◌∷◌, ◌++◌, map, length, drop, Some, None, refl, sym, ap, ◌∙◌, subst, arith, append_assoc}
+use Rattle.std.specs.Prelude.{slice_index_or, slice_set, option_and_then, ◌&&◌, nat_lt, max}
 use Rattle.std.specs.List.{AllByRecursion}
-use Rattle.std.proofs.lemmas.Bool.{lt-ltb, eq-eqb, eqb-true}
+use Rattle.std.proofs.lemmas.Bool.{lt-ltb, eq-eqb}
 use Rattle.std.proofs.lemmas.List.{length-set, map-set}
-use Rattle.std.proofs.lemmas.Option.{option_and_then_some}
-use Rattle.std.proofs.lemmas.List.Sums.{fold-append, sum_by-cons}
 use Rattle.graph_model.specs.declared.val.Val.{Val}
 use Rattle.graph_model.specs.declared.val.Val.TheVariants.{Null, Int, Ref}
 use Rattle.graph_model.specs.Graph.{Graph, root_graph, new_graph}
@@ -13,21 +11,17 @@ use Rattle.graph_model.specs.RootGraph.{AllPlain}
 use Rattle.heap_words.specs.declared.Word.TheVariants as means
 use Rattle.heap_words.specs.Word.{IsFieldWord}
 use Rattle.log_records.specs.declared.Record.{Record}
-use Rattle.log_records.specs.declared.Record.TheVariants.{Update, Undo, Commit, End}
+use Rattle.log_records.specs.declared.Record.TheVariants.{Undo, Commit, End}
 use Rattle.log_records.specs.Record.{IsNumber, IsRecord}
 use Rattle.log_machine.specs.declared.UndoEntry.{UndoEntry}
-use Rattle.log_machine.specs.Machine.{State, with_word, put_record, first_contents, words, taken_back, is_commit, commits, may_write, has_ended, is_same_write, without_newest, start, after, after_all, undo_in, undo_of, committed_words, abort_records}
+use Rattle.log_machine.specs.Machine.{State, with_word, words, taken_back, commits, may_write, has_ended, is_same_write, without_newest, start, after, undo_in, committed_words, abort_records}
+use Rattle.log_machine.specs.MachineLaws.{AllByRecursion-append, after_all-append, words-append, commits-start}
 use Rattle.heap_model.specs.Core.{update}
 use Rattle.heap_model.specs.CoreValid.{IsNumberVal, LeadsBack, LeadBack, IsTold}
 use Rattle.heap_model.specs.Image.{graph_of}
 use Rattle.heap_model.specs.ValueWord.{IsNumberWord, word_of, value_of}
 
--- what holds of two lists holds of both together
-pub AllByRecursion-append : {X : Type 0} (P : X → Type 0) (xs ys : List X) → AllByRecursion P xs → AllByRecursion P ys → AllByRecursion P (xs ++ ys)
-AllByRecursion-append P [] ys h k = k
-AllByRecursion-append P (x ∷ xs) ys h k = (h.0, AllByRecursion-append P xs ys h.1 k)
-
--- and so of those behind
+-- what holds of two lists together holds of the second
 pub AllByRecursion-behind : {X : Type 0} (P : X → Type 0) (xs ys : List X) → AllByRecursion P (xs ++ ys) → AllByRecursion P ys
 AllByRecursion-behind P [] ys h = h
 AllByRecursion-behind P (x ∷ xs) ys h = AllByRecursion-behind P xs ys h.1
@@ -81,54 +75,6 @@ pub map-value_of-word_of : (vs : List Val) → AllByRecursion IsNumberVal vs →
 map-value_of-word_of [] h = refl
 map-value_of-word_of (v ∷ vs) h = ap (λ u. u ∷ map value_of (map word_of vs)) (value_of-word_of v h.0) ∙ ap (λ us. v ∷ us) (map-value_of-word_of vs h.1)
 
-bound_append : (o : Option State) (m : State) (rs : List Record) (r : Record)
-    → ((s : State) → after_all s rs ≡ Some m → after_all s (rs ++ r ∷ []) ≡ after m r)
-    → option_and_then (λ next. after_all next rs) o ≡ Some m → option_and_then (λ next. after_all next (rs ++ r ∷ [])) o ≡ after m r
-bound_append None m rs r step e = cc
-bound_append (Some s) m rs r step e = step s e
-
-one_after : (o : Option State) → option_and_then (λ next. Some next) o ≡ o
-one_after None = refl
-one_after (Some s) = refl
-
--- what records say with one record more
-pub after_all-append : (s m : State) (rs : List Record) (r : Record) → after_all s rs ≡ Some m → after_all s (rs ++ r ∷ []) ≡ after m r
-after_all-append s m [] r e = one_after (after s r) ∙ ap (λ (o : Option State). option_and_then (λ x. after x r) o) e
-after_all-append s m (q ∷ rs) r e = bound_append (after s q) m rs r (λ t. after_all-append t m rs r) e
-
-if_some : (b : Bool) (x y : State) → cond b (Some x) None ≡ Some y → x ≡ y
-if_some true x y e = cc
-if_some false x y e = cc
-
-bound_some : {X : Type 0} (f : X → State) (o : Option X) (m : State) → option_and_then (λ x. Some (f x)) o ≡ Some m → (x : X) × (o ≡ Some x) × (f x ≡ m)
-bound_some f None m e = cc
-bound_some f (Some x) m e = (x, refl, cc)
-
-one_counted : (s m : State) (r : Record) → after s r ≡ Some m → m.commits ≡ cond (is_commit r) 1 0 + s.commits
-one_counted s m (Update t object field was word) e = let same = ap (λ (x : State). x.commits) (if_some _ _ _ e) in omega arith
-one_counted s m (Undo t object field word) e =
-    let entry : UndoEntry = record { object = object; field = field; was = word } in
-    let same = ap (λ (x : State). x.commits) (bound_some (λ (rest : List UndoEntry). record { writer = t; undo = rest; commits = s.commits; greatest = max s.greatest t }) (without_newest s.writer s.undo t entry) m e).2 in omega arith
-one_counted s m (Commit t) e = let same = ap (λ (x : State). x.commits) (if_some _ _ _ e) in omega arith
-one_counted s m (End t) e = let same = ap (λ (x : State). x.commits) (if_some _ _ _ e) in omega arith
-
--- records say how many of them are commits
-pub commits-after_all : (s m : State) (rs : List Record) → after_all s rs ≡ Some m → m.commits ≡ commits rs + s.commits
-commits-after_all s m [] e = let same : s.commits ≡ m.commits = cc in omega arith
-commits-after_all s m (r ∷ rs) e = option_and_then_some (λ next. after_all next rs) (after s r) m e (λ next first rest.
-    let one = one_counted s next r first in
-    let others = commits-after_all next m rs rest in
-    let more = sum_by-cons (λ x. cond (is_commit x) 1 0) r rs in
-    omega arith)
-
--- so does the state that they leave behind the start
-pub commits-start : (m : State) (rs : List Record) → after_all start rs ≡ Some m → m.commits ≡ commits rs
-commits-start m rs e = let all = commits-after_all start m rs e in omega arith
-
--- the words with one record more
-pub words-append : (records : List Record) (r : Record) → words (records ++ r ∷ []) ≡ put_record (words records) r
-words-append records r = fold-append put_record first_contents records (r ∷ [])
-
 -- the word of a value in a field of the root
 pub set_word : (vs : List Val) (object i : ℕ) (v : Val) → object ≡ 0 → with_word (17 ∷ 0 ∷ map word_of vs) object i (word_of v) ≡ 17 ∷ 0 ∷ map word_of (slice_set vs i v)
 set_word vs object i v at =
@@ -159,7 +105,7 @@ numbers_first (u ∷ us) now first h numbers = numbers_first us h.0 first h.2 (n
 
 -- the number of commits that records tell
 pub told_commits : (g : Graph) (k : ℕ) (records : List Record) (state : State) (now : List Val) → IsTold g k records state now → commits records ≡ k
-told_commits g k records state now h = let all = commits-after_all start state records h.reached in let k_is = h.count in omega arith
+told_commits g k records state now h = let all = commits-start state records h.reached in let k_is = h.count in omega arith
 
 -- the words of the commits that they tell
 told_words : (g : Graph) (k : ℕ) (records : List Record) (state : State) (now : List Val) → (h : IsTold g k records state now) → committed_words records ≡ 17 ∷ 0 ∷ map word_of h.fields
@@ -209,7 +155,7 @@ told_commit g seen k t records state now number h own sees = record {
   is = sees;
   four = h.four;
   numbers = h.numbers;
-  stored = words-append records (Commit t) ∙ h.stored;
+  stored = words-append records (Commit t ∷ []) ∙ h.stored;
   back = refl;
 }
 
@@ -250,7 +196,7 @@ told_write g k t records state now i v number h own lt small = record {
   is = h.is;
   four = length-set now i v ∙ h.four;
   numbers = AllByRecursion-set IsNumberVal now i v h.numbers small;
-  stored = words-append records (update t now i v) ∙ ap (λ ws. with_word ws 0 i (word_of v)) h.stored ∙ set_word now 0 i v refl;
+  stored = words-append records (update t now i v ∷ []) ∙ ap (λ ws. with_word ws 0 i (word_of v)) h.stored ∙ set_word now 0 i v refl;
   back = (now, record { value = slice_index_or now i Null; number = number_at now i h.numbers; object = refl; field = lt; was = refl; back = set_back now i v }, h.back);
 }
 
@@ -280,27 +226,29 @@ told_undo g k t records state now u us number h is own =
     let object = one.object in
     let field = one.field in
     let step : after state undo ≡ Some (unwritten state t us) =
-        ap (λ (l : List UndoEntry). option_and_then (λ rest. Some (unwritten state t rest)) (without_newest state.writer l t (record { object = u.object; field = u.field; was = u.was }))) is
-        ∙ ap (option_and_then (λ rest. Some (unwritten state t rest))) (take_newest state.writer t u us own) in
-    (back.0, record {
-      good = AllByRecursion-append IsRecord records (undo ∷ []) h.good (
-        record {
-          number = number;
-          object_fits = omega arith;
-          field_fits = omega arith;
-          old_word = subst IsFieldWord (sym one.was) (word_of-IsFieldWord one.value one.number);
-        },
-        tt,
-      );
-      reached = after_all-append start state records undo h.reached ∙ step;
-      count = h.count;
-      fields = h.fields;
-      is = h.is;
-      four = ap (λ (l : List Val). length l) one.back ∙ length-set now u.field one.value ∙ h.four;
-      numbers = numbers_before u now back.0 one h.numbers;
-      stored = words-append records undo ∙ ap (λ ws. with_word ws u.object u.field u.was) h.stored ∙ taken_one u now back.0 one;
-      back = back.2;
-    })
+    ap (λ (l : List UndoEntry). option_and_then (λ rest. Some (unwritten state t rest)) (without_newest state.writer l t (record { object = u.object; field = u.field; was = u.was }))) is
+    ∙ ap (option_and_then (λ rest. Some (unwritten state t rest))) (take_newest state.writer t u us own) in (
+      back.0,
+      record {
+        good = AllByRecursion-append IsRecord records (undo ∷ []) h.good (
+          record {
+            number = number;
+            object_fits = omega arith;
+            field_fits = omega arith;
+            old_word = subst IsFieldWord (sym one.was) (word_of-IsFieldWord one.value one.number);
+          },
+          tt,
+        );
+        reached = after_all-append start state records undo h.reached ∙ step;
+        count = h.count;
+        fields = h.fields;
+        is = h.is;
+        four = ap (λ (l : List Val). length l) one.back ∙ length-set now u.field one.value ∙ h.four;
+        numbers = numbers_before u now back.0 one h.numbers;
+        stored = words-append records (undo ∷ []) ∙ ap (λ ws. with_word ws u.object u.field u.was) h.stored ∙ taken_one u now back.0 one;
+        back = back.2;
+      },
+    )
 
 -- the state behind the end of a transaction
 abbrev ended : State → ℕ → State
@@ -316,7 +264,7 @@ told_end g k t records state now number h none = record {
   is = h.is;
   four = h.four;
   numbers = h.numbers;
-  stored = words-append records (End t) ∙ h.stored;
+  stored = words-append records (End t ∷ []) ∙ h.stored;
   back = h.back;
 }
 

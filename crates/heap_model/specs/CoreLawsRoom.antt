@@ -10,9 +10,9 @@ use Rattle.graph_model.specs.declared.event.Event.{Event}
 use Rattle.graph_model.specs.declared.reply.Refusal.{Refusal}
 use Rattle.graph_model.specs.declared.reply.Refusal.TheVariants.{LogFull}
 use Rattle.log_records.specs.declared.Record.{Record}
-use Rattle.log_records.specs.declared.Record.TheVariants.{Undo}
 use Rattle.log_machine.specs.declared.UndoEntry.{UndoEntry}
 use Rattle.log_machine.specs.Machine.{abort_records}
+use Rattle.log_machine.specs.MachineLaws.{abort_length}
 use Rattle.log_records.specs.Record.{spelling, spellings}
 use Rattle.gated_log.specs.Log.{framed, batch, batches_bytes, records_of, hand}
 use Rattle.heap_model.specs.Core.{need, is_write, reserved, full_log}
@@ -78,21 +78,9 @@ pub reserved-call : (number : ℕ) (calls : List Event) (event : Event)
     → reserved (Some (record { number = number; calls = calls ++ event ∷ [] })) ≡ reserved (Some (record { number = number; calls = calls })) + 19 * cond (is_write event) 1 0
 reserved-call number calls event = let more = writes-append calls event in omega arith
 
-length_undo : (t object field word : ℕ) → length (spelling (Undo t object field word)) ≡ 19
-length_undo t object field word = refl
-
--- the bytes of the records that take writes back and end their transaction
-pub length-abort_records : (t : ℕ) (us : List UndoEntry) → length (spellings (abort_records t us)) ≡ 5 + 19 * length us
-length-abort_records t [] = refl
-length-abort_records t (u ∷ us) =
-    let rest = length-abort_records t us in
-    let both = length-append (spelling (Undo t u.object u.field u.was)) (spellings (abort_records t us)) in
-    let one = length_undo t u.object u.field u.was in
-    omega arith
-
--- with those of a batch, where none waits
+-- what the records take that take writes back and end their transaction, with a batch's gate and length where none waits
 pub need-abort_records : (pending : List Record) (t : ℕ) (us : List UndoEntry) → need pending (abort_records t us) ≤ 10 + 19 * length us
-need-abort_records [] t [] = omega (arith, length-abort_records t [])
-need-abort_records [] t (u ∷ us) = omega (arith, length-abort_records t (u ∷ us))
-need-abort_records (p ∷ ps) t [] = omega (arith, length-abort_records t [])
-need-abort_records (p ∷ ps) t (u ∷ us) = omega (arith, length-abort_records t (u ∷ us))
+need-abort_records [] t [] = omega (arith, abort_length t [])
+need-abort_records [] t (u ∷ us) = omega (arith, abort_length t (u ∷ us))
+need-abort_records (p ∷ ps) t [] = omega (arith, abort_length t [])
+need-abort_records (p ∷ ps) t (u ∷ us) = omega (arith, abort_length t (u ∷ us))

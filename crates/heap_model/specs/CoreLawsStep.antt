@@ -1,5 +1,5 @@
 -- Each step of a valid core leaves a valid core, or one at which the disk stopped or failed.
-use Rattle.std.proofs.Common.{◌≡◌, ℕ, ◌+◌, ◌*◌, ◌^◌, ◌<◌, ◌≤◌, Bool, true, false, cond, List, [], ◌∷◌, ◌++◌, length, Option, Some, None, is_some, refl, sym, ap, ◌∙◌, subst, arith}
+use Rattle.std.proofs.Common.{◌≡◌, ℕ, ◌+◌, ◌^◌, ◌<◌, ◌≤◌, Bool, true, false, cond, List, [], ◌∷◌, ◌++◌, length, Option, Some, None, is_some, refl, sym, ap, ◌∙◌, subst, arith}
 use Rattle.std.specs.Prelude.{◌==◌, nat_le}
 use Rattle.std.specs.List.{AllByRecursion}
 use Rattle.std.proofs.lemmas.Bool.{eqb-false, leb-false}
@@ -12,7 +12,7 @@ use Rattle.graph_model.specs.declared.reply.Entry.{Entry}
 use Rattle.graph_model.specs.declared.reply.Refusal.{Refusal}
 use Rattle.graph_model.specs.declared.reply.Refusal.TheVariants.{AlreadyActive, NumbersSpent, Range, LogFull}
 use Rattle.graph_model.specs.declared.reply.Reply.{Reply}
-use Rattle.graph_model.specs.declared.reply.Reply.TheVariants.{Sealed, Aborted, Refused}
+use Rattle.graph_model.specs.declared.reply.Reply.TheVariants.{Refused}
 use Rattle.graph_model.specs.Graph.{Graph}
 use Rattle.graph_model.specs.SlowHeap.{IsSingleSession}
 use Rattle.graph_model.specs.Transaction.{View, Transaction, IsCall, held, put_value, call}
@@ -23,7 +23,6 @@ use Rattle.graph_model.specs.PlainLaws.{IsNoFault, IsSoundReply, HasNoFault, pla
 use Rattle.log_records.specs.declared.Record.{Record}
 use Rattle.log_records.specs.Record.{IsRecord}
 use Rattle.gated_log.specs.Log.{records_of}
-use Rattle.log_machine.specs.declared.UndoEntry.{UndoEntry}
 use Rattle.log_machine.specs.Machine.{start, undo_of}
 use Rattle.heap_model.specs.Core.{Core, fresh, all_records, next_number, view_records, call_records, event_records, is_write, used, need, reserved, reserved_after, log_refusal, first_of_two, core_refusal, with_entry, forced, done, after_refusal, after}
 use Rattle.heap_model.specs.CoreValid.{IsNumberVal, Agrees, IsValid}
@@ -188,7 +187,7 @@ call_transaction : (c : Core) (event : Event) → IsCall event → session_of ev
 call_transaction c event is one may =
     let a = account c.history in
     let own : call_refusal c.g0 a (a.active 1) event ≡ None =
-        ap (λ (s : ℕ). call_refusal c.g0 a (a.active s) event) (sym one) ∙ sym (event_refusal-call (next_number c) c.g0 a event is) ∙ may in
+    ap (λ (s : ℕ). call_refusal c.g0 a (a.active s) event) (sym one) ∙ sym (event_refusal-call (next_number c) c.g0 a event is) ∙ may in
     let t = has_transaction c.g0 a (a.active 1) event own in
     (t.0, t.1, ap (λ (o : Option Transaction). call_refusal c.g0 a o event) (sym t.1) ∙ own)
 
@@ -205,7 +204,7 @@ quiet_goes c event valid is one quiet may =
     let t = call_transaction c event is one may.0 in
     let go = quiet_agrees a c t.0 event valid t.1 quiet (quiet_graph (view c.g0 a t.0) t.0.number event quiet) in
     let left : done c event ≡ record c { pending = c.pending ++ [] } =
-        done_records c event (no_call event is) ∙ ap (λ (more : List Record). record c { pending = c.pending ++ more }) (quiet_records c event is quiet) in
+    done_records c event (no_call event is) ∙ ap (λ (more : List Record). record c { pending = c.pending ++ more }) (quiet_records c event is quiet) in
     let there = subst (λ (d : Core). Agrees (called a event) d) (sym left) go in
     subst (λ (b : Account). Agrees b (done c event)) (sym (call_account (next_number c) c.g0 a event is one)) there
 
