@@ -10,6 +10,7 @@ use Rattle.log_records.specs.declared.Record.TheVariants.{Update, Undo, Commit, 
 use Rattle.log_records.specs.Record.{spelling, spellings, IsNumber, IsRecord}
 use Rattle.log_machine.specs.declared.UndoEntry.{UndoEntry}
 use Rattle.log_machine.specs.Machine.{State, start, may_write, without_newest, is_same_write, after, after_all, put_record, with_word, words, first_contents, taken_back, is_commit, commits, undo_in, committed_words, abort_records, rollback}
+use Rattle.log_machine.specs.Effect.{AddsEntry}
 use Rattle.log_machine.specs.UndoEntry.{IsEntry, LiesInside}
 
 -- The writes that may be taken back are such that records can take them back.
@@ -111,6 +112,11 @@ abort_length t (u ∷ us) =
 pub abort_good : (t : ℕ) (undo : List UndoEntry) → IsNumber t → AllByRecursion IsEntry undo → AllByRecursion IsRecord (abort_records t undo)
 abort_good t [] number good = (number, tt)
 abort_good t (u ∷ us) number good = (record { number = number; object_fits = good.0.object_fits; field_fits = good.0.field_fits; old_word = good.0.was_word }, abort_good t us number good.1)
+
+-- none of them adds a write that may be taken back
+pub abort_adds_nothing : (t : ℕ) (undo : List UndoEntry) → AllByRecursion (λ r. ¬ AddsEntry r) (abort_records t undo)
+abort_adds_nothing t [] = (λ adds. adds, tt)
+abort_adds_nothing t (u ∷ us) = (λ adds. adds, abort_adds_nothing t us)
 
 -- a choice gives what it was made of
 pub told_if : {X : Type 0} (b : Bool) (x y : X) → cond b (Some x) None ≡ Some y → (b ≡ true) × (x ≡ y)
