@@ -14,3 +14,4 @@ pub mod CoreLawsCrash
 pub mod CoreLawsReplies
 pub mod CoreLawsCalls
 pub mod Opening
+pub mod CoreLawsOpening
