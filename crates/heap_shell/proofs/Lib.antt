@@ -1,6 +1,7 @@
 mod Calls
 mod Causes
 mod Empty
+mod FieldRead
 mod MeansForce
 mod MeansLeft
 mod MeansLog
@@ -16,6 +17,7 @@ mod PlayLoop
 mod PlayOpen
 mod PrintRecovered
 mod Replay
+mod Room
 mod RootText
 mod RunLaws
 mod Statuses
