@@ -2,6 +2,7 @@ mod Calls
 mod Causes
 mod Empty
 mod FieldRead
+mod MeansActive
 mod MeansForce
 mod MeansLeft
 mod MeansLog

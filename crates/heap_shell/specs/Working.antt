@@ -15,7 +15,7 @@ use Rattle.log_machine.specs.declared.UndoEntry.{UndoEntry}
 use Rattle.log_machine.specs.Machine.{with_word, taken_back, abort_records}
 use Rattle.heap_shell.specs.declared.active.Active.{Active}
 use Rattle.heap_shell.specs.declared.working.Working.{Working}
-use Rattle.heap_model.specs.Core.{full_log}
+use Rattle.heap_model.specs.Core.{full_log, first_of_two}
 use Rattle.heap_model.specs.ValueWord.{value_of}
 
 -- A transaction, as clauses see it.
@@ -69,11 +69,6 @@ abbrev pub held_refusal : Option Active → ℕ → Option Refusal
 held_refusal None h = Some NotActive
 held_refusal (Some a) h = if holds_root a h then None else Some BadHandle
 
--- the first reason of two
-abbrev pub or_refusal : Option Refusal → Option Refusal → Option Refusal
-or_refusal None other = other
-or_refusal (Some why) other = Some why
-
 -- why a field of the root object can't be named
 abbrev pub field_refusal : ℕ → Option Refusal
 field_refusal i = if nat_le 4 i then Some BadField else None
@@ -88,19 +83,19 @@ write_room log None = Some NotActive
 write_room log (Some a) = no_room log (log_need log 27) (10 + 19 * (vec_len a.undo + 1))
 
 abbrev pub write_refusal : Log → Option Active → ℕ → Option Refusal
-write_refusal log active i = or_refusal (field_refusal i) (write_room log active)
+write_refusal log active i = first_of_two (field_refusal i) (write_room log active)
 
 abbrev pub put_refusal : Log → Option Active → ℕ → ℕ → ℕ → Option Refusal
-put_refusal log active h i v = or_refusal (held_refusal active h) (or_refusal (range_refusal v) (write_refusal log active i))
+put_refusal log active h i v = first_of_two (held_refusal active h) (first_of_two (range_refusal v) (write_refusal log active i))
 
 abbrev pub clear_refusal : Log → Option Active → ℕ → ℕ → Option Refusal
-clear_refusal log active h i = or_refusal (held_refusal active h) (write_refusal log active i)
+clear_refusal log active h i = first_of_two (held_refusal active h) (write_refusal log active i)
 
 abbrev pub get_refusal : Option Active → ℕ → ℕ → ℕ → Option Refusal
-get_refusal active h i h2 = or_refusal (handle_refusal active h2) (or_refusal (held_refusal active h) (field_refusal i))
+get_refusal active h i h2 = first_of_two (handle_refusal active h2) (first_of_two (held_refusal active h) (field_refusal i))
 
 abbrev pub same_refusal : Option Active → ℕ → ℕ → Option Refusal
-same_refusal active h h2 = or_refusal (held_refusal active h) (held_refusal active h2)
+same_refusal active h h2 = first_of_two (held_refusal active h) (held_refusal active h2)
 
 -- why a transaction can't end
 abbrev pub end_refusal : Option Active → Option Refusal
