@@ -12,16 +12,15 @@ use Rattle.heap_shell.specs.declared.recovery.OpenError.{OpenError}
 use Rattle.heap_shell.specs.declared.recovery.OpenError.TheVariants.{NoMemory, NotHeap, Damaged, Disk}
 use Rattle.heap_shell.specs.declared.recovery.Recovered.{Recovered}
 use Rattle.log_machine.specs.Machine.{start, after_all, words}
-use Rattle.heap_shell.specs.MachineState.{state_of}
 
 -- The parts of a heap, as a legal image with these numbers and batches has them.
 pub record IsRecovered (s : Super) (batches : List (List Record)) (found : Recovered) : Type 0 where
   pub log : Keeps found.log batches []
   pub place : log_place found.log ≡ log_offset
   pub room : log_room found.log ≡ s.log_bytes
-  pub words : found.words.words ≡ words (records_of batches)
-  pub state : after_all start (records_of batches) ≡ Some (state_of found.state)
-  pub next : found.next ≡ max s.first ((state_of found.state).greatest + 1)
+  pub words : found.words ≡ words (records_of batches)
+  pub state : after_all start (records_of batches) ≡ Some (found.state)
+  pub next : found.next ≡ max s.first (found.state.greatest + 1)
 
 -- Memory was refused or the disk failed: nothing is told of the image.
 abbrev pub IsFromOutside : OpenError → Type 0

@@ -12,19 +12,17 @@ ghost use Rattle.log_records.specs.declared.Record.{Record};
 ghost use Rattle.log_records.specs.Record.{IsRecord};
 ghost use Rattle.heap_shell.specs.Causes.{open_device};
 ghost use Rattle.heap_model.specs.Image.{IsLegal};
-ghost use Rattle.log_machine.specs.Machine.{start, after_all, words, AreWhole};
-ghost use Rattle.heap_shell.specs.MachineState.{state_of};
+ghost use Rattle.log_machine.specs.Machine.{start, after_all, words};
 ghost use Rattle.heap_shell.specs.Recovered.{IsRecovered, IsFromOutside, IsFromImage};
 ghost use Rattle.heap_model.specs.ValueWord.{IsNumberWord, value_of};
 
-use crate::machine::{LogState, Unshaped};
-use crate::page_words::{PageWords, ROOT_FIELDS};
 use crate::status::At;
 use disk_model::{Disk, DiskError};
 use gated_log::{Log, LogError};
 use graph_model::Val;
 use heap_words::{Word, decode};
 use image_plan::{SUPER_BYTES, Super, read_super};
+use log_machine::{AfterError, LogState, PageWords, ROOT_FIELDS};
 use log_records::Record;
 use std::alloc::Global;
 
@@ -74,8 +72,7 @@ pub fn recover<D: Disk>(alloc: Global, disk: &mut D) -> Result<Recovered, OpenEr
     ensures idle { IfOk result (λ found. IsHandEmpty found.log) }
     ensures next { IfOk result (λ found. 0 < found.next) }
     // No image is opened that ends inside a transaction, or that leaves anything but numbers in the root's fields.
-    ensures whole { IfOk result (λ found. (state_of found.state).writer ≡ None) }
-    ensures numbers { IfOk result (λ found. AllByRecursion IsNumberWord (drop 2 found.words.words)) }
+    ensures numbers { IfOk result (λ found. AllByRecursion IsNumberWord (drop 2 found.words)) }
 
     // A legal image is found as it is, whatever its numbers and batches.
     ensures found { IsTrue D.tells → (s : Super) (batches : List (List Record)) → IsLegal s batches (D.bytes disk.old) → IfOk result (IsRecovered s batches) }
@@ -95,7 +92,7 @@ pub fn recover<D: Disk>(alloc: Global, disk: &mut D) -> Result<Recovered, OpenEr
     let found = read_plan(disk)?;
     let plan = found.plan();
     let (log, records) = Log::open(alloc, disk, plan.log_at(), found.log_bytes)?;
-    let (state, words) = replay(&records)?;
+    let (state, words) = replay(alloc, &records)?;
     let next = found.first.max(state.greatest() + 1);
     Ok(Recovered {
         log,
@@ -134,21 +131,16 @@ fn read_plan<D: Disk>(disk: &mut D) -> Result<Super, OpenError>
 }
 
 /// The state and the words after the records.
-fn replay(records: &[Record]) -> Result<(LogState, PageWords), OpenError>
+fn replay(alloc: Global, records: &[Record]) -> Result<(LogState, PageWords), OpenError>
     requires good { AllByRecursion IsRecord records.now }
     requires few { length records.now < 2 ^ 32 }
-    ensures state { IfOk result (λ found. after_all start records.now ≡ Some (state_of found.0)) }
-    ensures words { IfOk result (λ found. found.1.words ≡ words records.now) }
-    ensures small { IfOk result (λ found. (state_of found.0).greatest ≤ 4294967294) }
-    ensures whole { IfOk result (λ found. (state_of found.0).writer ≡ None) }
-    ensures numbers { IfOk result (λ found. AllByRecursion IsNumberWord (drop 2 found.1.words)) }
-    ensures exact { AreWhole records.now → AllByRecursion IsNumberWord (drop 2 (words records.now)) → IsOk result }
+    ensures state { IfOk result (λ found. after_all start records.now ≡ Some (found.0)) }
+    ensures words { IfOk result (λ found. found.1 ≡ words records.now) }
+    ensures small { IfOk result (λ found. (found.0).greatest ≤ 4294967294) }
+    ensures numbers { IfOk result (λ found. AllByRecursion IsNumberWord (drop 2 found.1)) }
     ensures image { IfErr result IsFromImage }
 {
-    let (state, words) = replay_all(records)?;
-    if state.writer().is_some() {
-        return Err(OpenError::Damaged { at: At::Reserve });
-    }
+    let (state, words) = replay_all(alloc, records)?;
     if root_values(&words).is_none() {
         return Err(OpenError::Damaged { at: At::Address(0) });
     }
@@ -156,21 +148,22 @@ fn replay(records: &[Record]) -> Result<(LogState, PageWords), OpenError>
 }
 
 /// The state and the words after the records, if each of them can follow.
-fn replay_all(records: &[Record]) -> Result<(LogState, PageWords), OpenError>
+fn replay_all(alloc: Global, records: &[Record]) -> Result<(LogState, PageWords), OpenError>
     requires good { AllByRecursion IsRecord records.now }
     requires few { length records.now < 2 ^ 32 }
-    ensures state { IfOk result (λ found. after_all start records.now ≡ Some (state_of found.0)) }
-    ensures words { IfOk result (λ found. found.1.words ≡ words records.now) }
-    ensures small { IfOk result (λ found. (state_of found.0).greatest ≤ 4294967294) }
+    ensures state { IfOk result (λ found. after_all start records.now ≡ Some (found.0)) }
+    ensures words { IfOk result (λ found. found.1 ≡ words records.now) }
+    ensures small { IfOk result (λ found. (found.0).greatest ≤ 4294967294) }
     ensures exact { IfErr result (λ e. after_all start records.now ≡ None) }
     ensures image { IfErr result IsFromImage }
 {
-    let mut state = LogState::start();
+    let mut state = LogState::start(alloc);
     let mut words = PageWords::first_contents();
     for (i, record) in records.iter().enumerate() {
         match state.after(record) {
             Ok(()) => words.apply(record),
-            Err(Unshaped) => {
+            Err(AfterError::NoMemory) => return Err(OpenError::NoMemory),
+            Err(AfterError::Unshaped) => {
                 return Err(OpenError::Damaged {
                     at: At::Rec(i as u64 + 1),
                 });
@@ -182,9 +175,9 @@ fn replay_all(records: &[Record]) -> Result<(LogState, PageWords), OpenError>
 
 /// What the root object's fields hold: nothing or a number, since there is no other object.
 pub fn root_values(words: &PageWords) -> Option<[Val; ROOT_FIELDS]>
-    ensures found { IfSome result (λ values. (values ≡ map value_of (drop 2 words.now.words)) × AllPlain values) }
-    ensures numbers { IsSome result → AllByRecursion IsNumberWord (drop 2 words.now.words) }
-    ensures only { AllByRecursion IsNumberWord (drop 2 words.now.words) → IsSome result }
+    ensures found { IfSome result (λ values. (values ≡ map value_of (drop 2 words.now)) × AllPlain values) }
+    ensures numbers { IsSome result → AllByRecursion IsNumberWord (drop 2 words.now) }
+    ensures only { AllByRecursion IsNumberWord (drop 2 words.now) → IsSome result }
 {
     let [a, b, c, d] = words.root_fields();
     Some([
