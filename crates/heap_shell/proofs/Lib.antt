@@ -1,4 +1,3 @@
-mod Calls
 mod Causes
 mod Empty
 mod MeansForce
@@ -8,6 +7,7 @@ mod MeansOpen
 mod MeansRefusal
 mod MeansStep
 mod Opening
+mod PlayEnding
 mod PlayEnds
 mod PlayEvent
 mod PlayFuse
