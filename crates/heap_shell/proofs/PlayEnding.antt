@@ -1,5 +1,5 @@
 -- The events that end a run, by what the heap says of itself.
-use Rattle.std.proofs.Common.{◌≡◌, ◌≢◌, inl, ℕ, Bool, true, false, List, [], ◌∷◌, Option, Some, None, refl, subst}
+use Rattle.std.proofs.Common.{◌≡◌, ◌≢◌, inl, ℕ, Bool, true, false, List, [], ◌∷◌, Option, Some, None, refl}
 use Rattle.std.specs.Prelude.{◌↔◌, is_some, IsTrue}
 use Rattle.disk_model.specs.declared.disk.Disk.{Ghosts}
 use Rattle.graph_model.specs.declared.event.Event.TheVariants.{Abort, Force}
@@ -29,15 +29,11 @@ abort_of-some (Some t) is = refl
 -- nothing waits
 pub force_of-none : (waiting : List Record) (b : Bool) → (IsTrue b ↔ (waiting ≢ [])) → b ≡ false → force_of waiting ≡ []
 force_of-none [] b said is = refl
-force_of-none (r ∷ rs) b said is = absurd (subst IsTrue is (said.1 (λ e. cc)))
-
-true_is : (b : Bool) → b ≡ true → IsTrue b
-true_is true is = tt
-true_is false is = cc
+force_of-none (r ∷ rs) b said is = let waits : b ≡ true = said.1 (λ e. cc) in cc
 
 -- something does
 pub force_of-some : (waiting : List Record) (b : Bool) → (IsTrue b ↔ (waiting ≢ [])) → b ≡ true → force_of waiting ≡ Force ∷ []
-force_of-some [] b said is = absurd (said.0 (true_is b is) refl)
+force_of-some [] b said is = absurd (said.0 is refl)
 force_of-some (r ∷ rs) b said is = refl
 
 -- a crash at the moment of a heap leaves its commits

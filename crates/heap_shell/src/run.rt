@@ -233,9 +233,13 @@ fn play_stopped<D: Disk, K: Sink>(
 {
     let mut heap = match Heap::open(alloc, FuseDisk::new(disk, calls)) {
         Ok(heap) => heap,
-        // Only a disk that didn't keep what was written can stop here: the opening of a new heap writes nothing.
-        Err((OpenError::Disk(DiskError::Stopped), fuse)) => return start_again(alloc, fuse, 0, sink),
-        Err((e, fuse)) => return (Status::from(e), fuse.into_inner()),
+        Err((e, fuse)) => {
+            // The opening of a new heap writes nothing, so only a disk that didn't keep what was written can stop here.
+            if e == OpenError::Disk(DiskError::Stopped) {
+                return start_again(alloc, fuse, 0, sink);
+            }
+            return (Status::from(e), fuse.into_inner());
+        }
     };
     let before = heap.commits();
     match play_lines(alloc, &mut heap, script, sink) {

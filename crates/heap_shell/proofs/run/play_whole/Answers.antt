@@ -70,7 +70,7 @@ returns-in-Ok-Stopped g c =
           let es = all_events None made_core (events c.args.script.now) in
           let old = c.in-Ok.heap in
           let new = c.play_all.new.heap in
-          let plays = c.play_all.ensures.plays tells s made_core (c.in-Ok.ensures.fresh tells s legal only) playable.ready in
+          let plays = c.play_all.ensures.plays tells s made_core (c.in-Ok.ensures.fresh tells s legal only) (script_ready (events c.args.script.now) playable) in
           let lines = all_lines s es playable old new k.tells (k.written c.args.sink.now) (k.written c.play_all.new.sink) c.play_all.result plays c.in-Ok-Stopped.is in
           rw c.close-in-Ok-Stopped.ensures (ends_early s es playable old new k.tells (k.written c.args.sink.now) (k.written c.play_all.new.sink) c.play_all.result plays _ _ _ _
           (since_made pages es playable c.args.disk old new k.tells (k.written c.args.sink.now) (k.written c.play_all.new.sink) c.play_all.result (opening_keeps d.moment d.left_since c.args.disk old.disk pages (d.bytes c.args.disk) legal (c.in-Ok.ensures.moments tells only _ _ (new_stands pages (d.bytes c.args.disk) legal))) plays)
@@ -90,7 +90,7 @@ returns-in-Err-play_all-clause-played g c tells pages legal only playable =
     let old = c.in-Ok.heap in
     let new = c.play_all.new.heap in
     let e = c.in-Err-play_all.status in
-    let plays = c.in-Err-play_all.ensures.plays tells s made_core (c.in-Ok.ensures.fresh tells s legal only) playable.ready in
+    let plays = c.in-Err-play_all.ensures.plays tells s made_core (c.in-Ok.ensures.fresh tells s legal only) (script_ready (events c.args.script.now) playable) in
     let error = c.in-Err-play_all.ensures.output in
     rw c.close-in-Err-play_all.ensures (ends_early s es playable old new k.tells (k.written c.args.sink.now) (k.written c.play_all.new.sink) (Err e) plays _ _ _ _
     (since_made pages es playable c.args.disk old new k.tells (k.written c.args.sink.now) (k.written c.play_all.new.sink) (Err e) (opening_keeps d.moment d.left_since c.args.disk old.disk pages (d.bytes c.args.disk) legal (c.in-Ok.ensures.moments tells only _ _ (new_stands pages (d.bytes c.args.disk) legal))) plays)
