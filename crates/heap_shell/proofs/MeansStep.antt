@@ -15,7 +15,7 @@ use Rattle.graph_model.specs.declared.event.Event.{Event}
 use Rattle.graph_model.specs.declared.event.Event.TheVariants.{Begin, Root, Put, Clear, Drop, Get, Same, Len, Seal, Abort, Force}
 use Rattle.graph_model.specs.declared.reply.Entry.{Entry}
 use Rattle.graph_model.specs.declared.reply.Refusal.{Refusal}
-use Rattle.graph_model.specs.declared.reply.Refusal.TheVariants.{AlreadyActive, NotActive, BadHandle, BadField}
+use Rattle.graph_model.specs.declared.reply.Refusal.TheVariants.{AlreadyActive, NotActive, BadHandle, Range, BadField}
 use Rattle.graph_model.specs.declared.reply.Reply.{Reply}
 use Rattle.graph_model.specs.declared.reply.Reply.TheVariants.{Begun, Done, Yes, Length, Sealed, Aborted, Refused}
 use Rattle.graph_model.specs.Graph.{Graph, root, fields}
@@ -25,7 +25,7 @@ use Rattle.graph_model.specs.Transaction.{Registers, View, Transaction, IsCall, 
 use Rattle.graph_model.specs.History.{Account, account, account_after, session_of, with_call}
 use Rattle.graph_model.specs.HistoryLaws.{account-append}
 use Rattle.graph_model.specs.Plain as plain
-use Rattle.graph_model.specs.Plain.{view, call_refusal, call_reply, granted, reply_of}
+use Rattle.graph_model.specs.Plain.{no_int, view, call_refusal, call_reply, granted, reply_of}
 use Rattle.graph_model.specs.PlainLaws.{IsNoFault, HasNoFault, account_after-refused, call_reply-done}
 use Rattle.log_records.specs.declared.Record.{Record}
 use Rattle.log_records.specs.declared.Record.TheVariants.{Update, Commit}
@@ -109,6 +109,10 @@ does c event o gives reply new is replied gives_is go stay = record {
 test_none : (b : Bool) (why : Refusal) (o : Option Refusal) → cond b (Some why) o ≡ None → (b ≡ false) × (o ≡ None)
 test_none true why o e = cc
 test_none false why o e = (refl, e)
+
+both_none : (o p : Option Refusal) → first_of_two o p ≡ None → (o ≡ None) × (p ≡ None)
+both_none None p e = (refl, e)
+both_none (Some why) p e = cc
 
 not_active : (o : Option Transaction) → is_some o ≡ false → o ≡ None
 not_active None e = refl
@@ -346,3 +350,93 @@ module _ (w new : Working) (c : Core) (valid : IsValid c) (works : Works w (acco
       let there = appended (called a event) (r ∷ []) log writes.words (is_seen g undo' (with_call (a.active 1) event) new.active active) (writes.next ∙ works.next) (writes.sealed ∙ works.sealed) in
       let left : done c event ≡ record c { pending = c.pending ++ r ∷ [] } = done_records c event other ∙ ap (λ (more : List Record). record c { pending = c.pending ++ more }) one_record in
       subst (λ (b : Account). Works new b (done c event)) (sym (call_account (next_number c) c.g0 a event is one)) (subst (λ (d : Core). Works new (called a event) d) (sym left) there)
+
+  -- a handle that may be asked holds the root
+  held_is : (t : Transaction) (x : Active) (h : ℕ) → a.active 1 ≡ Some t → w.active ≡ Some x → held_refusal w.active h ≡ None → held (view c.g0 a t).registers h ≡ Some root
+  held_is t x h e at none =
+      let is = subst (λ (o : Option Transaction). IsActive g undo o (Some x)) e (subst (λ (p : Option Active). IsActive g undo (a.active 1) p) at works.active) in
+      held_len (held (view c.g0 a t).registers h) (held_as a c t h valid) (len_cases w c valid works (Some t) (Some x) h is ∙ sym (ap (λ (p : Option Active). held_refusal p h) at) ∙ none)
+
+  below_four : (i : ℕ) → field_refusal i ≡ None → i < 4
+  below_four i e = leb-false 4 i (test_none (nat_le 4 i) BadField None e).0
+
+  pub put_does : (h i v : ℕ) (result : Result Reply AllocError) → IfOk result (λ reply. reply ≡ reply_of (put_refusal w.log w.active h i v) Done)
+      → (result ≡ Ok Done → Writes w new i (4 * v + 1)) → ((why : Refusal) → result ≡ Ok (Refused why) → IsAsItWas w new) → IfOk result (λ reply. Does c (Put 1 h i v) reply new)
+  put_does h i v (Err e) replied wrote_it stayed = tt
+  put_does h i v (Ok reply) replied wrote_it stayed =
+      let event : Event = Put 1 h i v in
+      does c event (put_refusal w.log w.active h i v) Done reply new (put_same w c valid works h i v) replied (λ e. call_reply-done c.g0 a (a.active 1) event tt)
+      (λ e is.
+      let writes = wrote_it (ap Ok is) in
+      let t = has_active g undo (a.active 1) w.active writes.active works.active writes.was_active in
+      let first = both_none (held_refusal w.active h) (first_of_two (range_refusal v) (write_refusal w.log w.active i)) e in
+      let second = both_none (range_refusal v) (write_refusal w.log w.active i) first.1 in
+      let third = both_none (field_refusal i) _ second.1 in
+      wrote t.0 event h i (Int v) t.1 tt refl (λ force. cc) refl (ap (λ (o : Option Transaction). call_records c.g0 a undo o event) t.1)
+      (held_is t.0 writes.active h t.1 writes.was_active first.0) (below_four i third.0) (leb-false no_int v (test_none (nat_le no_int v) Range None second.0).0) writes)
+      (λ why is. as_it_was (stayed why (ap Ok is)))
+
+  pub clear_does : (h i : ℕ) (result : Result Reply AllocError) → IfOk result (λ reply. reply ≡ reply_of (clear_refusal w.log w.active h i) Done)
+      → (result ≡ Ok Done → Writes w new i 0) → ((why : Refusal) → result ≡ Ok (Refused why) → IsAsItWas w new) → IfOk result (λ reply. Does c (Clear 1 h i) reply new)
+  clear_does h i (Err e) replied wrote_it stayed = tt
+  clear_does h i (Ok reply) replied wrote_it stayed =
+      let event : Event = Clear 1 h i in
+      does c event (clear_refusal w.log w.active h i) Done reply new (clear_same w c valid works h i) replied (λ e. call_reply-done c.g0 a (a.active 1) event tt)
+      (λ e is.
+      let writes = wrote_it (ap Ok is) in
+      let t = has_active g undo (a.active 1) w.active writes.active works.active writes.was_active in
+      let first = both_none (held_refusal w.active h) (write_refusal w.log w.active i) e in
+      let third = both_none (field_refusal i) _ first.1 in
+      wrote t.0 event h i Null t.1 tt refl (λ force. cc) refl (ap (λ (o : Option Transaction). call_records c.g0 a undo o event) t.1)
+      (held_is t.0 writes.active h t.1 writes.was_active first.0) (below_four i third.0) tt writes)
+      (λ why is. as_it_was (stayed why (ap Ok is)))
+
+  -- no transaction is active any more
+  none_left : (sealed : List Transaction) (more : List Record) → new.active ≡ None → IsActive (serial c.g0 sealed) (undo_of (records_of c.batches ++ (c.pending ++ more))) None new.active
+  none_left sealed more none = subst (λ (p : Option Active). IsActive (serial c.g0 sealed) (undo_of (records_of c.batches ++ (c.pending ++ more))) None p) (sym none) tt
+
+  sealed_up : (t : Transaction) → a.active 1 ≡ Some t → Seals w new → Works new (account_after a (record { event = Seal 1; reply = Sealed (length a.sealed + 1) })) (done c (Seal 1))
+  sealed_up t e seals =
+      let b = account_after a (record { event = Seal 1; reply = Sealed (length a.sealed + 1) }) in
+      let more : List Record = Commit t.number ∷ [] in
+      let records : event_records c (Seal 1) ≡ more = ap (λ (o : Option Transaction). call_records c.g0 a undo o (Seal 1)) e in
+      let log = one_spelled (Commit t.number) (subst (λ (n : ℕ). SameLog w.log new.log (log_hand w.log ++ spelling (Commit n))) (mine t seals.active e seals.was_active).0 seals.log) in
+      let count : new.sealed ≡ length b.sealed =
+          seals.sealed ∙ ap (λ (n : ℕ). n + 1) works.sealed ∙ sym (ap (λ (o : Option Transaction). length (a.sealed ++ option_to_list o)) e ∙ length-append a.sealed (t ∷ [])) in
+      subst (λ (rs : List Record). Works new b (record c { pending = c.pending ++ rs })) (sym records)
+      (appended b more log seals.words (none_left b.sealed more seals.not_active) (seals.next ∙ works.next) count)
+
+  pub seal_does : (result : Result Reply AllocError) → IfOk result (λ reply. reply ≡ reply_of (end_refusal w.active) (Sealed (w.sealed + 1)))
+      → ((number : ℕ) → result ≡ Ok (Sealed number) → Seals w new) → ((why : Refusal) → result ≡ Ok (Refused why) → IsAsItWas w new) → IfOk result (λ reply. Does c (Seal 1) reply new)
+  seal_does (Err e) replied sealed_it stayed = tt
+  seal_does (Ok reply) replied sealed_it stayed =
+      does c (Seal 1) (end_refusal w.active) (Sealed (w.sealed + 1)) reply new (seal_same w c valid works) replied (λ e. ap (λ (n : ℕ). Sealed (n + 1)) (sym works.sealed))
+      (λ e is.
+      let seals = sealed_it (w.sealed + 1) (ap Ok is) in
+      let t = has_active g undo (a.active 1) w.active seals.active works.active seals.was_active in
+      sealed_up t.0 t.1 seals)
+      (λ why is. as_it_was (stayed why (ap Ok is)))
+
+  taken : (t : Transaction) → a.active 1 ≡ Some t → Aborts w new → Works new (account_after a (record { event = Abort 1; reply = Aborted })) (done c (Abort 1))
+  taken t e aborts =
+      let b = account_after a (record { event = Abort 1; reply = Aborted }) in
+      let more : List Record = abort_records t.number undo in
+      let records : event_records c (Abort 1) ≡ more = ap (λ (o : Option Transaction). call_records c.g0 a undo o (Abort 1)) e in
+      let own = mine t aborts.active e aborts.was_active in
+      let same : abort_records aborts.active.number (reverse aborts.active.undo.items) ≡ more =
+          ap (λ (n : ℕ). abort_records n (reverse aborts.active.undo.items)) own.0 ∙ ap (abort_records t.number) own.1 in
+      let log = subst (λ (rs : List Record). SameLog w.log new.log (log_hand w.log ++ spellings rs)) same aborts.log in
+      let stored : new.words ≡ fold put_record w.words more = aborts.words ∙ ap (λ (us : List UndoEntry). taken_back us w.words) own.1 ∙ sym (abort_words t.number undo w.words) in
+      subst (λ (rs : List Record). Works new b (record c { pending = c.pending ++ rs })) (sym records)
+      (appended b more log stored (none_left b.sealed more aborts.not_active) (aborts.next ∙ works.next) (aborts.sealed ∙ works.sealed))
+
+  pub abort_does : (result : Result Reply AllocError) → IfOk result (λ reply. reply ≡ reply_of (end_refusal w.active) Aborted)
+      → (result ≡ Ok Aborted → Aborts w new) → ((why : Refusal) → result ≡ Ok (Refused why) → IsAsItWas w new) → IfOk result (λ reply. Does c (Abort 1) reply new)
+  abort_does (Err e) replied aborted_it stayed = tt
+  abort_does (Ok reply) replied aborted_it stayed =
+      does c (Abort 1) (end_refusal w.active) Aborted reply new (abort_same w c valid works) replied (λ e. refl)
+      (λ e is.
+      let aborts = aborted_it (ap Ok is) in
+      let t = has_active g undo (a.active 1) w.active aborts.active works.active aborts.was_active in
+      taken t.0 t.1 aborts)
+      (λ why is. as_it_was (stayed why (ap Ok is)))
