@@ -163,11 +163,18 @@ impl<D: Disk> Heap<D> {
         ensures passes { IsTrue D.tells → (s : Super) (c : Core) → IsHeap s c self.old → self.old.failed ≡ None → IfOk result (λ reply. Passes (calls c event) (D.passed self.old.disk) (D.passed self.new.disk) (reply_device reply)) }
         ensures restarts { IsTrue D.tells → D.restarts self.new.disk ≡ D.restarts self.old.disk }
     {
+        let alloc = self.history.allocator();
         match event {
-            Event::Begin { .. } => Ok(self.working.begin()),
+            Event::Begin { .. } => Ok(self.working.begin(alloc)),
             Event::Root { h, .. } => Ok(self.working.root(h)),
             Event::Put { h, i, v, .. } => self.working.put(h, i, v),
+            Event::Clear { h, i, .. } => self.working.clear(h, i),
+            Event::Drop { h, .. } => Ok(self.working.drop_handle(h)),
+            Event::Get { h, i, h2, .. } => Ok(self.working.get(h, i, h2)),
+            Event::Same { h, h2, .. } => Ok(self.working.same(h, h2)),
+            Event::Len { h, .. } => Ok(self.working.len(h)),
             Event::Seal { .. } => self.working.seal(),
+            Event::Abort { .. } => self.working.abort(alloc),
             Event::Force => self.force(),
         }
     }
@@ -235,7 +242,11 @@ impl<D: Disk> Heap<D> {
     pub fn graph(&self, alloc: Global) -> Result<String, AllocError>
         ensures text { (s : Super) (c : Core) → IsHeap s c self.now → self.now.failed ≡ None → AllByRecursion IsNumberWord (drop 2 (committed_words (all_records c))) → IfOk result (λ text. string_bytes text ≡ canon_text (canon (graph_of (all_records c)))) }
     {
-        match root_values(&self.working.words) {
+        let mut words = self.working.words;
+        if let Some(active) = &self.working.active {
+            words.take_back(&active.undo);
+        }
+        match root_values(&words) {
             Some(values) => root_text(alloc, &values),
             None => root_text(alloc, &[]),
         }

@@ -13,7 +13,7 @@ ghost use Rattle.heap_shell.specs.Play.{AreReady, Plays, ended_by};
 ghost use Rattle.script_text.specs.Script.{line_events, events};
 
 use crate::heap::Heap;
-use crate::script::Line;
+use script_text::Line;
 use crate::status::Status;
 use disk_model::Disk;
 use graph_model::{Entry, Event, Refusal, Reply};

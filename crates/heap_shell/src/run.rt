@@ -30,7 +30,7 @@ use crate::format::{FormatError, format};
 use crate::heap::Heap;
 use crate::play::{Ended, play_lines};
 use crate::recovery::OpenError;
-use crate::script::{Line, MOST_BYTES, ScriptError, read_script};
+use script_text::{Line, MOST_BYTES, ScriptError, read_script};
 use crate::status::Status;
 use disk_model::{Disk, FuseDisk};
 use heap_io::{Sink, SinkFailed, Source, TakeAllError, put_all, take_all};

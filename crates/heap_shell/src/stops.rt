@@ -1,7 +1,7 @@
 //! A script played with a stop at each of its device calls, by each pick of a restart: the first commits come back, and
 //! among them all that were acknowledged. What is expected comes from the slow heap, which has no log and no disk.
 use crate::Status;
-use crate::script::{Line, read_script};
+use script_text::{Line, read_script};
 use crate::tests::{ONE_COMMIT, Played, make_disk, play_on};
 use disk_model::Pick;
 use graph_model::{Entry, Event, SlowHeap};
