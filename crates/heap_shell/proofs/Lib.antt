@@ -1,5 +1,7 @@
 mod Causes
 mod Empty
+mod FieldRead
+mod MeansActive
 mod MeansForce
 mod MeansLeft
 mod MeansLog
@@ -16,6 +18,7 @@ mod PlayLoop
 mod PlayOpen
 mod PrintRecovered
 mod Replay
+mod Room
 mod RootText
 mod RunLaws
 mod Statuses

@@ -60,3 +60,13 @@ keeps_more old new bs p r same keeps = record {
   items = same.in_hand ∙ ap (λ (l : List ℕ). l ++ spelling r) keeps.items ∙ append_assoc keeps.head (spellings p) (spelling r)
       ∙ ap (λ (l : List ℕ). keeps.head ++ l) (ap (λ (l : List ℕ). spellings p ++ l) (sym (append-nil (spelling r))) ∙ sym (flat_map-append spelling p (r ∷ [])));
 }
+
+-- more records
+pub keeps_all : (old new : Log) (bs : List (List Record)) (p more : List Record) → SameLog old new (log_hand old ++ spellings more) → Keeps old bs p → Keeps new bs (p ++ more)
+keeps_all old new bs p more same keeps = record {
+  tail = same.tail ∙ keeps.tail;
+  head = keeps.head;
+  four = keeps.four;
+  items = same.in_hand ∙ ap (λ (l : List ℕ). l ++ spellings more) keeps.items ∙ append_assoc keeps.head (spellings p) (spellings more)
+      ∙ ap (λ (l : List ℕ). keeps.head ++ l) (sym (flat_map-append spelling p more));
+}

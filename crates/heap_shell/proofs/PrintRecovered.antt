@@ -14,7 +14,7 @@ use Rattle.heap_shell.specs.Causes.{IsOutputError}
 use Rattle.heap_model.specs.Core.{Core}
 use Rattle.heap_model.specs.CoreCrash.{KeepsCommits}
 use Rattle.heap_model.specs.CoreLawsGrow.{keeps_as}
-use Rattle.heap_model.specs.CoreLawsOpening.{committed_words-rolled_back}
+use Rattle.heap_model.specs.CoreLawsOpening.{rolled_committed}
 use Rattle.heap_shell.specs.Headline.{Reopens, recovered_line, graph_text}
 use Rattle.heap_model.specs.Image.{StandsFor, graph_of, graph_of_words}
 use Rattle.heap_model.specs.Opening.{opened, rolled_back, opening_calls}
@@ -31,7 +31,7 @@ pub opened_graph : (g : Graph) (k next : ℕ) (image : List ℕ) (stands : Stand
 opened_graph g k next image stands =
     let rs = records_of (rolled_back stands.batches) in
     let same : committed_words (rs ++ []) ≡ committed_words (records_of stands.batches) =
-    ap committed_words (append-nil rs) ∙ committed_words-rolled_back stands.super stands.batches image stands.legal in
+    ap committed_words (append-nil rs) ∙ rolled_committed stands.super stands.batches image stands.legal in
     record {
       unfailed = refl;
       plain = subst (λ (ws : List ℕ). AllByRecursion IsNumberWord (drop 2 ws)) (sym same) stands.legal.plain;

@@ -21,10 +21,10 @@ use Rattle.log_machine.specs.Machine.{words, undo_of}
 
 -- What is kept in memory of the transaction on a graph: its number, which handles hold an object, and the writes that may be
 -- taken back, of which the newest stands last.
-pub record Follows (g : Graph) (t : Transaction) (undo : List UndoEntry) (active : Active) : Type 0 where
+pub record Follows (g : Graph) (t : Transaction) (writes : List UndoEntry) (active : Active) : Type 0 where
   pub number : active.number ≡ t.number
   pub handles : active.handles ≡ map is_some (run g t).registers
-  pub undo : reverse active.undo.items ≡ undo
+  pub undo : reverse active.undo.items ≡ writes
 
 abbrev pub IsActive : Graph → List UndoEntry → Option Transaction → Option Active → Type 0
 IsActive g undo None None = Unit {0}
