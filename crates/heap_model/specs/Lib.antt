@@ -14,4 +14,7 @@ pub mod CoreLawsCrash
 pub mod CoreLawsReplies
 pub mod CoreLawsCalls
 pub mod Opening
+pub mod Ending
+pub mod CoreLawsEnding
+pub mod CoreLawsGrow
 pub mod CoreLawsOpening

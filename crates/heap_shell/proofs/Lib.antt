@@ -1,4 +1,3 @@
-mod Calls
 mod Causes
 mod Empty
 mod FieldRead
@@ -10,6 +9,7 @@ mod MeansOpen
 mod MeansRefusal
 mod MeansStep
 mod Opening
+mod PlayEnding
 mod PlayEnds
 mod PlayEvent
 mod PlayFuse

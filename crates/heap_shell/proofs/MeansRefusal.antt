@@ -147,7 +147,7 @@ module _ (w : Working) (c : Core) (valid : IsValid c) (works : Works w (account 
   pub drop_same : (h : ℕ) → core_refusal c (Drop 1 h) ≡ handle_refusal w.active h
   drop_same h = quiet_same (Drop 1 h) tt refl refl refl ∙ (handle_cases (a.active 1) w.active h works.active).1
 
-  len_cases : (o : Option Transaction) (p : Option Active) (h : ℕ) → IsMine o p → call_refusal c.g0 a o (Len 1 h) ≡ held_refusal p h
+  pub len_cases : (o : Option Transaction) (p : Option Active) (h : ℕ) → IsMine o p → call_refusal c.g0 a o (Len 1 h) ≡ held_refusal p h
   len_cases None None h is = refl
   len_cases (Some t) (Some x) h is =
       let regs = (view c.g0 a t).registers in
@@ -158,7 +158,7 @@ module _ (w : Working) (c : Core) (valid : IsValid c) (works : Works w (account 
   pub len_same : (h : ℕ) → core_refusal c (Len 1 h) ≡ held_refusal w.active h
   len_same h = quiet_same (Len 1 h) tt refl refl refl ∙ len_cases (a.active 1) w.active h works.active
 
-  same_cases : (o : Option Transaction) (p : Option Active) (h h2 : ℕ) → IsMine o p → call_refusal c.g0 a o (Same 1 h h2) ≡ same_refusal p h h2
+  pub same_cases : (o : Option Transaction) (p : Option Active) (h h2 : ℕ) → IsMine o p → call_refusal c.g0 a o (Same 1 h h2) ≡ same_refusal p h h2
   same_cases None None h h2 is = refl
   same_cases (Some t) (Some x) h h2 is =
       let regs = (view c.g0 a t).registers in
@@ -171,7 +171,7 @@ module _ (w : Working) (c : Core) (valid : IsValid c) (works : Works w (account 
   pub same_same : (h h2 : ℕ) → core_refusal c (Same 1 h h2) ≡ same_refusal w.active h h2
   same_same h h2 = quiet_same (Same 1 h h2) tt refl refl refl ∙ same_cases (a.active 1) w.active h h2 works.active
 
-  get_cases : (o : Option Transaction) (p : Option Active) (h i h2 : ℕ) → a.active 1 ≡ o → IsMine o p → call_refusal c.g0 a o (Get 1 h i h2) ≡ get_refusal p h i h2
+  pub get_cases : (o : Option Transaction) (p : Option Active) (h i h2 : ℕ) → a.active 1 ≡ o → IsMine o p → call_refusal c.g0 a o (Get 1 h i h2) ≡ get_refusal p h i h2
   get_cases None None h i h2 e is = refl
   get_cases (Some t) (Some x) h i h2 e is =
       let seen = view c.g0 a t in

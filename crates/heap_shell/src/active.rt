@@ -11,7 +11,7 @@ use std::alloc::{AllocError, Global};
 pub const HANDLES: usize = 64;
 
 /// The log's bytes that are kept for the end of a transaction: a record and a batch.
-const END_BYTES: u64 = 10;
+pub const END_BYTES: u64 = 10;
 
 /// The log's bytes that are kept for each write of a transaction, to put the old word back.
 pub const UNDO_BYTES: u64 = 19;

@@ -22,7 +22,7 @@ ghost use Rattle.heap_model.specs.Core.{Core, all_records, IsStep, fresh, calls}
 ghost use Rattle.heap_model.specs.CoreCrash.{KeepsCommits};
 ghost use Rattle.heap_model.specs.CoreValid.{IsReached};
 ghost use Rattle.log_machine.specs.Machine.{committed_words, commits};
-ghost use Rattle.heap_shell.specs.Recovered.{IsFromOutside};
+ghost use Rattle.heap_shell.specs.Recovered.{IsFromOutside, OpenedPasses};
 ghost use Rattle.heap_model.specs.ValueWord.{IsNumberWord};
 
 use crate::graph_text::root_text;
@@ -72,7 +72,7 @@ impl<D: Disk> Heap<D> {
         ensures moments { IsTrue D.tells → Only (D.bytes disk) (D.may_leave disk) → (g : Graph) (k : ℕ) → StandsFor g k (D.bytes disk) → LeavesOnly D.moment D.left_since disk (opened_disk result) (StandsFor g k) }
         ensures crash { IsTrue D.tells → Only (D.bytes disk) (D.may_leave disk) → (g : Graph) (k : ℕ) → StandsFor g k (D.bytes disk) → (image : List ℕ) → D.may_leave (opened_disk result) image → StandsFor g k image }
         // It writes only where it has to take a transaction's writes back.
-        ensures passes { IsTrue D.tells → (s : Super) (batches : List (List Record)) → IsLegal s batches (D.bytes disk) → Passes (opening_calls batches) (D.passed disk) (D.passed (opened_disk result)) (opened_device result) }
+        ensures passes { IsTrue D.tells → (s : Super) (batches : List (List Record)) → IsLegal s batches (D.bytes disk) → OpenedPasses (opening_calls batches) (D.passed disk) (D.passed (opened_disk result)) result }
         ensures no_first_stop { IsTrue D.tells → (s : Super) (batches : List (List Record)) → IsLegal s batches (D.bytes disk) → rollback_of batches ≡ [] → D.stops disk ≡ 0 → D.stops (opened_disk result) ≡ 0 }
         ensures restarts { IsTrue D.tells → D.restarts (opened_disk result) ≡ D.restarts disk }
 
@@ -89,7 +89,7 @@ impl<D: Disk> Heap<D> {
                 let Recovered {
                     log,
                     words,
-                    state,
+                    commits,
                     next,
                 } = found;
                 let working = Working {
@@ -103,7 +103,7 @@ impl<D: Disk> Heap<D> {
                     disk,
                     working,
                     history: History::new(alloc),
-                    before: state.commits(),
+                    before: commits,
                     failed: None,
                 })
             }

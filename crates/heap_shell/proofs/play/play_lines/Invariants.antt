@@ -8,7 +8,7 @@ use Rattle.heap_model.specs.Core.{Core}
 use Rattle.heap_shell.specs.HeapState.{heap_disk}
 use Rattle.heap_shell.specs.Means.{IsHeap}
 use Rattle.heap_shell.specs.Play.{AreReady, Plays}
-use Rattle.script_text.specs.Script.{events}
+use Rattle.script_text.specs.Line.{events}
 use Rattle.heap_shell.proofs.play.play_lines.Given as goal
 
 -- the counts so far, over lines that ended well, and what was played

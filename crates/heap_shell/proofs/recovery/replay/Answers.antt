@@ -1,5 +1,6 @@
+use Rattle.std.proofs.Common.{Err, ap, ◌∙◌}
 use Rattle.heap_shell.proofs.Replay.{bounds_on, state_on, words_on, none_on, good_at}
-use Rattle.heap_shell.proofs.recovery.replay_all.Goals as goal
+use Rattle.heap_shell.proofs.recovery.replay.Goals as goal
 
 pub loop-i-preserved : goal.loop-i-preserved
 loop-i-preserved c =
@@ -11,5 +12,5 @@ loop-i-preserved c =
       bounds = bounds_on c.loop-i.i _ _ _ (good_at rs c.loop-i.i _ c.loop-i-test.true c.requires.good) i.bounds c.in-Ok.ensures.ok;
     }
 
-pub returns-in-Err-clause-exact : goal.returns-in-Err-clause-exact
-returns-in-Err-clause-exact c = none_on c.args.records.now c.loop-i.i _ _ c.loop-i-test.true c.loop-i.invariant.state c.in-Err.ensures.err
+pub returns-in-Err-Unshaped-clause-exact : goal.returns-in-Err-Unshaped-clause-exact
+returns-in-Err-Unshaped-clause-exact c image = none_on c.args.records.now c.loop-i.i _ _ c.loop-i-test.true c.loop-i.invariant.state (c.after.ensures.unshaped.0 (c.in-Err-Unshaped.is ∙ ap (λ e. Err e) c.in-Err-Unshaped.field-0-is))
