@@ -31,6 +31,10 @@ example stop_during_commit.out first.script --stop 2
 example stop_in_doubt.out first.script --stop 3
 example stop_after_commit.out first.script --stop 4
 example stop_during_second.out two_commits.script --stop 6
+example abort.out abort.script
+example refusals.out refusals.script
+example force_inside.out force_inside.script
+example taken_back.out force_inside.script --stop 8
 
 examples/full_log.sh | ./heap play --fresh 1 >"$out"
 status=$?

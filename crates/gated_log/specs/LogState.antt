@@ -1,5 +1,5 @@
 -- A log in memory, as its callers see it, and what it stands for.
-use Rattle.std.specs.Prelude.{◌≡◌, ℕ, ◌<◌, Bool, List, ◌++◌, length, nat_lt, vec_len, vec_capacity}
+use Rattle.std.specs.Prelude.{◌≡◌, ℕ, ◌+◌, ◌<◌, Bool, List, ◌++◌, length, nat_lt, vec_len, vec_capacity}
 use Rattle.log_records.specs.declared.Record.{Record}
 use Rattle.log_records.specs.Record.{spellings}
 use Rattle.gated_log.specs.declared.Log.{Log}
@@ -41,6 +41,10 @@ IsReady log = hand_size log < vec_capacity log.hand
 -- the bytes that are used: the forced batches, a gate, and a batch of the records that wait
 abbrev pub log_used : Log → ℕ
 log_used log = used_bytes (log_tail log) (hand_size log)
+
+-- the bytes that are used where so many more wait
+abbrev pub log_used_with : Log → ℕ → ℕ
+log_used_with log more = used_bytes (log_tail log) (hand_size log + more)
 
 -- what a record of that many bytes takes, with a batch's gate and length where it is the first that waits
 abbrev pub log_need : Log → ℕ → ℕ

@@ -70,7 +70,7 @@ pub struct Log {
 }
 
 impl Log {
-    ghost use Rattle.gated_log.specs.LogState.{log_place, log_room, log_tail, log_hand, hand_size, is_waiting, IsHandEmpty, IsReady, log_used, log_need, Keeps, IsPlaced};
+    ghost use Rattle.gated_log.specs.LogState.{log_place, log_room, log_tail, log_hand, hand_size, is_waiting, IsHandEmpty, IsReady, log_used, log_used_with, log_need, Keeps, IsPlaced};
 
     /// Reads the log of `room` bytes from byte `at` of the disk on, and the records of its batches in order.
     pub fn open<D: Disk>(
@@ -177,6 +177,20 @@ impl Log {
         log_records::encode(rec, &mut self.hand)
     }
 
+    /// Adds the records behind those that wait, where the log has room for them: all of them, or after an `Err` none.
+    pub fn append_all(&mut self, records: &[Record]) -> Result<(), AllocError>
+        requires { log_used_with self.old (length (spellings records.now)) ≤ log_room self.old }
+
+        ensures added { (batches : List (List Record)) (pending : List Record) → Keeps self.old batches pending → OnOk result (Keeps self.new batches (pending ++ records.now)) }
+        ensures ok { OnOk result (log_hand self.new ≡ log_hand self.old ++ spellings records.now) }
+        ensures used { OnOk result (log_used self.new ≡ log_used_with self.old (length (spellings records.now))) }
+        ensures err { OnErr result (log_hand self.new ≡ log_hand self.old) }
+        ensures place { IsPlaced self.old self.new }
+    {
+        let bytes = spell(*self.hand.allocator(), records)?;
+        self.hand.extend_from_slice(&bytes)
+    }
+
     /// Writes all records that wait as one batch, in four device calls. Without any it makes none. After an error
     /// nothing waits any more, and the log is of no use before it is opened again.
     pub fn force<D: Disk>(&mut self, disk: &mut D) -> Result<(), DiskError>
@@ -218,6 +232,17 @@ impl Log {
         self.tail += size;
         Ok(())
     }
+}
+
+/// The spellings of the records, one after another.
+fn spell(alloc: Global, records: &[Record]) -> Result<Vec<u8>, AllocError>
+    ensures { IfOk result (λ bytes. bytes.items ≡ spellings records.now) }
+{
+    let mut bytes = Vec::new(alloc);
+    for rec in records {
+        log_records::encode(rec, &mut bytes)?;
+    }
+    Ok(bytes)
 }
 
 /// Makes a batch of the records: puts their length in front, and the next closed gate behind.

@@ -1,24 +1,23 @@
 -- What the slow heap keeps stays what its history says.
-use Rattle.std.proofs.Common.{◌≡◌, ℕ, ◌+◌, ◌-◌, false, is_some, ◌≤◌, ◌<◌, inl, inr, List, [], ◌∷◌, ◌++◌, length, map, take, get_or, Option, Some, None, refl, sym, ap, ◌∙◌, subst, arith, length-append}
-use Rattle.std.specs.Prelude.{MatchOption, option_to_list, slice_set}
+use Rattle.std.proofs.Common.{◌≡◌, ℕ, ◌+◌, ◌-◌, false, is_some, ◌≤◌, ◌<◌, inl, inr, List, [], ◌∷◌, ◌++◌, length, map, take, get_or, Option, Some, None, Ok, Err, refl, sym, ap, ◌∙◌, subst, arith, length-append}
+use Rattle.std.specs.Prelude.{option_to_list}
 use Rattle.std.proofs.lemmas.Bool.{cases_lt}
 use Rattle.std.proofs.Math.Seq.{take-length, get_or-append_seam}
 use Rattle.std.proofs.lemmas.List.{get_or_read, take-append-le, get_or_append_left}
 use Rattle.graph_model.specs.declared.event.Event.{Event}
-use Rattle.graph_model.specs.declared.event.Event.TheVariants.{Begin, Root, Put, Seal, Force}
+use Rattle.graph_model.specs.declared.event.Event.TheVariants.{Begin, Seal, Abort, Force}
 use Rattle.graph_model.specs.declared.reply.Entry.{Entry}
 use Rattle.graph_model.specs.declared.reply.Refusal.{Refusal}
-use Rattle.graph_model.specs.declared.reply.Reply.TheVariants.{Begun, Done, Sealed, Durable, Refused}
+use Rattle.graph_model.specs.declared.reply.Reply.TheVariants.{Begun, Sealed, Aborted, Durable, Refused}
+use Rattle.graph_model.specs.declared.open_transaction.Called.{Called}
 use Rattle.graph_model.specs.declared.open_transaction.OpenTransaction.{OpenTransaction}
-use Rattle.graph_model.specs.Graph.{Graph, root, new_graph, root_graph}
-use Rattle.graph_model.specs.Transaction.{Registers, Transaction, View, no_registers, held, put_number, call, run, serial}
-use Rattle.graph_model.specs.History.{Account, account, account_after, with_call}
-use Rattle.graph_model.specs.HistoryLaws.{account-append, run-append, serial-append}
-use Rattle.graph_model.specs.RootGraph.{with_field-root_graph}
-use Rattle.graph_model.specs.declared.val.Val.TheVariants.{Int}
-use Rattle.graph_model.specs.Plain.{view}
-use Rattle.graph_model.specs.PlainLaws.{IsNoFault, account_after-refused}
-use Rattle.graph_model.specs.SlowHeap.{IsCall, val_of, registers_of, seen_by, IsActiveAs, IsSeenAfter, IsKept}
+use Rattle.graph_model.specs.Graph.{Graph, new_graph, root_graph}
+use Rattle.graph_model.specs.Transaction.{Registers, Transaction, View, Outcome, IsCall, no_registers, call, run, serial}
+use Rattle.graph_model.specs.History.{Account, account, account_after, with_call, session_of, makes_call}
+use Rattle.graph_model.specs.HistoryLaws.{IsCallReply, call-IsCallReply, account-append, account_after-call, run-append, serial-append}
+use Rattle.graph_model.specs.Plain.{view, view_refusal, call_refusal, call_reply, reply_of, plain_reply}
+use Rattle.graph_model.specs.PlainLaws.{IsNoFault, plain_reply-call, account_after-refused}
+use Rattle.graph_model.specs.SlowHeap.{IsSingleSession, IsCalled, val_of, registers_of, seen_by, IsActiveAs, IsKept}
 
 -- one entry more
 pub kept_entry : (h new : List Entry) (e : Entry) (next : ℕ) (active : Option OpenTransaction) (states : List (List (Option ℕ)))
@@ -98,53 +97,6 @@ kept_begun_read a next n last active states fs o k none named len read fields rs
     let P : ℕ → Type 0 = λ m. IsKept (account_after a (record { event = Begin 1; reply = Begun m })) (next + 1) (Some o) states in
     subst P (sym named) (kept_begun a next states o (kept_none a next active states none k) (fields ∙ same) rs)
 
-call_seen : (a b : Account) (T : Option Transaction) (event : Event) (after : OpenTransaction)
-    → b.sealed ≡ a.sealed → MatchOption T ⊥ (λ t. (call (view new_graph a t) t.number event).view ≡ seen_by after)
-    → IsActiveAs b (with_call T event) (Some after)
-call_seen a b None event after e h = absurd h
-call_seen a b (Some t) event after e h =
-    ap (λ ts. run (serial new_graph ts) (record { number = t.number; calls = t.calls ++ event ∷ [] })) e
-    ∙ run-append (serial new_graph a.sealed) t event
-    ∙ h
-
--- handle h of session 1 is to hold the root
-kept_root : (a : Account) (next h : ℕ) (states : List (List (Option ℕ))) (active : Option OpenTransaction) (after : OpenTransaction)
-    → IsSeenAfter a (Root 1 h) after → IsKept a next active states
-    → IsKept (account_after a (record { event = Root 1 h; reply = Done })) next (Some after) states
-kept_root a next h states active after s k = record {
-  unfailed = k.unfailed;
-  numbered = k.numbered;
-  seen = call_seen a (account_after a (record { event = Root 1 h; reply = Done })) (a.active 1) (Root 1 h) after refl s;
-  count = k.count;
-  graphs = k.graphs;
-}
-
--- a field is to be a number
-kept_put : (a : Account) (next h i v : ℕ) (states : List (List (Option ℕ))) (active : Option OpenTransaction) (after : OpenTransaction)
-    → IsSeenAfter a (Put 1 h i v) after → IsKept a next active states
-    → IsKept (account_after a (record { event = Put 1 h i v; reply = Done })) next (Some after) states
-kept_put a next h i v states active after s k = record {
-  unfailed = k.unfailed;
-  numbered = k.numbered;
-  seen = call_seen a (account_after a (record { event = Put 1 h i v; reply = Done })) (a.active 1) (Put 1 h i v) after refl s;
-  count = k.count;
-  graphs = k.graphs;
-}
-
--- a call
-pub kept_called : (a : Account) (next : ℕ) (states : List (List (Option ℕ))) (active : Option OpenTransaction) (after : OpenTransaction) (event : Event)
-    → IsCall event → IsSeenAfter a event after → IsKept a next active states
-    → IsKept (account_after a (record { event = event; reply = Done })) next (Some after) states
-kept_called a next states active after (Root s h) one seen k =
-    let P : ℕ → Type 0 = λ r. IsSeenAfter a (Root r h) after → IsKept (account_after a (record { event = Root r h; reply = Done })) next (Some after) states in
-    subst P (sym one) (λ q. kept_root a next h states active after q k) seen
-kept_called a next states active after (Put s h i v) one seen k =
-    let P : ℕ → Type 0 = λ r. IsSeenAfter a (Put r h i v) after → IsKept (account_after a (record { event = Put r h i v; reply = Done })) next (Some after) states in
-    subst P (sym one) (λ q. kept_put a next h i v states active after q k) seen
-kept_called a next states active after (Begin s) never seen k = absurd never
-kept_called a next states active after (Seal s) never seen k = absurd never
-kept_called a next states active after Force never seen k = absurd never
-
 -- the transaction that is kept
 pub active_some : (a : Account) (T : Option Transaction) (o : OpenTransaction) → IsActiveAs a T (Some o)
     → (t : Transaction) × ((T ≡ Some t) × (view new_graph a t ≡ seen_by o))
@@ -155,6 +107,75 @@ active_some a (Some t) o h = (t, (refl, h))
 pub active_none : (a : Account) (T : Option Transaction) → IsActiveAs a T None → T ≡ None
 active_none a None h = refl
 active_none a (Some t) h = absurd h
+
+-- what the kept transaction sees after a call
+seen_after : (g : Graph) (t : Transaction) (before after : OpenTransaction) (event : Event)
+    → run g t ≡ seen_by before → (call (seen_by before) t.number event).view ≡ seen_by after
+    → run g (record { number = t.number; calls = t.calls ++ event ∷ [] }) ≡ seen_by after
+seen_after g t before after event sees leaves = run-append g t event ∙ ap (λ v. (call v t.number event).view) sees ∙ leaves
+
+called_seen : (a b : Account) (T : Option Transaction) (before after : OpenTransaction) (event : Event)
+    → b.sealed ≡ a.sealed → IsActiveAs a T (Some before) → ((t : ℕ) → (call (seen_by before) t event).view ≡ seen_by after)
+    → IsActiveAs b (with_call T event) (Some after)
+called_seen a b None before after event same sees leaves = absurd sees
+called_seen a b (Some t) before after event same sees leaves =
+    ap (λ ts. run (serial new_graph ts) (record { number = t.number; calls = t.calls ++ event ∷ [] })) same
+    ∙ seen_after (serial new_graph a.sealed) t before after event sees (leaves t.number)
+
+-- a call is of session 1
+call_session : (event : Event) → IsCall event → IsSingleSession event → session_of event ≡ 1
+call_session Force never one = absurd never
+call_session event is one = one
+
+reply_to_call : (a : Account) (T : Option Transaction) (before : OpenTransaction) (event : Event) → IsActiveAs a T (Some before)
+    → (t : ℕ) × (reply_of (call_refusal new_graph a T event) (call_reply new_graph a T event) ≡ reply_of (view_refusal (seen_by before) event) (call (seen_by before) t event).reply)
+reply_to_call a None before event sees = absurd sees
+reply_to_call a (Some t) before event sees = (t.number, ap (λ v. reply_of (view_refusal v event) (call v t.number event).reply) sees)
+
+plain_call : (a : Account) (next : ℕ) (states : List (List (Option ℕ))) (before : OpenTransaction) (event : Event)
+    → IsKept a next (Some before) states → IsCall event → IsSingleSession event
+    → (t : ℕ) × (plain_reply 1 new_graph a event ≡ reply_of (view_refusal (seen_by before) event) (call (seen_by before) t event).reply)
+plain_call a next states before event k is one =
+    let told = reply_to_call a (a.active 1) before event k.seen in (
+      told.0,
+      plain_reply-call 1 new_graph a event k.unfailed is
+          ∙ ap (λ s. reply_of (call_refusal new_graph a (a.active s) event) (call_reply new_graph a (a.active s) event)) (call_session event is one)
+          ∙ told.1,
+    )
+
+-- what a call is answered that is refused
+pub plain_refused : (a : Account) (next : ℕ) (states : List (List (Option ℕ))) (before : OpenTransaction) (event : Event) (why : Refusal)
+    → IsKept a next (Some before) states → IsCall event → IsSingleSession event → IsCalled before event (Err why)
+    → plain_reply 1 new_graph a event ≡ Refused why
+plain_refused a next states before event why k is one refused =
+    let told = plain_call a next states before event k is one in
+    told.1 ∙ ap (λ o. reply_of o (call (seen_by before) told.0 event).reply) refused
+
+-- what a call is answered that is not refused
+pub plain_called : (a : Account) (next : ℕ) (states : List (List (Option ℕ))) (before : OpenTransaction) (event : Event) (called : Called)
+    → IsKept a next (Some before) states → IsCall event → IsSingleSession event → IsCalled before event (Ok called)
+    → called.reply ≡ plain_reply 1 new_graph a event
+plain_called a next states before event called k is one granted =
+    let told = plain_call a next states before event k is one in
+    sym (told.1
+    ∙ ap (λ o. reply_of o (call (seen_by before) told.0 event).reply) granted.0
+    ∙ ap (λ (o : Outcome). o.reply) (granted.1 told.0))
+
+-- a call that was not refused
+pub kept_called : (a : Account) (next : ℕ) (states : List (List (Option ℕ))) (before : OpenTransaction) (event : Event) (called : Called)
+    → IsKept a next (Some before) states → IsCall event → IsSingleSession event → IsCalled before event (Ok called)
+    → IsKept (account_after a (record { event = event; reply = called.reply })) next (Some called.after) states
+kept_called a next states before event called k is one granted =
+    let told = subst IsCallReply (ap (λ (o : Outcome). o.reply) (granted.1 0)) (call-IsCallReply (seen_by before) 0 event) in
+    let P : Account → Type 0 = λ b. IsKept b next (Some called.after) states in
+    let Q : ℕ → Type 0 = λ s. P (record (makes_call a s event) { entries = a.entries + 1 }) in
+    subst P (sym (account_after-call a event called.reply told)) (subst Q (sym (call_session event is one)) (record {
+      unfailed = k.unfailed;
+      numbered = k.numbered;
+      seen = called_seen a (record (makes_call a 1 event) { entries = a.entries + 1 }) (a.active 1) before called.after event refl k.seen (λ t. ap (λ (o : Outcome). o.view) (granted.1 t));
+      count = k.count;
+      graphs = k.graphs;
+    }))
 
 -- the graphs with one more transaction
 more_graphs : (ts : List Transaction) (t : Transaction) (states : List (List (Option ℕ))) (fs : List (Option ℕ))
@@ -195,15 +216,13 @@ kept_sealed a next n states o k =
       graphs = subst P (sym ts) (more_graphs a.sealed s.0 states o.fields k.count k.graphs (ap (λ (v : View). v.graph) s.1.1));
     }
 
--- what the transaction sees after a number was put
-pub put_seen : (a : Account) (next h i v : ℕ) (states : List (List (Option ℕ))) (o after : OpenTransaction)
-    → IsKept a next (Some o) states → held (registers_of o) h ≡ Some root
-    → map val_of after.fields ≡ slice_set (map val_of o.fields) i (Int v) → registers_of after ≡ registers_of o
-    → IsSeenAfter a (Put 1 h i v) after
-put_seen a next h i v states o after k holds fs rs =
-    let s = active_some a (a.active 1) o k.seen in
-    let graph : put_number (root_graph (map val_of o.fields)) (held (registers_of o) h) i v ≡ root_graph (map val_of after.fields) =
-    ap (λ id. put_number (root_graph (map val_of o.fields)) id i v) holds
-    ∙ with_field-root_graph (map val_of o.fields) i (Int v)
-    ∙ ap root_graph (sym fs) in
-    rw (s.1.0, s.1.1) (ap (λ g. seen_with g (registers_of o)) graph ∙ ap (seen_with (root_graph (map val_of after.fields))) (sym rs))
+-- a transaction that is forgotten
+pub kept_aborted : (a : Account) (next : ℕ) (active : Option OpenTransaction) (states : List (List (Option ℕ)))
+    → IsKept a next active states → IsKept (account_after a (record { event = Abort 1; reply = Aborted })) next None states
+kept_aborted a next active states k = record {
+  unfailed = k.unfailed;
+  numbered = k.numbered;
+  seen = tt;
+  count = k.count;
+  graphs = k.graphs;
+}

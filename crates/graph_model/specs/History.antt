@@ -2,12 +2,26 @@
 use Rattle.std.specs.Prelude.{ℕ, ◌+◌, ◌==◌, List, [], ◌∷◌, ◌++◌, Option, None, Some, fold, max, if◌then◌else◌}
 use Rattle.std.specs.Option.{option_to_list}
 use Rattle.graph_model.specs.declared.event.Event.{Event}
-use Rattle.graph_model.specs.declared.event.Event.TheVariants.{Begin, Root, Put, Seal, Force}
+use Rattle.graph_model.specs.declared.event.Event.TheVariants.{Begin, Root, Put, Clear, Drop, Get, Same, Len, Seal, Abort, Force}
 use Rattle.graph_model.specs.declared.reply.Refusal.TheVariants.{DiskFault, Stopped}
 use Rattle.graph_model.specs.declared.reply.Reply.{Reply}
-use Rattle.graph_model.specs.declared.reply.Reply.TheVariants.{Begun, Done, Sealed, Durable, Refused}
+use Rattle.graph_model.specs.declared.reply.Reply.TheVariants.{Begun, Sealed, Aborted, Durable, Refused}
 use Rattle.graph_model.specs.declared.reply.Entry.{Entry}
 use Rattle.graph_model.specs.Transaction.{Transaction}
+
+-- the session of an event, and 0 for `force`, which is of none
+abbrev pub session_of : Event → ℕ
+session_of (Begin s) = s
+session_of (Root s h) = s
+session_of (Put s h i v) = s
+session_of (Clear s h i) = s
+session_of (Drop s h) = s
+session_of (Get s h i h2) = s
+session_of (Same s h h2) = s
+session_of (Len s h) = s
+session_of (Seal s) = s
+session_of (Abort s) = s
+session_of Force = 0
 
 -- What a history says so far.
 pub record Account : Type 0 where
@@ -32,14 +46,30 @@ abbrev pub with_call : Option Transaction → Event → Option Transaction
 with_call None event = None
 with_call (Some t) event = Some (record { number = t.number; calls = t.calls ++ event ∷ [] })
 
--- what an entry that was done adds
+-- session s begins transaction n
+abbrev pub begins : Account → ℕ → ℕ → Account
+begins a s n = record a { begun = a.begun + 1; active = with_active a.active s (Some (record { number = n; calls = [] })) }
+
+-- the transaction of session s makes a call
+abbrev pub makes_call : Account → ℕ → Event → Account
+makes_call a s event = record a { active = with_active a.active s (with_call (a.active s) event) }
+
+-- the transaction of session s ends, and is sealed
+abbrev pub seals : Account → ℕ → Account
+seals a s = record a { active = with_active a.active s None; sealed = a.sealed ++ option_to_list (a.active s) }
+
+-- the transaction of session s ends, and leaves nothing
+abbrev pub aborts : Account → ℕ → Account
+aborts a s = record a { active = with_active a.active s None }
+
+-- what an entry adds, by its reply: a reply that isn't named here is one to a call that was not refused
 abbrev pub done : Account → Event → Reply → Account
-done a (Begin s) (Begun n) = record a { begun = a.begun + 1; active = with_active a.active s (Some (record { number = n; calls = [] })) }
-done a (Root s h) Done = record a { active = with_active a.active s (with_call (a.active s) (Root s h)) }
-done a (Put s h i v) Done = record a { active = with_active a.active s (with_call (a.active s) (Put s h i v)) }
-done a (Seal s) (Sealed n) = record a { active = with_active a.active s None; sealed = a.sealed ++ option_to_list (a.active s) }
-done a Force (Durable n) = record a { acknowledged = max a.acknowledged n }
-done a event reply = a
+done a event (Begun n) = begins a (session_of event) n
+done a event (Sealed n) = seals a (session_of event)
+done a event Aborted = aborts a (session_of event)
+done a event (Durable n) = record a { acknowledged = max a.acknowledged n }
+done a event (Refused why) = a
+done a event reply = makes_call a (session_of event) event
 
 -- the first entry at which the disk stopped or failed
 abbrev pub first_failure : Option ℕ → ℕ → Option ℕ

@@ -1,17 +1,20 @@
 -- Laws of histories and of what transactions do: one entry, one call and one transaction more.
-use Rattle.std.proofs.Common.{◌≡◌, ◌≢◌, ℕ, ◌+◌, ◌<◌, ◌≤◌, zero, suc, List, [], ◌∷◌, ◌++◌, map, length, replicate, take, Option, Some, None, refl, ap, ◌∙◌, arith}
-use Rattle.std.specs.Prelude.{slice_get, slice_set, fold, option_and_then}
+use Rattle.std.proofs.Common.{◌≡◌, ◌≢◌, ℕ, ◌+◌, ◌<◌, ◌≤◌, zero, suc, Bool, true, false, List, [], ◌∷◌, ◌++◌, length, replicate, take, Option, Some, None, refl, ap, ◌∙◌, arith}
+use Rattle.std.specs.Prelude.{slice_get, slice_index_or, slice_set, fold, option_and_then, if◌then◌else◌}
 use Rattle.std.proofs.lemmas.List.{length-set, length-replicate, take-append-le}
 use Rattle.std.proofs.lemmas.Option.{slice_get_past}
 use Rattle.std.proofs.lemmas.List.Sums.{fold-append}
 use Rattle.graph_model.specs.declared.id.Id.{Id}
 use Rattle.graph_model.specs.declared.event.Event.{Event}
-use Rattle.graph_model.specs.declared.event.Event.TheVariants.{Begin, Root, Put, Seal, Force}
+use Rattle.graph_model.specs.declared.event.Event.TheVariants.{Begin, Root, Put, Clear, Drop, Get, Same, Len, Seal, Abort, Force}
 use Rattle.graph_model.specs.declared.reply.Entry.{Entry}
-use Rattle.graph_model.specs.declared.reply.Reply.TheVariants.{Done}
-use Rattle.graph_model.specs.Graph.{Graph}
-use Rattle.graph_model.specs.Transaction.{Registers, no_registers, View, Transaction, held, call, after_calls, call_replies, fresh_view, run, serial, serial_replies}
-use Rattle.graph_model.specs.History.{Account, account_after, account, nothing_yet}
+use Rattle.graph_model.specs.declared.reply.Reply.{Reply}
+use Rattle.graph_model.specs.declared.reply.Reply.TheVariants.{Begun, Done, Yes, No, Sealed, Aborted, Durable, Refused}
+use Rattle.graph_model.specs.declared.val.Val.{Val}
+use Rattle.graph_model.specs.declared.val.Val.TheVariants.{Null, Int, Ref}
+use Rattle.graph_model.specs.Graph.{Graph, is_same_id}
+use Rattle.graph_model.specs.Transaction.{Registers, no_registers, View, Transaction, held, fields_of, with_referred, value_reply, same_reply, call, after_calls, call_replies, fresh_view, run, serial}
+use Rattle.graph_model.specs.History.{Account, account_after, account, nothing_yet, session_of, makes_call}
 
 -- what a history says with one entry more
 pub account-append : (h : List Entry) (e : Entry) → account (h ++ e ∷ []) ≡ account_after (account h) e
@@ -83,12 +86,23 @@ held-replicate (suc n) (suc h) = held-replicate n h
 pub held-no_registers : (h : ℕ) → held no_registers h ≡ None
 held-no_registers h = held-replicate 64 h
 
+length-with_referred : (rs : Registers) (h : ℕ) (v : Val) → length (with_referred rs h v) ≡ length rs
+length-with_referred rs h Null = refl
+length-with_referred rs h (Int n) = refl
+length-with_referred rs h (Ref id) = length-set _ _ _
+
 -- a call neither adds nor removes handles
 pub length-registers-call : (v : View) (t : ℕ) (c : Event) → length (call v t c).view.registers ≡ length v.registers
 length-registers-call v t (Begin s) = refl
 length-registers-call v t (Root s h) = length-set _ _ _
 length-registers-call v t (Put s h i n) = refl
+length-registers-call v t (Clear s h i) = refl
+length-registers-call v t (Drop s h) = length-set _ _ _
+length-registers-call v t (Get s h i h2) = length-with_referred v.registers h2 _
+length-registers-call v t (Same s h h2) = refl
+length-registers-call v t (Len s h) = refl
 length-registers-call v t (Seal s) = refl
+length-registers-call v t (Abort s) = refl
 length-registers-call v t Force = refl
 
 -- nor do calls
@@ -100,20 +114,63 @@ length-registers-after_calls v t (c ∷ cs) = length-registers-after_calls (call
 pub length-registers-run : (g : Graph) (t : Transaction) → length (run g t).registers ≡ 64
 length-registers-run g t = length-registers-after_calls (fresh_view g) t.number t.calls ∙ length-replicate {A = Option Id} 64 None
 
--- a call that isn't refused is answered `done`
-pub call-reply : (v : View) (t : ℕ) (c : Event) → (call v t c).reply ≡ Done
-call-reply v t (Begin s) = refl
-call-reply v t (Root s h) = refl
-call-reply v t (Put s h i n) = refl
-call-reply v t (Seal s) = refl
-call-reply v t Force = refl
+-- a reply to a call that was not refused
+abbrev pub IsCallReply : Reply → Type 0
+IsCallReply (Begun n) = ⊥
+IsCallReply (Sealed n) = ⊥
+IsCallReply Aborted = ⊥
+IsCallReply (Durable n) = ⊥
+IsCallReply (Refused why) = ⊥
+IsCallReply reply = Unit {0}
 
--- so are all calls of a transaction
-pub call_replies-done : (v : View) (t : ℕ) (cs : List Event) → call_replies v t cs ≡ replicate (length cs) Done
-call_replies-done v t [] = refl
-call_replies-done v t (c ∷ cs) = ap (λ r. r ∷ call_replies (call v t c).view t cs) (call-reply v t c) ∙ ap (λ rs. Done ∷ rs) (call_replies-done (call v t c).view t cs)
+value_reply-IsCallReply : (v : Val) → IsCallReply (value_reply v)
+value_reply-IsCallReply Null = tt
+value_reply-IsCallReply (Int n) = tt
+value_reply-IsCallReply (Ref id) = tt
 
--- and those of all transactions, one after another
-pub serial_replies-done : (g : Graph) (ts : List Transaction) → serial_replies g ts ≡ map (λ t. replicate (length t.calls) Done) ts
-serial_replies-done g [] = refl
-serial_replies-done g (t ∷ ts) = ap (λ r. r ∷ serial_replies (run g t).graph ts) (call_replies-done (fresh_view g) t.number t.calls) ∙ ap (λ rs. replicate (length t.calls) Done ∷ rs) (serial_replies-done (run g t).graph ts)
+yes_or_no : (b : Bool) → IsCallReply (if b then Yes else No)
+yes_or_no true = tt
+yes_or_no false = tt
+
+same_reply-IsCallReply : (o p : Option Id) → IsCallReply (same_reply o p)
+same_reply-IsCallReply None p = tt
+same_reply-IsCallReply (Some id) None = tt
+same_reply-IsCallReply (Some id) (Some other) = yes_or_no (is_same_id id other)
+
+-- what a call is answered is such a reply
+pub call-IsCallReply : (v : View) (t : ℕ) (c : Event) → IsCallReply (call v t c).reply
+call-IsCallReply v t (Begin s) = tt
+call-IsCallReply v t (Root s h) = tt
+call-IsCallReply v t (Put s h i n) = tt
+call-IsCallReply v t (Clear s h i) = tt
+call-IsCallReply v t (Drop s h) = tt
+call-IsCallReply v t (Get s h i h2) = value_reply-IsCallReply (slice_index_or (fields_of v.graph (held v.registers h)) i Null)
+call-IsCallReply v t (Same s h h2) = same_reply-IsCallReply (held v.registers h) (held v.registers h2)
+call-IsCallReply v t (Len s h) = tt
+call-IsCallReply v t (Seal s) = tt
+call-IsCallReply v t (Abort s) = tt
+call-IsCallReply v t Force = tt
+
+-- an order is an event that asks nothing
+abbrev pub IsOrder : Event → Type 0
+IsOrder (Get s h i h2) = ⊥
+IsOrder (Same s h h2) = ⊥
+IsOrder (Len s h) = ⊥
+IsOrder event = Unit {0}
+
+-- an order that isn't refused is answered `done`
+pub call-reply : (v : View) (t : ℕ) (c : Event) → IsOrder c → (call v t c).reply ≡ Done
+call-reply v t (Get s h i h2) order = absurd order
+call-reply v t (Same s h h2) order = absurd order
+call-reply v t (Len s h) order = absurd order
+call-reply v t c order = refl
+
+-- what a history says with one call more that was not refused
+pub account_after-call : (a : Account) (event : Event) (reply : Reply) → IsCallReply reply
+    → account_after a (record { event = event; reply = reply }) ≡ record (makes_call a (session_of event) event) { entries = a.entries + 1 }
+account_after-call a event (Begun n) never = absurd never
+account_after-call a event (Sealed n) never = absurd never
+account_after-call a event Aborted never = absurd never
+account_after-call a event (Durable n) never = absurd never
+account_after-call a event (Refused why) never = absurd never
+account_after-call a event reply is = refl

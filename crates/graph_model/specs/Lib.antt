@@ -1,3 +1,4 @@
+pub mod CallLaws
 pub mod Canon
 pub mod CanonLaws
 pub mod Graph

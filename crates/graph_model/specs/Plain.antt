@@ -2,14 +2,14 @@
 use Rattle.std.specs.Prelude.{ℕ, ◌+◌, ◌==◌, nat_lt, nat_le, length, Option, None, Some, is_some, if◌then◌else◌}
 use Rattle.graph_model.specs.declared.id.Id.{Id}
 use Rattle.graph_model.specs.declared.event.Event.{Event}
-use Rattle.graph_model.specs.declared.event.Event.TheVariants.{Begin, Root, Put, Seal, Force}
+use Rattle.graph_model.specs.declared.event.Event.TheVariants.{Begin, Root, Put, Clear, Drop, Get, Same, Len, Seal, Abort, Force}
 use Rattle.graph_model.specs.declared.reply.Refusal.{Refusal}
 use Rattle.graph_model.specs.declared.reply.Refusal.TheVariants.{Failed, AlreadyActive, NotActive, NumbersSpent, BadHandle, Range, BadField}
 use Rattle.graph_model.specs.declared.reply.Reply.{Reply}
-use Rattle.graph_model.specs.declared.reply.Reply.TheVariants.{Begun, Done, Sealed, Durable, Refused}
+use Rattle.graph_model.specs.declared.reply.Reply.TheVariants.{Begun, Done, Sealed, Aborted, Durable, Refused}
 use Rattle.graph_model.specs.Graph.{Graph, fields}
 use Rattle.graph_model.specs.Transaction.{View, Transaction, held, call, run, serial}
-use Rattle.graph_model.specs.History.{Account}
+use Rattle.graph_model.specs.History.{Account, session_of}
 
 -- the first number that no transaction has
 abbrev pub no_number : ℕ
@@ -23,28 +23,51 @@ no_int = 4611686018427387904
 abbrev pub view : Graph → Account → Transaction → View
 view g0 a t = run (serial g0 a.sealed) t
 
+-- why a handle can't be named
+abbrev pub handle_refusal : ℕ → Option Refusal
+handle_refusal h = if nat_lt 63 h then Some BadHandle else None
+
+-- why what a handle holds can't be asked for its length
+abbrev pub len_refusal : Option Id → Option Refusal
+len_refusal None = Some BadHandle
+len_refusal (Some id) = None
+
+-- why what two handles hold can't be compared
+abbrev pub same_refusal : Option Id → Option Id → Option Refusal
+same_refusal (Some id) (Some other) = None
+same_refusal o p = Some BadHandle
+
+-- why a field of the object that a handle holds can't be read or be null
+abbrev pub field_refusal : Graph → Option Id → ℕ → Option Refusal
+field_refusal g None i = Some BadHandle
+field_refusal g (Some id) i = if nat_le (length (fields g id)) i then Some BadField else None
+
 -- why a field of the object that a handle holds can't be that number
 abbrev pub put_refusal : Graph → Option Id → ℕ → ℕ → Option Refusal
 put_refusal g None i v = Some BadHandle
-put_refusal g (Some id) i v =
-    if nat_le no_int v then Some Range
-    else if nat_le (length (fields g id)) i then Some BadField
-    else None
+put_refusal g (Some id) i v = if nat_le no_int v then Some Range else field_refusal g (Some id) i
 
--- why a call of a session is refused, by its transaction
+-- why a call is refused where its transaction sees this; a handle above 63 holds nothing
+abbrev pub view_refusal : View → Event → Option Refusal
+view_refusal view (Root s h) = handle_refusal h
+view_refusal view (Put s h i v) = put_refusal view.graph (held view.registers h) i v
+view_refusal view (Clear s h i) = field_refusal view.graph (held view.registers h) i
+view_refusal view (Drop s h) = handle_refusal h
+view_refusal view (Get s h i h2) = if nat_lt 63 h2 then Some BadHandle else field_refusal view.graph (held view.registers h) i
+view_refusal view (Same s h h2) = same_refusal (held view.registers h) (held view.registers h2)
+view_refusal view (Len s h) = len_refusal (held view.registers h)
+view_refusal view event = None
+
+-- why a call of a session is refused, or the end of its transaction
 abbrev pub call_refusal : Graph → Account → Option Transaction → Event → Option Refusal
 call_refusal g0 a None event = Some NotActive
-call_refusal g0 a (Some t) (Root s h) = if nat_lt 63 h then Some BadHandle else None
-call_refusal g0 a (Some t) (Put s h i v) = put_refusal (view g0 a t).graph (held (view g0 a t).registers h) i v
-call_refusal g0 a (Some t) event = None
+call_refusal g0 a (Some t) event = view_refusal (view g0 a t) event
 
 -- why an event is refused, of a heap that has not failed and whose next transaction has this number
 abbrev pub event_refusal : ℕ → Graph → Account → Event → Option Refusal
 event_refusal next g0 a (Begin s) = if is_some (a.active s) then Some AlreadyActive else if next == no_number then Some NumbersSpent else None
-event_refusal next g0 a (Root s h) = call_refusal g0 a (a.active s) (Root s h)
-event_refusal next g0 a (Put s h i v) = call_refusal g0 a (a.active s) (Put s h i v)
-event_refusal next g0 a (Seal s) = call_refusal g0 a (a.active s) (Seal s)
 event_refusal next g0 a Force = None
+event_refusal next g0 a event = call_refusal g0 a (a.active (session_of event)) event
 
 -- a heap that has failed refuses everything
 abbrev pub refusal_of : Option ℕ → Option Refusal → Option Refusal
@@ -63,10 +86,10 @@ call_reply g0 a (Some t) event = (call (view g0 a t) t.number event).reply
 -- what an event that isn't refused is answered
 abbrev pub granted : ℕ → Graph → Account → Event → Reply
 granted next g0 a (Begin s) = Begun next
-granted next g0 a (Root s h) = call_reply g0 a (a.active s) (Root s h)
-granted next g0 a (Put s h i v) = call_reply g0 a (a.active s) (Put s h i v)
 granted next g0 a (Seal s) = Sealed (length a.sealed + 1)
+granted next g0 a (Abort s) = Aborted
 granted next g0 a Force = Durable (length a.sealed)
+granted next g0 a event = call_reply g0 a (a.active (session_of event)) event
 
 abbrev pub reply_of : Option Refusal → Reply → Reply
 reply_of None reply = reply

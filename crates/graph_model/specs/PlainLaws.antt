@@ -1,18 +1,18 @@
 -- Laws of what a plain heap answers.
-use Rattle.std.proofs.Common.{◌≡◌, ℕ, ◌+◌, Bool, true, false, Option, None, Some, refl, sym, ap, subst}
+use Rattle.std.proofs.Common.{◌≡◌, ℕ, ◌+◌, Bool, true, false, Option, None, Some, refl, ap, ◌∙◌}
 use Rattle.std.specs.Prelude.{◌==◌, nat_lt, nat_le, length, is_some, if◌then◌else◌}
 use Rattle.graph_model.specs.declared.id.Id.{Id}
 use Rattle.graph_model.specs.declared.event.Event.{Event}
-use Rattle.graph_model.specs.declared.event.Event.TheVariants.{Begin, Root, Put, Seal, Force}
+use Rattle.graph_model.specs.declared.event.Event.TheVariants.{Begin, Root, Put, Clear, Drop, Get, Same, Len, Seal, Abort, Force}
 use Rattle.graph_model.specs.declared.reply.Refusal.{Refusal}
-use Rattle.graph_model.specs.declared.reply.Refusal.TheVariants.{Failed, AlreadyActive, NotActive, NumbersSpent, BadHandle, Range, BadField, LogFull, DiskFault, Stopped}
+use Rattle.graph_model.specs.declared.reply.Refusal.TheVariants.{AlreadyActive, NumbersSpent, BadHandle, Range, BadField, DiskFault, Stopped}
 use Rattle.graph_model.specs.declared.reply.Reply.{Reply}
 use Rattle.graph_model.specs.declared.reply.Reply.TheVariants.{Done, Refused}
 use Rattle.graph_model.specs.Graph.{Graph, fields}
-use Rattle.graph_model.specs.Transaction.{Transaction, held}
-use Rattle.graph_model.specs.History.{Account, done, answered, account_after}
-use Rattle.graph_model.specs.Plain.{no_number, no_int, put_refusal, call_refusal, event_refusal, refusal_of, call_reply, granted, reply_of, plain_reply, view}
-use Rattle.graph_model.specs.HistoryLaws.{call-reply}
+use Rattle.graph_model.specs.Transaction.{View, Transaction, IsCall, held}
+use Rattle.graph_model.specs.History.{Account, session_of, answered, account_after}
+use Rattle.graph_model.specs.Plain.{no_number, no_int, handle_refusal, len_refusal, field_refusal, put_refusal, same_refusal, view_refusal, call_refusal, event_refusal, refusal_of, call_reply, granted, reply_of, plain_reply, view}
+use Rattle.graph_model.specs.HistoryLaws.{IsCallReply, IsOrder, call-IsCallReply, call-reply}
 
 -- a refusal that doesn't come from the disk
 abbrev pub IsNoFault : Refusal → Type 0
@@ -34,44 +34,67 @@ no_fault_if : (b : Bool) (why : Refusal) (o : Option Refusal) → IsNoFault why 
 no_fault_if true why o h k = h
 no_fault_if false why o h k = k
 
+handle_no_fault : (h : ℕ) → HasNoFault (handle_refusal h)
+handle_no_fault h = no_fault_if (nat_lt 63 h) BadHandle None tt tt
+
+len_no_fault : (o : Option Id) → HasNoFault (len_refusal o)
+len_no_fault None = tt
+len_no_fault (Some id) = tt
+
+field_no_fault : (g : Graph) (o : Option Id) (i : ℕ) → HasNoFault (field_refusal g o i)
+field_no_fault g None i = tt
+field_no_fault g (Some id) i = no_fault_if (nat_le (length (fields g id)) i) BadField None tt tt
+
 put_no_fault : (g : Graph) (o : Option Id) (i v : ℕ) → HasNoFault (put_refusal g o i v)
 put_no_fault g None i v = tt
-put_no_fault g (Some id) i v =
-    no_fault_if (nat_le no_int v) Range (if nat_le (length (fields g id)) i then Some BadField else None) tt
-    (no_fault_if (nat_le (length (fields g id)) i) BadField None tt tt)
+put_no_fault g (Some id) i v = no_fault_if (nat_le no_int v) Range (field_refusal g (Some id) i) tt (field_no_fault g (Some id) i)
+
+same_no_fault : (o p : Option Id) → HasNoFault (same_refusal o p)
+same_no_fault None p = tt
+same_no_fault (Some id) None = tt
+same_no_fault (Some id) (Some other) = tt
+
+view_no_fault : (v : View) (event : Event) → HasNoFault (view_refusal v event)
+view_no_fault v (Root s h) = handle_no_fault h
+view_no_fault v (Put s h i n) = put_no_fault v.graph (held v.registers h) i n
+view_no_fault v (Clear s h i) = field_no_fault v.graph (held v.registers h) i
+view_no_fault v (Drop s h) = handle_no_fault h
+view_no_fault v (Get s h i h2) = no_fault_if (nat_lt 63 h2) BadHandle (field_refusal v.graph (held v.registers h) i) tt (field_no_fault v.graph (held v.registers h) i)
+view_no_fault v (Same s h h2) = same_no_fault (held v.registers h) (held v.registers h2)
+view_no_fault v (Len s h) = len_no_fault (held v.registers h)
+view_no_fault v event = tt
 
 call_no_fault : (g0 : Graph) (a : Account) (t : Option Transaction) (event : Event) → HasNoFault (call_refusal g0 a t event)
 call_no_fault g0 a None event = tt
-call_no_fault g0 a (Some t) (Root s h) = no_fault_if (nat_lt 63 h) BadHandle None tt tt
-call_no_fault g0 a (Some t) (Put s h i v) = put_no_fault (view g0 a t).graph (held (view g0 a t).registers h) i v
-call_no_fault g0 a (Some t) (Begin s) = tt
-call_no_fault g0 a (Some t) (Seal s) = tt
-call_no_fault g0 a (Some t) Force = tt
+call_no_fault g0 a (Some t) event = view_no_fault (view g0 a t) event
 
 event_no_fault : (next : ℕ) (g0 : Graph) (a : Account) (event : Event) → HasNoFault (event_refusal next g0 a event)
 event_no_fault next g0 a (Begin s) =
     no_fault_if (is_some (a.active s)) AlreadyActive (if next == no_number then Some NumbersSpent else None) tt
     (no_fault_if (next == no_number) NumbersSpent None tt tt)
-event_no_fault next g0 a (Root s h) = call_no_fault g0 a (a.active s) (Root s h)
-event_no_fault next g0 a (Put s h i v) = call_no_fault g0 a (a.active s) (Put s h i v)
-event_no_fault next g0 a (Seal s) = call_no_fault g0 a (a.active s) (Seal s)
 event_no_fault next g0 a Force = tt
+event_no_fault next g0 a event = call_no_fault g0 a (a.active (session_of event)) event
 
 failed_no_fault : (failed : Option ℕ) (why : Option Refusal) → HasNoFault why → HasNoFault (refusal_of failed why)
 failed_no_fault None why h = h
 failed_no_fault (Some entry) why h = tt
 
-call_sound : (g0 : Graph) (a : Account) (t : Option Transaction) (event : Event) → IsSoundReply (call_reply g0 a t event)
-call_sound g0 a None event = tt
-call_sound g0 a (Some t) event = subst IsSoundReply (sym (call-reply (view g0 a t) t.number event)) tt
+-- what a call is answered that is not refused
+pub call_reply-IsCallReply : (g0 : Graph) (a : Account) (t : Option Transaction) (event : Event) → IsCallReply (call_reply g0 a t event)
+call_reply-IsCallReply g0 a None event = tt
+call_reply-IsCallReply g0 a (Some t) event = call-IsCallReply (view g0 a t) t.number event
+
+call_sound : (reply : Reply) → IsCallReply reply → IsSoundReply reply
+call_sound (Refused why) never = absurd never
+call_sound reply is = tt
 
 -- nor does what an event is answered that is not refused
 pub granted_sound : (next : ℕ) (g0 : Graph) (a : Account) (event : Event) → IsSoundReply (granted next g0 a event)
 granted_sound next g0 a (Begin s) = tt
-granted_sound next g0 a (Root s h) = call_sound g0 a (a.active s) (Root s h)
-granted_sound next g0 a (Put s h i v) = call_sound g0 a (a.active s) (Put s h i v)
 granted_sound next g0 a (Seal s) = tt
+granted_sound next g0 a (Abort s) = tt
 granted_sound next g0 a Force = tt
+granted_sound next g0 a event = call_sound _ (call_reply-IsCallReply g0 a (a.active (session_of event)) event)
 
 -- nor an answer that is a refusal or that one
 pub sound_either : (why : Option Refusal) (reply : Reply) → HasNoFault why → IsSoundReply reply → IsSoundReply (reply_of why reply)
@@ -83,30 +106,39 @@ pub plain_reply-IsSoundReply : (first : ℕ) (g0 : Graph) (a : Account) (event :
 plain_reply-IsSoundReply first g0 a event =
     sound_either _ _ (failed_no_fault a.failed _ (event_no_fault (first + a.begun) g0 a event)) (granted_sound (first + a.begun) g0 a event)
 
--- a call that isn't refused is answered `done`
-pub call_reply-done : (g0 : Graph) (a : Account) (t : Option Transaction) (event : Event) → call_reply g0 a t event ≡ Done
-call_reply-done g0 a None event = refl
-call_reply-done g0 a (Some t) event = call-reply (view g0 a t) t.number event
+-- an order that isn't refused is answered `done`
+pub call_reply-done : (g0 : Graph) (a : Account) (t : Option Transaction) (event : Event) → IsOrder event → call_reply g0 a t event ≡ Done
+call_reply-done g0 a None event order = refl
+call_reply-done g0 a (Some t) event order = call-reply (view g0 a t) t.number event order
 
-done-refused : (a : Account) (event : Event) (why : Refusal) → done a event (Refused why) ≡ a
-done-refused a (Begin s) why = refl
-done-refused a (Root s h) why = refl
-done-refused a (Put s h i v) why = refl
-done-refused a (Seal s) why = refl
-done-refused a Force why = refl
+-- a call is refused by what its session's transaction sees
+pub event_refusal-call : (next : ℕ) (g0 : Graph) (a : Account) (event : Event) → IsCall event → event_refusal next g0 a event ≡ call_refusal g0 a (a.active (session_of event)) event
+event_refusal-call next g0 a (Begin s) never = absurd never
+event_refusal-call next g0 a Force never = absurd never
+event_refusal-call next g0 a event is = refl
+
+-- and is answered so
+pub granted-call : (next : ℕ) (g0 : Graph) (a : Account) (event : Event) → IsCall event → granted next g0 a event ≡ call_reply g0 a (a.active (session_of event)) event
+granted-call next g0 a (Begin s) never = absurd never
+granted-call next g0 a (Seal s) never = absurd never
+granted-call next g0 a (Abort s) never = absurd never
+granted-call next g0 a Force never = absurd never
+granted-call next g0 a event is = refl
+
+-- what a plain heap that has not failed answers a call
+pub plain_reply-call : (first : ℕ) (g0 : Graph) (a : Account) (event : Event) → a.failed ≡ None → IsCall event
+    → plain_reply first g0 a event ≡ reply_of (call_refusal g0 a (a.active (session_of event)) event) (call_reply g0 a (a.active (session_of event)) event)
+plain_reply-call first g0 a event unfailed is =
+    let next = first + a.begun in
+    ap (λ failed. reply_of (refusal_of failed (event_refusal next g0 a event)) (granted next g0 a event)) unfailed
+    ∙ ap (λ why. reply_of why (granted next g0 a event)) (event_refusal-call next g0 a event is)
+    ∙ ap (reply_of (call_refusal g0 a (a.active (session_of event)) event)) (granted-call next g0 a event is)
 
 -- a refusal that doesn't come from the disk adds nothing
 pub answered-refused : (a : Account) (event : Event) (why : Refusal) → IsNoFault why → answered a event (Refused why) ≡ a
-answered-refused a event (Failed entry) h = done-refused a event (Failed entry)
-answered-refused a event AlreadyActive h = done-refused a event AlreadyActive
-answered-refused a event NotActive h = done-refused a event NotActive
-answered-refused a event NumbersSpent h = done-refused a event NumbersSpent
-answered-refused a event BadHandle h = done-refused a event BadHandle
-answered-refused a event Range h = done-refused a event Range
-answered-refused a event BadField h = done-refused a event BadField
-answered-refused a event (LogFull used need reserved) h = done-refused a event (LogFull used need reserved)
 answered-refused a event DiskFault h = absurd h
 answered-refused a event Stopped h = absurd h
+answered-refused a event why h = refl
 
 -- but an entry
 pub account_after-refused : (a : Account) (event : Event) (why : Refusal) → IsNoFault why

@@ -1,6 +1,6 @@
 -- Laws of graphs, and of the graph that is the root object alone.
 use Rattle.std.proofs.Common.{◌≡◌, ℕ, ◌+◌, zero, suc, Bool, true, false, cond, List, [], ◌∷◌, ◌++◌, map, Option, Some, unwrap_or, is_some, refl, sym, ap, ◌∙◌, lit<}
-use Rattle.std.specs.Prelude.{slice_set, codes}
+use Rattle.std.specs.Prelude.{slice_set, slice_index_or, codes}
 use Rattle.std.specs.Cmp.{IsTotalOrder, nat_cmp_total}
 use Rattle.std.specs.Ordering.{eq_by_cmp, is_eq, nat_cmp}
 use Rattle.std.specs.FinMap.{IsAntisymmetric, empty, get, insert, len, get-empty, get-insert, len-insert, len-empty, same_map}
@@ -80,6 +80,12 @@ pub AllPlain-set : (vs : List Val) (i : ℕ) (v : Val) → AllPlain vs → IsPla
 AllPlain-set [] i v h p = tt
 AllPlain-set (u ∷ vs) zero v h p = (p, h.1)
 AllPlain-set (u ∷ vs) (suc i) v h p = (h.0, AllPlain-set vs i v h.1 p)
+
+-- so is each of them, and null past the last
+pub IsPlain-index : (vs : List Val) (i : ℕ) → AllPlain vs → IsPlain (slice_index_or vs i Null)
+IsPlain-index [] i h = tt
+IsPlain-index (v ∷ vs) zero h = h.0
+IsPlain-index (v ∷ vs) (suc i) h = IsPlain-index vs i h.1
 
 -- how a value that refers to nothing is shown
 abbrev pub plain_shown : Val → Shown

@@ -1,29 +1,22 @@
 -- What the slow heap keeps, in the words of the model.
-use Rattle.std.specs.Prelude.{◌≡◌, ℕ, ◌+◌, ◌≤◌, Bool, true, false, List, [], length, map, take, slice_index_or, Option, None, Some, MatchOption}
+use Rattle.std.specs.Prelude.{◌≡◌, ℕ, ◌+◌, ◌≤◌, Bool, true, false, List, [], length, map, take, slice_index_or, Option, None, Some, Result, Ok, Err}
 use Rattle.graph_model.specs.declared.id.Id.{Id}
 use Rattle.graph_model.specs.declared.val.Val.{Val}
 use Rattle.graph_model.specs.declared.val.Val.TheVariants.{Null, Int}
 use Rattle.graph_model.specs.declared.event.Event.{Event}
-use Rattle.graph_model.specs.declared.event.Event.TheVariants.{Begin, Root, Put, Seal, Force}
+use Rattle.graph_model.specs.declared.event.Event.TheVariants.{Force}
+use Rattle.graph_model.specs.declared.reply.Refusal.{Refusal}
+use Rattle.graph_model.specs.declared.open_transaction.Called.{Called}
 use Rattle.graph_model.specs.declared.open_transaction.OpenTransaction.{OpenTransaction}
 use Rattle.graph_model.specs.Graph.{root, root_graph, new_graph}
 use Rattle.graph_model.specs.Transaction.{Registers, View, Transaction, call, serial}
-use Rattle.graph_model.specs.History.{Account}
-use Rattle.graph_model.specs.Plain.{view}
+use Rattle.graph_model.specs.History.{Account, session_of}
+use Rattle.graph_model.specs.Plain.{view, view_refusal}
 
 -- an event of session 1, or of none
 abbrev pub IsSingleSession : Event → Type 0
-IsSingleSession (Begin s) = s ≡ 1
-IsSingleSession (Root s h) = s ≡ 1
-IsSingleSession (Put s h i v) = s ≡ 1
-IsSingleSession (Seal s) = s ≡ 1
 IsSingleSession Force = Unit {0}
-
--- a call of session 1's transaction
-abbrev pub IsCall : Event → Type 0
-IsCall (Root s h) = s ≡ 1
-IsCall (Put s h i v) = s ≡ 1
-IsCall event = ⊥
+IsSingleSession event = session_of event ≡ 1
 
 -- a field that is null or a number
 abbrev pub val_of : Option ℕ → Val
@@ -50,9 +43,10 @@ IsActiveAs a None (Some open_transaction) = ⊥
 IsActiveAs a (Some t) None = ⊥
 IsActiveAs a (Some t) (Some open_transaction) = view new_graph a t ≡ seen_by open_transaction
 
--- after the event, session 1's transaction sees what this one keeps
-abbrev pub IsSeenAfter : Account → Event → OpenTransaction → Type 0
-IsSeenAfter a event after = MatchOption (a.active 1) ⊥ (λ t. (call (view new_graph a t) t.number event).view ≡ seen_by after)
+-- A call is refused as the model refuses it, or is answered and leaves what the model says.
+abbrev pub IsCalled : OpenTransaction → Event → Result Called Refusal → Type 0
+IsCalled before event (Err why) = view_refusal (seen_by before) event ≡ Some why
+IsCalled before event (Ok called) = (view_refusal (seen_by before) event ≡ None) × ((t : ℕ) → call (seen_by before) t event ≡ record { view = seen_by called.after; reply = called.reply })
 
 -- What the slow heap keeps is what its history says.
 pub record IsKept (a : Account) (next : ℕ) (active : Option OpenTransaction) (states : List (List (Option ℕ))) : Type 0 where

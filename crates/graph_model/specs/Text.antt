@@ -2,11 +2,11 @@
 use Rattle.std.specs.Prelude.{ℕ, ◌+◌, List, [], ◌∷◌, ◌++◌, length, codes}
 use Rattle.std.specs.Fmt.{decimal}
 use Rattle.graph_model.specs.declared.event.Event.{Event}
-use Rattle.graph_model.specs.declared.event.Event.TheVariants.{Begin, Root, Put, Seal, Force}
+use Rattle.graph_model.specs.declared.event.Event.TheVariants.{Begin, Root, Put, Clear, Drop, Get, Same, Len, Seal, Abort, Force}
 use Rattle.graph_model.specs.declared.reply.Refusal.{Refusal}
 use Rattle.graph_model.specs.declared.reply.Refusal.TheVariants.{Failed, AlreadyActive, NotActive, NumbersSpent, BadHandle, Range, BadField, LogFull, DiskFault, Stopped}
 use Rattle.graph_model.specs.declared.reply.Reply.{Reply}
-use Rattle.graph_model.specs.declared.reply.Reply.TheVariants.{Begun, Done, Sealed, Durable, Refused}
+use Rattle.graph_model.specs.declared.reply.Reply.TheVariants.{Begun, Done, Null, Int, Reference, Yes, No, Length, Sealed, Aborted, Durable, Refused}
 use Rattle.graph_model.specs.declared.reply.Entry.{Entry}
 use Rattle.graph_model.specs.Canon.{Shown, Nothing, Number, Object}
 
@@ -14,7 +14,13 @@ abbrev pub event_text : Event → List ℕ
 event_text (Begin s) = decimal s ++ codes " begin"
 event_text (Root s h) = decimal s ++ codes " root " ++ decimal h
 event_text (Put s h i v) = decimal s ++ codes " put " ++ decimal h ++ codes " " ++ decimal i ++ codes " " ++ decimal v
+event_text (Clear s h i) = decimal s ++ codes " clear " ++ decimal h ++ codes " " ++ decimal i
+event_text (Drop s h) = decimal s ++ codes " drop " ++ decimal h
+event_text (Get s h i h2) = decimal s ++ codes " get " ++ decimal h ++ codes " " ++ decimal i ++ codes " " ++ decimal h2
+event_text (Same s h h2) = decimal s ++ codes " same " ++ decimal h ++ codes " " ++ decimal h2
+event_text (Len s h) = decimal s ++ codes " len " ++ decimal h
 event_text (Seal s) = decimal s ++ codes " seal"
+event_text (Abort s) = decimal s ++ codes " abort"
 event_text Force = codes "force"
 
 abbrev pub refusal_text : Refusal → List ℕ
@@ -32,7 +38,14 @@ refusal_text Stopped = codes "stopped"
 abbrev pub reply_text : Reply → List ℕ
 reply_text (Begun n) = codes "begun " ++ decimal n
 reply_text Done = codes "done"
+reply_text Null = codes "null"
+reply_text (Int v) = codes "int " ++ decimal v
+reply_text Reference = codes "ref"
+reply_text Yes = codes "yes"
+reply_text No = codes "no"
+reply_text (Length n) = codes "len " ++ decimal n
 reply_text (Sealed n) = codes "sealed " ++ decimal n
+reply_text Aborted = codes "aborted"
 reply_text (Durable n) = codes "durable " ++ decimal n
 reply_text (Refused why) = refusal_text why
 

@@ -1,12 +1,13 @@
 -- What transactions do to a graph, one after another.
-use Rattle.std.specs.Prelude.{ℕ, List, [], ◌∷◌, Option, None, Some, replicate, slice_get, slice_set, option_and_then}
+use Rattle.std.specs.Prelude.{ℕ, List, [], ◌∷◌, length, Option, None, Some, replicate, slice_get, slice_index_or, slice_set, option_and_then, if◌then◌else◌}
 use Rattle.graph_model.specs.declared.id.Id.{Id}
-use Rattle.graph_model.specs.declared.val.Val.TheVariants.{Int}
+use Rattle.graph_model.specs.declared.val.Val.{Val}
+use Rattle.graph_model.specs.declared.val.Val.TheVariants.{Null, Int, Ref}
 use Rattle.graph_model.specs.declared.event.Event.{Event}
-use Rattle.graph_model.specs.declared.event.Event.TheVariants.{Root, Put}
+use Rattle.graph_model.specs.declared.event.Event.TheVariants.{Begin, Root, Put, Clear, Drop, Get, Same, Len, Seal, Abort, Force}
 use Rattle.graph_model.specs.declared.reply.Reply.{Reply}
-use Rattle.graph_model.specs.declared.reply.Reply.TheVariants.{Done}
-use Rattle.graph_model.specs.Graph.{Graph, root, with_field}
+use Rattle.graph_model.specs.declared.reply.Reply.TheVariants as answer
+use Rattle.graph_model.specs.Graph.{Graph, is_same_id, root, fields, with_field}
 
 -- the 64 handles of a transaction, and what each of them holds
 abbrev pub Registers : Type 0
@@ -29,16 +30,66 @@ pub record Outcome : Type 0 where
   pub view : View
   pub reply : Reply
 
--- the graph in which a field of the object that a handle holds is a number
-abbrev pub put_number : Graph → Option Id → ℕ → ℕ → Graph
-put_number g None i v = g
-put_number g (Some id) i v = with_field g id i (Int v)
+-- the fields of an object, and none where there is no object
+abbrev pub fields_of : Graph → Option Id → List Val
+fields_of g None = []
+fields_of g (Some id) = fields g id
+
+-- the graph in which a field of an object has another value
+abbrev pub put_value : Graph → Option Id → ℕ → Val → Graph
+put_value g None i v = g
+put_value g (Some id) i v = with_field g id i v
+
+-- the handles where h holds what a value refers to; they stay as they are if it is no reference
+abbrev pub with_referred : Registers → ℕ → Val → Registers
+with_referred registers h (Ref id) = slice_set registers h (Some id)
+with_referred registers h v = registers
+
+-- what a read of that value is answered
+abbrev pub value_reply : Val → Reply
+value_reply Null = answer.Null
+value_reply (Int v) = answer.Int v
+value_reply (Ref id) = answer.Reference
+
+-- whether two handles hold the same object
+abbrev pub same_reply : Option Id → Option Id → Reply
+same_reply (Some id) (Some other) = if is_same_id id other then answer.Yes else answer.No
+same_reply o p = answer.No
+
+-- handle h holds this object, or nothing
+abbrev pub hold : View → ℕ → Option Id → Outcome
+hold view h o = record { view = record { graph = view.graph; registers = slice_set view.registers h o }; reply = answer.Done }
+
+-- field i of what handle h holds has this value
+abbrev pub write : View → ℕ → ℕ → Val → Outcome
+write view h i v = record { view = record { graph = put_value view.graph (held view.registers h) i v; registers = view.registers }; reply = answer.Done }
+
+-- a field of this value is read, and handle h holds what it refers to
+abbrev pub read : View → ℕ → Val → Outcome
+read view h v = record { view = record { graph = view.graph; registers = with_referred view.registers h v }; reply = value_reply v }
+
+-- nothing changes, and this is answered
+abbrev pub tell : View → Reply → Outcome
+tell view reply = record { view = view; reply = reply }
+
+-- a call is what a transaction does between its begin and its end
+abbrev pub IsCall : Event → Type 0
+IsCall (Begin s) = ⊥
+IsCall (Seal s) = ⊥
+IsCall (Abort s) = ⊥
+IsCall Force = ⊥
+IsCall event = Unit {0}
 
 -- one call of transaction t; other events call nothing
 abbrev pub call : View → ℕ → Event → Outcome
-call view t (Root s h) = record { view = record { graph = view.graph; registers = slice_set view.registers h (Some root) }; reply = Done }
-call view t (Put s h i v) = record { view = record { graph = put_number view.graph (held view.registers h) i v; registers = view.registers }; reply = Done }
-call view t event = record { view = view; reply = Done }
+call view t (Root s h) = hold view h (Some root)
+call view t (Put s h i v) = write view h i (Int v)
+call view t (Clear s h i) = write view h i Null
+call view t (Drop s h) = hold view h None
+call view t (Get s h i h2) = read view h2 (slice_index_or (fields_of view.graph (held view.registers h)) i Null)
+call view t (Same s h h2) = tell view (same_reply (held view.registers h) (held view.registers h2))
+call view t (Len s h) = tell view (answer.Length (length (fields_of view.graph (held view.registers h))))
+call view t event = tell view answer.Done
 
 -- a transaction: its number, and its calls that were not refused, in order
 pub record Transaction : Type 0 where

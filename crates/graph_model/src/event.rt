@@ -14,8 +14,20 @@ pub enum Event {
     Root { s: u32, h: u64 },
     /// Field `i` of the object that `h` holds is to be the number `v`.
     Put { s: u32, h: u64, i: u64, v: u64 },
+    /// Field `i` of the object that `h` holds is to be null.
+    Clear { s: u32, h: u64, i: u64 },
+    /// Handle `h` is to hold nothing.
+    Drop { s: u32, h: u64 },
+    /// What is in field `i` of the object that `h` holds? If it is a reference, `h2` is to hold the object referred to.
+    Get { s: u32, h: u64, i: u64, h2: u64 },
+    /// Do `h` and `h2` hold the same object?
+    Same { s: u32, h: u64, h2: u64 },
+    /// How many fields has the object that `h` holds?
+    Len { s: u32, h: u64 },
     /// The transaction of session `s` ends, and what it wrote stays.
     Seal { s: u32 },
+    /// The transaction of session `s` ends, and nothing of it stays.
+    Abort { s: u32 },
     /// All that was sealed is to be on the disk.
     Force,
 }
@@ -28,8 +40,16 @@ impl Event {
         ensures { IsTrue result ↔ IsSingleSession self.now }
     {
         match self {
-            Event::Begin { s } | Event::Root { s, .. } | Event::Put { s, .. } | Event::Seal { s } =>
-                *s == 1,
+            Event::Begin { s }
+            | Event::Root { s, .. }
+            | Event::Put { s, .. }
+            | Event::Clear { s, .. }
+            | Event::Drop { s, .. }
+            | Event::Get { s, .. }
+            | Event::Same { s, .. }
+            | Event::Len { s, .. }
+            | Event::Seal { s }
+            | Event::Abort { s } => *s == 1,
             Event::Force => true,
         }
     }
@@ -44,7 +64,13 @@ impl fmt::Display for Event {
             Event::Begin { s } => write!(f, "{s} begin"),
             Event::Root { s, h } => write!(f, "{s} root {h}"),
             Event::Put { s, h, i, v } => write!(f, "{s} put {h} {i} {v}"),
+            Event::Clear { s, h, i } => write!(f, "{s} clear {h} {i}"),
+            Event::Drop { s, h } => write!(f, "{s} drop {h}"),
+            Event::Get { s, h, i, h2 } => write!(f, "{s} get {h} {i} {h2}"),
+            Event::Same { s, h, h2 } => write!(f, "{s} same {h} {h2}"),
+            Event::Len { s, h } => write!(f, "{s} len {h}"),
             Event::Seal { s } => write!(f, "{s} seal"),
+            Event::Abort { s } => write!(f, "{s} abort"),
             Event::Force => f.write_str("force"),
         }
     }

@@ -37,8 +37,22 @@ pub enum Reply {
     Begun { n: u64 },
     /// It was done.
     Done,
+    /// The field is null.
+    Null,
+    /// The field is this number.
+    Int { v: u64 },
+    /// The field is a reference.
+    Reference,
+    /// It is so.
+    Yes,
+    /// It is not so.
+    No,
+    /// The object has that many fields.
+    Length { n: u64 },
     /// The transaction was sealed, the nth since the heap was opened.
     Sealed { n: u64 },
+    /// The transaction ended, and nothing of it stays.
+    Aborted,
     /// All that was sealed is on the disk: that many transactions since the heap was opened.
     Durable { n: u64 },
     /// It was not done.
@@ -82,7 +96,14 @@ impl fmt::Display for Reply {
         match self {
             Reply::Begun { n } => write!(f, "begun {n}"),
             Reply::Done => f.write_str("done"),
+            Reply::Null => f.write_str("null"),
+            Reply::Int { v } => write!(f, "int {v}"),
+            Reply::Reference => f.write_str("ref"),
+            Reply::Yes => f.write_str("yes"),
+            Reply::No => f.write_str("no"),
+            Reply::Length { n } => write!(f, "len {n}"),
             Reply::Sealed { n } => write!(f, "sealed {n}"),
+            Reply::Aborted => f.write_str("aborted"),
             Reply::Durable { n } => write!(f, "durable {n}"),
             Reply::Refused { why } => write!(f, "{why}"),
         }
@@ -101,53 +122,59 @@ impl fmt::Display for Entry {
 #[cfg(test)]
 mod tests {
     use super::*;
+    use std::process::Abort;
     use std::test::Fail;
+
+    fn compare(rt: &(impl Abort + Alloc), cases: &[(Reply, &str)]) -> Result<(), Fail> {
+        for (reply, want) in cases {
+            let text = format!(in rt.alloc(); "{reply}")?;
+            assert_eq!(rt; text.as_str(), *want);
+        }
+        Ok(())
+    }
+
+    fn refused(why: Refusal) -> Reply {
+        Reply::Refused { why }
+    }
 
     #[test]
     fn replies_are_written(rt: HostRuntime) -> Result<(), Fail> {
-        let alloc = rt.alloc();
-        let cases = [
-            (Reply::Begun { n: 12 }, "begun 12"),
-            (Reply::Durable { n: 0 }, "durable 0"),
-            (
-                Reply::Refused {
-                    why: Refusal::NumbersSpent,
-                },
-                "numbersspent",
-            ),
-            (
-                Reply::Refused {
-                    why: Refusal::Failed { entry: 30 },
-                },
-                "failed 30",
-            ),
-            (
-                Reply::Refused {
-                    why: Refusal::LogFull {
-                        used: 100,
-                        need: 20,
-                        reserved: 3,
-                    },
-                },
-                "logfull 100 20 3",
-            ),
-            (
-                Reply::Refused {
-                    why: Refusal::DiskFault,
-                },
-                "diskfault",
-            ),
-            (
-                Reply::Refused {
-                    why: Refusal::Stopped,
-                },
-                "stopped",
-            ),
-        ];
-        for (reply, want) in cases {
-            let text = format!(in alloc; "{reply}")?;
-            assert_eq!(rt; text.as_str(), want);
-        }
-        Ok(())
+        let largest = 4611686018427387903;
+        compare(
+            &rt,
+            &[
+                (Reply::Begun { n: 12 }, "begun 12"),
+                (Reply::Done, "done"),
+                (Reply::Null, "null"),
+                (Reply::Int { v: 0 }, "int 0"),
+                (Reply::Int { v: largest }, "int 4611686018427387903"),
+                (Reply::Reference, "ref"),
+                (Reply::Yes, "yes"),
+                (Reply::No, "no"),
+                (Reply::Length { n: 4 }, "len 4"),
+                (Reply::Sealed { n: 3 }, "sealed 3"),
+                (Reply::Aborted, "aborted"),
+                (Reply::Durable { n: 0 }, "durable 0"),
+            ],
+        )
+    }
+
+    #[test]
+    fn refusals_are_written(rt: HostRuntime) -> Result<(), Fail> {
+        let full = Refusal::LogFull {
+            used: 100,
+            need: 20,
+            reserved: 3,
+        };
+        compare(
+            &rt,
+            &[
+                (refused(Refusal::NumbersSpent), "numbersspent"),
+                (refused(Refusal::Failed { entry: 30 }), "failed 30"),
+                (refused(full), "logfull 100 20 3"),
+                (refused(Refusal::DiskFault), "diskfault"),
+                (refused(Refusal::Stopped), "stopped"),
+            ],
+        )
     }
 }

@@ -2,13 +2,13 @@
 ghost use Rattle.std.specs.Prelude.{◌≡◌, ◌≤◌, ◌++◌, List, [], ◌∷◌, length, map, take, slice_index_or, IfOk, OnErr, OnOk};
 ghost use Rattle.std.specs.String.{string_bytes};
 ghost use Rattle.graph_model.specs.Graph.{new_graph};
-ghost use Rattle.graph_model.specs.Transaction.{serial};
+ghost use Rattle.graph_model.specs.Transaction.{IsCall, serial};
 ghost use Rattle.graph_model.specs.History.{account, sealed};
 ghost use Rattle.graph_model.specs.Plain.{plain_reply};
 ghost use Rattle.graph_model.specs.Canon.{canon};
 ghost use Rattle.graph_model.specs.Text.{canon_text, field_text, fields_text};
 ghost use Rattle.graph_model.specs.RootGraph.{plain_shown};
-ghost use Rattle.graph_model.specs.SlowHeap.{IsSingleSession, IsCall, IsSeenAfter, val_of};
+ghost use Rattle.graph_model.specs.SlowHeap.{IsSingleSession, val_of};
 
 use crate::event::Event;
 use crate::open_transaction::{OpenTransaction, RootFields};
@@ -94,10 +94,10 @@ impl SlowHeap {
     {
         match event {
             Event::Begin { .. } => self.begin(),
-            Event::Root { h, .. } => self.hold_root(h),
-            Event::Put { h, i, v, .. } => self.put(h, i, v),
             Event::Seal { .. } => self.seal(),
+            Event::Abort { .. } => self.abort(),
             Event::Force => self.force(),
+            _ => self.call(event),
         }
     }
 
@@ -123,35 +123,24 @@ impl SlowHeap {
         Ok(reply)
     }
 
-    fn hold_root(&mut self, h: u64) -> Result<Reply, AllocError>
-        ensures reply { IfOk result (λ reply. reply ≡ plain_reply 1 new_graph (account self.old) (Event.Root SESSION h)) }
-        ensures entry { IfOk result (λ reply. self.new ≡ self.old ++ (record { event = Event.Root SESSION h; reply = reply }) ∷ []) }
+    // A call of the transaction that has not ended.
+    fn call(&mut self, event: Event) -> Result<Reply, AllocError>
+        requires call { IsCall event }
+        requires session { IsSingleSession event }
+        ensures reply { IfOk result (λ reply. reply ≡ plain_reply 1 new_graph (account self.old) event) }
+        ensures entry { IfOk result (λ reply. self.new ≡ self.old ++ (record { event = event; reply = reply }) ∷ []) }
         ensures err { OnErr result (self.new ≡ self.old) }
     {
-        let event = Event::Root { s: SESSION, h };
         match self.active {
             None => self.refuse(event, Refusal::NotActive),
-            Some(_) if h >= 64 => self.refuse(event, Refusal::BadHandle),
-            Some(transaction) => self.call(event, transaction.with_root(h)),
-        }
-    }
-
-    fn put(&mut self, h: u64, i: u64, v: u64) -> Result<Reply, AllocError>
-        ensures reply { IfOk result (λ reply. reply ≡ plain_reply 1 new_graph (account self.old) (Event.Put SESSION h i v)) }
-        ensures entry { IfOk result (λ reply. self.new ≡ self.old ++ (record { event = Event.Put SESSION h i v; reply = reply }) ∷ []) }
-        ensures err { OnErr result (self.new ≡ self.old) }
-    {
-        let event = Event::Put {
-            s: SESSION,
-            h,
-            i,
-            v,
-        };
-        match self.active {
-            None => self.refuse(event, Refusal::NotActive),
-            Some(transaction) => match transaction.put_refusal(h, i, v) {
-                Some(why) => self.refuse(event, why),
-                None => self.call(event, transaction.with_put(i, v)),
+            Some(transaction) => match transaction.call(event) {
+                Err(why) => self.refuse(event, why),
+                Ok(called) => {
+                    let reply = called.reply;
+                    self.history.push(Entry { event, reply })?;
+                    self.active = Some(called.after);
+                    Ok(reply)
+                }
             },
         }
     }
@@ -173,6 +162,23 @@ impl SlowHeap {
         self.states.push(transaction.fields).unwrap();
         self.active = None;
         Ok(reply)
+    }
+
+    fn abort(&mut self) -> Result<Reply, AllocError>
+        ensures reply { IfOk result (λ reply. reply ≡ plain_reply 1 new_graph (account self.old) (Event.Abort SESSION)) }
+        ensures entry { IfOk result (λ reply. self.new ≡ self.old ++ (record { event = Event.Abort SESSION; reply = reply }) ∷ []) }
+        ensures err { OnErr result (self.new ≡ self.old) }
+    {
+        let event = Event::Abort { s: SESSION };
+        match self.active {
+            None => self.refuse(event, Refusal::NotActive),
+            Some(_) => {
+                let reply = Reply::Aborted;
+                self.history.push(Entry { event, reply })?;
+                self.active = None;
+                Ok(reply)
+            }
+        }
     }
 
     fn force(&mut self) -> Result<Reply, AllocError>
@@ -197,20 +203,6 @@ impl SlowHeap {
     {
         let reply = Reply::Refused { why };
         self.history.push(Entry { event, reply })?;
-        Ok(reply)
-    }
-
-    // A call of the transaction, which leaves this of it.
-    fn call(&mut self, event: Event, after: OpenTransaction) -> Result<Reply, AllocError>
-        requires call { IsCall event }
-        requires after { IsSeenAfter (account self.old) event after }
-        ensures reply { IfOk result (λ reply. reply ≡ Reply.Done) }
-        ensures entry { IfOk result (λ reply. self.new ≡ self.old ++ (record { event = event; reply = reply }) ∷ []) }
-        ensures err { OnErr result (self.new ≡ self.old) }
-    {
-        let reply = Reply::Done;
-        self.history.push(Entry { event, reply })?;
-        self.active = Some(after);
         Ok(reply)
     }
 }
@@ -253,8 +245,32 @@ mod tests {
         Event::Put { s: 1, h, i, v }
     }
 
+    fn clear(h: u64, i: u64) -> Event {
+        Event::Clear { s: 1, h, i }
+    }
+
+    fn drop(h: u64) -> Event {
+        Event::Drop { s: 1, h }
+    }
+
+    fn get(h: u64, i: u64, h2: u64) -> Event {
+        Event::Get { s: 1, h, i, h2 }
+    }
+
+    fn same(h: u64, h2: u64) -> Event {
+        Event::Same { s: 1, h, h2 }
+    }
+
+    fn len(h: u64) -> Event {
+        Event::Len { s: 1, h }
+    }
+
     fn seal() -> Event {
         Event::Seal { s: 1 }
+    }
+
+    fn abort() -> Event {
+        Event::Abort { s: 1 }
     }
 
     // Asks each event and compares the line of its answer.
@@ -362,6 +378,123 @@ mod tests {
                 "graph 1\n0: - - - -\n",
                 "graph 1\n0: - - - -\n",
                 "graph 1\n0: - - - -\n",
+            ],
+        )
+    }
+
+    #[test]
+    fn calls_are_answered(rt: HostRuntime) -> Result<(), Fail> {
+        let mut heap = SlowHeap::new(rt.alloc())?;
+        play(
+            &rt,
+            &mut heap,
+            &[
+                (begin(), "1 begin -> begun 1"),
+                (root(0), "1 root 0 -> done"),
+                (len(0), "1 len 0 -> len 4"),
+                (get(0, 0, 1), "1 get 0 0 1 -> null"),
+                (len(1), "1 len 1 -> badhandle"),
+                (put(0, 0, 7), "1 put 0 0 7 -> done"),
+                (get(0, 0, 1), "1 get 0 0 1 -> int 7"),
+                (len(1), "1 len 1 -> badhandle"),
+                (put(0, 1, 8), "1 put 0 1 8 -> done"),
+                (clear(0, 0), "1 clear 0 0 -> done"),
+                (get(0, 0, 0), "1 get 0 0 0 -> null"),
+                (get(0, 1, 63), "1 get 0 1 63 -> int 8"),
+                (same(0, 0), "1 same 0 0 -> yes"),
+                (root(63), "1 root 63 -> done"),
+                (same(0, 63), "1 same 0 63 -> yes"),
+                (drop(0), "1 drop 0 -> done"),
+                (drop(0), "1 drop 0 -> done"),
+                (len(0), "1 len 0 -> badhandle"),
+                (len(63), "1 len 63 -> len 4"),
+                (seal(), "1 seal -> sealed 1"),
+            ],
+        )?;
+        compare_texts(
+            &rt,
+            &heap,
+            &["graph 1\n0: - - - -\n", "graph 1\n0: - 8 - -\n"],
+        )
+    }
+
+    #[test]
+    fn calls_are_refused(rt: HostRuntime) -> Result<(), Fail> {
+        let large = 4611686018427387904;
+        let mut heap = SlowHeap::new(rt.alloc())?;
+        play(
+            &rt,
+            &mut heap,
+            &[
+                (clear(0, 0), "1 clear 0 0 -> notactive"),
+                (drop(0), "1 drop 0 -> notactive"),
+                (get(0, 0, 64), "1 get 0 0 64 -> notactive"),
+                (same(0, 0), "1 same 0 0 -> notactive"),
+                (len(0), "1 len 0 -> notactive"),
+                (abort(), "1 abort -> notactive"),
+                (begin(), "1 begin -> begun 1"),
+                (root(0), "1 root 0 -> done"),
+                (get(0, 0, 64), "1 get 0 0 64 -> badhandle"),
+                (get(0, 4, 64), "1 get 0 4 64 -> badhandle"),
+                (get(9, 4, 0), "1 get 9 4 0 -> badhandle"),
+                (get(0, 4, 0), "1 get 0 4 0 -> badfield"),
+                (same(0, 64), "1 same 0 64 -> badhandle"),
+                (same(64, 0), "1 same 64 0 -> badhandle"),
+                (same(0, 9), "1 same 0 9 -> badhandle"),
+                (same(9, 0), "1 same 9 0 -> badhandle"),
+                (len(64), "1 len 64 -> badhandle"),
+                (drop(64), "1 drop 64 -> badhandle"),
+                (clear(9, 4), "1 clear 9 4 -> badhandle"),
+                (clear(0, 4), "1 clear 0 4 -> badfield"),
+                (
+                    put(9, 4, large),
+                    "1 put 9 4 4611686018427387904 -> badhandle",
+                ),
+                (put(0, 4, large), "1 put 0 4 4611686018427387904 -> range"),
+                (put(0, 4, 1), "1 put 0 4 1 -> badfield"),
+                (len(0), "1 len 0 -> len 4"),
+                (seal(), "1 seal -> sealed 1"),
+            ],
+        )?;
+        compare_texts(
+            &rt,
+            &heap,
+            &["graph 1\n0: - - - -\n", "graph 1\n0: - - - -\n"],
+        )
+    }
+
+    #[test]
+    fn aborts_leave_nothing(rt: HostRuntime) -> Result<(), Fail> {
+        let mut heap = SlowHeap::new(rt.alloc())?;
+        play(
+            &rt,
+            &mut heap,
+            &[
+                (begin(), "1 begin -> begun 1"),
+                (root(0), "1 root 0 -> done"),
+                (put(0, 0, 7), "1 put 0 0 7 -> done"),
+                (seal(), "1 seal -> sealed 1"),
+                (begin(), "1 begin -> begun 2"),
+                (root(0), "1 root 0 -> done"),
+                (put(0, 0, 8), "1 put 0 0 8 -> done"),
+                (get(0, 0, 1), "1 get 0 0 1 -> int 8"),
+                (abort(), "1 abort -> aborted"),
+                (abort(), "1 abort -> notactive"),
+                (Event::Force, "force -> durable 1"),
+                (begin(), "1 begin -> begun 3"),
+                (len(0), "1 len 0 -> badhandle"),
+                (root(0), "1 root 0 -> done"),
+                (get(0, 0, 1), "1 get 0 0 1 -> int 7"),
+                (seal(), "1 seal -> sealed 2"),
+            ],
+        )?;
+        compare_texts(
+            &rt,
+            &heap,
+            &[
+                "graph 1\n0: - - - -\n",
+                "graph 1\n0: 7 - - -\n",
+                "graph 1\n0: 7 - - -\n",
             ],
         )
     }

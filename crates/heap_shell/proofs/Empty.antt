@@ -15,8 +15,8 @@ use Rattle.image_plan.specs.declared.superblock.Super.{Super}
 use Rattle.image_plan.specs.Plan.{image_size, frame_offset}
 use Rattle.image_plan.specs.Super.{IsSuper, superblock}
 use Rattle.heap_shell.specs.Format.{AreZero, IsFormatting, zero_writes, format_calls}
-use Rattle.heap_shell.specs.Image.{IsLegal}
-use Rattle.heap_shell.specs.Machine.{start}
+use Rattle.heap_model.specs.Image.{IsLegal}
+use Rattle.log_machine.specs.Machine.{start}
 
 -- what is written over the front of an image, behind its first byte
 put_front : (t image : List ℕ) → length t ≡ 63 → 64 ≤ length image → filled 0 1 t image ≡ 1 ∷ t ++ drop 64 image

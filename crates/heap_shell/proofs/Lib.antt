@@ -1,8 +1,7 @@
-mod Calls
 mod Causes
-mod Digits
 mod Empty
-mod Lines
+mod FieldRead
+mod MeansActive
 mod MeansForce
 mod MeansLeft
 mod MeansLog
@@ -10,6 +9,7 @@ mod MeansOpen
 mod MeansRefusal
 mod MeansStep
 mod Opening
+mod PlayEnding
 mod PlayEnds
 mod PlayEvent
 mod PlayFuse
@@ -18,6 +18,7 @@ mod PlayLoop
 mod PlayOpen
 mod PrintRecovered
 mod Replay
+mod Room
 mod RootText
 mod RunLaws
 mod Statuses

@@ -1,5 +1,5 @@
 -- A force, and what the disk holds behind an event.
-use Rattle.std.proofs.Common.{◌≡◌, ◌⊎◌, inl, inr, ℕ, ◌+◌, List, [], ◌∷◌, ◌++◌, length, Option, Some, None, Result, Ok, Err, refl, sym, ap, ◌∙◌, subst, ⊎_elim, arith}
+use Rattle.std.proofs.Common.{true, false, ◌≡◌, ◌⊎◌, inl, inr, ℕ, ◌+◌, ◌*◌, ◌≤◌, List, [], ◌∷◌, ◌++◌, length, Option, Some, None, Result, Ok, Err, refl, sym, ap, ◌∙◌, subst, ⊎_elim, arith}
 use Rattle.std.specs.Prelude.{IfOk}
 use Rattle.std.specs.declared.alloc.AllocError.{AllocError}
 use Rattle.std.proofs.lemmas.List.{append-nil}
@@ -7,17 +7,18 @@ use Rattle.disk_model.specs.Disk.{part, Only, SameOutside}
 use Rattle.disk_model.specs.declared.disk.DiskError.{DiskError}
 use Rattle.gate_slot.specs.Images.{same_part}
 use Rattle.gated_log.specs.declared.Log.{Log}
-use Rattle.gated_log.specs.Log.{records_of, with_batch, HoldsBatches}
+use Rattle.gated_log.specs.Log.{records_of, batches_bytes, with_batch, HoldsBatches}
 use Rattle.gated_log.specs.LogLaws.{hand_size-Keeps}
 use Rattle.gated_log.specs.LogState.{log_place, log_room, log_hand, hand_size, IsHandEmpty, Keeps, IsPlaced}
 use Rattle.graph_model.specs.declared.event.Event.{Event}
-use Rattle.graph_model.specs.declared.event.Event.TheVariants.{Begin, Root, Put, Seal, Force}
+use Rattle.graph_model.specs.declared.event.Event.TheVariants.{Begin, Root, Put, Clear, Drop, Get, Same, Len, Seal, Abort, Force}
 use Rattle.graph_model.specs.declared.reply.Entry.{Entry}
 use Rattle.graph_model.specs.declared.reply.Refusal.{Refusal}
 use Rattle.graph_model.specs.declared.reply.Refusal.TheVariants.{Failed, DiskFault, Stopped}
 use Rattle.graph_model.specs.declared.reply.Reply.{Reply}
-use Rattle.graph_model.specs.declared.reply.Reply.TheVariants.{Begun, Done, Sealed, Durable, Refused}
+use Rattle.graph_model.specs.declared.reply.Reply.TheVariants.{Begun, Done, Yes, Length, Sealed, Aborted, Durable, Refused}
 use Rattle.graph_model.specs.SlowHeap.{IsSingleSession}
+use Rattle.graph_model.specs.Transaction.{serial}
 use Rattle.graph_model.specs.History.{Account, account, account_after, first_failure}
 use Rattle.graph_model.specs.HistoryLaws.{account-append, entries-account}
 use Rattle.graph_model.specs.Plain.{granted, reply_of}
@@ -26,27 +27,27 @@ use Rattle.image_plan.specs.declared.superblock.Super.{Super}
 use Rattle.image_plan.specs.Plan.{frame_offset}
 use Rattle.log_records.specs.declared.Record.{Record}
 use Rattle.log_records.specs.Record.{spellings}
+use Rattle.log_machine.specs.declared.UndoEntry.{UndoEntry}
+use Rattle.heap_shell.specs.declared.active.Active.{Active}
 use Rattle.heap_shell.specs.declared.working.Working.{Working}
-use Rattle.heap_shell.specs.Core.{Core, next_number, core_refusal, answer, with_entry, after_refusal, after}
-use Rattle.heap_shell.specs.CoreCrash.{KeepsCommits}
-use Rattle.heap_shell.specs.CoreValid.{IsValid, IsReached}
-use Rattle.heap_shell.specs.CoreLawsCrash.{IsOnDisk, on_disk_waiting, forced-with_batch, disk_good, disk_whole, disk_plain, crash_law}
-use Rattle.heap_shell.specs.CoreLawsRoom.{records_of-append}
-use Rattle.heap_shell.specs.CoreLawsRun.{IsIdle, failed_refusal, failed_after, after_history, step_history}
-use Rattle.heap_shell.specs.CoreLawsStep.{valid_after}
-use Rattle.heap_shell.specs.Image.{IsLegal}
-use Rattle.heap_shell.specs.Machine as machine
-use Rattle.heap_shell.specs.Machine.{words}
-use Rattle.heap_shell.specs.Means.{Works, OnDisk, Means, Steps}
+use Rattle.heap_model.specs.Core.{Core, next_number, core_refusal, answer, with_entry, after_refusal, after}
+use Rattle.heap_model.specs.CoreCrash.{KeepsCommits}
+use Rattle.heap_model.specs.CoreValid.{IsValid, IsReached}
+use Rattle.heap_model.specs.CoreLawsCrash.{IsOnDisk, forced-with_batch, records_of-with_batch, disk_good, disk_reached, disk_plain, crash_law}
+use Rattle.heap_model.specs.CoreLawsRun.{failed_refusal, failed_after, after_history, step_history}
+use Rattle.heap_model.specs.CoreLawsStep.{valid_after}
+use Rattle.heap_model.specs.Image.{IsLegal}
+use Rattle.log_machine.specs.Machine as machine
+use Rattle.log_machine.specs.Machine.{words, undo_of, undo_reserve}
+use Rattle.heap_shell.specs.Means.{IsActive, Works, OnDisk, Means, Steps}
 use Rattle.heap_shell.proofs.MeansLeft.{keeps_refused, keeps_cut}
 use Rattle.heap_shell.proofs.MeansLog.{keeps_same}
 use Rattle.heap_shell.proofs.MeansRefusal.{force_same}
-use Rattle.heap_shell.specs.Working.{begin_refusal, active_after_begin, next_after_begin, root_refusal, active_after_root, put_refusal, seal_refusal, update_of, Writes, Seals, IsAsItWas}
-use Rattle.heap_shell.proofs.MeansStep.{Does, works_after, begin_does, root_does, put_does, seal_does}
+use Rattle.heap_shell.specs.Working.{begin_refusal, handle_refusal, held_refusal, put_refusal, clear_refusal, get_refusal, same_refusal, end_refusal, field_reply, IsAsItWas, Begins, SetsHandle, Writes, Seals, Aborts}
+use Rattle.heap_shell.proofs.MeansStep.{Does, works_after, begin_does, root_does, drop_does, get_does, same_does, len_does, put_does, clear_does, seal_does, abort_does}
 
 records_forced : (bs : List (List Record)) (p : List Record) → records_of (with_batch bs p) ++ [] ≡ records_of bs ++ p
-records_forced bs [] = refl
-records_forced bs (r ∷ rs) = append-nil (records_of (bs ++ (r ∷ rs) ∷ [])) ∙ records_of-append bs (r ∷ rs)
+records_forced bs p = append-nil (records_of (with_batch bs p)) ∙ records_of-with_batch bs p
 
 -- what waited is on the disk
 pub force_does : (w new : Working) (c : Core) (reply : Reply) → IsValid c → Works w (account c.history) c → Keeps new.log (with_batch c.batches c.pending) []
@@ -61,8 +62,11 @@ force_does w new c reply valid works keeps at room stored active next sealed rep
             log = keeps;
             place = at ∙ works.place;
             room = room ∙ works.room;
-            stored = ap (λ (p : _). p.words) stored ∙ works.stored ∙ ap words (sym (records_forced c.batches c.pending));
-            active = active ∙ works.active;
+            stored = stored ∙ works.stored ∙ ap words (sym (records_forced c.batches c.pending));
+            active =
+                let same = sym (ap undo_of (records_forced c.batches c.pending)) in
+                let at = subst (λ (p : Option Active). IsActive (serial c.g0 a.sealed) (undo_of (records_of c.batches ++ c.pending)) (a.active 1) p) (sym active) works.active in
+                subst (λ (us : List UndoEntry). IsActive (serial c.g0 a.sealed) us (a.active 1) new.active) same at;
             next = next ∙ works.next;
             sealed = sealed ∙ works.sealed;
           }))
@@ -70,15 +74,17 @@ force_does w new c reply valid works keeps at room stored active next sealed rep
     }
 
 -- an image whose log holds what a core may have on the disk
-pub legal_with : (s : Super) (c : Core) (bs bs' : List (List Record)) (old new : List ℕ) → IsReached c → IsOnDisk c bs' → IsLegal s bs old → SameOutside 64 (64 + s.log_bytes) old new
+pub legal_with : (s : Super) (c : Core) (bs bs' : List (List Record)) (old new : List ℕ) → s.log_bytes ≡ c.room → IsReached c → IsOnDisk c bs' → IsLegal s bs old → SameOutside 64 (64 + s.log_bytes) old new
     → HoldsBatches (part new 64 s.log_bytes) bs' → IsLegal s bs' new
-legal_with s c bs bs' old new reached on legal outside holds = record {
+legal_with s c bs bs' old new room reached on legal outside holds = let told = disk_reached c bs' reached on in record {
   limits = legal.limits;
   size = omega (arith, legal.size, outside.size);
   super = same_part 0 64 old new outside.size (λ i low high. outside.before i (omega arith)) ∙ legal.super;
   log = holds;
   good = disk_good c bs' reached on;
-  whole = disk_whole c bs' reached on;
+  state = told.0;
+  reached = told.1;
+  reserve = subst (λ (n : ℕ). length (batches_bytes bs') + 1 + undo_reserve told.0.undo ≤ n) (sym room) told.2;
   plain = disk_plain c bs' reached on;
   frames = λ p f few one is. legal.frames p f few one (sym (outside.behind (frame_offset s.log_bytes p f) (omega arith)) ∙ is);
 }
@@ -88,7 +94,13 @@ keeps_batches (Some why) c event other = (refl, refl)
 keeps_batches None c (Begin s) other = (refl, refl)
 keeps_batches None c (Root s h) other = (refl, refl)
 keeps_batches None c (Put s h i v) other = (refl, refl)
+keeps_batches None c (Clear s h i) other = (refl, refl)
+keeps_batches None c (Drop s h) other = (refl, refl)
+keeps_batches None c (Get s h i h2) other = (refl, refl)
+keeps_batches None c (Same s h h2) other = (refl, refl)
+keeps_batches None c (Len s h) other = (refl, refl)
 keeps_batches None c (Seal s) other = (refl, refl)
+keeps_batches None c (Abort s) other = (refl, refl)
 keeps_batches None c Force other = absurd (other refl)
 
 -- only a force asks anything of the disk
@@ -102,14 +114,14 @@ disk_stays s c event image may_leave other disk =
     }
 
 -- the disk behind a force
-pub disk_forced : (s : Super) (c : Core) (old new : List ℕ) (may_leave' may_leave : List ℕ → Type 0) → IsValid c → IsIdle c → OnDisk s c old may_leave' → SameOutside 64 (64 + s.log_bytes) old new
+pub disk_forced : (s : Super) (c : Core) (old new : List ℕ) (may_leave' may_leave : List ℕ → Type 0) → IsValid c → OnDisk s c old may_leave' → SameOutside 64 (64 + s.log_bytes) old new
     → HoldsBatches (part new 64 s.log_bytes) (with_batch c.batches c.pending) → Only new may_leave → OnDisk s (after c Force) new may_leave
-disk_forced s c old new may_leave' may_leave valid idle disk outside holds only =
+disk_forced s c old new may_leave' may_leave valid disk outside holds only =
     let forced_now : after_refusal (core_refusal c Force) c Force ≡ record c { batches = with_batch c.batches c.pending; pending = [] } =
     ap (λ (o : Option Refusal). after_refusal o c Force) (force_same c valid) ∙ forced-with_batch c in
     let P : Core → Type 0 = λ d. OnDisk s (with_entry d Force (answer c Force)) new may_leave in
     subst P (sym forced_now) (record {
-      legal = legal_with s c c.batches (with_batch c.batches c.pending) old new (inl valid) (on_disk_waiting c idle) disk.legal outside holds;
+      legal = legal_with s c c.batches (with_batch c.batches c.pending) old new disk.room (inl valid) (inr refl) disk.legal outside holds;
       only = only;
       room = disk.room;
     })
@@ -196,31 +208,31 @@ module _ (s : Super) (c : Core) (w : Working) (log : Log) (failed : Option ℕ) 
   holds = let P : ℕ → ℕ → Type 0 = λ n m. HoldsBatches (part old n m) c.batches in
       let Q : ℕ → Type 0 = λ n. P n (log_room log) in subst Q (sym at) (subst (P 64) (sym room) disk.legal.log)
 
-  pub ok_steps : (new : Working) (image : List ℕ) (may_leave : List ℕ → Type 0) (reply : Reply) → IsReached c → IsIdle c → Keeps new.log (with_batch c.batches c.pending) []
+  pub ok_steps : (new : Working) (image : List ℕ) (may_leave : List ℕ → Type 0) (reply : Reply) → IsReached c → Keeps new.log (with_batch c.batches c.pending) []
       → HoldsBatches (part image (log_place log) (log_room log)) (with_batch c.batches c.pending) → SameOutside (log_place log) (log_place log + log_room log) old image → Only image may_leave
       → log_place new.log ≡ log_place log → log_room new.log ≡ log_room log → new.words ≡ w.words → new.active ≡ w.active → new.next ≡ w.next → new.sealed ≡ w.sealed → reply ≡ Durable w.sealed
       → Steps s c Force reply new failed image may_leave
-  ok_steps new image may_leave reply reached idle kept held outside only new_at new_room stored active next sealed replied =
+  ok_steps new image may_leave reply reached kept held outside only new_at new_room stored active next sealed replied =
       let valid = unfailed_valid s c w failed old may_have_left means none reached in
-      whole_steps s c Force reply new failed image may_leave (valid_after c Force valid tt (λ e. idle)) none
+      whole_steps s c Force reply new failed image may_leave (valid_after c Force valid tt) none
       (force_does w new c reply valid works kept (new_at ∙ placed.at) (new_room ∙ placed.room) stored active next sealed replied)
-      (disk_forced s c old image may_have_left may_leave valid idle disk
+      (disk_forced s c old image may_have_left may_leave valid disk
       (let P : ℕ → ℕ → Type 0 = λ n m. SameOutside n (n + m) old image in in_log P outside)
       (let P : ℕ → ℕ → Type 0 = λ n m. HoldsBatches (part image n m) (with_batch c.batches c.pending) in in_log P held)
       only)
 
   kept_batches : (bs : List (List Record)) (image : List ℕ) → IsReached c → IsOnDisk c bs → SameOutside 64 (64 + s.log_bytes) old image → HoldsBatches (part image (log_place log) (log_room log)) bs → KeepsCommits c image
   kept_batches bs image reached on outside held =
-      let legal = legal_with s c c.batches bs old image reached on disk.legal outside (let P : ℕ → ℕ → Type 0 = λ n m. HoldsBatches (part image n m) bs in in_log P held) in
+      let legal = legal_with s c c.batches bs old image disk.room reached on disk.legal outside (let P : ℕ → ℕ → Type 0 = λ n m. HoldsBatches (part image n m) bs in in_log P held) in
       (machine.commits (records_of bs), crash_law c s bs image reached on legal)
 
   -- what a crash leaves during a force are first commits
-  pub force_keeps : (image : List ℕ) → IsReached c → IsIdle c → SameOutside (log_place log) (log_place log + log_room log) old image × (HoldsBatches (part image (log_place log) (log_room log)) c.batches ⊎ HoldsBatches (part image (log_place log) (log_room log)) (with_batch c.batches c.pending))
+  pub force_keeps : (image : List ℕ) → IsReached c → SameOutside (log_place log) (log_place log + log_room log) old image × (HoldsBatches (part image (log_place log) (log_room log)) c.batches ⊎ HoldsBatches (part image (log_place log) (log_room log)) (with_batch c.batches c.pending))
       → KeepsCommits c image
-  force_keeps image reached idle found =
+  force_keeps image reached found =
       let outside = (let P : ℕ → ℕ → Type 0 = λ n m. SameOutside n (n + m) old image in in_log P found.0) in
       ⊎_elim (λ held. kept_batches c.batches image reached (inl refl) outside held)
-      (λ held. kept_batches (with_batch c.batches c.pending) image reached (on_disk_waiting c idle) outside held) found.1
+      (λ held. kept_batches (with_batch c.batches c.pending) image reached (inr refl) outside held) found.1
 
   pub err_steps : (new : Working) (image : List ℕ) (may_leave : List ℕ → Type 0) (reply : Reply) (entries : ℕ) (result : Result (Unit {0}) DiskError) (e : DiskError) (now : Option ℕ) → IsReached c
       → (IsHandEmpty log → result ≡ Ok tt) → result ≡ Err e → hand_size log ≡ hand_size w.log → (reply ≡ Refused DiskFault) ⊎ (reply ≡ Refused Stopped)
@@ -236,42 +248,71 @@ module _ (s : Super) (c : Core) (w : Working) (failed : Option ℕ) (image : Lis
   -- an event that asks nothing of the disk
   pub quiet_steps : (event : Event) (reply : Reply) (new : Working) → IsSingleSession event → (event ≡ Force → ⊥) → Does c event reply new → Steps s c event reply new failed image may_leave
   quiet_steps event reply new one other does =
-      whole_steps s c event reply new failed image may_leave (valid_after c event is_valid one (λ e. absurd (other e))) none does (disk_stays s c event image may_leave other (means.disk none))
+      whole_steps s c event reply new failed image may_leave (valid_after c event is_valid one) none does (disk_stays s c event image may_leave other (means.disk none))
 
   quiet_result : (event : Event) (result : Result Reply AllocError) (new : Working) → IsSingleSession event → (event ≡ Force → ⊥) → IfOk result (λ reply. Does c event reply new)
       → IfOk result (λ reply. Steps s c event reply new failed image may_leave)
   quiet_result event (Ok reply) new one other does = quiet_steps event reply new one other does
   quiet_result event (Err e) new one other does = tt
 
-  pub begin_steps : (event : Event) (n : ℕ) (new : Working) (reply : Reply) → event ≡ Begin n → IsSingleSession event → reply ≡ reply_of (begin_refusal w) (Begun w.next) → new.active ≡ active_after_begin (begin_refusal w) w → new.next ≡ next_after_begin (begin_refusal w) w.next
-      → new.log ≡ w.log → new.words ≡ w.words → new.sealed ≡ w.sealed → Steps s c event reply new failed image may_leave
-  begin_steps event n new reply is one replied active next log stored sealed =
-      let P : ℕ → Type 0 = λ m. Steps s c (Begin m) reply new failed image may_leave in
-      let Q : Event → Type 0 = λ x. Steps s c x reply new failed image may_leave in
-      subst Q (sym is) (subst P (sym (subst IsSingleSession is one)) (quiet_steps (Begin 1) reply new refl (λ e. cc) (begin_does w new c is_valid (means.works none) reply replied active next log stored sealed)))
+  -- an event of session 1 whose session is given
+  of_one : (form : ℕ → Event) (event : Event) (n : ℕ) (P : Event → Type 0) → event ≡ form n → (IsSingleSession event → n ≡ 1) → IsSingleSession event → P (form 1) → P event
+  of_one form event n P is own one h =
+      let Q : ℕ → Type 0 = λ m. P (form m) in
+      subst P (sym is) (subst Q (sym (own one)) h)
 
-  pub root_steps : (event : Event) (n h : ℕ) (new : Working) (reply : Reply) → event ≡ Root n h → IsSingleSession event → reply ≡ reply_of (root_refusal w.active h) Done → new.active ≡ active_after_root (root_refusal w.active h) w.active h → new.next ≡ w.next
-      → new.log ≡ w.log → new.words ≡ w.words → new.sealed ≡ w.sealed → Steps s c event reply new failed image may_leave
-  root_steps event n h new reply is one replied active next log stored sealed =
-      let P : ℕ → Type 0 = λ m. Steps s c (Root m h) reply new failed image may_leave in
-      let Q : Event → Type 0 = λ x. Steps s c x reply new failed image may_leave in
-      subst Q (sym is) (subst P (sym (subst IsSingleSession is one)) (quiet_steps (Root 1 h) reply new refl (λ e. cc) (root_does w new c is_valid (means.works none) h reply replied active next log stored sealed)))
+  abbrev Stepped : Working → Reply → Event → Type 0
+  Stepped new reply event = Steps s c event reply new failed image may_leave
+
+  abbrev SteppedOr : Working → Result Reply AllocError → Event → Type 0
+  SteppedOr new result event = IfOk result (λ reply. Stepped new reply event)
+
+  pub begin_steps : (event : Event) (n : ℕ) (new : Working) (reply : Reply) → event ≡ Begin n → IsSingleSession event → reply ≡ reply_of (begin_refusal w) (Begun w.next) → ((m : ℕ) → reply ≡ Begun m → Begins w new)
+      → ((why : Refusal) → reply ≡ Refused why → new ≡ w) → Stepped new reply event
+  begin_steps event n new reply is one replied begun stays =
+      of_one Begin event n (Stepped new reply) is (λ h. subst IsSingleSession is h) one (quiet_steps (Begin 1) reply new refl (λ e. cc) (begin_does w new c is_valid (means.works none) reply replied begun stays))
+
+  pub root_steps : (event : Event) (n h : ℕ) (new : Working) (reply : Reply) → event ≡ Root n h → IsSingleSession event → reply ≡ reply_of (handle_refusal w.active h) Done → (reply ≡ Done → SetsHandle w new h true)
+      → ((why : Refusal) → reply ≡ Refused why → new ≡ w) → Stepped new reply event
+  root_steps event n h new reply is one replied set stays =
+      of_one (λ m. Root m h) event n (Stepped new reply) is (λ own. subst IsSingleSession is own) one (quiet_steps (Root 1 h) reply new refl (λ e. cc) (root_does w new c is_valid (means.works none) h reply replied set stays))
+
+  pub drop_steps : (event : Event) (n h : ℕ) (new : Working) (reply : Reply) → event ≡ Drop n h → IsSingleSession event → reply ≡ reply_of (handle_refusal w.active h) Done → (reply ≡ Done → SetsHandle w new h false)
+      → ((why : Refusal) → reply ≡ Refused why → new ≡ w) → Stepped new reply event
+  drop_steps event n h new reply is one replied set stays =
+      of_one (λ m. Drop m h) event n (Stepped new reply) is (λ own. subst IsSingleSession is own) one (quiet_steps (Drop 1 h) reply new refl (λ e. cc) (drop_does w new c is_valid (means.works none) h reply replied set stays))
+
+  pub get_steps : (event : Event) (n h i h2 : ℕ) (reply : Reply) → event ≡ Get n h i h2 → IsSingleSession event → reply ≡ reply_of (get_refusal w.active h i h2) (field_reply w.words i) → Stepped w reply event
+  get_steps event n h i h2 reply is one replied =
+      of_one (λ m. Get m h i h2) event n (Stepped w reply) is (λ own. subst IsSingleSession is own) one (quiet_steps (Get 1 h i h2) reply w refl (λ e. cc) (get_does w w c is_valid (means.works none) h i h2 reply replied refl))
+
+  pub same_steps : (event : Event) (n h h2 : ℕ) (reply : Reply) → event ≡ Same n h h2 → IsSingleSession event → reply ≡ reply_of (same_refusal w.active h h2) Yes → Stepped w reply event
+  same_steps event n h h2 reply is one replied =
+      of_one (λ m. Same m h h2) event n (Stepped w reply) is (λ own. subst IsSingleSession is own) one (quiet_steps (Same 1 h h2) reply w refl (λ e. cc) (same_does w w c is_valid (means.works none) h h2 reply replied refl))
+
+  pub len_steps : (event : Event) (n h : ℕ) (reply : Reply) → event ≡ Len n h → IsSingleSession event → reply ≡ reply_of (held_refusal w.active h) (Length 4) → Stepped w reply event
+  len_steps event n h reply is one replied =
+      of_one (λ m. Len m h) event n (Stepped w reply) is (λ own. subst IsSingleSession is own) one (quiet_steps (Len 1 h) reply w refl (λ e. cc) (len_does w w c is_valid (means.works none) h reply replied refl))
 
   pub put_steps : (event : Event) (n h i v : ℕ) (new : Working) (result : Result Reply AllocError) → event ≡ Put n h i v → IsSingleSession event → IfOk result (λ reply. reply ≡ reply_of (put_refusal w.log w.active h i v) Done)
-      → (result ≡ Ok Done → Writes w new (λ x. update_of w.words.words x i v)) → ((why : Refusal) → result ≡ Ok (Refused why) → IsAsItWas w new)
-      → IfOk result (λ reply. Steps s c event reply new failed image may_leave)
+      → (result ≡ Ok Done → Writes w new i (4 * v + 1)) → ((why : Refusal) → result ≡ Ok (Refused why) → IsAsItWas w new) → SteppedOr new result event
   put_steps event n h i v new result is one replied wrote stays =
-      let P : ℕ → Type 0 = λ m. IfOk result (λ reply. Steps s c (Put m h i v) reply new failed image may_leave) in
-      let Q : Event → Type 0 = λ x. IfOk result (λ reply. Steps s c x reply new failed image may_leave) in
-      subst Q (sym is) (subst P (sym (subst IsSingleSession is one)) (quiet_result (Put 1 h i v) result new refl (λ e. cc) (put_does w new c is_valid (means.works none) h i v result replied wrote stays)))
+      of_one (λ m. Put m h i v) event n (SteppedOr new result) is (λ own. subst IsSingleSession is own) one (quiet_result (Put 1 h i v) result new refl (λ e. cc) (put_does w new c is_valid (means.works none) h i v result replied wrote stays))
 
-  pub seal_steps : (event : Event) (n : ℕ) (new : Working) (result : Result Reply AllocError) → event ≡ Seal n → IsSingleSession event → IfOk result (λ reply. reply ≡ reply_of (seal_refusal w.active) (Sealed (w.sealed + 1)))
-      → ((number : ℕ) → result ≡ Ok (Sealed number) → Seals w new) → ((why : Refusal) → result ≡ Ok (Refused why) → IsAsItWas w new)
-      → IfOk result (λ reply. Steps s c event reply new failed image may_leave)
+  pub clear_steps : (event : Event) (n h i : ℕ) (new : Working) (result : Result Reply AllocError) → event ≡ Clear n h i → IsSingleSession event → IfOk result (λ reply. reply ≡ reply_of (clear_refusal w.log w.active h i) Done)
+      → (result ≡ Ok Done → Writes w new i 0) → ((why : Refusal) → result ≡ Ok (Refused why) → IsAsItWas w new) → SteppedOr new result event
+  clear_steps event n h i new result is one replied wrote stays =
+      of_one (λ m. Clear m h i) event n (SteppedOr new result) is (λ own. subst IsSingleSession is own) one (quiet_result (Clear 1 h i) result new refl (λ e. cc) (clear_does w new c is_valid (means.works none) h i result replied wrote stays))
+
+  pub seal_steps : (event : Event) (n : ℕ) (new : Working) (result : Result Reply AllocError) → event ≡ Seal n → IsSingleSession event → IfOk result (λ reply. reply ≡ reply_of (end_refusal w.active) (Sealed (w.sealed + 1)))
+      → ((number : ℕ) → result ≡ Ok (Sealed number) → Seals w new) → ((why : Refusal) → result ≡ Ok (Refused why) → IsAsItWas w new) → SteppedOr new result event
   seal_steps event n new result is one replied sealed stays =
-      let P : ℕ → Type 0 = λ m. IfOk result (λ reply. Steps s c (Seal m) reply new failed image may_leave) in
-      let Q : Event → Type 0 = λ x. IfOk result (λ reply. Steps s c x reply new failed image may_leave) in
-      subst Q (sym is) (subst P (sym (subst IsSingleSession is one)) (quiet_result (Seal 1) result new refl (λ e. cc) (seal_does w new c is_valid (means.works none) result replied sealed stays)))
+      of_one Seal event n (SteppedOr new result) is (λ own. subst IsSingleSession is own) one (quiet_result (Seal 1) result new refl (λ e. cc) (seal_does w new c is_valid (means.works none) result replied sealed stays))
+
+  pub abort_steps : (event : Event) (n : ℕ) (new : Working) (result : Result Reply AllocError) → event ≡ Abort n → IsSingleSession event → IfOk result (λ reply. reply ≡ reply_of (end_refusal w.active) Aborted)
+      → (result ≡ Ok Aborted → Aborts w new) → ((why : Refusal) → result ≡ Ok (Refused why) → IsAsItWas w new) → SteppedOr new result event
+  abort_steps event n new result is one replied aborted stays =
+      of_one Abort event n (SteppedOr new result) is (λ own. subst IsSingleSession is own) one (quiet_result (Abort 1) result new refl (λ e. cc) (abort_does w new c is_valid (means.works none) result replied aborted stays))
 
 -- what is kept of a heap and the entry that its history has got
 pub with_history : (s : Super) (c : Core) (event : Event) (reply : Reply) (w : Working) (failed : Option ℕ) (image : List ℕ) (may_leave : List ℕ → Type 0) (old new : List Entry)

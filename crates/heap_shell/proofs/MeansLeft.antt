@@ -13,7 +13,7 @@ use Rattle.gated_log.specs.Log.{records_of}
 use Rattle.gated_log.specs.LogLaws.{hand_size-Keeps}
 use Rattle.gated_log.specs.LogState.{hand_size, is_waiting, Keeps}
 use Rattle.graph_model.specs.declared.event.Event.{Event}
-use Rattle.graph_model.specs.declared.event.Event.TheVariants.{Begin, Root, Put, Seal, Force}
+use Rattle.graph_model.specs.declared.event.Event.TheVariants.{Begin, Root, Put, Clear, Drop, Get, Same, Len, Seal, Abort, Force}
 use Rattle.graph_model.specs.declared.reply.Entry.{Entry}
 use Rattle.graph_model.specs.declared.reply.Refusal.{Refusal}
 use Rattle.graph_model.specs.declared.reply.Refusal.TheVariants.{DiskFault, Stopped}
@@ -28,12 +28,12 @@ use Rattle.log_records.specs.declared.Record.{Record}
 use Rattle.log_records.specs.Record.{spellings}
 use Rattle.heap_shell.specs.declared.working.Working.{Working}
 use Rattle.heap_shell.specs.Causes.{reply_device}
-use Rattle.heap_shell.specs.Core.{Core, with_entry, force_calls, calls_if, calls}
-use Rattle.heap_shell.specs.CoreCrash.{KeepsCommits}
-use Rattle.heap_shell.specs.CoreLawsCrash.{crash_law}
-use Rattle.heap_shell.specs.CoreValid.{IsReached}
-use Rattle.heap_shell.specs.Image.{StandsFor, IsLegal}
-use Rattle.heap_shell.specs.Machine as machine
+use Rattle.heap_model.specs.Core.{Core, with_entry, force_calls, calls_if, calls}
+use Rattle.heap_model.specs.CoreCrash.{KeepsCommits}
+use Rattle.heap_model.specs.CoreLawsCrash.{crash_law}
+use Rattle.heap_model.specs.CoreValid.{IsReached}
+use Rattle.heap_model.specs.Image.{StandsFor, IsLegal}
+use Rattle.log_machine.specs.Machine as machine
 use Rattle.heap_shell.specs.Means.{Means}
 use Rattle.heap_shell.proofs.MeansLog.{some_spellings}
 
@@ -102,7 +102,13 @@ quiet_calls (Some entry) c event other = refl
 quiet_calls None c (Begin s) other = refl
 quiet_calls None c (Root s h) other = refl
 quiet_calls None c (Put s h i v) other = refl
+quiet_calls None c (Clear s h i) other = refl
+quiet_calls None c (Drop s h) other = refl
+quiet_calls None c (Get s h i h2) other = refl
+quiet_calls None c (Same s h h2) other = refl
+quiet_calls None c (Len s h) other = refl
 quiet_calls None c (Seal s) other = refl
+quiet_calls None c (Abort s) other = refl
 quiet_calls None c Force other = absurd (other refl)
 
 pub quiet_passes : (c : Core) (event : Event) (before : ℕ) (reply : Reply) → (event ≡ Force → ⊥) → Passes (calls c event) before before (reply_device reply)

@@ -12,8 +12,8 @@ use Rattle.gated_log.specs.LogState.{log_tail, log_hand, hand_size, is_waiting, 
 use Rattle.log_records.specs.declared.Record.{Record}
 use Rattle.log_records.specs.Record.{spelling, spellings}
 use Rattle.log_records.specs.RecordLaws.{some_spelling}
-use Rattle.heap_shell.specs.Core.{need}
-use Rattle.heap_shell.specs.CoreLawsRoom.{length-hand-append}
+use Rattle.heap_model.specs.Core.{need}
+use Rattle.heap_model.specs.CoreLawsRoom.{length-hand-append}
 use Rattle.heap_shell.specs.Working.{SameLog}
 
 pub some_spellings : (r : Record) (rs : List Record) → 0 < length (spellings (r ∷ rs))
@@ -59,4 +59,14 @@ keeps_more old new bs p r same keeps = record {
   four = keeps.four;
   items = same.in_hand ∙ ap (λ (l : List ℕ). l ++ spelling r) keeps.items ∙ append_assoc keeps.head (spellings p) (spelling r)
       ∙ ap (λ (l : List ℕ). keeps.head ++ l) (ap (λ (l : List ℕ). spellings p ++ l) (sym (append-nil (spelling r))) ∙ sym (flat_map-append spelling p (r ∷ [])));
+}
+
+-- more records
+pub keeps_all : (old new : Log) (bs : List (List Record)) (p more : List Record) → SameLog old new (log_hand old ++ spellings more) → Keeps old bs p → Keeps new bs (p ++ more)
+keeps_all old new bs p more same keeps = record {
+  tail = same.tail ∙ keeps.tail;
+  head = keeps.head;
+  four = keeps.four;
+  items = same.in_hand ∙ ap (λ (l : List ℕ). l ++ spellings more) keeps.items ∙ append_assoc keeps.head (spellings p) (spellings more)
+      ∙ ap (λ (l : List ℕ). keeps.head ++ l) (sym (flat_map-append spelling p more));
 }

@@ -1,5 +1,5 @@
 -- How a play tells what a run promises.
-use Rattle.std.proofs.Common.{◌≡◌, ◌≢◌, ◌⊎◌, inl, inr, ⊎_elim, ℕ, ◌+◌, ◌≤◌, min, zero, suc, Bool, List, [], ◌∷◌, ◌++◌, length, take, Option, Some, None, Result, Ok, Err, refl, sym, ap, ◌∙◌, subst, arith, append_assoc}
+use Rattle.std.proofs.Common.{◌≡◌, ◌≢◌, ◌⊎◌, inl, inr, ⊎_elim, ℕ, ◌+◌, ◌≤◌, min, zero, suc, Bool, List, [], ◌∷◌, ◌++◌, length, take, Option, Some, None, Result, Ok, Err, refl, sym, ap, ◌∙◌, subst, arith, append_assoc, length-append}
 use Rattle.std.specs.Prelude.{IsTrue, IfErr, if◌then◌else◌}
 use Rattle.std.specs.List.{AllByRecursion}
 use Rattle.std.proofs.lemmas.Bool.{lt-ltb}
@@ -22,17 +22,19 @@ use Rattle.heap_shell.specs.declared.play.Ended.TheVariants as ended
 use Rattle.heap_shell.specs.declared.status.Status.{Status}
 use Rattle.heap_shell.specs.declared.status.Status.TheVariants as status
 use Rattle.heap_shell.specs.Causes.{DiskRose, IsOutputError, reply_device}
-use Rattle.heap_shell.specs.Core.{Core, with_entry, after, IsRun}
-use Rattle.heap_shell.specs.CoreCrash.{KeepsCommits, HasCommits}
-use Rattle.heap_shell.specs.CoreLawsCalls.{total_calls-append}
-use Rattle.heap_shell.specs.CoreLawsCrash.{commits-sealed}
-use Rattle.heap_shell.specs.CoreLawsGraph.{idle_graph}
-use Rattle.heap_shell.specs.CoreLawsPlay.{ready_valid, ready_behind, ready_front, makes_run, grows}
-use Rattle.heap_shell.specs.CoreLawsReplies.{answers_fresh, run_answers, replies_law}
-use Rattle.heap_shell.specs.CoreLawsRun.{IsIdle, reached_agrees}
-use Rattle.heap_shell.specs.CoreReplies.{call_replies_of}
-use Rattle.heap_shell.specs.CoreRuns.{after_events, total_calls}
-use Rattle.heap_shell.specs.CoreValid.{IsValid, IsReached}
+use Rattle.heap_model.specs.Core.{Core, with_entry, IsRun}
+use Rattle.heap_model.specs.CoreCrash.{KeepsCommits, HasCommits}
+use Rattle.heap_model.specs.CoreLawsCalls.{total_calls-append}
+use Rattle.heap_model.specs.CoreLawsCrash.{commits-sealed}
+use Rattle.heap_model.specs.CoreLawsEnding.{total_few}
+use Rattle.heap_model.specs.CoreLawsGrow.{grows}
+use Rattle.heap_shell.specs.CoreLawsGraph.{valid_graph}
+use Rattle.heap_shell.specs.CoreLawsPlay.{made_valid, ready_behind, ready_front, makes_run}
+use Rattle.heap_model.specs.CoreLawsReplies.{answers_fresh, run_answers, replies_law}
+use Rattle.heap_model.specs.CoreLawsRun.{reached_agrees}
+use Rattle.heap_model.specs.CoreReplies.{call_replies_of}
+use Rattle.heap_model.specs.CoreRuns.{after_events, total_calls}
+use Rattle.heap_model.specs.CoreValid.{IsValid, IsReached}
 use Rattle.heap_shell.specs.Headline.{made_core, graph_text, recovered_text, recovered_line, IsWhole, IsCutBy, HasMade, StopsLast, IsExact, IsEndOfPlay, IsPlayed}
 use Rattle.heap_shell.specs.Playable.{IsPlayable}
 use Rattle.heap_shell.specs.Output.{WroteText, HasGraph, Recovers, status_after}
@@ -50,11 +52,6 @@ counted-sum (suc m) n small =
     let rest = counted-sum m n (omega arith) in
     ap raised rest ∙ ap (λ (b : Bool). if b then m + n + 1 else m + n) (lt-ltb (m + n) greatest (omega arith)) ∙ omega arith
 
--- events that may be asked are session 1's
-single : (c : Core) (events : List Event) → AreReady c events → AllByRecursion IsSingleSession events
-single c [] ready = tt
-single c (event ∷ events) ready = (ready.1, single (after c event) events ready.3)
-
 text_front : (written : Result (Unit {0}) Status) (old first text between new : List ℕ) → between ≡ old ++ first → WroteText written between text new → WroteFront old (first ++ text) new
 text_front written old first text between new lines wrote = then_front old first text between new lines (wrote_some written between text new wrote)
 
@@ -67,7 +64,7 @@ module _ {D : Type 0} {g : Ghosts D} (s : Super) (events : List Event) (playable
   made = plays.made
 
   ready : AreReady made_core (made ++ plays.behind)
-  ready = subst (AreReady made_core) plays.parts playable.ready
+  ready = subst (AreReady made_core) plays.parts (made_valid, playable.single)
 
   makes : Makes made_core made core old new
   makes = ends_makes made_core made plays.behind core old new result plays.ends
@@ -77,7 +74,7 @@ module _ {D : Type 0} {g : Ghosts D} (s : Super) (events : List Event) (playable
   run_reached = makes_run made_core made plays.behind core old new ready makes
 
   made_single : AllByRecursion IsSingleSession made
-  made_single = single made_core made (ready_front made_core made plays.behind ready)
+  made_single = (ready_front made_core made plays.behind ready).1
 
   -- the graph at the opening was new
   g0 : core.g0 ≡ new_graph
@@ -101,14 +98,9 @@ module _ {D : Type 0} {g : Ghosts D} (s : Super) (events : List Event) (playable
   most : all ≤ length (commits core.history)
   most = let same : length (commits core.history) ≡ all = ap (λ (ts : List Transaction). length ts) (commits-sealed core run_reached.1) in omega arith
 
-  -- behind a whole script the heap's graph is that of all commits
-  pub whole_graph : plays.behind ≡ [] → IsWhole made core → HasGraph core (serial core.g0 (sealed core.history))
-  whole_graph none whole =
-      let all : made ++ plays.behind ≡ made = ap (λ (l : List Event). made ++ l) none ∙ append-nil made in
-      let valid : IsValid core = subst IsValid (sym whole) (ready_valid (after_events made_core made) plays.behind (ready_behind made_core made plays.behind ready)) in
-      let same : events ≡ made = plays.parts ∙ all in
-      let idle : IsIdle core = subst IsIdle (ap (after_events made_core) same ∙ sym whole) playable.idle in
-      idle_graph core valid idle
+  -- where the disk did what it was asked, the heap's graph is that of all commits
+  pub whole_graph : IsWhole made core → HasGraph core (serial core.g0 (sealed core.history))
+  whole_graph whole = valid_graph core (subst IsValid (sym whole) (ready_behind made_core made plays.behind ready).0)
 
   -- the graph of all commits
   all_graph : graph_text (serial core.g0 (sealed core.history)) ≡ graph_text (serial new_graph (take all (commits core.history)))
@@ -156,7 +148,6 @@ module _ {D : Type 0} {g : Ghosts D} (s : Super) (events : List Event) (playable
       end = is_end;
       done = λ is. absurd (not_done is);
       exact = place;
-      calls = λ u is. absurd (not_done is);
       moments = moments;
       kept = left;
       replies = replies;
@@ -164,6 +155,7 @@ module _ {D : Type 0} {g : Ghosts D} (s : Super) (events : List Event) (playable
       least = least;
       most = most;
       all = λ none. refl;
+      calls = λ u is. absurd (not_done is);
       written = λ t. front_more before (lines_text core.history) (recovered_text stop all ++ graph_text (serial new_graph (take all (commits core.history)))) after (part t).0;
       cut = λ t. (part t).1;
       lines = λ t fault. ([], out t fault ∙ sym (append-nil (before ++ lines_text core.history)));
@@ -189,7 +181,6 @@ module _ {D : Type 0} {g : Ghosts D} (s : Super) (events : List Event) (playable
           end = written_end faults faults' output_result fails;
           done = λ is. (none, reached);
           exact = λ u. reached;
-          calls = λ u is. calls;
           moments = moments;
           kept = left;
           replies = replies;
@@ -197,6 +188,7 @@ module _ {D : Type 0} {g : Ghosts D} (s : Super) (events : List Event) (playable
           least = least;
           most = most;
           all = λ n. refl;
+          calls = λ u is. calls;
           written = λ t. text_front output_result before (lines_text core.history) text after after' (out t) (full t);
           cut = λ t. let front = wrote_some output_result after text after' (full t) in lines_more after' front.0 (out t) front.3;
           lines = λ t fault. absurd (written_no_fault faults faults' output_result fails fault);
@@ -207,10 +199,10 @@ module _ {D : Type 0} {g : Ghosts D} (s : Super) (events : List Event) (playable
         }
 
     -- The heap was opened again, and what came back was to be written.
-    pub ends_recovered : (n : ℕ) (by : Status) (after' : List ℕ) → HasMade (Some n) made plays.behind core → (unharmed → IsExact (Some n) made core)
-        → (IsTrue told → after ≡ before ++ lines_text core.history) → Recovers core by may_leave told after after'
-        → (unharmed → passed (min n (total_calls made_core made))) → IsPlayed (Some n) events by each may_leave unharmed passed told before after'
-    ends_recovered n by after' has place out recovers calls =
+    pub ends_recovered : (n : ℕ) (by : Status) (after' : List ℕ) (again : ℕ → Type 0) → HasMade (Some n) made plays.behind core → (unharmed → IsExact (Some n) made core)
+        → (IsTrue told → after ≡ before ++ lines_text core.history) → Recovers core by may_leave again told after after'
+        → (unharmed → (opening : ℕ) → again opening → passed (min n (total_calls made_core made) + opening)) → IsPlayed (Some n) events by each may_leave unharmed passed told before after'
+    ends_recovered n by after' again has place out recovers calls =
         let text = λ (x : Graph). recovered_line recovers.count ++ graph_text (serial x (take recovers.count (commits core.history))) in
         let front = λ (t : IsTrue told). subst (λ (x : Graph). WroteFront after (text x) after') g0 (recovers.written t) in
         let full = λ (t : IsTrue told) (is : by ≡ status.Done). subst (λ (x : Graph). after' ≡ after ++ text x) g0 (recovers.whole t is) in
@@ -224,7 +216,6 @@ module _ {D : Type 0} {g : Ghosts D} (s : Super) (events : List Event) (playable
           end = recovers.end;
           done = λ is. has;
           exact = place;
-          calls = λ u is. calls u;
           moments = moments;
           kept = recovers.kept;
           replies = replies;
@@ -232,16 +223,17 @@ module _ {D : Type 0} {g : Ghosts D} (s : Super) (events : List Event) (playable
           least = recovers.least;
           most = recovers.most;
           all = λ none. cc;
+          calls = λ u is. let opening = recovers.calls is in (opening.0, opening.1, calls u opening.0 opening.2);
           written = λ t. then_front before (lines_text core.history) (text new_graph) after after' (out t) (front t);
           cut = λ t. let f = front t in lines_more after' f.0 (out t) f.3;
           lines = λ t fault. let f = front t in (f.0, f.3 ∙ ap (λ (l : List ℕ). l ++ f.0) (out t));
           whole = λ t is. full t is ∙ ap (λ (l : List ℕ). l ++ text new_graph) (out t) ∙ append_assoc before (lines_text core.history) (text new_graph);
         }
 
-  few : total_calls made_core made ≤ 8388608
+  few : total_calls made_core made ≤ 8388616
   few =
-      let split = total_calls-append made_core made plays.behind in
-      let same : total_calls made_core events ≡ total_calls made_core (made ++ plays.behind) = ap (total_calls made_core) plays.parts in
+      let all : length events ≡ length made + length plays.behind = ap (λ (l : List Event). length l) plays.parts ∙ length-append made plays.behind in
+      let each = total_few made_core made in
       let most = playable.few in
       omega arith
 

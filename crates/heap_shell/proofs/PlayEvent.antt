@@ -11,9 +11,9 @@ use Rattle.gate_slot.specs.Passing.{Passes}
 use Rattle.graph_model.specs.declared.event.Event.{Event}
 use Rattle.graph_model.specs.declared.event.Event.TheVariants.{Force}
 use Rattle.graph_model.specs.declared.reply.Entry.{Entry}
-use Rattle.graph_model.specs.declared.reply.Refusal.TheVariants.{Failed, AlreadyActive, NotActive, NumbersSpent, BadHandle, Range, BadField, LogFull, DiskFault, Stopped}
+use Rattle.graph_model.specs.declared.reply.Refusal.TheVariants.{DiskFault, Stopped}
 use Rattle.graph_model.specs.declared.reply.Reply.{Reply}
-use Rattle.graph_model.specs.declared.reply.Reply.TheVariants.{Begun, Done, Sealed, Durable, Refused}
+use Rattle.graph_model.specs.declared.reply.Reply.TheVariants.{Refused}
 use Rattle.graph_model.specs.History.{account}
 use Rattle.graph_model.specs.PlainLaws.{IsSoundReply, granted_sound, sound_either}
 use Rattle.graph_model.specs.Text.{line}
@@ -24,32 +24,21 @@ use Rattle.heap_shell.specs.declared.play.Ended.{Ended}
 use Rattle.heap_shell.specs.declared.play.Ended.TheVariants as ended
 use Rattle.heap_shell.specs.declared.status.Status.{Status}
 use Rattle.heap_shell.specs.Causes.{reply_device}
-use Rattle.heap_shell.specs.Core.{Core, next_number, answer, with_entry, after, IsCutShort, IsStep, force_calls, calls_if, calls}
-use Rattle.heap_shell.specs.CoreCrash.{KeepsCommits, HasCommits}
-use Rattle.heap_shell.specs.CoreLawsPlay.{has_commits_on, keeps_has}
-use Rattle.heap_shell.specs.CoreLawsRun.{step_history, valid_step}
-use Rattle.heap_shell.specs.CoreLawsStep.{core_refusal-HasNoFault}
-use Rattle.heap_shell.specs.CoreValid.{IsReached}
+use Rattle.heap_model.specs.Core.{Core, next_number, answer, with_entry, after, IsCutShort, IsStep, force_calls, calls_if, calls}
+use Rattle.heap_model.specs.CoreCrash.{KeepsCommits, HasCommits}
+use Rattle.heap_model.specs.CoreLawsGrow.{has_commits_on, keeps_has}
+use Rattle.heap_model.specs.CoreLawsRun.{step_history, valid_step}
+use Rattle.heap_model.specs.CoreLawsStep.{core_refusal-HasNoFault}
+use Rattle.heap_model.specs.CoreValid.{IsReached}
 use Rattle.heap_shell.specs.Means.{IsHeap}
 use Rattle.heap_shell.specs.Play.{AreReady, MakesAll, MakesShort, Makes, Ends, Plays, ended_by, lines_text, WroteFront, WroteLines}
 use Rattle.heap_shell.proofs.MeansLeft.{heap_keeps}
 
 -- a reply that tells no fault of the disk
 sound_device : (reply : Reply) → IsSoundReply reply → (reply_device reply ≡ Ok tt) × (ended_by reply ≡ ended.Whole)
-sound_device (Begun n) sound = (refl, refl)
-sound_device Done sound = (refl, refl)
-sound_device (Sealed n) sound = (refl, refl)
-sound_device (Durable n) sound = (refl, refl)
-sound_device (Refused (Failed entry)) sound = (refl, refl)
-sound_device (Refused AlreadyActive) sound = (refl, refl)
-sound_device (Refused NotActive) sound = (refl, refl)
-sound_device (Refused NumbersSpent) sound = (refl, refl)
-sound_device (Refused BadHandle) sound = (refl, refl)
-sound_device (Refused Range) sound = (refl, refl)
-sound_device (Refused BadField) sound = (refl, refl)
-sound_device (Refused (LogFull used need reserved)) sound = (refl, refl)
 sound_device (Refused DiskFault) sound = absurd sound
 sound_device (Refused Stopped) sound = absurd sound
+sound_device reply sound = (refl, refl)
 
 forces_some : (p : List Record) → p ≢ [] → 0 < force_calls p
 forces_some [] some = absurd (some refl)
@@ -124,7 +113,7 @@ module _ {D : Type 0} {g : Ghosts D} (s : Super) (c d : Core) (event : Event) (r
   pub one_leaves : LeavesOnly g.moment g.left_since old.disk new.disk (KeepsCommits c) → LeavesOnly g.moment g.left_since old.disk new.disk (HasCommits d)
   one_leaves moments =
       let reached : IsReached c = inl ready.0 in
-      let next = valid_step c d event reply reached ready.1 ready.2 step in
+      let next = valid_step c d event reply reached ready.1.0 step in
       weaker g.moment g.left_since old.disk new.disk (KeepsCommits c) (HasCommits d) moments
       (λ image kept. has_commits_on c d one image reached next (reply, d, step, refl) (keeps_has c image kept))
 

@@ -15,12 +15,13 @@ use Rattle.heap_shell.specs.declared.play.Ended.{Ended}
 use Rattle.heap_shell.specs.declared.play.Ended.TheVariants as ended
 use Rattle.heap_shell.specs.declared.status.Status.{Status}
 use Rattle.heap_shell.specs.Causes.{reply_device}
-use Rattle.heap_shell.specs.Core.{Core, with_entry, IsCutShort, calls}
-use Rattle.heap_shell.specs.CoreCrash.{HasCommits}
-use Rattle.heap_shell.specs.CoreRuns.{after_events, total_calls}
-use Rattle.heap_shell.specs.CoreValid.{IsValid}
-use Rattle.heap_shell.specs.CoreLawsCalls.{after_events-append, total_calls-append}
-use Rattle.heap_shell.specs.CoreLawsPlay.{ready_valid, ready_behind, makes_run, has_commits_on}
+use Rattle.heap_model.specs.Core.{Core, with_entry, IsCutShort, calls}
+use Rattle.heap_model.specs.CoreCrash.{HasCommits}
+use Rattle.heap_model.specs.CoreRuns.{after_events, total_calls}
+use Rattle.heap_model.specs.CoreValid.{IsValid}
+use Rattle.heap_model.specs.CoreLawsCalls.{after_events-append, total_calls-append}
+use Rattle.heap_model.specs.CoreLawsGrow.{has_commits_on}
+use Rattle.heap_shell.specs.CoreLawsPlay.{ready_behind, makes_run}
 use Rattle.heap_shell.specs.Means.{IsHeap}
 use Rattle.heap_shell.specs.Play.{AreReady, MakesAll, MakesShort, Makes, Ends, Plays}
 use Rattle.heap_shell.proofs.Causes.{cause_on}
@@ -108,7 +109,7 @@ module _ {D : Type 0} {g : Ghosts D} where
       → LeavesOnly g.moment g.left_since old.disk new.disk (HasCommits d)
   moments_then m d made behind old mid new ready makes first second =
       let run = makes_run m made behind d mid new ready makes in
-      let on = λ (image : List ℕ) (has : HasCommits m image). has_commits_on m d made image (inl (ready_valid m (made ++ behind) ready)) run.1 run.0 has in
+      let on = λ (image : List ℕ) (has : HasCommits m image). has_commits_on m d made image (inl ready.0) run.1 run.0 has in
       weaker g.moment g.left_since old.disk new.disk _ (HasCommits d)
       (joined g.moment g.left_since old.disk mid.disk new.disk (HasCommits m) (HasCommits d) first second)
       (λ image either. ⊎_elim (on image) (λ (has : HasCommits d image). has) either)
@@ -116,14 +117,14 @@ module _ {D : Type 0} {g : Ghosts D} where
   -- A whole play, and then another.
   pub plays_then : (s : Super) (c : Core) (events more : List Event) (old mid new : Heap D g) (told : Bool) (before between after : List ℕ) (result : Result Ended Status)
       → AreReady c (events ++ more) → Plays s c events old mid told before between (Ok ended.Whole)
-      → ((d : Core) → IsHeap s d mid → AreReady d more → Plays s d more mid new told between after result)
+      → ((d : Core) → d ≡ after_events c events → IsHeap s d mid → AreReady d more → Plays s d more mid new told between after result)
       → g.faults old.disk ≤ g.faults mid.disk → g.stops old.disk ≤ g.stops mid.disk
       → Plays s c (events ++ more) old new told before after result
   plays_then s c events more old mid new told before between after result ready first rest faults_kept stops_kept =
       let m = first.core in
       let all = whole_parts c events first.made first.behind m old mid first.parts first.ends in
       let ready_mid = subst (λ (x : Core). AreReady x more) (sym all.reached) (ready_behind c events more ready) in
-      let second = rest m first.heap ready_mid in
+      let second = rest m all.reached first.heap ready_mid in
       let makes = ends_makes m second.made second.behind second.core mid new result second.ends in
       record {
         made = events ++ second.made;

@@ -8,13 +8,13 @@ use Rattle.image_plan.specs.declared.superblock.Super.{Super}
 use Rattle.heap_shell.specs.declared.heap.Heap.{Heap}
 use Rattle.heap_shell.specs.declared.play.Ended.{Ended}
 use Rattle.heap_shell.specs.declared.play.Ended.TheVariants as ended
-use Rattle.heap_shell.specs.declared.script.Line.{Line}
+use Rattle.script_text.specs.declared.line.Line.{Line}
 use Rattle.heap_shell.specs.declared.status.Status.{Status}
-use Rattle.heap_shell.specs.Core.{Core}
+use Rattle.heap_model.specs.Core.{Core}
 use Rattle.heap_shell.specs.CoreLawsPlay.{ready_front}
 use Rattle.heap_shell.specs.Means.{IsHeap}
 use Rattle.heap_shell.specs.Play.{AreReady, Plays}
-use Rattle.heap_shell.specs.Script.{line_events, events}
+use Rattle.script_text.specs.Line.{line_events, events}
 use Rattle.heap_shell.proofs.PlayLaws.{plays_on, plays_then}
 
 events_next : (lines : List Line) (i : ℕ) (d : Line) → i < length lines → events (take (i + 1) lines) ≡ events (take i lines) ++ line_events (get_or lines i d)
@@ -40,7 +40,7 @@ module _ {D : Type 0} {g : Ghosts D} (s : Super) (c : Core) (lines : List Line) 
   here : Plays s c (events (take i lines) ++ line) old new told before after result
   here =
       let front = ready_front c (events (take i lines) ++ line) (events (drop (i + 1) lines)) (subst (AreReady c) (events_parts lines i d lt) ready) in
-      plays_then s c (events (take i lines)) line old mid new told before between after result front so_far next faults stops
+      plays_then s c (events (take i lines)) line old mid new told before between after result front so_far (λ core reached. next core) faults stops
 
   -- with that line
   pub line_more : Plays s c (events (take (i + 1) lines)) old new told before after result

@@ -1,18 +1,20 @@
 -- How the state follows the records, one after another.
-use Rattle.std.proofs.Common.{◌≡◌, ℕ, zero, suc, ◌+◌, ◌<◌, ◌≤◌, max, Bool, true, false, cond, List, [], ◌∷◌, ◌++◌, length, get_or, take, drop, Option, None, Some, refl, sym, ◌∙◌, ap, subst, arith, take-append-drop}
+use Rattle.std.proofs.Common.{◌≡◌, ℕ, zero, suc, ◌+◌, ◌<◌, ◌≤◌, max, Bool, true, false, cond, List, [], ◌∷◌, ◌++◌, length, get_or, take, drop, None, Some, sym, ◌∙◌, ap, subst, arith, take-append-drop}
 use Rattle.std.specs.List.{AllByRecursion}
-use Rattle.std.specs.Option.{option_and_then}
 use Rattle.std.specs.Prelude.{nat_lt, ◌&&◌}
 use Rattle.std.proofs.lemmas.List.{take_more, drop_more}
+use Rattle.std.proofs.lemmas.Option.{option_and_then_some}
 use Rattle.log_records.specs.declared.Record.{Record}
-use Rattle.log_records.specs.declared.Record.TheVariants.{Update, Commit}
+use Rattle.log_records.specs.declared.Record.TheVariants.{Update, Undo, Commit, End}
 use Rattle.log_records.specs.Record.{IsRecord}
-use Rattle.heap_shell.specs.CoreLawsRecords.{after_all-append, words-append}
-use Rattle.heap_shell.specs.Machine.{State, start, after, after_all, may_write, put_record, words}
+use Rattle.log_machine.specs.declared.UndoEntry.{UndoEntry}
+use Rattle.log_machine.specs.Machine.{State, start, after, after_all, may_write, has_ended, put_record, words}
+use Rattle.log_machine.specs.MachineLaws.{after_all-append, after_all_none, words-append, taken_newest}
 
--- one record more adds at most one commit, and its number may be the greatest
+-- one record more adds at most one commit and one write, and its number may be the greatest
 pub record Bounds (i : ℕ) (s : State) : Type 0 where
   pub few : s.commits ≤ i
+  pub few_writes : length s.undo ≤ i
   pub small : s.greatest ≤ 4294967294
 
 kept : (b : Bool) (i : ℕ) (n s : State) → Bounds (i + 1) n → cond b (Some n) None ≡ Some s → Bounds (i + 1) s
@@ -20,17 +22,21 @@ kept true i n s bounds is = let same : n ≡ s = cc is in subst (λ (x : State).
 kept false i n s bounds is = absurd (cc is)
 
 pub bounds_on : (i : ℕ) (r : Record) (s n : State) → IsRecord r → Bounds i s → after s r ≡ Some n → Bounds (i + 1) n
-bounds_on i (Update t object field was word) s n good b is = kept (nat_lt (object + 2 + field) 6 && may_write s.writer t) i (record { writer = Some t; commits = s.commits; greatest = max s.greatest t }) n (record { few = omega (arith, b.few); small = omega (arith, b.small, good.number.small) }) is
-bounds_on i (Commit t) s n good b is = kept (may_write s.writer t) i (record { writer = None; commits = s.commits + 1; greatest = max s.greatest t }) n (record { few = omega (arith, b.few); small = omega (arith, b.small, good.small) }) is
-
-from : (m : State) (rs : List Record) (r : Record) (rest : List Record) (on : (n : State) → after_all n rs ≡ Some m → after_all n (rs ++ r ∷ rest) ≡ None) (o : Option State) → option_and_then (λ next. after_all next rs) o ≡ Some m → option_and_then (λ next. after_all next (rs ++ r ∷ rest)) o ≡ None
-from m rs r rest on None e = refl
-from m rs r rest on (Some n) e = on n e
-
--- a record that can't follow ends it
-pub after_all_none : (s m : State) (rs : List Record) (r : Record) (rest : List Record) → after_all s rs ≡ Some m → after m r ≡ None → after_all s (rs ++ r ∷ rest) ≡ None
-after_all_none s m [] r rest is stuck = let same : s ≡ m = cc is in ap (λ (x : Option State). option_and_then (λ next. after_all next rest) x) (ap (λ (y : State). after y r) same ∙ stuck)
-after_all_none s m (x ∷ rs) r rest is stuck = from m rs r rest (λ n e. after_all_none n m rs r rest e stuck) (after s x) is
+bounds_on i (Update t object field was word) s n good b is =
+    kept (nat_lt (object + 2 + field) 6 && may_write s.writer s.undo t) i (record { writer = t; undo = record { object = object; field = field; was = was } ∷ s.undo; commits = s.commits; greatest = max s.greatest t }) n
+    (record { few = omega (arith, b.few); few_writes = omega (arith, b.few_writes); small = omega (arith, b.small, good.number.small) }) is
+bounds_on i (Undo t object field word) s n good b is =
+    let write : UndoEntry = record { object = object; field = field; was = word } in
+    option_and_then_some (λ rest. Some (record { writer = t; undo = rest; commits = s.commits; greatest = max s.greatest t })) _ n is (λ rest newest same.
+    let fewer = ap (λ (us : List UndoEntry). length us) (taken_newest s.writer s.undo t write rest newest).is in
+    kept true i (record { writer = t; undo = rest; commits = s.commits; greatest = max s.greatest t }) n
+    (record { few = omega (arith, b.few); few_writes = omega (arith, b.few_writes, fewer); small = omega (arith, b.small, good.number.small) }) same)
+bounds_on i (Commit t) s n good b is =
+    kept (may_write s.writer s.undo t) i (record { writer = t; undo = []; commits = s.commits + 1; greatest = max s.greatest t }) n
+    (record { few = omega (arith, b.few); few_writes = omega arith; small = omega (arith, b.small, good.small) }) is
+bounds_on i (End t) s n good b is =
+    kept (has_ended s.writer s.undo t) i (record { writer = s.writer; undo = s.undo; commits = s.commits; greatest = max s.greatest t }) n
+    (record { few = omega (arith, b.few); few_writes = omega (arith, b.few_writes); small = omega (arith, b.small, good.small) }) is
 
 -- the record at a place is as good as all
 pub good_at : (rs : List Record) (i : ℕ) (d : Record) → i < length rs → AllByRecursion IsRecord rs → IsRecord (get_or rs i d)
@@ -50,7 +56,7 @@ pub state_on : (rs : List Record) (i : ℕ) (d : Record) (m n : State) → i < l
 state_on rs i d m n lt so_far is = ap (λ (l : List Record). after_all start l) (front rs i d lt) ∙ after_all-append start m (take i rs) (get_or rs i d) so_far ∙ is
 
 pub words_on : (rs : List Record) (i : ℕ) (d : Record) (old new : List ℕ) → i < length rs → old ≡ words (take i rs) → new ≡ put_record old (get_or rs i d) → new ≡ words (take (i + 1) rs)
-words_on rs i d old new lt so_far is = is ∙ ap (λ (l : List ℕ). put_record l (get_or rs i d)) so_far ∙ sym (words-append (take i rs) (get_or rs i d)) ∙ ap words (sym (front rs i d lt))
+words_on rs i d old new lt so_far is = is ∙ ap (λ (l : List ℕ). put_record l (get_or rs i d)) so_far ∙ sym (words-append (take i rs) (get_or rs i d ∷ [])) ∙ ap words (sym (front rs i d lt))
 
 pub none_on : (rs : List Record) (i : ℕ) (d : Record) (m : State) → i < length rs → after_all start (take i rs) ≡ Some m → after m (get_or rs i d) ≡ None → after_all start rs ≡ None
 none_on rs i d m lt so_far stuck = ap (λ (l : List Record). after_all start l) (parts rs i d lt) ∙ after_all_none start m (take i rs) (get_or rs i d) (drop (i + 1) rs) so_far stuck

@@ -1,5 +1,5 @@
 -- What a run promises, from what its parts promise.
-use Rattle.std.proofs.Common.{◌≡◌, ◌⊎◌, inl, inr, ℕ, ◌+◌, ◌≤◌, Bool, List, [], Option, refl, ap, ◌∙◌}
+use Rattle.std.proofs.Common.{◌≡◌, ◌⊎◌, inl, inr, ℕ, ◌+◌, ◌≤◌, Bool, List, [], Option, Some, None, refl, ap, ◌∙◌}
 use Rattle.counts.specs.Count.{counted}
 use Rattle.disk_model.specs.declared.disk.Disk.{Ghosts}
 use Rattle.disk_model.specs.Disk.{Only}
@@ -12,11 +12,12 @@ use Rattle.heap_shell.specs.declared.format.FormatError.TheVariants as format
 use Rattle.heap_shell.specs.declared.status.Status.{Status}
 use Rattle.heap_shell.specs.declared.status.Status.TheVariants as status
 use Rattle.heap_shell.specs.Causes.{DiskRose, IsInputError, IsPlayStatus}
-use Rattle.heap_shell.specs.CoreCrash.{HasCommits}
-use Rattle.heap_shell.specs.CoreRuns.{total_calls}
-use Rattle.heap_shell.specs.Headline.{made_core, let_through, IsEndOfPlay, IsSound, SinceMade, IsPlayed, IsUnmade}
+use Rattle.heap_model.specs.Core.{Core}
+use Rattle.heap_model.specs.CoreCrash.{HasCommits}
+use Rattle.heap_model.specs.CoreRuns.{total_calls}
+use Rattle.heap_shell.specs.Headline.{made_core, let_through, HasPassed, IsEndOfPlay, IsSound, SinceMade, IsPlayed, IsUnmade}
 use Rattle.heap_shell.specs.Format.{IsFormatting}
-use Rattle.heap_shell.specs.Image.{IsLegal}
+use Rattle.heap_model.specs.Image.{IsLegal}
 use Rattle.heap_shell.specs.StatusOf.{format_status}
 use Rattle.heap_shell.proofs.Causes.{rose_since}
 
@@ -38,6 +39,11 @@ pub format_unmade : (e : FormatError) → IsUnmade (format_status e)
 format_unmade (format.TooSmall size need) = tt
 format_unmade (format.Disk e) = tt
 
+-- what passed, counted from an earlier moment on
+passed_more : (stop : Option ℕ) (c : Core) (k calls : ℕ) (passed passed' : ℕ → Type 0) → ((n : ℕ) → passed n → passed' n) → HasPassed stop c k calls passed → HasPassed stop c k calls passed'
+passed_more None c k calls passed passed' more is = more (let_through None calls) is
+passed_more (Some n) c k calls passed passed' more is = (is.0, is.1, more (let_through (Some n) calls + is.0) is.2)
+
 -- a play as a part of a longer run
 pub played_within : (stop : Option ℕ) (events : List Event) (result : Status) (each each' : (List ℕ → Type 0) → Type 0) (may_leave : List ℕ → Type 0) (unharmed unharmed' : Type 0) (passed passed' : ℕ → Type 0) (told : Bool) (before after : List ℕ)
     → ((P : List ℕ → Type 0) → each P → each' P) → (unharmed' → unharmed) → ((n : ℕ) → passed n → passed' n) → IsPlayed stop events result each may_leave unharmed passed told before after → IsPlayed stop events result each' may_leave unharmed' passed' told before after
@@ -51,7 +57,6 @@ played_within stop events result each each' may_leave unharmed unharmed' passed 
   end = played.end;
   done = played.done;
   exact = λ u. played.exact (same u);
-  calls = λ u is. more (let_through stop (total_calls made_core played.made)) (played.calls (same u) is);
   moments = wider (HasCommits played.core) played.moments;
   kept = played.kept;
   replies = played.replies;
@@ -59,6 +64,7 @@ played_within stop events result each each' may_leave unharmed unharmed' passed 
   least = played.least;
   most = played.most;
   all = played.all;
+  calls = λ u is. passed_more stop played.core played.count (total_calls made_core played.made) passed passed' more (played.calls (same u) is);
   written = played.written;
   cut = played.cut;
   lines = played.lines;

@@ -1,5 +1,5 @@
 -- How the ways in which a play may end go on.
-use Rattle.std.proofs.Common.{◌≡◌, inl, inr, ℕ, List, ◌++◌, Result, Ok, Err, arith, refl, subst}
+use Rattle.std.proofs.Common.{◌≡◌, inl, inr, ℕ, List, ◌++◌, Result, Ok, Err, arith, refl, ap, subst}
 use Rattle.std.specs.Prelude.{IfErr}
 use Rattle.counts.specs.Count.{Rose}
 use Rattle.heap_shell.specs.declared.status.Status.{Status}
@@ -90,17 +90,18 @@ open_not_done opening.NotHeap is = cc
 open_not_done (opening.Damaged at) is = cc
 open_not_done (opening.Disk e) is = cc
 
-never : (s s' : ℕ) → s ≡ 0 → s' ≡ 0 → Rose s s' → ⊥
-never s s' none still (inl up) = omega arith
-never s s' none still (inr full) = omega arith
+-- a disk that has not stopped has not answered so
+pub no_stop : (s s' : ℕ) → s ≡ 0 → s' ≡ 0 → Rose s s' → ⊥
+no_stop s s' none still (inl up) = omega arith
+no_stop s s' none still (inr full) = omega arith
 
-failed_open : (Q : Type 0) (e : DiskError) (f f' s s' : ℕ) → s ≡ 0 → s' ≡ 0 → HasCause f f' s s' (error_device (opening.Disk e)) → IsPlayStatus (Rose f f') Q (open_status (opening.Disk e))
-failed_open Q Failed f f' s s' none still cause = cause.failed refl
-failed_open Q Stopped f f' s s' none still cause = absurd (never s s' none still (cause.stopped refl))
+failed_open : (Q : Type 0) (e : DiskError) (f f' s s' : ℕ) → (e ≡ Stopped → ⊥) → HasCause f f' s s' (error_device (opening.Disk e)) → IsPlayStatus (Rose f f') Q (open_status (opening.Disk e))
+failed_open Q Failed f f' s s' other cause = cause.failed refl
+failed_open Q Stopped f f' s s' other cause = absurd (other refl)
 
--- an opening that only reads ends a play by the disk's faults alone
-pub open_fault : (Q : Type 0) (e : OpenError) (f f' s s' : ℕ) → s ≡ 0 → s' ≡ 0 → HasCause f f' s s' (error_device e) → IsPlayStatus (Rose f f') Q (open_status e)
-open_fault Q opening.NoMemory f f' s s' none still cause = tt
-open_fault Q opening.NotHeap f f' s s' none still cause = tt
-open_fault Q (opening.Damaged at) f f' s s' none still cause = tt
-open_fault Q (opening.Disk e) f f' s s' none still cause = failed_open Q e f f' s s' none still cause
+-- an opening that was not stopped ends a play by the disk's faults alone
+pub open_fault : (Q : Type 0) (e : OpenError) (f f' s s' : ℕ) → (e ≡ opening.Disk Stopped → ⊥) → HasCause f f' s s' (error_device e) → IsPlayStatus (Rose f f') Q (open_status e)
+open_fault Q opening.NoMemory f f' s s' other cause = tt
+open_fault Q opening.NotHeap f f' s s' other cause = tt
+open_fault Q (opening.Damaged at) f f' s s' other cause = tt
+open_fault Q (opening.Disk e) f f' s s' other cause = failed_open Q e f f' s s' (λ is. other (ap opening.Disk is)) cause

@@ -11,10 +11,10 @@ use Rattle.heap_shell.specs.declared.recovery.OpenError.{OpenError}
 use Rattle.heap_shell.specs.declared.recovery.OpenError.TheVariants as opening
 use Rattle.heap_shell.specs.declared.play.Ended.{Ended}
 use Rattle.heap_shell.specs.declared.play.Ended.TheVariants as ended
-use Rattle.heap_shell.specs.declared.script.ScriptError.TheVariants.{Fault}
+use Rattle.script_text.specs.declared.script.ScriptError.TheVariants.{Fault}
 use Rattle.heap_shell.specs.declared.status.Status.{Status}
 use Rattle.heap_shell.specs.declared.status.Status.TheVariants as status
-use Rattle.heap_shell.specs.Script.{script}
+use Rattle.script_text.specs.Script.{script}
 
 -- what the disk answered in a step
 abbrev pub reply_device : Reply → Result (Unit {0}) DiskError

@@ -2,7 +2,7 @@
 -- number of device calls.
 use Rattle.std.specs.Prelude.{ℕ, List, [], ◌∷◌, Option, None, Some, option_and_then, nat_le, ◌&&◌, bytes_eq, codes, if◌then◌else◌}
 use Rattle.heap_shell.specs.declared.command.Play.{Play}
-use Rattle.heap_shell.specs.Number.{number}
+use Rattle.script_text.specs.Number.{number}
 
 -- a number of pages, from 1 to 16,384
 abbrev pub pages_of : Option ℕ → Option ℕ

@@ -2,7 +2,7 @@
 use Rattle.std.specs.Prelude.{◌≡◌, ◌⊎◌, ℕ, ◌+◌, ◌-◌, ◌/◌, ◌<◌, ◌≤◌, ◌==◌, List, [], slice_index, if◌then◌else◌}
 use Rattle.gate_slot.specs.Gate.{IsClosed}
 use Rattle.image_plan.specs.declared.superblock.Super.{Super}
-use Rattle.heap_shell.specs.Image.{IsLegal}
+use Rattle.heap_model.specs.Image.{IsLegal}
 
 -- the bytes from `from` to `end` are zero
 abbrev pub AreZero : ℕ → ℕ → List ℕ → Type 0

@@ -1,5 +1,5 @@
 -- What a run of the program promises.
-use Rattle.std.specs.Prelude.{◌≡◌, ◌⊎◌, ℕ, ◌≤◌, min, List, [], ◌∷◌, ◌++◌, length, take, codes, Bool, IsTrue, Option, None, Some}
+use Rattle.std.specs.Prelude.{◌≡◌, ◌⊎◌, ℕ, ◌+◌, ◌≤◌, min, List, [], ◌∷◌, ◌++◌, length, take, codes, Bool, IsTrue, Option, None, Some}
 use Rattle.std.specs.Fmt.{decimal}
 use Rattle.counts.specs.Count.{raised}
 use Rattle.disk_model.specs.Disk.{Only}
@@ -15,17 +15,19 @@ use Rattle.graph_model.specs.Canon.{canon}
 use Rattle.graph_model.specs.Text.{canon_text}
 use Rattle.image_plan.specs.declared.superblock.Super.{Super}
 use Rattle.heap_shell.specs.declared.command.Play.{Play}
-use Rattle.heap_shell.specs.declared.script.Line.{Line}
+use Rattle.script_text.specs.declared.line.Line.{Line}
 use Rattle.heap_shell.specs.declared.status.Status.{Status}
 use Rattle.heap_shell.specs.declared.status.Status.TheVariants as status
-use Rattle.heap_shell.specs.Core.{Core, fresh, with_entry, IsCutShort, IsRun}
-use Rattle.heap_shell.specs.CoreCrash.{KeepsCommits, HasCommits}
-use Rattle.heap_shell.specs.CoreReplies.{call_replies_of}
-use Rattle.heap_shell.specs.CoreRuns.{after_events, total_calls, StopsAt}
+use Rattle.heap_model.specs.Core.{Core, fresh, with_entry, IsCutShort, IsRun}
+use Rattle.heap_model.specs.CoreCrash.{StandsForFirst, KeepsCommits, HasCommits}
+use Rattle.heap_model.specs.CoreReplies.{call_replies_of}
+use Rattle.heap_model.specs.CoreRuns.{after_events, total_calls, StopsAt}
+use Rattle.heap_model.specs.Ending.{all_events}
+use Rattle.heap_model.specs.Opening.{opening_calls}
 use Rattle.heap_shell.specs.Format.{IsFormatting}
-use Rattle.heap_shell.specs.Image.{IsLegal}
+use Rattle.heap_model.specs.Image.{IsLegal}
 use Rattle.heap_shell.specs.Play.{lines_text, WroteFront, WroteLines}
-use Rattle.heap_shell.specs.Script.{events}
+use Rattle.script_text.specs.Line.{events}
 
 -- A claim of a disk that tells its bytes and keeps the disk model, and on which nothing waits.
 abbrev pub OfTold : Bool → List ℕ → (List ℕ → Type 0) → Type 0 → Type 0
@@ -60,6 +62,18 @@ output stop c k = lines_text c.history ++ (recovered_text stop k ++ graph_text (
 abbrev pub let_through : Option ℕ → ℕ → ℕ
 let_through None calls = calls
 let_through (Some n) calls = min n calls
+
+-- The heap was opened again on an image of the first k commits, by so many writes and syncs: four where the image held writes of a
+-- transaction that had not ended, and else none.
+pub record Reopens (c : Core) (k calls : ℕ) : Type 0 where
+  pub image : List ℕ
+  pub first : StandsForFirst c k image
+  pub made : calls ≡ opening_calls first.stands.batches
+
+-- What passed in a run that is done: the calls of its events that the disk let through, and those of the opening behind a restart.
+abbrev pub HasPassed : Option ℕ → Core → ℕ → ℕ → (ℕ → Type 0) → Type 0
+HasPassed None c k calls passed = passed (let_through None calls)
+HasPassed (Some n) c k calls passed = (opening : ℕ) × Reopens c k opening × passed (let_through (Some n) calls + opening)
 
 -- The disk did what it was asked in all of these events.
 abbrev pub IsWhole : List Event → Core → Type 0
@@ -106,7 +120,7 @@ pub record SinceMade {D : Type 0} (moment : D → ℕ) (left_since : D → ℕ �
   pub only : Only (bytes made) (may_leave made)
   pub since : LeavesOnly moment left_since made new P
 
--- A script was played on a new heap. Each crash left first commits, also one at the end, which has all that was
+-- Events were played on a new heap. Each crash left first commits, also one at the end, which has all that was
 -- acknowledged; what was printed is the history of the events that were made and the graph of its first commits; and the
 -- calls of each commit had the replies that they have when the commits run one after another.
 pub record IsPlayed (stop : Option ℕ) (events : List Event) (result : Status) (each : (List ℕ → Type 0) → Type 0) (may_leave : List ℕ → Type 0) (unharmed : Type 0) (passed : ℕ → Type 0) (told : Bool) (before after : List ℕ) : Type 0 where
@@ -120,7 +134,6 @@ pub record IsPlayed (stop : Option ℕ) (events : List Event) (result : Status) 
   pub end : IsEndOfPlay result
   pub done : result ≡ status.Done → HasMade stop made behind core
   pub exact : unharmed → IsExact stop made core
-  pub calls : unharmed → result ≡ status.Done → passed (let_through stop (total_calls made_core made))
   -- what crashes leave
   pub moments : each (HasCommits core)
   pub kept : (image : List ℕ) → may_leave image → KeepsCommits core image
@@ -130,6 +143,8 @@ pub record IsPlayed (stop : Option ℕ) (events : List Event) (result : Status) 
   pub least : acknowledged core.history ≤ count
   pub most : count ≤ length (commits core.history)
   pub all : stop ≡ None → count ≡ length (sealed core.history)
+  -- the writes and syncs that passed
+  pub calls : unharmed → result ≡ status.Done → HasPassed stop core count (total_calls made_core made) passed
   -- what was written
   pub written : IsTrue told → WroteFront before (output stop core count) after
   pub cut : IsTrue told → WroteLines before core.history after
@@ -184,7 +199,7 @@ pub record IsNotMade (result : Status) (making : Type 0) (told : Bool) (before a
   pub nothing : IsTrue told → after ≡ before
   pub moments : making
 
--- Either no heap was made, or a script was played on a new one.
+-- Either no heap was made, or a script was played on a new one, with the events that end a run.
 abbrev pub Runs : Play → (List Line → Type 0) → Status → Type 0 → ((List ℕ → Type 0) → Type 0) → (List ℕ → Type 0) → Type 0 → (ℕ → Type 0) → Bool → List ℕ → List ℕ → Type 0
 Runs play is_script result making each may_leave unharmed passed told before after =
-    IsNotMade result making told before after ⊎ ((lines : List Line) × is_script lines × IsPlayed play.stop (events lines) result each may_leave unharmed passed told before after)
+    IsNotMade result making told before after ⊎ ((lines : List Line) × is_script lines × IsPlayed play.stop (all_events play.stop made_core (events lines)) result each may_leave unharmed passed told before after)

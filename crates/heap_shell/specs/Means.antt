@@ -1,8 +1,7 @@
 -- When what an open heap keeps is a core.
-use Rattle.std.specs.Prelude.{◌≡◌, ◌≢◌, ℕ, ◌+◌, List, [], ◌++◌, length, map, is_some, count_by, Option, None, Some}
+use Rattle.std.specs.Prelude.{◌≡◌, ◌≢◌, ℕ, ◌+◌, List, length, map, reverse, is_some, Option, None, Some}
 use Rattle.disk_model.specs.Disk.{Only}
 use Rattle.disk_model.specs.declared.disk.Disk.{Ghosts}
-use Rattle.gated_log.specs.Log.{records_of}
 use Rattle.gated_log.specs.LogState.{Keeps, log_place, log_room}
 use Rattle.graph_model.specs.declared.event.Event.{Event}
 use Rattle.graph_model.specs.declared.reply.Reply.{Reply}
@@ -11,31 +10,34 @@ use Rattle.graph_model.specs.Transaction.{Transaction, run, serial}
 use Rattle.graph_model.specs.History.{Account, account}
 use Rattle.image_plan.specs.declared.superblock.Super.{Super}
 use Rattle.image_plan.specs.Plan.{log_offset}
-use Rattle.log_records.specs.declared.Record.{Record}
+use Rattle.log_machine.specs.declared.UndoEntry.{UndoEntry}
 use Rattle.heap_shell.specs.declared.active.Active.{Active}
 use Rattle.heap_shell.specs.declared.heap.Heap.{Heap}
 use Rattle.heap_shell.specs.declared.working.Working.{Working}
-use Rattle.heap_shell.specs.Core.{Core, is_put, IsStep}
-use Rattle.heap_shell.specs.CoreCrash.{KeepsCommits}
-use Rattle.heap_shell.specs.Image.{IsLegal}
-use Rattle.heap_shell.specs.Machine.{words, graph_of}
+use Rattle.heap_model.specs.Core.{Core, all_records, IsStep}
+use Rattle.heap_model.specs.CoreCrash.{KeepsCommits}
+use Rattle.heap_model.specs.Image.{IsLegal}
+use Rattle.log_machine.specs.Machine.{words, undo_of}
 
--- what is kept in memory of a transaction on a graph: its number, which handles hold an object, and how often it wrote
-abbrev pub active_of : Graph → Option Transaction → Option Active
-active_of g None = None
-active_of g (Some t) = Some (record { number = t.number; handles = map is_some (run g t).registers; writes = count_by is_put t.calls })
+-- What is kept in memory of the transaction on a graph: its number, which handles hold an object, and the writes that may be
+-- taken back, of which the newest stands last.
+pub record Follows (g : Graph) (t : Transaction) (writes : List UndoEntry) (active : Active) : Type 0 where
+  pub number : active.number ≡ t.number
+  pub handles : active.handles ≡ map is_some (run g t).registers
+  pub undo : reverse active.undo.items ≡ writes
 
--- the records on the disk and those that wait
-abbrev pub all_records : Core → List Record
-all_records c = records_of c.batches ++ c.pending
+abbrev pub IsActive : Graph → List UndoEntry → Option Transaction → Option Active → Type 0
+IsActive g undo None None = Unit {0}
+IsActive g undo (Some t) (Some active) = Follows g t undo active
+IsActive g undo t active = ⊥
 
 -- The working state is that of a core whose history tells this account.
 pub record Works (w : Working) (a : Account) (c : Core) : Type 0 where
   pub log : Keeps w.log c.batches c.pending
   pub place : log_place w.log ≡ log_offset
   pub room : log_room w.log ≡ c.room
-  pub stored : w.words.words ≡ words (all_records c)
-  pub active : w.active ≡ active_of (serial c.g0 a.sealed) (a.active 1)
+  pub stored : w.words ≡ words (all_records c)
+  pub active : IsActive (serial c.g0 a.sealed) (undo_of (all_records c)) (a.active 1) w.active
   pub next : w.next ≡ c.first + a.begun
   pub sealed : w.sealed ≡ length a.sealed
 
@@ -58,10 +60,6 @@ pub record Steps (s : Super) (c : Core) (event : Event) (reply : Reply) (w : Wor
   pub next : Core
   pub step : IsStep c event reply next
   pub means : Means s next w failed image may_leave
-
--- the core of a heap that has just been opened, whose next transaction has this number
-abbrev pub opened : Super → List (List Record) → ℕ → Core
-opened s batches next = record { room = s.log_bytes; first = next; g0 = graph_of (records_of batches); history = []; batches = batches; pending = [] }
 
 module _ {D : Type 0} {g : Ghosts D} where
   -- A heap is a core, and its history is the core's.

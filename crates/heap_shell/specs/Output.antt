@@ -6,13 +6,13 @@ use Rattle.graph_model.specs.History.{account, commits, acknowledged}
 use Rattle.graph_model.specs.Transaction.{serial}
 use Rattle.heap_shell.specs.declared.status.Status.{Status}
 use Rattle.heap_shell.specs.declared.status.Status.TheVariants.{Done}
-use Rattle.heap_shell.specs.Core.{Core}
-use Rattle.heap_shell.specs.CoreCrash.{KeepsCommits}
-use Rattle.heap_shell.specs.Headline.{IsEndOfPlay, recovered_line, graph_text}
-use Rattle.heap_shell.specs.Machine.{words, graph_of}
-use Rattle.heap_shell.specs.Means.{all_records}
+use Rattle.heap_model.specs.Core.{Core, all_records}
+use Rattle.heap_model.specs.CoreCrash.{KeepsCommits}
+use Rattle.heap_shell.specs.Headline.{IsEndOfPlay, Reopens, recovered_line, graph_text}
+use Rattle.heap_model.specs.Image.{graph_of}
+use Rattle.log_machine.specs.Machine.{committed_words}
 use Rattle.heap_shell.specs.Play.{WroteFront}
-use Rattle.heap_shell.specs.ValueWord.{IsNumberWord}
+use Rattle.heap_model.specs.ValueWord.{IsNumberWord}
 
 -- All of a text was written, or a first part of it where that ended in an error.
 abbrev pub WroteText : Result (Unit {0}) Status → List ℕ → List ℕ → List ℕ → Type 0
@@ -24,18 +24,19 @@ abbrev pub status_after : Result (Unit {0}) Status → Status
 status_after (Ok nothing) = Done
 status_after (Err status) = status
 
--- A core that has not failed, whose records leave nothing but numbers in the root's fields, has this graph.
+-- A core that has not failed, whose commits leave nothing but numbers in the root's fields, has this graph.
 pub record HasGraph (c : Core) (g : Graph) : Type 0 where
   pub unfailed : (account c.history).failed ≡ None
-  pub plain : AllByRecursion IsNumberWord (drop 2 (words (all_records c)))
+  pub plain : AllByRecursion IsNumberWord (drop 2 (committed_words (all_records c)))
   pub is : graph_of (all_records c) ≡ g
 
 -- Of an image of a core's first commits their number and their graph were written, and a crash still leaves first commits.
-pub record Recovers (c : Core) (result : Status) (may_leave : List ℕ → Type 0) (told : Bool) (before after : List ℕ) : Type 0 where
+pub record Recovers (c : Core) (result : Status) (may_leave : List ℕ → Type 0) (passed : ℕ → Type 0) (told : Bool) (before after : List ℕ) : Type 0 where
   pub end : IsEndOfPlay result
   pub kept : (image : List ℕ) → may_leave image → KeepsCommits c image
   pub count : ℕ
   pub least : acknowledged c.history ≤ count
   pub most : count ≤ length (commits c.history)
+  pub calls : result ≡ Done → (opening : ℕ) × Reopens c count opening × passed opening
   pub written : IsTrue told → WroteFront before (recovered_line count ++ graph_text (serial c.g0 (take count (commits c.history)))) after
   pub whole : IsTrue told → result ≡ Done → after ≡ before ++ (recovered_line count ++ graph_text (serial c.g0 (take count (commits c.history))))

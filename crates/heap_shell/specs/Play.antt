@@ -1,12 +1,11 @@
 -- What a play makes of the events of a script.
 use Rattle.std.specs.Prelude.{◌≡◌, ◌⊎◌, ℕ, ◌+◌, ◌<◌, ◌≤◌, List, [], ◌∷◌, ◌++◌, length, Bool, IsTrue, Result, Ok, Err}
-use Rattle.std.specs.List.{flat_map}
+use Rattle.std.specs.List.{AllByRecursion, flat_map}
 use Rattle.counts.specs.Count.{counted}
 use Rattle.disk_model.specs.declared.disk.Disk.{Ghosts}
 use Rattle.disk_model.specs.Disk.{HasCause}
 use Rattle.disk_model.specs.Moments.{LeavesOnly}
 use Rattle.graph_model.specs.declared.event.Event.{Event}
-use Rattle.graph_model.specs.declared.event.Event.TheVariants.{Force}
 use Rattle.graph_model.specs.declared.reply.Entry.{Entry}
 use Rattle.graph_model.specs.declared.reply.Refusal.TheVariants.{DiskFault, Stopped}
 use Rattle.graph_model.specs.declared.reply.Reply.{Reply}
@@ -19,21 +18,19 @@ use Rattle.heap_shell.specs.declared.play.Ended.{Ended}
 use Rattle.heap_shell.specs.declared.play.Ended.TheVariants as ended
 use Rattle.heap_shell.specs.declared.status.Status.{Status}
 use Rattle.heap_shell.specs.Causes.{reply_device}
-use Rattle.heap_shell.specs.Core.{Core, with_entry, after, IsCutShort, calls}
-use Rattle.heap_shell.specs.CoreCrash.{HasCommits}
-use Rattle.heap_shell.specs.CoreLawsRun.{IsIdle}
-use Rattle.heap_shell.specs.CoreRuns.{after_events, total_calls}
-use Rattle.heap_shell.specs.CoreValid.{IsValid}
+use Rattle.heap_model.specs.Core.{Core, with_entry, IsCutShort, calls}
+use Rattle.heap_model.specs.CoreCrash.{HasCommits}
+use Rattle.heap_model.specs.CoreRuns.{after_events, total_calls}
+use Rattle.heap_model.specs.CoreValid.{IsValid}
 use Rattle.heap_shell.specs.Means.{IsHeap}
 
 -- the lines of a history
 abbrev pub lines_text : List Entry → List ℕ
 lines_text history = flat_map line history
 
--- Events that a valid core may be asked one after another: they are session 1's, and a force comes while it has no transaction.
+-- Events that a valid core may be asked one after another: they are session 1's.
 abbrev pub AreReady : Core → List Event → Type 0
-AreReady c [] = IsValid c
-AreReady c (event ∷ events) = IsValid c × IsSingleSession event × (event ≡ Force → IsIdle c) × AreReady (after c event) events
+AreReady c events = IsValid c × AllByRecursion IsSingleSession events
 
 -- A first part of a text was written.
 abbrev pub WroteFront : List ℕ → List ℕ → List ℕ → Type 0

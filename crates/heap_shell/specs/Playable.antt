@@ -1,14 +1,11 @@
--- What a play needs of the events of a script.
-use Rattle.std.specs.Prelude.{◌≤◌, List}
+-- What a play needs of the events of a run.
+use Rattle.std.specs.Prelude.{◌≤◌, List, length}
+use Rattle.std.specs.List.{AllByRecursion}
 use Rattle.graph_model.specs.declared.event.Event.{Event}
-use Rattle.heap_shell.specs.CoreLawsRun.{IsIdle}
-use Rattle.heap_shell.specs.CoreRuns.{after_events, total_calls}
-use Rattle.heap_shell.specs.Headline.{made_core}
-use Rattle.heap_shell.specs.Play.{AreReady}
+use Rattle.graph_model.specs.SlowHeap.{IsSingleSession}
 
--- The events of a script: a new heap may be asked them one after another, no transaction is active behind them, and they
--- make fewer device calls than can be counted.
+-- The events are session 1's, and no more than those of the longest script and two that end a run: they make fewer device calls
+-- than can be counted.
 pub record IsPlayable (events : List Event) : Type 0 where
-  pub ready : AreReady made_core events
-  pub idle : IsIdle (after_events made_core events)
-  pub few : total_calls made_core events ≤ 8388608
+  pub single : AllByRecursion IsSingleSession events
+  pub few : length events ≤ 2097154

@@ -1,11 +1,11 @@
 -- What an active transaction keeps of the log.
-use Rattle.std.specs.Prelude.{ℕ, ◌+◌, ◌*◌, Option, None, Some}
+use Rattle.std.specs.Prelude.{ℕ, ◌+◌, ◌*◌, vec_len, Option, None, Some}
 use Rattle.heap_shell.specs.declared.active.Active.{Active}
 
 -- the log's bytes that are kept for the end of the active transaction
 abbrev pub active_reserve : Option Active → ℕ
 active_reserve None = 0
-active_reserve (Some a) = 10 + 19 * a.writes
+active_reserve (Some a) = 10 + 19 * vec_len a.undo
 
 -- how many transactions are active
 abbrev pub active_count : Option Active → ℕ

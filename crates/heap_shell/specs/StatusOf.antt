@@ -5,8 +5,8 @@ use Rattle.heap_shell.specs.declared.format.FormatError.{FormatError}
 use Rattle.heap_shell.specs.declared.format.FormatError.TheVariants as format
 use Rattle.heap_shell.specs.declared.recovery.OpenError.{OpenError}
 use Rattle.heap_shell.specs.declared.recovery.OpenError.TheVariants as opening
-use Rattle.heap_shell.specs.declared.script.ScriptError.{ScriptError}
-use Rattle.heap_shell.specs.declared.script.ScriptError.TheVariants as reading
+use Rattle.script_text.specs.declared.script.ScriptError.{ScriptError}
+use Rattle.script_text.specs.declared.script.ScriptError.TheVariants as reading
 use Rattle.heap_shell.specs.declared.status.Status.{Status}
 use Rattle.heap_shell.specs.declared.status.Status.TheVariants.{NoMemory, Script, ReadFault, DiskFault, NotHeap, Damaged, TooSmall}
 

@@ -1,17 +1,49 @@
 -- What the events of a session do to the working state.
-use Rattle.std.specs.Prelude.{◌≡◌, ℕ, ◌+◌, ◌*◌, ◌==◌, nat_lt, nat_le, List, ◌++◌, drop, replicate, Bool, true, false, Option, None, Some, is_some, unwrap_or, slice_get, slice_set, slice_index, if◌then◌else◌}
+use Rattle.std.specs.Prelude.{◌≡◌, ℕ, ◌+◌, ◌*◌, ◌==◌, nat_lt, nat_le, List, [], ◌∷◌, ◌++◌, drop, replicate, reverse, Bool, true, false, Option, None, Some, is_some, unwrap_or, slice_get, slice_set, slice_index, vec_len, if◌then◌else◌}
 use Rattle.gated_log.specs.declared.Log.{Log}
 use Rattle.gated_log.specs.LogState.{log_place, log_room, log_tail, log_hand, log_used, log_need}
+use Rattle.graph_model.specs.declared.val.Val.{Val}
 use Rattle.graph_model.specs.declared.reply.Refusal.{Refusal}
 use Rattle.graph_model.specs.declared.reply.Refusal.TheVariants.{AlreadyActive, NotActive, NumbersSpent, BadHandle, Range, BadField}
+use Rattle.graph_model.specs.declared.reply.Reply.{Reply}
 use Rattle.graph_model.specs.Plain.{no_number, no_int}
+use Rattle.graph_model.specs.Transaction.{value_reply}
 use Rattle.log_records.specs.declared.Record.{Record}
 use Rattle.log_records.specs.declared.Record.TheVariants.{Update, Commit}
-use Rattle.log_records.specs.Record.{spelling}
+use Rattle.log_records.specs.Record.{spelling, spellings}
+use Rattle.log_machine.specs.declared.UndoEntry.{UndoEntry}
+use Rattle.log_machine.specs.Machine.{with_word, taken_back, abort_records}
 use Rattle.heap_shell.specs.declared.active.Active.{Active}
 use Rattle.heap_shell.specs.declared.working.Working.{Working}
-use Rattle.heap_shell.specs.Core.{full_log}
-use Rattle.heap_shell.specs.Machine.{put_record}
+use Rattle.heap_model.specs.Core.{full_log, first_of_two}
+use Rattle.heap_model.specs.ValueWord.{value_of}
+
+-- A transaction, as clauses see it.
+pub record Seen : Type 0 where
+  pub number : ℕ
+  pub handles : List Bool  -- which handles hold the root object
+  pub undo : List UndoEntry  -- the writes that may be taken back, the newest first
+
+abbrev pub seen : Active → Seen
+seen a = record { number = a.number; handles = a.handles; undo = reverse a.undo.items }
+
+abbrev pub seen_active : Option Active → Option Seen
+seen_active None = None
+seen_active (Some a) = Some (seen a)
+
+-- a transaction that has done nothing
+abbrev pub new_seen : ℕ → Seen
+new_seen number = record { number = number; handles = replicate 64 false; undo = [] }
+
+-- the transaction with one handle changed
+abbrev pub with_handle : Option Seen → ℕ → Bool → Option Seen
+with_handle None h holds = None
+with_handle (Some a) h holds = Some (record a { handles = slice_set a.handles h holds })
+
+-- the transaction with one write more
+abbrev pub with_write : Option Seen → UndoEntry → Option Seen
+with_write None write = None
+with_write (Some a) write = Some (record a { undo = write ∷ a.undo })
 
 -- why the log has no room, by what an event needs and what is kept after it
 abbrev pub no_room : Log → ℕ → ℕ → Option Refusal
@@ -23,51 +55,60 @@ begin_refusal w =
     else if w.next == no_number then Some NumbersSpent
     else no_room w.log 0 10
 
--- a transaction that has done nothing
-abbrev pub new_active : ℕ → Active
-new_active number = record { number = number; handles = replicate 64 false; writes = 0 }
-
-abbrev pub active_after_begin : Option Refusal → Working → Option Active
-active_after_begin None w = Some (new_active w.next)
-active_after_begin (Some why) w = w.active
-
-abbrev pub next_after_begin : Option Refusal → ℕ → ℕ
-next_after_begin None next = next + 1
-next_after_begin (Some why) next = next
-
-abbrev pub root_refusal : Option Active → ℕ → Option Refusal
-root_refusal None h = Some NotActive
-root_refusal (Some a) h = if nat_lt 63 h then Some BadHandle else None
-
--- the transaction whose handle holds the root object
-abbrev pub with_root : Option Active → ℕ → Option Active
-with_root None h = None
-with_root (Some a) h = Some (record { number = a.number; handles = slice_set a.handles h true; writes = a.writes })
-
-abbrev pub active_after_root : Option Refusal → Option Active → ℕ → Option Active
-active_after_root None active h = with_root active h
-active_after_root (Some why) active h = active
+-- why a handle can't be changed
+abbrev pub handle_refusal : Option Active → ℕ → Option Refusal
+handle_refusal None h = Some NotActive
+handle_refusal (Some a) h = if nat_lt 63 h then Some BadHandle else None
 
 -- whether a handle holds the root object
 abbrev pub holds_root : Active → ℕ → Bool
 holds_root a h = unwrap_or (slice_get a.handles h) false
 
+-- why a handle can't be asked for what it holds
+abbrev pub held_refusal : Option Active → ℕ → Option Refusal
+held_refusal None h = Some NotActive
+held_refusal (Some a) h = if holds_root a h then None else Some BadHandle
+
+-- why a field of the root object can't be named
+abbrev pub field_refusal : ℕ → Option Refusal
+field_refusal i = if nat_le 4 i then Some BadField else None
+
+-- why a number can't be written
+abbrev pub range_refusal : ℕ → Option Refusal
+range_refusal v = if nat_le no_int v then Some Range else None
+
+-- why the log has no room for a write
+abbrev pub write_room : Log → Option Active → Option Refusal
+write_room log None = Some NotActive
+write_room log (Some a) = no_room log (log_need log 27) (10 + 19 * (vec_len a.undo + 1))
+
+abbrev pub write_refusal : Log → Option Active → ℕ → Option Refusal
+write_refusal log active i = first_of_two (field_refusal i) (write_room log active)
+
 abbrev pub put_refusal : Log → Option Active → ℕ → ℕ → ℕ → Option Refusal
-put_refusal log None h i v = Some NotActive
-put_refusal log (Some a) h i v =
-    if holds_root a h then
-    (if nat_le no_int v then Some Range
-    else if nat_le 4 i then Some BadField
-    else no_room log (log_need log 27) (10 + 19 * (a.writes + 1)))
-    else Some BadHandle
+put_refusal log active h i v = first_of_two (held_refusal active h) (first_of_two (range_refusal v) (write_refusal log active i))
 
-abbrev pub seal_refusal : Option Active → Option Refusal
-seal_refusal None = Some NotActive
-seal_refusal (Some a) = None
+abbrev pub clear_refusal : Log → Option Active → ℕ → ℕ → Option Refusal
+clear_refusal log active h i = first_of_two (held_refusal active h) (write_refusal log active i)
 
--- the record of a put
-abbrev pub update_of : List ℕ → Active → ℕ → ℕ → Record
-update_of words a i v = Update a.number 0 i (slice_index (drop 2 words) i) (4 * v + 1)
+abbrev pub get_refusal : Option Active → ℕ → ℕ → ℕ → Option Refusal
+get_refusal active h i h2 = first_of_two (handle_refusal active h2) (first_of_two (held_refusal active h) (field_refusal i))
+
+abbrev pub same_refusal : Option Active → ℕ → ℕ → Option Refusal
+same_refusal active h h2 = first_of_two (held_refusal active h) (held_refusal active h2)
+
+-- why a transaction can't end
+abbrev pub end_refusal : Option Active → Option Refusal
+end_refusal None = Some NotActive
+end_refusal (Some a) = None
+
+-- the word of a field of the root object
+abbrev pub field_word : List ℕ → ℕ → ℕ
+field_word words i = slice_index (drop 2 words) i
+
+-- what a read of that field is answered
+abbrev pub field_reply : List ℕ → ℕ → Reply
+field_reply words i = value_reply (value_of (field_word words i))
 
 -- the log is where it was, with these records in hand
 pub record SameLog (old new : Log) (hand : List ℕ) : Type 0 where
@@ -80,17 +121,33 @@ pub record SameLog (old new : Log) (hand : List ℕ) : Type 0 where
 pub record IsAsItWas (old new : Working) : Type 0 where
   pub log : SameLog old.log new.log (log_hand old.log)
   pub words : new.words ≡ old.words
-  pub active : new.active ≡ old.active
+  pub active : seen_active new.active ≡ seen_active old.active
   pub next : new.next ≡ old.next
   pub sealed : new.sealed ≡ old.sealed
 
--- The transaction wrote a record.
-pub record Writes (old new : Working) (rec : Active → Record) : Type 0 where
+-- A transaction began.
+pub record Begins (old new : Working) : Type 0 where
+  pub log : new.log ≡ old.log
+  pub words : new.words ≡ old.words
+  pub active : seen_active new.active ≡ Some (new_seen old.next)
+  pub next : new.next ≡ old.next + 1
+  pub sealed : new.sealed ≡ old.sealed
+
+-- A handle of the transaction was changed.
+pub record SetsHandle (old new : Working) (h : ℕ) (holds : Bool) : Type 0 where
+  pub log : new.log ≡ old.log
+  pub words : new.words ≡ old.words
+  pub active : seen_active new.active ≡ with_handle (seen_active old.active) h holds
+  pub next : new.next ≡ old.next
+  pub sealed : new.sealed ≡ old.sealed
+
+-- The transaction wrote a word into a field of the root object.
+pub record Writes (old new : Working) (i word : ℕ) : Type 0 where
   pub active : Active
   pub was_active : old.active ≡ Some active
-  pub log : SameLog old.log new.log (log_hand old.log ++ spelling (rec active))
-  pub words : new.words.words ≡ put_record old.words.words (rec active)
-  pub now_active : new.active ≡ Some (record { number = active.number; handles = active.handles; writes = active.writes + 1 })
+  pub log : SameLog old.log new.log (log_hand old.log ++ spelling (Update active.number 0 i (field_word old.words i) word))
+  pub words : new.words ≡ with_word old.words 0 i word
+  pub now_active : seen_active new.active ≡ with_write (seen_active old.active) (record { object = 0; field = i; was = field_word old.words i })
   pub next : new.next ≡ old.next
   pub sealed : new.sealed ≡ old.sealed
 
@@ -103,3 +160,13 @@ pub record Seals (old new : Working) : Type 0 where
   pub not_active : new.active ≡ None
   pub next : new.next ≡ old.next
   pub sealed : new.sealed ≡ old.sealed + 1
+
+-- The transaction was aborted: what it wrote was taken back.
+pub record Aborts (old new : Working) : Type 0 where
+  pub active : Active
+  pub was_active : old.active ≡ Some active
+  pub log : SameLog old.log new.log (log_hand old.log ++ spellings (abort_records active.number (reverse active.undo.items)))
+  pub words : new.words ≡ taken_back (reverse active.undo.items) old.words
+  pub not_active : new.active ≡ None
+  pub next : new.next ≡ old.next
+  pub sealed : new.sealed ≡ old.sealed

@@ -1,12 +1,17 @@
 //! The transaction that is not sealed yet.
-ghost use Rattle.std.specs.Prelude.{◌≡◌, ◌+◌, ◌*◌, ◌<◌, ◌≤◌, ◌^◌, replicate, false, true, slice_set, slice_get, Some};
-ghost use Rattle.heap_shell.specs.Working.{holds_root};
+ghost use Rattle.std.specs.Prelude.{◌≡◌, ◌+◌, ◌*◌, ◌<◌, ◌^◌, [], ◌∷◌, replicate, reverse, false, vec_len, vec_capacity};
+ghost use Rattle.std.specs.List.{AllByRecursion};
+ghost use Rattle.std.proofs.Props.{props};
+ghost use Rattle.log_machine.specs.UndoEntry.{LiesInside};
+
+use log_machine::UndoEntry;
+use std::alloc::{AllocError, Global};
 
 /// The handles of a transaction.
 pub const HANDLES: usize = 64;
 
 /// The log's bytes that are kept for the end of a transaction: a record and a batch.
-const END_BYTES: u64 = 10;
+pub const END_BYTES: u64 = 10;
 
 /// The log's bytes that are kept for each write of a transaction, to put the old word back.
 pub const UNDO_BYTES: u64 = 19;
@@ -18,19 +23,24 @@ pub struct Active {
     pub number: u32,
     /// Which handles hold the root object, the only object that there is.
     pub handles: [bool; HANDLES],
-    /// How many writes it made.
-    pub writes: u64,
+    /// What its writes replaced. The newest stands last.
+    pub undo: Vec<UndoEntry>,
+    ghost inside: { AllByRecursion LiesInside undo.items } by { Prim.hlevel props },
 }
 
 impl Active {
+    ghost use Rattle.heap_shell.specs.Working.{seen, new_seen, holds_root};
+    ghost use Rattle.std.specs.Prelude.{OnOk, OnErr};
+
     /// A transaction that has done nothing.
-    pub fn new(number: u32) -> Active
-        ensures { result ≡ record { number = number; handles = replicate 64 false; writes = 0 } }
+    pub fn new(alloc: Global, number: u32) -> Active
+        ensures seen { seen result ≡ new_seen number }
+        ensures writes { vec_len result.undo ≡ 0 }
     {
         Active {
             number,
             handles: [false; HANDLES],
-            writes: 0,
+            undo: Vec::new(alloc),
         }
     }
 
@@ -43,9 +53,28 @@ impl Active {
 
     /// The log's bytes that are kept for this transaction.
     pub fn reserved(&self) -> u64
-        requires { 10 + 19 * self.now.writes < 2 ^ 32 }
-        ensures { result ≡ 10 + 19 * self.now.writes }
+        requires { 10 + 19 * vec_len self.now.undo < 2 ^ 32 }
+        ensures { result ≡ 10 + 19 * vec_len self.now.undo }
     {
-        END_BYTES + UNDO_BYTES * self.writes
+        END_BYTES + UNDO_BYTES * self.undo.len() as u64
+    }
+
+    /// Makes room for one write.
+    pub fn reserve(&mut self) -> Result<(), AllocError>
+        ensures room { OnOk result (vec_len self.new.undo < vec_capacity self.new.undo) }
+        ensures seen { seen self.new ≡ seen self.old }
+        ensures writes { vec_len self.new.undo ≡ vec_len self.old.undo }
+    {
+        self.undo.reserve(1)
+    }
+
+    /// Adds a write, for which there is room.
+    pub fn push_reserved(&mut self, write: UndoEntry)
+        requires room { vec_len self.old.undo < vec_capacity self.old.undo }
+        requires inside { LiesInside write }
+        ensures seen { seen self.new ≡ record (seen self.old) { undo = write ∷ (seen self.old).undo } }
+        ensures writes { vec_len self.new.undo ≡ vec_len self.old.undo + 1 }
+    {
+        self.undo.push_reserved(write);
     }
 }

@@ -1,9 +1,9 @@
 //! The words of the command line.
 ghost use Rattle.std.specs.Prelude.{◌≡◌, ◌∷◌, [], map, string_bytes};
 ghost use Rattle.heap_shell.specs.Command.{command, pages_of, play};
-ghost use Rattle.heap_shell.specs.Number.{number};
+ghost use Rattle.script_text.specs.Number.{number};
 
-use crate::number::read_number;
+use script_text::read_number;
 
 /// The most pages of a space.
 pub const MOST_PAGES: u32 = 16_384;

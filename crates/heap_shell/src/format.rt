@@ -8,7 +8,7 @@ ghost use Rattle.image_plan.specs.Super.{IsSuper};
 ghost use Rattle.heap_shell.specs.declared.format.FormatError.TheVariants.{TooSmall};
 ghost use Rattle.heap_shell.specs.Format.{AreZero, IsFormatting, zero_writes, format_calls};
 ghost use Rattle.heap_shell.specs.GivenBack.{given_back, device_result, FailsByDisk};
-ghost use Rattle.heap_shell.specs.Image.{IsLegal};
+ghost use Rattle.heap_model.specs.Image.{IsLegal};
 
 use disk_model::{Disk, DiskError};
 use gate_slot::{close_gate, fill_and_open};

@@ -1,11 +1,12 @@
 //! The heap: events on an image, each of them one step.
-ghost use Rattle.std.specs.Prelude.{◌≡◌, ◌≢◌, ◌⊎◌, ◌↔◌, ◌+◌, ◌<◌, ◌≤◌, List, [], drop, is_some, None, Err, IsTrue, IfOk, IfErr, OnErr, string_bytes};
+ghost use Rattle.std.specs.Prelude.{◌≡◌, ◌≢◌, ◌⊎◌, ◌↔◌, ◌+◌, ◌<◌, ◌≤◌, ℕ, List, [], drop, is_some, None, Err, IsTrue, IfOk, IfErr, OnErr, string_bytes};
 ghost use Rattle.std.specs.List.{AllByRecursion};
-ghost use Rattle.disk_model.specs.Disk.{HasCause, Narrows, Only};
+ghost use Rattle.disk_model.specs.Disk.{HasCause, Only};
 ghost use Rattle.disk_model.specs.Moments.{LeavesOnly};
 ghost use Rattle.gate_slot.specs.Passing.{Passes};
 ghost use Rattle.gated_log.specs.Log.{records_of};
 ghost use Rattle.gated_log.specs.LogState.{log_place, log_room};
+ghost use Rattle.graph_model.specs.Graph.{Graph};
 ghost use Rattle.graph_model.specs.Canon.{canon};
 ghost use Rattle.graph_model.specs.Text.{canon_text};
 ghost use Rattle.graph_model.specs.SlowHeap.{IsSingleSession};
@@ -14,15 +15,15 @@ ghost use Rattle.graph_model.specs.declared.event.Event.TheVariants.{Force};
 ghost use Rattle.graph_model.specs.declared.reply.Refusal.TheVariants.{DiskFault, Stopped};
 ghost use Rattle.image_plan.specs.declared.superblock.Super.{Super};
 ghost use Rattle.log_records.specs.declared.Record.{Record};
-ghost use Rattle.heap_shell.specs.Image.{IsLegal};
+ghost use Rattle.heap_model.specs.Image.{IsLegal, StandsFor, graph_of};
+ghost use Rattle.heap_model.specs.Opening.{opened, rollback_of, rolled_back, opening_calls};
 ghost use Rattle.heap_shell.specs.Causes.{step_device, reply_device, opened_device};
-ghost use Rattle.heap_shell.specs.Core.{Core, IsStep, fresh, calls};
-ghost use Rattle.heap_shell.specs.CoreCrash.{KeepsCommits};
-ghost use Rattle.heap_shell.specs.CoreLawsRun.{IsIdle};
-ghost use Rattle.heap_shell.specs.CoreValid.{IsReached};
-ghost use Rattle.heap_shell.specs.Machine.{words, graph_of, commits};
-ghost use Rattle.heap_shell.specs.Recovered.{IsFromOutside};
-ghost use Rattle.heap_shell.specs.ValueWord.{IsNumberWord};
+ghost use Rattle.heap_model.specs.Core.{Core, all_records, IsStep, fresh, calls};
+ghost use Rattle.heap_model.specs.CoreCrash.{KeepsCommits};
+ghost use Rattle.heap_model.specs.CoreValid.{IsReached};
+ghost use Rattle.log_machine.specs.Machine.{committed_words, commits};
+ghost use Rattle.heap_shell.specs.Recovered.{IsFromOutside, OpenedPasses};
+ghost use Rattle.heap_model.specs.ValueWord.{IsNumberWord};
 
 use crate::graph_text::root_text;
 use crate::history::History;
@@ -58,19 +59,21 @@ fn cut_short(e: DiskError) -> Reply
 
 impl<D: Disk> Heap<D> {
     ghost use Rattle.heap_shell.specs.HeapState.{opened_disk, commits_of};
-    ghost use Rattle.heap_shell.specs.Means.{IsHeap, Steps, opened, all_records};
+    ghost use Rattle.heap_shell.specs.Means.{IsHeap, Steps};
 
     /// Opens the heap on the disk.
     pub fn open(alloc: Global, mut disk: D) -> Result<Heap<D>, (OpenError, D)>
         ensures extent { D.extent (opened_disk result) ≡ D.extent disk }
         ensures origin { D.origin (opened_disk result) ≡ D.origin disk }
         ensures cause { HasCause (D.faults disk) (D.faults (opened_disk result)) (D.stops disk) (D.stops (opened_disk result)) (opened_device result) }
-        // An opening only reads.
-        ensures no_first_stop { D.stops disk ≡ 0 → D.stops (opened_disk result) ≡ 0 }
         ensures idle { IfOk result (λ heap. heap.working.active ≡ None) }
-        ensures crash { IsTrue D.tells → Narrows (D.may_leave disk) (D.may_leave (opened_disk result)) }
-        ensures moments { IsTrue D.tells → LeavesOnly D.moment D.left_since disk (opened_disk result) (D.may_leave disk) }
-        ensures passed { IsTrue D.tells → D.passed (opened_disk result) ≡ D.passed disk }
+
+        // At each moment of it a crash leaves an image that stands for the same graph and commits as the one that was opened.
+        ensures moments { IsTrue D.tells → Only (D.bytes disk) (D.may_leave disk) → (g : Graph) (k : ℕ) → StandsFor g k (D.bytes disk) → LeavesOnly D.moment D.left_since disk (opened_disk result) (StandsFor g k) }
+        ensures crash { IsTrue D.tells → Only (D.bytes disk) (D.may_leave disk) → (g : Graph) (k : ℕ) → StandsFor g k (D.bytes disk) → (image : List ℕ) → D.may_leave (opened_disk result) image → StandsFor g k image }
+        // It writes only where it has to take a transaction's writes back.
+        ensures passes { IsTrue D.tells → (s : Super) (batches : List (List Record)) → IsLegal s batches (D.bytes disk) → OpenedPasses (opening_calls batches) (D.passed disk) (D.passed (opened_disk result)) result }
+        ensures no_first_stop { IsTrue D.tells → (s : Super) (batches : List (List Record)) → IsLegal s batches (D.bytes disk) → rollback_of batches ≡ [] → D.stops disk ≡ 0 → D.stops (opened_disk result) ≡ 0 }
         ensures restarts { IsTrue D.tells → D.restarts (opened_disk result) ≡ D.restarts disk }
 
         // A legal image is refused only for want of memory or by the disk.
@@ -78,7 +81,7 @@ impl<D: Disk> Heap<D> {
         ensures count { IsTrue D.tells → (s : Super) (batches : List (List Record)) → IsLegal s batches (D.bytes disk) → IfOk result (λ heap. commits_of heap ≡ commits (records_of batches)) }
 
         // A legal image is opened as the core that it stands for; an empty one as that of a new heap.
-        ensures means { IsTrue D.tells → (s : Super) (batches : List (List Record)) → IsLegal s batches (D.bytes disk) → Only (D.bytes disk) (D.may_leave disk) → IfOk result (λ heap. IsHeap s (opened s batches heap.working.next) heap) }
+        ensures means { IsTrue D.tells → (s : Super) (batches : List (List Record)) → IsLegal s batches (D.bytes disk) → Only (D.bytes disk) (D.may_leave disk) → IfOk result (λ heap. IsHeap s (opened s (rolled_back batches) heap.working.next) heap) }
         ensures fresh { IsTrue D.tells → (s : Super) → IsLegal s [] (D.bytes disk) → Only (D.bytes disk) (D.may_leave disk) → IfOk result (λ heap. IsHeap s (fresh s.log_bytes s.first) heap) }
     {
         match recover(alloc, &mut disk) {
@@ -86,7 +89,7 @@ impl<D: Disk> Heap<D> {
                 let Recovered {
                     log,
                     words,
-                    state,
+                    commits,
                     next,
                 } = found;
                 let working = Working {
@@ -100,7 +103,7 @@ impl<D: Disk> Heap<D> {
                     disk,
                     working,
                     history: History::new(alloc),
-                    before: state.commits(),
+                    before: commits,
                     failed: None,
                 })
             }
@@ -115,12 +118,12 @@ impl<D: Disk> Heap<D> {
         ensures cause { HasCause (D.faults self.old.disk) (D.faults self.new.disk) (D.stops self.old.disk) (D.stops self.new.disk) (step_device result) }
 
         // Each event is a step of the core that the heap is.
-        ensures core { IsTrue D.tells → (s : Super) (c : Core) → IsHeap s c self.old → IsReached c → IsSingleSession event → (event ≡ Force → IsIdle c) → IfOk result (λ reply. (d : Core) × IsStep c event reply d × IsHeap s d self.new) }
+        ensures core { IsTrue D.tells → (s : Super) (c : Core) → IsHeap s c self.old → IsReached c → IsSingleSession event → IfOk result (λ reply. (d : Core) × IsStep c event reply d × IsHeap s d self.new) }
         ensures kept { (s : Super) (c : Core) → IsHeap s c self.old → OnErr result (IsHeap s c self.new) }
         ensures untouched { OnErr result (self.new.disk ≡ self.old.disk) }
 
         // At each moment of it a crash leaves first commits, among them all that were acknowledged before.
-        ensures moments { IsTrue D.tells → (s : Super) (c : Core) → IsHeap s c self.old → IsReached c → (event ≡ Force → IsIdle c) → LeavesOnly D.moment D.left_since self.old.disk self.new.disk (KeepsCommits c) }
+        ensures moments { IsTrue D.tells → (s : Super) (c : Core) → IsHeap s c self.old → IsReached c → LeavesOnly D.moment D.left_since self.old.disk self.new.disk (KeepsCommits c) }
         ensures passes { IsTrue D.tells → (s : Super) (c : Core) → IsHeap s c self.old → IfOk result (λ reply. Passes (calls c event) (D.passed self.old.disk) (D.passed self.new.disk) (reply_device reply)) }
         ensures restarts { IsTrue D.tells → D.restarts self.new.disk ≡ D.restarts self.old.disk }
     {
@@ -135,10 +138,10 @@ impl<D: Disk> Heap<D> {
         ensures origin { D.origin self.new.disk ≡ D.origin self.old.disk }
         ensures cause { HasCause (D.faults self.old.disk) (D.faults self.new.disk) (D.stops self.old.disk) (D.stops self.new.disk) (step_device result) }
         ensures history { self.new.history ≡ self.old.history }
-        ensures core { IsTrue D.tells → (s : Super) (c : Core) → IsHeap s c self.old → IsReached c → IsSingleSession event → (event ≡ Force → IsIdle c) → IfOk result (λ reply. Steps s c event reply self.new.working self.new.failed (D.bytes self.new.disk) (D.may_leave self.new.disk)) }
+        ensures core { IsTrue D.tells → (s : Super) (c : Core) → IsHeap s c self.old → IsReached c → IsSingleSession event → IfOk result (λ reply. Steps s c event reply self.new.working self.new.failed (D.bytes self.new.disk) (D.may_leave self.new.disk)) }
         ensures kept { (s : Super) (c : Core) → IsHeap s c self.old → OnErr result (IsHeap s c self.new) }
         ensures untouched { OnErr result (self.new.disk ≡ self.old.disk) }
-        ensures moments { IsTrue D.tells → (s : Super) (c : Core) → IsHeap s c self.old → IsReached c → (event ≡ Force → IsIdle c) → LeavesOnly D.moment D.left_since self.old.disk self.new.disk (KeepsCommits c) }
+        ensures moments { IsTrue D.tells → (s : Super) (c : Core) → IsHeap s c self.old → IsReached c → LeavesOnly D.moment D.left_since self.old.disk self.new.disk (KeepsCommits c) }
         ensures passes { IsTrue D.tells → (s : Super) (c : Core) → IsHeap s c self.old → IfOk result (λ reply. Passes (calls c event) (D.passed self.old.disk) (D.passed self.new.disk) (reply_device reply)) }
         ensures restarts { IsTrue D.tells → D.restarts self.new.disk ≡ D.restarts self.old.disk }
     {
@@ -152,19 +155,26 @@ impl<D: Disk> Heap<D> {
         ensures extent { D.extent self.new.disk ≡ D.extent self.old.disk }
         ensures origin { D.origin self.new.disk ≡ D.origin self.old.disk }
         ensures cause { HasCause (D.faults self.old.disk) (D.faults self.new.disk) (D.stops self.old.disk) (D.stops self.new.disk) (step_device result) }
-        ensures core { IsTrue D.tells → (s : Super) (c : Core) → IsHeap s c self.old → self.old.failed ≡ None → IsReached c → IsSingleSession event → (event ≡ Force → IsIdle c) → IfOk result (λ reply. Steps s c event reply self.new.working self.new.failed (D.bytes self.new.disk) (D.may_leave self.new.disk)) }
+        ensures core { IsTrue D.tells → (s : Super) (c : Core) → IsHeap s c self.old → self.old.failed ≡ None → IsReached c → IsSingleSession event → IfOk result (λ reply. Steps s c event reply self.new.working self.new.failed (D.bytes self.new.disk) (D.may_leave self.new.disk)) }
         ensures kept { (s : Super) (c : Core) → IsHeap s c self.old → OnErr result (IsHeap s c self.new) }
         ensures history { self.new.history ≡ self.old.history }
         ensures untouched { OnErr result (self.new.disk ≡ self.old.disk) }
-        ensures moments { IsTrue D.tells → (s : Super) (c : Core) → IsHeap s c self.old → self.old.failed ≡ None → IsReached c → (event ≡ Force → IsIdle c) → LeavesOnly D.moment D.left_since self.old.disk self.new.disk (KeepsCommits c) }
+        ensures moments { IsTrue D.tells → (s : Super) (c : Core) → IsHeap s c self.old → self.old.failed ≡ None → IsReached c → LeavesOnly D.moment D.left_since self.old.disk self.new.disk (KeepsCommits c) }
         ensures passes { IsTrue D.tells → (s : Super) (c : Core) → IsHeap s c self.old → self.old.failed ≡ None → IfOk result (λ reply. Passes (calls c event) (D.passed self.old.disk) (D.passed self.new.disk) (reply_device reply)) }
         ensures restarts { IsTrue D.tells → D.restarts self.new.disk ≡ D.restarts self.old.disk }
     {
+        let alloc = self.history.allocator();
         match event {
-            Event::Begin { .. } => Ok(self.working.begin()),
+            Event::Begin { .. } => Ok(self.working.begin(alloc)),
             Event::Root { h, .. } => Ok(self.working.root(h)),
             Event::Put { h, i, v, .. } => self.working.put(h, i, v),
+            Event::Clear { h, i, .. } => self.working.clear(h, i),
+            Event::Drop { h, .. } => Ok(self.working.drop_handle(h)),
+            Event::Get { h, i, h2, .. } => Ok(self.working.get(h, i, h2)),
+            Event::Same { h, h2, .. } => Ok(self.working.same(h, h2)),
+            Event::Len { h, .. } => Ok(self.working.len(h)),
             Event::Seal { .. } => self.working.seal(),
+            Event::Abort { .. } => self.working.abort(alloc),
             Event::Force => self.force(),
         }
     }
@@ -173,11 +183,11 @@ impl<D: Disk> Heap<D> {
         ensures extent { D.extent self.new.disk ≡ D.extent self.old.disk }
         ensures origin { D.origin self.new.disk ≡ D.origin self.old.disk }
         ensures cause { HasCause (D.faults self.old.disk) (D.faults self.new.disk) (D.stops self.old.disk) (D.stops self.new.disk) (step_device result) }
-        ensures core { IsTrue D.tells → (s : Super) (c : Core) → IsHeap s c self.old → self.old.failed ≡ None → IsReached c → IsIdle c → IfOk result (λ reply. Steps s c Force reply self.new.working self.new.failed (D.bytes self.new.disk) (D.may_leave self.new.disk)) }
+        ensures core { IsTrue D.tells → (s : Super) (c : Core) → IsHeap s c self.old → self.old.failed ≡ None → IsReached c → IfOk result (λ reply. Steps s c Force reply self.new.working self.new.failed (D.bytes self.new.disk) (D.may_leave self.new.disk)) }
         ensures kept { (s : Super) (c : Core) → IsHeap s c self.old → OnErr result (IsHeap s c self.new) }
         ensures history { self.new.history ≡ self.old.history }
         ensures untouched { OnErr result (self.new.disk ≡ self.old.disk) }
-        ensures moments { IsTrue D.tells → (s : Super) (c : Core) → IsHeap s c self.old → self.old.failed ≡ None → IsReached c → IsIdle c → LeavesOnly D.moment D.left_since self.old.disk self.new.disk (KeepsCommits c) }
+        ensures moments { IsTrue D.tells → (s : Super) (c : Core) → IsHeap s c self.old → self.old.failed ≡ None → IsReached c → LeavesOnly D.moment D.left_since self.old.disk self.new.disk (KeepsCommits c) }
         ensures passes { IsTrue D.tells → (s : Super) (c : Core) → IsHeap s c self.old → self.old.failed ≡ None → IfOk result (λ reply. Passes (calls c Force) (D.passed self.old.disk) (D.passed self.new.disk) (reply_device reply)) }
         ensures restarts { IsTrue D.tells → D.restarts self.new.disk ≡ D.restarts self.old.disk }
     {
@@ -230,9 +240,13 @@ impl<D: Disk> Heap<D> {
 
     /// The text of the graph.
     pub fn graph(&self, alloc: Global) -> Result<String, AllocError>
-        ensures text { (s : Super) (c : Core) → IsHeap s c self.now → self.now.failed ≡ None → AllByRecursion IsNumberWord (drop 2 (words (all_records c))) → IfOk result (λ text. string_bytes text ≡ canon_text (canon (graph_of (all_records c)))) }
+        ensures text { (s : Super) (c : Core) → IsHeap s c self.now → self.now.failed ≡ None → AllByRecursion IsNumberWord (drop 2 (committed_words (all_records c))) → IfOk result (λ text. string_bytes text ≡ canon_text (canon (graph_of (all_records c)))) }
     {
-        match root_values(&self.working.words) {
+        let mut words = self.working.words;
+        if let Some(active) = &self.working.active {
+            words.take_back(&active.undo);
+        }
+        match root_values(&words) {
             Some(values) => root_text(alloc, &values),
             None => root_text(alloc, &[]),
         }

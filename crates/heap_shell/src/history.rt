@@ -20,6 +20,11 @@ impl History {
         }
     }
 
+    /// Where its memory comes from.
+    pub fn allocator(&self) -> Global {
+        *self.entries.allocator()
+    }
+
     /// Makes room for one entry.
     pub fn reserve(&mut self) -> Result<(), AllocError>
         ensures same { self.new.entries.items ≡ self.old.entries.items }

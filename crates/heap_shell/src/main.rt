@@ -9,13 +9,9 @@ mod graph_text;
 mod heap;
 mod history;
 mod log_room;
-mod machine;
-mod number;
-mod page_words;
 mod play;
 mod recovery;
 mod run;
-mod script;
 mod status;
 mod working;
 

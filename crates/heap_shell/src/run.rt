@@ -8,33 +8,35 @@ ghost use Rattle.graph_model.specs.Graph.{Graph};
 ghost use Rattle.image_plan.specs.declared.superblock.Super.{Super};
 ghost use Rattle.image_plan.specs.Plan.{image_size};
 ghost use Rattle.heap_shell.specs.declared.command.Play.{Play};
-ghost use Rattle.heap_shell.specs.declared.script.Line.{Line};
-ghost use Rattle.heap_shell.specs.declared.script.ScriptError.TheVariants.{Fault};
+ghost use Rattle.script_text.specs.declared.line.Line.{Line};
+ghost use Rattle.script_text.specs.declared.script.ScriptError.TheVariants.{Fault};
 ghost use Rattle.heap_shell.specs.declared.status.Status.TheVariants.{NoMemory, WriteFault};
 ghost use Rattle.heap_shell.specs.Causes.{DiskRose, IsOutputError, IsInputError, IsPlayStatus, FailsByScript};
 ghost use Rattle.heap_shell.specs.Command.{command};
-ghost use Rattle.heap_shell.specs.Core.{Core};
-ghost use Rattle.heap_shell.specs.CoreCrash.{KeepsCommits};
+ghost use Rattle.heap_model.specs.Core.{Core};
+ghost use Rattle.heap_model.specs.CoreCrash.{KeepsCommits};
 ghost use Rattle.heap_shell.specs.Format.{IsFormatting, format_calls};
-ghost use Rattle.heap_shell.specs.Headline.{made_super, graph_text, recovered_line, OfTold, IsPlayed, Runs, SinceMade, IsSound, IsUntouching, EndsUnread, EndsUnmade, restarts_of};
+ghost use Rattle.heap_shell.specs.Headline.{made_super, made_core, graph_text, recovered_line, OfTold, IsPlayed, Runs, SinceMade, IsSound, IsUntouching, EndsUnread, EndsUnmade, restarts_of};
 ghost use Rattle.heap_shell.specs.Playable.{IsPlayable};
 ghost use Rattle.heap_shell.specs.HeapState.{commits_of};
-ghost use Rattle.heap_shell.specs.Image.{IsLegal};
+ghost use Rattle.heap_model.specs.Ending.{all_events};
+ghost use Rattle.heap_model.specs.Image.{IsLegal};
 ghost use Rattle.heap_shell.specs.Means.{IsHeap};
 ghost use Rattle.heap_shell.specs.Output.{WroteText, HasGraph, Recovers, status_after};
-ghost use Rattle.heap_shell.specs.Script.{script, events};
+ghost use Rattle.script_text.specs.Line.{events};
+ghost use Rattle.script_text.specs.Script.{script};
 ghost use Rattle.heap_shell.specs.StatusOf.{script_status, input_status, format_status, open_status};
 
 use crate::command::read_words;
 use crate::format::{FormatError, format};
 use crate::heap::Heap;
-use crate::play::{Ended, play_lines};
+use crate::play::{Ended, play_all, play_lines};
 use crate::recovery::OpenError;
-use crate::script::{Line, MOST_BYTES, ScriptError, read_script};
 use crate::status::Status;
-use disk_model::{Disk, FuseDisk};
+use disk_model::{Disk, DiskError, FuseDisk};
 use heap_io::{Sink, SinkFailed, Source, TakeAllError, put_all, take_all};
 use image_plan::Super;
+use script_text::{Line, MOST_BYTES, ScriptError, read_script};
 use std::alloc::{AllocError, Global};
 
 /// The bytes of the log of a heap that is made afresh.
@@ -184,7 +186,7 @@ fn read_input<S: Source>(alloc: Global, source: &mut S) -> Result<Vec<Line>, Sta
     Ok(read_script(alloc, &bytes)?)
 }
 
-/// Plays a script on a disk that isn't asked to stop.
+/// Plays a script on a disk that isn't asked to stop, with the events that end a run.
 fn play_whole<D: Disk, K: Sink>(
     alloc: Global,
     disk: D,
@@ -195,15 +197,15 @@ fn play_whole<D: Disk, K: Sink>(
     ensures kept { D.faults disk + D.stops disk ≤ D.faults result.1 + D.stops result.1 }
     ensures sink { K.faults sink.old ≤ K.faults sink.new }
     ensures extent { D.extent result.1 ≡ D.extent disk }
-    ensures played { IsTrue D.tells → (pages : ℕ) → IsLegal (made_super pages) [] (D.bytes disk) → Only (D.bytes disk) (D.may_leave disk) → IsPlayable (events script.now)
-        → IsPlayed None (events script.now) result.0 (λ P. LeavesOnly D.moment D.left_since disk result.1 P) (D.may_leave result.1) (¬ DiskRose (D.faults disk) (D.stops disk) (D.faults result.1) (D.stops result.1)) (λ n. D.passed result.1 ≡ counted n (D.passed disk)) K.tells (K.written sink.old) (K.written sink.new) }
+    ensures played { IsTrue D.tells → (pages : ℕ) → IsLegal (made_super pages) [] (D.bytes disk) → Only (D.bytes disk) (D.may_leave disk) → IsPlayable (all_events None made_core (events script.now))
+        → IsPlayed None (all_events None made_core (events script.now)) result.0 (λ P. LeavesOnly D.moment D.left_since disk result.1 P) (D.may_leave result.1) (¬ DiskRose (D.faults disk) (D.stops disk) (D.faults result.1) (D.stops result.1)) (λ n. D.passed result.1 ≡ counted n (D.passed disk)) K.tells (K.written sink.old) (K.written sink.new) }
     ensures restarts { IsTrue D.tells → D.restarts result.1 ≡ D.restarts disk }
 {
     let mut heap = match Heap::open(alloc, disk) {
         Ok(heap) => heap,
         Err((e, disk)) => return (Status::from(e), disk),
     };
-    match play_lines(alloc, &mut heap, script, sink) {
+    match play_all(alloc, &mut heap, script, sink) {
         Ok(Ended::Whole) => {
             let status = status_after(write_graph(alloc, &heap, sink));
             (status, heap.close())
@@ -231,7 +233,13 @@ fn play_stopped<D: Disk, K: Sink>(
 {
     let mut heap = match Heap::open(alloc, FuseDisk::new(disk, calls)) {
         Ok(heap) => heap,
-        Err((e, fuse)) => return (Status::from(e), fuse.into_inner()),
+        Err((e, fuse)) => {
+            // The opening of a new heap writes nothing, so only a disk that didn't keep what was written can stop here.
+            if e == OpenError::Disk(DiskError::Stopped) {
+                return start_again(alloc, fuse, 0, sink);
+            }
+            return (Status::from(e), fuse.into_inner());
+        }
     };
     let before = heap.commits();
     match play_lines(alloc, &mut heap, script, sink) {
@@ -252,10 +260,9 @@ fn start_again<D: Disk, K: Sink>(
     ensures kept { D.faults (fuse_inner fuse) + D.stops (fuse_inner fuse) ≤ D.faults result.1 + D.stops result.1 }
     ensures sink { K.faults sink.old ≤ K.faults sink.new }
     ensures extent { D.extent result.1 ≡ D.extent (fuse_inner fuse) }
-    ensures passed { IsTrue D.tells → D.passed result.1 ≡ D.passed (fuse_inner fuse) }
     ensures restarts { IsTrue D.tells → D.restarts result.1 ≡ raised (D.restarts (fuse_inner fuse)) }
     ensures moments { IsTrue D.tells → (c : Core) → ((image : List ℕ) → D.may_leave (fuse_inner fuse) image → KeepsCommits c image) → LeavesOnly D.moment D.left_since (fuse_inner fuse) result.1 (KeepsCommits c) }
-    ensures recovers { IsTrue D.tells → (c : Core) → ((image : List ℕ) → D.may_leave (fuse_inner fuse) image → KeepsCommits c image) → before ≡ 0 → Recovers c result.0 (D.may_leave result.1) K.tells (K.written sink.old) (K.written sink.new) }
+    ensures recovers { IsTrue D.tells → (c : Core) → ((image : List ℕ) → D.may_leave (fuse_inner fuse) image → KeepsCommits c image) → before ≡ 0 → Recovers c result.0 (D.may_leave result.1) (λ n. D.passed result.1 ≡ counted n (D.passed (fuse_inner fuse))) K.tells (K.written sink.old) (K.written sink.new) }
 {
     let mut disk = fuse.into_inner();
     disk.restart();
@@ -292,10 +299,9 @@ fn print_recovered<D: Disk, K: Sink>(
     ensures kept { D.faults disk + D.stops disk ≤ D.faults result.1 + D.stops result.1 }
     ensures sink { K.faults sink.old ≤ K.faults sink.new }
     ensures extent { D.extent result.1 ≡ D.extent disk }
-    ensures passed { IsTrue D.tells → D.passed result.1 ≡ D.passed disk }
     ensures restarts { IsTrue D.tells → D.restarts result.1 ≡ D.restarts disk }
-    ensures moments { IsTrue D.tells → LeavesOnly D.moment D.left_since disk result.1 (D.may_leave disk) }
-    ensures recovers { IsTrue D.tells → (c : Core) → KeepsCommits c (D.bytes disk) → Only (D.bytes disk) (D.may_leave disk) → before ≡ 0 → Recovers c result.0 (D.may_leave result.1) K.tells (K.written sink.old) (K.written sink.new) }
+    ensures moments { IsTrue D.tells → (c : Core) → KeepsCommits c (D.bytes disk) → Only (D.bytes disk) (D.may_leave disk) → LeavesOnly D.moment D.left_since disk result.1 (KeepsCommits c) }
+    ensures recovers { IsTrue D.tells → (c : Core) → KeepsCommits c (D.bytes disk) → Only (D.bytes disk) (D.may_leave disk) → before ≡ 0 → Recovers c result.0 (D.may_leave result.1) (λ n. D.passed result.1 ≡ counted n (D.passed disk)) K.tells (K.written sink.old) (K.written sink.new) }
 {
     let heap = match Heap::open(alloc, disk) {
         Ok(heap) => heap,

@@ -1,10 +1,10 @@
 //! A script played with a stop at each of its device calls, by each pick of a restart: the first commits come back, and
 //! among them all that were acknowledged. What is expected comes from the slow heap, which has no log and no disk.
 use crate::Status;
-use crate::script::{Line, read_script};
 use crate::tests::{ONE_COMMIT, Played, make_disk, play_on};
 use disk_model::Pick;
 use graph_model::{Entry, Event, SlowHeap};
+use script_text::{Line, read_script};
 use std::alloc::{AllocError, Global};
 use std::process::Abort;
 use std::str;
@@ -17,7 +17,7 @@ const HEAP_BYTES: usize = 1_050_752;
 const FORCE_CALLS: usize = 4;
 
 /// More calls than the scripts make.
-const MOST_CALLS: usize = 12;
+const MOST_CALLS: usize = 16;
 
 /// Two picks: by the first a gate that was written and not synced is closed, by the second it is open.
 type Pair = (Pick, Pick);
@@ -30,13 +30,26 @@ const FILLED: Pair = (Pick::AllOnes, Pick::AllOpen);
 const TWO_COMMITS: &str =
     "1 begin\n1 root 0\n1 put 0 0 7\n1 put 0 3 4611686018427387903\n1 commit\n1 begin\n1 root 0\n1 put 0 0 8\n1 put 0 1 9\n1 put 0 1 10\n1 commit\n";
 
-/// A script and what the slow heap answers to it.
+/// The second transaction is taken back, and the third one writes where it wrote.
+const ABORT_BETWEEN: &str =
+    "1 begin\n1 root 0\n1 put 0 0 7\n1 commit\n1 begin\n1 root 0\n1 put 0 0 8\n1 put 0 1 9\n1 abort\n1 begin\n1 root 0\n1 put 0 1 3\n1 commit\n";
+
+/// A transaction is forced before it is sealed, and the next one before it is taken back.
+const FORCED_INSIDE: &str =
+    "1 begin\n1 root 0\n1 put 0 0 7\nforce\n1 put 0 1 8\n1 commit\n1 begin\n1 root 0\n1 put 0 0 9\nforce\n1 abort\n";
+
+/// The script ends inside a transaction of which a part was forced.
+const FORCED_AT_END: &str =
+    "1 begin\n1 root 0\n1 put 0 0 7\n1 commit\n1 begin\n1 root 0\n1 put 0 0 8\n1 put 0 0 9\nforce\n1 clear 0 0\n";
+
+/// A script, what the slow heap answers to it, and of each force whether something was sealed since the one before.
 #[derive(Drop)]
 struct Told {
     script: &'static str,
     heap: SlowHeap,
     lines: String,
-    forces: usize,
+    forced: usize,
+    forces: Vec<bool>,
 }
 
 impl Told {
@@ -45,7 +58,8 @@ impl Told {
             script,
             heap: SlowHeap::new(alloc)?,
             lines: String::new(alloc),
-            forces: 0,
+            forced: 0,
+            forces: Vec::new(alloc),
         };
         for line in &read_script(alloc, script.as_bytes())? {
             match line {
@@ -64,7 +78,9 @@ impl Told {
         let reply = self.heap.step(event)?;
         writeln!(self.lines, "{}", Entry { event, reply })?;
         if event == Event::Force {
-            self.forces = self.forces.saturating_add(1);
+            let sealed = self.heap.sealed();
+            self.forces.push(sealed != self.forced)?;
+            self.forced = sealed;
         }
         Ok(())
     }
@@ -181,26 +197,29 @@ fn check_stops(
     }
     assert_eq!(rt;
         recovered.len(),
-        told.forces.saturating_mul(FORCE_CALLS),
+        told.forces.len().saturating_mul(FORCE_CALLS),
         "{pick:?}"
     );
     Ok(recovered)
 }
 
-fn expect_whole(rt: &impl Abort, alloc: Global, told: &Told) -> Result<(), Fail> {
+/// Plays the script without a stop, which ends with these lines of its own.
+fn expect_whole(rt: &impl Abort, alloc: Global, told: &Told, ending: &str) -> Result<(), Fail> {
     let played = play_to(alloc, told.script, Pick::Newest, None)?;
     let mut output = told.lines.clone()?.into_bytes();
+    output.extend_from_slice(ending.as_bytes())?;
     output.extend_from_slice(&told.heap.text(told.heap.sealed())?)?;
     assert_eq!(rt; played.status, Status::Done);
     assert_eq!(rt; played.output.as_slice(), output.as_slice());
     Ok(())
 }
 
-/// Only a stop of the last call of a force leaves it to the pick whether the commit comes back.
-fn expect_doubt(rt: &impl Abort, lost: &[usize], kept: &[usize]) {
+/// Only a stop of the last call of a force of a commit leaves it to the pick whether the commit comes back.
+fn expect_doubt(rt: &impl Abort, forces: &[bool], lost: &[usize], kept: &[usize]) {
     for (calls, (lost, kept)) in lost.iter().zip(kept.iter()).enumerate() {
         let last = calls % FORCE_CALLS == FORCE_CALLS - 1;
-        assert_eq!(rt; *kept, lost.saturating_add(usize::from(last)), "{calls}");
+        let commits = forces.get(calls / FORCE_CALLS).is_some_and(|commits| *commits);
+        assert_eq!(rt; *kept, lost.saturating_add(usize::from(last && commits)), "{calls}");
     }
 }
 
@@ -208,29 +227,62 @@ fn check_script(
     rt: &impl Abort,
     alloc: Global,
     script: &'static str,
+    ending: &str,
     (closed, open): Pair,
 ) -> Result<(), Fail> {
     let told = Told::of(rt, alloc, script)?;
-    expect_whole(rt, alloc, &told)?;
+    expect_whole(rt, alloc, &told, ending)?;
     let lost = check_stops(rt, alloc, &told, closed)?;
     let kept = check_stops(rt, alloc, &told, open)?;
-    expect_doubt(rt, &lost, &kept);
+    expect_doubt(rt, &told.forces, &lost, &kept);
     Ok(())
 }
 
-// Three tests, since code that is only tried plays slowly, and each has a minute.
+// A test for each script and pair, since code that is only tried plays slowly, and each has a minute.
 #[test]
 fn each_stop_with_each_pick_leaves_the_first_commits(rt: HostRuntime) -> Result<(), Fail> {
-    check_script(&rt, rt.alloc(), ONE_COMMIT, WRITTEN)?;
-    check_script(&rt, rt.alloc(), ONE_COMMIT, FILLED)
+    check_script(&rt, rt.alloc(), ONE_COMMIT, "", WRITTEN)?;
+    check_script(&rt, rt.alloc(), ONE_COMMIT, "", FILLED)
 }
 
 #[test]
 fn two_commits_come_back_from_written_bytes(rt: HostRuntime) -> Result<(), Fail> {
-    check_script(&rt, rt.alloc(), TWO_COMMITS, WRITTEN)
+    check_script(&rt, rt.alloc(), TWO_COMMITS, "", WRITTEN)
 }
 
 #[test]
 fn two_commits_come_back_from_filled_bytes(rt: HostRuntime) -> Result<(), Fail> {
-    check_script(&rt, rt.alloc(), TWO_COMMITS, FILLED)
+    check_script(&rt, rt.alloc(), TWO_COMMITS, "", FILLED)
+}
+
+#[test]
+fn an_abort_leaves_nothing_in_written_bytes(rt: HostRuntime) -> Result<(), Fail> {
+    check_script(&rt, rt.alloc(), ABORT_BETWEEN, "", WRITTEN)
+}
+
+#[test]
+fn an_abort_leaves_nothing_in_filled_bytes(rt: HostRuntime) -> Result<(), Fail> {
+    check_script(&rt, rt.alloc(), ABORT_BETWEEN, "", FILLED)
+}
+
+#[test]
+fn forced_writes_are_taken_back_from_written_bytes(rt: HostRuntime) -> Result<(), Fail> {
+    check_script(&rt, rt.alloc(), FORCED_INSIDE, "force -> durable 1\n", WRITTEN)
+}
+
+#[test]
+fn forced_writes_are_taken_back_from_filled_bytes(rt: HostRuntime) -> Result<(), Fail> {
+    check_script(&rt, rt.alloc(), FORCED_INSIDE, "force -> durable 1\n", FILLED)
+}
+
+const TAKEN_BACK: &str = "1 abort -> aborted\nforce -> durable 1\n";
+
+#[test]
+fn an_open_transaction_is_taken_back_from_written_bytes(rt: HostRuntime) -> Result<(), Fail> {
+    check_script(&rt, rt.alloc(), FORCED_AT_END, TAKEN_BACK, WRITTEN)
+}
+
+#[test]
+fn an_open_transaction_is_taken_back_from_filled_bytes(rt: HostRuntime) -> Result<(), Fail> {
+    check_script(&rt, rt.alloc(), FORCED_AT_END, TAKEN_BACK, FILLED)
 }

@@ -132,16 +132,79 @@ fn a_stop_in_a_force_leaves_the_commit_or_not(rt: HostRuntime) -> Result<(), Fai
     Ok(())
 }
 
+/// A transaction that is forced while it is active.
+const FORCED_INSIDE: &str = "1 begin\n1 root 0\n1 put 0 0 7\nforce\n";
+
+const FORCED_INSIDE_LINES: &str =
+    "1 begin -> begun 1\n1 root 0 -> done\n1 put 0 0 7 -> done\nforce -> durable 0\n";
+
+#[test]
+fn a_forced_write_is_taken_back_by_an_opening(rt: HostRuntime) -> Result<(), Fail> {
+    let alloc = rt.alloc();
+    let mut output = String::from_str(alloc, FORCED_INSIDE_LINES)?;
+    output.push_str("recovered 0\ngraph 1\n0: - - - -\n")?;
+    for pick in PICKS.iter() {
+        let played = play(alloc, "heap play --fresh 1 --stop 8", FORCED_INSIDE, *pick)?;
+        expect_done(&rt, &played, output.as_str());
+    }
+    Ok(())
+}
+
+#[test]
+fn a_run_aborts_and_forces_at_its_end(rt: HostRuntime) -> Result<(), Fail> {
+    let alloc = rt.alloc();
+    let ending = "1 abort -> aborted\nforce -> durable 0\ngraph 1\n0: - - - -\n";
+    let mut forced = String::from_str(alloc, FORCED_INSIDE_LINES)?;
+    forced.push_str(ending)?;
+    let played = play(alloc, "heap play --fresh 1", FORCED_INSIDE, Pick::Newest)?;
+    expect_done(&rt, &played, forced.as_str());
+    let mut waiting =
+        String::from_str(alloc, "1 begin -> begun 1\n1 root 0 -> done\n1 put 0 0 7 -> done\n")?;
+    waiting.push_str(ending)?;
+    let script = "1 begin\n1 root 0\n1 put 0 0 7\n";
+    let played = play(alloc, "heap play --fresh 1", script, Pick::Newest)?;
+    expect_done(&rt, &played, waiting.as_str());
+    Ok(())
+}
+
+#[test]
+fn a_run_forces_what_was_sealed(rt: HostRuntime) -> Result<(), Fail> {
+    let mut output = String::from_str(rt.alloc(), BEFORE_FORCE)?;
+    output.push_str("force -> durable 1\ngraph 1\n0: 7 - - -\n")?;
+    let script = "1 begin\n1 root 0\n1 put 0 0 7\n1 seal\n";
+    let played = play(rt.alloc(), "heap play --fresh 1", script, Pick::Newest)?;
+    expect_done(&rt, &played, output.as_str());
+    Ok(())
+}
+
+#[test]
+fn lines_come_in_any_order(rt: HostRuntime) -> Result<(), Fail> {
+    let alloc = rt.alloc();
+    let cases = [
+        ("\n1 commit\n", "1 seal -> notactive\nforce -> durable 0\n"),
+        ("1 root 0\n1 abort\n", "1 root 0 -> notactive\n1 abort -> notactive\n"),
+        (
+            "1 begin\n\n1 begin\n1 root 0\n1 put 0 4 1\n1 put 0 0 4611686018427387904\n1 get 0 0 1\n1 len 0\n1 seal\n1 seal\n",
+            "1 begin -> begun 1\n1 begin -> alreadyactive\n1 root 0 -> done\n1 put 0 4 1 -> badfield\n1 put 0 0 4611686018427387904 -> range\n1 get 0 0 1 -> null\n1 len 0 -> len 4\n1 seal -> sealed 1\n1 seal -> notactive\nforce -> durable 1\n",
+        ),
+    ];
+    for (script, lines) in cases.iter() {
+        let mut output = String::from_str(alloc, lines)?;
+        output.push_str("graph 1\n0: - - - -\n")?;
+        let played = play(alloc, "heap play --fresh 1", script, Pick::Newest)?;
+        expect_done(&rt, &played, output.as_str());
+    }
+    Ok(())
+}
+
 #[test]
 fn a_bad_script_leaves_the_disk(rt: HostRuntime) -> Result<(), Fail> {
     let alloc = rt.alloc();
     let cases = [
         ("1 begin\n1 root 0\n1 pu", 3),
-        ("1 begin\n1 root 0\n", 3),
-        ("1 begin\n\n", 3),
-        ("\n1 commit\n", 2),
-        ("1 begin\n1 root 0\n1 put 0 4 1\n1 commit\n", 3),
-        ("01  begin\n1 root 00\n1 put 0 0 4611686018427387904\n", 3),
+        ("1 begin\n2 root 0\n", 2),
+        ("\n\nforce 1\n", 3),
+        ("1 begin\n1 root 18446744073709551616\n", 2),
         (" 1 begin\n", 1),
     ];
     for (script, bad) in cases.iter() {

@@ -5,7 +5,7 @@ ghost use Rattle.std.specs.Prelude.{◌≡◌, ◌^◌, ◌<◌, ◌∷◌, ◌+
 ghost use Rattle.std.specs.Int.{w16, w32, w64, to_le_bytes};
 ghost use Rattle.heap_words.specs.Word.{IsFieldWord};
 ghost use Rattle.log_records.specs.declared.Record.{Record};
-ghost use Rattle.log_records.specs.declared.Record.TheVariants.{Update, Commit};
+ghost use Rattle.log_records.specs.declared.Record.TheVariants.{Update, Undo, Commit, End};
 ghost use Rattle.log_records.specs.Record.{spelling, Begins, Reads, IsNumber, IsRecord};
 
 use heap_words::decode as decode_word;
@@ -13,13 +13,23 @@ use std::alloc::AllocError;
 
 const UPDATE: u8 = 1;
 
+const UNDO: u8 = 4;
+
 const COMMIT: u8 = 5;
+
+const END: u8 = 6;
 
 /// The bytes of an `Update` record.
 pub const UPDATE_BYTES: usize = 27;
 
+/// The bytes of an `Undo` record.
+pub const UNDO_BYTES: usize = 19;
+
 /// The bytes of a `Commit` record.
 pub const COMMIT_BYTES: usize = 5;
+
+/// The bytes of an `End` record.
+pub const END_BYTES: usize = 5;
 
 /// The greatest number of a transaction.
 pub const LAST_NUMBER: u32 = 4_294_967_294;
@@ -35,8 +45,20 @@ pub enum Record {
         was: u64,
         word: u64,
     },
+    /// What transaction `t` wrote into a field of the object at word address `object` is taken back: `word`, which stood there
+    /// before, stands there again. This record is never taken back itself.
+    Undo {
+        t: u32,
+        object: u32,
+        field: u16,
+        word: u64,
+    },
     /// Transaction `t` is committed.
     Commit {
+        t: u32,
+    },
+    /// Transaction `t` has ended and has left nothing.
+    End {
         t: u32,
     },
 }
@@ -47,7 +69,9 @@ pub fn length(rec: &Record) -> u64
 {
     match rec {
         Record::Update { .. } => UPDATE_BYTES as u64,
+        Record::Undo { .. } => UNDO_BYTES as u64,
         Record::Commit { .. } => COMMIT_BYTES as u64,
+        Record::End { .. } => END_BYTES as u64,
     }
 }
 
@@ -64,7 +88,14 @@ pub fn encode(rec: &Record, into: &mut Vec<u8>) -> Result<(), AllocError>
             was,
             word,
         } => into.extend_from_slice(&update_bytes(*t, *object, *field, *was, *word)),
+        Record::Undo {
+            t,
+            object,
+            field,
+            word,
+        } => into.extend_from_slice(&undo_bytes(*t, *object, *field, *word)),
         Record::Commit { t } => into.extend_from_slice(&commit_bytes(*t)),
+        Record::End { t } => into.extend_from_slice(&end_bytes(*t)),
     }
 }
 
@@ -81,11 +112,30 @@ fn update_bytes(t: u32, object: u32, field: u16, was: u64, word: u64) -> [u8; UP
     bytes
 }
 
+fn undo_bytes(t: u32, object: u32, field: u16, word: u64) -> [u8; UNDO_BYTES]
+    ensures { result ≡ spelling (Undo t object field word) }
+{
+    let mut bytes = [0u8; UNDO_BYTES];
+    bytes[0] = UNDO;
+    bytes[1..5].copy_from_slice(&t.to_le_bytes());
+    bytes[5..9].copy_from_slice(&object.to_le_bytes());
+    bytes[9..11].copy_from_slice(&field.to_le_bytes());
+    bytes[11..19].copy_from_slice(&word.to_le_bytes());
+    bytes
+}
+
 fn commit_bytes(t: u32) -> [u8; COMMIT_BYTES]
     ensures { result ≡ spelling (Commit t) }
 {
     let [a, b, c, d] = t.to_le_bytes();
     [COMMIT, a, b, c, d]
+}
+
+fn end_bytes(t: u32) -> [u8; END_BYTES]
+    ensures { result ≡ spelling (End t) }
+{
+    let [a, b, c, d] = t.to_le_bytes();
+    [END, a, b, c, d]
 }
 
 fn u16_at(bytes: &[u8]) -> Option<(u16, &[u8])>
@@ -150,12 +200,36 @@ fn update_at(bytes: &[u8]) -> Option<Record>
     })
 }
 
+fn undo_at(bytes: &[u8]) -> Option<Record>
+    ensures found { IfSome result (λ rec. IsRecord rec × Begins (4 ∷ bytes.now) rec) }
+    ensures only { (rec : Record) → IsRecord rec → Begins (4 ∷ bytes.now) rec → result ≡ Some rec }
+{
+    let (t, rest) = number_at(bytes)?;
+    let (object, rest) = u32_at(rest)?;
+    let (field, rest) = u16_at(rest)?;
+    let (word, _) = field_word_at(rest)?;
+    Some(Record::Undo {
+        t,
+        object,
+        field,
+        word,
+    })
+}
+
 fn commit_at(bytes: &[u8]) -> Option<Record>
     ensures found { IfSome result (λ rec. IsRecord rec × Begins (5 ∷ bytes.now) rec) }
     ensures only { (rec : Record) → IsRecord rec → Begins (5 ∷ bytes.now) rec → result ≡ Some rec }
 {
     let (t, _) = number_at(bytes)?;
     Some(Record::Commit { t })
+}
+
+fn end_at(bytes: &[u8]) -> Option<Record>
+    ensures found { IfSome result (λ rec. IsRecord rec × Begins (6 ∷ bytes.now) rec) }
+    ensures only { (rec : Record) → IsRecord rec → Begins (6 ∷ bytes.now) rec → result ≡ Some rec }
+{
+    let (t, _) = number_at(bytes)?;
+    Some(Record::End { t })
 }
 
 /// The record whose spelling the bytes begin with, and how many bytes that is.
@@ -165,7 +239,9 @@ pub fn decode(bytes: &[u8]) -> Option<(Record, usize)>
 {
     match bytes {
         [UPDATE, rest @ ..] => Some((update_at(rest)?, UPDATE_BYTES)),
+        [UNDO, rest @ ..] => Some((undo_at(rest)?, UNDO_BYTES)),
         [COMMIT, rest @ ..] => Some((commit_at(rest)?, COMMIT_BYTES)),
+        [END, rest @ ..] => Some((end_at(rest)?, END_BYTES)),
         _ => None,
     }
 }

@@ -1,9 +1,10 @@
-//! The records of a small log, byte by byte.
+//! Records byte by byte, one of each kind, and bytes that are none.
 use super::*;
 use std::test::Fail;
 
-/// Transaction 1 writes the number 7 into field 0 of the object at address 0, where null stood, and is committed.
-const RECORDS: [Record; 2] = [
+/// A record of each kind: transaction 1 writes the number 7 where null stood; the number is put back into field 2; and
+/// transaction 1 is committed, and has ended.
+const RECORDS: [Record; 4] = [
     Record::Update {
         t: 1,
         object: 0,
@@ -11,23 +12,79 @@ const RECORDS: [Record; 2] = [
         was: 0,
         word: 29,
     },
+    Record::Undo {
+        t: 1,
+        object: 0,
+        field: 2,
+        word: 29,
+    },
     Record::Commit { t: 1 },
+    Record::End { t: 1 },
 ];
 
-/// The same, as `docs/FORMATS.md` has it.
-const BYTES: [u8; 32] = [
-    1, 1, 0, 0, 0, 0, 0, 0, 0, 0, 0, 0, 0, 0, 0, 0, 0, 0, 0, 29, 0, 0, 0, 0, 0, 0, 0, 5, 1, 0, 0, 0,
+/// Their bytes. Those of the `Update` and the `Commit` stand in `docs/FORMATS.md` too.
+const SPELLINGS: [&[u8]; 4] = [
+    &[
+        1, 1, 0, 0, 0, 0, 0, 0, 0, 0, 0, 0, 0, 0, 0, 0, 0, 0, 0, 29, 0, 0, 0, 0, 0, 0, 0,
+    ],
+    &[4, 1, 0, 0, 0, 0, 0, 0, 0, 2, 0, 29, 0, 0, 0, 0, 0, 0, 0],
+    &[5, 1, 0, 0, 0],
+    &[6, 1, 0, 0, 0],
+];
+
+/// Bytes that begin with no record: a kind that is none; the numbers 0 and 4,294,967,295; and the word 3 * 2^60, which no
+/// field has, at each word of an `Update` and at that of an `Undo`.
+const NO_RECORDS: [&[u8]; 12] = [
+    &[7, 1, 0, 0, 0],
+    &[
+        1, 0, 0, 0, 0, 0, 0, 0, 0, 0, 0, 0, 0, 0, 0, 0, 0, 0, 0, 29, 0, 0, 0, 0, 0, 0, 0,
+    ],
+    &[4, 0, 0, 0, 0, 0, 0, 0, 0, 2, 0, 29, 0, 0, 0, 0, 0, 0, 0],
+    &[5, 0, 0, 0, 0],
+    &[6, 0, 0, 0, 0],
+    &[
+        1, 255, 255, 255, 255, 0, 0, 0, 0, 0, 0, 0, 0, 0, 0, 0, 0, 0, 0, 29, 0, 0, 0, 0, 0, 0, 0,
+    ],
+    &[
+        4, 255, 255, 255, 255, 0, 0, 0, 0, 2, 0, 29, 0, 0, 0, 0, 0, 0, 0,
+    ],
+    &[5, 255, 255, 255, 255],
+    &[6, 255, 255, 255, 255],
+    &[
+        1, 1, 0, 0, 0, 0, 0, 0, 0, 0, 0, 0, 0, 0, 0, 0, 0, 0, 48, 29, 0, 0, 0, 0, 0, 0, 0,
+    ],
+    &[
+        1, 1, 0, 0, 0, 0, 0, 0, 0, 0, 0, 0, 0, 0, 0, 0, 0, 0, 0, 0, 0, 0, 0, 0, 0, 0, 48,
+    ],
+    &[4, 1, 0, 0, 0, 0, 0, 0, 0, 2, 0, 0, 0, 0, 0, 0, 0, 0, 48],
 ];
 
 #[test]
 fn spelled_and_read_again(rt: HostRuntime) -> Result<(), Fail> {
-    let mut bytes = Vec::new(rt.alloc());
-    for record in &RECORDS {
-        encode(record, &mut bytes)?;
+    for (record, bytes) in RECORDS.iter().zip(SPELLINGS) {
+        let mut spelled = Vec::new(rt.alloc());
+        encode(record, &mut spelled)?;
+        assert_eq!(rt; spelled.as_slice(), bytes);
+        assert_eq!(rt; length(record), bytes.len() as u64);
+        assert_eq!(rt; decode(bytes), Some((*record, bytes.len())));
+        encode(record, &mut spelled)?;
+        assert_eq!(rt;
+            decode(&spelled),
+            Some((*record, bytes.len())),
+            "with bytes behind it"
+        );
     }
-    assert_eq!(rt; bytes.as_slice(), BYTES.as_slice());
-    let [update, commit] = RECORDS;
-    assert_eq!(rt; decode(&BYTES), Some((update, 27)));
-    assert_eq!(rt; decode(&BYTES[27..]), Some((commit, 5)));
     Ok(())
+}
+
+#[test]
+fn refused(rt: HostRuntime) {
+    for bytes in NO_RECORDS {
+        assert_eq!(rt; decode(bytes), None, "{bytes:?}");
+    }
+    for bytes in SPELLINGS {
+        for end in 0..bytes.len() {
+            assert_eq!(rt; decode(&bytes[..end]), None, "cut off at {end}: {bytes:?}");
+        }
+    }
 }

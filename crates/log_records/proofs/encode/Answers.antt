@@ -6,3 +6,7 @@ use Rattle.log_records.proofs.encode.Goals as goal
 pub returns-in-Update-clause-ok : goal.returns-in-Update-clause-ok
 returns-in-Update-clause-ok c =
     appended c.extend_from_slice.result c.args.into.now.items c.extend_from_slice.new.self.items c.update_bytes.result (spelling c.args.rec.now) c.extend_from_slice.ensures.items (c.update_bytes.ensures ∙ sym (ap spelling c.in-Update.is))
+
+pub returns-in-Undo-clause-ok : goal.returns-in-Undo-clause-ok
+returns-in-Undo-clause-ok c =
+    appended c.extend_from_slice-in-Undo.result c.args.into.now.items c.extend_from_slice-in-Undo.new.self.items c.undo_bytes.result (spelling c.args.rec.now) c.extend_from_slice-in-Undo.ensures.items (c.undo_bytes.ensures ∙ sym (ap spelling c.in-Undo.is))

@@ -7,7 +7,7 @@ use Rattle.image_plan.specs.declared.plan.Plan.{Plan}
 use Rattle.image_plan.specs.Super.{superblock}
 use Rattle.image_plan.specs.Plan.{image_size}
 use Rattle.heap_shell.specs.Format.{AreZero, IsFormatting, zero_writes}
-use Rattle.heap_shell.specs.Image.{IsLegal}
+use Rattle.heap_model.specs.Image.{IsLegal}
 use Rattle.heap_shell.proofs.Empty.{empty, zeroing, filling, closing_run, run_then, made_calls}
 use Rattle.heap_shell.proofs.format.write_empty.Goals as goal
 

@@ -1,7 +1,7 @@
 use Rattle.std.proofs.Common.{sym, subst}
-use Rattle.heap_shell.specs.declared.script.Line.{Line}
+use Rattle.script_text.specs.declared.line.Line.{Line}
 use Rattle.heap_shell.specs.Play.{AreReady, Plays}
-use Rattle.heap_shell.specs.Script.{line_events}
+use Rattle.script_text.specs.Line.{line_events}
 use Rattle.heap_shell.proofs.play.play_line.Goals as goal
 
 pub returns-in-One-clause-plays : goal.returns-in-One-clause-plays

@@ -2,10 +2,10 @@ use Rattle.std.proofs.Common.{◌≡◌, inl, ◌+◌, List, Ok, Err, rules, ref
 use Rattle.std.proofs.lemmas.List.{take_all}
 use Rattle.heap_shell.specs.declared.play.Ended.{Ended}
 use Rattle.heap_shell.specs.declared.play.Ended.TheVariants as ended
-use Rattle.heap_shell.specs.declared.script.Line.{Line}
-use Rattle.heap_shell.specs.CoreLawsPlay.{ready_valid, keeps_has}
+use Rattle.script_text.specs.declared.line.Line.{Line}
+use Rattle.heap_model.specs.CoreLawsGrow.{keeps_has}
 use Rattle.heap_shell.specs.Play.{Plays}
-use Rattle.heap_shell.specs.Script.{events}
+use Rattle.script_text.specs.Line.{events}
 use Rattle.heap_shell.proofs.PlayEvent.{heap_leaves}
 use Rattle.heap_shell.proofs.PlayLaws.{plays_none}
 use Rattle.heap_shell.proofs.PlayLoop.{line_more, line_last}
@@ -21,9 +21,8 @@ loop-line-init g c =
       origin = search rules;
       restarts = λ tells. refl;
       plays = λ tells of core is ready.
-          let valid = ready_valid core (events c.args.lines.now) ready in
-          plays_none of core heap g.K.Sink.tells (g.K.Sink.written c.args.sink.now) is valid
-          (λ image left. keeps_has core image (heap_leaves of core heap is (inl valid) image (g.met.D.Disk.only_now tells heap.disk image left)));
+          plays_none of core heap g.K.Sink.tells (g.K.Sink.written c.args.sink.now) is ready.0
+          (λ image left. keeps_has core image (heap_leaves of core heap is (inl ready.0) image (g.met.D.Disk.only_now tells heap.disk image left)));
     }
 
 pub returns-in_err-ended-clause-plays : goal.returns-in_err-ended-clause-plays

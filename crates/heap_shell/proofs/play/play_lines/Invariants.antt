@@ -4,11 +4,11 @@ use Rattle.disk_model.specs.declared.disk.DiskError.{DiskError}
 use Rattle.disk_model.specs.Disk.{HasCause}
 use Rattle.image_plan.specs.declared.superblock.Super.{Super}
 use Rattle.heap_shell.specs.declared.play.Ended.TheVariants as ended
-use Rattle.heap_shell.specs.Core.{Core}
+use Rattle.heap_model.specs.Core.{Core}
 use Rattle.heap_shell.specs.HeapState.{heap_disk}
 use Rattle.heap_shell.specs.Means.{IsHeap}
 use Rattle.heap_shell.specs.Play.{AreReady, Plays}
-use Rattle.heap_shell.specs.Script.{events}
+use Rattle.script_text.specs.Line.{events}
 use Rattle.heap_shell.proofs.play.play_lines.Given as goal
 
 -- the counts so far, over lines that ended well, and what was played

@@ -1,86 +1,102 @@
-use Rattle.std.proofs.Common.{◌≡◌, ℕ, ◌+◌, ◌≤◌, List, drop, Err, sym, ◌∙◌, ap, subst, arith, rules, max}
+use Rattle.std.proofs.Common.{◌≡◌, ℕ, List, Ok, Err, sym, ◌∙◌, ap, subst, rules}
+use Rattle.std.specs.Prelude.{drop}
 use Rattle.std.specs.List.{AllByRecursion}
-use Rattle.std.specs.Prelude.{IsOk}
-use Rattle.disk_model.specs.Disk.{part}
-use Rattle.gated_log.specs.Log.{records_of, HoldsBatches}
-use Rattle.gated_log.specs.LogCause.{log_device_result}
-use Rattle.image_plan.specs.declared.superblock.Super.{Super}
-use Rattle.image_plan.specs.Plan.{image_size, log_offset}
-use Rattle.log_records.specs.declared.Record.{Record}
-use Rattle.heap_shell.specs.Causes.{open_device}
-use Rattle.heap_shell.specs.Image.{IsLegal}
-use Rattle.heap_shell.specs.Machine.{start, after_all, words, AreWhole}
-use Rattle.heap_shell.specs.ValueWord.{IsNumberWord}
-use Rattle.heap_shell.specs.Recovered.{open_error}
-use Rattle.heap_shell.proofs.Causes.{cause_then}
-use Rattle.heap_shell.proofs.Opening.{outside_of, same_device}
+use Rattle.gate_slot.specs.Passing.{Passes}
+use Rattle.heap_model.specs.Core.{force_calls}
+use Rattle.heap_model.specs.CoreLawsOpening.{rolled_plain}
+use Rattle.heap_model.specs.Opening.{opening_calls}
+use Rattle.heap_model.specs.ValueWord.{IsNumberWord}
+use Rattle.heap_shell.specs.Recovered.{rollback_after, ErrorPasses}
+use Rattle.heap_shell.proofs.Opening.{error_passes, ok_outside, ok_passes, if_ok, only_still, same_rollback, held, rolled_image, rolled_back_words, recovered, opening_moments}
 use Rattle.heap_shell.proofs.recovery.recover.Goals as goal
 
-pub returns-in_err-found-clause-legal : goal.returns-in_err-found-clause-legal
-returns-in_err-found-clause-legal g c tells s batches legal =
-    let d = g.D.Disk in
-    let old = d.bytes c.args.disk.now in
-    let whole = g.met.D.Disk.same_size tells c.args.disk.now old (g.met.D.Disk.reads_an_image tells c.args.disk.now) in
-    let fits : image_size s.pages s.log_bytes ≤ d.extent c.args.disk.now = omega (arith, whole, legal.size) in
-    let err : c.from_residual.result ≡ Err c.in_err-found.field-0.0 = search rules in
-    rw err (c.in_err-found.ensures.legal tells s legal.limits legal.super fits)
+pub returns-in_err-read-clause-legal : goal.returns-in_err-read-clause-legal
+returns-in_err-read-clause-legal g c tells s batches legal =
+    let err : c.from_residual.result ≡ Err c.in_err-read.field-0.0 = search rules in
+    rw err (c.in_err-read.ensures.legal tells s batches legal)
 
-pub returns-in_err-log-clause-cause : goal.returns-in_err-log-clause-cause
-returns-in_err-log-clause-cause g c =
-    let d = g.D.Disk in
-    let e = c.in_err-log.field-0.0 in
-    let err : c.from_residual-in_err-log.result ≡ Err (open_error e) = search rules in
-    cause_then (d.faults c.args.disk.now) (d.faults c.read_plan.new.disk) (d.faults c.open.new.disk) (d.stops c.args.disk.now) (d.stops c.read_plan.new.disk) (d.stops c.open.new.disk)
-    (open_device c.read_plan.result) (open_device c.from_residual-in_err-log.result) (log_device_result c.open.result) c.read_plan.ensures.cause c.open.ensures.cause
-    (λ x is. ap log_device_result c.in_err-log.was ∙ sym (same_device e) ∙ sym (ap open_device err) ∙ is)
+pub returns-in_err-read-clause-passes : goal.returns-in_err-read-clause-passes
+returns-in_err-read-clause-passes g c tells s batches legal =
+    let err : c.from_residual.result ≡ Err c.in_err-read.field-0.0 = search rules in
+    rw err (error_passes (opening_calls batches) _ _ c.in_err-read.field-0.0 (c.read_image.ensures.passed tells) (c.in_err-read.ensures.legal tells s batches legal))
 
--- the log that a legal image holds
-module _ (old : List ℕ) (s : Super) (batches : List (List Record)) (legal : IsLegal s batches old) where
-  area : (now : List ℕ) (at : ℕ) (found : Super) → now ≡ old → at ≡ log_offset → found ≡ s → HoldsBatches (part now at found.log_bytes) batches
-  area now at found same there is =
-      subst (λ (l : List ℕ). HoldsBatches l batches)
-      (sym (ap (λ (l : List ℕ). part l at found.log_bytes) same ∙ ap (λ (n : ℕ). part old n found.log_bytes) there ∙ ap (λ (x : Super). part old log_offset x.log_bytes) is)) legal.log
-
-pub returns-in_err-log-clause-legal : goal.returns-in_err-log-clause-legal
-returns-in_err-log-clause-legal g c tells s batches legal =
+pub returns-in_err-roll_back-clause-moments : goal.returns-in_err-roll_back-clause-moments
+returns-in_err-roll_back-clause-moments g c tells only gr k stands =
     let d = g.D.Disk in
-    let old = d.bytes c.args.disk.now in
-    let whole = g.met.D.Disk.same_size tells c.args.disk.now old (g.met.D.Disk.reads_an_image tells c.args.disk.now) in
-    let fits : image_size s.pages s.log_bytes ≤ d.extent c.args.disk.now = omega (arith, whole, legal.size) in
-    let same : c.in_ok-found.found ≡ s = c.in_ok-found.ensures.found tells s legal.limits legal.super fits in
-    let e = c.in_err-log.field-0.0 in
-    let err : c.from_residual-in_err-log.result ≡ Err (open_error e) = search rules in
-    let held = area old s batches legal (d.bytes c.read_plan.new.disk) c.log_at.result c.in_ok-found.found (c.read_plan.ensures.bytes tells) c.log_at.ensures same in
-    rw err (outside_of e (λ offset bad. c.open.ensures.whole tells batches held legal.good offset (c.in_err-log.was ∙ ap (λ x. Err x) bad)))
+    let s = stands.super in
+    let batches = stands.batches in
+    let is = c.in_ok-read.ensures.found tells s batches stands.legal in
+    let same = c.read_image.ensures.bytes tells in
+    let still = only_still _ _ (d.may_leave c.args.disk.now) (d.may_leave c.read_image.new.disk) only same (c.read_image.ensures.crash tells) in
+    opening_moments d.moment d.left_since c.args.disk.now c.read_image.new.disk c.roll_back.new.disk (d.may_leave c.args.disk.now) _ _ gr k stands c.in_ok-read.read is only same (c.read_image.ensures.moments tells)
+    (c.roll_back.ensures.moments tells still batches is.log (held s batches _ stands.legal c.in_ok-read.read is _ same))
 
-pub returns-in_err-state-clause-legal : goal.returns-in_err-state-clause-legal
-returns-in_err-state-clause-legal g c tells s batches legal =
+pub returns-in_err-roll_back-clause-passes : goal.returns-in_err-roll_back-clause-passes
+returns-in_err-roll_back-clause-passes g c tells s batches legal =
     let d = g.D.Disk in
-    let old = d.bytes c.args.disk.now in
-    let whole = g.met.D.Disk.same_size tells c.args.disk.now old (g.met.D.Disk.reads_an_image tells c.args.disk.now) in
-    let fits : image_size s.pages s.log_bytes ≤ d.extent c.args.disk.now = omega (arith, whole, legal.size) in
-    let same : c.in_ok-found.found ≡ s = c.in_ok-found.ensures.found tells s legal.limits legal.super fits in
-    let held = area old s batches legal (d.bytes c.read_plan.new.disk) c.log_at.result c.in_ok-found.found (c.read_plan.ensures.bytes tells) c.log_at.ensures same in
-    let read = c.in_ok-log.ensures.held tells batches held legal.good in
-    let records : c.deref.result.now ≡ records_of batches = c.deref.ensures.value ∙ read.1 in
-    let well = c.replay.ensures.exact (subst AreWhole (sym records) legal.whole) (subst (λ (rs : List Record). AllByRecursion IsNumberWord (drop 2 (words rs))) (sym records) legal.plain) in
-    absurd (cc (subst IsOk c.in_err-state.was well))
+    let e = c.in_err-roll_back.field-0.0 in
+    let err : c.from_residual-in_err-roll_back.result ≡ Err e = search rules in
+    let is = c.in_ok-read.ensures.found tells s batches legal in
+    let calls = ap force_calls (sym (same_rollback s batches _ legal c.in_ok-read.read is)) in
+    let now = d.passed c.roll_back.new.disk in
+    let P : ℕ → Type 0 = λ n. ErrorPasses n (d.passed c.args.disk.now) now e in
+    let Q : ℕ → Type 0 = λ n. ErrorPasses (force_calls (rollback_after c.in_ok-read.read.state)) n now e in
+    rw err (subst P calls (subst Q (c.read_image.ensures.passed tells) (c.in_err-roll_back.ensures.passes tells batches is.log)))
+
+pub returns-in_err-roll_back-clause-no_first_stop : goal.returns-in_err-roll_back-clause-no_first_stop
+returns-in_err-roll_back-clause-no_first_stop g c tells s batches legal none before =
+    let is = c.in_ok-read.ensures.found tells s batches legal in
+    let same = c.roll_back.ensures.untouched (sym (same_rollback s batches _ legal c.in_ok-read.read is) ∙ none) in
+    ap g.D.Disk.stops same ∙ c.read_image.ensures.no_first_stop before
 
 pub returns-clause-found : goal.returns-clause-found
 returns-clause-found g c tells s batches legal =
+    let is = c.in_ok-read.ensures.found tells s batches legal in
+    let roll = c.in_ok-roll_back.ensures in
+    let keeps = (roll.held tells batches is.log (held s batches _ legal c.in_ok-read.read is _ (c.read_image.ensures.bytes tells))).0 in
+    recovered s batches _ legal c.in_ok-read.read is c.finish.result c.roll_back.new.self roll.state roll.first roll.place roll.same_room roll.words keeps
+    c.finish.ensures.log c.finish.ensures.words c.finish.ensures.commits c.finish.ensures.next
+
+-- what was read of a legal image can be finished
+pub returns-clause-legal : goal.returns-clause-legal
+returns-clause-legal g c tells s batches legal =
+    let is = c.in_ok-read.ensures.found tells s batches legal in
+    let stored = rolled_back_words s batches _ legal c.in_ok-read.read is c.roll_back.new.self.words c.in_ok-roll_back.ensures.words in
+    let plain = subst (λ (l : List ℕ). AllByRecursion IsNumberWord (drop 2 l)) (sym stored) (rolled_plain s batches _ legal) in
+    ok_outside c.finish.result (c.finish.ensures.only plain)
+
+pub returns-clause-image : goal.returns-clause-image
+returns-clause-image g c tells s batches legal =
+    let is = c.in_ok-read.ensures.found tells s batches legal in
+    let same = c.read_image.ensures.bytes tells in
+    let roll = c.in_ok-roll_back.ensures in
+    let holds = (roll.held tells batches is.log (held s batches _ legal c.in_ok-read.read is _ same)).1 in
+    if_ok c.finish.result _ (rolled_image s batches _ legal c.in_ok-read.read is _ _ same (roll.outside tells) holds)
+
+pub returns-clause-moments : goal.returns-clause-moments
+returns-clause-moments g c tells only gr k stands =
     let d = g.D.Disk in
-    let old = d.bytes c.args.disk.now in
-    let whole = g.met.D.Disk.same_size tells c.args.disk.now old (g.met.D.Disk.reads_an_image tells c.args.disk.now) in
-    let fits : image_size s.pages s.log_bytes ≤ d.extent c.args.disk.now = omega (arith, whole, legal.size) in
-    let same : c.in_ok-found.found ≡ s = c.in_ok-found.ensures.found tells s legal.limits legal.super fits in
-    let held = area old s batches legal (d.bytes c.read_plan.new.disk) c.log_at.result c.in_ok-found.found (c.read_plan.ensures.bytes tells) c.log_at.ensures same in
-    let read = c.in_ok-log.ensures.held tells batches held legal.good in
-    let records : c.deref.result.now ≡ records_of batches = c.deref.ensures.value ∙ read.1 in
-    record {
-      log = read.0;
-      place = c.in_ok-log.ensures.place.0 ∙ c.log_at.ensures;
-      room = c.in_ok-log.ensures.place.1 ∙ ap (λ (x : Super). x.log_bytes) same;
-      words = c.in_ok-state.ensures.words ∙ ap words records;
-      state = ap (λ (rs : List Record). after_all start rs) (sym records) ∙ c.in_ok-state.ensures.state;
-      next = c.max-next.ensures ∙ ap (λ (x : Super). max x.first (c.greatest.result + 1)) same ∙ ap (λ (n : ℕ). max s.first (n + 1)) c.greatest.ensures;
-    }
+    let s = stands.super in
+    let batches = stands.batches in
+    let is = c.in_ok-read.ensures.found tells s batches stands.legal in
+    let same = c.read_image.ensures.bytes tells in
+    let still = only_still _ _ (d.may_leave c.args.disk.now) (d.may_leave c.read_image.new.disk) only same (c.read_image.ensures.crash tells) in
+    opening_moments d.moment d.left_since c.args.disk.now c.read_image.new.disk c.roll_back.new.disk (d.may_leave c.args.disk.now) _ _ gr k stands c.in_ok-read.read is only same (c.read_image.ensures.moments tells)
+    (c.roll_back.ensures.moments tells still batches is.log (held s batches _ stands.legal c.in_ok-read.read is _ same))
+
+pub returns-clause-passes : goal.returns-clause-passes
+returns-clause-passes g c tells s batches legal =
+    let d = g.D.Disk in
+    let is = c.in_ok-read.ensures.found tells s batches legal in
+    let stored = rolled_back_words s batches _ legal c.in_ok-read.read is c.roll_back.new.self.words c.in_ok-roll_back.ensures.words in
+    let plain = subst (λ (l : List ℕ). AllByRecursion IsNumberWord (drop 2 l)) (sym stored) (rolled_plain s batches _ legal) in
+    let calls = ap force_calls (sym (same_rollback s batches _ legal c.in_ok-read.read is)) in
+    let now = d.passed c.roll_back.new.disk in
+    ok_passes c.finish.result (opening_calls batches) (d.passed c.args.disk.now) now (c.finish.ensures.only plain)
+    (subst (λ (n : ℕ). Passes n (d.passed c.args.disk.now) now (Ok tt)) calls (subst (λ (n : ℕ). Passes (force_calls (rollback_after c.in_ok-read.read.state)) n now (Ok tt)) (c.read_image.ensures.passed tells) (c.in_ok-roll_back.ensures.passes tells batches is.log)))
+
+pub returns-clause-no_first_stop : goal.returns-clause-no_first_stop
+returns-clause-no_first_stop g c tells s batches legal none before =
+    let is = c.in_ok-read.ensures.found tells s batches legal in
+    let same = c.roll_back.ensures.untouched (sym (same_rollback s batches _ legal c.in_ok-read.read is) ∙ none) in
+    ap g.D.Disk.stops same ∙ c.read_image.ensures.no_first_stop before

@@ -1,6 +1,6 @@
 use Rattle.std.proofs.Common.{subst, rules}
 use Rattle.std.specs.List.{AllByRecursion}
-use Rattle.heap_shell.specs.ValueWord.{IsNumberWord}
+use Rattle.heap_model.specs.ValueWord.{IsNumberWord}
 use Rattle.heap_shell.proofs.Opening.{four_hold}
 use Rattle.heap_shell.proofs.recovery.root_values.Goals as goal
 

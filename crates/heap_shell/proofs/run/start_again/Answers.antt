@@ -1,6 +1,9 @@
-use Rattle.std.proofs.Common.{ℕ, List, sym, subst}
-use Rattle.disk_model.specs.Moments.{LeavesOnly, begins, goes_on, weaker}
-use Rattle.heap_shell.specs.CoreCrash.{KeepsCommits}
+use Rattle.std.proofs.Common.{◌≡◌, ℕ, List, sym, ap, ◌∙◌, subst}
+use Rattle.counts.specs.Count.{counted}
+use Rattle.disk_model.specs.Fuse.{fuse_inner}
+use Rattle.disk_model.specs.Moments.{LeavesOnly, begins, goes_on}
+use Rattle.heap_model.specs.CoreCrash.{KeepsCommits}
+use Rattle.heap_shell.specs.Output.{Recovers}
 use Rattle.heap_shell.proofs.PlayOpen.{opening_then}
 use Rattle.heap_shell.proofs.run.start_again.Goals as goal
 
@@ -16,12 +19,15 @@ returns-clause-moments g c tells core leaves =
     let here = begins d.moment d.left_since old (KeepsCommits core) (λ image since. keeps image (g.met.D.Disk.only_now tells old image since)) in
     let restarted = goes_on d.moment d.left_since old old mid (KeepsCommits core) (d.may_leave mid) here (c.restart.ensures.time tells) kept in
     subst (λ x. LeavesOnly d.moment d.left_since x c.print_recovered.result.1 (KeepsCommits core)) c.into_inner-disk.ensures
-    (opening_then d.moment d.left_since old mid c.print_recovered.result.1 (KeepsCommits core) (KeepsCommits core) restarted (weaker d.moment d.left_since mid c.print_recovered.result.1 (d.may_leave mid) (KeepsCommits core) (c.print_recovered.ensures.moments tells) kept) (λ image keep. keep))
+    (opening_then d.moment d.left_since old mid c.print_recovered.result.1 (KeepsCommits core) (KeepsCommits core) restarted (c.print_recovered.ensures.moments tells core left (c.restart.ensures.durable tells)) (λ image keep. keep))
 
 -- the disk reads as one of the images that the crash could leave
 pub returns-clause-recovers : goal.returns-clause-recovers
 returns-clause-recovers g c tells core leaves none =
     let d = g.D.Disk in
+    let k = g.K.Sink in
     let image = d.bytes c.restart.new.self in
     let left = leaves image (subst (λ x. d.may_leave x image) c.into_inner-disk.ensures (c.restart.ensures.left tells)) in
-    c.print_recovered.ensures.recovers tells core left (c.restart.ensures.durable tells) none
+    let same : d.passed c.restart.new.self ≡ d.passed (fuse_inner c.args.fuse) = c.restart.ensures.passed tells ∙ ap d.passed c.into_inner-disk.ensures in
+    subst (λ (before : ℕ). Recovers core c.print_recovered.result.0 (d.may_leave c.print_recovered.result.1) (λ n. d.passed c.print_recovered.result.1 ≡ counted n before) k.tells (k.written c.args.sink.now) (k.written c.print_recovered.new.sink)) same
+    (c.print_recovered.ensures.recovers tells core left (c.restart.ensures.durable tells) none)

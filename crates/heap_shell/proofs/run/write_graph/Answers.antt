@@ -1,4 +1,4 @@
-use Rattle.std.proofs.Common.{◌∙◌, ap}
+use Rattle.std.proofs.Common.{ℕ, List, ◌++◌, ◌∙◌, ap}
 use Rattle.heap_shell.specs.Headline.{graph_text}
 use Rattle.heap_shell.proofs.Written.{wrote_nothing, wrote_front}
 use Rattle.heap_shell.proofs.run.write_graph.Goals as goal
@@ -11,3 +11,9 @@ pub returns-in_err-put_all-clause-wrote : goal.returns-in_err-put_all-clause-wro
 returns-in_err-put_all-clause-wrote g c = λ tells s core gr is has.
     let text = c.in_ok-text.ensures.text s core is (is.means.failure ∙ has.unfailed) has.plain ∙ ap graph_text has.is in
     wrote_front _ _ c.as_bytes.result.now _ _ c.from_residual-in_err-put_all.ensures.0 (c.as_bytes.ensures.value ∙ text) (c.in_err-put_all.ensures.front tells)
+
+-- and all of it was written
+pub returns-clause-wrote : goal.returns-clause-wrote
+returns-clause-wrote g c = λ tells s core gr is has.
+    let text = c.in_ok-text.ensures.text s core is (is.means.failure ∙ has.unfailed) has.plain ∙ ap graph_text has.is in
+    c.in_ok-put_all.ensures.all tells ∙ ap (λ (l : List ℕ). g.K.Sink.written c.args.sink.now ++ l) (c.as_bytes.ensures.value ∙ text)

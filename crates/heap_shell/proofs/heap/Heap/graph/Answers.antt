@@ -5,7 +5,7 @@ use Rattle.graph_model.specs.declared.val.Val.{Val}
 use Rattle.graph_model.specs.Canon.{canon}
 use Rattle.graph_model.specs.Text.{canon_text}
 use Rattle.graph_model.specs.Graph.{root_graph}
-use Rattle.heap_shell.specs.ValueWord.{value_of, IsNumberWord}
+use Rattle.heap_model.specs.ValueWord.{value_of, IsNumberWord}
 use Rattle.heap_shell.proofs.heap.Heap.graph.Goals as goal
 
 pub returns-in-Some : goal.returns-in-Some

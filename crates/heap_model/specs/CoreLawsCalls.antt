@@ -1,0 +1,121 @@
+-- Laws of events, one after another: the calls that they make of the disk, and where it stops.
+use Rattle.std.proofs.Common.{◌≡◌, ◌≢◌, ◌⊎◌, inl, inr, ⊎_elim, ℕ, ◌+◌, ◌-◌, ◌≤◌, ◌<◌, List, [], ◌∷◌, ◌++◌, Option, Some, None, refl, ap, subst, arith}
+use Rattle.std.specs.List.{AllByRecursion}
+use Rattle.std.proofs.lemmas.Bool.{cases_lt}
+use Rattle.graph_model.specs.declared.event.Event.{Event}
+use Rattle.graph_model.specs.declared.event.Event.TheVariants.{Force}
+use Rattle.graph_model.specs.declared.reply.Refusal.TheVariants.{DiskFault, Stopped}
+use Rattle.graph_model.specs.declared.reply.Reply.{Reply}
+use Rattle.graph_model.specs.declared.reply.Reply.TheVariants.{Refused}
+use Rattle.graph_model.specs.PlainLaws.{IsSoundReply}
+use Rattle.graph_model.specs.SlowHeap.{IsSingleSession}
+use Rattle.graph_model.specs.History.{account}
+use Rattle.log_records.specs.declared.Record.{Record}
+use Rattle.heap_model.specs.Core.{Core, answer, with_entry, after, IsCutShort, IsStep, IsRun, force_calls, calls_if, calls}
+use Rattle.heap_model.specs.CoreRuns.{after_events, total_calls, StopsAt}
+use Rattle.heap_model.specs.CoreValid.{IsValid, IsReached}
+use Rattle.heap_model.specs.CoreLawsStep.{valid_after}
+use Rattle.heap_model.specs.CoreLawsRun.{valid_run}
+
+-- the state after more events
+pub after_events-append : (c : Core) (before behind : List Event) → after_events c (before ++ behind) ≡ after_events (after_events c before) behind
+after_events-append c [] behind = refl
+after_events-append c (event ∷ before) behind = after_events-append (after c event) before behind
+
+-- the calls of more events
+pub total_calls-append : (c : Core) (before behind : List Event) → total_calls c (before ++ behind) ≡ total_calls c before + total_calls (after_events c before) behind
+total_calls-append c [] behind = omega arith
+total_calls-append c (event ∷ before) behind = let rest = total_calls-append (after c event) before behind in omega arith
+
+-- where the disk does what it is asked, the events are a run
+pub whole_run : (c : Core) (events : List Event) → IsRun c events (after_events c events)
+whole_run c [] = refl
+whole_run c (event ∷ events) = (answer c event, after c event, inl (refl, refl), whole_run (after c event) events)
+
+-- two runs, one after the other
+pub run_append : (c mid d : Core) (before behind : List Event) → IsRun c before mid → IsRun mid behind d → IsRun c (before ++ behind) d
+run_append c mid d [] behind first second = subst (λ (x : Core). IsRun x behind d) first second
+run_append c mid d (event ∷ before) behind first second = (first.0, first.1, first.2, run_append first.1 mid d before behind first.3 second)
+
+-- a run in two parts
+pub run_split : (c d : Core) (before behind : List Event) → IsRun c (before ++ behind) d → (mid : Core) × IsRun c before mid × IsRun mid behind d
+run_split c d [] behind run = (c, refl, run)
+run_split c d (event ∷ before) behind run =
+    let rest = run_split run.1 d before behind run.3 in
+    (rest.0, (run.0, run.1, run.2, rest.1), rest.2)
+
+-- one step more
+pub run_step : (c mid d : Core) (events : List Event) (event : Event) (reply : Reply) → IsRun c events mid → IsStep mid event reply d → IsRun c (events ++ event ∷ []) d
+run_step c mid d events event reply run step = run_append c mid d events (event ∷ []) run (reply, d, step, refl)
+
+no_fault : (reply : Reply) → (reply ≡ Refused DiskFault) ⊎ (reply ≡ Refused Stopped) → IsSoundReply reply → ⊥
+no_fault reply (inl told) sound = subst IsSoundReply told sound
+no_fault reply (inr told) sound = subst IsSoundReply told sound
+
+-- a step that is answered without a fault of the disk does all that is asked
+pub whole_step : (c d : Core) (event : Event) (reply : Reply) → IsSoundReply reply → IsStep c event reply d → (reply ≡ answer c event) × (d ≡ after c event)
+whole_step c d event reply sound (inl whole) = whole
+whole_step c d event reply sound (inr cut) = absurd (no_fault reply cut.0.told sound)
+
+-- Events of session 1 keep a core valid.
+pub valid_events : (c : Core) (events : List Event) → IsValid c → AllByRecursion IsSingleSession events → IsValid (after_events c events)
+valid_events c [] valid one = valid
+valid_events c (event ∷ events) valid one = valid_events (after c event) events (valid_after c event valid one.0) one.1
+
+some_calls : (p : List Record) → 0 < force_calls p → p ≢ []
+some_calls [] some e = omega arith
+some_calls (r ∷ rs) some e = cc
+
+calls_made : (failed : Option ℕ) (c : Core) (event : Event) → 0 < calls_if failed c event → (event ≡ Force) × (c.pending ≢ []) × (failed ≡ None)
+calls_made (Some entry) c event some = absurd (omega arith)
+calls_made None c Force some = (refl, some_calls c.pending some, refl)
+calls_made None c event some = absurd (omega arith)
+
+-- what calls the disk is a force of what waits, in a core that has not failed
+pub calls-force : (c : Core) (event : Event) → 0 < calls c event → (event ≡ Force) × (c.pending ≢ []) × ((account c.history).failed ≡ None)
+calls-force c event some = calls_made (account c.history).failed c event some
+
+stop_step : (c : Core) (n : ℕ) (event : Event) (events : List Event) → calls c event ≤ n → StopsAt (after c event) (n - calls c event) events → StopsAt c n (event ∷ events)
+stop_step c n event events le at =
+    let made = at.made in
+    let short = at.short in
+    record {
+      before = event ∷ at.before;
+      event = at.event;
+      behind = at.behind;
+      parts = ap (λ (l : List Event). event ∷ l) at.parts;
+      made = omega arith;
+      short = omega arith;
+    }
+
+-- a disk that makes fewer calls than these events need stops at one of them
+pub stop_place : (c : Core) (n : ℕ) (events : List Event) → n < total_calls c events → StopsAt c n events
+stop_place c n [] lt = absurd (omega arith)
+stop_place c n (event ∷ events) lt = ⊎_elim
+    (λ (short : n < calls c event). record { before = []; event = event; behind = events; parts = refl; made = omega arith; short = omega arith })
+    (λ (le : calls c event ≤ n). stop_step c n event events le (stop_place (after c event) (n - calls c event) events (omega arith)))
+    (cases_lt n (calls c event))
+
+-- there the step is cut short
+pub stop_cut : (c : Core) (n : ℕ) (events : List Event) (at : StopsAt c n events) → IsCutShort (after_events c at.before) at.event (Refused Stopped)
+stop_cut c n events at =
+    let made = at.made in
+    let short = at.short in
+    let is = calls-force (after_events c at.before) at.event (omega arith) in
+    record { force = is.0; waits = is.1; first = is.2; told = inr refl }
+
+-- and the events up to that one are a run
+pub stop_run : (c : Core) (n : ℕ) (events : List Event) (at : StopsAt c n events)
+    → IsRun c (at.before ++ at.event ∷ []) (with_entry (after_events c at.before) at.event (Refused Stopped))
+stop_run c n events at =
+    run_step c (after_events c at.before) _ at.before at.event (Refused Stopped) (whole_run c at.before) (inr (stop_cut c n events at, refl))
+
+one_session_front : (before : List Event) (event : Event) (behind : List Event) → AllByRecursion IsSingleSession (before ++ event ∷ behind) → AllByRecursion IsSingleSession (before ++ event ∷ [])
+one_session_front [] event behind one = (one.0, tt)
+one_session_front (first ∷ before) event behind one = (one.0, one_session_front before event behind one.1)
+
+-- The core at which the disk stopped is reached.
+pub stop_reached : (c : Core) (n : ℕ) (events : List Event) (at : StopsAt c n events) → IsValid c → AllByRecursion IsSingleSession events
+    → IsReached (with_entry (after_events c at.before) at.event (Refused Stopped))
+stop_reached c n events at valid one =
+    valid_run c _ (at.before ++ at.event ∷ []) (inl valid) (one_session_front at.before at.event at.behind (subst (AllByRecursion IsSingleSession) at.parts one)) (stop_run c n events at)

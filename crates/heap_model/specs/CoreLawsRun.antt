@@ -1,0 +1,223 @@
+-- What is reached by steps of one session.
+use Rattle.std.proofs.Common.{◌≡◌, ◌⊎◌, inl, inr, ℕ, ◌+◌, List, [], ◌∷◌, ◌++◌, length, Option, Some, None, refl, sym, ap, ◌∙◌, subst}
+use Rattle.std.specs.List.{AllByRecursion}
+use Rattle.graph_model.specs.declared.event.Event.{Event}
+use Rattle.graph_model.specs.declared.event.Event.TheVariants.{Seal, Abort, Force}
+use Rattle.graph_model.specs.declared.reply.Entry.{Entry}
+use Rattle.graph_model.specs.declared.reply.Refusal.{Refusal}
+use Rattle.graph_model.specs.declared.reply.Refusal.TheVariants.{Failed, DiskFault, Stopped}
+use Rattle.graph_model.specs.declared.reply.Reply.{Reply}
+use Rattle.graph_model.specs.declared.reply.Reply.TheVariants.{Sealed, Aborted, Durable, Refused}
+use Rattle.graph_model.specs.Graph.{Graph}
+use Rattle.graph_model.specs.SlowHeap.{IsSingleSession}
+use Rattle.graph_model.specs.Transaction.{Transaction}
+use Rattle.graph_model.specs.History.{Account, account, account_after, first_failure}
+use Rattle.graph_model.specs.HistoryLaws.{account-append}
+use Rattle.graph_model.specs.Plain.{call_refusal, event_refusal, refusal_of, granted, reply_of, plain_reply}
+use Rattle.graph_model.specs.PlainLaws.{account_after-refused}
+use Rattle.heap_model.specs.Core.{Core, next_number, log_refusal, first_of_two, core_refusal, answer, with_entry, after_refusal, after, IsCutShort, IsStep, IsRun}
+use Rattle.heap_model.specs.CoreValid.{Agrees, IsValid, HasFailed, IsReached}
+use Rattle.heap_model.specs.CoreLawsStep.{log_seal, log_abort, log_force, unfailed_refusal, done_history, valid_after}
+
+-- whether the disk failed says nothing of the rest
+pub agrees_before : (a : Account) (c : Core) (n : ℕ) → Agrees a c → Agrees (record a { failed = None; entries = n }) c
+agrees_before a c n h = record {
+  new = h.new;
+  unfailed = refl;
+  certain = h.certain;
+  some_first = h.some_first;
+  next_fits = h.next_fits;
+  numbered = h.numbered;
+  durable = h.durable;
+  sealed_first = h.sealed_first;
+  acknowledged_last = h.acknowledged_last;
+  disk_state = h.disk_state;
+  disk_now = h.disk_now;
+  on_disk = h.on_disk;
+  disk_room = h.disk_room;
+  state = h.state;
+  now = h.now;
+  told = h.told;
+  writer = h.writer;
+  room = h.room;
+}
+
+-- a reached core agrees with its history but for a failure
+pub reached_agrees : (c : Core) → IsReached c → Agrees (record (account c.history) { failed = None }) c
+reached_agrees c (inl valid) = agrees_before (account c.history) c (account c.history).entries valid
+reached_agrees c (inr failed) = failed.before
+
+failed_history : (a : Account) (c : Core) (event : Event) (reply : Reply) → HasFailed a c → HasFailed a (with_entry c event reply)
+failed_history a c event reply h =
+    let b = h.before in
+    record {
+      entry = h.entry;
+      failed = h.failed;
+      before = record {
+        new = b.new;
+        unfailed = b.unfailed;
+        certain = b.certain;
+        some_first = b.some_first;
+        next_fits = b.next_fits;
+        numbered = b.numbered;
+        durable = b.durable;
+        sealed_first = b.sealed_first;
+        acknowledged_last = b.acknowledged_last;
+        disk_state = b.disk_state;
+        disk_now = b.disk_now;
+        on_disk = b.on_disk;
+        disk_room = b.disk_room;
+        state = b.state;
+        now = b.now;
+        told = b.told;
+        writer = b.writer;
+        room = b.room;
+      };
+    }
+
+failed_entry : (c : Core) (event : Event) (reply : Reply) → HasFailed (account_after (account c.history) (record { event = event; reply = reply })) c → HasFailed (account (with_entry c event reply).history) (with_entry c event reply)
+failed_entry c event reply h =
+    let P : Account → Type 0 = λ a. HasFailed a (with_entry c event reply) in
+    subst P (sym (account-append c.history (record { event = event; reply = reply }))) (failed_history _ c event reply h)
+
+-- a core that has failed refuses everything
+pub failed_refusal : (c : Core) (event : Event) (entry : ℕ) → (account c.history).failed ≡ Some entry → core_refusal c event ≡ Some (Failed entry)
+failed_refusal c event entry e = ap (λ (o : Option ℕ). refusal_of o (first_of_two (event_refusal (next_number c) c.g0 (account c.history) event) (log_refusal c event))) e
+
+-- with that answer
+pub failed_answer : (c : Core) (event : Event) (entry : ℕ) → (account c.history).failed ≡ Some entry → answer c event ≡ Refused (Failed entry)
+failed_answer c event entry e = ap (λ (o : Option Refusal). reply_of o (granted (next_number c) c.g0 (account c.history) event)) (failed_refusal c event entry e)
+
+-- and all that changes is its history
+pub failed_after : (c : Core) (event : Event) (entry : ℕ) → (account c.history).failed ≡ Some entry → after c event ≡ with_entry c event (Refused (Failed entry))
+failed_after c event entry e = ap (λ (o : Option Refusal). with_entry (after_refusal o c event) event (reply_of o (granted (next_number c) c.g0 (account c.history) event))) (failed_refusal c event entry e)
+
+still_failed : (a : Account) (c : Core) (event : Event) (entry : ℕ) → HasFailed a c → HasFailed (account_after a (record { event = event; reply = Refused (Failed entry) })) c
+still_failed a c event entry h =
+    let P : Account → Type 0 = λ b. HasFailed b c in
+    subst P (sym (account_after-refused a event (Failed entry) tt)) (record {
+      entry = h.entry;
+      failed = h.failed;
+      before = agrees_before _ c (a.entries + 1) h.before;
+    })
+
+-- a core that has failed stays so
+pub failed_stays : (c : Core) (event : Event) → HasFailed (account c.history) c → HasFailed (account (after c event).history) (after c event)
+failed_stays c event h =
+    let P : Core → Type 0 = λ d. HasFailed (account d.history) d in
+    subst P (sym (failed_after c event h.entry h.failed)) (failed_entry c event (Refused (Failed h.entry)) (still_failed (account c.history) c event h.entry h))
+
+told_failure : (a : Account) (c : Core) (n : ℕ) → Agrees a c → HasFailed (record a { failed = first_failure a.failed n; entries = n }) c
+told_failure a c n h = record {
+  entry = n;
+  failed = ap (λ (o : Option ℕ). first_failure o n) h.unfailed;
+  before = agrees_before a c n h;
+}
+
+cut_agrees : (a : Account) (c : Core) (reply : Reply) → (reply ≡ Refused DiskFault) ⊎ (reply ≡ Refused Stopped) → Agrees a c
+    → HasFailed (account_after a (record { event = Force; reply = reply })) c
+cut_agrees a c reply (inl told) h =
+    subst (λ (r : Reply). HasFailed (account_after a (record { event = Force; reply = r })) c) (sym told) (told_failure a c (a.entries + 1) h)
+cut_agrees a c reply (inr told) h =
+    subst (λ (r : Reply). HasFailed (account_after a (record { event = Force; reply = r })) c) (sym told) (told_failure a c (a.entries + 1) h)
+
+-- a force that is cut short leaves all but the history
+pub cut_fails : (c : Core) (event : Event) (reply : Reply) → IsValid c → IsCutShort c event reply
+    → HasFailed (account (with_entry c event reply).history) (with_entry c event reply)
+cut_fails c event reply valid cut =
+    let P : Event → Type 0 = λ e. HasFailed (account_after (account c.history) (record { event = e; reply = reply })) c in
+    failed_entry c event reply (subst P (sym cut.force) (cut_agrees (account c.history) c reply cut.told valid))
+
+-- A step of session 1 reaches a core that is valid, or at which the disk stopped or failed.
+pub valid_step : (c d : Core) (event : Event) (reply : Reply) → IsReached c → IsSingleSession event → IsStep c event reply d → IsReached d
+valid_step c d event reply (inl valid) one (inl whole) = subst IsReached (sym whole.1) (inl (valid_after c event valid one))
+valid_step c d event reply (inl valid) one (inr cut) = subst IsReached (sym cut.1) (inr (cut_fails c event reply valid cut.0))
+valid_step c d event reply (inr failed) one (inl whole) = subst IsReached (sym whole.1) (inr (failed_stays c event failed))
+valid_step c d event reply (inr failed) one (inr cut) = let never = cut.0.first in let is = failed.failed in cc
+
+-- the first of two reasons, where the second is none
+pub first_alone : (o p : Option Refusal) → p ≡ None → first_of_two o p ≡ o
+first_alone None p e = e
+first_alone (Some why) p e = refl
+
+-- where the log has room, a core answers as a plain heap does
+pub plain_answer : (c : Core) (event : Event) → log_refusal c event ≡ None → answer c event ≡ plain_reply c.first c.g0 (account c.history) event
+plain_answer c event room =
+    let a = account c.history in
+    let plain = event_refusal (next_number c) c.g0 a event in
+    ap (λ (o : Option Refusal). reply_of (refusal_of a.failed o) (granted (next_number c) c.g0 a event)) (first_alone plain (log_refusal c event) room)
+
+answer_alone : (c : Core) (event : Event) → IsValid c → log_refusal c event ≡ None
+    → answer c event ≡ reply_of (event_refusal (next_number c) c.g0 (account c.history) event) (granted (next_number c) c.g0 (account c.history) event)
+answer_alone c event valid room =
+    let plain = event_refusal (next_number c) c.g0 (account c.history) event in
+    ap (λ (o : Option Refusal). reply_of o (granted (next_number c) c.g0 (account c.history) event)) (unfailed_refusal c event valid.unfailed ∙ first_alone plain (log_refusal c event) room)
+
+refusal_history : (o : Option Refusal) (c : Core) (event : Event) → (after_refusal o c event).history ≡ c.history
+refusal_history None c event = done_history c event
+refusal_history (Some why) c event = refl
+
+-- the history has one entry more
+pub after_history : (c : Core) (event : Event) → (after c event).history ≡ c.history ++ record { event = event; reply = answer c event } ∷ []
+after_history c event = ap (λ (l : List Entry). l ++ record { event = event; reply = answer c event } ∷ []) (refusal_history (core_refusal c event) c event)
+
+-- so it has after each step
+pub step_history : (c d : Core) (event : Event) (reply : Reply) → IsStep c event reply d → d.history ≡ c.history ++ record { event = event; reply = reply } ∷ []
+step_history c d event reply (inl whole) =
+    ap (λ (x : Core). x.history) whole.1 ∙ after_history c event ∙ ap (λ (r : Reply). c.history ++ record { event = event; reply = r } ∷ []) (sym whole.0)
+step_history c d event reply (inr cut) = ap (λ (x : Core). x.history) cut.1
+
+-- a seal is never refused for want of room
+pub seal_answer : (c : Core) → IsValid c
+    → answer c (Seal 1) ≡ reply_of (call_refusal c.g0 (account c.history) ((account c.history).active 1) (Seal 1)) (Sealed (length (account c.history).sealed + 1))
+seal_answer c valid = answer_alone c (Seal 1) valid (log_seal c valid)
+
+-- the seal of an active transaction is answered `sealed`
+pub active_seal : (c : Core) (t : Transaction) → IsValid c → (account c.history).active 1 ≡ Some t → answer c (Seal 1) ≡ Sealed (length (account c.history).sealed + 1)
+active_seal c t valid e =
+    seal_answer c valid
+    ∙ ap (λ (o : Option Transaction). reply_of (call_refusal c.g0 (account c.history) o (Seal 1)) (Sealed (length (account c.history).sealed + 1))) e
+
+-- a force is never refused
+pub force_answer : (c : Core) → IsValid c → answer c Force ≡ Durable (length (account c.history).sealed)
+force_answer c valid = answer_alone c Force valid (log_force c valid)
+
+-- session 1 has no transaction
+abbrev pub IsIdle : Core → Type 0
+IsIdle c = (account c.history).active 1 ≡ None
+
+idle_entry : (c : Core) (event : Event) (reply : Reply) → (account_after (account c.history) (record { event = event; reply = reply })).active 1 ≡ None
+    → (account (c.history ++ record { event = event; reply = reply } ∷ [])).active 1 ≡ None
+idle_entry c event reply e = ap (λ (a : Account). a.active 1) (account-append c.history (record { event = event; reply = reply })) ∙ e
+
+idle_after : (c : Core) (event : Event) (reply : Reply) → answer c event ≡ reply
+    → (account_after (account c.history) (record { event = event; reply = reply })).active 1 ≡ None → IsIdle (after c event)
+idle_after c event reply is e =
+    let P : Reply → Type 0 = λ r. (account_after (account c.history) (record { event = event; reply = r })).active 1 ≡ None in
+    ap (λ (l : List Entry). (account l).active 1) (after_history c event) ∙ idle_entry c event (answer c event) (subst P (sym is) e)
+
+ended_idle : (g0 : Graph) (a : Account) (o : Option Transaction) → a.active 1 ≡ o
+    → (account_after a (record { event = Abort 1; reply = reply_of (call_refusal g0 a o (Abort 1)) Aborted })).active 1 ≡ None
+ended_idle g0 a None e = e
+ended_idle g0 a (Some t) e = refl
+
+-- an abort is never refused for want of room
+pub abort_answer : (c : Core) → IsValid c → answer c (Abort 1) ≡ reply_of (call_refusal c.g0 (account c.history) ((account c.history).active 1) (Abort 1)) Aborted
+abort_answer c valid = answer_alone c (Abort 1) valid (log_abort c valid)
+
+-- the abort of an active transaction is answered `aborted`
+pub active_abort : (c : Core) (t : Transaction) → IsValid c → (account c.history).active 1 ≡ Some t → answer c (Abort 1) ≡ Aborted
+active_abort c t valid e = abort_answer c valid ∙ ap (λ (o : Option Transaction). reply_of (call_refusal c.g0 (account c.history) o (Abort 1)) Aborted) e
+
+-- behind an abort session 1 has no transaction
+pub abort_idle : (c : Core) → IsValid c → IsIdle (after c (Abort 1))
+abort_idle c valid = idle_after c (Abort 1) _ (abort_answer c valid) (ended_idle c.g0 (account c.history) ((account c.history).active 1) refl)
+
+-- a force leaves a session without a transaction without one
+pub force_idle : (c : Core) → IsValid c → IsIdle c → IsIdle (after c Force)
+force_idle c valid idle = idle_after c Force _ (force_answer c valid) idle
+
+-- Steps of session 1 reach a core that is valid, or at which the disk stopped or failed.
+pub valid_run : (c d : Core) (events : List Event) → IsReached c → AllByRecursion IsSingleSession events → IsRun c events d → IsReached d
+valid_run c d [] h one run = subst IsReached (sym run) h
+valid_run c d (event ∷ events) h one run = valid_run run.1 d events (valid_step c run.1 event run.0 h one.0 run.2) one.1 run.3

@@ -1,0 +1,24 @@
+-- What is kept of the log is enough to take a transaction's writes back.
+use Rattle.std.proofs.Common.{◌≡◌, ℕ, ◌+◌, ◌*◌, ◌≤◌, List, length, reverse, subst, sym, ap, ◌∙◌, arith}
+use Rattle.std.proofs.lemmas.Bool.Decides.{nat_tests}
+use Rattle.std.proofs.lemmas.List.{length-reverse}
+use Rattle.gated_log.specs.declared.Log.{Log}
+use Rattle.gated_log.specs.LogRoom.{used_bytes}
+use Rattle.gated_log.specs.LogState.{log_tail, hand_size, log_room, log_used, log_used_with}
+use Rattle.log_records.specs.declared.Record.{Record}
+use Rattle.log_records.specs.Record.{spellings}
+use Rattle.log_machine.specs.declared.UndoEntry.{UndoEntry}
+use Rattle.log_machine.specs.Machine.{abort_records}
+use Rattle.log_machine.specs.MachineLaws.{abort_length}
+
+used_more : (tail hand k : ℕ) → used_bytes tail (hand + k) ≤ used_bytes tail hand + (k + 5)
+used_more tail hand k = grind (arith, nat_tests)
+
+-- the log has room for the records that take these writes back, of which the newest stands last
+pub abort_room : (log : Log) (n number : ℕ) (undo : List UndoEntry) (records : List Record) → log_used log + (10 + 19 * n) ≤ log_room log → n ≡ length undo
+    → records ≡ abort_records number (reverse undo) → log_used_with log (length (spellings records)) ≤ log_room log
+abort_room log n number undo records kept count is =
+    let size : length (spellings records) ≡ 5 + 19 * n =
+        ap (λ (rs : List Record). length (spellings rs)) is ∙ abort_length number (reverse undo) ∙ ap (λ (k : ℕ). 5 + 19 * k) (length-reverse undo ∙ sym count) in
+    let more = used_more (log_tail log) (hand_size log) (length (spellings records)) in
+    omega arith

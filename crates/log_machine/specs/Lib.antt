@@ -1,0 +1,5 @@
+pub mod Machine
+pub mod UndoEntry
+pub mod Effect
+pub mod MachineLaws
+pub mod Replay

@@ -1,0 +1,14 @@
+-- What holds of the writes that may be taken back.
+use Rattle.std.specs.Prelude.{◌+◌, ◌^◌, ◌<◌}
+use Rattle.heap_words.specs.Word.{IsFieldWord}
+use Rattle.log_machine.specs.declared.UndoEntry.{UndoEntry}
+
+-- a write whose undo has a spelling
+pub record IsEntry (u : UndoEntry) : Type 0 where
+  pub object_fits : u.object < 2 ^ 32
+  pub field_fits : u.field < 2 ^ 16
+  pub was_word : IsFieldWord u.was
+
+-- the write's field is one of the used words, those of the root object
+abbrev pub LiesInside : UndoEntry → Type 0
+LiesInside u = u.object + 2 + u.field < 6

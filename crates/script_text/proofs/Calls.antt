@@ -1,0 +1,25 @@
+-- Calls of more than three numbers.
+use Rattle.std.proofs.Common.{◌≡◌, ℕ, ◌≤◌, List, [], ◌∷◌, length, map, Option, None, Some, refl, arith}
+use Rattle.std.specs.Prelude.{option_map, option_and_then}
+use Rattle.script_text.specs.Number.{number}
+use Rattle.script_text.specs.Line.{numbers, call_of}
+
+-- a number in front of others, if there are others
+abbrev onto : Option (List ℕ) → Option ℕ → Option (List ℕ)
+onto more n = option_and_then (λ (m : ℕ). option_map (λ (ns : List ℕ). m ∷ ns) more) n
+
+four : (verb : List ℕ) (a b c d : Option ℕ) (more : Option (List ℕ)) → option_and_then (call_of verb) (onto (onto (onto (onto more d) c) b) a) ≡ None
+four verb None b c d more = refl
+four verb (Some a) None c d more = refl
+four verb (Some a) (Some b) None d more = refl
+four verb (Some a) (Some b) (Some c) None more = refl
+four verb (Some a) (Some b) (Some c) (Some d) None = refl
+four verb (Some a) (Some b) (Some c) (Some d) (Some more) = refl
+
+-- no verb takes four numbers or more
+pub no_call : {A : Type 0} (verb : List ℕ) (bytes : A → List ℕ) (words : List A) → 4 ≤ length words → option_and_then (call_of verb) (numbers (map bytes words)) ≡ None
+no_call verb bytes [] many = absurd (omega arith)
+no_call verb bytes (a ∷ []) many = absurd (omega arith)
+no_call verb bytes (a ∷ b ∷ []) many = absurd (omega arith)
+no_call verb bytes (a ∷ b ∷ c ∷ []) many = absurd (omega arith)
+no_call verb bytes (a ∷ b ∷ c ∷ d ∷ rest) many = four verb (number (bytes a)) (number (bytes b)) (number (bytes c)) (number (bytes d)) (numbers (map bytes rest))

@@ -1,0 +1,63 @@
+-- The lines of a script: the words of each, and what they ask for.
+use Rattle.std.specs.Prelude.{ℕ, ◌-◌, ◌==◌, ◌||◌, not, Bool, false, List, [], ◌∷◌, length, filter, find, slice_index, Option, None, Some, option_map, option_and_then, bytes_eq, codes, if◌then◌else◌}
+use Rattle.std.specs.List.{slice_split, flat_map}
+use Rattle.graph_model.specs.declared.event.Event.{Event}
+use Rattle.graph_model.specs.declared.event.Event.TheVariants.{Begin, Root, Put, Clear, Drop, Get, Same, Len, Seal, Abort, Force}
+use Rattle.script_text.specs.declared.line.Line.{Line}
+use Rattle.script_text.specs.declared.line.Line.TheVariants.{One, Commit}
+use Rattle.script_text.specs.Number.{number}
+
+-- the first or the last byte is a blank
+abbrev pub has_outer_blank : List ℕ → Bool
+has_outer_blank text = slice_index text 0 == 32 || slice_index text (length text - 1) == 32
+
+-- what stands between the blanks of a line, without the empty pieces
+abbrev pub pieces : List ℕ → List (List ℕ)
+pieces text = filter (λ piece. not (length piece == 0)) (slice_split (λ b. b == 32) text)
+
+-- the words of a line, which one or more blanks part
+abbrev pub words : List ℕ → Option (List (List ℕ))
+words text = if has_outer_blank text then None else Some (pieces text)
+
+-- the word spells that number
+abbrev pub is_number : Option ℕ → ℕ → Bool
+is_number None n = false
+is_number (Some m) n = m == n
+
+-- the numbers that the words spell, if each spells one
+abbrev pub numbers : List (List ℕ) → Option (List ℕ)
+numbers [] = Some []
+numbers (word ∷ words) = option_and_then (λ n. option_map (λ more. n ∷ more) (numbers words)) (number word)
+
+-- the verbs that take these numbers, and what each asks of session 1
+abbrev pub calls : List ℕ → List (List ℕ × Line)
+calls [] =
+    (codes "begin", One (Begin 1)) ∷ (codes "seal", One (Seal 1)) ∷ (codes "abort", One (Abort 1)) ∷ (codes "commit", Commit 1) ∷ []
+calls (h ∷ []) = (codes "root", One (Root 1 h)) ∷ (codes "drop", One (Drop 1 h)) ∷ (codes "len", One (Len 1 h)) ∷ []
+calls (h ∷ second ∷ []) = (codes "clear", One (Clear 1 h second)) ∷ (codes "same", One (Same 1 h second)) ∷ []
+calls (h ∷ i ∷ third ∷ []) = (codes "put", One (Put 1 h i third)) ∷ (codes "get", One (Get 1 h i third)) ∷ []
+calls more = []
+
+-- what a verb asks for with these numbers
+abbrev pub call_of : List ℕ → List ℕ → Option Line
+call_of verb given = option_map (λ call. call.1) (find (λ call. bytes_eq verb call.0) (calls given))
+
+-- the line that the words spell
+abbrev pub line_of : List (List ℕ) → Option Line
+line_of [] = None
+line_of (word ∷ []) = if bytes_eq word (codes "force") then Some (One Force) else None
+line_of (session ∷ verb ∷ rest) =
+    if is_number (number session) 1 then option_and_then (call_of verb) (numbers rest) else None
+
+-- the line that the text spells
+abbrev pub read_text : List ℕ → Option Line
+read_text text = option_and_then line_of (words text)
+
+-- the events that a line stands for
+abbrev pub line_events : Line → List Event
+line_events (One event) = event ∷ []
+line_events (Commit s) = Seal s ∷ Force ∷ []
+
+-- the events of a script
+abbrev pub events : List Line → List Event
+events lines = flat_map line_events lines

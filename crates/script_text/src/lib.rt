@@ -1,0 +1,14 @@
+//! The text of a run: the scripts that it reads, and the lines that it prints.
+#![tactic(auto)]
+
+mod line;
+mod number;
+mod output;
+mod script;
+#[cfg(test)]
+mod tests;
+
+pub use line::Line;
+pub use number::read_number;
+pub use output::reply_line;
+pub use script::{MOST_BYTES, ScriptError, read_script};
