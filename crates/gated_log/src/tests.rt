@@ -52,3 +52,24 @@ fn forced_and_opened_again(rt: HostRuntime) -> Result<(), Fail> {
     assert_eq!(rt; again.used(), 38);
     Ok(())
 }
+
+#[test]
+fn records_appended_together_are_one_batch(rt: HostRuntime) -> Result<(), Fail> {
+    let alloc = rt.alloc();
+    let bytes = vec![in alloc; 0u8; 44]?;
+    let mut disk = MemoryDisk::of(
+        alloc,
+        bytes,
+        Pick::Newest,
+        1000,
+        Vec::new(alloc),
+        Vec::new(alloc),
+    )?;
+    let (mut log, _) = Log::open(alloc, &mut disk, 4, 40)?;
+    assert_eq!(rt; log.used(), 1);
+    log.append_all(&RECORDS)?;
+    log.reserve()?;
+    log.force(&mut disk)?;
+    assert_eq!(rt; disk.contents(), FORCED.as_slice());
+    Ok(())
+}

@@ -1,5 +1,5 @@
 -- What a field's word is read as.
-use Rattle.std.proofs.Common.{◌≡◌, ◌≢◌, ℕ, ◌+◌, ◌*◌, ◌/◌, ◌%◌, ◌^◌, ◌<◌, inl, inr, cond, Option, None, Some, ap, arith}
+use Rattle.std.proofs.Common.{◌≡◌, ℕ, ◌/◌, ◌%◌, ◌^◌, ◌<◌, inl, inr, cond, Option, None, Some, ap, arith}
 use Rattle.std.proofs.lemmas.Bool.{cases_eq, ne_eqb}
 use Rattle.graph_model.specs.declared.val.Val.TheVariants as vals
 use Rattle.heap_words.specs.declared.Word.{Word}

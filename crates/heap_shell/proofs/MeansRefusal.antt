@@ -199,7 +199,7 @@ module _ (w : Working) (c : Core) (valid : IsValid c) (works : Works w (account 
       → log_need w.log 27 ≡ need c.pending (r ∷ []) → log_refusal c event ≡ write_room w.log (Some x)
   room_same t x event r e is call one wrote records size =
       let kept : reserved_after c event ≡ reserved (with_call (Some t) event) =
-          ap (λ (b : Account). reserved (b.active 1)) (call_account (next_number c) c.g0 a event call one) ∙ ap (λ (o : Option Transaction). reserved (with_call o event)) e in
+      ap (λ (b : Account). reserved (b.active 1)) (call_account (next_number c) c.g0 a event call one) ∙ ap (λ (o : Option Transaction). reserved (with_call o event)) e in
       let more = writes-append t.calls event in
       let count = count_writes t x e is in
       let once : ◌≡◌ {A = ℕ} (cond (is_write event) 1 0) 1 = ap (λ (b : Bool). cond b 1 0) wrote in
@@ -227,9 +227,9 @@ module _ (w : Working) (c : Core) (valid : IsValid c) (works : Works w (account 
       let seen = view c.g0 a t in
       let o = held seen.registers h in
       let room = λ (none : first_of_two (asked (is_some o)) (first_of_two first (field_refusal i)) ≡ None).
-          let some = asked_none o (first_of_two first (field_refusal i)) (held_as a c t h valid) none in
-          let r = update t.number (fields seen.graph root) i v in
-          room_same t x event r e is call one wrote (records ∙ ap (λ (q : Option Id). write_records t.number seen.graph q i v) some) (need_same w.log c.batches c.pending r works.log) in
+      let some = asked_none o (first_of_two first (field_refusal i)) (held_as a c t h valid) none in
+      let r = update t.number (fields seen.graph root) i v in
+      room_same t x event r e is call one wrote (records ∙ ap (λ (q : Option Id). write_records t.number seen.graph q i v) some) (need_same w.log c.batches c.pending r works.log) in
       unfailed_refusal c event valid.unfailed
       ∙ ap (λ (q : Option Refusal). first_of_two q (log_refusal c event)) (plain_is ∙ refused)
       ∙ second_same (first_of_two (asked (is_some o)) (first_of_two first (field_refusal i))) (log_refusal c event) (write_room w.log (Some x)) room

@@ -282,8 +282,7 @@ module _ (w new : Working) (c : Core) (valid : IsValid c) (works : Works w (acco
       let v = slice_index_or valid.now i Null in
       let number = number_at valid.now i valid.told.numbers in
       let read : slice_index_or (fields_of seen.graph (held seen.registers h)) i Null ≡ v =
-          ap (λ (o : Option Id). slice_index_or (fields_of seen.graph o) i Null) some ∙ ap (λ (vs : List Val). slice_index_or vs i Null) (now_fields c t valid e) in
-      (
+      ap (λ (o : Option Id). slice_index_or (fields_of seen.graph o) i Null) some ∙ ap (λ (vs : List Val). slice_index_or vs i Null) (now_fields c t valid e) in (
         ap value_reply (read ∙ sym (ap value_of (field_is i) ∙ value_of-word_of v number)),
         same_handles g undo t (Get 1 h i h2) (ap (with_referred seen.registers h2) read ∙ with_referred-plain seen.registers h2 v (number_plain v number)),
       )
@@ -335,18 +334,18 @@ module _ (w new : Working) (c : Core) (valid : IsValid c) (works : Works w (acco
       let seen = view c.g0 a t in
       let r = update t.number valid.now i v in
       let one_record : event_records c event ≡ r ∷ [] =
-          records ∙ ap (λ (o : Option Id). write_records t.number seen.graph o i v) some ∙ ap (λ (vs : List Val). update t.number vs i v ∷ []) (now_fields c t valid e) in
+      records ∙ ap (λ (o : Option Id). write_records t.number seen.graph o i v) some ∙ ap (λ (vs : List Val). update t.number vs i v ∷ []) (now_fields c t valid e) in
       let own = (mine t writes.active e writes.was_active).0 in
       let spelled : Update writes.active.number 0 i (field_word w.words i) (word_of v) ≡ r =
-          ap (λ (n : ℕ). Update n 0 i (field_word w.words i) (word_of v)) own ∙ ap (λ (n : ℕ). Update t.number 0 i n (word_of v)) (field_is i) in
+      ap (λ (n : ℕ). Update n 0 i (field_word w.words i) (word_of v)) own ∙ ap (λ (n : ℕ). Update t.number 0 i n (word_of v)) (field_is i) in
       let log = one_spelled r (subst (λ (x : Record). SameLog w.log new.log (log_hand w.log ++ spelling x)) spelled writes.log) in
       let undo' = undo_of (records_of c.batches ++ (c.pending ++ r ∷ [])) in
       let active : seen_active new.active ≡ active_of g undo' (with_call (a.active 1) event) =
-          writes.now_active
-          ∙ ap (λ (n : ℕ). with_write (seen_active w.active) (record { object = 0; field = i; was = n })) (field_is i)
-          ∙ ap (λ (o : Option Seen). with_write o (entry_at valid.now i)) (in_memory ∙ ap (active_of g undo) e)
-          ∙ ap (λ (us : List UndoEntry). active_of g us (Some t)) (sym (undo_written t i v e lt small))
-          ∙ sym (ap (λ (o : Option Transaction). active_of g undo' (with_call o event)) e ∙ same_handles g undo' t event same_registers) in
+      writes.now_active
+      ∙ ap (λ (n : ℕ). with_write (seen_active w.active) (record { object = 0; field = i; was = n })) (field_is i)
+      ∙ ap (λ (o : Option Seen). with_write o (entry_at valid.now i)) (in_memory ∙ ap (active_of g undo) e)
+      ∙ ap (λ (us : List UndoEntry). active_of g us (Some t)) (sym (undo_written t i v e lt small))
+      ∙ sym (ap (λ (o : Option Transaction). active_of g undo' (with_call o event)) e ∙ same_handles g undo' t event same_registers) in
       let there = appended (called a event) (r ∷ []) log writes.words (is_seen g undo' (with_call (a.active 1) event) new.active (λ none. let never : Some t ≡ None = sym e ∙ called_active (a.active 1) event none in cc never) active) (writes.next ∙ works.next) (writes.sealed ∙ works.sealed) in
       let left : done c event ≡ record c { pending = c.pending ++ r ∷ [] } = done_records c event other ∙ ap (λ (more : List Record). record c { pending = c.pending ++ more }) one_record in
       subst (λ (b : Account). Works new b (done c event)) (sym (call_account (next_number c) c.g0 a event is one)) (subst (λ (d : Core). Works new (called a event) d) (sym left) there)
@@ -418,7 +417,7 @@ module _ (w new : Working) (c : Core) (valid : IsValid c) (works : Works w (acco
       let records : event_records c (Seal 1) ≡ more = ap (λ (o : Option Transaction). call_records c.g0 a undo o (Seal 1)) e in
       let log = one_spelled (Commit t.number) (subst (λ (n : ℕ). SameLog w.log new.log (log_hand w.log ++ spelling (Commit n))) (mine t seals.active e seals.was_active).0 seals.log) in
       let count : new.sealed ≡ length b.sealed =
-          seals.sealed ∙ ap (λ (n : ℕ). n + 1) works.sealed ∙ sym (ap (λ (o : Option Transaction). length (a.sealed ++ option_to_list o)) e ∙ length-append a.sealed (t ∷ [])) in
+      seals.sealed ∙ ap (λ (n : ℕ). n + 1) works.sealed ∙ sym (ap (λ (o : Option Transaction). length (a.sealed ++ option_to_list o)) e ∙ length-append a.sealed (t ∷ [])) in
       subst (λ (rs : List Record). Works new b (record c { pending = c.pending ++ rs })) (sym records)
       (appended b more log seals.words (none_left b.sealed more (undo_sealed t e) seals.not_active) (seals.next ∙ works.next) count)
 
@@ -440,7 +439,7 @@ module _ (w new : Working) (c : Core) (valid : IsValid c) (works : Works w (acco
       let records : event_records c (Abort 1) ≡ more = ap (λ (o : Option Transaction). call_records c.g0 a undo o (Abort 1)) e in
       let own = mine t aborts.active e aborts.was_active in
       let same : abort_records aborts.active.number (reverse aborts.active.undo.items) ≡ more =
-          ap (λ (n : ℕ). abort_records n (reverse aborts.active.undo.items)) own.0 ∙ ap (abort_records t.number) own.1 in
+      ap (λ (n : ℕ). abort_records n (reverse aborts.active.undo.items)) own.0 ∙ ap (abort_records t.number) own.1 in
       let log = subst (λ (rs : List Record). SameLog w.log new.log (log_hand w.log ++ spellings rs)) same aborts.log in
       let stored : new.words ≡ fold put_record w.words more = aborts.words ∙ ap (λ (us : List UndoEntry). taken_back us w.words) own.1 ∙ sym (abort_words t.number undo w.words) in
       subst (λ (rs : List Record). Works new b (record c { pending = c.pending ++ rs })) (sym records)

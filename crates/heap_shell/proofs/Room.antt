@@ -1,5 +1,5 @@
 -- What is kept of the log is enough to take a transaction's writes back.
-use Rattle.std.proofs.Common.{◌≡◌, ℕ, ◌+◌, ◌*◌, ◌≤◌, List, length, reverse, subst, sym, ap, ◌∙◌, arith}
+use Rattle.std.proofs.Common.{◌≡◌, ℕ, ◌+◌, ◌*◌, ◌≤◌, List, length, reverse, sym, ap, ◌∙◌, arith}
 use Rattle.std.proofs.lemmas.Bool.Decides.{nat_tests}
 use Rattle.std.proofs.lemmas.List.{length-reverse}
 use Rattle.gated_log.specs.declared.Log.{Log}
@@ -19,6 +19,6 @@ pub abort_room : (log : Log) (n number : ℕ) (undo : List UndoEntry) (records :
     → records ≡ abort_records number (reverse undo) → log_used_with log (length (spellings records)) ≤ log_room log
 abort_room log n number undo records kept count is =
     let size : length (spellings records) ≡ 5 + 19 * n =
-        ap (λ (rs : List Record). length (spellings rs)) is ∙ abort_length number (reverse undo) ∙ ap (λ (k : ℕ). 5 + 19 * k) (length-reverse undo ∙ sym count) in
+    ap (λ (rs : List Record). length (spellings rs)) is ∙ abort_length number (reverse undo) ∙ ap (λ (k : ℕ). 5 + 19 * k) (length-reverse undo ∙ sym count) in
     let more = used_more (log_tail log) (hand_size log) (length (spellings records)) in
     omega arith

@@ -1,14 +1,12 @@
 -- What the events of a session do to the working state.
-use Rattle.std.specs.Prelude.{◌≡◌, ℕ, ◌+◌, ◌*◌, ◌==◌, nat_lt, nat_le, List, [], ◌∷◌, ◌++◌, drop, replicate, reverse, Bool, true, false, Option, None, Some, is_some, unwrap_or, slice_get, slice_set, slice_index, vec_len, if◌then◌else◌}
+use Rattle.std.specs.Prelude.{◌≡◌, ℕ, ◌+◌, ◌*◌, ◌==◌, nat_lt, nat_le, List, [], ◌∷◌, ◌++◌, drop, replicate, reverse, Bool, false, Option, None, Some, is_some, unwrap_or, slice_get, slice_set, slice_index, vec_len, if◌then◌else◌}
 use Rattle.gated_log.specs.declared.Log.{Log}
 use Rattle.gated_log.specs.LogState.{log_place, log_room, log_tail, log_hand, log_used, log_need}
-use Rattle.graph_model.specs.declared.val.Val.{Val}
 use Rattle.graph_model.specs.declared.reply.Refusal.{Refusal}
 use Rattle.graph_model.specs.declared.reply.Refusal.TheVariants.{AlreadyActive, NotActive, NumbersSpent, BadHandle, Range, BadField}
 use Rattle.graph_model.specs.declared.reply.Reply.{Reply}
 use Rattle.graph_model.specs.Plain.{no_number, no_int}
 use Rattle.graph_model.specs.Transaction.{value_reply}
-use Rattle.log_records.specs.declared.Record.{Record}
 use Rattle.log_records.specs.declared.Record.TheVariants.{Update, Commit}
 use Rattle.log_records.specs.Record.{spelling, spellings}
 use Rattle.log_machine.specs.declared.UndoEntry.{UndoEntry}

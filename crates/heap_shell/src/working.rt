@@ -173,11 +173,12 @@ impl Working {
         let Some(active) = &mut self.active else {
             return Ok(refused(Refusal::NotActive));
         };
+        let field = i as u16;
         let was = self.words.root_fields()[i as usize];
         let rec = Record::Update {
             t: active.number,
             object: 0,
-            field: i as u16,
+            field,
             was,
             word: encode(value),
         };
@@ -190,7 +191,7 @@ impl Working {
         self.words.apply(&rec);
         active.push_reserved(UndoEntry {
             object: 0,
-            field: i as u16,
+            field,
             was,
         });
         Ok(Reply::Done)

@@ -1,4 +1,4 @@
-use Rattle.std.proofs.Common.{◌≡◌, List, ◌++◌, ℕ, refl, sym, ap, ◌∙◌, reverse, arith}
+use Rattle.std.proofs.Common.{List, ◌++◌, refl, ap, ◌∙◌, reverse, arith}
 use Rattle.log_records.specs.declared.Record.{Record}
 use Rattle.log_records.specs.Record.{spellings}
 use Rattle.log_machine.specs.declared.UndoEntry.{UndoEntry}

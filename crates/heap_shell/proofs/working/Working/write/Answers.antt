@@ -1,12 +1,10 @@
-use Rattle.std.proofs.Common.{◌≡◌, List, ◌++◌, ◌∷◌, ℕ, Option, Some, refl, sym, ap, ◌∙◌, drop}
+use Rattle.std.proofs.Common.{◌≡◌, List, ◌++◌, ◌∷◌, ℕ, Option, Some, refl, sym, ap, ◌∙◌}
 use Rattle.std.specs.Prelude.{slice_index}
 use Rattle.gated_log.specs.LogState.{log_hand}
-use Rattle.log_records.specs.declared.Record.{Record}
 use Rattle.log_records.specs.declared.Record.TheVariants.{Update}
 use Rattle.log_records.specs.Record.{spelling}
 use Rattle.log_machine.specs.declared.UndoEntry.{UndoEntry}
 use Rattle.log_machine.specs.Machine.{with_word}
-use Rattle.heap_words.specs.Word.{bits}
 use Rattle.heap_shell.specs.declared.active.Active.{Active}
 use Rattle.heap_shell.specs.Working.{Seen, seen_active, with_write, field_word}
 use Rattle.heap_shell.proofs.working.Working.write.Goals as goal
