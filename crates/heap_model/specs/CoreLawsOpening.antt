@@ -68,12 +68,12 @@ module _ (s : Super) (batches : List (List Record)) (image : List ℕ) (legal : 
   rolled_words = ap words rolled_records ∙ words-append rs taken ∙ rollback_words legal.state.writer legal.state.undo (words rs) ∙ sym (committed_words_at legal.state rs legal.reached)
 
   -- and no others are to be taken from these
-  pub rolled_committed : committed_words (records_of (rolled_back batches)) ≡ committed_words (records_of batches)
-  rolled_committed = ap committed_words rolled_records ∙ committed_words-rollback legal.state rs legal.reached can
+  pub committed_words-rolled_back : committed_words (records_of (rolled_back batches)) ≡ committed_words (records_of batches)
+  committed_words-rolled_back = ap committed_words rolled_records ∙ committed_words-rollback legal.state rs legal.reached can
 
   -- the graph stays
   pub rolled_graph : graph_of (records_of (rolled_back batches)) ≡ graph_of (records_of batches)
-  rolled_graph = ap graph_of_words rolled_committed
+  rolled_graph = ap graph_of_words committed_words-rolled_back
 
   -- so do the commits
   pub rolled_commits : commits (records_of (rolled_back batches)) ≡ commits (records_of batches)
@@ -116,7 +116,7 @@ module _ (s : Super) (batches : List (List Record)) (image : List ℕ) (legal : 
     rolled_legal holds =
         let room = rolled_room in
         legal_with s batches (rolled_back batches) _ image new legal outside holds rolled_good rolled_reached (omega arith)
-        (subst (λ (l : List ℕ). AllByRecursion IsNumberWord (drop 2 l)) (sym rolled_committed) legal.plain)
+        (subst (λ (l : List ℕ). AllByRecursion IsNumberWord (drop 2 l)) (sym committed_words-rolled_back) legal.plain)
 
 -- what an image stands for, it stands for with the same batches
 pub still_stands : (g : Graph) (k : ℕ) (image new : List ℕ) (stands : StandsFor g k image) → SameOutside log_offset (log_offset + stands.super.log_bytes) image new

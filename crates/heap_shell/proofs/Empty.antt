@@ -68,7 +68,9 @@ module _ (s : Super) (image : List ℕ) (large : image_size s.pages s.log_bytes 
     super = ap (λ (l : List ℕ). take 64 l) front ∙ take_at (superblock s) (drop 64 image) 64 size;
     log = subst (λ (l : List ℕ). HoldsBatches (take s.log_bytes l) []) (sym behind) (zero_log good zero);
     good = tt;
-    whole = (start, refl, refl);
+    state = start;
+    reached = refl;
+    reserve = omega (arith, good.some_log);
     plain = (inl refl, (inl refl, (inl refl, (inl refl, tt))));
     frames = λ p f low one is_open.
         let there : 64 + s.log_bytes + (2 * p + f) * 528 < image_size s.pages s.log_bytes = omega arith in

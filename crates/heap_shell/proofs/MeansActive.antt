@@ -12,7 +12,7 @@ use Rattle.graph_model.specs.HistoryLaws.{run-append}
 use Rattle.log_machine.specs.declared.UndoEntry.{UndoEntry}
 use Rattle.heap_shell.specs.declared.active.Active.{Active}
 use Rattle.heap_shell.specs.Means.{IsActive}
-use Rattle.heap_shell.specs.Working.{Seen, seen_active, with_handle}
+use Rattle.heap_shell.specs.Working.{Seen, seen_active, active_undo, with_handle}
 
 -- what is kept of a transaction on a graph, with these writes that may be taken back
 abbrev pub kept : ℕ → List Bool → List UndoEntry → Seen
@@ -32,13 +32,13 @@ seen_is g undo (Some t) (Some x) h =
 seen_is g undo None (Some x) h = absurd h
 seen_is g undo (Some t) None h = absurd h
 
-pub is_seen : (g : Graph) (undo : List UndoEntry) (o : Option Transaction) (p : Option Active) → seen_active p ≡ active_of g undo o → IsActive g undo o p
-is_seen g undo None None e = tt
-is_seen g undo (Some t) (Some x) e =
+pub is_seen : (g : Graph) (undo : List UndoEntry) (o : Option Transaction) (p : Option Active) → (o ≡ None → undo ≡ []) → seen_active p ≡ active_of g undo o → IsActive g undo o p
+is_seen g undo None None idle e = idle refl
+is_seen g undo (Some t) (Some x) idle e =
     let same : kept x.number x.handles (reverse x.undo.items) ≡ kept t.number (map is_some (run g t).registers) undo = cc e in
     record { number = ap (λ (s : Seen). s.number) same; handles = ap (λ (s : Seen). s.handles) same; undo = ap (λ (s : Seen). s.undo) same }
-is_seen g undo None (Some x) e = cc e
-is_seen g undo (Some t) None e = cc e
+is_seen g undo None (Some x) idle e = cc e
+is_seen g undo (Some t) None idle e = cc e
 
 -- whether there is one
 pub is_some_active : (g : Graph) (undo : List UndoEntry) (o : Option Transaction) (p : Option Active) → IsActive g undo o p → is_some p ≡ is_some o
@@ -77,3 +77,15 @@ pub drop_handle : (g : Graph) (undo : List UndoEntry) (o : Option Transaction) (
 drop_handle g undo None h = refl
 drop_handle g undo (Some t) h =
     ap (λ (hs : List Bool). Some (kept t.number hs undo)) (sym (ap (λ (v : View). map is_some v.registers) (run-append g t (Drop 1 h)) ∙ map-set is_some (run g t).registers h None))
+
+-- what may be taken back
+pub undo_is : (g : Graph) (undo : List UndoEntry) (o : Option Transaction) (p : Option Active) → IsActive g undo o p → active_undo p ≡ undo
+undo_is g undo None None h = sym h
+undo_is g undo (Some t) (Some x) h = h.undo
+undo_is g undo None (Some x) h = absurd h
+undo_is g undo (Some t) None h = absurd h
+
+-- where a call is made a transaction is active
+pub called_active : (o : Option Transaction) (event : Event) → with_call o event ≡ None → o ≡ None
+called_active None event e = refl
+called_active (Some t) event e = cc e

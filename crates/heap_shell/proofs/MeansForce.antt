@@ -30,7 +30,7 @@ use Rattle.log_records.specs.Record.{spellings}
 use Rattle.log_machine.specs.declared.UndoEntry.{UndoEntry}
 use Rattle.heap_shell.specs.declared.active.Active.{Active}
 use Rattle.heap_shell.specs.declared.working.Working.{Working}
-use Rattle.heap_model.specs.Core.{Core, next_number, core_refusal, answer, with_entry, after_refusal, after}
+use Rattle.heap_model.specs.Core.{Core, all_records, next_number, core_refusal, answer, with_entry, after_refusal, after}
 use Rattle.heap_model.specs.CoreCrash.{KeepsCommits}
 use Rattle.heap_model.specs.CoreValid.{IsValid, IsReached}
 use Rattle.heap_model.specs.CoreLawsCrash.{IsOnDisk, forced-with_batch, records_of-with_batch, disk_good, disk_reached, disk_plain, crash_law}
@@ -38,12 +38,13 @@ use Rattle.heap_model.specs.CoreLawsRun.{failed_refusal, failed_after, after_his
 use Rattle.heap_model.specs.CoreLawsStep.{valid_after}
 use Rattle.heap_model.specs.Image.{IsLegal}
 use Rattle.log_machine.specs.Machine as machine
-use Rattle.log_machine.specs.Machine.{words, undo_of, undo_reserve}
+use Rattle.log_machine.specs.Machine.{words, undo_of, undo_reserve, taken_back, committed_words}
 use Rattle.heap_shell.specs.Means.{IsActive, Works, OnDisk, Means, Steps}
+use Rattle.heap_shell.proofs.MeansActive.{undo_is}
 use Rattle.heap_shell.proofs.MeansLeft.{keeps_refused, keeps_cut}
 use Rattle.heap_shell.proofs.MeansLog.{keeps_same}
 use Rattle.heap_shell.proofs.MeansRefusal.{force_same}
-use Rattle.heap_shell.specs.Working.{begin_refusal, handle_refusal, held_refusal, put_refusal, clear_refusal, get_refusal, same_refusal, end_refusal, field_reply, IsAsItWas, Begins, SetsHandle, Writes, Seals, Aborts}
+use Rattle.heap_shell.specs.Working.{active_undo, begin_refusal, handle_refusal, held_refusal, put_refusal, clear_refusal, get_refusal, same_refusal, end_refusal, field_reply, IsAsItWas, Begins, SetsHandle, Writes, Seals, Aborts}
 use Rattle.heap_shell.proofs.MeansStep.{Does, works_after, begin_does, root_does, drop_does, get_does, same_does, len_does, put_does, clear_does, seal_does, abort_does}
 
 records_forced : (bs : List (List Record)) (p : List Record) → records_of (with_batch bs p) ++ [] ≡ records_of bs ++ p
@@ -319,3 +320,12 @@ pub with_history : (s : Super) (c : Core) (event : Event) (reply : Reply) (w : W
     → old ≡ c.history → new ≡ old ++ record { event = event; reply = reply } ∷ [] → (steps : Steps s c event reply w failed image may_leave) → new ≡ steps.next.history
 with_history s c event reply w failed image may_leave old new was is steps =
     is ∙ ap (λ (l : List Entry). l ++ record { event = event; reply = reply } ∷ []) was ∙ sym (step_history c steps.next event reply steps.step)
+
+-- the words without what the active transaction wrote
+pub committed : (s : Super) (c : Core) (w : Working) (failed : Option ℕ) (image : List ℕ) (may_leave : List ℕ → Type 0) → Means s c w failed image may_leave → failed ≡ None
+    → taken_back (active_undo w.active) w.words ≡ committed_words (all_records c)
+committed s c w failed image may_leave means none =
+    let a = account c.history in
+    let works = means.works none in
+    ap (λ (us : List UndoEntry). taken_back us w.words) (undo_is (serial c.g0 a.sealed) (undo_of (all_records c)) (a.active 1) w.active works.active)
+    ∙ ap (taken_back (undo_of (all_records c))) works.stored

@@ -32,18 +32,18 @@ use Rattle.log_records.specs.declared.Record.TheVariants.{Update, Commit}
 use Rattle.log_records.specs.Record.{spelling, spellings}
 use Rattle.log_machine.specs.declared.UndoEntry.{UndoEntry}
 use Rattle.log_machine.specs.Machine.{words, put_record, with_word, taken_back, start, after_all, undo_in, undo_of, abort_records}
-use Rattle.log_machine.specs.MachineLaws.{words-append, abort_words}
+use Rattle.log_machine.specs.MachineLaws.{words-append, abort_words, abort_reaches, after_all-append2}
 use Rattle.heap_model.specs.Core.{Core, all_records, next_number, is_write, update, write_records, view_records, event_records, call_records, first_of_two, core_refusal, answer, with_entry, done, after_refusal, after}
 use Rattle.heap_model.specs.CoreValid.{IsNumberVal, IsWriting, IsValid}
 use Rattle.heap_model.specs.CoreLawsGranted.{called, numbered_as, writer_as, undo-told, held_as}
-use Rattle.heap_model.specs.CoreLawsRecords.{written, entry_at, told_write, value_of-word_of}
+use Rattle.heap_model.specs.CoreLawsRecords.{written, entry_at, told_write, told_commit, value_of-word_of}
 use Rattle.heap_model.specs.CoreLawsStep.{core_refusal-HasNoFault, done_history, done_records, call_account, quiet_records}
 use Rattle.heap_model.specs.ValueWord.{word_of, value_of}
 use Rattle.heap_shell.specs.declared.active.Active.{Active}
 use Rattle.heap_shell.specs.declared.working.Working.{Working}
 use Rattle.heap_shell.specs.Means.{IsActive, Works}
 use Rattle.heap_shell.specs.Working.{Seen, seen_active, new_seen, with_handle, with_write, begin_refusal, handle_refusal, held_refusal, field_refusal, range_refusal, write_refusal, put_refusal, clear_refusal, get_refusal, same_refusal, end_refusal, field_word, field_reply, SameLog, IsAsItWas, Begins, SetsHandle, Writes, Seals, Aborts}
-use Rattle.heap_shell.proofs.MeansActive.{kept, active_of, seen_is, is_seen, is_some_active, has_active, same_handles, root_handle, drop_handle}
+use Rattle.heap_shell.proofs.MeansActive.{kept, active_of, seen_is, is_seen, is_some_active, has_active, called_active, same_handles, root_handle, drop_handle}
 use Rattle.heap_shell.proofs.MeansLog.{keeps_same, keeps_all}
 use Rattle.heap_shell.proofs.MeansRefusal.{begin_same, root_same, drop_same, put_same, clear_same, get_same, same_same, len_same, seal_same, abort_same, now_fields, four_fields, get_cases, same_cases, len_cases}
 
@@ -179,20 +179,20 @@ module _ (w new : Working) (c : Core) (valid : IsValid c) (works : Works w (acco
     place = same.log.at ∙ works.place;
     room = same.log.room ∙ works.room;
     stored = same.words ∙ works.stored;
-    active = is_seen g undo (a.active 1) new.active (same.active ∙ in_memory);
+    active = is_seen g undo (a.active 1) new.active no_undo (same.active ∙ in_memory);
     next = same.next ∙ works.next;
     sealed = same.sealed ∙ works.sealed;
   }
 
   -- no record more waits
-  quiet : (b : Account) → new.log ≡ w.log → new.words ≡ w.words → b.sealed ≡ a.sealed → seen_active new.active ≡ active_of g undo (b.active 1) → new.next ≡ c.first + b.begun → new.sealed ≡ w.sealed
+  quiet : (b : Account) → new.log ≡ w.log → new.words ≡ w.words → b.sealed ≡ a.sealed → (b.active 1 ≡ None → undo ≡ []) → seen_active new.active ≡ active_of g undo (b.active 1) → new.next ≡ c.first + b.begun → new.sealed ≡ w.sealed
       → Works new b (record c { pending = c.pending ++ [] })
-  quiet b log stored same active next sealed = record {
+  quiet b log stored same idle active next sealed = record {
     log = rw (append-nil, log) works.log;
     place = ap (λ (l : _). log_place l) log ∙ works.place;
     room = ap (λ (l : _). log_room l) log ∙ works.room;
     stored = rw append-nil (stored ∙ works.stored);
-    active = rw (append-nil, same) (is_seen g undo (b.active 1) new.active active);
+    active = rw (append-nil, same) (is_seen g undo (b.active 1) new.active idle active);
     next = next;
     sealed = sealed ∙ works.sealed ∙ ap (λ (ts : List Transaction). length ts) (sym same);
   }
@@ -202,7 +202,7 @@ module _ (w new : Working) (c : Core) (valid : IsValid c) (works : Works w (acco
       does c (Begin 1) (begin_refusal w) (Begun w.next) reply new (begin_same w c valid works) replied (λ e. ap Begun (sym works.next))
       (λ e is.
       let begins = begun w.next is in
-      quiet (account_after a (record { event = Begin 1; reply = Begun (next_number c) })) begins.log begins.words refl
+      quiet (account_after a (record { event = Begin 1; reply = Begun (next_number c) })) begins.log begins.words refl (λ none. cc none)
       (begins.active ∙ ap (λ (n : ℕ). Some (new_seen n)) works.next ∙ ap (λ (us : List UndoEntry). Some (kept (next_number c) (replicate 64 false) us)) (sym (no_undo (not_active (a.active 1) (sym (is_some_active g undo (a.active 1) w.active works.active) ∙ (test_none (is_some w.active) AlreadyActive _ e).0)))))
       (begins.next ∙ omega (arith, works.next)) begins.sealed)
       (λ why is. stays (refused why is))
@@ -213,7 +213,7 @@ module _ (w new : Working) (c : Core) (valid : IsValid c) (works : Works w (acco
       → Works new (account_after a (record { event = event; reply = granted (next_number c) c.g0 a event })) (done c event)
   quiet_call event is one silent other log stored active next sealed =
       let left : done c event ≡ record c { pending = c.pending ++ [] } = done_records c event other ∙ ap (λ (more : List Record). record c { pending = c.pending ++ more }) (quiet_records c event is silent) in
-      let there = quiet (called a event) log stored refl active (next ∙ works.next) sealed in
+      let there = quiet (called a event) log stored refl (λ none. no_undo (called_active (a.active 1) event none)) active (next ∙ works.next) sealed in
       subst (λ (b : Account). Works new b (done c event)) (sym (call_account (next_number c) c.g0 a event is one)) (subst (λ (d : Core). Works new (called a event) d) (sym left) there)
 
   pub root_does : (h : ℕ) (reply : Reply) → reply ≡ reply_of (handle_refusal w.active h) Done → (reply ≡ Done → SetsHandle w new h true) → ((why : Refusal) → reply ≡ Refused why → new ≡ w) → Does c (Root 1 h) reply new
@@ -347,7 +347,7 @@ module _ (w new : Working) (c : Core) (valid : IsValid c) (works : Works w (acco
           ∙ ap (λ (o : Option Seen). with_write o (entry_at valid.now i)) (in_memory ∙ ap (active_of g undo) e)
           ∙ ap (λ (us : List UndoEntry). active_of g us (Some t)) (sym (undo_written t i v e lt small))
           ∙ sym (ap (λ (o : Option Transaction). active_of g undo' (with_call o event)) e ∙ same_handles g undo' t event same_registers) in
-      let there = appended (called a event) (r ∷ []) log writes.words (is_seen g undo' (with_call (a.active 1) event) new.active active) (writes.next ∙ works.next) (writes.sealed ∙ works.sealed) in
+      let there = appended (called a event) (r ∷ []) log writes.words (is_seen g undo' (with_call (a.active 1) event) new.active (λ none. let never : Some t ≡ None = sym e ∙ called_active (a.active 1) event none in cc never) active) (writes.next ∙ works.next) (writes.sealed ∙ works.sealed) in
       let left : done c event ≡ record c { pending = c.pending ++ r ∷ [] } = done_records c event other ∙ ap (λ (more : List Record). record c { pending = c.pending ++ more }) one_record in
       subst (λ (b : Account). Works new b (done c event)) (sym (call_account (next_number c) c.g0 a event is one)) (subst (λ (d : Core). Works new (called a event) d) (sym left) there)
 
@@ -392,8 +392,24 @@ module _ (w new : Working) (c : Core) (valid : IsValid c) (works : Works w (acco
       (λ why is. as_it_was (stayed why (ap Ok is)))
 
   -- no transaction is active any more
-  none_left : (sealed : List Transaction) (more : List Record) → new.active ≡ None → IsActive (serial c.g0 sealed) (undo_of (records_of c.batches ++ (c.pending ++ more))) None new.active
-  none_left sealed more none = subst (λ (p : Option Active). IsActive (serial c.g0 sealed) (undo_of (records_of c.batches ++ (c.pending ++ more))) None p) (sym none) tt
+  none_left : (sealed : List Transaction) (more : List Record) → undo_of (records_of c.batches ++ (c.pending ++ more)) ≡ [] → new.active ≡ None → IsActive (serial c.g0 sealed) (undo_of (records_of c.batches ++ (c.pending ++ more))) None new.active
+  none_left sealed more left none = subst (λ (p : Option Active). IsActive (serial c.g0 sealed) (undo_of (records_of c.batches ++ (c.pending ++ more))) None p) (sym none) left
+
+  -- behind a commit no write may be taken back
+  undo_sealed : (t : Transaction) → a.active 1 ≡ Some t → undo_of (records_of c.batches ++ (c.pending ++ Commit t.number ∷ [])) ≡ []
+  undo_sealed t e =
+      let writer = writer_as a c (Some t) e valid in
+      let told = told_commit g (view c.g0 a t).graph (length a.sealed) t.number (all_records c) valid.state valid.now (numbered_as a c t e valid) valid.told writer.own writer.sees in
+      ap undo_of (sym (append_assoc (records_of c.batches) c.pending (Commit t.number ∷ []))) ∙ ap undo_in told.reached
+
+  -- nor behind an abort
+  undo_taken : (t : Transaction) → a.active 1 ≡ Some t → undo_of (records_of c.batches ++ (c.pending ++ abort_records t.number undo)) ≡ []
+  undo_taken t e =
+      let own = (writer_as a c (Some t) e valid).own in
+      let same = undo-told a c valid in
+      ap undo_of (sym (append_assoc (records_of c.batches) c.pending (abort_records t.number undo)))
+      ∙ ap (λ (us : List UndoEntry). undo_of (all_records c ++ abort_records t.number us)) same
+      ∙ ap undo_in (after_all-append2 start valid.state (all_records c) (abort_records t.number valid.state.undo) valid.told.reached ∙ abort_reaches valid.state t.number own)
 
   sealed_up : (t : Transaction) → a.active 1 ≡ Some t → Seals w new → Works new (account_after a (record { event = Seal 1; reply = Sealed (length a.sealed + 1) })) (done c (Seal 1))
   sealed_up t e seals =
@@ -404,7 +420,7 @@ module _ (w new : Working) (c : Core) (valid : IsValid c) (works : Works w (acco
       let count : new.sealed ≡ length b.sealed =
           seals.sealed ∙ ap (λ (n : ℕ). n + 1) works.sealed ∙ sym (ap (λ (o : Option Transaction). length (a.sealed ++ option_to_list o)) e ∙ length-append a.sealed (t ∷ [])) in
       subst (λ (rs : List Record). Works new b (record c { pending = c.pending ++ rs })) (sym records)
-      (appended b more log seals.words (none_left b.sealed more seals.not_active) (seals.next ∙ works.next) count)
+      (appended b more log seals.words (none_left b.sealed more (undo_sealed t e) seals.not_active) (seals.next ∙ works.next) count)
 
   pub seal_does : (result : Result Reply AllocError) → IfOk result (λ reply. reply ≡ reply_of (end_refusal w.active) (Sealed (w.sealed + 1)))
       → ((number : ℕ) → result ≡ Ok (Sealed number) → Seals w new) → ((why : Refusal) → result ≡ Ok (Refused why) → IsAsItWas w new) → IfOk result (λ reply. Does c (Seal 1) reply new)
@@ -428,7 +444,7 @@ module _ (w new : Working) (c : Core) (valid : IsValid c) (works : Works w (acco
       let log = subst (λ (rs : List Record). SameLog w.log new.log (log_hand w.log ++ spellings rs)) same aborts.log in
       let stored : new.words ≡ fold put_record w.words more = aborts.words ∙ ap (λ (us : List UndoEntry). taken_back us w.words) own.1 ∙ sym (abort_words t.number undo w.words) in
       subst (λ (rs : List Record). Works new b (record c { pending = c.pending ++ rs })) (sym records)
-      (appended b more log stored (none_left b.sealed more aborts.not_active) (aborts.next ∙ works.next) (aborts.sealed ∙ works.sealed))
+      (appended b more log stored (none_left b.sealed more (undo_taken t e) aborts.not_active) (aborts.next ∙ works.next) (aborts.sealed ∙ works.sealed))
 
   pub abort_does : (result : Result Reply AllocError) → IfOk result (λ reply. reply ≡ reply_of (end_refusal w.active) Aborted)
       → (result ≡ Ok Aborted → Aborts w new) → ((why : Refusal) → result ≡ Ok (Refused why) → IsAsItWas w new) → IfOk result (λ reply. Does c (Abort 1) reply new)

@@ -1,5 +1,5 @@
 -- When what an open heap keeps is a core.
-use Rattle.std.specs.Prelude.{◌≡◌, ◌≢◌, ℕ, ◌+◌, List, length, map, reverse, is_some, Option, None, Some}
+use Rattle.std.specs.Prelude.{◌≡◌, ◌≢◌, ℕ, ◌+◌, List, [], length, map, reverse, is_some, Option, None, Some}
 use Rattle.disk_model.specs.Disk.{Only}
 use Rattle.disk_model.specs.declared.disk.Disk.{Ghosts}
 use Rattle.gated_log.specs.LogState.{Keeps, log_place, log_room}
@@ -26,8 +26,9 @@ pub record Follows (g : Graph) (t : Transaction) (writes : List UndoEntry) (acti
   pub handles : active.handles ≡ map is_some (run g t).registers
   pub undo : reverse active.undo.items ≡ writes
 
+-- what is kept of the active transaction; without one no write may be taken back
 abbrev pub IsActive : Graph → List UndoEntry → Option Transaction → Option Active → Type 0
-IsActive g undo None None = Unit {0}
+IsActive g undo None None = undo ≡ []
 IsActive g undo (Some t) (Some active) = Follows g t undo active
 IsActive g undo t active = ⊥
 

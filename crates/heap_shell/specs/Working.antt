@@ -31,6 +31,11 @@ abbrev pub seen_active : Option Active → Option Seen
 seen_active None = None
 seen_active (Some a) = Some (seen a)
 
+-- the writes that may be taken back, the newest first
+abbrev pub active_undo : Option Active → List UndoEntry
+active_undo None = []
+active_undo (Some a) = reverse a.undo.items
+
 -- a transaction that has done nothing
 abbrev pub new_seen : ℕ → Seen
 new_seen number = record { number = number; handles = replicate 64 false; undo = [] }

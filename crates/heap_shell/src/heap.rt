@@ -242,11 +242,7 @@ impl<D: Disk> Heap<D> {
     pub fn graph(&self, alloc: Global) -> Result<String, AllocError>
         ensures text { (s : Super) (c : Core) → IsHeap s c self.now → self.now.failed ≡ None → AllByRecursion IsNumberWord (drop 2 (committed_words (all_records c))) → IfOk result (λ text. string_bytes text ≡ canon_text (canon (graph_of (all_records c)))) }
     {
-        let mut words = self.working.words;
-        if let Some(active) = &self.working.active {
-            words.take_back(&active.undo);
-        }
-        match root_values(&words) {
+        match root_values(&self.working.committed_words()) {
             Some(values) => root_text(alloc, &values),
             None => root_text(alloc, &[]),
         }

@@ -76,6 +76,8 @@ fn main(rt: HostRuntime) -> ExitCode {
 }
 
 #[cfg(test)]
+mod openings;
+#[cfg(test)]
 mod stops;
 #[cfg(test)]
 mod tests;

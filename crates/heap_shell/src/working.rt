@@ -56,7 +56,19 @@ fn told_word(word: u64) -> Reply
 }
 
 impl Working {
-    ghost use Rattle.heap_shell.specs.Working.{field_word, field_reply, begin_refusal, handle_refusal, held_refusal, field_refusal, write_refusal, put_refusal, clear_refusal, get_refusal, same_refusal, end_refusal, IsAsItWas, Begins, SetsHandle, Writes, Seals, Aborts};
+    ghost use Rattle.log_machine.specs.Machine.{taken_back};
+    ghost use Rattle.heap_shell.specs.Working.{active_undo, field_word, field_reply, begin_refusal, handle_refusal, held_refusal, field_refusal, write_refusal, put_refusal, clear_refusal, get_refusal, same_refusal, end_refusal, IsAsItWas, Begins, SetsHandle, Writes, Seals, Aborts};
+
+    /// The words without what the active transaction wrote.
+    pub fn committed_words(&self) -> PageWords
+        ensures { result ≡ taken_back (active_undo self.now.active) self.now.words }
+    {
+        let mut words = self.words;
+        if let Some(active) = &self.active {
+            words.take_back(&active.undo);
+        }
+        words
+    }
 
     /// Begins a transaction.
     pub fn begin(&mut self, alloc: Global) -> Reply

@@ -53,3 +53,19 @@ returns-clause-passed g c tells =
     made_calls _ _ _ (d.passed c.fill_and_open.new.disk) (image_size s.pages s.log_bytes) (d.bytes c.args.disk.now) c.fill_and_open.result (c.in_ok-close_gate.ensures.passes tells).ok
     (c.in_ok-write_zeros.ensures.passed tells ∙ ap (λ (n : ℕ). counted (zero_writes (n - 64)) (d.passed c.close_gate.new.disk)) end)
     (c.fill_and_open.ensures.passes tells).ok
+
+pub returns-in_err-close_gate-clause-moments : goal.returns-in_err-close_gate-clause-moments
+returns-in_err-close_gate-clause-moments g c tells only =
+    let d = g.D.Disk in
+    closing_run d.moment d.left_since c.args.disk.now c.close_gate.new.disk c.args.of.now (d.bytes c.args.disk.now) (d.may_leave c.args.disk.now) only (c.close_gate.ensures.moments tells) (c.close_gate.ensures.left_alone tells)
+
+pub returns-in_err-write_zeros-clause-moments : goal.returns-in_err-write_zeros-clause-moments
+returns-in_err-write_zeros-clause-moments g c tells only =
+    let d = g.D.Disk in
+    let s = c.args.of.now in
+    let old = d.bytes c.args.disk.now in
+    let P = IsFormatting s old in
+    let shut = c.in_ok-close_gate.ensures.each tells (λ f left. ap (λ (l : List ℕ). get_or l 0 0) (only f left)) in
+    let first = closing_run d.moment d.left_since c.args.disk.now c.close_gate.new.disk s old (d.may_leave c.args.disk.now) only (c.close_gate.ensures.moments tells) (c.close_gate.ensures.left_alone tells) in
+    let second = weaker d.moment d.left_since c.close_gate.new.disk c.write_zeros.new.disk _ P (c.write_zeros.ensures.moments tells) (λ f left. zeroing s old left.0 f c.size.result (shut left.0 left.1) left.2) in
+    run_then d.moment d.left_since c.args.disk.now c.close_gate.new.disk c.write_zeros.new.disk P first second
