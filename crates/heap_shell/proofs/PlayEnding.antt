@@ -7,7 +7,6 @@ use Rattle.graph_model.specs.Transaction.{Transaction}
 use Rattle.image_plan.specs.declared.superblock.Super.{Super}
 use Rattle.log_records.specs.declared.Record.{Record}
 use Rattle.heap_shell.specs.declared.heap.Heap.{Heap}
-use Rattle.heap_shell.specs.declared.play.Ended.TheVariants as ended
 use Rattle.heap_model.specs.Core.{Core}
 use Rattle.heap_model.specs.CoreCrash.{HasCommits}
 use Rattle.heap_model.specs.CoreLawsGrow.{keeps_has}

@@ -7,16 +7,15 @@ use Rattle.gated_log.specs.Log.{records_of}
 use Rattle.graph_model.specs.Graph.{Graph}
 use Rattle.graph_model.specs.Transaction.{serial}
 use Rattle.graph_model.specs.History.{commits}
-use Rattle.log_records.specs.declared.Record.{Record}
 use Rattle.heap_shell.specs.declared.recovery.OpenError.{OpenError}
 use Rattle.heap_shell.specs.declared.status.Status.{Status}
 use Rattle.heap_shell.specs.Causes.{IsOutputError}
 use Rattle.heap_model.specs.Core.{Core}
 use Rattle.heap_model.specs.CoreCrash.{KeepsCommits}
 use Rattle.heap_model.specs.CoreLawsGrow.{keeps_as}
-use Rattle.heap_model.specs.CoreLawsOpening.{rolled_committed}
-use Rattle.heap_shell.specs.Headline.{Reopens, recovered_line, graph_text}
-use Rattle.heap_model.specs.Image.{StandsFor, graph_of, graph_of_words}
+use Rattle.heap_model.specs.CoreLawsOpening.{committed_words-rolled_back}
+use Rattle.heap_shell.specs.Headline.{recovered_line, graph_text}
+use Rattle.heap_model.specs.Image.{StandsFor, graph_of_words}
 use Rattle.heap_model.specs.Opening.{opened, rolled_back, opening_calls}
 use Rattle.log_machine.specs.Machine.{committed_words}
 use Rattle.heap_shell.specs.Output.{WroteText, HasGraph, Recovers, status_after}
@@ -31,7 +30,7 @@ pub opened_graph : (g : Graph) (k next : ℕ) (image : List ℕ) (stands : Stand
 opened_graph g k next image stands =
     let rs = records_of (rolled_back stands.batches) in
     let same : committed_words (rs ++ []) ≡ committed_words (records_of stands.batches) =
-    ap committed_words (append-nil rs) ∙ rolled_committed stands.super stands.batches image stands.legal in
+    ap committed_words (append-nil rs) ∙ committed_words-rolled_back stands.super stands.batches image stands.legal in
     record {
       unfailed = refl;
       plain = subst (λ (ws : List ℕ). AllByRecursion IsNumberWord (drop 2 ws)) (sym same) stands.legal.plain;

@@ -1,4 +1,4 @@
-use Rattle.std.proofs.Common.{◌≡◌, ℕ, ◌-◌, List, ◌++◌, take, sym, ap, ◌∙◌, subst, arith}
+use Rattle.std.proofs.Common.{◌≡◌, ℕ, ◌-◌, List, ◌++◌, take, ap, ◌∙◌, subst, arith}
 use Rattle.counts.specs.Count.{counted}
 use Rattle.disk_model.specs.Moments.{weaker}
 use Rattle.graph_model.specs.Transaction.{serial}
