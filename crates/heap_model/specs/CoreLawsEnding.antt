@@ -8,7 +8,7 @@ use Rattle.graph_model.specs.Transaction.{Transaction}
 use Rattle.graph_model.specs.History.{account}
 use Rattle.log_records.specs.declared.Record.{Record}
 use Rattle.heap_model.specs.Core.{Core, after, force_calls, calls_if}
-use Rattle.heap_model.specs.CoreLawsRecords.{AllByRecursion-append}
+use Rattle.log_machine.specs.MachineLaws.{AllByRecursion-append}
 use Rattle.heap_model.specs.CoreRuns.{after_events, total_calls}
 use Rattle.heap_model.specs.Ending.{abort_of, force_of, aborting, forcing, ending, all_events}
 
