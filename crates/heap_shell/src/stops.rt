@@ -218,8 +218,14 @@ fn expect_whole(rt: &impl Abort, alloc: Global, told: &Told, ending: &str) -> Re
 fn expect_doubt(rt: &impl Abort, forces: &[bool], lost: &[usize], kept: &[usize]) {
     for (calls, (lost, kept)) in lost.iter().zip(kept.iter()).enumerate() {
         let last = calls % FORCE_CALLS == FORCE_CALLS - 1;
-        let commits = forces.get(calls / FORCE_CALLS).is_some_and(|commits| *commits);
-        assert_eq!(rt; *kept, lost.saturating_add(usize::from(last && commits)), "{calls}");
+        let commits = forces
+            .get(calls / FORCE_CALLS)
+            .is_some_and(|commits| *commits);
+        assert_eq!(rt;
+            *kept,
+            lost.saturating_add(usize::from(last && commits)),
+            "{calls}"
+        );
     }
 }
 
@@ -267,12 +273,24 @@ fn an_abort_leaves_nothing_in_filled_bytes(rt: HostRuntime) -> Result<(), Fail> 
 
 #[test]
 fn forced_writes_are_taken_back_from_written_bytes(rt: HostRuntime) -> Result<(), Fail> {
-    check_script(&rt, rt.alloc(), FORCED_INSIDE, "force -> durable 1\n", WRITTEN)
+    check_script(
+        &rt,
+        rt.alloc(),
+        FORCED_INSIDE,
+        "force -> durable 1\n",
+        WRITTEN,
+    )
 }
 
 #[test]
 fn forced_writes_are_taken_back_from_filled_bytes(rt: HostRuntime) -> Result<(), Fail> {
-    check_script(&rt, rt.alloc(), FORCED_INSIDE, "force -> durable 1\n", FILLED)
+    check_script(
+        &rt,
+        rt.alloc(),
+        FORCED_INSIDE,
+        "force -> durable 1\n",
+        FILLED,
+    )
 }
 
 const TAKEN_BACK: &str = "1 abort -> aborted\nforce -> durable 1\n";

@@ -158,8 +158,10 @@ fn a_run_aborts_and_forces_at_its_end(rt: HostRuntime) -> Result<(), Fail> {
     forced.push_str(ending)?;
     let played = play(alloc, "heap play --fresh 1", FORCED_INSIDE, Pick::Newest)?;
     expect_done(&rt, &played, forced.as_str());
-    let mut waiting =
-        String::from_str(alloc, "1 begin -> begun 1\n1 root 0 -> done\n1 put 0 0 7 -> done\n")?;
+    let mut waiting = String::from_str(
+        alloc,
+        "1 begin -> begun 1\n1 root 0 -> done\n1 put 0 0 7 -> done\n",
+    )?;
     waiting.push_str(ending)?;
     let script = "1 begin\n1 root 0\n1 put 0 0 7\n";
     let played = play(alloc, "heap play --fresh 1", script, Pick::Newest)?;
@@ -182,7 +184,10 @@ fn lines_come_in_any_order(rt: HostRuntime) -> Result<(), Fail> {
     let alloc = rt.alloc();
     let cases = [
         ("\n1 commit\n", "1 seal -> notactive\nforce -> durable 0\n"),
-        ("1 root 0\n1 abort\n", "1 root 0 -> notactive\n1 abort -> notactive\n"),
+        (
+            "1 root 0\n1 abort\n",
+            "1 root 0 -> notactive\n1 abort -> notactive\n",
+        ),
         (
             "1 begin\n\n1 begin\n1 root 0\n1 put 0 4 1\n1 put 0 0 4611686018427387904\n1 get 0 0 1\n1 len 0\n1 seal\n1 seal\n",
             "1 begin -> begun 1\n1 begin -> alreadyactive\n1 root 0 -> done\n1 put 0 4 1 -> badfield\n1 put 0 0 4611686018427387904 -> range\n1 get 0 0 1 -> null\n1 len 0 -> len 4\n1 seal -> sealed 1\n1 seal -> notactive\nforce -> durable 1\n",
