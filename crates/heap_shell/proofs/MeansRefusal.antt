@@ -1,5 +1,5 @@
 -- The working state refuses what a core refuses.
-use Rattle.std.proofs.Common.{◌≡◌, ◌⊎◌, inl, inr, ℕ, ◌+◌, ◌*◌, Bool, true, false, cond, List, [], ◌∷◌, ◌++◌, length, map, reverse, vec_len, Option, Some, None, is_some, refl, sym, ap, ◌∙◌, subst, arith}
+use Rattle.std.proofs.Common.{◌≡◌, ◌⊎◌, inl, inr, ℕ, Bool, true, false, cond, List, [], ◌∷◌, length, map, reverse, vec_len, Option, Some, None, is_some, refl, sym, ap, ◌∙◌, subst, arith}
 use Rattle.std.specs.Prelude.{◌==◌, nat_lt, nat_le, slice_get, unwrap_or, count_by}
 use Rattle.std.proofs.lemmas.List.{length-reverse}
 use Rattle.gated_log.specs.LogState.{log_room, log_need}
@@ -27,8 +27,8 @@ use Rattle.heap_model.specs.CoreLawsGranted.{undo-told, writer_as, held_as}
 use Rattle.heap_model.specs.CoreLawsRoom.{writes-append}
 use Rattle.heap_model.specs.CoreLawsRun.{first_alone}
 use Rattle.heap_model.specs.CoreLawsStep.{call_account, unfailed_refusal, log_quiet, log_seal, log_abort, log_force}
-use Rattle.heap_shell.specs.Means.{IsActive, Follows, Works}
-use Rattle.heap_shell.specs.Working.{no_room, begin_refusal, handle_refusal, holds_root, held_refusal, field_refusal, range_refusal, write_room, write_refusal, put_refusal, clear_refusal, get_refusal, same_refusal, end_refusal}
+use Rattle.heap_shell.specs.Means.{IsActive, Works}
+use Rattle.heap_shell.specs.Working.{no_room, begin_refusal, handle_refusal, held_refusal, field_refusal, range_refusal, write_room, write_refusal, put_refusal, clear_refusal, get_refusal, same_refusal, end_refusal}
 use Rattle.heap_shell.proofs.MeansActive.{is_some_active, holds_held}
 use Rattle.heap_shell.proofs.MeansLog.{used_same, need_same}
 

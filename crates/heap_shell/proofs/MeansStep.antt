@@ -1,5 +1,5 @@
 -- The working state answers and does what a core does.
-use Rattle.std.proofs.Common.{◌≡◌, ◌⊎◌, inl, inr, ℕ, ◌+◌, ◌*◌, ◌^◌, ◌<◌, Bool, true, false, cond, zero, suc, List, [], ◌∷◌, ◌++◌, length, map, drop, reverse, Option, Some, None, Result, Ok, Err, is_some, refl, sym, ap, ◌∙◌, subst, arith, length-append, append_assoc}
+use Rattle.std.proofs.Common.{◌≡◌, ◌⊎◌, inl, inr, ℕ, ◌+◌, ◌*◌, ◌<◌, Bool, true, false, cond, zero, suc, List, [], ◌∷◌, ◌++◌, length, map, drop, reverse, Option, Some, None, Result, Ok, Err, is_some, refl, sym, ap, ◌∙◌, subst, arith, length-append, append_assoc}
 use Rattle.std.specs.declared.alloc.AllocError.{AllocError}
 use Rattle.std.specs.Prelude.{IfOk, fold, nat_le, nat_lt, slice_index, slice_index_or, replicate}
 use Rattle.std.specs.List.{AllByRecursion}
@@ -15,13 +15,13 @@ use Rattle.graph_model.specs.declared.event.Event.{Event}
 use Rattle.graph_model.specs.declared.event.Event.TheVariants.{Begin, Root, Put, Clear, Drop, Get, Same, Len, Seal, Abort, Force}
 use Rattle.graph_model.specs.declared.reply.Entry.{Entry}
 use Rattle.graph_model.specs.declared.reply.Refusal.{Refusal}
-use Rattle.graph_model.specs.declared.reply.Refusal.TheVariants.{AlreadyActive, NotActive, BadHandle, Range, BadField}
+use Rattle.graph_model.specs.declared.reply.Refusal.TheVariants.{AlreadyActive, BadHandle, Range, BadField}
 use Rattle.graph_model.specs.declared.reply.Reply.{Reply}
 use Rattle.graph_model.specs.declared.reply.Reply.TheVariants.{Begun, Done, Yes, Length, Sealed, Aborted, Refused}
-use Rattle.graph_model.specs.Graph.{Graph, root, fields}
+use Rattle.graph_model.specs.Graph.{Graph, root}
 use Rattle.graph_model.specs.RootGraph.{IsPlain}
 use Rattle.graph_model.specs.RootAlone.{with_referred-plain}
-use Rattle.graph_model.specs.Transaction.{Registers, View, Transaction, IsCall, held, fields_of, with_referred, value_reply, same_reply, call, run, serial}
+use Rattle.graph_model.specs.Transaction.{Transaction, IsCall, held, fields_of, with_referred, value_reply, same_reply, call, serial}
 use Rattle.graph_model.specs.History.{Account, account, account_after, session_of, with_call}
 use Rattle.graph_model.specs.HistoryLaws.{account-append}
 use Rattle.graph_model.specs.Plain as plain
@@ -31,12 +31,12 @@ use Rattle.log_records.specs.declared.Record.{Record}
 use Rattle.log_records.specs.declared.Record.TheVariants.{Update, Commit}
 use Rattle.log_records.specs.Record.{spelling, spellings}
 use Rattle.log_machine.specs.declared.UndoEntry.{UndoEntry}
-use Rattle.log_machine.specs.Machine.{words, put_record, with_word, taken_back, start, after_all, undo_in, undo_of, abort_records}
+use Rattle.log_machine.specs.Machine.{words, put_record, taken_back, start, undo_in, undo_of, abort_records}
 use Rattle.log_machine.specs.MachineLaws.{words-append, abort_words, abort_reaches, after_all-append2}
 use Rattle.heap_model.specs.Core.{Core, all_records, next_number, is_write, update, write_records, view_records, event_records, call_records, first_of_two, core_refusal, answer, with_entry, done, after_refusal, after}
-use Rattle.heap_model.specs.CoreValid.{IsNumberVal, IsWriting, IsValid}
+use Rattle.heap_model.specs.CoreValid.{IsNumberVal, IsValid}
 use Rattle.heap_model.specs.CoreLawsGranted.{called, numbered_as, writer_as, undo-told, held_as}
-use Rattle.heap_model.specs.CoreLawsRecords.{written, entry_at, told_write, told_commit, value_of-word_of}
+use Rattle.heap_model.specs.CoreLawsRecords.{entry_at, told_write, told_commit, value_of-word_of}
 use Rattle.heap_model.specs.CoreLawsStep.{core_refusal-HasNoFault, done_history, done_records, call_account, quiet_records}
 use Rattle.heap_model.specs.ValueWord.{word_of, value_of}
 use Rattle.heap_shell.specs.declared.active.Active.{Active}
