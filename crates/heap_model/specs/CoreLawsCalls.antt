@@ -1,21 +1,17 @@
 -- Laws of events, one after another: the calls that they make of the disk, and where it stops.
-use Rattle.std.proofs.Common.{◌≡◌, ◌≢◌, ◌⊎◌, inl, inr, ⊎_elim, ℕ, ◌+◌, ◌-◌, ◌≤◌, ◌<◌, List, [], ◌∷◌, ◌++◌, Option, Some, None, refl, ap, subst, arith}
+use Rattle.std.proofs.Common.{◌≡◌, ◌≢◌, inl, ⊎_elim, ℕ, ◌+◌, ◌-◌, ◌≤◌, ◌<◌, List, [], ◌∷◌, ◌++◌, Option, Some, None, refl, ap, subst, arith}
 use Rattle.std.specs.List.{AllByRecursion}
 use Rattle.std.proofs.lemmas.Bool.{cases_lt}
 use Rattle.graph_model.specs.declared.event.Event.{Event}
 use Rattle.graph_model.specs.declared.event.Event.TheVariants.{Force}
-use Rattle.graph_model.specs.declared.reply.Refusal.TheVariants.{DiskFault, Stopped}
 use Rattle.graph_model.specs.declared.reply.Reply.{Reply}
-use Rattle.graph_model.specs.declared.reply.Reply.TheVariants.{Refused}
-use Rattle.graph_model.specs.PlainLaws.{IsSoundReply}
 use Rattle.graph_model.specs.SlowHeap.{IsSingleSession}
 use Rattle.graph_model.specs.History.{account}
 use Rattle.log_records.specs.declared.Record.{Record}
-use Rattle.heap_model.specs.Core.{Core, answer, with_entry, after, IsCutShort, IsStep, IsRun, force_calls, calls_if, calls}
+use Rattle.heap_model.specs.Core.{Core, answer, after, IsStep, IsRun, force_calls, calls_if, calls}
 use Rattle.heap_model.specs.CoreRuns.{after_events, total_calls, StopsAt}
-use Rattle.heap_model.specs.CoreValid.{IsValid, IsReached}
+use Rattle.heap_model.specs.CoreValid.{IsValid}
 use Rattle.heap_model.specs.CoreLawsStep.{valid_after}
-use Rattle.heap_model.specs.CoreLawsRun.{valid_run}
 
 -- the state after more events
 pub after_events-append : (c : Core) (before behind : List Event) → after_events c (before ++ behind) ≡ after_events (after_events c before) behind
@@ -47,15 +43,6 @@ run_split c d (event ∷ before) behind run =
 -- one step more
 pub run_step : (c mid d : Core) (events : List Event) (event : Event) (reply : Reply) → IsRun c events mid → IsStep mid event reply d → IsRun c (events ++ event ∷ []) d
 run_step c mid d events event reply run step = run_append c mid d events (event ∷ []) run (reply, d, step, refl)
-
-no_fault : (reply : Reply) → (reply ≡ Refused DiskFault) ⊎ (reply ≡ Refused Stopped) → IsSoundReply reply → ⊥
-no_fault reply (inl told) sound = subst IsSoundReply told sound
-no_fault reply (inr told) sound = subst IsSoundReply told sound
-
--- a step that is answered without a fault of the disk does all that is asked
-pub whole_step : (c d : Core) (event : Event) (reply : Reply) → IsSoundReply reply → IsStep c event reply d → (reply ≡ answer c event) × (d ≡ after c event)
-whole_step c d event reply sound (inl whole) = whole
-whole_step c d event reply sound (inr cut) = absurd (no_fault reply cut.0.told sound)
 
 -- Events of session 1 keep a core valid.
 pub valid_events : (c : Core) (events : List Event) → IsValid c → AllByRecursion IsSingleSession events → IsValid (after_events c events)
@@ -96,26 +83,6 @@ stop_place c n (event ∷ events) lt = ⊎_elim
     (λ (le : calls c event ≤ n). stop_step c n event events le (stop_place (after c event) (n - calls c event) events (omega arith)))
     (cases_lt n (calls c event))
 
--- there the step is cut short
-pub stop_cut : (c : Core) (n : ℕ) (events : List Event) (at : StopsAt c n events) → IsCutShort (after_events c at.before) at.event (Refused Stopped)
-stop_cut c n events at =
-    let made = at.made in
-    let short = at.short in
-    let is = calls-force (after_events c at.before) at.event (omega arith) in
-    record { force = is.0; waits = is.1; first = is.2; told = inr refl }
-
--- and the events up to that one are a run
-pub stop_run : (c : Core) (n : ℕ) (events : List Event) (at : StopsAt c n events)
-    → IsRun c (at.before ++ at.event ∷ []) (with_entry (after_events c at.before) at.event (Refused Stopped))
-stop_run c n events at =
-    run_step c (after_events c at.before) _ at.before at.event (Refused Stopped) (whole_run c at.before) (inr (stop_cut c n events at, refl))
-
 one_session_front : (before : List Event) (event : Event) (behind : List Event) → AllByRecursion IsSingleSession (before ++ event ∷ behind) → AllByRecursion IsSingleSession (before ++ event ∷ [])
 one_session_front [] event behind one = (one.0, tt)
 one_session_front (first ∷ before) event behind one = (one.0, one_session_front before event behind one.1)
-
--- The core at which the disk stopped is reached.
-pub stop_reached : (c : Core) (n : ℕ) (events : List Event) (at : StopsAt c n events) → IsValid c → AllByRecursion IsSingleSession events
-    → IsReached (with_entry (after_events c at.before) at.event (Refused Stopped))
-stop_reached c n events at valid one =
-    valid_run c _ (at.before ++ at.event ∷ []) (inl valid) (one_session_front at.before at.event at.behind (subst (AllByRecursion IsSingleSession) at.parts one)) (stop_run c n events at)

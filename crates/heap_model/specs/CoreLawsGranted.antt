@@ -24,20 +24,11 @@ use Rattle.log_records.specs.declared.Record.TheVariants.{Commit}
 use Rattle.log_records.specs.Record.{IsNumber}
 use Rattle.gated_log.specs.Log.{batches_bytes, records_of, hand}
 use Rattle.log_machine.specs.declared.UndoEntry.{UndoEntry}
-use Rattle.log_machine.specs.Machine.{State, commits, may_write, undo_in, undo_of, undo_reserve, abort_records}
+use Rattle.log_machine.specs.Machine.{State, may_write, undo_in, undo_of, undo_reserve, abort_records}
 use Rattle.heap_model.specs.Core.{Core, all_records, write_records, view_records, update, call_records, used, need, is_write, reserved, forced}
 use Rattle.heap_model.specs.CoreValid.{IsNumberVal, LeadBack, IsTold, IsWriting, IsWriter, IsNumbered, Agrees}
-use Rattle.heap_model.specs.CoreLawsRecords.{committed, written, told_commits, told_graph, told_write, told_commit, told_abort}
+use Rattle.heap_model.specs.CoreLawsRecords.{committed, written, told_write, told_commit, told_abort}
 use Rattle.heap_model.specs.CoreLawsRoom.{records_of-append, length-hand-append, length-forced, writes-append, reserved-call, need-abort_records}
-use Rattle.heap_model.specs.Image.{graph_of}
-
--- the graph of the sealed transactions is that of the commits in all records
-pub graph-told : (a : Account) (c : Core) → Agrees a c → graph_of (all_records c) ≡ serial c.g0 a.sealed
-graph-told a c h = told_graph _ _ (all_records c) h.state h.now h.told
-
--- they tell as many commits as there are sealed transactions
-pub commits-told : (a : Account) (c : Core) → Agrees a c → commits (all_records c) ≡ length a.sealed
-commits-told a c h = told_commits _ _ (all_records c) h.state h.now h.told
 
 -- the writes that may be taken back after all records
 pub undo-told : (a : Account) (c : Core) → (h : Agrees a c) → undo_of (all_records c) ≡ h.state.undo
@@ -56,10 +47,6 @@ numbered_as a c t e h =
     let some = n.0 in
     let below = n.1 in
     record { some = n.0; small = omega arith }
-
--- the room that is left beside what is kept for the active transaction
-pub room_as : (a : Account) (c : Core) (o : Option Transaction) → a.active 1 ≡ o → Agrees a c → used c + reserved o ≤ c.room
-room_as a c o e h = subst (λ (p : Option Transaction). used c + reserved p ≤ c.room) e h.room
 
 numbered_call : (n : ℕ) (o : Option Transaction) (event : Event) → IsNumbered n o → IsNumbered n (with_call o event)
 numbered_call n None event h = tt

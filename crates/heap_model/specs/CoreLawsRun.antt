@@ -1,23 +1,21 @@
 -- What is reached by steps of one session.
-use Rattle.std.proofs.Common.{◌≡◌, ◌⊎◌, inl, inr, ℕ, ◌+◌, List, [], ◌∷◌, ◌++◌, length, Option, Some, None, refl, sym, ap, ◌∙◌, subst}
+use Rattle.std.proofs.Common.{◌≡◌, ◌⊎◌, inl, inr, ℕ, ◌+◌, List, [], ◌∷◌, ◌++◌, Option, Some, None, refl, sym, ap, ◌∙◌, subst}
 use Rattle.std.specs.List.{AllByRecursion}
 use Rattle.graph_model.specs.declared.event.Event.{Event}
-use Rattle.graph_model.specs.declared.event.Event.TheVariants.{Seal, Abort, Force}
+use Rattle.graph_model.specs.declared.event.Event.TheVariants.{Force}
 use Rattle.graph_model.specs.declared.reply.Entry.{Entry}
 use Rattle.graph_model.specs.declared.reply.Refusal.{Refusal}
 use Rattle.graph_model.specs.declared.reply.Refusal.TheVariants.{Failed, DiskFault, Stopped}
 use Rattle.graph_model.specs.declared.reply.Reply.{Reply}
-use Rattle.graph_model.specs.declared.reply.Reply.TheVariants.{Sealed, Aborted, Durable, Refused}
-use Rattle.graph_model.specs.Graph.{Graph}
+use Rattle.graph_model.specs.declared.reply.Reply.TheVariants.{Refused}
 use Rattle.graph_model.specs.SlowHeap.{IsSingleSession}
-use Rattle.graph_model.specs.Transaction.{Transaction}
 use Rattle.graph_model.specs.History.{Account, account, account_after, first_failure}
 use Rattle.graph_model.specs.HistoryLaws.{account-append}
-use Rattle.graph_model.specs.Plain.{call_refusal, event_refusal, refusal_of, granted, reply_of, plain_reply}
+use Rattle.graph_model.specs.Plain.{event_refusal, refusal_of, granted, reply_of}
 use Rattle.graph_model.specs.PlainLaws.{account_after-refused}
 use Rattle.heap_model.specs.Core.{Core, next_number, log_refusal, first_of_two, core_refusal, answer, with_entry, after_refusal, after, IsCutShort, IsStep, IsRun}
 use Rattle.heap_model.specs.CoreValid.{Agrees, IsValid, HasFailed, IsReached}
-use Rattle.heap_model.specs.CoreLawsStep.{log_seal, log_abort, log_force, unfailed_refusal, done_history, valid_after}
+use Rattle.heap_model.specs.CoreLawsStep.{done_history, valid_after}
 
 -- whether the disk failed says nothing of the rest
 pub agrees_before : (a : Account) (c : Core) (n : ℕ) → Agrees a c → Agrees (record a { failed = None; entries = n }) c
@@ -84,10 +82,6 @@ failed_entry c event reply h =
 pub failed_refusal : (c : Core) (event : Event) (entry : ℕ) → (account c.history).failed ≡ Some entry → core_refusal c event ≡ Some (Failed entry)
 failed_refusal c event entry e = ap (λ (o : Option ℕ). refusal_of o (first_of_two (event_refusal (next_number c) c.g0 (account c.history) event) (log_refusal c event))) e
 
--- with that answer
-pub failed_answer : (c : Core) (event : Event) (entry : ℕ) → (account c.history).failed ≡ Some entry → answer c event ≡ Refused (Failed entry)
-failed_answer c event entry e = ap (λ (o : Option Refusal). reply_of o (granted (next_number c) c.g0 (account c.history) event)) (failed_refusal c event entry e)
-
 -- and all that changes is its history
 pub failed_after : (c : Core) (event : Event) (entry : ℕ) → (account c.history).failed ≡ Some entry → after c event ≡ with_entry c event (Refused (Failed entry))
 failed_after c event entry e = ap (λ (o : Option Refusal). with_entry (after_refusal o c event) event (reply_of o (granted (next_number c) c.g0 (account c.history) event))) (failed_refusal c event entry e)
@@ -140,19 +134,6 @@ pub first_alone : (o p : Option Refusal) → p ≡ None → first_of_two o p ≡
 first_alone None p e = e
 first_alone (Some why) p e = refl
 
--- where the log has room, a core answers as a plain heap does
-pub plain_answer : (c : Core) (event : Event) → log_refusal c event ≡ None → answer c event ≡ plain_reply c.first c.g0 (account c.history) event
-plain_answer c event room =
-    let a = account c.history in
-    let plain = event_refusal (next_number c) c.g0 a event in
-    ap (λ (o : Option Refusal). reply_of (refusal_of a.failed o) (granted (next_number c) c.g0 a event)) (first_alone plain (log_refusal c event) room)
-
-answer_alone : (c : Core) (event : Event) → IsValid c → log_refusal c event ≡ None
-    → answer c event ≡ reply_of (event_refusal (next_number c) c.g0 (account c.history) event) (granted (next_number c) c.g0 (account c.history) event)
-answer_alone c event valid room =
-    let plain = event_refusal (next_number c) c.g0 (account c.history) event in
-    ap (λ (o : Option Refusal). reply_of o (granted (next_number c) c.g0 (account c.history) event)) (unfailed_refusal c event valid.unfailed ∙ first_alone plain (log_refusal c event) room)
-
 refusal_history : (o : Option Refusal) (c : Core) (event : Event) → (after_refusal o c event).history ≡ c.history
 refusal_history None c event = done_history c event
 refusal_history (Some why) c event = refl
@@ -167,21 +148,6 @@ step_history c d event reply (inl whole) =
     ap (λ (x : Core). x.history) whole.1 ∙ after_history c event ∙ ap (λ (r : Reply). c.history ++ record { event = event; reply = r } ∷ []) (sym whole.0)
 step_history c d event reply (inr cut) = ap (λ (x : Core). x.history) cut.1
 
--- a seal is never refused for want of room
-pub seal_answer : (c : Core) → IsValid c
-    → answer c (Seal 1) ≡ reply_of (call_refusal c.g0 (account c.history) ((account c.history).active 1) (Seal 1)) (Sealed (length (account c.history).sealed + 1))
-seal_answer c valid = answer_alone c (Seal 1) valid (log_seal c valid)
-
--- the seal of an active transaction is answered `sealed`
-pub active_seal : (c : Core) (t : Transaction) → IsValid c → (account c.history).active 1 ≡ Some t → answer c (Seal 1) ≡ Sealed (length (account c.history).sealed + 1)
-active_seal c t valid e =
-    seal_answer c valid
-    ∙ ap (λ (o : Option Transaction). reply_of (call_refusal c.g0 (account c.history) o (Seal 1)) (Sealed (length (account c.history).sealed + 1))) e
-
--- a force is never refused
-pub force_answer : (c : Core) → IsValid c → answer c Force ≡ Durable (length (account c.history).sealed)
-force_answer c valid = answer_alone c Force valid (log_force c valid)
-
 -- session 1 has no transaction
 abbrev pub IsIdle : Core → Type 0
 IsIdle c = (account c.history).active 1 ≡ None
@@ -189,33 +155,6 @@ IsIdle c = (account c.history).active 1 ≡ None
 idle_entry : (c : Core) (event : Event) (reply : Reply) → (account_after (account c.history) (record { event = event; reply = reply })).active 1 ≡ None
     → (account (c.history ++ record { event = event; reply = reply } ∷ [])).active 1 ≡ None
 idle_entry c event reply e = ap (λ (a : Account). a.active 1) (account-append c.history (record { event = event; reply = reply })) ∙ e
-
-idle_after : (c : Core) (event : Event) (reply : Reply) → answer c event ≡ reply
-    → (account_after (account c.history) (record { event = event; reply = reply })).active 1 ≡ None → IsIdle (after c event)
-idle_after c event reply is e =
-    let P : Reply → Type 0 = λ r. (account_after (account c.history) (record { event = event; reply = r })).active 1 ≡ None in
-    ap (λ (l : List Entry). (account l).active 1) (after_history c event) ∙ idle_entry c event (answer c event) (subst P (sym is) e)
-
-ended_idle : (g0 : Graph) (a : Account) (o : Option Transaction) → a.active 1 ≡ o
-    → (account_after a (record { event = Abort 1; reply = reply_of (call_refusal g0 a o (Abort 1)) Aborted })).active 1 ≡ None
-ended_idle g0 a None e = e
-ended_idle g0 a (Some t) e = refl
-
--- an abort is never refused for want of room
-pub abort_answer : (c : Core) → IsValid c → answer c (Abort 1) ≡ reply_of (call_refusal c.g0 (account c.history) ((account c.history).active 1) (Abort 1)) Aborted
-abort_answer c valid = answer_alone c (Abort 1) valid (log_abort c valid)
-
--- the abort of an active transaction is answered `aborted`
-pub active_abort : (c : Core) (t : Transaction) → IsValid c → (account c.history).active 1 ≡ Some t → answer c (Abort 1) ≡ Aborted
-active_abort c t valid e = abort_answer c valid ∙ ap (λ (o : Option Transaction). reply_of (call_refusal c.g0 (account c.history) o (Abort 1)) Aborted) e
-
--- behind an abort session 1 has no transaction
-pub abort_idle : (c : Core) → IsValid c → IsIdle (after c (Abort 1))
-abort_idle c valid = idle_after c (Abort 1) _ (abort_answer c valid) (ended_idle c.g0 (account c.history) ((account c.history).active 1) refl)
-
--- a force leaves a session without a transaction without one
-pub force_idle : (c : Core) → IsValid c → IsIdle c → IsIdle (after c Force)
-force_idle c valid idle = idle_after c Force _ (force_answer c valid) idle
 
 -- Steps of session 1 reach a core that is valid, or at which the disk stopped or failed.
 pub valid_run : (c d : Core) (events : List Event) → IsReached c → AllByRecursion IsSingleSession events → IsRun c events d → IsReached d

@@ -57,11 +57,6 @@ need_nothing : (pending : List Record) → need pending [] ≡ 0
 need_nothing [] = refl
 need_nothing (p ∷ ps) = refl
 
--- a call of session 1
-pub single_call : (event : Event) → IsCall event → IsSingleSession event → session_of event ≡ 1
-single_call Force never one = absurd never
-single_call event is one = one
-
 -- What an event leaves that isn't refused agrees with its entry.
 abbrev Goes : Core → Event → Type 0
 Goes c event =
@@ -349,7 +344,3 @@ appended : (c : Core) (event : Event) → (event ≡ Force → ⊥) → Goes c e
 appended c event other h =
     let left = subst (λ (d : Core). Agrees (account_after (account c.history) (record { event = event; reply = granted (next_number c) c.g0 (account c.history) event })) d) (done_records c event other) h in
     AllByRecursion-behind IsRecord c.pending _ (AllByRecursion-behind IsRecord (records_of c.batches) _ left.told.good)
-
--- what an event appends that isn't refused has a spelling
-pub granted_records : (c : Core) (event : Event) → IsValid c → IsSingleSession event → (event ≡ Force → ⊥) → core_refusal c event ≡ None → AllByRecursion IsRecord (event_records c event)
-granted_records c event valid one other may = appended c event other (goes c event valid one (may_go c event valid may))

@@ -31,10 +31,6 @@ cause_on faults mid faults' stops mids stops' result last f s cause same_error =
   stopped = λ is. rose_since stops mids stops' s cause.stops_kept (cause.stopped (same_error Stopped is));
 }
 
--- the counts of two runs, of which the first ended well
-pub cause_then : {A B C : Type 0} (faults mid faults' stops mids stops' : ℕ) (first : Result C DiskError) (result : Result A DiskError) (last : Result B DiskError) → HasCause faults mid stops mids first → HasCause mid faults' mids stops' last → ((e : DiskError) → result ≡ Err e → last ≡ Err e) → HasCause faults faults' stops stops' result
-cause_then faults mid faults' stops mids stops' first result last before cause same_error = cause_on faults mid faults' stops mids stops' result last before.faults_kept before.stops_kept cause same_error
-
 -- counts of two kinds together
 pub rose_sum : (f s f' s' : ℕ) → f ≤ f' → s ≤ s' → Rose f f' → DiskRose f s f' s'
 rose_sum f s f' s' ff ss (inl up) = inl (omega arith)

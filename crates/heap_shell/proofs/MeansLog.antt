@@ -2,7 +2,6 @@
 use Rattle.std.proofs.Common.{◌≡◌, ◌≢◌, ℕ, ◌+◌, ◌<◌, cond, refl, List, [], ◌∷◌, ◌++◌, length, sym, ap, ◌∙◌, arith, length-append, append_assoc}
 use Rattle.std.specs.Prelude.{◌↔◌, IsTrue, nat_lt}
 use Rattle.std.proofs.lemmas.Bool.{lt-ltb, ltb-true}
-use Rattle.std.proofs.lemmas.List.{append-nil}
 use Rattle.std.proofs.lemmas.Grind.{flat_map-append}
 use Rattle.gated_log.specs.declared.Log.{Log}
 use Rattle.gated_log.specs.Log.{batches_bytes, hand}
@@ -50,16 +49,6 @@ some_waits log bs p keeps = waits_plain (hand_size log) p (hand_size-Keeps log b
 -- the log as it was
 pub keeps_same : (old new : Log) (bs : List (List Record)) (p : List Record) → SameLog old new (log_hand old) → Keeps old bs p → Keeps new bs p
 keeps_same old new bs p same keeps = record { tail = same.tail ∙ keeps.tail; head = keeps.head; four = keeps.four; items = same.in_hand ∙ keeps.items }
-
--- one record more
-pub keeps_more : (old new : Log) (bs : List (List Record)) (p : List Record) (r : Record) → SameLog old new (log_hand old ++ spelling r) → Keeps old bs p → Keeps new bs (p ++ r ∷ [])
-keeps_more old new bs p r same keeps = record {
-  tail = same.tail ∙ keeps.tail;
-  head = keeps.head;
-  four = keeps.four;
-  items = same.in_hand ∙ ap (λ (l : List ℕ). l ++ spelling r) keeps.items ∙ append_assoc keeps.head (spellings p) (spelling r)
-      ∙ ap (λ (l : List ℕ). keeps.head ++ l) (ap (λ (l : List ℕ). spellings p ++ l) (sym (append-nil (spelling r))) ∙ sym (flat_map-append spelling p (r ∷ [])));
-}
 
 -- more records
 pub keeps_all : (old new : Log) (bs : List (List Record)) (p more : List Record) → SameLog old new (log_hand old ++ spellings more) → Keeps old bs p → Keeps new bs (p ++ more)

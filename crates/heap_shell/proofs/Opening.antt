@@ -1,6 +1,6 @@
 -- What an opening finds in a legal image, and what it leaves.
-use Rattle.std.proofs.Common.{◌≡◌, ◌≢◌, ◌⊎◌, ⊎_elim, ℕ, ◌+◌, ◌≤◌, true, cond, List, [], ◌∷◌, length, get_or, Some, Result, Ok, Err, refl, sym, ap, ◌∙◌, subst, arith, max, length-append}
-use Rattle.std.specs.Prelude.{nat_lt, IsOk, IfOk, IfErr, if◌then◌else◌}
+use Rattle.std.proofs.Common.{◌≡◌, ◌≢◌, ◌⊎◌, ⊎_elim, ℕ, ◌+◌, ◌≤◌, true, cond, List, [], ◌∷◌, length, get_or, Some, Result, Ok, Err, refl, sym, ap, ◌∙◌, subst, arith, max}
+use Rattle.std.specs.Prelude.{nat_lt, IsOk, IfOk, IfErr}
 use Rattle.std.specs.List.{AllByRecursion}
 use Rattle.std.proofs.lemmas.Bool.{lt-ltb}
 use Rattle.disk_model.specs.Disk.{part, Only, Narrows, SameOutside}
@@ -10,20 +10,16 @@ use Rattle.gated_log.specs.declared.Log.{Log}
 use Rattle.gated_log.specs.declared.LogError.{LogError}
 use Rattle.gated_log.specs.declared.LogError.TheVariants as logging
 use Rattle.gated_log.specs.Log.{records_of, with_batch, HoldsBatches}
-use Rattle.gated_log.specs.LogCause.{log_device_error}
-use Rattle.gated_log.specs.LogLaws.{hand_size-Keeps}
 use Rattle.gated_log.specs.LogRoom.{used_bytes}
-use Rattle.gated_log.specs.LogState.{log_place, log_room, log_tail, log_hand, log_used, log_used_with, hand_size, IsHandEmpty, IsPlaced, Keeps}
+use Rattle.gated_log.specs.LogState.{log_place, log_room, log_tail, log_hand, log_used, log_used_with, IsHandEmpty, IsPlaced, Keeps}
 use Rattle.graph_model.specs.Graph.{Graph}
 use Rattle.image_plan.specs.declared.superblock.Super.{Super}
 use Rattle.image_plan.specs.Plan.{log_offset}
 use Rattle.log_records.specs.declared.Record.{Record}
-use Rattle.log_records.specs.Record.{spelling, spellings}
-use Rattle.log_records.specs.RecordLaws.{some_spelling}
+use Rattle.log_records.specs.Record.{spellings}
 use Rattle.log_machine.specs.declared.UndoEntry.{UndoEntry}
 use Rattle.log_machine.specs.Machine.{State, start, after_all, words, taken_back, undo_in, undo_reserve, rollback, abort_records}
 use Rattle.log_machine.specs.MachineLaws.{abort_length, commits-start, committed_words_at}
-use Rattle.heap_model.specs.Core.{force_calls}
 use Rattle.heap_model.specs.CoreLawsOpening.{rolled_words, rolled_legal, still_stands, rolled_stands}
 use Rattle.heap_model.specs.Image.{IsLegal, StandsFor}
 use Rattle.heap_model.specs.Opening.{rollback_in, rollback_of, rolled_back}
@@ -31,7 +27,6 @@ use Rattle.heap_shell.specs.declared.recovery.OpenError.{OpenError}
 use Rattle.heap_shell.specs.declared.recovery.OpenError.TheVariants.{NoMemory, NotHeap, Damaged, Disk}
 use Rattle.heap_shell.specs.declared.recovery.Reading.{Reading}
 use Rattle.heap_shell.specs.declared.recovery.Recovered.{Recovered}
-use Rattle.heap_shell.specs.Causes.{error_device}
 use Rattle.heap_shell.specs.Recovered.{rollback_after, IsRead, IsRecovered, IsFromOutside, IsFromImage, ErrorPasses, OpenPasses, open_error}
 
 -- a log that is not damaged fails by the outside
@@ -46,12 +41,6 @@ outside_unless NoMemory sound = tt
 outside_unless NotHeap sound = absurd (sound tt)
 outside_unless (Damaged at) sound = absurd (sound tt)
 outside_unless (Disk e) sound = tt
-
--- the disk's error is handed on
-pub same_device : (e : LogError) → error_device (open_error e) ≡ log_device_error e
-same_device logging.NoMemory = refl
-same_device (logging.BadBatch at) = refl
-same_device (logging.Disk e) = refl
 
 -- what holds of each of four words holds of all
 pub four_hold : (P : ℕ → Type 0) (l : List ℕ) (d : ℕ) → length l ≡ 4 → P (get_or l 0 d) → P (get_or l 1 d) → P (get_or l 2 d) → P (get_or l 3 d) → AllByRecursion P l
@@ -96,14 +85,6 @@ keeps_placed old new batches pending placed hand keeps = record { tail = placed.
 -- what is said of a log that lies where another does is said of that one
 pub placed_there : (old new : Log) (P : ℕ → ℕ → Type 0) → log_place new ≡ log_place old → log_room new ≡ log_room old → P (log_place new) (log_room new) → P (log_place old) (log_room old)
 placed_there old new P at room h = subst (P (log_place old)) room (let Q : ℕ → Type 0 = λ n. P n (log_room new) in subst Q at h)
-
-waiting_calls : (n : ℕ) (p : List Record) → n ≡ 4 + length (spellings p) → (if nat_lt 4 n then 4 else 0) ≡ force_calls p
-waiting_calls n [] is = ap (λ (k : ℕ). if nat_lt 4 k then 4 else 0) is
-waiting_calls n (r ∷ rs) is = ap (λ b. cond b 4 0) (lt-ltb 4 n (omega (arith, is, some_spelling r, length-append (spelling r) (spellings rs))))
-
--- the calls of a force of these records
-pub force_waiting : (log : Log) (batches : List (List Record)) (pending : List Record) → Keeps log batches pending → (if nat_lt 4 (hand_size log) then 4 else 0) ≡ force_calls pending
-force_waiting log batches pending keeps = waiting_calls (hand_size log) pending (hand_size-Keeps log batches pending keeps)
 
 -- nothing else can be left where the disk was only read
 pub only_still : (image now : List ℕ) (before may_leave : List ℕ → Type 0) → Only image before → now ≡ image → Narrows before may_leave → Only now may_leave

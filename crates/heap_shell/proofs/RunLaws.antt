@@ -7,37 +7,17 @@ use Rattle.disk_model.specs.Moments.{LeavesOnly}
 use Rattle.gate_slot.specs.Passing.{counted-add}
 use Rattle.graph_model.specs.declared.event.Event.{Event}
 use Rattle.image_plan.specs.declared.superblock.Super.{Super}
-use Rattle.heap_shell.specs.declared.format.FormatError.{FormatError}
 use Rattle.heap_shell.specs.declared.format.FormatError.TheVariants as format
 use Rattle.heap_shell.specs.declared.status.Status.{Status}
 use Rattle.heap_shell.specs.declared.status.Status.TheVariants as status
-use Rattle.heap_shell.specs.Causes.{DiskRose, IsInputError, IsPlayStatus}
+use Rattle.heap_shell.specs.Causes.{DiskRose, IsPlayStatus}
 use Rattle.heap_model.specs.Core.{Core}
 use Rattle.heap_model.specs.CoreCrash.{HasCommits}
 use Rattle.heap_model.specs.CoreRuns.{total_calls}
-use Rattle.heap_shell.specs.Headline.{made_core, let_through, HasPassed, IsEndOfPlay, IsSound, SinceMade, IsPlayed, IsUnmade}
+use Rattle.heap_shell.specs.Headline.{made_core, let_through, HasPassed, IsEndOfPlay, IsSound, SinceMade, IsPlayed}
 use Rattle.heap_shell.specs.Format.{IsFormatting}
 use Rattle.heap_model.specs.Image.{IsLegal}
-use Rattle.heap_shell.specs.StatusOf.{format_status}
 use Rattle.heap_shell.proofs.Causes.{rose_since}
-
--- a run that has not read its script has made no heap
-pub input_unmade : (before now : ℕ) (e : Status) → IsInputError before now e → IsUnmade e
-input_unmade before now status.Done h = absurd h
-input_unmade before now status.NoMemory h = tt
-input_unmade before now status.Usage h = absurd h
-input_unmade before now (status.Script line) h = tt
-input_unmade before now status.ReadFault h = tt
-input_unmade before now status.WriteFault h = absurd h
-input_unmade before now status.DiskFault h = absurd h
-input_unmade before now status.NotHeap h = absurd h
-input_unmade before now (status.Damaged at) h = absurd h
-input_unmade before now (status.TooSmall size need) h = absurd h
-
--- nor one that could not make it
-pub format_unmade : (e : FormatError) → IsUnmade (format_status e)
-format_unmade (format.TooSmall size need) = tt
-format_unmade (format.Disk e) = tt
 
 -- what passed, counted from an earlier moment on
 passed_more : (stop : Option ℕ) (c : Core) (k calls : ℕ) (passed passed' : ℕ → Type 0) → ((n : ℕ) → passed n → passed' n) → HasPassed stop c k calls passed → HasPassed stop c k calls passed'

@@ -15,32 +15,6 @@ use Rattle.heap_shell.specs.Output.{WroteText, status_after}
 use Rattle.heap_shell.specs.Recovered.{IsFromOutside}
 use Rattle.heap_shell.specs.StatusOf.{open_status}
 
--- what suffices for the fault of the disk and of the sink may be weaker
-pub weaker_status : (P P' Q Q' : Type 0) (s : Status) → (P → P') → (Q → Q') → IsPlayStatus P Q s → IsPlayStatus P' Q' s
-weaker_status P P' Q Q' Done p q h = tt
-weaker_status P P' Q Q' NoMemory p q h = tt
-weaker_status P P' Q Q' Usage p q h = absurd h
-weaker_status P P' Q Q' (Script line) p q h = absurd h
-weaker_status P P' Q Q' ReadFault p q h = absurd h
-weaker_status P P' Q Q' WriteFault p q h = q h
-weaker_status P P' Q Q' DiskFault p q h = p h
-weaker_status P P' Q Q' NotHeap p q h = tt
-weaker_status P P' Q Q' (Damaged at) p q h = tt
-weaker_status P P' Q Q' (TooSmall size need) p q h = absurd h
-
--- an output error ends a play
-pub output_status : (P : Type 0) (before now : ℕ) (s : Status) → IsOutputError before now s → IsPlayStatus P (Rose before now) s
-output_status P before now Done h = absurd h
-output_status P before now NoMemory h = tt
-output_status P before now Usage h = absurd h
-output_status P before now (Script line) h = absurd h
-output_status P before now ReadFault h = absurd h
-output_status P before now WriteFault h = h
-output_status P before now DiskFault h = absurd h
-output_status P before now NotHeap h = absurd h
-output_status P before now (Damaged at) h = absurd h
-output_status P before now (TooSmall size need) h = absurd h
-
 -- an output error ends a play
 pub output_end : (before now : ℕ) (s : Status) → IsOutputError before now s → IsEndOfPlay s
 output_end before now Done h = absurd h
