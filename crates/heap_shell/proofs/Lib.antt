@@ -1,14 +1,4 @@
 mod Causes
-mod Empty
-mod FieldRead
-mod MeansActive
-mod MeansForce
-mod MeansLeft
-mod MeansLog
-mod MeansOpen
-mod MeansRefusal
-mod MeansStep
-mod Opening
 mod PlayEnding
 mod PlayEnds
 mod PlayEvent
@@ -17,10 +7,6 @@ mod PlayLaws
 mod PlayLoop
 mod PlayOpen
 mod PrintRecovered
-mod Replay
-mod Room
-mod RootText
 mod RunLaws
 mod Statuses
 mod Written
-mod Zeros

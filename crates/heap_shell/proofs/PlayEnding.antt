@@ -6,13 +6,13 @@ use Rattle.graph_model.specs.declared.event.Event.TheVariants.{Abort, Force}
 use Rattle.graph_model.specs.Transaction.{Transaction}
 use Rattle.image_plan.specs.declared.superblock.Super.{Super}
 use Rattle.log_records.specs.declared.Record.{Record}
-use Rattle.heap_shell.specs.declared.heap.Heap.{Heap}
+use Rattle.heap_core.specs.declared.heap.Heap.{Heap}
 use Rattle.heap_model.specs.Core.{Core}
 use Rattle.heap_model.specs.CoreCrash.{HasCommits}
 use Rattle.heap_model.specs.CoreLawsGrow.{keeps_has}
 use Rattle.heap_model.specs.CoreValid.{IsValid}
 use Rattle.heap_model.specs.Ending.{abort_of, force_of}
-use Rattle.heap_shell.specs.Means.{IsHeap}
+use Rattle.heap_core.specs.Means.{IsHeap}
 use Rattle.heap_shell.proofs.PlayEvent.{heap_leaves}
 
 -- no transaction is active

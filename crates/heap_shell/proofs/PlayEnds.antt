@@ -16,19 +16,20 @@ use Rattle.graph_model.specs.SlowHeap.{IsSingleSession}
 use Rattle.graph_model.specs.Transaction.{Transaction, serial, serial_replies}
 use Rattle.graph_model.specs.History.{sealed, commits, acknowledged}
 use Rattle.image_plan.specs.declared.superblock.Super.{Super}
-use Rattle.heap_shell.specs.declared.heap.Heap.{Heap}
+use Rattle.heap_core.specs.declared.heap.Heap.{Heap}
 use Rattle.heap_shell.specs.declared.play.Ended.{Ended}
 use Rattle.heap_shell.specs.declared.play.Ended.TheVariants as ended
 use Rattle.heap_shell.specs.declared.status.Status.{Status}
 use Rattle.heap_shell.specs.declared.status.Status.TheVariants as status
-use Rattle.heap_shell.specs.Causes.{DiskRose, IsOutputError, reply_device}
+use Rattle.heap_shell.specs.Causes.{DiskRose, IsOutputError}
+use Rattle.heap_core.specs.Causes.{reply_device}
 use Rattle.heap_model.specs.Core.{Core, with_entry, IsRun}
 use Rattle.heap_model.specs.CoreCrash.{KeepsCommits, HasCommits}
 use Rattle.heap_model.specs.CoreLawsCalls.{total_calls-append}
 use Rattle.heap_model.specs.CoreLawsCrash.{commits-sealed}
 use Rattle.heap_model.specs.CoreLawsEnding.{total_few}
 use Rattle.heap_model.specs.CoreLawsGrow.{grows}
-use Rattle.heap_shell.specs.CoreLawsGraph.{valid_graph}
+use Rattle.heap_core.specs.CoreLawsGraph.{valid_graph}
 use Rattle.heap_shell.specs.CoreLawsPlay.{made_valid, ready_behind, ready_front, makes_run}
 use Rattle.heap_model.specs.CoreLawsReplies.{answers_fresh, run_answers, replies_law}
 use Rattle.heap_model.specs.CoreLawsRun.{reached_agrees}
@@ -37,7 +38,8 @@ use Rattle.heap_model.specs.CoreRuns.{after_events, total_calls}
 use Rattle.heap_model.specs.CoreValid.{IsValid, IsReached}
 use Rattle.heap_shell.specs.Headline.{made_core, graph_text, recovered_text, recovered_line, IsWhole, IsCutBy, HasMade, StopsLast, IsExact, IsEndOfPlay, IsPlayed}
 use Rattle.heap_shell.specs.Playable.{IsPlayable}
-use Rattle.heap_shell.specs.Output.{WroteText, HasGraph, Recovers, status_after}
+use Rattle.heap_shell.specs.Output.{WroteText, Recovers, status_after}
+use Rattle.heap_core.specs.CoreGraph.{HasGraph}
 use Rattle.heap_shell.specs.Play.{AreReady, MakesAll, MakesShort, Makes, Ends, Plays, Wrote, lines_text, WroteFront, WroteLines}
 use Rattle.heap_shell.proofs.Causes.{disk_rose}
 use Rattle.heap_shell.proofs.PlayEvent.{heap_leaves}

@@ -19,20 +19,20 @@ use Rattle.graph_model.specs.PlainLaws.{IsSoundReply, granted_sound, sound_eithe
 use Rattle.graph_model.specs.Text.{line}
 use Rattle.image_plan.specs.declared.superblock.Super.{Super}
 use Rattle.log_records.specs.declared.Record.{Record}
-use Rattle.heap_shell.specs.declared.heap.Heap.{Heap}
+use Rattle.heap_core.specs.declared.heap.Heap.{Heap}
 use Rattle.heap_shell.specs.declared.play.Ended.{Ended}
 use Rattle.heap_shell.specs.declared.play.Ended.TheVariants as ended
 use Rattle.heap_shell.specs.declared.status.Status.{Status}
-use Rattle.heap_shell.specs.Causes.{reply_device}
+use Rattle.heap_core.specs.Causes.{reply_device}
 use Rattle.heap_model.specs.Core.{Core, next_number, answer, with_entry, after, IsCutShort, IsStep, force_calls, calls_if, calls}
 use Rattle.heap_model.specs.CoreCrash.{KeepsCommits, HasCommits}
 use Rattle.heap_model.specs.CoreLawsGrow.{has_commits_on, keeps_has}
 use Rattle.heap_model.specs.CoreLawsRun.{step_history, valid_step}
 use Rattle.heap_model.specs.CoreLawsStep.{core_refusal-HasNoFault}
 use Rattle.heap_model.specs.CoreValid.{IsReached}
-use Rattle.heap_shell.specs.Means.{IsHeap}
+use Rattle.heap_core.specs.Means.{IsHeap}
 use Rattle.heap_shell.specs.Play.{AreReady, MakesAll, MakesShort, Makes, Ends, Plays, ended_by, lines_text, WroteFront, WroteLines}
-use Rattle.heap_shell.proofs.MeansLeft.{heap_keeps}
+use Rattle.heap_core.proofs.MeansLeft.{heap_keeps}
 
 -- a reply that tells no fault of the disk
 sound_device : (reply : Reply) → IsSoundReply reply → (reply_device reply ≡ Ok tt) × (ended_by reply ≡ ended.Whole)

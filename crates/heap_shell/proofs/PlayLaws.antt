@@ -10,11 +10,11 @@ use Rattle.graph_model.specs.declared.reply.Refusal.TheVariants.{DiskFault, Stop
 use Rattle.graph_model.specs.declared.reply.Reply.{Reply}
 use Rattle.graph_model.specs.declared.reply.Reply.TheVariants.{Refused}
 use Rattle.image_plan.specs.declared.superblock.Super.{Super}
-use Rattle.heap_shell.specs.declared.heap.Heap.{Heap}
+use Rattle.heap_core.specs.declared.heap.Heap.{Heap}
 use Rattle.heap_shell.specs.declared.play.Ended.{Ended}
 use Rattle.heap_shell.specs.declared.play.Ended.TheVariants as ended
 use Rattle.heap_shell.specs.declared.status.Status.{Status}
-use Rattle.heap_shell.specs.Causes.{reply_device}
+use Rattle.heap_core.specs.Causes.{reply_device}
 use Rattle.heap_model.specs.Core.{Core, with_entry, IsCutShort, calls}
 use Rattle.heap_model.specs.CoreCrash.{HasCommits}
 use Rattle.heap_model.specs.CoreRuns.{after_events, total_calls}
@@ -22,9 +22,9 @@ use Rattle.heap_model.specs.CoreValid.{IsValid}
 use Rattle.heap_model.specs.CoreLawsCalls.{after_events-append, total_calls-append}
 use Rattle.heap_model.specs.CoreLawsGrow.{has_commits_on}
 use Rattle.heap_shell.specs.CoreLawsPlay.{ready_behind, makes_run}
-use Rattle.heap_shell.specs.Means.{IsHeap}
+use Rattle.heap_core.specs.Means.{IsHeap}
 use Rattle.heap_shell.specs.Play.{AreReady, MakesAll, MakesShort, Makes, Ends, Plays}
-use Rattle.heap_shell.proofs.Causes.{cause_on}
+use Rattle.heap_core.proofs.Causes.{cause_on}
 
 -- the passes of two runs, one after the other
 counted_then : (m n both before mid now : ℕ) → n + m ≡ both → mid ≡ counted n before → now ≡ counted m mid → now ≡ counted both before

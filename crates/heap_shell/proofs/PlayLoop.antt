@@ -5,14 +5,14 @@ use Rattle.std.proofs.lemmas.Grind.{flat_map-append}
 use Rattle.disk_model.specs.declared.disk.Disk.{Ghosts}
 use Rattle.graph_model.specs.declared.event.Event.{Event}
 use Rattle.image_plan.specs.declared.superblock.Super.{Super}
-use Rattle.heap_shell.specs.declared.heap.Heap.{Heap}
+use Rattle.heap_core.specs.declared.heap.Heap.{Heap}
 use Rattle.heap_shell.specs.declared.play.Ended.{Ended}
 use Rattle.heap_shell.specs.declared.play.Ended.TheVariants as ended
 use Rattle.script_text.specs.declared.line.Line.{Line}
 use Rattle.heap_shell.specs.declared.status.Status.{Status}
 use Rattle.heap_model.specs.Core.{Core}
 use Rattle.heap_shell.specs.CoreLawsPlay.{ready_front}
-use Rattle.heap_shell.specs.Means.{IsHeap}
+use Rattle.heap_core.specs.Means.{IsHeap}
 use Rattle.heap_shell.specs.Play.{AreReady, Plays}
 use Rattle.script_text.specs.Line.{line_events, events}
 use Rattle.heap_shell.proofs.PlayLaws.{plays_on, plays_then}

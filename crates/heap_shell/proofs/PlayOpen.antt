@@ -8,9 +8,9 @@ use Rattle.graph_model.specs.declared.event.Event.{Event}
 use Rattle.graph_model.specs.Graph.{Graph}
 use Rattle.graph_model.specs.Transaction.{serial}
 use Rattle.graph_model.specs.History.{commits}
-use Rattle.heap_shell.specs.declared.heap.Heap.{Heap}
+use Rattle.heap_core.specs.declared.heap.Heap.{Heap}
 use Rattle.heap_shell.specs.declared.play.Ended.{Ended}
-use Rattle.heap_shell.specs.declared.recovery.OpenError.{OpenError}
+use Rattle.heap_recovery.specs.declared.recovery.OpenError.{OpenError}
 use Rattle.heap_shell.specs.declared.status.Status.{Status}
 use Rattle.heap_model.specs.CoreCrash.{KeepsCommits, HasCommits}
 use Rattle.heap_model.specs.CoreLawsCrash.{crash_law}
@@ -24,7 +24,7 @@ use Rattle.heap_shell.specs.Playable.{IsPlayable}
 use Rattle.heap_model.specs.Image.{IsLegal, StandsFor}
 use Rattle.log_machine.specs.Machine as machine
 use Rattle.heap_shell.specs.Play.{AreReady, Plays}
-use Rattle.heap_shell.specs.Recovered.{IsFromOutside}
+use Rattle.heap_recovery.specs.Recovered.{IsFromOutside}
 use Rattle.heap_shell.specs.StatusOf.{open_status}
 use Rattle.heap_shell.proofs.PlayEnds.{run_reached}
 use Rattle.heap_shell.proofs.Statuses.{open_end, open_not_done}

@@ -7,7 +7,7 @@ use Rattle.gated_log.specs.Log.{records_of}
 use Rattle.graph_model.specs.Graph.{Graph}
 use Rattle.graph_model.specs.Transaction.{serial}
 use Rattle.graph_model.specs.History.{commits}
-use Rattle.heap_shell.specs.declared.recovery.OpenError.{OpenError}
+use Rattle.heap_recovery.specs.declared.recovery.OpenError.{OpenError}
 use Rattle.heap_shell.specs.declared.status.Status.{Status}
 use Rattle.heap_shell.specs.Causes.{IsOutputError}
 use Rattle.heap_model.specs.Core.{Core}
@@ -18,8 +18,9 @@ use Rattle.heap_shell.specs.Headline.{recovered_line, graph_text}
 use Rattle.heap_model.specs.Image.{StandsFor, graph_of_words}
 use Rattle.heap_model.specs.Opening.{opened, rolled_back, opening_calls}
 use Rattle.log_machine.specs.Machine.{committed_words}
-use Rattle.heap_shell.specs.Output.{WroteText, HasGraph, Recovers, status_after}
-use Rattle.heap_shell.specs.Recovered.{IsFromOutside}
+use Rattle.heap_shell.specs.Output.{WroteText, Recovers, status_after}
+use Rattle.heap_core.specs.CoreGraph.{HasGraph}
+use Rattle.heap_recovery.specs.Recovered.{IsFromOutside}
 use Rattle.heap_shell.specs.StatusOf.{open_status}
 use Rattle.heap_model.specs.ValueWord.{IsNumberWord}
 use Rattle.heap_shell.proofs.Statuses.{written_end, wrote_all, open_end, open_not_done}

@@ -7,7 +7,7 @@ use Rattle.disk_model.specs.Moments.{LeavesOnly}
 use Rattle.gate_slot.specs.Passing.{counted-add}
 use Rattle.graph_model.specs.declared.event.Event.{Event}
 use Rattle.image_plan.specs.declared.superblock.Super.{Super}
-use Rattle.heap_shell.specs.declared.format.FormatError.TheVariants as format
+use Rattle.heap_core.specs.declared.formatting.FormatError.TheVariants as format
 use Rattle.heap_shell.specs.declared.status.Status.{Status}
 use Rattle.heap_shell.specs.declared.status.Status.TheVariants as status
 use Rattle.heap_shell.specs.Causes.{DiskRose, IsPlayStatus}
@@ -15,9 +15,9 @@ use Rattle.heap_model.specs.Core.{Core}
 use Rattle.heap_model.specs.CoreCrash.{HasCommits}
 use Rattle.heap_model.specs.CoreRuns.{total_calls}
 use Rattle.heap_shell.specs.Headline.{made_core, let_through, HasPassed, IsEndOfPlay, IsSound, SinceMade, IsPlayed}
-use Rattle.heap_shell.specs.Format.{IsFormatting}
+use Rattle.heap_core.specs.Format.{IsFormatting}
 use Rattle.heap_model.specs.Image.{IsLegal}
-use Rattle.heap_shell.proofs.Causes.{rose_since}
+use Rattle.heap_core.proofs.Causes.{rose_since}
 
 -- what passed, counted from an earlier moment on
 passed_more : (stop : Option ℕ) (c : Core) (k calls : ℕ) (passed passed' : ℕ → Type 0) → ((n : ℕ) → passed n → passed' n) → HasPassed stop c k calls passed → HasPassed stop c k calls passed'

@@ -7,12 +7,13 @@ use Rattle.heap_shell.specs.declared.status.Status.TheVariants.{Done, NoMemory, 
 use Rattle.disk_model.specs.declared.disk.DiskError.{DiskError}
 use Rattle.disk_model.specs.declared.disk.DiskError.TheVariants.{Failed, Stopped}
 use Rattle.disk_model.specs.Disk.{HasCause}
-use Rattle.heap_shell.specs.declared.recovery.OpenError.{OpenError}
-use Rattle.heap_shell.specs.declared.recovery.OpenError.TheVariants as opening
-use Rattle.heap_shell.specs.Causes.{IsOutputError, IsPlayStatus, error_device}
+use Rattle.heap_recovery.specs.declared.recovery.OpenError.{OpenError}
+use Rattle.heap_recovery.specs.declared.recovery.OpenError.TheVariants as opening
+use Rattle.heap_shell.specs.Causes.{IsOutputError, IsPlayStatus}
+use Rattle.heap_recovery.specs.Causes.{error_device}
 use Rattle.heap_shell.specs.Headline.{IsEndOfPlay}
 use Rattle.heap_shell.specs.Output.{WroteText, status_after}
-use Rattle.heap_shell.specs.Recovered.{IsFromOutside}
+use Rattle.heap_recovery.specs.Recovered.{IsFromOutside}
 use Rattle.heap_shell.specs.StatusOf.{open_status}
 
 -- an output error ends a play

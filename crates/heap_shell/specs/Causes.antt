@@ -7,38 +7,14 @@ use Rattle.disk_model.specs.declared.disk.DiskError.TheVariants as device
 use Rattle.graph_model.specs.declared.reply.Refusal.TheVariants.{DiskFault, Stopped}
 use Rattle.graph_model.specs.declared.reply.Reply.{Reply}
 use Rattle.graph_model.specs.declared.reply.Reply.TheVariants.{Refused}
-use Rattle.heap_shell.specs.declared.recovery.OpenError.{OpenError}
-use Rattle.heap_shell.specs.declared.recovery.OpenError.TheVariants as opening
+use Rattle.heap_recovery.specs.declared.recovery.OpenError.{OpenError}
+use Rattle.heap_recovery.specs.declared.recovery.OpenError.TheVariants as opening
 use Rattle.heap_shell.specs.declared.play.Ended.{Ended}
 use Rattle.heap_shell.specs.declared.play.Ended.TheVariants as ended
 use Rattle.script_text.specs.declared.script.ScriptError.TheVariants.{Fault}
 use Rattle.heap_shell.specs.declared.status.Status.{Status}
 use Rattle.heap_shell.specs.declared.status.Status.TheVariants as status
 use Rattle.script_text.specs.Script.{script}
-
--- what the disk answered in a step
-abbrev pub reply_device : Reply → Result (Unit {0}) DiskError
-reply_device (Refused DiskFault) = Err device.Failed
-reply_device (Refused Stopped) = Err device.Stopped
-reply_device reply = Ok tt
-
-abbrev pub step_device : Result Reply AllocError → Result (Unit {0}) DiskError
-step_device (Ok reply) = reply_device reply
-step_device (Err e) = Ok tt
-
--- what the disk answered in an opening
-abbrev pub error_device : OpenError → Result (Unit {0}) DiskError
-error_device (opening.Disk e) = Err e
-error_device e = Ok tt
-
-abbrev pub open_device : {T : Type 0} → Result T OpenError → Result (Unit {0}) DiskError
-open_device (Ok x) = Ok tt
-open_device (Err e) = error_device e
-
--- what the disk answered in an opening that keeps or gives back a disk
-abbrev pub opened_device : {H D : Type 0} → Result H (OpenError × D) → Result (Unit {0}) DiskError
-opened_device (Ok heap) = Ok tt
-opened_device (Err e) = error_device e.0
 
 -- what the disk answered in a play
 abbrev pub ended_device : Ended → Result (Unit {0}) DiskError

@@ -7,7 +7,7 @@ use Rattle.script_text.specs.declared.line.Line.{Line}
 use Rattle.script_text.specs.Line.{events}
 use Rattle.script_text.specs.Script.{script}
 use Rattle.script_text.specs.ScriptLaws.{script_single, script_few}
-use Rattle.heap_shell.specs.declared.heap.Heap.{Heap}
+use Rattle.heap_core.specs.declared.heap.Heap.{Heap}
 use Rattle.heap_model.specs.Core.{Core, IsStep, IsRun}
 use Rattle.heap_model.specs.CoreRuns.{after_events}
 use Rattle.heap_model.specs.CoreValid.{IsValid, IsReached}

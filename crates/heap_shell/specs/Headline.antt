@@ -24,7 +24,7 @@ use Rattle.heap_model.specs.CoreReplies.{call_replies_of}
 use Rattle.heap_model.specs.CoreRuns.{after_events, total_calls, StopsAt}
 use Rattle.heap_model.specs.Ending.{all_events}
 use Rattle.heap_model.specs.Opening.{opening_calls}
-use Rattle.heap_shell.specs.Format.{IsFormatting}
+use Rattle.heap_core.specs.Format.{IsFormatting}
 use Rattle.heap_model.specs.Image.{IsLegal}
 use Rattle.heap_shell.specs.Play.{lines_text, WroteFront, WroteLines}
 use Rattle.script_text.specs.Line.{events}

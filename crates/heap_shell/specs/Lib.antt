@@ -1,17 +1,9 @@
 pub mod Causes
 pub mod Command
-pub mod CoreLawsGraph
 pub mod CoreLawsPlay
-pub mod Format
-pub mod GivenBack
-pub mod HeapState
 pub mod Headline
-pub mod Means
 pub mod Output
 pub mod Play
 pub mod Playable
-pub mod Recovered
-pub mod Reserve
 pub mod Status
 pub mod StatusOf
-pub mod Working

@@ -24,12 +24,6 @@ abbrev pub status_after : Result (Unit {0}) Status → Status
 status_after (Ok nothing) = Done
 status_after (Err status) = status
 
--- A core that has not failed, whose commits leave nothing but numbers in the root's fields, has this graph.
-pub record HasGraph (c : Core) (g : Graph) : Type 0 where
-  pub unfailed : (account c.history).failed ≡ None
-  pub plain : AllByRecursion IsNumberWord (drop 2 (committed_words (all_records c)))
-  pub is : graph_of (all_records c) ≡ g
-
 -- Of an image of a core's first commits their number and their graph were written, and a crash still leaves first commits.
 pub record Recovers (c : Core) (result : Status) (may_leave : List ℕ → Type 0) (passed : ℕ → Type 0) (told : Bool) (before after : List ℕ) : Type 0 where
   pub end : IsEndOfPlay result

@@ -1,17 +1,9 @@
 -- What the program says of how a run ended.
 use Rattle.std.specs.Prelude.{ℕ, List, ◌++◌, codes}
 use Rattle.std.specs.Fmt.{decimal}
-use Rattle.heap_shell.specs.declared.status.At.{At}
-use Rattle.heap_shell.specs.declared.status.At.TheVariants.{Batch, Rec, Reserve, Page, Address}
+use Rattle.heap_recovery.specs.At.{at_text}
 use Rattle.heap_shell.specs.declared.status.Status.{Status}
 use Rattle.heap_shell.specs.declared.status.Status.TheVariants.{Done, NoMemory, Usage, Script, ReadFault, WriteFault, DiskFault, NotHeap, Damaged, TooSmall}
-
-abbrev pub at_text : At → List ℕ
-at_text (Batch offset) = codes "batch " ++ decimal offset
-at_text (Rec lsn) = codes "record " ++ decimal lsn
-at_text Reserve = codes "reserve"
-at_text (Page page) = codes "page " ++ decimal page
-at_text (Address address) = codes "address " ++ decimal address
 
 abbrev pub status_text : Status → List ℕ
 status_text Done = codes "done"

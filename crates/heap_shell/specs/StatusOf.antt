@@ -1,10 +1,10 @@
 -- The status that an error ends a run with.
 use Rattle.heap_io.specs.declared.reading.TakeAllError.{TakeAllError}
 use Rattle.heap_io.specs.declared.reading.TakeAllError.TheVariants as taking
-use Rattle.heap_shell.specs.declared.format.FormatError.{FormatError}
-use Rattle.heap_shell.specs.declared.format.FormatError.TheVariants as format
-use Rattle.heap_shell.specs.declared.recovery.OpenError.{OpenError}
-use Rattle.heap_shell.specs.declared.recovery.OpenError.TheVariants as opening
+use Rattle.heap_core.specs.declared.formatting.FormatError.{FormatError}
+use Rattle.heap_core.specs.declared.formatting.FormatError.TheVariants as format
+use Rattle.heap_recovery.specs.declared.recovery.OpenError.{OpenError}
+use Rattle.heap_recovery.specs.declared.recovery.OpenError.TheVariants as opening
 use Rattle.script_text.specs.declared.script.ScriptError.{ScriptError}
 use Rattle.script_text.specs.declared.script.ScriptError.TheVariants as reading
 use Rattle.heap_shell.specs.declared.status.Status.{Status}

@@ -2,23 +2,15 @@
 //! graph that is reached from the root.
 #![tactic(auto)]
 
-mod active;
 mod command;
-mod format;
-mod graph_text;
-mod heap;
-mod history;
-mod log_room;
 mod play;
-mod recovery;
 mod run;
 mod status;
-mod working;
 
 use disk_model::{MemoryDisk, Pick};
 use heap_io::{StdSink, StdSource};
 pub use run::run;
-pub use status::{At, Status};
+pub use status::Status;
 use std::alloc::{AllocError, Global};
 use std::env::{self, Env};
 use std::io;
@@ -75,8 +67,6 @@ fn main(rt: HostRuntime) -> ExitCode {
     ExitCode::from(status.code())
 }
 
-#[cfg(test)]
-mod openings;
 #[cfg(test)]
 mod stops;
 #[cfg(test)]

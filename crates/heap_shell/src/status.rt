@@ -1,23 +1,9 @@
 //! How a run ends.
 ghost use Rattle.std.specs.Prelude.{◌≡◌, Some};
-ghost use Rattle.heap_shell.specs.Status.{at_text, status_text, status_code};
+ghost use Rattle.heap_shell.specs.Status.{status_text, status_code};
 
+use heap_recovery::At;
 use std::fmt;
-
-/// Where an image is damaged: what comes first in the order in which it is checked.
-#[derive(Clone, Copy, Debug, PartialEq, Eq)]
-pub enum At {
-    /// The batch at that offset in the log doesn't lie within the log or doesn't hold whole records.
-    Batch(u64),
-    /// The record of that LSN can't follow those before it.
-    Rec(u64),
-    /// The log has no room for the rollback of what was not committed.
-    Reserve,
-    /// The page of that number is ahead of the log.
-    Page(u32),
-    /// No object stands as it should at that word address.
-    Address(u32),
-}
 
 /// How a run ended.
 #[derive(Clone, Copy, Debug, PartialEq, Eq)]
@@ -60,20 +46,6 @@ impl Status {
             Status::NotHeap => 7,
             Status::Damaged { .. } => 8,
             Status::TooSmall { .. } => 9,
-        }
-    }
-}
-
-impl fmt::Display for At {
-    ghost output = { λ at. Some (at_text at) };
-
-    fn fmt<W: fmt::Write>(&self, f: &mut fmt::Formatter<W>) -> fmt::Result {
-        match self {
-            At::Batch(offset) => write!(f, "batch {offset}"),
-            At::Rec(lsn) => write!(f, "record {lsn}"),
-            At::Reserve => f.write_str("reserve"),
-            At::Page(page) => write!(f, "page {page}"),
-            At::Address(address) => write!(f, "address {address}"),
         }
     }
 }

@@ -5,8 +5,8 @@ use Rattle.disk_model.specs.Disk.{HasCause}
 use Rattle.image_plan.specs.declared.superblock.Super.{Super}
 use Rattle.heap_shell.specs.declared.play.Ended.TheVariants as ended
 use Rattle.heap_model.specs.Core.{Core}
-use Rattle.heap_shell.specs.HeapState.{heap_disk}
-use Rattle.heap_shell.specs.Means.{IsHeap}
+use Rattle.heap_core.specs.HeapState.{heap_disk}
+use Rattle.heap_core.specs.Means.{IsHeap}
 use Rattle.heap_shell.specs.Play.{AreReady, Plays}
 use Rattle.script_text.specs.Line.{events}
 use Rattle.heap_shell.proofs.play.play_lines.Given as goal

@@ -8,8 +8,9 @@ use Rattle.disk_model.specs.Moments.{LeavesOnly, weaker}
 use Rattle.gate_slot.specs.Passing.{counted-add}
 use Rattle.heap_shell.specs.declared.status.Status.{Status}
 use Rattle.heap_shell.specs.declared.status.Status.TheVariants as status
-use Rattle.heap_shell.specs.declared.recovery.OpenError.TheVariants as opening
-use Rattle.heap_shell.specs.Causes.{DiskRose, IsPlayStatus, error_device}
+use Rattle.heap_recovery.specs.declared.recovery.OpenError.TheVariants as opening
+use Rattle.heap_shell.specs.Causes.{DiskRose, IsPlayStatus}
+use Rattle.heap_recovery.specs.Causes.{error_device}
 use Rattle.heap_model.specs.CoreCrash.{KeepsCommits, HasCommits}
 use Rattle.heap_model.specs.CoreLawsGrow.{keeps_has}
 use Rattle.heap_model.specs.CoreRuns.{total_calls}
@@ -17,7 +18,7 @@ use Rattle.heap_shell.specs.CoreLawsPlay.{made_valid}
 use Rattle.heap_shell.specs.Headline.{made_super, made_core, IsExact}
 use Rattle.heap_model.specs.Image.{IsLegal}
 use Rattle.script_text.specs.Line.{events}
-use Rattle.heap_shell.proofs.Causes.{rose_within, rose_until}
+use Rattle.heap_core.proofs.Causes.{rose_within, rose_until}
 use Rattle.heap_shell.proofs.PlayEnds.{kept, all_lines, some_lines, ends_early, ends_recovered, ends_made, exact_some, passes_some, lines_more}
 use Rattle.heap_shell.proofs.PlayFuse.{same_disk, same_limit, fuse_since, fuse_passes}
 use Rattle.heap_shell.proofs.PlayOpen.{new_stands, opened_commits, opening_keeps, opening_then, ends_unopened, since_made}

@@ -7,7 +7,7 @@ use Rattle.heap_model.specs.CoreCrash.{KeepsCommits}
 use Rattle.heap_model.specs.Image.{StandsFor}
 use Rattle.heap_model.specs.Opening.{opening_calls}
 use Rattle.heap_shell.specs.Headline.{recovered_line, graph_text}
-use Rattle.heap_shell.specs.HeapState.{commits_of}
+use Rattle.heap_core.specs.HeapState.{commits_of}
 use Rattle.heap_shell.specs.Output.{WroteText}
 use Rattle.heap_shell.proofs.PrintRecovered.{first, still, opened_graph, recovers_nothing, recovers_first}
 use Rattle.heap_shell.proofs.run.print_recovered.Goals as goal

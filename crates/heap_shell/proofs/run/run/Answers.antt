@@ -6,7 +6,7 @@ use Rattle.heap_shell.specs.Headline.{made_super, made_core}
 use Rattle.heap_shell.specs.Playable.{IsPlayable}
 use Rattle.script_text.specs.Line.{events}
 use Rattle.script_text.specs.Script.{script}
-use Rattle.heap_shell.proofs.Causes.{rose_since}
+use Rattle.heap_core.proofs.Causes.{rose_since}
 use Rattle.heap_shell.proofs.RunLaws.{made_played, end_sound, end_done}
 use Rattle.heap_shell.proofs.run.run.Goals as goal
 

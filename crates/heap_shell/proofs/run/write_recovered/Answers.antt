@@ -1,7 +1,7 @@
 use Rattle.std.proofs.Common.{◌≡◌, ℕ, ◌-◌, List, ◌++◌, ◌∙◌, ap, subst}
 use Rattle.std.specs.Prelude.{string_bytes}
 use Rattle.heap_shell.specs.Headline.{recovered_line, graph_text}
-use Rattle.heap_shell.specs.HeapState.{commits_of}
+use Rattle.heap_core.specs.HeapState.{commits_of}
 use Rattle.heap_shell.proofs.Written.{wrote_nothing, wrote_front, wrote_less, wrote_then}
 use Rattle.heap_shell.proofs.run.write_recovered.Goals as goal
 

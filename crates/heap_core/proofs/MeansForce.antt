@@ -1,0 +1,331 @@
+-- A force, and what the disk holds behind an event.
+use Rattle.std.proofs.Common.{true, false, ◌≡◌, ◌⊎◌, inl, inr, ℕ, ◌+◌, ◌*◌, ◌≤◌, List, [], ◌∷◌, ◌++◌, length, Option, Some, None, Result, Ok, Err, refl, sym, ap, ◌∙◌, subst, ⊎_elim, arith}
+use Rattle.std.specs.Prelude.{IfOk}
+use Rattle.std.specs.declared.alloc.AllocError.{AllocError}
+use Rattle.std.proofs.lemmas.List.{append-nil}
+use Rattle.disk_model.specs.Disk.{part, Only, SameOutside}
+use Rattle.disk_model.specs.declared.disk.DiskError.{DiskError}
+use Rattle.gate_slot.specs.Images.{same_part}
+use Rattle.gated_log.specs.declared.Log.{Log}
+use Rattle.gated_log.specs.Log.{records_of, batches_bytes, with_batch, HoldsBatches}
+use Rattle.gated_log.specs.LogLaws.{hand_size-Keeps}
+use Rattle.gated_log.specs.LogState.{log_place, log_room, log_hand, hand_size, IsHandEmpty, Keeps, IsPlaced}
+use Rattle.graph_model.specs.declared.event.Event.{Event}
+use Rattle.graph_model.specs.declared.event.Event.TheVariants.{Begin, Root, Put, Clear, Drop, Get, Same, Len, Seal, Abort, Force}
+use Rattle.graph_model.specs.declared.reply.Entry.{Entry}
+use Rattle.graph_model.specs.declared.reply.Refusal.{Refusal}
+use Rattle.graph_model.specs.declared.reply.Refusal.TheVariants.{Failed, DiskFault, Stopped}
+use Rattle.graph_model.specs.declared.reply.Reply.{Reply}
+use Rattle.graph_model.specs.declared.reply.Reply.TheVariants.{Begun, Done, Yes, Length, Sealed, Aborted, Durable, Refused}
+use Rattle.graph_model.specs.SlowHeap.{IsSingleSession}
+use Rattle.graph_model.specs.Transaction.{serial}
+use Rattle.graph_model.specs.History.{Account, account, account_after, first_failure}
+use Rattle.graph_model.specs.HistoryLaws.{account-append, entries-account}
+use Rattle.graph_model.specs.Plain.{granted, reply_of}
+use Rattle.graph_model.specs.PlainLaws.{account_after-refused}
+use Rattle.image_plan.specs.declared.superblock.Super.{Super}
+use Rattle.image_plan.specs.Plan.{frame_offset}
+use Rattle.log_records.specs.declared.Record.{Record}
+use Rattle.log_records.specs.Record.{spellings}
+use Rattle.log_machine.specs.declared.UndoEntry.{UndoEntry}
+use Rattle.heap_core.specs.declared.active.Active.{Active}
+use Rattle.heap_core.specs.declared.working.Working.{Working}
+use Rattle.heap_model.specs.Core.{Core, all_records, next_number, core_refusal, answer, with_entry, after_refusal, after}
+use Rattle.heap_model.specs.CoreCrash.{KeepsCommits}
+use Rattle.heap_model.specs.CoreValid.{IsValid, IsReached}
+use Rattle.heap_model.specs.CoreLawsCrash.{IsOnDisk, forced-with_batch, records_of-with_batch, disk_good, disk_reached, disk_plain, crash_law}
+use Rattle.heap_model.specs.CoreLawsRun.{failed_refusal, failed_after, after_history, step_history}
+use Rattle.heap_model.specs.CoreLawsStep.{valid_after}
+use Rattle.heap_model.specs.Image.{IsLegal}
+use Rattle.log_machine.specs.Machine as machine
+use Rattle.log_machine.specs.Machine.{words, undo_of, undo_reserve, taken_back, committed_words}
+use Rattle.heap_core.specs.Means.{IsActive, Works, OnDisk, Means, Steps}
+use Rattle.heap_core.proofs.MeansActive.{undo_is}
+use Rattle.heap_core.proofs.MeansLeft.{keeps_refused, keeps_cut}
+use Rattle.heap_core.proofs.MeansLog.{keeps_same}
+use Rattle.heap_core.proofs.MeansRefusal.{force_same}
+use Rattle.heap_core.specs.Working.{active_undo, begin_refusal, handle_refusal, held_refusal, put_refusal, clear_refusal, get_refusal, same_refusal, end_refusal, field_reply, IsAsItWas, Begins, SetsHandle, Writes, Seals, Aborts}
+use Rattle.heap_core.proofs.MeansStep.{Does, works_after, begin_does, root_does, drop_does, get_does, same_does, len_does, put_does, clear_does, seal_does, abort_does}
+
+records_forced : (bs : List (List Record)) (p : List Record) → records_of (with_batch bs p) ++ [] ≡ records_of bs ++ p
+records_forced bs p = append-nil (records_of (with_batch bs p)) ∙ records_of-with_batch bs p
+
+-- what waited is on the disk
+pub force_does : (w new : Working) (c : Core) (reply : Reply) → IsValid c → Works w (account c.history) c → Keeps new.log (with_batch c.batches c.pending) []
+    → log_place new.log ≡ log_place w.log → log_room new.log ≡ log_room w.log → new.words ≡ w.words → new.active ≡ w.active → new.next ≡ w.next → new.sealed ≡ w.sealed → reply ≡ Durable w.sealed → Does c Force reply new
+force_does w new c reply valid works keeps at room stored active next sealed replied =
+    let a = account c.history in
+    let P : Core → Type 0 = λ d. Works new (account_after a (record { event = Force; reply = Durable (length a.sealed) })) d in
+    record {
+      replied = replied ∙ ap Durable works.sealed ∙ sym (ap (λ (o : Option Refusal). reply_of o (Durable (length a.sealed))) (force_same c valid));
+      works = works_after new c Force None (force_same c valid)
+          (λ e. subst P (sym (forced-with_batch c)) (record {
+            log = keeps;
+            place = at ∙ works.place;
+            room = room ∙ works.room;
+            stored = stored ∙ works.stored ∙ ap words (sym (records_forced c.batches c.pending));
+            active =
+                let same = sym (ap undo_of (records_forced c.batches c.pending)) in
+                let at = subst (λ (p : Option Active). IsActive (serial c.g0 a.sealed) (undo_of (records_of c.batches ++ c.pending)) (a.active 1) p) (sym active) works.active in
+                subst (λ (us : List UndoEntry). IsActive (serial c.g0 a.sealed) us (a.active 1) new.active) same at;
+            next = next ∙ works.next;
+            sealed = sealed ∙ works.sealed;
+          }))
+          (λ why e. cc);
+    }
+
+-- an image whose log holds what a core may have on the disk
+pub legal_with : (s : Super) (c : Core) (bs bs' : List (List Record)) (old new : List ℕ) → s.log_bytes ≡ c.room → IsReached c → IsOnDisk c bs' → IsLegal s bs old → SameOutside 64 (64 + s.log_bytes) old new
+    → HoldsBatches (part new 64 s.log_bytes) bs' → IsLegal s bs' new
+legal_with s c bs bs' old new room reached on legal outside holds = let told = disk_reached c bs' reached on in record {
+  limits = legal.limits;
+  size = omega (arith, legal.size, outside.size);
+  super = same_part 0 64 old new outside.size (λ i low high. outside.before i (omega arith)) ∙ legal.super;
+  log = holds;
+  good = disk_good c bs' reached on;
+  state = told.0;
+  reached = told.1;
+  reserve = subst (λ (n : ℕ). length (batches_bytes bs') + 1 + undo_reserve told.0.undo ≤ n) (sym room) told.2;
+  plain = disk_plain c bs' reached on;
+  frames = λ p f few one is. legal.frames p f few one (sym (outside.behind (frame_offset s.log_bytes p f) (omega arith)) ∙ is);
+}
+
+keeps_batches : (o : Option Refusal) (c : Core) (event : Event) → (event ≡ Force → ⊥) → ((after_refusal o c event).batches ≡ c.batches) × ((after_refusal o c event).room ≡ c.room)
+keeps_batches (Some why) c event other = (refl, refl)
+keeps_batches None c (Begin s) other = (refl, refl)
+keeps_batches None c (Root s h) other = (refl, refl)
+keeps_batches None c (Put s h i v) other = (refl, refl)
+keeps_batches None c (Clear s h i) other = (refl, refl)
+keeps_batches None c (Drop s h) other = (refl, refl)
+keeps_batches None c (Get s h i h2) other = (refl, refl)
+keeps_batches None c (Same s h h2) other = (refl, refl)
+keeps_batches None c (Len s h) other = (refl, refl)
+keeps_batches None c (Seal s) other = (refl, refl)
+keeps_batches None c (Abort s) other = (refl, refl)
+keeps_batches None c Force other = absurd (other refl)
+
+-- only a force asks anything of the disk
+pub disk_stays : (s : Super) (c : Core) (event : Event) (image : List ℕ) (may_leave : List ℕ → Type 0) → (event ≡ Force → ⊥) → OnDisk s c image may_leave → OnDisk s (after c event) image may_leave
+disk_stays s c event image may_leave other disk =
+    let same = keeps_batches (core_refusal c event) c event other in
+    record {
+      legal = let P : List (List Record) → Type 0 = λ bs. IsLegal s bs image in subst P (sym same.0) disk.legal;
+      only = disk.only;
+      room = disk.room ∙ sym same.1;
+    }
+
+-- the disk behind a force
+pub disk_forced : (s : Super) (c : Core) (old new : List ℕ) (may_leave' may_leave : List ℕ → Type 0) → IsValid c → OnDisk s c old may_leave' → SameOutside 64 (64 + s.log_bytes) old new
+    → HoldsBatches (part new 64 s.log_bytes) (with_batch c.batches c.pending) → Only new may_leave → OnDisk s (after c Force) new may_leave
+disk_forced s c old new may_leave' may_leave valid disk outside holds only =
+    let forced_now : after_refusal (core_refusal c Force) c Force ≡ record c { batches = with_batch c.batches c.pending; pending = [] } =
+    ap (λ (o : Option Refusal). after_refusal o c Force) (force_same c valid) ∙ forced-with_batch c in
+    let P : Core → Type 0 = λ d. OnDisk s (with_entry d Force (answer c Force)) new may_leave in
+    subst P (sym forced_now) (record {
+      legal = legal_with s c c.batches (with_batch c.batches c.pending) old new disk.room (inl valid) (inr refl) disk.legal outside holds;
+      only = only;
+      room = disk.room;
+    })
+
+-- an event that the disk did not cut short
+pub whole_steps : (s : Super) (c : Core) (event : Event) (reply : Reply) (w : Working) (failed : Option ℕ) (image : List ℕ) (may_leave : List ℕ → Type 0) → IsValid (after c event) → failed ≡ None
+    → Does c event reply w → OnDisk s (after c event) image may_leave → Steps s c event reply w failed image may_leave
+whole_steps s c event reply w failed image may_leave valid none does disk = record {
+  next = after c event;
+  step = inl (does.replied, refl);
+  means = record { failure = none ∙ sym valid.unfailed; works = λ e. does.works; disk = λ e. disk; left = λ some. absurd (some none) };
+}
+
+told_entry : (a : Account) (reply : Reply) → a.failed ≡ None → (reply ≡ Refused DiskFault) ⊎ (reply ≡ Refused Stopped) → Some (a.entries + 1) ≡ (account_after a (record { event = Force; reply = reply })).failed
+told_entry a reply none (inl is) =
+    sym (ap (λ (r : Reply). (account_after a (record { event = Force; reply = r })).failed) is ∙ ap (λ (o : Option ℕ). first_failure o (a.entries + 1)) none)
+told_entry a reply none (inr is) =
+    sym (ap (λ (r : Reply). (account_after a (record { event = Force; reply = r })).failed) is ∙ ap (λ (o : Option ℕ). first_failure o (a.entries + 1)) none)
+
+-- a force that the disk cut short
+pub cut_steps : (s : Super) (c : Core) (reply : Reply) (w new : Working) (entries : ℕ) (failed : Option ℕ) (image : List ℕ) (may_leave : List ℕ → Type 0) → IsValid c → Works w (account c.history) c
+    → ¬ IsHandEmpty w.log → (reply ≡ Refused DiskFault) ⊎ (reply ≡ Refused Stopped) → entries ≡ length c.history → failed ≡ Some (entries + 1) → ((d : List ℕ) → may_leave d → KeepsCommits c d) → Steps s c Force reply new failed image may_leave
+cut_steps s c reply w new entries failed image may_leave valid works waits told count is left =
+    let a = account c.history in
+    let entry : Entry = record { event = Force; reply = reply } in
+    record {
+      next = with_entry c Force reply;
+      step = inr (record { force = refl; waits = λ none. waits (hand_size-Keeps w.log c.batches c.pending works.log ∙ ap (λ (p : List Record). 4 + length (spellings p)) none); first = valid.unfailed; told = told }, refl);
+      means = record {
+        failure = is ∙ ap (λ (n : ℕ). Some (n + 1)) (count ∙ sym (entries-account c.history)) ∙ told_entry a reply valid.unfailed told ∙ ap (λ (b : Account). b.failed) (sym (account-append c.history entry));
+        works = λ none. let never : None ≡ Some (entries + 1) = sym none ∙ is in cc;
+        disk = λ none. let never : None ≡ Some (entries + 1) = sym none ∙ is in cc;
+        left = λ some d leaves. keeps_cut c reply d told (left d leaves);
+      };
+    }
+
+-- a heap that has failed refuses everything
+pub failed_steps : (s : Super) (c : Core) (event : Event) (entry : ℕ) (w : Working) (failed : Option ℕ) (image : List ℕ) (may_leave : List ℕ → Type 0) → Means s c w failed image may_leave → failed ≡ Some entry
+    → Steps s c event (Refused (Failed entry)) w failed image may_leave
+failed_steps s c event entry w failed image may_leave means is =
+    let a = account c.history in
+    let refused = failed_refusal c event entry (sym means.failure ∙ is) in
+    let answered : answer c event ≡ Refused (Failed entry) = ap (λ (o : Option Refusal). reply_of o (granted (next_number c) c.g0 a event)) refused in
+    let said : account (after c event).history ≡ account_after a (record { event = event; reply = answer c event }) = ap account (after_history c event) ∙ account-append c.history _ in
+    record {
+      next = after c event;
+      step = inl (sym answered, refl);
+      means = record {
+        failure = means.failure ∙ sym (ap (λ (b : Account). b.failed) (said ∙ ap (λ (r : Reply). account_after a (record { event = event; reply = r })) answered ∙ account_after-refused a event (Failed entry) tt));
+        works = λ none. let never : None ≡ Some entry = sym none ∙ is in cc;
+        disk = λ none. let never : None ≡ Some entry = sym none ∙ is in cc;
+        left = λ some d leaves. subst (λ (x : Core). KeepsCommits x d) (sym (failed_after c event entry (sym means.failure ∙ is))) (keeps_refused c event (Failed entry) d tt (means.left some d leaves));
+      };
+    }
+
+-- a heap that has not failed is a valid core
+pub unfailed_valid : (s : Super) (c : Core) (w : Working) (failed : Option ℕ) (image : List ℕ) (may_leave : List ℕ → Type 0) → Means s c w failed image may_leave → failed ≡ None → IsReached c → IsValid c
+unfailed_valid s c w failed image may_leave means none (inl valid) = valid
+unfailed_valid s c w failed image may_leave means none (inr bad) = let never : None ≡ Some bad.entry = sym none ∙ means.failure ∙ bad.failed in cc
+
+module _ (s : Super) (c : Core) (w : Working) (log : Log) (failed : Option ℕ) (old : List ℕ) (may_have_left : List ℕ → Type 0) (means : Means s c w failed old may_have_left) (none : failed ≡ None)
+    (placed : IsPlaced w.log log) (hand : log_hand log ≡ log_hand w.log) where
+  abbrev works : Works w (account c.history) c
+  works = means.works none
+
+  abbrev disk : OnDisk s c old may_have_left
+  disk = means.disk none
+
+  -- the log keeps the core's batches in memory
+  pub keeps : Keeps log c.batches c.pending
+  keeps = keeps_same w.log log c.batches c.pending (record { at = placed.at; room = placed.room; tail = placed.tail; in_hand = hand }) works.log
+
+  at : log_place log ≡ 64
+  at = placed.at ∙ works.place
+
+  room : log_room log ≡ s.log_bytes
+  room = placed.room ∙ works.room ∙ sym disk.room
+
+  in_log : (P : ℕ → ℕ → Type 0) → P (log_place log) (log_room log) → P 64 s.log_bytes
+  in_log P h = subst (P 64) room (let Q : ℕ → Type 0 = λ n. P n (log_room log) in subst Q at h)
+
+  -- and they stand on the disk
+  pub holds : HoldsBatches (part old (log_place log) (log_room log)) c.batches
+  holds = let P : ℕ → ℕ → Type 0 = λ n m. HoldsBatches (part old n m) c.batches in
+      let Q : ℕ → Type 0 = λ n. P n (log_room log) in subst Q (sym at) (subst (P 64) (sym room) disk.legal.log)
+
+  pub ok_steps : (new : Working) (image : List ℕ) (may_leave : List ℕ → Type 0) (reply : Reply) → IsReached c → Keeps new.log (with_batch c.batches c.pending) []
+      → HoldsBatches (part image (log_place log) (log_room log)) (with_batch c.batches c.pending) → SameOutside (log_place log) (log_place log + log_room log) old image → Only image may_leave
+      → log_place new.log ≡ log_place log → log_room new.log ≡ log_room log → new.words ≡ w.words → new.active ≡ w.active → new.next ≡ w.next → new.sealed ≡ w.sealed → reply ≡ Durable w.sealed
+      → Steps s c Force reply new failed image may_leave
+  ok_steps new image may_leave reply reached kept held outside only new_at new_room stored active next sealed replied =
+      let valid = unfailed_valid s c w failed old may_have_left means none reached in
+      whole_steps s c Force reply new failed image may_leave (valid_after c Force valid tt) none
+      (force_does w new c reply valid works kept (new_at ∙ placed.at) (new_room ∙ placed.room) stored active next sealed replied)
+      (disk_forced s c old image may_have_left may_leave valid disk
+      (let P : ℕ → ℕ → Type 0 = λ n m. SameOutside n (n + m) old image in in_log P outside)
+      (let P : ℕ → ℕ → Type 0 = λ n m. HoldsBatches (part image n m) (with_batch c.batches c.pending) in in_log P held)
+      only)
+
+  kept_batches : (bs : List (List Record)) (image : List ℕ) → IsReached c → IsOnDisk c bs → SameOutside 64 (64 + s.log_bytes) old image → HoldsBatches (part image (log_place log) (log_room log)) bs → KeepsCommits c image
+  kept_batches bs image reached on outside held =
+      let legal = legal_with s c c.batches bs old image disk.room reached on disk.legal outside (let P : ℕ → ℕ → Type 0 = λ n m. HoldsBatches (part image n m) bs in in_log P held) in
+      (machine.commits (records_of bs), crash_law c s bs image reached on legal)
+
+  -- what a crash leaves during a force are first commits
+  pub force_keeps : (image : List ℕ) → IsReached c → SameOutside (log_place log) (log_place log + log_room log) old image × (HoldsBatches (part image (log_place log) (log_room log)) c.batches ⊎ HoldsBatches (part image (log_place log) (log_room log)) (with_batch c.batches c.pending))
+      → KeepsCommits c image
+  force_keeps image reached found =
+      let outside = (let P : ℕ → ℕ → Type 0 = λ n m. SameOutside n (n + m) old image in in_log P found.0) in
+      ⊎_elim (λ held. kept_batches c.batches image reached (inl refl) outside held)
+      (λ held. kept_batches (with_batch c.batches c.pending) image reached (inr refl) outside held) found.1
+
+  pub err_steps : (new : Working) (image : List ℕ) (may_leave : List ℕ → Type 0) (reply : Reply) (entries : ℕ) (result : Result (Unit {0}) DiskError) (e : DiskError) (now : Option ℕ) → IsReached c
+      → (IsHandEmpty log → result ≡ Ok tt) → result ≡ Err e → hand_size log ≡ hand_size w.log → (reply ≡ Refused DiskFault) ⊎ (reply ≡ Refused Stopped)
+      → entries ≡ length c.history → now ≡ Some (entries + 1) → ((d : List ℕ) → may_leave d → KeepsCommits c d) → Steps s c Force reply new now image may_leave
+  err_steps new image may_leave reply entries result e now reached waited is same told count fails left =
+      let valid = unfailed_valid s c w failed old may_have_left means none reached in
+      cut_steps s c reply w new entries now image may_leave valid works (λ four. let never : Err e ≡ Ok tt = sym is ∙ waited (same ∙ four) in cc) told count fails left
+
+module _ (s : Super) (c : Core) (w : Working) (failed : Option ℕ) (image : List ℕ) (may_leave : List ℕ → Type 0) (means : Means s c w failed image may_leave) (none : failed ≡ None) (reached : IsReached c) where
+  abbrev is_valid : IsValid c
+  is_valid = unfailed_valid s c w failed image may_leave means none reached
+
+  -- an event that asks nothing of the disk
+  pub quiet_steps : (event : Event) (reply : Reply) (new : Working) → IsSingleSession event → (event ≡ Force → ⊥) → Does c event reply new → Steps s c event reply new failed image may_leave
+  quiet_steps event reply new one other does =
+      whole_steps s c event reply new failed image may_leave (valid_after c event is_valid one) none does (disk_stays s c event image may_leave other (means.disk none))
+
+  quiet_result : (event : Event) (result : Result Reply AllocError) (new : Working) → IsSingleSession event → (event ≡ Force → ⊥) → IfOk result (λ reply. Does c event reply new)
+      → IfOk result (λ reply. Steps s c event reply new failed image may_leave)
+  quiet_result event (Ok reply) new one other does = quiet_steps event reply new one other does
+  quiet_result event (Err e) new one other does = tt
+
+  -- an event of session 1 whose session is given
+  of_one : (form : ℕ → Event) (event : Event) (n : ℕ) (P : Event → Type 0) → event ≡ form n → (IsSingleSession event → n ≡ 1) → IsSingleSession event → P (form 1) → P event
+  of_one form event n P is own one h =
+      let Q : ℕ → Type 0 = λ m. P (form m) in
+      subst P (sym is) (subst Q (sym (own one)) h)
+
+  abbrev Stepped : Working → Reply → Event → Type 0
+  Stepped new reply event = Steps s c event reply new failed image may_leave
+
+  abbrev SteppedOr : Working → Result Reply AllocError → Event → Type 0
+  SteppedOr new result event = IfOk result (λ reply. Stepped new reply event)
+
+  pub begin_steps : (event : Event) (n : ℕ) (new : Working) (reply : Reply) → event ≡ Begin n → IsSingleSession event → reply ≡ reply_of (begin_refusal w) (Begun w.next) → ((m : ℕ) → reply ≡ Begun m → Begins w new)
+      → ((why : Refusal) → reply ≡ Refused why → new ≡ w) → Stepped new reply event
+  begin_steps event n new reply is one replied begun stays =
+      of_one Begin event n (Stepped new reply) is (λ h. subst IsSingleSession is h) one (quiet_steps (Begin 1) reply new refl (λ e. cc) (begin_does w new c is_valid (means.works none) reply replied begun stays))
+
+  pub root_steps : (event : Event) (n h : ℕ) (new : Working) (reply : Reply) → event ≡ Root n h → IsSingleSession event → reply ≡ reply_of (handle_refusal w.active h) Done → (reply ≡ Done → SetsHandle w new h true)
+      → ((why : Refusal) → reply ≡ Refused why → new ≡ w) → Stepped new reply event
+  root_steps event n h new reply is one replied set stays =
+      of_one (λ m. Root m h) event n (Stepped new reply) is (λ own. subst IsSingleSession is own) one (quiet_steps (Root 1 h) reply new refl (λ e. cc) (root_does w new c is_valid (means.works none) h reply replied set stays))
+
+  pub drop_steps : (event : Event) (n h : ℕ) (new : Working) (reply : Reply) → event ≡ Drop n h → IsSingleSession event → reply ≡ reply_of (handle_refusal w.active h) Done → (reply ≡ Done → SetsHandle w new h false)
+      → ((why : Refusal) → reply ≡ Refused why → new ≡ w) → Stepped new reply event
+  drop_steps event n h new reply is one replied set stays =
+      of_one (λ m. Drop m h) event n (Stepped new reply) is (λ own. subst IsSingleSession is own) one (quiet_steps (Drop 1 h) reply new refl (λ e. cc) (drop_does w new c is_valid (means.works none) h reply replied set stays))
+
+  pub get_steps : (event : Event) (n h i h2 : ℕ) (reply : Reply) → event ≡ Get n h i h2 → IsSingleSession event → reply ≡ reply_of (get_refusal w.active h i h2) (field_reply w.words i) → Stepped w reply event
+  get_steps event n h i h2 reply is one replied =
+      of_one (λ m. Get m h i h2) event n (Stepped w reply) is (λ own. subst IsSingleSession is own) one (quiet_steps (Get 1 h i h2) reply w refl (λ e. cc) (get_does w w c is_valid (means.works none) h i h2 reply replied refl))
+
+  pub same_steps : (event : Event) (n h h2 : ℕ) (reply : Reply) → event ≡ Same n h h2 → IsSingleSession event → reply ≡ reply_of (same_refusal w.active h h2) Yes → Stepped w reply event
+  same_steps event n h h2 reply is one replied =
+      of_one (λ m. Same m h h2) event n (Stepped w reply) is (λ own. subst IsSingleSession is own) one (quiet_steps (Same 1 h h2) reply w refl (λ e. cc) (same_does w w c is_valid (means.works none) h h2 reply replied refl))
+
+  pub len_steps : (event : Event) (n h : ℕ) (reply : Reply) → event ≡ Len n h → IsSingleSession event → reply ≡ reply_of (held_refusal w.active h) (Length 4) → Stepped w reply event
+  len_steps event n h reply is one replied =
+      of_one (λ m. Len m h) event n (Stepped w reply) is (λ own. subst IsSingleSession is own) one (quiet_steps (Len 1 h) reply w refl (λ e. cc) (len_does w w c is_valid (means.works none) h reply replied refl))
+
+  pub put_steps : (event : Event) (n h i v : ℕ) (new : Working) (result : Result Reply AllocError) → event ≡ Put n h i v → IsSingleSession event → IfOk result (λ reply. reply ≡ reply_of (put_refusal w.log w.active h i v) Done)
+      → (result ≡ Ok Done → Writes w new i (4 * v + 1)) → ((why : Refusal) → result ≡ Ok (Refused why) → IsAsItWas w new) → SteppedOr new result event
+  put_steps event n h i v new result is one replied wrote stays =
+      of_one (λ m. Put m h i v) event n (SteppedOr new result) is (λ own. subst IsSingleSession is own) one (quiet_result (Put 1 h i v) result new refl (λ e. cc) (put_does w new c is_valid (means.works none) h i v result replied wrote stays))
+
+  pub clear_steps : (event : Event) (n h i : ℕ) (new : Working) (result : Result Reply AllocError) → event ≡ Clear n h i → IsSingleSession event → IfOk result (λ reply. reply ≡ reply_of (clear_refusal w.log w.active h i) Done)
+      → (result ≡ Ok Done → Writes w new i 0) → ((why : Refusal) → result ≡ Ok (Refused why) → IsAsItWas w new) → SteppedOr new result event
+  clear_steps event n h i new result is one replied wrote stays =
+      of_one (λ m. Clear m h i) event n (SteppedOr new result) is (λ own. subst IsSingleSession is own) one (quiet_result (Clear 1 h i) result new refl (λ e. cc) (clear_does w new c is_valid (means.works none) h i result replied wrote stays))
+
+  pub seal_steps : (event : Event) (n : ℕ) (new : Working) (result : Result Reply AllocError) → event ≡ Seal n → IsSingleSession event → IfOk result (λ reply. reply ≡ reply_of (end_refusal w.active) (Sealed (w.sealed + 1)))
+      → ((number : ℕ) → result ≡ Ok (Sealed number) → Seals w new) → ((why : Refusal) → result ≡ Ok (Refused why) → IsAsItWas w new) → SteppedOr new result event
+  seal_steps event n new result is one replied sealed stays =
+      of_one Seal event n (SteppedOr new result) is (λ own. subst IsSingleSession is own) one (quiet_result (Seal 1) result new refl (λ e. cc) (seal_does w new c is_valid (means.works none) result replied sealed stays))
+
+  pub abort_steps : (event : Event) (n : ℕ) (new : Working) (result : Result Reply AllocError) → event ≡ Abort n → IsSingleSession event → IfOk result (λ reply. reply ≡ reply_of (end_refusal w.active) Aborted)
+      → (result ≡ Ok Aborted → Aborts w new) → ((why : Refusal) → result ≡ Ok (Refused why) → IsAsItWas w new) → SteppedOr new result event
+  abort_steps event n new result is one replied aborted stays =
+      of_one Abort event n (SteppedOr new result) is (λ own. subst IsSingleSession is own) one (quiet_result (Abort 1) result new refl (λ e. cc) (abort_does w new c is_valid (means.works none) result replied aborted stays))
+
+-- what is kept of a heap and the entry that its history has got
+pub with_history : (s : Super) (c : Core) (event : Event) (reply : Reply) (w : Working) (failed : Option ℕ) (image : List ℕ) (may_leave : List ℕ → Type 0) (old new : List Entry)
+    → old ≡ c.history → new ≡ old ++ record { event = event; reply = reply } ∷ [] → (steps : Steps s c event reply w failed image may_leave) → new ≡ steps.next.history
+with_history s c event reply w failed image may_leave old new was is steps =
+    is ∙ ap (λ (l : List Entry). l ++ record { event = event; reply = reply } ∷ []) was ∙ sym (step_history c steps.next event reply steps.step)
+
+-- the words without what the active transaction wrote
+pub committed : (s : Super) (c : Core) (w : Working) (failed : Option ℕ) (image : List ℕ) (may_leave : List ℕ → Type 0) → Means s c w failed image may_leave → failed ≡ None
+    → taken_back (active_undo w.active) w.words ≡ committed_words (all_records c)
+committed s c w failed image may_leave means none =
+    let a = account c.history in
+    let works = means.works none in
+    ap (λ (us : List UndoEntry). taken_back us w.words) (undo_is (serial c.g0 a.sealed) (undo_of (all_records c)) (a.active 1) w.active works.active)
+    ∙ ap (taken_back (undo_of (all_records c))) works.stored

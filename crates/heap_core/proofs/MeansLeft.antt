@@ -1,0 +1,133 @@
+-- What a crash leaves of a heap, and how many device calls an event makes.
+use Rattle.std.proofs.Common.{◌≡◌, ◌⊎◌, inl, inr, ℕ, ◌+◌, ◌≤◌, cond, List, [], ◌∷◌, ◌++◌, length, take, Option, Some, None, Result, Ok, Err, refl, sym, ap, ◌∙◌, subst, arith}
+use Rattle.std.specs.Prelude.{IfOk, OnOk, nat_lt, if◌then◌else◌}
+use Rattle.std.specs.Option.{option_to_list}
+use Rattle.std.specs.declared.alloc.AllocError.{AllocError}
+use Rattle.std.proofs.lemmas.Bool.{lt-ltb}
+use Rattle.counts.specs.Count.{counted}
+use Rattle.disk_model.specs.Moments.{LeavesOnly, begins}
+use Rattle.disk_model.specs.declared.disk.DiskError.{DiskError}
+use Rattle.gate_slot.specs.Passing.{Passes}
+use Rattle.gated_log.specs.declared.Log.{Log}
+use Rattle.gated_log.specs.Log.{records_of}
+use Rattle.gated_log.specs.LogLaws.{hand_size-Keeps}
+use Rattle.gated_log.specs.LogState.{hand_size, is_waiting, Keeps}
+use Rattle.graph_model.specs.declared.event.Event.{Event}
+use Rattle.graph_model.specs.declared.event.Event.TheVariants.{Begin, Root, Put, Clear, Drop, Get, Same, Len, Seal, Abort, Force}
+use Rattle.graph_model.specs.declared.reply.Entry.{Entry}
+use Rattle.graph_model.specs.declared.reply.Refusal.{Refusal}
+use Rattle.graph_model.specs.declared.reply.Refusal.TheVariants.{DiskFault, Stopped}
+use Rattle.graph_model.specs.declared.reply.Reply.{Reply}
+use Rattle.graph_model.specs.declared.reply.Reply.TheVariants.{Refused}
+use Rattle.graph_model.specs.Transaction.{Transaction, serial}
+use Rattle.graph_model.specs.History.{Account, account, account_after, sealed, commits, acknowledged}
+use Rattle.graph_model.specs.HistoryLaws.{account-append}
+use Rattle.graph_model.specs.PlainLaws.{IsNoFault, account_after-refused}
+use Rattle.image_plan.specs.declared.superblock.Super.{Super}
+use Rattle.log_records.specs.declared.Record.{Record}
+use Rattle.log_records.specs.Record.{spellings}
+use Rattle.heap_core.specs.declared.working.Working.{Working}
+use Rattle.heap_core.specs.Causes.{reply_device}
+use Rattle.heap_model.specs.Core.{Core, with_entry, force_calls, calls_if, calls}
+use Rattle.heap_model.specs.CoreCrash.{KeepsCommits}
+use Rattle.heap_model.specs.CoreLawsCrash.{crash_law}
+use Rattle.heap_model.specs.CoreValid.{IsReached}
+use Rattle.heap_model.specs.Image.{StandsFor, IsLegal}
+use Rattle.log_machine.specs.Machine as machine
+use Rattle.heap_core.specs.Means.{Means}
+use Rattle.heap_core.proofs.MeansLog.{some_spellings}
+
+-- an entry that neither commits nor acknowledges anything
+keeps_entry : (c : Core) (event : Event) (reply : Reply) (b : Account) (image : List ℕ) → account_after (account c.history) (record { event = event; reply = reply }) ≡ b
+    → b.sealed ≡ sealed c.history → b.in_doubt ≡ (account c.history).in_doubt → b.acknowledged ≡ acknowledged c.history → KeepsCommits c image → KeepsCommits (with_entry c event reply) image
+keeps_entry c event reply b image is same_sealed same_doubt same_acknowledged kept =
+    let entry : Entry = record { event = event; reply = reply } in
+    let said : account (c.history ++ entry ∷ []) ≡ b = account-append c.history entry ∙ is in
+    let all : commits (c.history ++ entry ∷ []) ≡ commits c.history =
+    ap (λ (a : Account). a.sealed ++ option_to_list a.in_doubt) said
+    ∙ ap (λ (ts : List Transaction). ts ++ option_to_list b.in_doubt) same_sealed
+    ∙ ap (λ (o : Option Transaction). sealed c.history ++ option_to_list o) same_doubt in
+    let told : acknowledged (c.history ++ entry ∷ []) ≡ acknowledged c.history = ap (λ (a : Account). a.acknowledged) said ∙ same_acknowledged in
+    let k = kept.0 in
+    let first = kept.1 in (
+      k,
+      record {
+        stands = subst (λ (ts : List Transaction). StandsFor (serial c.g0 (take k ts)) k image) (sym all) first.stands;
+        kept = subst (λ (n : ℕ). n ≤ k) (sym told) first.kept;
+        some = subst (λ (ts : List Transaction). k ≤ length ts) (sym all) first.some;
+      },
+    )
+
+-- a refusal that doesn't come from the disk
+pub keeps_refused : (c : Core) (event : Event) (why : Refusal) (image : List ℕ) → IsNoFault why → KeepsCommits c image → KeepsCommits (with_entry c event (Refused why)) image
+keeps_refused c event why image sound kept = keeps_entry c event (Refused why) (record (account c.history) { entries = (account c.history).entries + 1 }) image (account_after-refused (account c.history) event why sound) refl refl refl kept
+
+-- a force that the disk cut short
+pub keeps_cut : (c : Core) (reply : Reply) (image : List ℕ) → (reply ≡ Refused DiskFault) ⊎ (reply ≡ Refused Stopped) → KeepsCommits c image → KeepsCommits (with_entry c Force reply) image
+keeps_cut c reply image (inl told) kept =
+    subst (λ (r : Reply). KeepsCommits (with_entry c Force r) image) (sym told) (keeps_entry c Force (Refused DiskFault) _ image refl refl refl refl kept)
+keeps_cut c reply image (inr told) kept =
+    subst (λ (r : Reply). KeepsCommits (with_entry c Force r) image) (sym told) (keeps_entry c Force (Refused Stopped) _ image refl refl refl refl kept)
+
+module _ (s : Super) (c : Core) (w : Working) (failed : Option ℕ) (image : List ℕ) (may_leave : List ℕ → Type 0) (means : Means s c w failed image may_leave) (reached : IsReached c) where
+  keeps_as : (o : Option ℕ) → failed ≡ o → (d : List ℕ) → may_leave d → KeepsCommits c d
+  keeps_as None is d left =
+      let disk = means.disk is in
+      let same : d ≡ image = disk.only d left in
+      (machine.commits (records_of c.batches), crash_law c s c.batches d reached (inl refl) (subst (λ (x : List ℕ). IsLegal s c.batches x) (sym same) disk.legal))
+  keeps_as (Some entry) is d left = means.left (λ none. let never : None ≡ Some entry = sym none ∙ is in cc) d left
+
+  -- a crash leaves the heap's first commits
+  pub heap_keeps : (d : List ℕ) → may_leave d → KeepsCommits c d
+  heap_keeps d left = keeps_as failed refl d left
+
+-- an event that asks nothing of the disk
+pub stays : {D : Type 0} (moment : D → ℕ) (left_since : D → ℕ → List ℕ → Type 0) (disk : D) (may_leave P : List ℕ → Type 0)
+    → ((d : List ℕ) → left_since disk (moment disk) d → may_leave d) → ((d : List ℕ) → may_leave d → P d) → LeavesOnly moment left_since disk disk P
+stays moment left_since disk may_leave P now here = begins moment left_since disk P (λ d left. here d (now d left))
+
+all_of_none : (before : ℕ) (result : Result (Unit {0}) DiskError) → OnOk result (before ≡ counted 0 before)
+all_of_none before (Ok nothing) = refl
+all_of_none before (Err e) = tt
+
+none_pass : (n before : ℕ) (result : Result (Unit {0}) DiskError) → n ≡ 0 → Passes n before before result
+none_pass n before result none = subst (λ (k : ℕ). Passes k before before result) (sym none) (record {
+  ok = all_of_none before result;
+  some = (0, (omega arith), refl);
+  stopped = λ same any. absurd (omega (arith, any));
+})
+
+quiet_calls : (o : Option ℕ) (c : Core) (event : Event) → (event ≡ Force → ⊥) → calls_if o c event ≡ 0
+quiet_calls (Some entry) c event other = refl
+quiet_calls None c (Begin s) other = refl
+quiet_calls None c (Root s h) other = refl
+quiet_calls None c (Put s h i v) other = refl
+quiet_calls None c (Clear s h i) other = refl
+quiet_calls None c (Drop s h) other = refl
+quiet_calls None c (Get s h i h2) other = refl
+quiet_calls None c (Same s h h2) other = refl
+quiet_calls None c (Len s h) other = refl
+quiet_calls None c (Seal s) other = refl
+quiet_calls None c (Abort s) other = refl
+quiet_calls None c Force other = absurd (other refl)
+
+pub quiet_passes : (c : Core) (event : Event) (before : ℕ) (reply : Reply) → (event ≡ Force → ⊥) → Passes (calls c event) before before (reply_device reply)
+quiet_passes c event before reply other = none_pass (calls c event) before (reply_device reply) (quiet_calls (account c.history).failed c event other)
+
+pub quiet_passes_result : (c : Core) (event : Event) (before : ℕ) (result : Result Reply AllocError) → (event ≡ Force → ⊥) → IfOk result (λ reply. Passes (calls c event) before before (reply_device reply))
+quiet_passes_result c event before (Ok reply) other = quiet_passes c event before reply other
+quiet_passes_result c event before (Err e) other = tt
+
+-- nor does an event that a heap refuses since it has failed
+pub failed_passes : (c : Core) (event : Event) (entry before : ℕ) (reply : Reply) → (account c.history).failed ≡ Some entry → Passes (calls c event) before before (reply_device reply)
+failed_passes c event entry before reply is = none_pass (calls c event) before (reply_device reply) (ap (λ (o : Option ℕ). calls_if o c event) is)
+
+hand_calls : (n : ℕ) (p : List Record) → n ≡ 4 + length (spellings p) → (if nat_lt 4 n then 4 else 0) ≡ force_calls p
+hand_calls n [] is = ap (λ (k : ℕ). if nat_lt 4 k then 4 else 0) is
+hand_calls n (r ∷ rs) is = ap (λ b. cond b 4 0) (lt-ltb 4 n (omega (arith, is, some_spellings r rs)))
+
+-- a force makes four calls where something waits
+pub force_passes : (c : Core) (log : Log) (before now : ℕ) (result : Result (Unit {0}) DiskError) → (account c.history).failed ≡ None → Keeps log c.batches c.pending
+    → Passes (if is_waiting log then 4 else 0) before now result → Passes (calls c Force) before now result
+force_passes c log before now result none keeps passes =
+    subst (λ (n : ℕ). Passes n before now result) (hand_calls (hand_size log) c.pending (hand_size-Keeps log c.batches c.pending keeps) ∙ ap (λ (o : Option ℕ). calls_if o c Force) (sym none)) passes

@@ -1,0 +1,30 @@
+use Rattle.std.proofs.Common.{◌≡◌, ℕ, ◌-◌, ◌≤◌, List}
+use Rattle.std.specs.Prelude.{IsTrue}
+use Rattle.counts.specs.Count.{counted}
+use Rattle.disk_model.specs.Disk.{Follows, SameOutside}
+use Rattle.disk_model.specs.Moments.{LeavesOnly}
+use Rattle.heap_core.specs.Format.{AreZero, zero_writes}
+use Rattle.heap_core.proofs.formatting.write_zeros.Given as goal
+
+-- up to `at` the bytes are zero, and all else is as it was
+abbrev pub invariant-loop-at : goal.invariant-loop-at
+invariant-loop-at g l =
+    let d = g.D.Disk in
+    record {
+      low : l.from ≤ l.at;
+      high : l.at ≤ l.end;
+      zero : IsTrue d.tells → AreZero l.from l.at (d.bytes l.disk);
+      outside : IsTrue d.tells → SameOutside l.from l.end (d.bytes l.fn.disk) (d.bytes l.disk);
+      crash : IsTrue d.tells → Follows (SameOutside l.from l.end) (d.may_leave l.fn.disk) (d.may_leave l.disk);
+      moments : IsTrue d.tells → LeavesOnly d.moment d.left_since l.fn.disk l.disk (λ c. (o : List ℕ) × d.may_leave l.fn.disk o × SameOutside l.from l.end o c);
+      -- what is left is still to be counted
+      passed : IsTrue d.tells → counted (zero_writes (l.end - l.at)) (d.passed l.disk) ≡ counted (zero_writes (l.end - l.from)) (d.passed l.fn.disk);
+      restarts : IsTrue d.tells → d.restarts l.disk ≡ d.restarts l.fn.disk;
+      extent : d.extent l.disk ≡ d.extent l.fn.disk;
+      origin : d.origin l.disk ≡ d.origin l.fn.disk;
+      faults : d.faults l.fn.disk ≤ d.faults l.disk;
+      stops : d.stops l.fn.disk ≤ d.stops l.disk;
+    }
+
+abbrev pub decreases-loop-at : goal.decreases-loop-at
+decreases-loop-at g l = l.end - l.at

@@ -1,0 +1,169 @@
+use Rattle.std.proofs.Common.{sym, ◌∙◌, subst}
+use Rattle.std.specs.Prelude.{IfOk}
+use Rattle.gate_slot.specs.Passing.{Passes}
+use Rattle.graph_model.specs.declared.event.Event.{Event}
+use Rattle.heap_core.specs.Causes.{reply_device}
+use Rattle.heap_model.specs.Core.{calls}
+use Rattle.heap_model.specs.CoreCrash.{KeepsCommits}
+use Rattle.heap_core.proofs.MeansLeft.{heap_keeps, stays, quiet_passes, quiet_passes_result}
+use Rattle.heap_core.proofs.MeansForce.{begin_steps, root_steps, drop_steps, get_steps, same_steps, len_steps, put_steps, clear_steps, seal_steps, abort_steps}
+use Rattle.heap_core.proofs.heap.Heap.answer.Goals as goal
+
+pub returns-in-Begin-clause-core : goal.returns-in-Begin-clause-core
+returns-in-Begin-clause-core g c tells s core heap none reached one =
+    begin_steps s core c.args.self.now.working _ _ _ heap.means none reached c.args.event c.in-Begin.s c.begin.new.self c.begin.result c.in-Begin.is one
+    c.begin.ensures.reply c.begin.ensures.begun c.begin.ensures.refused
+
+pub returns-in-Root-clause-core : goal.returns-in-Root-clause-core
+returns-in-Root-clause-core g c tells s core heap none reached one =
+    root_steps s core c.args.self.now.working _ _ _ heap.means none reached c.args.event c.in-Root.s c.in-Root.h c.root.new.self c.root.result c.in-Root.is one
+    c.root.ensures.reply c.root.ensures.done c.root.ensures.refused
+
+pub returns-in-Put-clause-core : goal.returns-in-Put-clause-core
+returns-in-Put-clause-core g c tells s core heap none reached one =
+    put_steps s core c.args.self.now.working _ _ _ heap.means none reached c.args.event c.in-Put.s c.in-Put.h c.in-Put.i c.in-Put.v c.put.new.self c.put.result c.in-Put.is one
+    c.put.ensures.reply c.put.ensures.done c.put.ensures.refused
+
+pub returns-in-Clear-clause-core : goal.returns-in-Clear-clause-core
+returns-in-Clear-clause-core g c tells s core heap none reached one =
+    clear_steps s core c.args.self.now.working _ _ _ heap.means none reached c.args.event c.in-Clear.s c.in-Clear.h c.in-Clear.i c.clear.new.self c.clear.result c.in-Clear.is one
+    c.clear.ensures.reply c.clear.ensures.done c.clear.ensures.refused
+
+pub returns-in-Drop-clause-core : goal.returns-in-Drop-clause-core
+returns-in-Drop-clause-core g c tells s core heap none reached one =
+    drop_steps s core c.args.self.now.working _ _ _ heap.means none reached c.args.event c.in-Drop.s c.in-Drop.h c.drop_handle.new.self c.drop_handle.result c.in-Drop.is one
+    c.drop_handle.ensures.reply c.drop_handle.ensures.done c.drop_handle.ensures.refused
+
+pub returns-in-Get-clause-core : goal.returns-in-Get-clause-core
+returns-in-Get-clause-core g c tells s core heap none reached one =
+    get_steps s core c.args.self.now.working _ _ _ heap.means none reached c.args.event c.in-Get.s c.in-Get.h c.in-Get.i c.in-Get.h2 c.get.result c.in-Get.is one
+    c.get.ensures
+
+pub returns-in-Same-clause-core : goal.returns-in-Same-clause-core
+returns-in-Same-clause-core g c tells s core heap none reached one =
+    same_steps s core c.args.self.now.working _ _ _ heap.means none reached c.args.event c.in-Same.s c.in-Same.h c.in-Same.h2 c.same.result c.in-Same.is one
+    c.same.ensures
+
+pub returns-in-Len-clause-core : goal.returns-in-Len-clause-core
+returns-in-Len-clause-core g c tells s core heap none reached one =
+    len_steps s core c.args.self.now.working _ _ _ heap.means none reached c.args.event c.in-Len.s c.in-Len.h c.len.result c.in-Len.is one
+    c.len.ensures
+
+pub returns-in-Seal-clause-core : goal.returns-in-Seal-clause-core
+returns-in-Seal-clause-core g c tells s core heap none reached one =
+    seal_steps s core c.args.self.now.working _ _ _ heap.means none reached c.args.event c.in-Seal.s c.seal.new.self c.seal.result c.in-Seal.is one
+    c.seal.ensures.reply c.seal.ensures.sealed c.seal.ensures.refused
+
+pub returns-in-Abort-clause-core : goal.returns-in-Abort-clause-core
+returns-in-Abort-clause-core g c tells s core heap none reached one =
+    abort_steps s core c.args.self.now.working _ _ _ heap.means none reached c.args.event c.in-Abort.s c.abort.new.self c.abort.result c.in-Abort.is one
+    c.abort.ensures.reply c.abort.ensures.aborted c.abort.ensures.refused
+
+pub returns-in-Begin-clause-moments : goal.returns-in-Begin-clause-moments
+returns-in-Begin-clause-moments g c tells s core heap none reached =
+    let d = g.D.Disk in
+    let disk = c.args.self.now.disk in
+    stays d.moment d.left_since disk (d.may_leave disk) (KeepsCommits core) (g.met.D.Disk.only_now tells disk) (heap_keeps s core _ _ _ _ heap.means reached)
+
+pub returns-in-Begin-clause-passes : goal.returns-in-Begin-clause-passes
+returns-in-Begin-clause-passes g c tells s core heap none =
+    quiet_passes core c.args.event (g.D.Disk.passed c.args.self.now.disk) c.begin.result (λ force. let never = sym force ∙ c.in-Begin.is in cc)
+
+pub returns-in-Root-clause-moments : goal.returns-in-Root-clause-moments
+returns-in-Root-clause-moments g c tells s core heap none reached =
+    let d = g.D.Disk in
+    let disk = c.args.self.now.disk in
+    stays d.moment d.left_since disk (d.may_leave disk) (KeepsCommits core) (g.met.D.Disk.only_now tells disk) (heap_keeps s core _ _ _ _ heap.means reached)
+
+pub returns-in-Root-clause-passes : goal.returns-in-Root-clause-passes
+returns-in-Root-clause-passes g c tells s core heap none =
+    quiet_passes core c.args.event (g.D.Disk.passed c.args.self.now.disk) c.root.result (λ force. let never = sym force ∙ c.in-Root.is in cc)
+
+pub returns-in-Put-clause-moments : goal.returns-in-Put-clause-moments
+returns-in-Put-clause-moments g c tells s core heap none reached =
+    let d = g.D.Disk in
+    let disk = c.args.self.now.disk in
+    stays d.moment d.left_since disk (d.may_leave disk) (KeepsCommits core) (g.met.D.Disk.only_now tells disk) (heap_keeps s core _ _ _ _ heap.means reached)
+
+pub returns-in-Put-clause-passes : goal.returns-in-Put-clause-passes
+returns-in-Put-clause-passes g c tells s core heap none =
+    quiet_passes_result core c.args.event (g.D.Disk.passed c.args.self.now.disk) c.put.result (λ force. let never = sym force ∙ c.in-Put.is in cc)
+
+pub returns-in-Clear-clause-moments : goal.returns-in-Clear-clause-moments
+returns-in-Clear-clause-moments g c tells s core heap none reached =
+    let d = g.D.Disk in
+    let disk = c.args.self.now.disk in
+    stays d.moment d.left_since disk (d.may_leave disk) (KeepsCommits core) (g.met.D.Disk.only_now tells disk) (heap_keeps s core _ _ _ _ heap.means reached)
+
+pub returns-in-Clear-clause-passes : goal.returns-in-Clear-clause-passes
+returns-in-Clear-clause-passes g c tells s core heap none =
+    quiet_passes_result core c.args.event (g.D.Disk.passed c.args.self.now.disk) c.clear.result (λ force. let never = sym force ∙ c.in-Clear.is in cc)
+
+pub returns-in-Drop-clause-moments : goal.returns-in-Drop-clause-moments
+returns-in-Drop-clause-moments g c tells s core heap none reached =
+    let d = g.D.Disk in
+    let disk = c.args.self.now.disk in
+    stays d.moment d.left_since disk (d.may_leave disk) (KeepsCommits core) (g.met.D.Disk.only_now tells disk) (heap_keeps s core _ _ _ _ heap.means reached)
+
+pub returns-in-Drop-clause-passes : goal.returns-in-Drop-clause-passes
+returns-in-Drop-clause-passes g c tells s core heap none =
+    quiet_passes core c.args.event (g.D.Disk.passed c.args.self.now.disk) c.drop_handle.result (λ force. let never = sym force ∙ c.in-Drop.is in cc)
+
+pub returns-in-Get-clause-moments : goal.returns-in-Get-clause-moments
+returns-in-Get-clause-moments g c tells s core heap none reached =
+    let d = g.D.Disk in
+    let disk = c.args.self.now.disk in
+    stays d.moment d.left_since disk (d.may_leave disk) (KeepsCommits core) (g.met.D.Disk.only_now tells disk) (heap_keeps s core _ _ _ _ heap.means reached)
+
+pub returns-in-Get-clause-passes : goal.returns-in-Get-clause-passes
+returns-in-Get-clause-passes g c tells s core heap none =
+    quiet_passes core c.args.event (g.D.Disk.passed c.args.self.now.disk) c.get.result (λ force. let never = sym force ∙ c.in-Get.is in cc)
+
+pub returns-in-Same-clause-moments : goal.returns-in-Same-clause-moments
+returns-in-Same-clause-moments g c tells s core heap none reached =
+    let d = g.D.Disk in
+    let disk = c.args.self.now.disk in
+    stays d.moment d.left_since disk (d.may_leave disk) (KeepsCommits core) (g.met.D.Disk.only_now tells disk) (heap_keeps s core _ _ _ _ heap.means reached)
+
+pub returns-in-Same-clause-passes : goal.returns-in-Same-clause-passes
+returns-in-Same-clause-passes g c tells s core heap none =
+    quiet_passes core c.args.event (g.D.Disk.passed c.args.self.now.disk) c.same.result (λ force. let never = sym force ∙ c.in-Same.is in cc)
+
+pub returns-in-Len-clause-moments : goal.returns-in-Len-clause-moments
+returns-in-Len-clause-moments g c tells s core heap none reached =
+    let d = g.D.Disk in
+    let disk = c.args.self.now.disk in
+    stays d.moment d.left_since disk (d.may_leave disk) (KeepsCommits core) (g.met.D.Disk.only_now tells disk) (heap_keeps s core _ _ _ _ heap.means reached)
+
+pub returns-in-Len-clause-passes : goal.returns-in-Len-clause-passes
+returns-in-Len-clause-passes g c tells s core heap none =
+    quiet_passes core c.args.event (g.D.Disk.passed c.args.self.now.disk) c.len.result (λ force. let never = sym force ∙ c.in-Len.is in cc)
+
+pub returns-in-Seal-clause-moments : goal.returns-in-Seal-clause-moments
+returns-in-Seal-clause-moments g c tells s core heap none reached =
+    let d = g.D.Disk in
+    let disk = c.args.self.now.disk in
+    stays d.moment d.left_since disk (d.may_leave disk) (KeepsCommits core) (g.met.D.Disk.only_now tells disk) (heap_keeps s core _ _ _ _ heap.means reached)
+
+pub returns-in-Seal-clause-passes : goal.returns-in-Seal-clause-passes
+returns-in-Seal-clause-passes g c tells s core heap none =
+    quiet_passes_result core c.args.event (g.D.Disk.passed c.args.self.now.disk) c.seal.result (λ force. let never = sym force ∙ c.in-Seal.is in cc)
+
+pub returns-in-Abort-clause-moments : goal.returns-in-Abort-clause-moments
+returns-in-Abort-clause-moments g c tells s core heap none reached =
+    let d = g.D.Disk in
+    let disk = c.args.self.now.disk in
+    stays d.moment d.left_since disk (d.may_leave disk) (KeepsCommits core) (g.met.D.Disk.only_now tells disk) (heap_keeps s core _ _ _ _ heap.means reached)
+
+pub returns-in-Abort-clause-passes : goal.returns-in-Abort-clause-passes
+returns-in-Abort-clause-passes g c tells s core heap none =
+    quiet_passes_result core c.args.event (g.D.Disk.passed c.args.self.now.disk) c.abort.result (λ force. let never = sym force ∙ c.in-Abort.is in cc)
+
+pub returns-in-Force-clause-moments : goal.returns-in-Force-clause-moments
+returns-in-Force-clause-moments g c tells s core heap none reached = c.force.ensures.moments tells s core heap none reached
+
+pub returns-in-Force-clause-passes : goal.returns-in-Force-clause-passes
+returns-in-Force-clause-passes g c tells s core heap none =
+    let passed = g.D.Disk.passed in
+    let P : Event → Type 0 = λ e. IfOk c.force.result (λ reply. Passes (calls core e) (passed c.args.self.now.disk) (passed c.force.new.self.disk) (reply_device reply)) in
+    subst P (sym c.in-Force.is) (c.force.ensures.passes tells s core heap none)

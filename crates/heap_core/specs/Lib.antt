@@ -1,0 +1,9 @@
+pub mod Causes
+pub mod CoreGraph
+pub mod CoreLawsGraph
+pub mod Format
+pub mod GivenBack
+pub mod HeapState
+pub mod Means
+pub mod Reserve
+pub mod Working

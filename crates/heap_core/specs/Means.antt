@@ -1,0 +1,69 @@
+-- When what an open heap keeps is a core.
+use Rattle.std.specs.Prelude.{◌≡◌, ◌≢◌, ℕ, ◌+◌, List, [], length, map, reverse, is_some, Option, None, Some}
+use Rattle.disk_model.specs.Disk.{Only}
+use Rattle.disk_model.specs.declared.disk.Disk.{Ghosts}
+use Rattle.gated_log.specs.LogState.{Keeps, log_place, log_room}
+use Rattle.graph_model.specs.declared.event.Event.{Event}
+use Rattle.graph_model.specs.declared.reply.Reply.{Reply}
+use Rattle.graph_model.specs.Graph.{Graph}
+use Rattle.graph_model.specs.Transaction.{Transaction, run, serial}
+use Rattle.graph_model.specs.History.{Account, account}
+use Rattle.image_plan.specs.declared.superblock.Super.{Super}
+use Rattle.image_plan.specs.Plan.{log_offset}
+use Rattle.log_machine.specs.declared.UndoEntry.{UndoEntry}
+use Rattle.heap_core.specs.declared.active.Active.{Active}
+use Rattle.heap_core.specs.declared.heap.Heap.{Heap}
+use Rattle.heap_core.specs.declared.working.Working.{Working}
+use Rattle.heap_model.specs.Core.{Core, all_records, IsStep}
+use Rattle.heap_model.specs.CoreCrash.{KeepsCommits}
+use Rattle.heap_model.specs.Image.{IsLegal}
+use Rattle.log_machine.specs.Machine.{words, undo_of}
+
+-- What is kept in memory of the transaction on a graph: its number, which handles hold an object, and the writes that may be
+-- taken back, of which the newest stands last.
+pub record Follows (g : Graph) (t : Transaction) (writes : List UndoEntry) (active : Active) : Type 0 where
+  pub number : active.number ≡ t.number
+  pub handles : active.handles ≡ map is_some (run g t).registers
+  pub undo : reverse active.undo.items ≡ writes
+
+-- what is kept of the active transaction; without one no write may be taken back
+abbrev pub IsActive : Graph → List UndoEntry → Option Transaction → Option Active → Type 0
+IsActive g undo None None = undo ≡ []
+IsActive g undo (Some t) (Some active) = Follows g t undo active
+IsActive g undo t active = ⊥
+
+-- The working state is that of a core whose history tells this account.
+pub record Works (w : Working) (a : Account) (c : Core) : Type 0 where
+  pub log : Keeps w.log c.batches c.pending
+  pub place : log_place w.log ≡ log_offset
+  pub room : log_room w.log ≡ c.room
+  pub stored : w.words ≡ words (all_records c)
+  pub active : IsActive (serial c.g0 a.sealed) (undo_of (all_records c)) (a.active 1) w.active
+  pub next : w.next ≡ c.first + a.begun
+  pub sealed : w.sealed ≡ length a.sealed
+
+-- The disk holds a core's batches, and a crash can leave nothing else.
+pub record OnDisk (s : Super) (c : Core) (image : List ℕ) (may_leave : List ℕ → Type 0) : Type 0 where
+  pub legal : IsLegal s c.batches image
+  pub only : Only image may_leave
+  pub room : s.log_bytes ≡ c.room
+
+-- The working state and the disk are those of a core, until the disk stops or fails at an entry. From then on a crash leaves
+-- its first commits.
+pub record Means (s : Super) (c : Core) (w : Working) (failed : Option ℕ) (image : List ℕ) (may_leave : List ℕ → Type 0) : Type 0 where
+  pub failure : failed ≡ (account c.history).failed
+  pub works : failed ≡ None → Works w (account c.history) c
+  pub disk : failed ≡ None → OnDisk s c image may_leave
+  pub left : failed ≢ None → (image : List ℕ) → may_leave image → KeepsCommits c image
+
+-- An event was answered as from a core, and what is kept is what that leaves.
+pub record Steps (s : Super) (c : Core) (event : Event) (reply : Reply) (w : Working) (failed : Option ℕ) (image : List ℕ) (may_leave : List ℕ → Type 0) : Type 0 where
+  pub next : Core
+  pub step : IsStep c event reply next
+  pub means : Means s next w failed image may_leave
+
+module _ {D : Type 0} {g : Ghosts D} where
+  -- A heap is a core, and its history is the core's.
+  pub record IsHeap (s : Super) (c : Core) (heap : Heap D g) : Type 0 where
+    pub history : heap.history.entries.items ≡ c.history
+    pub means : Means s c heap.working heap.failed (g.bytes heap.disk) (g.may_leave heap.disk)

@@ -1,0 +1,112 @@
+//! An empty heap is made on a disk.
+ghost use Rattle.std.specs.Prelude.{◌≡◌, ℕ, ◌+◌, ◌-◌, ◌<◌, ◌≤◌, List, [], replicate, IsTrue, IfOk, IsErrAnd, OnOk};
+ghost use Rattle.counts.specs.Count.{counted};
+ghost use Rattle.disk_model.specs.Disk.{Only, Follows, HasCause, SameOutside};
+ghost use Rattle.disk_model.specs.Moments.{LeavesOnly};
+ghost use Rattle.image_plan.specs.Plan.{image_size};
+ghost use Rattle.image_plan.specs.Super.{IsSuper};
+ghost use Rattle.heap_core.specs.declared.formatting.FormatError.TheVariants.{TooSmall};
+ghost use Rattle.heap_core.specs.Format.{AreZero, IsFormatting, zero_writes, format_calls};
+ghost use Rattle.heap_core.specs.GivenBack.{given_back, device_result, FailsByDisk};
+ghost use Rattle.heap_model.specs.Image.{IsLegal};
+
+use disk_model::{Disk, DiskError};
+use gate_slot::{close_gate, fill_and_open};
+use image_plan::{SUPER_BYTES, Super, write_super};
+
+/// The bytes of each write of a format.
+const PIECE: usize = 65_536;
+
+static ZEROS: [u8; PIECE] = [0; PIECE];
+
+/// Why a heap could not be made.
+#[derive(Clone, Copy, Debug, PartialEq, Eq)]
+pub enum FormatError {
+    /// The disk has `size` bytes of the `need` that the heap takes.
+    TooSmall { size: u64, need: u64 },
+    /// The disk failed or stopped.
+    Disk(DiskError),
+}
+
+/// Makes an empty heap on the disk.
+pub fn format<D: Disk>(mut disk: D, of: &Super) -> Result<D, (FormatError, D)>
+    requires { IsSuper of.now }
+
+    // A disk that is too small is given back as it was.
+    ensures small { D.extent disk < image_size of.now.pages of.now.log_bytes → IsErrAnd result (λ e. e ≡ (TooSmall (D.extent disk) (image_size of.now.pages of.now.log_bytes), disk)) }
+    ensures large { image_size of.now.pages of.now.log_bytes ≤ D.extent disk → FailsByDisk result }
+
+    ensures made { IsTrue D.tells → IfOk result (λ made. IsLegal of.now [] (D.bytes made) × Only (D.bytes made) (D.may_leave made)) }
+    ensures moments { IsTrue D.tells → Only (D.bytes disk) (D.may_leave disk) → LeavesOnly D.moment D.left_since disk (given_back result) (IsFormatting of.now (D.bytes disk)) }
+    ensures passed { IsTrue D.tells → IfOk result (λ made. D.passed made ≡ counted (format_calls (image_size of.now.pages of.now.log_bytes) (D.bytes disk)) (D.passed disk)) }
+    ensures restarts { IsTrue D.tells → D.restarts (given_back result) ≡ D.restarts disk }
+    ensures extent { D.extent (given_back result) ≡ D.extent disk }
+    ensures origin { D.origin (given_back result) ≡ D.origin disk }
+    ensures cause { HasCause (D.faults disk) (D.faults (given_back result)) (D.stops disk) (D.stops (given_back result)) (device_result result) }
+{
+    let size = disk.size();
+    let need = of.plan().size();
+    if size < need {
+        return Err((FormatError::TooSmall { size, need }, disk));
+    }
+    match write_empty(&mut disk, of) {
+        Ok(()) => Ok(disk),
+        Err(e) => Err((FormatError::Disk(e), disk)),
+    }
+}
+
+fn write_empty<D: Disk>(disk: &mut D, of: &Super) -> Result<(), DiskError>
+    requires good { IsSuper of.now }
+    requires inside { image_size of.now.pages of.now.log_bytes ≤ D.extent disk.old }
+
+    ensures made { IsTrue D.tells → OnOk result (IsLegal of.now [] (D.bytes disk.new)) }
+    ensures durable { IsTrue D.tells → OnOk result (Only (D.bytes disk.new) (D.may_leave disk.new)) }
+    ensures moments { IsTrue D.tells → Only (D.bytes disk.old) (D.may_leave disk.old) → LeavesOnly D.moment D.left_since disk.old disk.new (IsFormatting of.now (D.bytes disk.old)) }
+    ensures passed { IsTrue D.tells → OnOk result (D.passed disk.new ≡ counted (format_calls (image_size of.now.pages of.now.log_bytes) (D.bytes disk.old)) (D.passed disk.old)) }
+    ensures restarts { IsTrue D.tells → D.restarts disk.new ≡ D.restarts disk.old }
+    ensures extent { D.extent disk.new ≡ D.extent disk.old }
+    ensures origin { D.origin disk.new ≡ D.origin disk.old }
+    ensures cause { HasCause (D.faults disk.old) (D.faults disk.new) (D.stops disk.old) (D.stops disk.new) result }
+{
+    close_gate(disk, 0)?;
+    write_zeros(disk, SUPER_BYTES as u64, of.plan().size())?;
+    let bytes = write_super(of);
+    fill_and_open(disk, 0, 1, &bytes[1..])
+}
+
+/// Writes zeros from `from` to `end`.
+fn write_zeros<D: Disk>(disk: &mut D, from: u64, end: u64) -> Result<(), DiskError>
+    requires inside { end ≤ D.extent disk.old }
+    requires ordered { from ≤ end }
+
+    ensures zero { IsTrue D.tells → OnOk result (AreZero from end (D.bytes disk.new)) }
+    ensures outside { IsTrue D.tells → OnOk result (SameOutside from end (D.bytes disk.old) (D.bytes disk.new)) }
+    ensures crash { IsTrue D.tells → Follows (SameOutside from end) (D.may_leave disk.old) (D.may_leave disk.new) }
+    ensures moments { IsTrue D.tells → LeavesOnly D.moment D.left_since disk.old disk.new (λ c. (d : List ℕ) × D.may_leave disk.old d × SameOutside from end d c) }
+    ensures passed { IsTrue D.tells → OnOk result (D.passed disk.new ≡ counted (zero_writes (end - from)) (D.passed disk.old)) }
+    ensures restarts { IsTrue D.tells → D.restarts disk.new ≡ D.restarts disk.old }
+    ensures extent { D.extent disk.new ≡ D.extent disk.old }
+    ensures origin { D.origin disk.new ≡ D.origin disk.old }
+    ensures cause { HasCause (D.faults disk.old) (D.faults disk.new) (D.stops disk.old) (D.stops disk.new) result }
+{
+    let mut at = from;
+    while at < end {
+        let left = end - at;
+        let piece = if left < PIECE as u64 {
+            left as usize
+        } else {
+            PIECE
+        };
+        disk.write(at, zeros(piece))?;
+        at += piece as u64;
+    }
+    Ok(())
+}
+
+/// That many zeros, of which there are no more than a piece.
+fn zeros(count: usize) -> &'static [u8]
+    requires { count ≤ PIECE }
+    ensures { result.now ≡ replicate count 0 }
+{
+    &ZEROS[..count]
+}

@@ -1,0 +1,264 @@
+//! The heap: events on an image, each of them one step.
+ghost use Rattle.std.specs.Prelude.{◌≡◌, ◌≢◌, ◌⊎◌, ◌↔◌, ◌+◌, ◌<◌, ◌≤◌, ℕ, List, [], drop, is_some, None, Err, IsTrue, IfOk, IfErr, OnErr, string_bytes};
+ghost use Rattle.std.specs.List.{AllByRecursion};
+ghost use Rattle.disk_model.specs.Disk.{HasCause, Only};
+ghost use Rattle.disk_model.specs.Moments.{LeavesOnly};
+ghost use Rattle.gate_slot.specs.Passing.{Passes};
+ghost use Rattle.gated_log.specs.Log.{records_of};
+ghost use Rattle.gated_log.specs.LogState.{log_place, log_room};
+ghost use Rattle.graph_model.specs.Graph.{Graph};
+ghost use Rattle.graph_model.specs.Canon.{canon};
+ghost use Rattle.graph_model.specs.Text.{canon_text};
+ghost use Rattle.graph_model.specs.SlowHeap.{IsSingleSession};
+ghost use Rattle.graph_model.specs.History.{account};
+ghost use Rattle.graph_model.specs.declared.event.Event.TheVariants.{Force};
+ghost use Rattle.graph_model.specs.declared.reply.Refusal.TheVariants.{DiskFault, Stopped};
+ghost use Rattle.image_plan.specs.declared.superblock.Super.{Super};
+ghost use Rattle.log_records.specs.declared.Record.{Record};
+ghost use Rattle.heap_model.specs.Image.{IsLegal, StandsFor, graph_of};
+ghost use Rattle.heap_model.specs.Opening.{opened, rollback_of, rolled_back, opening_calls};
+ghost use Rattle.heap_core.specs.Causes.{step_device, reply_device, opened_device};
+ghost use Rattle.heap_model.specs.Core.{Core, all_records, IsStep, fresh, calls};
+ghost use Rattle.heap_model.specs.CoreCrash.{KeepsCommits};
+ghost use Rattle.heap_model.specs.CoreValid.{IsReached};
+ghost use Rattle.log_machine.specs.Machine.{committed_words, commits};
+ghost use Rattle.heap_recovery.specs.Recovered.{IsFromOutside, OpenedPasses};
+ghost use Rattle.heap_model.specs.ValueWord.{IsNumberWord};
+
+use crate::graph_text::root_text;
+use crate::history::History;
+use crate::working::{Working, refused};
+use disk_model::{Disk, DiskError};
+use graph_model::{Entry, Event, Refusal, Reply};
+use heap_recovery::{OpenError, Recovered, recover, root_values};
+use std::alloc::{AllocError, Global};
+
+/// A heap on a disk, for one session.
+#[derive(Debug, Drop)]
+pub struct Heap<D: Disk> {
+    disk: D,
+    working: Working,
+    history: History,
+    // How many commits the log held when the heap was opened.
+    before: u64,
+    // The entry at which the disk failed or stopped.
+    failed: Option<u64>,
+    ghost inside: { log_place working.log + log_room working.log ≤ D.extent disk },
+}
+
+/// What an event is answered that the disk cut short.
+fn cut_short(e: DiskError) -> Reply
+    ensures device { reply_device result ≡ Err e }
+    ensures told { (result ≡ Reply.Refused DiskFault) ⊎ (result ≡ Reply.Refused Stopped) }
+{
+    refused(match e {
+        DiskError::Failed => Refusal::DiskFault,
+        DiskError::Stopped => Refusal::Stopped,
+    })
+}
+
+impl<D: Disk> Heap<D> {
+    ghost use Rattle.heap_core.specs.HeapState.{opened_disk, commits_of};
+    ghost use Rattle.heap_core.specs.Means.{IsHeap, Steps};
+
+    /// Opens the heap on the disk.
+    pub fn open(alloc: Global, mut disk: D) -> Result<Heap<D>, (OpenError, D)>
+        ensures extent { D.extent (opened_disk result) ≡ D.extent disk }
+        ensures origin { D.origin (opened_disk result) ≡ D.origin disk }
+        ensures cause { HasCause (D.faults disk) (D.faults (opened_disk result)) (D.stops disk) (D.stops (opened_disk result)) (opened_device result) }
+        ensures idle { IfOk result (λ heap. heap.working.active ≡ None) }
+
+        // At each moment of it a crash leaves an image that stands for the same graph and commits as the one that was opened.
+        ensures moments { IsTrue D.tells → Only (D.bytes disk) (D.may_leave disk) → (g : Graph) (k : ℕ) → StandsFor g k (D.bytes disk) → LeavesOnly D.moment D.left_since disk (opened_disk result) (StandsFor g k) }
+        ensures crash { IsTrue D.tells → Only (D.bytes disk) (D.may_leave disk) → (g : Graph) (k : ℕ) → StandsFor g k (D.bytes disk) → (image : List ℕ) → D.may_leave (opened_disk result) image → StandsFor g k image }
+        // It writes only where it has to take a transaction's writes back.
+        ensures passes { IsTrue D.tells → (s : Super) (batches : List (List Record)) → IsLegal s batches (D.bytes disk) → OpenedPasses (opening_calls batches) (D.passed disk) (D.passed (opened_disk result)) result }
+        ensures no_first_stop { IsTrue D.tells → (s : Super) (batches : List (List Record)) → IsLegal s batches (D.bytes disk) → rollback_of batches ≡ [] → D.stops disk ≡ 0 → D.stops (opened_disk result) ≡ 0 }
+        ensures restarts { IsTrue D.tells → D.restarts (opened_disk result) ≡ D.restarts disk }
+
+        // A legal image is refused only for want of memory or by the disk.
+        ensures legal { IsTrue D.tells → (s : Super) (batches : List (List Record)) → IsLegal s batches (D.bytes disk) → IfErr result (λ e. IsFromOutside e.0) }
+        ensures count { IsTrue D.tells → (s : Super) (batches : List (List Record)) → IsLegal s batches (D.bytes disk) → IfOk result (λ heap. commits_of heap ≡ commits (records_of batches)) }
+
+        // A legal image is opened as the core that it stands for; an empty one as that of a new heap.
+        ensures means { IsTrue D.tells → (s : Super) (batches : List (List Record)) → IsLegal s batches (D.bytes disk) → Only (D.bytes disk) (D.may_leave disk) → IfOk result (λ heap. IsHeap s (opened s (rolled_back batches) heap.working.next) heap) }
+        ensures fresh { IsTrue D.tells → (s : Super) → IsLegal s [] (D.bytes disk) → Only (D.bytes disk) (D.may_leave disk) → IfOk result (λ heap. IsHeap s (fresh s.log_bytes s.first) heap) }
+    {
+        match recover(alloc, &mut disk) {
+            Ok(found) => {
+                let Recovered {
+                    log,
+                    words,
+                    commits,
+                    next,
+                } = found;
+                let working = Working {
+                    log,
+                    words,
+                    active: None,
+                    next,
+                    sealed: 0,
+                };
+                Ok(Heap {
+                    disk,
+                    working,
+                    history: History::new(alloc),
+                    before: commits,
+                    failed: None,
+                })
+            }
+            Err(e) => Err((e, disk)),
+        }
+    }
+
+    /// Makes one step, and answers the event. Want of memory changes nothing.
+    pub fn step(&mut self, event: Event) -> Result<Reply, AllocError>
+        ensures extent { D.extent self.new.disk ≡ D.extent self.old.disk }
+        ensures origin { D.origin self.new.disk ≡ D.origin self.old.disk }
+        ensures cause { HasCause (D.faults self.old.disk) (D.faults self.new.disk) (D.stops self.old.disk) (D.stops self.new.disk) (step_device result) }
+
+        // Each event is a step of the core that the heap is.
+        ensures core { IsTrue D.tells → (s : Super) (c : Core) → IsHeap s c self.old → IsReached c → IsSingleSession event → IfOk result (λ reply. (d : Core) × IsStep c event reply d × IsHeap s d self.new) }
+        ensures kept { (s : Super) (c : Core) → IsHeap s c self.old → OnErr result (IsHeap s c self.new) }
+        ensures untouched { OnErr result (self.new.disk ≡ self.old.disk) }
+
+        // At each moment of it a crash leaves first commits, among them all that were acknowledged before.
+        ensures moments { IsTrue D.tells → (s : Super) (c : Core) → IsHeap s c self.old → IsReached c → LeavesOnly D.moment D.left_since self.old.disk self.new.disk (KeepsCommits c) }
+        ensures passes { IsTrue D.tells → (s : Super) (c : Core) → IsHeap s c self.old → IfOk result (λ reply. Passes (calls c event) (D.passed self.old.disk) (D.passed self.new.disk) (reply_device reply)) }
+        ensures restarts { IsTrue D.tells → D.restarts self.new.disk ≡ D.restarts self.old.disk }
+    {
+        self.history.reserve()?;
+        let reply = self.reply_to(event)?;
+        self.history.push(Entry { event, reply });
+        Ok(reply)
+    }
+
+    fn reply_to(&mut self, event: Event) -> Result<Reply, AllocError>
+        ensures extent { D.extent self.new.disk ≡ D.extent self.old.disk }
+        ensures origin { D.origin self.new.disk ≡ D.origin self.old.disk }
+        ensures cause { HasCause (D.faults self.old.disk) (D.faults self.new.disk) (D.stops self.old.disk) (D.stops self.new.disk) (step_device result) }
+        ensures history { self.new.history ≡ self.old.history }
+        ensures core { IsTrue D.tells → (s : Super) (c : Core) → IsHeap s c self.old → IsReached c → IsSingleSession event → IfOk result (λ reply. Steps s c event reply self.new.working self.new.failed (D.bytes self.new.disk) (D.may_leave self.new.disk)) }
+        ensures kept { (s : Super) (c : Core) → IsHeap s c self.old → OnErr result (IsHeap s c self.new) }
+        ensures untouched { OnErr result (self.new.disk ≡ self.old.disk) }
+        ensures moments { IsTrue D.tells → (s : Super) (c : Core) → IsHeap s c self.old → IsReached c → LeavesOnly D.moment D.left_since self.old.disk self.new.disk (KeepsCommits c) }
+        ensures passes { IsTrue D.tells → (s : Super) (c : Core) → IsHeap s c self.old → IfOk result (λ reply. Passes (calls c event) (D.passed self.old.disk) (D.passed self.new.disk) (reply_device reply)) }
+        ensures restarts { IsTrue D.tells → D.restarts self.new.disk ≡ D.restarts self.old.disk }
+    {
+        match self.failed {
+            Some(entry) => Ok(refused(Refusal::Failed { entry })),
+            None => self.answer(event),
+        }
+    }
+
+    fn answer(&mut self, event: Event) -> Result<Reply, AllocError>
+        ensures extent { D.extent self.new.disk ≡ D.extent self.old.disk }
+        ensures origin { D.origin self.new.disk ≡ D.origin self.old.disk }
+        ensures cause { HasCause (D.faults self.old.disk) (D.faults self.new.disk) (D.stops self.old.disk) (D.stops self.new.disk) (step_device result) }
+        ensures core { IsTrue D.tells → (s : Super) (c : Core) → IsHeap s c self.old → self.old.failed ≡ None → IsReached c → IsSingleSession event → IfOk result (λ reply. Steps s c event reply self.new.working self.new.failed (D.bytes self.new.disk) (D.may_leave self.new.disk)) }
+        ensures kept { (s : Super) (c : Core) → IsHeap s c self.old → OnErr result (IsHeap s c self.new) }
+        ensures history { self.new.history ≡ self.old.history }
+        ensures untouched { OnErr result (self.new.disk ≡ self.old.disk) }
+        ensures moments { IsTrue D.tells → (s : Super) (c : Core) → IsHeap s c self.old → self.old.failed ≡ None → IsReached c → LeavesOnly D.moment D.left_since self.old.disk self.new.disk (KeepsCommits c) }
+        ensures passes { IsTrue D.tells → (s : Super) (c : Core) → IsHeap s c self.old → self.old.failed ≡ None → IfOk result (λ reply. Passes (calls c event) (D.passed self.old.disk) (D.passed self.new.disk) (reply_device reply)) }
+        ensures restarts { IsTrue D.tells → D.restarts self.new.disk ≡ D.restarts self.old.disk }
+    {
+        let alloc = self.history.allocator();
+        match event {
+            Event::Begin { .. } => Ok(self.working.begin(alloc)),
+            Event::Root { h, .. } => Ok(self.working.root(h)),
+            Event::Put { h, i, v, .. } => self.working.put(h, i, v),
+            Event::Clear { h, i, .. } => self.working.clear(h, i),
+            Event::Drop { h, .. } => Ok(self.working.drop_handle(h)),
+            Event::Get { h, i, h2, .. } => Ok(self.working.get(h, i, h2)),
+            Event::Same { h, h2, .. } => Ok(self.working.same(h, h2)),
+            Event::Len { h, .. } => Ok(self.working.len(h)),
+            Event::Seal { .. } => self.working.seal(),
+            Event::Abort { .. } => self.working.abort(alloc),
+            Event::Force => self.force(),
+        }
+    }
+
+    fn force(&mut self) -> Result<Reply, AllocError>
+        ensures extent { D.extent self.new.disk ≡ D.extent self.old.disk }
+        ensures origin { D.origin self.new.disk ≡ D.origin self.old.disk }
+        ensures cause { HasCause (D.faults self.old.disk) (D.faults self.new.disk) (D.stops self.old.disk) (D.stops self.new.disk) (step_device result) }
+        ensures core { IsTrue D.tells → (s : Super) (c : Core) → IsHeap s c self.old → self.old.failed ≡ None → IsReached c → IfOk result (λ reply. Steps s c Force reply self.new.working self.new.failed (D.bytes self.new.disk) (D.may_leave self.new.disk)) }
+        ensures kept { (s : Super) (c : Core) → IsHeap s c self.old → OnErr result (IsHeap s c self.new) }
+        ensures history { self.new.history ≡ self.old.history }
+        ensures untouched { OnErr result (self.new.disk ≡ self.old.disk) }
+        ensures moments { IsTrue D.tells → (s : Super) (c : Core) → IsHeap s c self.old → self.old.failed ≡ None → IsReached c → LeavesOnly D.moment D.left_since self.old.disk self.new.disk (KeepsCommits c) }
+        ensures passes { IsTrue D.tells → (s : Super) (c : Core) → IsHeap s c self.old → self.old.failed ≡ None → IfOk result (λ reply. Passes (calls c Force) (D.passed self.old.disk) (D.passed self.new.disk) (reply_device reply)) }
+        ensures restarts { IsTrue D.tells → D.restarts self.new.disk ≡ D.restarts self.old.disk }
+    {
+        self.working.log.reserve()?;
+        match self.working.log.force(&mut self.disk) {
+            Ok(()) => Ok(Reply::Durable {
+                n: self.working.sealed,
+            }),
+            Err(e) => {
+                self.failed = Some(self.history.len() as u64 + 1);
+                Ok(cut_short(e))
+            }
+        }
+    }
+
+    /// The entries since the heap was opened.
+    pub fn history(&self) -> &History
+        ensures { (s : Super) (c : Core) → IsHeap s c self.now → result.now.entries.items ≡ c.history }
+    {
+        &self.history
+    }
+
+    /// The entry, from 1, at which the disk failed or stopped.
+    pub fn failed(&self) -> Option<u64>
+        ensures { (s : Super) (c : Core) → IsHeap s c self.now → result ≡ (account c.history).failed }
+    {
+        self.failed
+    }
+
+    /// How many commits the log holds.
+    pub fn commits(&self) -> u64
+        ensures { result ≡ commits_of self.now }
+    {
+        self.before.saturating_add(self.working.sealed)
+    }
+
+    /// Whether records wait to be forced.
+    pub fn pending(&self) -> bool
+        ensures { (s : Super) (c : Core) → IsHeap s c self.now → self.now.failed ≡ None → IsTrue result ↔ (c.pending ≢ []) }
+    {
+        self.working.log.pending()
+    }
+
+    /// Whether a transaction is active.
+    pub fn active(&self) -> bool
+        ensures { (s : Super) (c : Core) → IsHeap s c self.now → self.now.failed ≡ None → result ≡ is_some ((account c.history).active 1) }
+    {
+        self.working.active.is_some()
+    }
+
+    /// The text of the graph.
+    pub fn graph(&self, alloc: Global) -> Result<String, AllocError>
+        ensures text { (s : Super) (c : Core) → IsHeap s c self.now → self.now.failed ≡ None → AllByRecursion IsNumberWord (drop 2 (committed_words (all_records c))) → IfOk result (λ text. string_bytes text ≡ canon_text (canon (graph_of (all_records c)))) }
+    {
+        match root_values(&self.working.committed_words()) {
+            Some(values) => root_text(alloc, &values),
+            None => root_text(alloc, &[]),
+        }
+    }
+
+    /// Gives the disk back.
+    pub fn close(self) -> D
+        ensures { result ≡ self.disk }
+    {
+        let Heap {
+            disk,
+            working: _,
+            history: _,
+            before: _,
+            failed: _,
+        } = self;
+        disk
+    }
+}

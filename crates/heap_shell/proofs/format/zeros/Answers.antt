@@ -1,5 +1,0 @@
-use Rattle.std.proofs.lemmas.List.{take-replicate}
-use Rattle.heap_shell.proofs.format.zeros.Goals as goal
-
-pub returns : goal.returns
-returns c = take-replicate c.args.count 65536 0 c.requires

@@ -1,5 +1,0 @@
-use Rattle.std.proofs.Common.{arith}
-use Rattle.heap_shell.proofs.heap.Heap.commits.Goals as goal
-
-pub returns : goal.returns
-returns g c = omega arith
