@@ -6,7 +6,7 @@ ghost use Rattle.std.specs.Int.{w16, w32, w64, to_le_bytes};
 ghost use Rattle.heap_words.specs.Word.{IsFieldWord};
 ghost use Rattle.log_records.specs.declared.Record.{Record};
 ghost use Rattle.log_records.specs.declared.Record.TheVariants.{Update, Undo, Commit, End};
-ghost use Rattle.log_records.specs.Record.{spelling, Begins, Reads, IsNumber, IsRecord};
+ghost use Rattle.log_records.specs.Record.{spelling, Begins, Reads, IsRecord};
 
 use heap_words::decode as decode_word;
 use std::alloc::AllocError;
@@ -34,7 +34,7 @@ pub const END_BYTES: usize = 5;
 /// The greatest number of a transaction.
 pub const LAST_NUMBER: u32 = 4_294_967_294;
 
-/// A record of the log. Its bytes are read again only where `t` is from 1 to 4,294,967,294 and each word is one of a field.
+/// A record of the log. Its bytes are read again only where each word is one of a field.
 #[derive(Clone, Copy, Debug, PartialEq, Eq)]
 pub enum Record {
     /// Transaction `t` wrote `word` into a field of the object at word address `object`, where `was` stood.
@@ -162,17 +162,6 @@ fn u64_at(bytes: &[u8]) -> Option<(u64, &[u8])>
     Some((u64::from_le_bytes(*front), rest))
 }
 
-fn number_at(bytes: &[u8]) -> Option<(u32, &[u8])>
-    ensures found { IfSome result (λ x. IsNumber x.0 × (bytes.now ≡ to_le_bytes w32 x.0 ++ x.1.now)) }
-    ensures only { (t : ℕ) (rest : List ℕ) → IsNumber t → bytes.now ≡ to_le_bytes w32 t ++ rest → Reads result t rest }
-{
-    let (t, rest) = u32_at(bytes)?;
-    if t == 0 || t > LAST_NUMBER {
-        return None;
-    }
-    Some((t, rest))
-}
-
 fn field_word_at(bytes: &[u8]) -> Option<(u64, &[u8])>
     ensures found { IfSome result (λ x. IsFieldWord x.0 × (bytes.now ≡ to_le_bytes w64 x.0 ++ x.1.now)) }
     ensures only { (w : ℕ) (rest : List ℕ) → IsFieldWord w → bytes.now ≡ to_le_bytes w64 w ++ rest → Reads result w rest }
@@ -186,7 +175,7 @@ fn update_at(bytes: &[u8]) -> Option<Record>
     ensures found { IfSome result (λ rec. IsRecord rec × Begins (1 ∷ bytes.now) rec) }
     ensures only { (rec : Record) → IsRecord rec → Begins (1 ∷ bytes.now) rec → result ≡ Some rec }
 {
-    let (t, rest) = number_at(bytes)?;
+    let (t, rest) = u32_at(bytes)?;
     let (object, rest) = u32_at(rest)?;
     let (field, rest) = u16_at(rest)?;
     let (was, rest) = field_word_at(rest)?;
@@ -204,7 +193,7 @@ fn undo_at(bytes: &[u8]) -> Option<Record>
     ensures found { IfSome result (λ rec. IsRecord rec × Begins (4 ∷ bytes.now) rec) }
     ensures only { (rec : Record) → IsRecord rec → Begins (4 ∷ bytes.now) rec → result ≡ Some rec }
 {
-    let (t, rest) = number_at(bytes)?;
+    let (t, rest) = u32_at(bytes)?;
     let (object, rest) = u32_at(rest)?;
     let (field, rest) = u16_at(rest)?;
     let (word, _) = field_word_at(rest)?;
@@ -220,7 +209,7 @@ fn commit_at(bytes: &[u8]) -> Option<Record>
     ensures found { IfSome result (λ rec. IsRecord rec × Begins (5 ∷ bytes.now) rec) }
     ensures only { (rec : Record) → IsRecord rec → Begins (5 ∷ bytes.now) rec → result ≡ Some rec }
 {
-    let (t, _) = number_at(bytes)?;
+    let (t, _) = u32_at(bytes)?;
     Some(Record::Commit { t })
 }
 
@@ -228,7 +217,7 @@ fn end_at(bytes: &[u8]) -> Option<Record>
     ensures found { IfSome result (λ rec. IsRecord rec × Begins (6 ∷ bytes.now) rec) }
     ensures only { (rec : Record) → IsRecord rec → Begins (6 ∷ bytes.now) rec → result ≡ Some rec }
 {
-    let (t, _) = number_at(bytes)?;
+    let (t, _) = u32_at(bytes)?;
     Some(Record::End { t })
 }
 

@@ -4,28 +4,28 @@ use Rattle.log_records.proofs.undo_at.Goals as goal
 pub returns-in_err-field-clause-only : goal.returns-in_err-field-clause-only
 returns-in_err-field-clause-only c rec good begins =
     let u = has_undo rec c.args.bytes.now good begins in
-    let a = c.in_ok-t.ensures.only u.t _ u.good.number u.spelled in
+    let a = c.in_ok-t.ensures.only u.t _ u.good.t_fits u.spelled in
     let b = c.in_ok-object.ensures.only u.object _ u.good.object_fits a.1 in
     absurd (c.in_err-field.ensures.only u.field _ u.good.field_fits b.1)
 
 pub returns-in_err-word-clause-only : goal.returns-in_err-word-clause-only
 returns-in_err-word-clause-only c rec good begins =
     let u = has_undo rec c.args.bytes.now good begins in
-    let a = c.in_ok-t.ensures.only u.t _ u.good.number u.spelled in
+    let a = c.in_ok-t.ensures.only u.t _ u.good.t_fits u.spelled in
     let b = c.in_ok-object.ensures.only u.object _ u.good.object_fits a.1 in
     let d = c.in_ok-field.ensures.only u.field _ u.good.field_fits b.1 in
     absurd (c.in_err-word.ensures.only u.word _ u.good.old_word d.1)
 
 pub returns-clause-found : goal.returns-clause-found
 returns-clause-found c = (
-  record { number = c.in_ok-t.ensures.found.0; object_fits = c.in_ok-object.ensures.found.0; field_fits = c.in_ok-field.ensures.found.0; old_word = c.in_ok-word.ensures.found.0 },
+  record { t_fits = c.in_ok-t.ensures.found.0; object_fits = c.in_ok-object.ensures.found.0; field_fits = c.in_ok-field.ensures.found.0; old_word = c.in_ok-word.ensures.found.0 },
   whole_undo c.args.bytes.now c.in_ok-t.rest.now c.in_ok-object.rest.now c.in_ok-field.rest.now _ c.in_ok-t.t c.in_ok-object.object c.in_ok-field.field c.in_ok-word.word c.in_ok-t.ensures.found.1 c.in_ok-object.ensures.found.1 c.in_ok-field.ensures.found.1 c.in_ok-word.ensures.found.1,
 )
 
 pub returns-clause-only : goal.returns-clause-only
 returns-clause-only c rec good begins =
     let u = has_undo rec c.args.bytes.now good begins in
-    let a = c.in_ok-t.ensures.only u.t _ u.good.number u.spelled in
+    let a = c.in_ok-t.ensures.only u.t _ u.good.t_fits u.spelled in
     let b = c.in_ok-object.ensures.only u.object _ u.good.object_fits a.1 in
     let d = c.in_ok-field.ensures.only u.field _ u.good.field_fits b.1 in
     let e = c.in_ok-word.ensures.only u.word _ u.good.old_word d.1 in
