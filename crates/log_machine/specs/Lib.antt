@@ -1,5 +1,3 @@
 pub mod Machine
 pub mod UndoEntry
-pub mod Effect
-pub mod MachineLaws
-pub mod Replay
+pub mod StateCode
