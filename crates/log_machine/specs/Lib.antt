@@ -1,3 +1,6 @@
 pub mod Machine
 pub mod UndoEntry
 pub mod StateCode
+pub mod MapLaws
+pub mod ListLaws
+pub mod MachineLaws
