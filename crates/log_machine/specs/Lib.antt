@@ -4,3 +4,5 @@ pub mod StateCode
 pub mod MapLaws
 pub mod ListLaws
 pub mod MachineLaws
+pub mod Sound
+pub mod StateLaws

@@ -5,6 +5,7 @@ use Rattle.std.specs.Prelude.{fold, option_and_then, unwrap_or}
 use Rattle.std.specs.Ordering.{nat_cmp}
 use Rattle.std.specs.FinMap.{FinMap, get, entries}
 use Rattle.std.proofs.lemmas.Bool.{eq-eqb, eqb-true, lt-ltb, ltb-true, le-leb, leb-true, and_parts, and_from}
+use Rattle.std.proofs.lemmas.Option.{cond_some}
 use Rattle.std.proofs.lemmas.List.Sums.{fold-append, sum_by-append}
 use Rattle.log_records.specs.declared.Record.{Record}
 use Rattle.log_records.specs.declared.Record.TheVariants.{Update, Undo, Commit, End}
@@ -116,9 +117,8 @@ same_entry u v e =
 pub newest_told : (entries : List UndoEntry) (write : UndoEntry) (rest : List UndoEntry) → without_newest entries write ≡ Some rest → entries ≡ write ∷ rest
 newest_told [] write rest e = absurd (cc e)
 newest_told (u ∷ us) write rest e =
-    let told = told_if _ _ _ e in
-    let is : us ≡ rest = cc told.1 in
-    ap (λ (x : UndoEntry). x ∷ us) (same_entry u write told.0) ∙ ap (λ (x : List UndoEntry). write ∷ x) is
+    let told = cond_some _ _ _ e in
+    ap (λ (x : UndoEntry). x ∷ us) (same_entry u write told.0) ∙ ap (λ (x : List UndoEntry). write ∷ x) told.1
 
 newest_taken : (entries : List UndoEntry) (u : UndoEntry) (us : List UndoEntry) → entries ≡ u ∷ us → without_newest entries u ≡ Some us
 newest_taken entries u us e = ap (λ l. without_newest l u) e ∙ ap (λ b. cond b (Some us) None) (same_write u)
