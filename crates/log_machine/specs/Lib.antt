@@ -6,3 +6,8 @@ pub mod ListLaws
 pub mod MachineLaws
 pub mod Sound
 pub mod StateLaws
+pub mod AbortLaws
+pub mod Apart
+pub mod CommittedLaws
+pub mod ReserveLaws
+pub mod WordsLaws

@@ -1,12 +1,13 @@
 -- Laws of finite maps from numbers: what stands at a key after a change, which changes are the same, and sums over the entries.
-use Rattle.std.proofs.Common.{◌≡◌, ◌≢◌, ℕ, ◌+◌, Bool, true, false, cond, List, [], ◌∷◌, Option, None, Some, Ordering, Less, Equal, Greater, refl, sym, ap, subst, ◌∙◌, arith}
+use Rattle.std.proofs.Common.{◌≡◌, ◌≢◌, ℕ, ◌+◌, Bool, true, false, cond, List, [], ◌∷◌, length, Option, None, Some, Ordering, Less, Equal, Greater, refl, sym, ap, subst, ◌∙◌, arith}
 use Rattle.std.specs.Prelude.{T, sum_by, ◌&&◌}
+use Rattle.std.specs.List.{AllByRecursion}
 use Rattle.std.specs.Ordering.{nat_cmp, eq_by_cmp, is_eq, is_lt}
 use Rattle.std.specs.Cmp.{nat_cmp_total}
 use Rattle.std.proofs.lemmas.Cmp.{tied_itself}
 use Rattle.std.proofs.lemmas.List.Sums.{sum_by-cons}
 use Rattle.std.specs.FinMap.Entries.{below_all, by_order}
-use Rattle.std.specs.FinMap.{FinMap, empty, get, insert, remove, entries, entries_sorted, from_sorted, find, put, is_sorted, same_map, get-insert, get-remove, get-empty, get-entries, get-from_sorted, entries-from_sorted, entries-insert, nat_cmp-IsAntisymmetric}
+use Rattle.std.specs.FinMap.{FinMap, empty, get, insert, remove, entries, entries_sorted, from_sorted, find, put, is_sorted, same_map, get-insert, get-remove, get-empty, get-entries, len-entries, len-empty, empty_of_len, get-from_sorted, entries-from_sorted, entries-insert, nat_cmp-IsAntisymmetric}
 
 -- one key ties with another only where it is that
 pub tied : (q k : ℕ) → eq_by_cmp nat_cmp q k ≡ true → q ≡ k
@@ -180,3 +181,40 @@ module _ {X : Type 0} (P : ℕ → X → Type 0) where
 
   pub each_insert : (m : FinMap nat_cmp X) (k : ℕ) (v : X) → P k v → EachEntry P m → EachEntry P (insert m k v)
   each_insert m k v here each q w some = inserted_at m k q v w (eq_by_cmp nat_cmp q k) refl here each (sym (get-insert nat_cmp_total m k v q) ∙ some)
+
+-- no map with an entry is empty, and a map with none is
+nothing_of_length : {A : Type 0} (xs : List A) → length xs ≡ 0 → xs ≡ []
+nothing_of_length [] e = refl
+nothing_of_length (x ∷ xs) e = absurd (omega arith)
+
+pub entries_empty : (X : Type 0) → entries (empty {X = X} {R = nat_cmp}) ≡ []
+entries_empty X = nothing_of_length _ (sym (len-entries (empty {X = X} {R = nat_cmp})) ∙ len-empty nat_cmp X)
+
+module _ {X : Type 0} where
+  pub empty_of_entries : (m : FinMap nat_cmp X) → entries m ≡ [] → m ≡ empty
+  empty_of_entries m e = empty_of_len m (len-entries m ∙ ap length e)
+
+  gone_at : (m : FinMap nat_cmp X) (k q : ℕ) (o : Option X) (b : Bool) → get m q ≡ o → eq_by_cmp nat_cmp q k ≡ b → EachEntry (λ q v. q ≡ k) m → get (remove m k) q ≡ get (empty {X = X} {R = nat_cmp}) q
+  gone_at m k q o true some same only = get-remove nat_cmp_total m k q ∙ ap (λ b. cond b None (get m q)) same ∙ sym (get-empty nat_cmp q)
+  gone_at m k q None false some other only = get-remove nat_cmp_total m k q ∙ ap (λ b. cond b None (get m q)) other ∙ some ∙ sym (get-empty nat_cmp q)
+  gone_at m k q (Some v) false some other only = absurd (cc (other, itself k, only q v some))
+
+  -- without the only key nothing is left
+  pub remove_only : (m : FinMap nat_cmp X) (k : ℕ) → EachEntry (λ q v. q ≡ k) m → remove m k ≡ empty
+  remove_only m k only = same_map nat_cmp_total nat_cmp-IsAntisymmetric _ _ (λ q. gone_at m k q (get m q) (eq_by_cmp nat_cmp q k) refl refl only)
+
+  each_of : (P : ℕ → X → Type 0) (es : List (ℕ × X)) (m : FinMap nat_cmp X) → entries m ≡ es → EachEntry P m → AllByRecursion (λ e. P e.0 e.1) es
+  each_of P [] m is each = tt
+  each_of P (e ∷ es) m is each = (each e.0 e.1 (get_first m e.0 e.1 es is), each_of P es (remove m e.0) (remove_first m e.0 e.1 es is) (each_remove P m e.0 each))
+
+  -- what holds of each key and its value holds of each entry
+  pub each_entry : (P : ℕ → X → Type 0) (m : FinMap nat_cmp X) → EachEntry P m → AllByRecursion (λ e. P e.0 e.1) (entries m)
+  each_entry P m each = each_of P (entries m) m refl each
+
+  other_at : (P : ℕ → X → Type 0) (m : FinMap nat_cmp X) (k q : ℕ) (v : X) (b : Bool) → eq_by_cmp nat_cmp q k ≡ b → EachEntry (λ q v. q ≢ k → P q v) m → cond b None (get m q) ≡ Some v → P q v
+  other_at P m k q v true e each some = absurd (cc some)
+  other_at P m k q v false e each some = each q v some (λ same. cc (e, itself k, same))
+
+  -- and of each entry but one
+  pub each_other : (P : ℕ → X → Type 0) (m : FinMap nat_cmp X) (k : ℕ) → EachEntry (λ q v. q ≢ k → P q v) m → EachEntry P (remove m k)
+  each_other P m k each q v some = other_at P m k q v (eq_by_cmp nat_cmp q k) refl each (sym (get-remove nat_cmp_total m k q) ∙ some)
