@@ -35,10 +35,12 @@ pub record StandsAlone (words : List ℕ) (at : ℕ) (vs : List Val) : Type 0 wh
   pub within : at + 6 ≤ length words
   pub fields : AreRootWords at (take 4 (drop (at + 2) words)) vs
 
-root_object : (words : List ℕ) (at : ℕ) (vs : List Val) → StandsAlone words at vs → object_at words at ≡ Some 4
+-- it is an object
+pub root_object : (words : List ℕ) (at : ℕ) (vs : List Val) → StandsAlone words at vs → object_at words at ≡ Some 4
 root_object words at vs alone = let within = alone.within in object_from_header words at 4 alone.header (lit< tt) (omega arith)
 
-root_field_words : (words : List ℕ) (at : ℕ) (vs : List Val) → StandsAlone words at vs → field_words words at ≡ take 4 (drop (at + 2) words)
+-- with these field words
+pub root_field_words : (words : List ℕ) (at : ℕ) (vs : List Val) → StandsAlone words at vs → field_words words at ≡ take 4 (drop (at + 2) words)
 root_field_words words at vs alone = ap (words_of words at) (root_object words at vs alone)
 
 root_value : (name : ℕ → Id) (words : List ℕ) (at w : ℕ) (v : Val) → stand words at ≡ Some at → name at ≡ root → IsRootWord at w v → value name words (meaning w) ≡ Some v
