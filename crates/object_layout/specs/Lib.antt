@@ -1,3 +1,4 @@
+pub mod CanonMatch
 pub mod Layout
 pub mod LayoutLaws
 pub mod RootLaws
