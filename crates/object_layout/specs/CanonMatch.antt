@@ -185,12 +185,14 @@ abbrev AreThere : Graph → List Id → Type 0
 AreThere g [] = Unit {0}
 AreThere g (x ∷ xs) = ((vs : List Val) × (get g x ≡ Some vs)) × AreThere g xs
 
-same_id : (a b : Id) → is_same_id a b ≡ true → a ≡ b
+-- ids that test alike are one
+pub same_id : (a b : Id) → is_same_id a b ≡ true → a ≡ b
 same_id a b e =
     let parts = and_parts (nat_eq a.t b.t) (nat_eq a.k b.k) e in
     ap (λ t. record { t = t; k = a.k }) (eqb-true a.t b.t parts.0) ∙ ap (λ k. record { t = b.t; k = k }) (eqb-true a.k b.k parts.1)
 
-itself : (a : Id) → is_same_id a a ≡ true
+-- an id tests alike with itself
+pub itself : (a : Id) → is_same_id a a ≡ true
 itself a = ap (λ x. x && nat_eq a.k a.k) (eq-eqb a.t a.t refl) ∙ eq-eqb a.k a.k refl
 
 is_equal : (r : Ordering) → is_eq r ≡ true → r ≡ Equal
@@ -198,7 +200,8 @@ is_equal Less is = cc
 is_equal Equal is = refl
 is_equal Greater is = cc
 
-tied_ids : (x y : Id) → eq_by_cmp id_cmp x y ≡ true → x ≡ y
+-- ids that compare alike are one
+pub tied_ids : (x y : Id) → eq_by_cmp id_cmp x y ≡ true → x ≡ y
 tied_ids x y is = id_cmp-IsAntisymmetric x y (is_equal (id_cmp x y) is)
 
 same_flip : (a b : Id) → is_same_id a b ≡ is_same_id b a
