@@ -1,8 +1,8 @@
 -- Two graphs whose reached objects match one to one, field for field, have one canon.
-use Rattle.std.proofs.Common.{◌≡◌, ℕ, zero, suc, ◌+◌, ◌-◌, ◌<◌, ◌≤◌, ◌⊎◌, inl, inr, Bool, true, false, cond, not, List, [], ◌∷◌, ◌++◌, length, map, Option, Some, None, unwrap_or, is_some, refl, sym, ap, ◌∙◌, subst, arith}
+use Rattle.std.proofs.Common.{◌≡◌, ℕ, zero, suc, ◌+◌, ◌-◌, ◌≤◌, inl, inr, Bool, true, false, cond, not, List, [], ◌∷◌, ◌++◌, length, map, Option, Some, None, unwrap_or, is_some, refl, sym, ap, ◌∙◌, subst, arith}
 use Rattle.std.specs.Prelude.{nat_eq, nat_lt, ◌&&◌, ◌||◌, slice_get, position, if◌then◌else◌}
-use Rattle.std.specs.List.{All, AllByRecursion, IsDistinct, list_any, position_or_len}
-use Rattle.std.specs.FinMap.{get, len, empty, remove, get-empty, get-remove, len-remove, empty_of_len}
+use Rattle.std.specs.List.{AllByRecursion, list_any, position_or_len}
+use Rattle.std.specs.FinMap.{get, len, remove, get-empty, get-remove, len-remove, empty_of_len}
 use Rattle.std.specs.Ordering.{eq_by_cmp, is_eq}
 use Rattle.std.specs.declared.cmp.Ordering.{Ordering}
 use Rattle.std.specs.declared.cmp.Ordering.TheVariants.{Less, Equal, Greater}
@@ -128,10 +128,9 @@ match_place R g h a b [] [] m ab all = (refl, refl)
 match_place R g h a b [] (y ∷ ys) m ab all = absurd all
 match_place R g h a b (x ∷ xs) [] m ab all = absurd all
 match_place R g h a b (x ∷ xs) (y ∷ ys) m ab all =
-    let rest = match_place R g h a b xs ys m ab all.1 in
-    (
+    let rest = match_place R g h a b xs ys m ab all.1 in (
       ap (λ t. cond (not t) (1 + position_or_len (is_same_id a) xs) 0) (m.one_to_one a b x y ab all.0)
-      ∙ ap (λ n. cond (not (is_same_id b y)) (1 + n) 0) rest.0,
+          ∙ ap (λ n. cond (not (is_same_id b y)) (1 + n) 0) rest.0,
       ap suc rest.1,
     )
 
@@ -220,10 +219,10 @@ there_without g x (y ∷ ys) apart all =
 
 not_empty : (g : Graph) (x : Id) (vs : List Val) → get g x ≡ Some vs → 1 ≤ len g
 not_empty g x vs is = elim (cases_order (len g) 0) [
-    inl none ↦ let clash = sym (ap (λ m. get m x) (empty_of_len g none) ∙ get-empty id_cmp x) ∙ is in cc
+  | inl none ↦ let clash = sym (ap (λ m. get m x) (empty_of_len g none) ∙ get-empty id_cmp x) ∙ is in cc
   | inr (inl below) ↦ omega arith
   | inr (inr above) ↦ omega arith
-  ]
+]
 
 -- ids of a graph that are apart are at most as many as its objects
 at_most : (g : Graph) (ids : List Id) → AreApart ids → AreThere g ids → length ids ≤ len g
@@ -239,8 +238,8 @@ apart_push [] id new apart = (refl, tt)
 apart_push (x ∷ xs) id new apart =
     let parts = or_parts (is_same_id id x) (list_any (is_same_id id) xs) new in (
       list_any-append (is_same_id x) xs (id ∷ [])
-      ∙ ap (λ t. t || (is_same_id x id || false)) apart.0
-      ∙ ap (λ t. t || false) (same_flip x id ∙ parts.0),
+          ∙ ap (λ t. t || (is_same_id x id || false)) apart.0
+          ∙ ap (λ t. t || false) (same_flip x id ∙ parts.0),
       apart_push xs id parts.1 apart.1,
     )
 
@@ -301,9 +300,9 @@ pub enough_turns : (g : Graph) (turns : ℕ) → IsWhole g → len g ≤ turns �
 enough_turns g zero whole enough = let none : zero ≡ len g = omega arith in ap (λ n. visit g n 0 (Some root) (root ∷ [])) none
 enough_turns g (suc turns) whole enough =
     elim (cases_order (len g) (suc turns)) [
-      inl same ↦ ap (λ n. visit g n 0 (Some root) (root ∷ [])) (sym same)
-    | inr (inl below) ↦ one_more g turns 0 (Some root) (root ∷ []) whole (at_first g) refl (omega arith) ∙ enough_turns g turns whole (omega arith)
-    | inr (inr above) ↦ absurd (omega arith)
+      | inl same ↦ ap (λ n. visit g n 0 (Some root) (root ∷ [])) (sym same)
+      | inr (inl below) ↦ one_more g turns 0 (Some root) (root ∷ []) whole (at_first g) refl (omega arith) ∙ enough_turns g turns whole (omega arith)
+      | inr (inr above) ↦ absurd (omega arith)
     ]
 
 row_target : (R : Id → Id → Type 0) (vs ws : List Val) (i : ℕ) (a : Id) → MatchRows R vs ws → slice_get vs i ≡ Some (Ref a) → (b : Id) × R a b
@@ -338,9 +337,9 @@ match_here R g h b m (along {id = y} i target reached is) =
 -- graphs whose objects match are whole
 pub match_whole : (R : Id → Id → Type 0) (g h : Graph) → IsMatch R g h → IsWhole g × IsWhole h
 match_whole R g h m = (
-      λ a reached. let there = match_there R g h a m reached in let objects = m.objects a there.0 there.1 in (objects.one, objects.here),
-      λ b reached. let here = match_here R g h b m reached in let objects = m.objects here.0 b here.1 in (objects.other, objects.there),
-    )
+  λ a reached. let there = match_there R g h a m reached in let objects = m.objects a there.0 there.1 in (objects.one, objects.here),
+  λ b reached. let here = match_here R g h b m reached in let objects = m.objects here.0 b here.1 in (objects.other, objects.there),
+)
 
 -- graphs whose objects match have one canon
 pub canon_match : (R : Id → Id → Type 0) (g h : Graph) → IsMatch R g h → canon g ≡ canon h

@@ -5,3 +5,4 @@ pub mod RootLaws
 pub mod SeenLaws
 pub mod Walk
 pub mod WalkLaws
+pub mod WalkedLaws

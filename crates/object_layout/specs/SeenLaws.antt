@@ -1,27 +1,19 @@
 -- Laws of what is seen in words: it has one canon, and where a walk passes something is seen.
-use Rattle.std.proofs.Common.{◌≡◌, ℕ, zero, suc, ◌+◌, ◌<◌, ◌≤◌, ◌⊎◌, inl, inr, Bool, true, false, cond, List, [], ◌∷◌, length, map, Option, Some, None, unwrap_or, refl, sym, ap, ◌∙◌, subst, arith}
-use Rattle.std.specs.Prelude.{slice_get, slice_index, Contains}
+use Rattle.std.proofs.Common.{◌≡◌, ℕ, zero, suc, Bool, true, false, List, [], ◌∷◌, map, Option, Some, None, refl, sym, ap, ◌∙◌, subst}
+use Rattle.std.specs.Prelude.{slice_get}
 use Rattle.std.specs.Option.{option_and_then}
-use Rattle.std.specs.Ordering.{eq_by_cmp}
-use Rattle.std.specs.FinMap.{get, empty, insert, get-insert}
+use Rattle.std.specs.FinMap.{get}
 use Rattle.std.proofs.lemmas.Option.{same_Some}
-use Rattle.std.proofs.lemmas.List.{get_or-take}
 use Rattle.heap_words.specs.declared.Word.{Word}
 use Rattle.heap_words.specs.declared.Word.TheVariants as word
 use Rattle.heap_words.specs.Word.{meaning}
-use Rattle.heap_words.specs.Header.{birth_bits, born_in, born_as}
-use Rattle.heap_words.specs.HeaderLaws.{birth_bits-born}
 use Rattle.graph_model.specs.declared.id.Id.{Id}
 use Rattle.graph_model.specs.declared.val.Val.{Val}
 use Rattle.graph_model.specs.declared.val.Val.TheVariants.{Null, Int, Ref}
-use Rattle.graph_model.specs.Graph.{Graph, id_cmp, is_same_id, root}
+use Rattle.graph_model.specs.Graph.{Graph, is_same_id}
 use Rattle.graph_model.specs.Canon.{canon}
-use Rattle.graph_model.specs.RootGraph.{id_cmp_total, id_cmp_itself}
-use Rattle.object_layout.specs.Layout.{object_at, field_words, birth_at, id_of, id_at, stand, referred, as_ref, value, values, IsMet, at_start, along, IsKnown, IsSeenAs, IsSeen}
-use Rattle.object_layout.specs.LayoutLaws.{stand_object}
-use Rattle.object_layout.specs.Walk.{used_words, AreEndToEnd, IsInside, KeepsInside, IsFilled, IsWalked, HaveOwnBirths}
-use Rattle.object_layout.specs.WalkLaws.{Contains-head, Contains-rest, Contains-cases, Contains-none, object_take, object_take_end}
-use Rattle.object_layout.specs.CanonMatch.{MatchValues, MatchRows, MatchObjects, IsMatch, IsWhole, same_id, itself, tied_ids, canon_match, match_whole}
+use Rattle.object_layout.specs.Layout.{field_words, stand, referred, as_ref, value, IsMet, at_start, along, IsSeenAs}
+use Rattle.object_layout.specs.CanonMatch.{MatchValues, MatchRows, IsMatch, IsWhole, same_id, itself, canon_match, match_whole}
 
 -- two ids that one object has under two namings
 abbrev pub NamesOne : (ℕ → Id) → (ℕ → Id) → List ℕ → ℕ → Id → Id → Type 0
