@@ -6,3 +6,5 @@ pub mod Record
 pub mod Range
 pub mod Fuse
 pub mod Answer
+pub mod Keeps
+pub mod KeepsLaws

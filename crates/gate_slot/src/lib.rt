@@ -2,7 +2,8 @@
 #![tactic(auto)]
 
 ghost use Rattle.std.specs.Prelude.{◌≡◌, ℕ, ◌+◌, ◌<◌, ◌≤◌, ◌⊎◌, ◌==◌, List, length, IsTrue, OnOk, slice_index, if◌then◌else◌};
-ghost use Rattle.disk_model.specs.Disk.{Only, HasCause};
+ghost use Rattle.disk_model.specs.Disk.{Only};
+ghost use Rattle.disk_model.specs.Keeps.{KeepsDisk, OnlyReads};
 ghost use Rattle.disk_model.specs.Moments.{LeavesOnly};
 ghost use Rattle.gate_slot.specs.Gate.{IsClosed, IsClosedInEach, IsSettled, closed, filled, IsOutside, SameButGate, IsFilling};
 ghost use Rattle.gate_slot.specs.Passing.{Passes};
@@ -20,20 +21,15 @@ pub const CLOSED: u8 = 0;
 pub fn close_gate<D: Disk>(disk: &mut D, gate: u64) -> Result<(), DiskError>
     requires { gate < D.extent disk.old }
 
+    ensures disk { KeepsDisk D.Disk disk.old disk.new result }
     ensures closed { IsTrue D.tells → OnOk result (D.bytes disk.new ≡ closed gate (D.bytes disk.old)) }
     ensures each { IsTrue D.tells → IsSettled gate (D.bytes disk.old) (D.may_leave disk.old) → OnOk result (IsClosedInEach gate (D.may_leave disk.new)) }
     ensures durable { IsTrue D.tells → Only (D.bytes disk.old) (D.may_leave disk.old) → OnOk result (Only (D.bytes disk.new) (D.may_leave disk.new)) }
-    // A crash at any moment leaves all but the gate as it was, and the gate too where it is closed already.
+    // A crash at any moment leaves all but the gate as it was.
     ensures moments { IsTrue D.tells → LeavesOnly D.moment D.left_since disk.old disk.new (λ c. (d : List ℕ) × D.may_leave disk.old d × SameButGate gate d c) }
-    ensures left_alone { IsTrue D.tells → IsClosed gate (D.bytes disk.old) → LeavesOnly D.moment D.left_since disk.old disk.new (D.may_leave disk.old) }
+    // A closed gate is only read.
+    ensures left_alone { IsTrue D.tells → IsClosed gate (D.bytes disk.old) → OnlyReads D.Disk disk.old disk.new result }
     ensures passes { IsTrue D.tells → Passes (if slice_index (D.bytes disk.old) gate == 1 then 2 else 0) (D.passed disk.old) (D.passed disk.new) result }
-    ensures restarts { IsTrue D.tells → D.restarts disk.new ≡ D.restarts disk.old }
-
-    ensures extent { D.extent disk.new ≡ D.extent disk.old }
-    ensures origin { D.origin disk.new ≡ D.origin disk.old }
-    ensures cause { HasCause (D.faults disk.old) (D.faults disk.new) (D.stops disk.old) (D.stops disk.new) result }
-    // A closed gate is only read, and the first stop is never a read's.
-    ensures no_first_stop { IsTrue D.tells → IsClosed gate (D.bytes disk.old) → D.stops disk.old ≡ 0 → D.stops disk.new ≡ 0 }
 {
     let mut byte = [CLOSED];
     disk.read(gate, &mut byte)?;
@@ -56,16 +52,12 @@ pub fn fill_and_open<D: Disk>(
     requires bytes_inside { at + length bytes.now ≤ D.extent disk.old }
     requires apart { IsOutside at (length bytes.now) gate }
 
+    ensures disk { KeepsDisk D.Disk disk.old disk.new result }
     ensures filled { IsTrue D.tells → OnOk result (D.bytes disk.new ≡ filled gate at bytes.now (D.bytes disk.old)) }
     ensures durable { IsTrue D.tells → OnOk result (Only (D.bytes disk.new) (D.may_leave disk.new)) }
     // A crash at any moment leaves the gate closed, or open in the image as it was seen with all of the bytes.
     ensures moments { IsTrue D.tells → IsClosedInEach gate (D.may_leave disk.old) → LeavesOnly D.moment D.left_since disk.old disk.new (λ c. (d : List ℕ) × D.may_leave disk.old d × IsFilling gate at bytes.now (D.bytes disk.old) d c) }
     ensures passes { IsTrue D.tells → Passes 4 (D.passed disk.old) (D.passed disk.new) result }
-    ensures restarts { IsTrue D.tells → D.restarts disk.new ≡ D.restarts disk.old }
-
-    ensures extent { D.extent disk.new ≡ D.extent disk.old }
-    ensures origin { D.origin disk.new ≡ D.origin disk.old }
-    ensures cause { HasCause (D.faults disk.old) (D.faults disk.new) (D.stops disk.old) (D.stops disk.new) result }
 {
     disk.write(at, bytes)?;
     disk.sync()?;

@@ -1,0 +1,28 @@
+-- What every call keeps of a disk, and what a call that only reads keeps besides.
+use Rattle.std.specs.Prelude.{◌≡◌, List, IsTrue, Result}
+use Rattle.disk_model.specs.Disk.{Narrows, HasCause}
+use Rattle.disk_model.specs.Moments.{LeavesOnly}
+use Rattle.disk_model.specs.declared.disk.Disk.{Ghosts}
+use Rattle.disk_model.specs.declared.disk.DiskError.{DiskError}
+
+-- Every call, and every run of them, keeps the disk's size and what it was made of, and tells an error only where that
+-- error's count rose. A disk that tells was not restarted.
+pub record KeepsDisk {D : Type 0} (g : Ghosts D) (old new : D) (result : Result (Unit {0}) DiskError) : Type 0 where
+  pub extent : g.extent new ≡ g.extent old
+  pub origin : g.origin new ≡ g.origin old
+  pub cause : HasCause (g.faults old) (g.faults new) (g.stops old) (g.stops new) result
+  pub restarts : IsTrue g.tells → g.restarts new ≡ g.restarts old
+
+-- Nothing was written: a read gives the same bytes, a crash leaves no image that it couldn't have left before, at no
+-- moment, and no write or sync has passed.
+pub record SameContents {D : Type 0} (g : Ghosts D) (old new : D) : Type 0 where
+  pub bytes : g.bytes new ≡ g.bytes old
+  pub crash : Narrows (g.may_leave old) (g.may_leave new)
+  pub moments : LeavesOnly g.moment g.left_since old new (g.may_leave old)
+  pub passed : g.passed new ≡ g.passed old
+
+-- A call, or a run of them, that only reads: it keeps the disk, writes nothing, and the first stop is never one of its own.
+pub record OnlyReads {D : Type 0} (g : Ghosts D) (old new : D) (result : Result (Unit {0}) DiskError) : Type 0 where
+  pub disk : KeepsDisk g old new result
+  pub contents : IsTrue g.tells → SameContents g old new
+  pub no_first_stop : g.stops old ≡ 0 → g.stops new ≡ 0
