@@ -10,6 +10,7 @@ use Rattle.graph_model.specs.declared.val.Val.{Val}
 use Rattle.graph_model.specs.declared.val.Val.TheVariants.{Null, Int, Ref}
 use Rattle.graph_model.specs.Graph.{Graph, root}
 use Rattle.graph_model.specs.Graph as graph
+use Rattle.graph_model.specs.RootOnly.{IsRootOnly}
 use Rattle.graph_model.specs.Transaction.{Transaction, replies, serial, serial_replies}
 use Rattle.graph_model.specs.History.{Account, account}
 use Rattle.graph_model.specs.Plain.{view, no_number}
@@ -25,16 +26,6 @@ use Rattle.heap_model.specs.ValueWord.{word_of, IsRootVal}
 -- the root is the only object: it stands at address 0
 abbrev pub at_first : Id → ℕ
 at_first id = 0
-
--- a reference leads to the root
-abbrev pub LeadsToRoot : Val → Type 0
-LeadsToRoot Null = Unit {0}
-LeadsToRoot (Int n) = Unit {0}
-LeadsToRoot (Ref id) = id ≡ root
-
--- the references in the root's fields lead to the root
-abbrev pub IsRootOnly : Graph → Type 0
-IsRootOnly g = AllByRecursion LeadsToRoot (graph.fields g root)
 
 -- One write leads from the root's fields `before` to those `now`: the word that it replaced leads back.
 pub record LeadsBack (u : UndoEntry) (now before : List Val) : Type 0 where
