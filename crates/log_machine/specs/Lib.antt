@@ -1,3 +1,13 @@
 pub mod Machine
 pub mod UndoEntry
 pub mod StateCode
+pub mod MapLaws
+pub mod ListLaws
+pub mod MachineLaws
+pub mod Sound
+pub mod StateLaws
+pub mod AbortLaws
+pub mod Apart
+pub mod CommittedLaws
+pub mod ReserveLaws
+pub mod WordsLaws
