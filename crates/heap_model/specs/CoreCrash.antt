@@ -1,13 +1,13 @@
 -- What a crash leaves of a core.
-use Rattle.std.specs.Prelude.{ℕ, ◌≤◌, List, length, take}
+use Rattle.std.specs.Prelude.{ℕ, ◌+◌, ◌≤◌, List, length, take}
 use Rattle.graph_model.specs.Transaction.{serial}
 use Rattle.graph_model.specs.History.{commits, acknowledged}
 use Rattle.heap_model.specs.Core.{Core}
 use Rattle.heap_model.specs.Image.{StandsFor}
 
--- An image stands for the first k commits of a core, and all that was acknowledged is among them.
+-- An image stands for the first k commits of a core since its opening, and all that was acknowledged is among them.
 pub record StandsForFirst (c : Core) (k : ℕ) (image : List ℕ) : Type 0 where
-  pub stands : StandsFor (serial c.g0 (take k (commits c.history))) k image
+  pub stands : StandsFor (serial c.g0 (take k (commits c.history))) (c.before + k) image
   pub kept : acknowledged c.history ≤ k
   pub some : k ≤ length (commits c.history)
 
@@ -18,5 +18,5 @@ KeepsCommits c image = (k : ℕ) × StandsForFirst c k image
 -- The image stands for first commits.
 pub record HasCommits (c : Core) (image : List ℕ) : Type 0 where
   pub count : ℕ
-  pub stands : StandsFor (serial c.g0 (take count (commits c.history))) count image
+  pub stands : StandsFor (serial c.g0 (take count (commits c.history))) (c.before + count) image
   pub some : count ≤ length (commits c.history)
