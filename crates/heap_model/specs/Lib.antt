@@ -7,3 +7,8 @@ pub mod Ending
 pub mod Image
 pub mod Opening
 pub mod ValueWord
+pub mod ListLaws
+pub mod CoreLawsRoot
+pub mod CoreLawsLone
+pub mod CoreLawsRoom
+pub mod CoreLawsRecords
