@@ -18,7 +18,7 @@ returns-clause-made g c tells =
     let seen = d.bytes c.write_zeros.new.disk in
     let zero = c.in_ok-write_zeros.ensures.zero tells in
     let whole = g.met.D.Disk.same_size tells c.write_zeros.new.disk seen (g.met.D.Disk.reads_an_image tells c.write_zeros.new.disk) in
-    let large : image_size s.pages s.log_bytes ≤ length seen = omega (arith, whole, c.write_zeros.ensures.extent, c.close_gate.ensures.extent, c.requires.inside) in
+    let large : image_size s.pages s.log_bytes ≤ length seen = omega (arith, whole, c.write_zeros.ensures.extent, c.close_gate.ensures.disk.extent, c.requires.inside) in
     let end : c.size.result ≡ image_size s.pages s.log_bytes = c.size.ensures ∙ ap (λ (p : Plan). image_size p.pages p.log_bytes) c.plan.ensures in
     let zero_all : AreZero 64 (image_size s.pages s.log_bytes) seen = subst (λ (n : ℕ). AreZero 64 n seen) end zero in
     let made : d.bytes c.fill_and_open.new.disk ≡ filled 0 1 (take 63 (drop 1 c.write_super-bytes.result)) seen → IsLegal s [] (d.bytes c.fill_and_open.new.disk) =
@@ -34,12 +34,12 @@ returns-clause-moments g c tells only =
     let P = IsFormatting s old in
     let end : c.size.result ≡ image_size s.pages s.log_bytes = c.size.ensures ∙ ap (λ (p : Plan). image_size p.pages p.log_bytes) c.plan.ensures in
     let whole = g.met.D.Disk.same_size tells c.write_zeros.new.disk seen (g.met.D.Disk.reads_an_image tells c.write_zeros.new.disk) in
-    let large : image_size s.pages s.log_bytes ≤ length seen = omega (arith, whole, c.write_zeros.ensures.extent, c.close_gate.ensures.extent, c.requires.inside) in
+    let large : image_size s.pages s.log_bytes ≤ length seen = omega (arith, whole, c.write_zeros.ensures.extent, c.close_gate.ensures.disk.extent, c.requires.inside) in
     let zero_all : AreZero 64 (image_size s.pages s.log_bytes) seen = subst (λ (n : ℕ). AreZero 64 n seen) end (c.in_ok-write_zeros.ensures.zero tells) in
     let sb : take 63 (drop 1 c.write_super-bytes.result) ≡ drop 1 (superblock s) = ap (λ (l : List ℕ). take 63 (drop 1 l)) c.write_super-bytes.ensures in
     let shut_1 = c.in_ok-close_gate.ensures.each tells (λ f left. ap (λ (l : List ℕ). get_or l 0 0) (only f left)) in
     let shut_2 : IsClosedInEach 0 (d.may_leave c.write_zeros.new.disk) = λ f left. let o = c.write_zeros.ensures.crash tells f left in λ is_open. shut_1 o.0 o.1 (sym (o.2.before 0 (omega arith)) ∙ is_open) in
-    let first = closing_run d.moment d.left_since c.args.disk.now c.close_gate.new.disk s old (d.may_leave c.args.disk.now) only (c.close_gate.ensures.moments tells) (c.close_gate.ensures.left_alone tells) in
+    let first = closing_run d.moment d.left_since c.args.disk.now c.close_gate.new.disk s old (d.may_leave c.args.disk.now) only (c.close_gate.ensures.moments tells) (λ shut. ((c.close_gate.ensures.left_alone tells shut).contents tells).moments) in
     let second = weaker d.moment d.left_since c.close_gate.new.disk c.write_zeros.new.disk _ P (c.write_zeros.ensures.moments tells) (λ f left. zeroing s old left.0 f c.size.result (shut_1 left.0 left.1) left.2) in
     let third = weaker d.moment d.left_since c.write_zeros.new.disk c.fill_and_open.new.disk _ P (c.fill_and_open.ensures.moments tells shut_2)
     (λ f left. filling s old seen left.0 f large c.requires.good zero_all (subst (λ (t : List ℕ). IsFilling 0 1 t seen left.0 f) sb left.2)) in
@@ -57,7 +57,7 @@ returns-clause-passed g c tells =
 pub returns-in_err-close_gate-clause-moments : goal.returns-in_err-close_gate-clause-moments
 returns-in_err-close_gate-clause-moments g c tells only =
     let d = g.D.Disk in
-    closing_run d.moment d.left_since c.args.disk.now c.close_gate.new.disk c.args.of.now (d.bytes c.args.disk.now) (d.may_leave c.args.disk.now) only (c.close_gate.ensures.moments tells) (c.close_gate.ensures.left_alone tells)
+    closing_run d.moment d.left_since c.args.disk.now c.close_gate.new.disk c.args.of.now (d.bytes c.args.disk.now) (d.may_leave c.args.disk.now) only (c.close_gate.ensures.moments tells) (λ shut. ((c.close_gate.ensures.left_alone tells shut).contents tells).moments)
 
 pub returns-in_err-write_zeros-clause-moments : goal.returns-in_err-write_zeros-clause-moments
 returns-in_err-write_zeros-clause-moments g c tells only =
@@ -66,6 +66,6 @@ returns-in_err-write_zeros-clause-moments g c tells only =
     let old = d.bytes c.args.disk.now in
     let P = IsFormatting s old in
     let shut = c.in_ok-close_gate.ensures.each tells (λ f left. ap (λ (l : List ℕ). get_or l 0 0) (only f left)) in
-    let first = closing_run d.moment d.left_since c.args.disk.now c.close_gate.new.disk s old (d.may_leave c.args.disk.now) only (c.close_gate.ensures.moments tells) (c.close_gate.ensures.left_alone tells) in
+    let first = closing_run d.moment d.left_since c.args.disk.now c.close_gate.new.disk s old (d.may_leave c.args.disk.now) only (c.close_gate.ensures.moments tells) (λ shut. ((c.close_gate.ensures.left_alone tells shut).contents tells).moments) in
     let second = weaker d.moment d.left_since c.close_gate.new.disk c.write_zeros.new.disk _ P (c.write_zeros.ensures.moments tells) (λ f left. zeroing s old left.0 f c.size.result (shut left.0 left.1) left.2) in
     run_then d.moment d.left_since c.args.disk.now c.close_gate.new.disk c.write_zeros.new.disk P first second
