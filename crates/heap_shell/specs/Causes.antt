@@ -1,57 +1,54 @@
 -- Why a run ends as it does.
-use Rattle.std.specs.Prelude.{◌≡◌, ℕ, ◌+◌, List, Result, Ok, Err}
-use Rattle.std.specs.declared.alloc.AllocError.{AllocError}
+use Rattle.std.specs.Prelude.{◌≡◌, ℕ, ◌+◌, ◌≤◌, List, Result, Ok, Err}
 use Rattle.counts.specs.Count.{Rose}
+use Rattle.disk_model.specs.declared.disk.Disk.{Ghosts}
 use Rattle.disk_model.specs.declared.disk.DiskError.{DiskError}
 use Rattle.disk_model.specs.declared.disk.DiskError.TheVariants as device
-use Rattle.graph_model.specs.declared.reply.Refusal.TheVariants.{DiskFault, Stopped}
-use Rattle.graph_model.specs.declared.reply.Reply.{Reply}
-use Rattle.graph_model.specs.declared.reply.Reply.TheVariants.{Refused}
-use Rattle.heap_recovery.specs.declared.recovery.OpenError.{OpenError}
-use Rattle.heap_recovery.specs.declared.recovery.OpenError.TheVariants as opening
-use Rattle.heap_shell.specs.declared.play.Ended.{Ended}
-use Rattle.heap_shell.specs.declared.play.Ended.TheVariants as ended
+use Rattle.heap_shell.specs.declared.play.Halt.{Halt}
+use Rattle.heap_shell.specs.declared.play.Halt.TheVariants as halt
 use Rattle.script_text.specs.declared.script.ScriptError.TheVariants.{Fault}
 use Rattle.heap_shell.specs.declared.status.Status.{Status}
 use Rattle.heap_shell.specs.declared.status.Status.TheVariants as status
 use Rattle.script_text.specs.Script.{script}
 
 -- what the disk answered in a play
-abbrev pub ended_device : Ended → Result (Unit {0}) DiskError
-ended_device ended.Whole = Ok tt
-ended_device ended.Stopped = Err device.Stopped
-ended_device ended.DiskFault = Err device.Failed
-
-abbrev pub played_device : Result Ended Status → Result (Unit {0}) DiskError
-played_device (Ok ended) = ended_device ended
-played_device (Err status) = Ok tt
+abbrev pub played_device : Result (Unit {0}) Halt → Result (Unit {0}) DiskError
+played_device (Err halt.Stopped) = Err device.Stopped
+played_device (Err halt.DiskFault) = Err device.Failed
+played_device result = Ok tt
 
 -- The disk's faults and stops together rose.
 abbrev pub DiskRose : ℕ → ℕ → ℕ → ℕ → Type 0
 DiskRose faults stops faults' stops' = Rose (faults + stops) (faults' + stops')
 
--- Memory was refused, or the sink's count rose.
-abbrev pub IsOutputError : ℕ → ℕ → Status → Type 0
-IsOutputError before now status.NoMemory = Unit {0}
-IsOutputError before now status.WriteFault = Rose before now
-IsOutputError before now s = ⊥
+-- A stream's count of faults didn't fall, and it rose if a call of that stream failed.
+pub record StreamCause (before now : ℕ) (failed : Type 0) : Type 0 where
+  pub kept : before ≤ now
+  pub cause : failed → Rose before now
 
--- Memory was refused, the script is bad, or the source's count rose.
-abbrev pub IsInputError : ℕ → ℕ → Status → Type 0
-IsInputError before now (status.Script line) = Unit {0}
-IsInputError before now status.NoMemory = Unit {0}
-IsInputError before now status.ReadFault = Rose before now
-IsInputError before now s = ⊥
+-- What a run keeps of a disk that it may start again: its size. Its faults and stops together didn't fall, and they rose if the run
+-- ended in the disk's fault.
+pub record RunsDisk {D : Type 0} (g : Ghosts D) (old new : D) (failed : Type 0) : Type 0 where
+  pub extent : g.extent new ≡ g.extent old
+  pub kept : g.faults old + g.stops old ≤ g.faults new + g.stops new
+  pub cause : failed → DiskRose (g.faults old) (g.stops old) (g.faults new) (g.stops new)
 
--- How a play may end, and what has to have happened on the disk and the sink if it ends in their fault.
-abbrev pub IsPlayStatus : Type 0 → Type 0 → Status → Type 0
-IsPlayStatus disk sink status.Done = Unit {0}
-IsPlayStatus disk sink status.NoMemory = Unit {0}
-IsPlayStatus disk sink status.WriteFault = sink
-IsPlayStatus disk sink status.DiskFault = disk
-IsPlayStatus disk sink status.NotHeap = Unit {0}
-IsPlayStatus disk sink (status.Damaged at) = Unit {0}
-IsPlayStatus disk sink s = ⊥
+-- Memory was refused, the script is bad, or the source failed.
+abbrev pub IsInputError : Status → Type 0
+IsInputError (status.Script line) = Unit {0}
+IsInputError status.NoMemory = Unit {0}
+IsInputError status.ReadFault = Unit {0}
+IsInputError s = ⊥
+
+-- The statuses of a run that has opened a disk, or could not.
+abbrev pub IsOpenedEnd : Status → Type 0
+IsOpenedEnd status.Done = Unit {0}
+IsOpenedEnd status.NoMemory = Unit {0}
+IsOpenedEnd status.WriteFault = Unit {0}
+IsOpenedEnd status.DiskFault = Unit {0}
+IsOpenedEnd status.NotHeap = Unit {0}
+IsOpenedEnd (status.Damaged at) = Unit {0}
+IsOpenedEnd s = ⊥
 
 -- Where a script is bad, reading it tells its first bad line.
 abbrev pub FailsByScript : List ℕ → Status → Type 0

@@ -1,33 +1,40 @@
 -- What a run of the program promises.
-use Rattle.std.specs.Prelude.{◌≡◌, ◌⊎◌, ℕ, ◌+◌, ◌≤◌, min, List, [], ◌∷◌, ◌++◌, length, take, codes, Bool, IsTrue, Option, None, Some}
+use Rattle.std.specs.Prelude.{◌≡◌, ◌≢◌, ◌⊎◌, ℕ, ◌+◌, ◌≤◌, min, List, [], ◌∷◌, ◌++◌, length, take, codes, Bool, IsTrue, Option, None, Some, Err}
 use Rattle.std.specs.Fmt.{decimal}
-use Rattle.counts.specs.Count.{raised}
-use Rattle.disk_model.specs.Disk.{Only}
+use Rattle.counts.specs.Count.{raised, counted}
+use Rattle.disk_model.specs.declared.disk.Disk.{Ghosts}
+use Rattle.disk_model.specs.declared.disk.DiskError.{DiskError}
+use Rattle.disk_model.specs.Disk.{Only, HasCause}
 use Rattle.disk_model.specs.Moments.{LeavesOnly}
+use Rattle.gate_slot.specs.Passing.{Passes}
 use Rattle.graph_model.specs.declared.event.Event.{Event}
+use Rattle.graph_model.specs.declared.reply.Entry.{Entry}
 use Rattle.graph_model.specs.declared.reply.Refusal.TheVariants.{Stopped}
 use Rattle.graph_model.specs.declared.reply.Reply.{Reply}
 use Rattle.graph_model.specs.declared.reply.Reply.TheVariants.{Refused}
-use Rattle.graph_model.specs.Graph.{Graph, new_graph}
+use Rattle.graph_model.specs.Graph.{Graph}
 use Rattle.graph_model.specs.Transaction.{serial, serial_replies}
 use Rattle.graph_model.specs.History.{sealed, commits, acknowledged}
 use Rattle.graph_model.specs.Canon.{canon}
 use Rattle.graph_model.specs.Text.{canon_text}
 use Rattle.image_plan.specs.declared.superblock.Super.{Super}
-use Rattle.heap_shell.specs.declared.command.Play.{Play}
-use Rattle.script_text.specs.declared.line.Line.{Line}
-use Rattle.heap_shell.specs.declared.status.Status.{Status}
-use Rattle.heap_shell.specs.declared.status.Status.TheVariants as status
-use Rattle.heap_model.specs.Core.{Core, fresh, with_entry, IsCutShort, IsRun}
-use Rattle.heap_model.specs.CoreCrash.{StandsForFirst, KeepsCommits, HasCommits}
+use Rattle.image_plan.specs.Plan.{image_size}
+use Rattle.heap_core.specs.Format.{IsFormatting, format_calls}
+use Rattle.heap_model.specs.Core.{Core, fresh, with_entry, IsCutShort}
+use Rattle.heap_model.specs.CoreCrash.{StandsForFirst, KeepsCommits}
 use Rattle.heap_model.specs.CoreReplies.{call_replies_of}
 use Rattle.heap_model.specs.CoreRuns.{after_events, total_calls, StopsAt}
 use Rattle.heap_model.specs.Ending.{all_events}
-use Rattle.heap_model.specs.Opening.{opening_calls}
-use Rattle.heap_core.specs.Format.{IsFormatting}
 use Rattle.heap_model.specs.Image.{IsLegal}
-use Rattle.heap_shell.specs.Play.{lines_text, WroteFront, WroteLines}
+use Rattle.heap_model.specs.Opening.{opening_calls}
+use Rattle.script_text.specs.declared.line.Line.{Line}
 use Rattle.script_text.specs.Line.{events}
+use Rattle.heap_shell.specs.Causes.{DiskRose}
+use Rattle.heap_shell.specs.declared.command.Play.{Play}
+use Rattle.heap_shell.specs.declared.status.Status.{Status}
+use Rattle.heap_shell.specs.declared.status.Status.TheVariants as status
+use Rattle.heap_shell.specs.Play.{lines_text, WroteFront, WroteLines}
+use Rattle.heap_shell.specs.Steps.{Step, AreSteps}
 
 -- A claim of a disk that tells its bytes and keeps the disk model, and on which nothing waits.
 abbrev pub OfTold : Bool → List ℕ → (List ℕ → Type 0) → Type 0 → Type 0
@@ -49,59 +56,51 @@ graph_text g = canon_text (canon g)
 abbrev pub recovered_line : ℕ → List ℕ
 recovered_line k = codes "recovered " ++ decimal k ++ 10 ∷ []
 
--- it is printed where the disk was to stop
-abbrev pub recovered_text : Option ℕ → ℕ → List ℕ
-recovered_text None k = []
-recovered_text (Some n) k = recovered_line k
+-- what is printed behind the lines of a history: how many commits came back where the disk was to stop, and a graph
+abbrev pub end_text : Option ℕ → ℕ → Graph → List ℕ
+end_text None k g = graph_text g
+end_text (Some n) k g = recovered_line k ++ graph_text g
 
--- the output: the lines of the history, then how many commits came back, then the graph of the first k commits
-abbrev pub output : Option ℕ → Core → ℕ → List ℕ
-output stop c k = lines_text c.history ++ (recovered_text stop k ++ graph_text (serial new_graph (take k (commits c.history))))
+-- The output of a run was written: all of it where the run is done, and else a first part. All lines of the history are in it but
+-- perhaps the last one, and all of them where the disk failed.
+pub record Writes (result : Status) (history : List Entry) (text before after : List ℕ) : Type 0 where
+  pub front : WroteFront before (lines_text history ++ text) after
+  pub lines : WroteLines before history after
+  pub fault : result ≡ status.DiskFault → (rest : List ℕ) × (after ≡ (before ++ lines_text history) ++ rest)
+  pub whole : result ≡ status.Done → after ≡ before ++ (lines_text history ++ text)
 
 -- how many of these calls a disk lets through that stops after some, or never
 abbrev pub let_through : Option ℕ → ℕ → ℕ
 let_through None calls = calls
 let_through (Some n) calls = min n calls
 
--- The heap was opened again on an image of the first k commits, by so many writes and syncs: four where the image held writes of a
--- transaction that had not ended, and else none.
-pub record Reopens (c : Core) (k calls : ℕ) : Type 0 where
-  pub image : List ℕ
-  pub first : StandsForFirst c k image
-  pub made : calls ≡ opening_calls first.stands.batches
-
--- What passed in a run that is done: the calls of its events that the disk let through, and those of the opening behind a restart.
-abbrev pub HasPassed : Option ℕ → Core → ℕ → ℕ → (ℕ → Type 0) → Type 0
-HasPassed None c k calls passed = passed (let_through None calls)
-HasPassed (Some n) c k calls passed = (opening : ℕ) × Reopens c k opening × passed (let_through (Some n) calls + opening)
-
 -- The disk did what it was asked in all of these events.
-abbrev pub IsWhole : List Event → Core → Type 0
-IsWhole made c = c ≡ after_events made_core made
+abbrev pub IsWhole : Core → List Event → Core → Type 0
+IsWhole c made d = d ≡ after_events c made
 
 -- The disk stopped or failed in the last of these events, as the reply says.
-pub record IsCutBy (reply : Reply) (made : List Event) (c : Core) : Type 0 where
+pub record IsCutBy (reply : Reply) (c : Core) (made : List Event) (d : Core) : Type 0 where
   pub before : List Event
   pub event : Event
   pub parts : made ≡ before ++ event ∷ []
-  pub cut : IsCutShort (after_events made_core before) event reply
-  pub reached : c ≡ with_entry (after_events made_core before) event reply
+  pub cut : IsCutShort (after_events c before) event reply
+  pub reached : d ≡ with_entry (after_events c before) event reply
 
 -- A run that is done has made all events, or the disk was to stop and did.
-abbrev pub HasMade : Option ℕ → List Event → List Event → Core → Type 0
-HasMade None made behind c = (behind ≡ []) × IsWhole made c
-HasMade (Some n) made behind c = ((behind ≡ []) × IsWhole made c) ⊎ IsCutBy (Refused Stopped) made c
+abbrev pub HasMade : Option ℕ → Core → List Event → List Event → Core → Type 0
+HasMade None c made behind d = (behind ≡ []) × IsWhole c made d
+HasMade (Some n) c made behind d = ((behind ≡ []) × IsWhole c made d) ⊎ IsCutBy (Refused Stopped) c made d
 
 -- The disk stopped in the last of these events, and that is the one with more calls than were left of n.
-pub record StopsLast (n : ℕ) (made : List Event) (c : Core) : Type 0 where
-  pub at : StopsAt made_core n made
+pub record StopsLast (n : ℕ) (c : Core) (made : List Event) (d : Core) : Type 0 where
+  pub at : StopsAt c n made
   pub last : at.behind ≡ []
-  pub reached : c ≡ with_entry (after_events made_core at.before) at.event (Refused Stopped)
+  pub reached : d ≡ with_entry (after_events c at.before) at.event (Refused Stopped)
 
 -- Where the disk does what it is asked until it is to stop, the place at which it stops is exact.
-abbrev pub IsExact : Option ℕ → List Event → Core → Type 0
-IsExact None made c = IsWhole made c
-IsExact (Some n) made c = (IsWhole made c × (total_calls made_core made ≤ n)) ⊎ StopsLast n made c
+abbrev pub IsExact : Option ℕ → Core → List Event → Core → Type 0
+IsExact None c made d = IsWhole c made d
+IsExact (Some n) c made d = (IsWhole c made d × (total_calls c made ≤ n)) ⊎ StopsLast n c made d
 
 -- The statuses with which a play ends.
 abbrev pub IsEndOfPlay : Status → Type 0
@@ -111,47 +110,113 @@ IsEndOfPlay status.WriteFault = Unit {0}
 IsEndOfPlay status.DiskFault = Unit {0}
 IsEndOfPlay s = ⊥
 
--- What a crash leaves from the moment on at which a new heap was made. Until then it leaves no heap, the old image, or the new
--- heap; at that moment the new heap and nothing else; and since then what has P.
-pub record SinceMade {D : Type 0} (moment : D → ℕ) (left_since : D → ℕ → List ℕ → Type 0) (bytes : D → List ℕ) (may_leave : D → List ℕ → Type 0) (s : Super) (old new : D) (P : List ℕ → Type 0) : Type 0 where
-  pub made : D
-  pub making : LeavesOnly moment left_since old made (IsFormatting s (bytes old))
-  pub empty : IsLegal s [] (bytes made)
-  pub only : Only (bytes made) (may_leave made)
-  pub since : LeavesOnly moment left_since made new P
-
--- Events were played on a new heap. Each crash left first commits, also one at the end, which has all that was
--- acknowledged; what was printed is the history of the events that were made and the graph of its first commits; and the
--- calls of each commit had the replies that they have when the commits run one after another.
-pub record IsPlayed (stop : Option ℕ) (events : List Event) (result : Status) (each : (List ℕ → Type 0) → Type 0) (may_leave : List ℕ → Type 0) (unharmed : Type 0) (passed : ℕ → Type 0) (told : Bool) (before after : List ℕ) : Type 0 where
-  -- the events that were made, and the history that they gave
+-- Of the events that were asked of a core these were made, and led to this one.
+pub record MakesEvents (stop : Option ℕ) (c : Core) (events : List Event) (result : Status) (unharmed : Type 0) : Type 0 where
   pub made : List Event
   pub behind : List Event
   pub parts : events ≡ made ++ behind
   pub core : Core
-  pub run : IsRun made_core made core
-  pub last : IsWhole made core ⊎ ((reply : Reply) × IsCutBy reply made core)
-  pub end : IsEndOfPlay result
-  pub done : result ≡ status.Done → HasMade stop made behind core
-  pub exact : unharmed → IsExact stop made core
-  -- what crashes leave
-  pub moments : each (HasCommits core)
-  pub kept : (image : List ℕ) → may_leave image → KeepsCommits core image
-  pub replies : call_replies_of core.history ≡ serial_replies new_graph (commits core.history)
-  -- how many commits were printed
-  pub count : ℕ
-  pub least : acknowledged core.history ≤ count
-  pub most : count ≤ length (commits core.history)
-  pub all : stop ≡ None → count ≡ length (sealed core.history)
-  -- the writes and syncs that passed
-  pub calls : unharmed → result ≡ status.Done → HasPassed stop core count (total_calls made_core made) passed
-  -- what was written
-  pub written : IsTrue told → WroteFront before (output stop core count) after
-  pub cut : IsTrue told → WroteLines before core.history after
-  pub lines : IsTrue told → result ≡ status.DiskFault → (rest : List ℕ) × (after ≡ (before ++ lines_text core.history) ++ rest)
-  pub whole : IsTrue told → result ≡ status.Done → after ≡ before ++ output stop core count
+  pub last : IsWhole c made core ⊎ ((reply : Reply) × IsCutBy reply c made core)
+  pub done : result ≡ status.Done → HasMade stop c made behind core
+  pub exact : unharmed → IsExact stop c made core
 
--- The statuses with which a run leaves the disk as it was.
+module _ {D : Type 0} (g : Ghosts D) where
+  -- no call of the disk failed or found it stopped
+  abbrev pub Unharmed : D → D → Type 0
+  Unharmed old new = ¬ DiskRose (g.faults old) (g.stops old) (g.faults new) (g.stops new)
+
+  -- At each moment a crash left first commits: while the heap was opened as the core c, in each step, and from then on until the
+  -- end, also while it was opened again. Always they held all that had been acknowledged.
+  pub record KeepsThroughout (unharmed : Type 0) (c : Core) (made : List Event) (d : Core) (start final : D) : Type 0 where
+    pub opened : D
+    pub opening : LeavesOnly g.moment g.left_since start opened (KeepsCommits c)
+    pub here : (image : List ℕ) → g.may_leave opened image → KeepsCommits c image
+    pub stopped : D
+    pub steps : AreSteps (Step g unharmed) c opened made d stopped
+    pub rest : LeavesOnly g.moment g.left_since stopped final (KeepsCommits d)
+    pub kept : (image : List ℕ) → g.may_leave final image → KeepsCommits d image
+
+  -- A heap was opened on a disk that had just been started: it read as an image of the core's first k commits, and so does each that a
+  -- crash may leave now. The opening made four writes and syncs where that image held writes of a transaction that had not ended, and else none.
+  pub record Reopens (c : Core) (k : ℕ) (old new : D) : Type 0 where
+    pub first : StandsForFirst c k (g.bytes old)
+    pub still : (image : List ℕ) → g.may_leave new image → StandsForFirst c k image
+    pub passed : g.passed new ≡ counted (opening_calls first.stands.batches) (g.passed old)
+
+  -- The disk was started again, as one of the images that a crash could leave where it was stopped, and the heap was opened on it.
+  pub record StartsAgain (c : Core) (k : ℕ) (stopped new : D) : Type 0 where
+    pub again : D
+    pub left : g.may_leave stopped (g.bytes again)
+    pub restarts : g.restarts again ≡ raised (g.restarts stopped)
+    pub passed : g.passed again ≡ g.passed stopped
+    pub opens : Reopens c k again new
+
+  -- What came behind the last event: nothing, where no stop was asked; else the disk was started again, or the run ended before and
+  -- wrote no more than lines.
+  abbrev pub IsFollowed : Option ℕ → Core → ℕ → D → D → Status → Type 0 → Type 0
+  IsFollowed None c k stopped new result only_lines = new ≡ stopped
+  IsFollowed (Some n) c k stopped new result only_lines = StartsAgain c k stopped new ⊎ ((result ≢ status.Done) × only_lines)
+
+  -- The lines of a core's history were printed, how many commits came back where a stop was asked, and their graph.
+  pub record Prints (stop : Option ℕ) (c : Core) (stopped final : D) (result : Status) (told : Bool) (before after : List ℕ) : Type 0 where
+    pub count : ℕ
+    pub least : acknowledged c.history ≤ count
+    pub most : count ≤ length (commits c.history)
+    pub all : stop ≡ None → count ≡ length (sealed c.history)
+    pub behind : IsFollowed stop c count stopped final result (IsTrue told → WroteFront before (lines_text c.history) after)
+    pub written : IsTrue told → Writes result c.history (end_text stop count (serial c.g0 (take count (commits c.history)))) before after
+
+  -- Events were played on a disk whose heap was opened as the core c.
+  pub record IsPlayed (stop : Option ℕ) (c : Core) (events : List Event) (start final : D) (result : Status) (told : Bool) (before after : List ℕ) : Type 0 where
+    pub run : MakesEvents stop c events result (Unharmed start final)
+    pub disk : KeepsThroughout (Unharmed start final) c run.made run.core start final
+    pub calls : Unharmed start final → result ≡ status.Done → g.passed disk.stopped ≡ counted (let_through stop (total_calls c run.made)) (g.passed start)
+    pub replies : call_replies_of run.core.history ≡ serial_replies run.core.g0 (commits run.core.history)
+    pub prints : Prints stop run.core disk.stopped final result told before after
+    pub end : IsEndOfPlay result
+
+  -- An empty heap was made. Meanwhile a crash left no heap, the old image, or the new heap.
+  pub record IsFormatted (s : Super) (old made : D) : Type 0 where
+    pub moments : LeavesOnly g.moment g.left_since old made (IsFormatting s (g.bytes old))
+    pub empty : IsLegal s [] (g.bytes made)
+    pub only : Only (g.bytes made) (g.may_leave made)
+    pub passed : g.passed made ≡ counted (format_calls (image_size s.pages s.log_bytes) (g.bytes old)) (g.passed old)
+
+  -- The disk failed or stopped in one of the writes and syncs that make the heap.
+  pub record FailsFormat (s : Super) (old new : D) : Type 0 where
+    pub error : DiskError
+    pub cause : HasCause {T = Unit {0}} (g.faults old) (g.faults new) (g.stops old) (g.stops new) (Err error)
+    pub passes : Passes (format_calls (image_size s.pages s.log_bytes) (g.bytes old)) (g.passed old) (g.passed new) (Err error)
+
+  -- Why no heap was made: the disk failed at it, or the run ended before, and then the disk is as it was.
+  abbrev pub IsUnmade : Super → D → D → Status → Type 0
+  IsUnmade s old new status.DiskFault = FailsFormat s old new
+  IsUnmade s old new status.NoMemory = new ≡ old
+  IsUnmade s old new (status.Script line) = new ≡ old
+  IsUnmade s old new status.ReadFault = new ≡ old
+  IsUnmade s old new (status.TooSmall size need) = new ≡ old
+  IsUnmade s old new result = ⊥
+
+  -- No heap was made, and nothing was written. A crash left no heap, the old image, or the new heap.
+  pub record IsNotMade (s : Super) (old new : D) (result : Status) (told : Bool) (before after : List ℕ) : Type 0 where
+    pub reason : IsUnmade s old new result
+    pub nothing : IsTrue told → after ≡ before
+    pub moments : LeavesOnly g.moment g.left_since old new (IsFormatting s (g.bytes old))
+
+  -- A heap was made, and a script was played on it, with the events that end a run.
+  pub record PlaysOnNew (play : Play) (is_script : List Line → Type 0) (old new : D) (result : Status) (told : Bool) (before after : List ℕ) : Type 0 where
+    pub lines : List Line
+    pub script : is_script lines
+    pub made : D
+    pub format : IsFormatted (made_super play.pages) old made
+    pub played : IsPlayed play.stop made_core (all_events play.stop made_core (events lines)) made new result told before after
+
+  -- Either no heap was made, or a script was played on a new one.
+  abbrev pub Runs : Play → (List Line → Type 0) → D → D → Status → Bool → List ℕ → List ℕ → Type 0
+  Runs play is_script old new result told before after =
+      IsNotMade (made_super play.pages) old new result told before after ⊎ PlaysOnNew play is_script old new result told before after
+
+-- The statuses with which a run leaves the disk and the sink as they were.
 abbrev pub IsUntouching : Status → Type 0
 IsUntouching status.Usage = Unit {0}
 IsUntouching (status.Script line) = Unit {0}
@@ -183,23 +248,3 @@ EndsUnmade expected result = result ≡ expected
 abbrev pub restarts_of : Option ℕ → ℕ → ℕ
 restarts_of None before = before
 restarts_of (Some n) before = raised before
-
--- The statuses of a run that has made no heap.
-abbrev pub IsUnmade : Status → Type 0
-IsUnmade status.NoMemory = Unit {0}
-IsUnmade (status.Script line) = Unit {0}
-IsUnmade status.ReadFault = Unit {0}
-IsUnmade status.DiskFault = Unit {0}
-IsUnmade (status.TooSmall size need) = Unit {0}
-IsUnmade s = ⊥
-
--- No heap was made, and nothing was written. A crash left no heap, the old image, or the new heap.
-pub record IsNotMade (result : Status) (making : Type 0) (told : Bool) (before after : List ℕ) : Type 0 where
-  pub reason : IsUnmade result
-  pub nothing : IsTrue told → after ≡ before
-  pub moments : making
-
--- Either no heap was made, or a script was played on a new one, with the events that end a run.
-abbrev pub Runs : Play → (List Line → Type 0) → Status → Type 0 → ((List ℕ → Type 0) → Type 0) → (List ℕ → Type 0) → Type 0 → (ℕ → Type 0) → Bool → List ℕ → List ℕ → Type 0
-Runs play is_script result making each may_leave unharmed passed told before after =
-    IsNotMade result making told before after ⊎ ((lines : List Line) × is_script lines × IsPlayed play.stop (all_events play.stop made_core (events lines)) result each may_leave unharmed passed told before after)

@@ -7,3 +7,4 @@ pub mod Play
 pub mod Playable
 pub mod Status
 pub mod StatusOf
+pub mod Steps

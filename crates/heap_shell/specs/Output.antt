@@ -1,36 +1,40 @@
--- What is written of a text.
-use Rattle.std.specs.Prelude.{◌≡◌, ℕ, ◌≤◌, List, ◌++◌, length, take, drop, Bool, IsTrue, None, Result, Ok, Err}
-use Rattle.std.specs.List.{AllByRecursion}
-use Rattle.graph_model.specs.Graph.{Graph}
-use Rattle.graph_model.specs.History.{account, commits, acknowledged}
+-- What is written of a text, and of a heap that is opened again.
+use Rattle.std.specs.Prelude.{◌≡◌, ◌≢◌, ◌⊎◌, ℕ, List, ◌++◌, take, Bool, IsTrue, Result, Ok, Err}
+use Rattle.graph_model.specs.History.{commits}
 use Rattle.graph_model.specs.Transaction.{serial}
+use Rattle.heap_shell.specs.declared.output.WriteError.{WriteError}
 use Rattle.heap_shell.specs.declared.status.Status.{Status}
 use Rattle.heap_shell.specs.declared.status.Status.TheVariants.{Done}
-use Rattle.heap_model.specs.Core.{Core, all_records}
+use Rattle.heap_model.specs.Core.{Core}
 use Rattle.heap_model.specs.CoreCrash.{KeepsCommits}
-use Rattle.heap_shell.specs.Headline.{IsEndOfPlay, Reopens, recovered_line, graph_text}
-use Rattle.heap_model.specs.Image.{graph_of}
-use Rattle.log_machine.specs.Machine.{committed_words}
+use Rattle.heap_shell.specs.Headline.{IsEndOfPlay, recovered_line, graph_text}
 use Rattle.heap_shell.specs.Play.{WroteFront}
-use Rattle.heap_model.specs.ValueWord.{IsNumberWord}
+use Rattle.heap_shell.specs.StatusOf.{write_status}
 
 -- All of a text was written, or a first part of it where that ended in an error.
-abbrev pub WroteText : Result (Unit {0}) Status → List ℕ → List ℕ → List ℕ → Type 0
-WroteText (Ok nothing) before text after = after ≡ before ++ text
-WroteText (Err status) before text after = WroteFront before text after
+abbrev pub WroteText : Result (Unit {0}) WriteError → List ℕ → List ℕ → List ℕ → Type 0
+WroteText (Ok done) before text after = after ≡ before ++ text
+WroteText (Err e) before text after = WroteFront before text after
 
 -- how a run ends that has written its output, or could not
-abbrev pub status_after : Result (Unit {0}) Status → Status
-status_after (Ok nothing) = Done
-status_after (Err status) = status
+abbrev pub status_after : Result (Unit {0}) WriteError → Status
+status_after (Ok done) = Done
+status_after (Err e) = write_status e
 
--- Of an image of a core's first commits their number and their graph were written, and a crash still leaves first commits.
-pub record Recovers (c : Core) (result : Status) (may_leave : List ℕ → Type 0) (passed : ℕ → Type 0) (told : Bool) (before after : List ℕ) : Type 0 where
-  pub end : IsEndOfPlay result
-  pub kept : (image : List ℕ) → may_leave image → KeepsCommits c image
+-- The heap was opened again as a core's first commits, and their number and their graph were written, or a first part of that.
+pub record WroteRecovered (c : Core) (opens : ℕ → Type 0) (result : Status) (told : Bool) (before after : List ℕ) : Type 0 where
   pub count : ℕ
-  pub least : acknowledged c.history ≤ count
-  pub most : count ≤ length (commits c.history)
-  pub calls : result ≡ Done → (opening : ℕ) × Reopens c count opening × passed opening
+  pub opened : opens count
   pub written : IsTrue told → WroteFront before (recovered_line count ++ graph_text (serial c.g0 (take count (commits c.history)))) after
   pub whole : IsTrue told → result ≡ Done → after ≡ before ++ (recovered_line count ++ graph_text (serial c.g0 (take count (commits c.history))))
+
+-- It could not be opened, and nothing was written.
+pub record WroteNothing (result : Status) (told : Bool) (before after : List ℕ) : Type 0 where
+  pub early : result ≢ Done
+  pub nothing : IsTrue told → after ≡ before
+
+-- A heap was opened again on a disk that keeps a core's commits, and what came back was written. A crash still leaves them.
+pub record Recovers (c : Core) (opens : ℕ → Type 0) (may_leave : List ℕ → Type 0) (result : Status) (told : Bool) (before after : List ℕ) : Type 0 where
+  pub end : IsEndOfPlay result
+  pub kept : (image : List ℕ) → may_leave image → KeepsCommits c image
+  pub found : WroteRecovered c opens result told before after ⊎ WroteNothing result told before after

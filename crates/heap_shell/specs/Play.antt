@@ -4,7 +4,6 @@ use Rattle.std.specs.List.{AllByRecursion, flat_map}
 use Rattle.counts.specs.Count.{counted}
 use Rattle.disk_model.specs.declared.disk.Disk.{Ghosts}
 use Rattle.disk_model.specs.Disk.{HasCause}
-use Rattle.disk_model.specs.Moments.{LeavesOnly}
 use Rattle.graph_model.specs.declared.event.Event.{Event}
 use Rattle.graph_model.specs.declared.reply.Entry.{Entry}
 use Rattle.graph_model.specs.declared.reply.Refusal.TheVariants.{DiskFault, Stopped}
@@ -14,15 +13,14 @@ use Rattle.graph_model.specs.SlowHeap.{IsSingleSession}
 use Rattle.graph_model.specs.Text.{line}
 use Rattle.image_plan.specs.declared.superblock.Super.{Super}
 use Rattle.heap_core.specs.declared.heap.Heap.{Heap}
-use Rattle.heap_shell.specs.declared.play.Ended.{Ended}
-use Rattle.heap_shell.specs.declared.play.Ended.TheVariants as ended
-use Rattle.heap_shell.specs.declared.status.Status.{Status}
+use Rattle.heap_shell.specs.declared.play.Halt.{Halt}
+use Rattle.heap_shell.specs.declared.play.Halt.TheVariants as halt
 use Rattle.heap_core.specs.Causes.{reply_device}
 use Rattle.heap_model.specs.Core.{Core, with_entry, IsCutShort, calls}
-use Rattle.heap_model.specs.CoreCrash.{HasCommits}
 use Rattle.heap_model.specs.CoreRuns.{after_events, total_calls}
 use Rattle.heap_model.specs.CoreValid.{IsValid}
 use Rattle.heap_core.specs.Means.{IsHeap}
+use Rattle.heap_shell.specs.Steps.{HeapStep, AreSteps}
 
 -- the lines of a history
 abbrev pub lines_text : List Entry → List ℕ
@@ -40,16 +38,17 @@ WroteFront before text after = (front : List ℕ) × (rest : List ℕ) × (text 
 abbrev pub WroteLines : List ℕ → List Entry → List ℕ → Type 0
 WroteLines before history after = (whole : List Entry) × (last : List Entry) × (rest : List ℕ) × (history ≡ whole ++ last) × (length last ≤ 1) × (after ≡ (before ++ lines_text whole) ++ rest)
 
--- The lines of a history were written, or a first part of them where the play ended in an error.
-abbrev pub Wrote : Result Ended Status → List ℕ → List Entry → List ℕ → Type 0
-Wrote (Ok ended) before history after = after ≡ before ++ lines_text history
-Wrote (Err status) before history after = WroteFront before (lines_text history) after × WroteLines before history after
+-- The lines of a history were written, or a first part of them where the play ended for want of memory or by the sink.
+abbrev pub Wrote : Result (Unit {0}) Halt → List ℕ → List Entry → List ℕ → Type 0
+Wrote (Err halt.NoMemory) before history after = WroteFront before (lines_text history) after × WroteLines before history after
+Wrote (Err halt.WriteFault) before history after = WroteFront before (lines_text history) after × WroteLines before history after
+Wrote result before history after = after ≡ before ++ lines_text history
 
--- how a play ends with a reply
-abbrev pub ended_by : Reply → Ended
-ended_by (Refused DiskFault) = ended.DiskFault
-ended_by (Refused Stopped) = ended.Stopped
-ended_by reply = ended.Whole
+-- how a play goes on behind a reply
+abbrev pub ended_by : Reply → Result (Unit {0}) Halt
+ended_by (Refused DiskFault) = Err halt.DiskFault
+ended_by (Refused Stopped) = Err halt.Stopped
+ended_by reply = Ok tt
 
 module _ {D : Type 0} {g : Ghosts D} where
   -- All of these events were made, and the disk did what it was asked.
@@ -72,19 +71,19 @@ module _ {D : Type 0} {g : Ghosts D} where
   Makes c made d old new = MakesAll c made d old new ⊎ ((reply : Reply) × MakesShort c made d old new reply)
 
   -- How a play ended tells what was made.
-  abbrev pub Ends : Core → List Event → List Event → Core → Heap D g → Heap D g → Result Ended Status → Type 0
-  Ends c made behind d old new (Ok ended.Whole) = (behind ≡ []) × MakesAll c made d old new
-  Ends c made behind d old new (Ok ended.Stopped) = MakesShort c made d old new (Refused Stopped)
-  Ends c made behind d old new (Ok ended.DiskFault) = MakesShort c made d old new (Refused DiskFault)
-  Ends c made behind d old new (Err status) = Makes c made d old new
+  abbrev pub Ends : Core → List Event → List Event → Core → Heap D g → Heap D g → Result (Unit {0}) Halt → Type 0
+  Ends c made behind d old new (Ok done) = (behind ≡ []) × MakesAll c made d old new
+  Ends c made behind d old new (Err halt.Stopped) = MakesShort c made d old new (Refused Stopped)
+  Ends c made behind d old new (Err halt.DiskFault) = MakesShort c made d old new (Refused DiskFault)
+  Ends c made behind d old new (Err other) = Makes c made d old new
 
   -- Events were played from a core on, and their lines written to a sink, which may tell what was written before and after.
-  pub record Plays (s : Super) (c : Core) (events : List Event) (old new : Heap D g) (told : Bool) (before after : List ℕ) (result : Result Ended Status) : Type 0 where
+  pub record Plays (s : Super) (c : Core) (events : List Event) (old new : Heap D g) (told : Bool) (before after : List ℕ) (result : Result (Unit {0}) Halt) : Type 0 where
     pub made : List Event
     pub behind : List Event
     pub parts : events ≡ made ++ behind
     pub core : Core
+    pub steps : AreSteps (HeapStep g) c old.disk made core new.disk
     pub ends : Ends c made behind core old new result
     pub heap : IsHeap s core new
-    pub moments : LeavesOnly g.moment g.left_since old.disk new.disk (HasCommits core)
     pub written : IsTrue told → (w : List ℕ) → before ≡ w ++ lines_text c.history → Wrote result w core.history after

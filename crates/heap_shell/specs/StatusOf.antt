@@ -7,8 +7,12 @@ use Rattle.heap_recovery.specs.declared.recovery.OpenError.{OpenError}
 use Rattle.heap_recovery.specs.declared.recovery.OpenError.TheVariants as opening
 use Rattle.script_text.specs.declared.script.ScriptError.{ScriptError}
 use Rattle.script_text.specs.declared.script.ScriptError.TheVariants as reading
+use Rattle.heap_shell.specs.declared.output.WriteError.{WriteError}
+use Rattle.heap_shell.specs.declared.output.WriteError.TheVariants as writing
+use Rattle.heap_shell.specs.declared.play.Halt.{Halt}
+use Rattle.heap_shell.specs.declared.play.Halt.TheVariants as halt
 use Rattle.heap_shell.specs.declared.status.Status.{Status}
-use Rattle.heap_shell.specs.declared.status.Status.TheVariants.{NoMemory, Script, ReadFault, DiskFault, NotHeap, Damaged, TooSmall}
+use Rattle.heap_shell.specs.declared.status.Status.TheVariants.{NoMemory, Script, ReadFault, WriteFault, DiskFault, NotHeap, Damaged, TooSmall}
 
 abbrev pub script_status : ScriptError → Status
 script_status reading.NoMemory = NoMemory
@@ -28,3 +32,19 @@ open_status opening.NoMemory = NoMemory
 open_status opening.NotHeap = NotHeap
 open_status (opening.Damaged at) = Damaged at
 open_status (opening.Disk e) = DiskFault
+
+abbrev pub write_status : WriteError → Status
+write_status writing.NoMemory = NoMemory
+write_status writing.SinkFailed = WriteFault
+
+-- a disk that stopped is no better than one that failed, where it was not to stop
+abbrev pub halt_status : Halt → Status
+halt_status halt.NoMemory = NoMemory
+halt_status halt.WriteFault = WriteFault
+halt_status halt.DiskFault = DiskFault
+halt_status halt.Stopped = DiskFault
+
+-- why a play goes no further whose line was not written
+abbrev pub write_halt : WriteError → Halt
+write_halt writing.NoMemory = halt.NoMemory
+write_halt writing.SinkFailed = halt.WriteFault

@@ -3,6 +3,7 @@
 #![tactic(auto)]
 
 mod command;
+mod output;
 mod play;
 mod run;
 mod status;
@@ -68,6 +69,6 @@ fn main(rt: HostRuntime) -> ExitCode {
 }
 
 #[cfg(test)]
-mod stops;
+mod stop_tests;
 #[cfg(test)]
 mod tests;

@@ -1,111 +1,43 @@
 //! The program's one call: from the words of its command line and a script to the printed graph.
-ghost use Rattle.std.specs.Prelude.{◌≡◌, ◌⊎◌, ℕ, ◌+◌, ◌-◌, ◌<◌, ◌≤◌, ◌++◌, ◌↔◌, [], List, None, Some, Ok, Err, map, string_bytes, IfOk, IfErr, IsNone, IsTrue, OnOk};
-ghost use Rattle.counts.specs.Count.{Rose, raised, counted};
+ghost use Rattle.std.specs.Prelude.{◌≡◌, ◌⊎◌, ℕ, ◌<◌, ◌≤◌, ◌↔◌, [], List, None, Some, Ok, Err, map, string_bytes, IfOk, IfErr, IsNone, IsTrue, OnOk};
+ghost use Rattle.counts.specs.Count.{Rose, raised};
 ghost use Rattle.disk_model.specs.Disk.{Only};
 ghost use Rattle.disk_model.specs.Fuse.{fuse_inner};
+ghost use Rattle.disk_model.specs.Keeps.{KeepsDisk};
 ghost use Rattle.disk_model.specs.Moments.{LeavesOnly};
-ghost use Rattle.graph_model.specs.Graph.{Graph};
-ghost use Rattle.image_plan.specs.declared.superblock.Super.{Super};
 ghost use Rattle.image_plan.specs.Plan.{image_size};
 ghost use Rattle.heap_shell.specs.declared.command.Play.{Play};
 ghost use Rattle.script_text.specs.declared.line.Line.{Line};
 ghost use Rattle.script_text.specs.declared.script.ScriptError.TheVariants.{Fault};
-ghost use Rattle.heap_shell.specs.declared.status.Status.TheVariants.{NoMemory, WriteFault};
-ghost use Rattle.heap_shell.specs.Causes.{DiskRose, IsOutputError, IsInputError, IsPlayStatus, FailsByScript};
+ghost use Rattle.heap_shell.specs.declared.status.Status.TheVariants.{NoMemory};
+ghost use Rattle.heap_shell.specs.Causes.{DiskRose, StreamCause, RunsDisk, IsInputError, IsOpenedEnd, FailsByScript};
 ghost use Rattle.heap_shell.specs.Command.{command};
 ghost use Rattle.heap_model.specs.Core.{Core};
 ghost use Rattle.heap_model.specs.CoreCrash.{KeepsCommits};
-ghost use Rattle.heap_core.specs.Format.{IsFormatting, format_calls};
-ghost use Rattle.heap_shell.specs.Headline.{made_super, made_core, graph_text, recovered_line, OfTold, IsPlayed, Runs, SinceMade, IsSound, IsUntouching, EndsUnread, EndsUnmade, restarts_of};
+ghost use Rattle.heap_shell.specs.Headline.{made_super, made_core, OfTold, IsPlayed, Reopens, StartsAgain, Runs, IsSound, IsUntouching, EndsUnread, EndsUnmade, restarts_of};
 ghost use Rattle.heap_shell.specs.Playable.{IsPlayable};
-ghost use Rattle.heap_core.specs.HeapState.{commits_of};
 ghost use Rattle.heap_model.specs.Ending.{all_events};
 ghost use Rattle.heap_model.specs.Image.{IsLegal};
-ghost use Rattle.heap_core.specs.Means.{IsHeap};
-ghost use Rattle.heap_shell.specs.Output.{WroteText, Recovers, status_after};
-ghost use Rattle.heap_core.specs.CoreGraph.{HasGraph};
+ghost use Rattle.heap_shell.specs.Output.{Recovers, status_after};
 ghost use Rattle.script_text.specs.Line.{events};
 ghost use Rattle.script_text.specs.Script.{script};
-ghost use Rattle.heap_shell.specs.StatusOf.{script_status, input_status, format_status, open_status};
 
 use crate::command::read_words;
-use crate::play::{Ended, play_all, play_lines};
+use crate::output::{WriteError, write_graph, write_recovered};
+use crate::play::{Halt, play_all, play_lines};
 use crate::status::Status;
 use disk_model::{Disk, DiskError, FuseDisk};
-use heap_core::{FormatError, Heap, OpenError, format};
-use heap_io::{Sink, SinkFailed, Source, TakeAllError, put_all, take_all};
+use heap_core::{Heap, OpenError, format};
+use heap_io::{Sink, Source, take_all};
 use image_plan::Super;
-use script_text::{Line, MOST_BYTES, ScriptError, read_script};
-use std::alloc::{AllocError, Global};
+use script_text::{Line, MOST_BYTES, read_script};
+use std::alloc::Global;
 
 /// The bytes of the log of a heap that is made afresh.
 const LOG_BYTES: u32 = 1_048_576;
 
 /// The number of its first transaction.
 const FIRST: u32 = 1;
-
-impl From<AllocError> for Status {
-    ghost from_gives = { λ _ s. s ≡ NoMemory };
-
-    fn from(_: AllocError) -> Self {
-        Status::NoMemory
-    }
-}
-
-impl From<SinkFailed> for Status {
-    ghost from_gives = { λ _ s. s ≡ WriteFault };
-
-    fn from(_: SinkFailed) -> Self {
-        Status::WriteFault
-    }
-}
-
-impl From<ScriptError> for Status {
-    ghost from_gives = { λ e s. s ≡ script_status e };
-
-    fn from(e: ScriptError) -> Self {
-        match e {
-            ScriptError::NoMemory => Status::NoMemory,
-            ScriptError::Fault { line } => Status::Script { line },
-        }
-    }
-}
-
-impl From<TakeAllError> for Status {
-    ghost from_gives = { λ e s. s ≡ input_status e };
-
-    fn from(e: TakeAllError) -> Self {
-        match e {
-            TakeAllError::NoMemory => Status::NoMemory,
-            TakeAllError::SourceFailed => Status::ReadFault,
-            TakeAllError::TooLong => Status::Script { line: 0 },
-        }
-    }
-}
-
-impl From<FormatError> for Status {
-    ghost from_gives = { λ e s. s ≡ format_status e };
-
-    fn from(e: FormatError) -> Self {
-        match e {
-            FormatError::TooSmall { size, need } => Status::TooSmall { size, need },
-            FormatError::Disk(_) => Status::DiskFault,
-        }
-    }
-}
-
-impl From<OpenError> for Status {
-    ghost from_gives = { λ e s. s ≡ open_status e };
-
-    fn from(e: OpenError) -> Self {
-        match e {
-            OpenError::NoMemory => Status::NoMemory,
-            OpenError::NotHeap => Status::NotHeap,
-            OpenError::Damaged { at } => Status::Damaged { at },
-            OpenError::Disk(_) => Status::DiskFault,
-        }
-    }
-}
 
 /// Plays the script that `source` gives on a heap that is made afresh on `disk`, and writes the replies and the graph to
 /// `sink`, as the words of the command line say.
@@ -126,23 +58,19 @@ pub fn run<D: Disk, S: Source, K: Sink>(
     ensures small_told { (play : Play) → command (map string_bytes words.now) ≡ Some play → D.extent disk < image_size play.pages 1048576 → EndsUnmade (Status.TooSmall (D.extent disk) (image_size play.pages 1048576)) result.0 }
 
     // Each fault comes from outside.
-    ensures read_fault { result.0 ≡ Status.ReadFault → Rose (S.faults source.old) (S.faults source.new) }
-    ensures write_fault { result.0 ≡ Status.WriteFault → Rose (K.faults sink.old) (K.faults sink.new) }
-    ensures disk_fault { result.0 ≡ Status.DiskFault → DiskRose (D.faults disk) (D.stops disk) (D.faults result.1) (D.stops result.1) }
+    ensures read_fault { StreamCause (S.faults source.old) (S.faults source.new) (result.0 ≡ Status.ReadFault) }
+    ensures write_fault { StreamCause (K.faults sink.old) (K.faults sink.new) (result.0 ≡ Status.WriteFault) }
+    ensures disk_fault { RunsDisk D.Disk disk result.1 (result.0 ≡ Status.DiskFault) }
 
-    ensures extent { D.extent result.1 ≡ D.extent disk }
-    // A run that ends before it makes a heap leaves the disk as it was.
-    ensures untouched { IsUntouching result.0 → result.1 ≡ disk }
+    // A run that ends before it makes a heap leaves the disk and the sink as they were, and one without a command the source too.
+    ensures untouched { IsUntouching result.0 → (result.1 ≡ disk) × (sink.new ≡ sink.old) }
+    ensures unread { result.0 ≡ Status.Usage → source.new ≡ source.old }
     // One that is done has read its script to the end.
     ensures read_whole { IsTrue S.tells → result.0 ≡ Status.Done → S.left source.new ≡ [] }
 
     // The sentence that the stable heap is for: either no heap was made, or the script was played on a new one.
     ensures headline { OfTold D.tells (D.bytes disk) (D.may_leave disk) ((play : Play) → command (map string_bytes words.now) ≡ Some play
-        → Runs play (λ lines. IsTrue S.tells → script (S.left source.old) ≡ Ok lines) result.0
-        (LeavesOnly D.moment D.left_since disk result.1 (IsFormatting (made_super play.pages) (D.bytes disk)))
-        (λ P. SinceMade D.moment D.left_since D.bytes D.may_leave (made_super play.pages) disk result.1 P) (D.may_leave result.1)
-        (¬ DiskRose (D.faults disk) (D.stops disk) (D.faults result.1) (D.stops result.1))
-        (λ n. D.passed result.1 ≡ counted (format_calls (image_size play.pages 1048576) (D.bytes disk) + n) (D.passed disk)) K.tells (K.written sink.old) (K.written sink.new)) }
+        → Runs D.Disk play (λ lines. IsTrue S.tells → script (S.left source.old) ≡ Ok lines) disk result.1 result.0 K.tells (K.written sink.old) (K.written sink.new)) }
 
     // The heap that it made is never damaged, and without a fault it is done.
     ensures sound { OfTold D.tells (D.bytes disk) (D.may_leave disk) (IsSound result.0) }
@@ -176,7 +104,8 @@ pub fn run<D: Disk, S: Source, K: Sink>(
 
 /// The script, read to its end.
 fn read_input<S: Source>(alloc: Global, source: &mut S) -> Result<Vec<Line>, Status>
-    ensures cause { IfErr result (IsInputError (S.faults source.old) (S.faults source.new)) }
+    ensures status { IfErr result IsInputError }
+    ensures cause { StreamCause (S.faults source.old) (S.faults source.new) (result ≡ Err Status.ReadFault) }
     ensures script { IfOk result (λ lines. (bytes : List ℕ) × (script bytes ≡ Ok lines.items) × (IsTrue S.tells → bytes ≡ S.left source.old)) }
     ensures end { IsTrue S.tells → OnOk result (S.left source.new ≡ []) }
     ensures fault { IsTrue S.tells → IfErr result (FailsByScript (S.left source.old)) }
@@ -192,25 +121,23 @@ fn play_whole<D: Disk, K: Sink>(
     script: &[Line],
     sink: &mut K,
 ) -> (Status, D)
-    ensures status { IsPlayStatus (DiskRose (D.faults disk) (D.stops disk) (D.faults result.1) (D.stops result.1)) (Rose (K.faults sink.old) (K.faults sink.new)) result.0 }
-    ensures kept { D.faults disk + D.stops disk ≤ D.faults result.1 + D.stops result.1 }
-    ensures sink { K.faults sink.old ≤ K.faults sink.new }
-    ensures extent { D.extent result.1 ≡ D.extent disk }
-    ensures played { IsTrue D.tells → (pages : ℕ) → IsLegal (made_super pages) [] (D.bytes disk) → Only (D.bytes disk) (D.may_leave disk) → IsPlayable (all_events None made_core (events script.now))
-        → IsPlayed None (all_events None made_core (events script.now)) result.0 (λ P. LeavesOnly D.moment D.left_since disk result.1 P) (D.may_leave result.1) (¬ DiskRose (D.faults disk) (D.stops disk) (D.faults result.1) (D.stops result.1)) (λ n. D.passed result.1 ≡ counted n (D.passed disk)) K.tells (K.written sink.old) (K.written sink.new) }
+    ensures end { IsOpenedEnd result.0 }
+    ensures disk { RunsDisk D.Disk disk result.1 (result.0 ≡ Status.DiskFault) }
+    ensures sink { StreamCause (K.faults sink.old) (K.faults sink.new) (result.0 ≡ Status.WriteFault) }
     ensures restarts { IsTrue D.tells → D.restarts result.1 ≡ D.restarts disk }
+    ensures played { IsTrue D.tells → (pages : ℕ) → IsLegal (made_super pages) [] (D.bytes disk) → Only (D.bytes disk) (D.may_leave disk) → IsPlayable (all_events None made_core (events script.now))
+        → IsPlayed D.Disk None made_core (all_events None made_core (events script.now)) disk result.1 result.0 K.tells (K.written sink.old) (K.written sink.new) }
 {
     let mut heap = match Heap::open(alloc, disk) {
         Ok(heap) => heap,
         Err((e, disk)) => return (Status::from(e), disk),
     };
     match play_all(alloc, &mut heap, script, sink) {
-        Ok(Ended::Whole) => {
+        Ok(()) => {
             let status = status_after(write_graph(alloc, &heap, sink));
             (status, heap.close())
         }
-        Ok(Ended::Stopped | Ended::DiskFault) => (Status::DiskFault, heap.close()),
-        Err(status) => (status, heap.close()),
+        Err(halt) => (Status::from(halt), heap.close()),
     }
 }
 
@@ -222,13 +149,12 @@ fn play_stopped<D: Disk, K: Sink>(
     script: &[Line],
     sink: &mut K,
 ) -> (Status, D)
-    ensures status { IsPlayStatus (DiskRose (D.faults disk) (D.stops disk) (D.faults result.1) (D.stops result.1)) (Rose (K.faults sink.old) (K.faults sink.new)) result.0 }
-    ensures kept { D.faults disk + D.stops disk ≤ D.faults result.1 + D.stops result.1 }
-    ensures sink { K.faults sink.old ≤ K.faults sink.new }
-    ensures extent { D.extent result.1 ≡ D.extent disk }
-    ensures played { IsTrue D.tells → (pages : ℕ) → IsLegal (made_super pages) [] (D.bytes disk) → Only (D.bytes disk) (D.may_leave disk) → IsPlayable (events script.now)
-        → IsPlayed (Some calls) (events script.now) result.0 (λ P. LeavesOnly D.moment D.left_since disk result.1 P) (D.may_leave result.1) (¬ DiskRose (D.faults disk) (D.stops disk) (D.faults result.1) (D.stops result.1)) (λ n. D.passed result.1 ≡ counted n (D.passed disk)) K.tells (K.written sink.old) (K.written sink.new) }
+    ensures end { IsOpenedEnd result.0 }
+    ensures disk { RunsDisk D.Disk disk result.1 (result.0 ≡ Status.DiskFault) }
+    ensures sink { StreamCause (K.faults sink.old) (K.faults sink.new) (result.0 ≡ Status.WriteFault) }
     ensures restarts { IsTrue D.tells → result.0 ≡ Status.Done → D.restarts result.1 ≡ raised (D.restarts disk) }
+    ensures played { IsTrue D.tells → (pages : ℕ) → IsLegal (made_super pages) [] (D.bytes disk) → Only (D.bytes disk) (D.may_leave disk) → IsPlayable (events script.now)
+        → IsPlayed D.Disk (Some calls) made_core (events script.now) disk result.1 result.0 K.tells (K.written sink.old) (K.written sink.new) }
 {
     let mut heap = match Heap::open(alloc, FuseDisk::new(disk, calls)) {
         Ok(heap) => heap,
@@ -242,9 +168,8 @@ fn play_stopped<D: Disk, K: Sink>(
     };
     let before = heap.commits();
     match play_lines(alloc, &mut heap, script, sink) {
-        Ok(Ended::Whole | Ended::Stopped) => start_again(alloc, heap.close(), before, sink),
-        Ok(Ended::DiskFault) => (Status::DiskFault, heap.close().into_inner()),
-        Err(status) => (status, heap.close().into_inner()),
+        Ok(()) | Err(Halt::Stopped) => start_again(alloc, heap.close(), before, sink),
+        Err(halt) => (Status::from(halt), heap.close().into_inner()),
     }
 }
 
@@ -255,13 +180,13 @@ fn start_again<D: Disk, K: Sink>(
     before: u64,
     sink: &mut K,
 ) -> (Status, D)
-    ensures status { IsPlayStatus (DiskRose (D.faults (fuse_inner fuse)) (D.stops (fuse_inner fuse)) (D.faults result.1) (D.stops result.1)) (Rose (K.faults sink.old) (K.faults sink.new)) result.0 }
-    ensures kept { D.faults (fuse_inner fuse) + D.stops (fuse_inner fuse) ≤ D.faults result.1 + D.stops result.1 }
-    ensures sink { K.faults sink.old ≤ K.faults sink.new }
-    ensures extent { D.extent result.1 ≡ D.extent (fuse_inner fuse) }
+    ensures end { IsOpenedEnd result.0 }
+    ensures disk { RunsDisk D.Disk (fuse_inner fuse) result.1 (result.0 ≡ Status.DiskFault) }
+    ensures sink { StreamCause (K.faults sink.old) (K.faults sink.new) (result.0 ≡ Status.WriteFault) }
     ensures restarts { IsTrue D.tells → D.restarts result.1 ≡ raised (D.restarts (fuse_inner fuse)) }
     ensures moments { IsTrue D.tells → (c : Core) → ((image : List ℕ) → D.may_leave (fuse_inner fuse) image → KeepsCommits c image) → LeavesOnly D.moment D.left_since (fuse_inner fuse) result.1 (KeepsCommits c) }
-    ensures recovers { IsTrue D.tells → (c : Core) → ((image : List ℕ) → D.may_leave (fuse_inner fuse) image → KeepsCommits c image) → before ≡ 0 → Recovers c result.0 (D.may_leave result.1) (λ n. D.passed result.1 ≡ counted n (D.passed (fuse_inner fuse))) K.tells (K.written sink.old) (K.written sink.new) }
+    ensures recovers { IsTrue D.tells → (c : Core) → ((image : List ℕ) → D.may_leave (fuse_inner fuse) image → KeepsCommits c image) → before ≡ 0
+        → Recovers c (λ k. StartsAgain D.Disk c k (fuse_inner fuse) result.1) (D.may_leave result.1) result.0 K.tells (K.written sink.old) (K.written sink.new) }
 {
     let mut disk = fuse.into_inner();
     disk.restart();
@@ -269,22 +194,13 @@ fn start_again<D: Disk, K: Sink>(
 }
 
 /// How a run ends that has written its output, or could not.
-fn status_after(written: Result<(), Status>) -> Status
+fn status_after(written: Result<(), WriteError>) -> Status
     ensures { result ≡ status_after written }
 {
     match written {
         Ok(()) => Status::Done,
-        Err(status) => status,
+        Err(e) => Status::from(e),
     }
-}
-
-fn write_graph<D: Disk, K: Sink>(alloc: Global, heap: &Heap<D>, sink: &mut K) -> Result<(), Status>
-    ensures output { IfErr result (IsOutputError (K.faults sink.old) (K.faults sink.new)) }
-    ensures sink { K.faults sink.old ≤ K.faults sink.new }
-    ensures wrote { IsTrue K.tells → (s : Super) (c : Core) (g : Graph) → IsHeap s c heap.now → HasGraph c g → WroteText result (K.written sink.old) (graph_text g) (K.written sink.new) }
-{
-    let text = heap.graph(alloc)?;
-    Ok(put_all(sink, text.as_bytes())?)
 }
 
 /// Opens the heap again after a restart, and writes how many commits came back, and the graph.
@@ -294,13 +210,13 @@ fn print_recovered<D: Disk, K: Sink>(
     before: u64,
     sink: &mut K,
 ) -> (Status, D)
-    ensures status { IsPlayStatus (DiskRose (D.faults disk) (D.stops disk) (D.faults result.1) (D.stops result.1)) (Rose (K.faults sink.old) (K.faults sink.new)) result.0 }
-    ensures kept { D.faults disk + D.stops disk ≤ D.faults result.1 + D.stops result.1 }
-    ensures sink { K.faults sink.old ≤ K.faults sink.new }
-    ensures extent { D.extent result.1 ≡ D.extent disk }
+    ensures end { IsOpenedEnd result.0 }
+    ensures disk { RunsDisk D.Disk disk result.1 (result.0 ≡ Status.DiskFault) }
+    ensures sink { StreamCause (K.faults sink.old) (K.faults sink.new) (result.0 ≡ Status.WriteFault) }
     ensures restarts { IsTrue D.tells → D.restarts result.1 ≡ D.restarts disk }
     ensures moments { IsTrue D.tells → (c : Core) → KeepsCommits c (D.bytes disk) → Only (D.bytes disk) (D.may_leave disk) → LeavesOnly D.moment D.left_since disk result.1 (KeepsCommits c) }
-    ensures recovers { IsTrue D.tells → (c : Core) → KeepsCommits c (D.bytes disk) → Only (D.bytes disk) (D.may_leave disk) → before ≡ 0 → Recovers c result.0 (D.may_leave result.1) (λ n. D.passed result.1 ≡ counted n (D.passed disk)) K.tells (K.written sink.old) (K.written sink.new) }
+    ensures recovers { IsTrue D.tells → (c : Core) → KeepsCommits c (D.bytes disk) → Only (D.bytes disk) (D.may_leave disk) → before ≡ 0
+        → Recovers c (λ k. Reopens D.Disk c k disk result.1) (D.may_leave result.1) result.0 K.tells (K.written sink.old) (K.written sink.new) }
 {
     let heap = match Heap::open(alloc, disk) {
         Ok(heap) => heap,
@@ -308,20 +224,4 @@ fn print_recovered<D: Disk, K: Sink>(
     };
     let status = status_after(write_recovered(alloc, &heap, before, sink));
     (status, heap.close())
-}
-
-fn write_recovered<D: Disk, K: Sink>(
-    alloc: Global,
-    heap: &Heap<D>,
-    before: u64,
-    sink: &mut K,
-) -> Result<(), Status>
-    ensures output { IfErr result (IsOutputError (K.faults sink.old) (K.faults sink.new)) }
-    ensures sink { K.faults sink.old ≤ K.faults sink.new }
-    ensures wrote { IsTrue K.tells → (s : Super) (c : Core) (g : Graph) → IsHeap s c heap.now → HasGraph c g → WroteText result (K.written sink.old) (recovered_line (commits_of heap.now - before) ++ graph_text g) (K.written sink.new) }
-{
-    let commits = heap.commits().saturating_sub(before);
-    let line = format!(in alloc; "recovered {commits}\n")?;
-    put_all(sink, line.as_bytes())?;
-    write_graph(alloc, heap, sink)
 }

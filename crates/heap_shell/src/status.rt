@@ -1,8 +1,14 @@
 //! How a run ends.
 ghost use Rattle.std.specs.Prelude.{◌≡◌, Some};
 ghost use Rattle.heap_shell.specs.Status.{status_text, status_code};
+ghost use Rattle.heap_shell.specs.StatusOf.{script_status, input_status, format_status, open_status, write_status, halt_status};
 
+use crate::output::WriteError;
+use crate::play::Halt;
+use heap_core::{FormatError, OpenError};
+use heap_io::TakeAllError;
 use heap_recovery::At;
+use script_text::ScriptError;
 use std::fmt;
 
 /// How a run ended.
@@ -66,6 +72,77 @@ impl fmt::Display for Status {
             Status::NotHeap => f.write_str("not a heap"),
             Status::Damaged { at } => write!(f, "damaged at {at}"),
             Status::TooSmall { size, need } => write!(f, "too small: {size} of {need}"),
+        }
+    }
+}
+
+impl From<ScriptError> for Status {
+    ghost from_gives = { λ e s. s ≡ script_status e };
+
+    fn from(e: ScriptError) -> Self {
+        match e {
+            ScriptError::NoMemory => Status::NoMemory,
+            ScriptError::Fault { line } => Status::Script { line },
+        }
+    }
+}
+
+impl From<TakeAllError> for Status {
+    ghost from_gives = { λ e s. s ≡ input_status e };
+
+    fn from(e: TakeAllError) -> Self {
+        match e {
+            TakeAllError::NoMemory => Status::NoMemory,
+            TakeAllError::SourceFailed => Status::ReadFault,
+            TakeAllError::TooLong => Status::Script { line: 0 },
+        }
+    }
+}
+
+impl From<FormatError> for Status {
+    ghost from_gives = { λ e s. s ≡ format_status e };
+
+    fn from(e: FormatError) -> Self {
+        match e {
+            FormatError::TooSmall { size, need } => Status::TooSmall { size, need },
+            FormatError::Disk(_) => Status::DiskFault,
+        }
+    }
+}
+
+impl From<OpenError> for Status {
+    ghost from_gives = { λ e s. s ≡ open_status e };
+
+    fn from(e: OpenError) -> Self {
+        match e {
+            OpenError::NoMemory => Status::NoMemory,
+            OpenError::NotHeap => Status::NotHeap,
+            OpenError::Damaged { at } => Status::Damaged { at },
+            OpenError::Disk(_) => Status::DiskFault,
+        }
+    }
+}
+
+impl From<WriteError> for Status {
+    ghost from_gives = { λ e s. s ≡ write_status e };
+
+    fn from(e: WriteError) -> Self {
+        match e {
+            WriteError::NoMemory => Status::NoMemory,
+            WriteError::SinkFailed => Status::WriteFault,
+        }
+    }
+}
+
+/// A disk that stopped without being asked to has failed.
+impl From<Halt> for Status {
+    ghost from_gives = { λ halt s. s ≡ halt_status halt };
+
+    fn from(halt: Halt) -> Self {
+        match halt {
+            Halt::NoMemory => Status::NoMemory,
+            Halt::WriteFault => Status::WriteFault,
+            Halt::DiskFault | Halt::Stopped => Status::DiskFault,
         }
     }
 }

@@ -1,0 +1,83 @@
+//! What is printed: lines, how many commits came back, and the graph.
+ghost use Rattle.std.specs.Prelude.{◌≡◌, ◌-◌, ◌++◌, Err, IsTrue};
+ghost use Rattle.graph_model.specs.Graph.{Graph};
+ghost use Rattle.graph_model.specs.Text.{line};
+ghost use Rattle.heap_core.specs.CoreGraph.{HasGraph};
+ghost use Rattle.heap_core.specs.HeapState.{commits_of};
+ghost use Rattle.heap_core.specs.Means.{IsHeap};
+ghost use Rattle.heap_model.specs.Core.{Core};
+ghost use Rattle.heap_shell.specs.declared.output.WriteError.TheVariants.{NoMemory, SinkFailed};
+ghost use Rattle.heap_shell.specs.Causes.{StreamCause};
+ghost use Rattle.heap_shell.specs.Headline.{graph_text, recovered_line};
+ghost use Rattle.heap_shell.specs.Output.{WroteText};
+ghost use Rattle.image_plan.specs.declared.superblock.Super.{Super};
+
+use disk_model::Disk;
+use graph_model::Entry;
+use heap_core::Heap;
+use heap_io::{Sink, put_all};
+use script_text::reply_line;
+use std::alloc::{AllocError, Global};
+
+/// Why a text was not wholly written.
+#[derive(Clone, Copy, Debug, PartialEq, Eq)]
+pub enum WriteError {
+    /// Memory was refused.
+    NoMemory,
+    /// The sink failed.
+    SinkFailed,
+}
+
+impl From<AllocError> for WriteError {
+    ghost from_gives = { λ _ e. e ≡ NoMemory };
+
+    fn from(_: AllocError) -> Self {
+        WriteError::NoMemory
+    }
+}
+
+impl From<heap_io::SinkFailed> for WriteError {
+    ghost from_gives = { λ _ e. e ≡ SinkFailed };
+
+    fn from(_: heap_io::SinkFailed) -> Self {
+        WriteError::SinkFailed
+    }
+}
+
+/// Writes the line of an event and its reply.
+pub fn write_line<K: Sink>(alloc: Global, entry: Entry, sink: &mut K) -> Result<(), WriteError>
+    ensures sink { StreamCause (K.faults sink.old) (K.faults sink.new) (result ≡ Err SinkFailed) }
+    ensures wrote { IsTrue K.tells → WroteText result (K.written sink.old) (line entry) (K.written sink.new) }
+{
+    let line = reply_line(alloc, &entry)?;
+    Ok(put_all(sink, line.as_bytes())?)
+}
+
+/// Writes the text of the heap's graph.
+pub fn write_graph<D: Disk, K: Sink>(
+    alloc: Global,
+    heap: &Heap<D>,
+    sink: &mut K,
+) -> Result<(), WriteError>
+    ensures sink { StreamCause (K.faults sink.old) (K.faults sink.new) (result ≡ Err SinkFailed) }
+    ensures wrote { IsTrue K.tells → (s : Super) (c : Core) (g : Graph) → IsHeap s c heap.now → HasGraph c g → WroteText result (K.written sink.old) (graph_text g) (K.written sink.new) }
+{
+    let text = heap.graph(alloc)?;
+    Ok(put_all(sink, text.as_bytes())?)
+}
+
+/// Writes how many commits the heap's log holds more than `before`, and the graph.
+pub fn write_recovered<D: Disk, K: Sink>(
+    alloc: Global,
+    heap: &Heap<D>,
+    before: u64,
+    sink: &mut K,
+) -> Result<(), WriteError>
+    ensures sink { StreamCause (K.faults sink.old) (K.faults sink.new) (result ≡ Err SinkFailed) }
+    ensures wrote { IsTrue K.tells → (s : Super) (c : Core) (g : Graph) → IsHeap s c heap.now → HasGraph c g → WroteText result (K.written sink.old) (recovered_line (commits_of heap.now - before) ++ graph_text g) (K.written sink.new) }
+{
+    let commits = heap.commits().saturating_sub(before);
+    let line = format!(in alloc; "recovered {commits}\n")?;
+    put_all(sink, line.as_bytes())?;
+    write_graph(alloc, heap, sink)
+}
