@@ -197,18 +197,14 @@ pub fn decode(bytes: &[u8]) -> Option<(Record, usize)>
     match bytes {
         [UPDATE, rest @ ..] => Some((update_at(rest)?, UPDATE_BYTES)),
         [UNDO, rest @ ..] => Some((undo_at(rest)?, UNDO_BYTES)),
-        [COMMIT, rest @ ..] => Some((
-            Record::Commit {
-                t: number_at(rest)?,
-            },
-            COMMIT_BYTES,
-        )),
-        [END, rest @ ..] => Some((
-            Record::End {
-                t: number_at(rest)?,
-            },
-            END_BYTES,
-        )),
+        [COMMIT, rest @ ..] => {
+            let t = number_at(rest)?;
+            Some((Record::Commit { t }, COMMIT_BYTES))
+        }
+        [END, rest @ ..] => {
+            let t = number_at(rest)?;
+            Some((Record::End { t }, END_BYTES))
+        }
         _ => None,
     }
 }
