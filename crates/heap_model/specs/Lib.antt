@@ -12,3 +12,4 @@ pub mod CoreLawsRoot
 pub mod CoreLawsLone
 pub mod CoreLawsRoom
 pub mod CoreLawsRecords
+pub mod CoreLawsGranted
