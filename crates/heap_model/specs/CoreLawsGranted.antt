@@ -175,14 +175,14 @@ goes_on a c b more h go =
     }
 
 -- other sessions stay idle where session 1's transaction is another
-idle_with : (active : ℕ → Option Transaction) (o : Option Transaction) → ((s : ℕ) → s ≢ 1 → active s ≡ None) → (s : ℕ) → s ≢ 1 → with_active active 1 o s ≡ None
+pub idle_with : (active : ℕ → Option Transaction) (o : Option Transaction) → ((s : ℕ) → s ≢ 1 → active s ≡ None) → (s : ℕ) → s ≢ 1 → with_active active 1 o s ≡ None
 idle_with active o idle s other = ap (λ b. cond b o (active s)) (ne_eqb s 1 other) ∙ idle s other
 
 -- no more records
 as_told : (a : Account) (c : Core) → (h : Agrees a c) → IsTold c.pages c.first (serial c.g0 a.sealed) (c.before + length a.sealed) (all_records c ++ []) h.behind
 as_told a c h = subst (λ (rs : List Record). IsTold c.pages c.first (serial c.g0 a.sealed) (c.before + length a.sealed) rs h.behind) (sym (append-nil (all_records c))) h.told
 
-need_nothing : (pending : List Record) → need pending [] ≡ 0
+pub need_nothing : (pending : List Record) → need pending [] ≡ 0
 need_nothing [] = refl
 need_nothing (p ∷ ps) = refl
 

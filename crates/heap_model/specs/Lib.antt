@@ -13,3 +13,5 @@ pub mod CoreLawsLone
 pub mod CoreLawsRoom
 pub mod CoreLawsRecords
 pub mod CoreLawsGranted
+pub mod CoreLawsStep
+pub mod CoreLawsRun
