@@ -15,3 +15,4 @@ pub mod CoreLawsRecords
 pub mod CoreLawsGranted
 pub mod CoreLawsStep
 pub mod CoreLawsRun
+pub mod CoreLawsLegal
