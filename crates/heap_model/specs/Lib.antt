@@ -16,3 +16,4 @@ pub mod CoreLawsGranted
 pub mod CoreLawsStep
 pub mod CoreLawsRun
 pub mod CoreLawsLegal
+pub mod CoreLawsCrash
