@@ -130,8 +130,7 @@ module _ (c : Core) (s : Super) (batches : List (List Record)) (h : IsSound c) (
   disk_says =
       let tell = first.1 in
       let g = serial c.g0 (take first.0 (commits c.history)) in
-      let seen : IsSeen (words_of s batches) 0 g = subst (λ ws. IsSeen ws 0 g) (sym same_words) (told_seen c.pages c.first g (c.before + first.0) (records_of batches) tell.behind tell.told) in
-      (
+      let seen : IsSeen (words_of s batches) 0 g = subst (λ ws. IsSeen ws 0 g) (sym same_words) (told_seen c.pages c.first g (c.before + first.0) (records_of batches) tell.behind tell.told) in (
         first.0,
         record {
           legal = disk_legal;

@@ -17,3 +17,4 @@ pub mod CoreLawsStep
 pub mod CoreLawsRun
 pub mod CoreLawsLegal
 pub mod CoreLawsCrash
+pub mod CoreLawsReplies
