@@ -78,7 +78,7 @@ root_alone vs us id true e is = (id_cmp-IsAntisymmetric id root (tied (id_cmp id
 root_alone vs us id false e is = cc
 
 -- a graph of the root alone has nothing else
-in_root_graph : (vs us : List Val) (id : Id) → get (root_graph vs) id ≡ Some us → (id ≡ root) × (us ≡ vs)
+pub in_root_graph : (vs us : List Val) (id : Id) → get (root_graph vs) id ≡ Some us → (id ≡ root) × (us ≡ vs)
 in_root_graph vs us id is =
     root_alone vs us id (eq_by_cmp id_cmp id root) refl
     (ap (cond (eq_by_cmp id_cmp id root) (Some vs)) (sym (get-empty id_cmp id)) ∙ sym (get-insert id_cmp_total empty root vs id) ∙ is)

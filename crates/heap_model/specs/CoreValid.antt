@@ -132,7 +132,11 @@ pub record HearsSerial (g0 : Graph) (a : Account) (heard : Heard) : Type 0 where
 abbrev pub AnswersSerially : Core → Type 0
 AnswersSerially c = HearsSerial c.g0 (account c.history) (heard_in c.history)
 
--- A core that is reached is valid, or the disk stopped or failed; its transactions were answered as if they ran one after another.
+-- A core is valid, or the disk stopped or failed in an event.
+abbrev pub IsSound : Core → Type 0
+IsSound c = IsValid c ⊎ HasFailed (account c.history) c
+
+-- A core that is reached is sound, and its transactions were answered as if they ran one after another.
 pub record IsReached (c : Core) : Type 0 where
-  pub sound : IsValid c ⊎ HasFailed (account c.history) c
+  pub sound : IsSound c
   pub answers : AnswersSerially c

@@ -12,3 +12,9 @@ pub mod CoreLawsRoot
 pub mod CoreLawsLone
 pub mod CoreLawsRoom
 pub mod CoreLawsRecords
+pub mod CoreLawsGranted
+pub mod CoreLawsStep
+pub mod CoreLawsRun
+pub mod CoreLawsLegal
+pub mod CoreLawsCrash
+pub mod CoreLawsReplies
