@@ -186,6 +186,8 @@ def check_names():
         page = os.path.relpath(path, TOP)
         for at, line in enumerate(open(path, encoding="utf-8"), 1):
             for it in re.finditer(r"`((?:crates|docs|examples|tools|bench)/[\w/.*-]+)`((?:: |, )`" + NAME + r"`(?:, `" + NAME + r"`)*)?", line):
+                if "NAME" in it[1] or it[1].endswith("/out"):
+                    continue
                 count += 1
                 found = glob.glob(f"{TOP}/{it[1]}")
                 if not found:
