@@ -1,3 +1,4 @@
+mod Calls
 mod Empty
 mod FieldRead
 mod MeansActive
@@ -7,6 +8,7 @@ mod MeansLog
 mod MeansOpen
 mod MeansRefusal
 mod MeansStep
+mod OpenErrors
 mod Room
 mod RootText
 mod Zeros

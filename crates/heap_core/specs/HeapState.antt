@@ -5,7 +5,7 @@ use Rattle.disk_model.specs.declared.disk.Disk.{Ghosts}
 use Rattle.graph_model.specs.declared.reply.Entry.{Entry}
 use Rattle.heap_core.specs.declared.heap.Heap.{Heap}
 use Rattle.heap_core.specs.declared.history.History.{History}
-use Rattle.heap_recovery.specs.declared.recovery.OpenError.{OpenError}
+use Rattle.heap_core.specs.declared.errors.OpenError.{OpenError}
 
 -- the disk that an opening keeps, or gives back
 abbrev pub opened_disk : {D : Type 0} {g : Ghosts D} → Result (Heap D g) (OpenError × D) → D

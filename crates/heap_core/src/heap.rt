@@ -19,19 +19,20 @@ ghost use Rattle.image_plan.specs.declared.superblock.Super.{Super};
 ghost use Rattle.log_records.specs.declared.Record.{Record};
 ghost use Rattle.heap_model.specs.Image.{IsLegal, StandsFor};
 ghost use Rattle.heap_model.specs.Opening.{opened, rollback_of, rolled_back, opening_calls};
-ghost use Rattle.heap_core.specs.Causes.{step_device, reply_device, opened_device};
+ghost use Rattle.heap_core.specs.Causes.{step_device, reply_device, opened_device, IsFromOutside, OpenedPasses};
 ghost use Rattle.heap_model.specs.Core.{Core, IsStep, calls};
 ghost use Rattle.heap_model.specs.CoreCrash.{KeepsCommits};
 ghost use Rattle.heap_model.specs.CoreValid.{IsReached};
 ghost use Rattle.log_machine.specs.Machine.{commits};
-ghost use Rattle.heap_recovery.specs.Recovered.{next_after, IsFromOutside, OpenedPasses};
+ghost use Rattle.heap_recovery.specs.Recovered.{next_after};
 
+use crate::errors::{GraphError, OpenError};
 use crate::graph_text::root_text;
 use crate::history::History;
 use crate::working::{Working, refused};
 use disk_model::{Disk, DiskError};
 use graph_model::{Entry, Event, Refusal, Reply};
-use heap_recovery::{OpenError, Recovered, recover, root_values};
+use heap_recovery::{Recovered, recover, root_values};
 use std::alloc::{AllocError, Global};
 
 /// A heap on a disk, for one session.
@@ -103,7 +104,7 @@ impl<D: Disk> Heap<D> {
                     failed: None,
                 })
             }
-            Err(e) => Err((e, disk)),
+            Err(e) => Err((OpenError::from(e), disk)),
         }
     }
 
@@ -236,13 +237,13 @@ impl<D: Disk> Heap<D> {
     }
 
     /// The text of the graph. What active transactions wrote is left out. It asks that the disk has neither failed nor stopped.
-    pub fn graph(&self, alloc: Global) -> Result<String, AllocError>
+    pub fn graph(&self, alloc: Global) -> Result<String, GraphError>
         requires unfailed { failed_at self.now ≡ None }
         ensures text { (c : Core) → IsCore c self.now → IsReached c → IfOk result (λ text. string_bytes text ≡ canon_text (canon (serial c.g0 (sealed c.history)))) }
     {
         match root_values(&self.working.committed_words()) {
-            Some(values) => root_text(alloc, &values),
-            None => root_text(alloc, &[]),
+            Some(values) => Ok(root_text(alloc, &values)?),
+            None => Ok(root_text(alloc, &[])?),
         }
     }
 

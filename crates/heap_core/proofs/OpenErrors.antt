@@ -1,0 +1,29 @@
+-- What a recovery's error tells, the opening's does.
+use Rattle.std.proofs.Common.{◌≡◌, ℕ, refl}
+use Rattle.disk_model.specs.declared.disk.DiskError.TheVariants.{Failed, Stopped}
+use Rattle.heap_recovery.specs.declared.recovery.RecoverError.{RecoverError}
+use Rattle.heap_recovery.specs.declared.recovery.RecoverError.TheVariants.{NoMemory, NotHeap, Damaged, Disk}
+use Rattle.heap_recovery.specs.Causes as recovery
+use Rattle.heap_recovery.specs.Recovered as recovered
+use Rattle.heap_core.specs.Causes.{open_error, error_device, IsFromOutside, ErrorPasses}
+
+pub device_as : (e : RecoverError) → recovery.error_device e ≡ error_device (open_error e)
+device_as NoMemory = refl
+device_as NotHeap = refl
+device_as (Damaged at) = refl
+device_as (Disk Failed) = refl
+device_as (Disk Stopped) = refl
+
+pub outside_as : (e : RecoverError) → recovered.IsFromOutside e → IsFromOutside (open_error e)
+outside_as NoMemory h = tt
+outside_as NotHeap h = absurd h
+outside_as (Damaged at) h = absurd h
+outside_as (Disk Failed) h = tt
+outside_as (Disk Stopped) h = tt
+
+pub passes_as : (n before now : ℕ) (e : RecoverError) → recovered.ErrorPasses n before now e → ErrorPasses n before now (open_error e)
+passes_as n before now NoMemory h = h
+passes_as n before now NotHeap h = h
+passes_as n before now (Damaged at) h = h
+passes_as n before now (Disk Failed) h = h
+passes_as n before now (Disk Stopped) h = h
