@@ -1,15 +1,16 @@
 //! A log in a part of a disk: batches of records, each behind its gate, and the records in hand that are not forced yet.
 #![tactic(auto)]
 
-ghost use Rattle.std.specs.Prelude.{◌≡◌, ◌≢◌, ◌⊎◌, ℕ, ◌+◌, ◌-◌, ◌^◌, ◌<◌, ◌≤◌, ◌++◌, List, [], ◌∷◌, length, drop, nat_lt, vec_len, vec_capacity, IsTrue, OnOk, OnErr, IfOk, IfSome, IsSomeAnd, Some, Ok, Err, if◌then◌else◌};
+ghost use Rattle.std.specs.Prelude.{◌≡◌, ◌≢◌, ◌⊎◌, ℕ, ◌+◌, ◌-◌, ◌^◌, ◌<◌, ◌≤◌, ◌++◌, List, [], ◌∷◌, length, drop, slice_index, nat_lt, vec_len, vec_capacity, IsTrue, IsErr, OnOk, OnErr, IfOk, IfSome, IsSomeAnd, Some, None, Ok, Err, if◌then◌else◌};
 ghost use Rattle.std.specs.Int.{w32, to_le_bytes};
 ghost use Rattle.std.specs.List.{AllByRecursion};
-ghost use Rattle.disk_model.specs.Disk.{part, Only, Narrows, HasCause, SameOutside};
+ghost use Rattle.disk_model.specs.Disk.{part, Only, SameOutside};
+ghost use Rattle.disk_model.specs.Keeps.{KeepsDisk, OnlyReads};
 ghost use Rattle.disk_model.specs.Moments.{LeavesOnly};
 ghost use Rattle.gate_slot.specs.Passing.{Passes};
 ghost use Rattle.log_records.specs.declared.Record.{Record};
 ghost use Rattle.log_records.specs.Record.{spelling, spellings, IsRecord};
-ghost use Rattle.gated_log.specs.Log.{records_of, batch, batches_bytes, with_batch, HoldsBatches};
+ghost use Rattle.gated_log.specs.Log.{records_of, batch, batches_bytes, with_batch, HoldsBatches, HasBatch, BreaksAt, IsBatchRead};
 ghost use Rattle.gated_log.specs.declared.LogError.TheVariants.{NoMemory, BadBatch};
 ghost use Rattle.gated_log.specs.LogCause.{log_device_result};
 ghost use Rattle.gated_log.specs.LogRoom.{used_bytes};
@@ -87,24 +88,19 @@ impl Log {
         ensures good { IfOk result (λ found. AllByRecursion IsRecord found.1.items) }
         ensures few { IfOk result (λ found. vec_len found.1 ≤ room) }
 
-        // Where the log holds batches, it finds them and their records.
+        // It finds batches and their records: those that the log holds, on a disk that tells.
+        ensures found { IfOk result (λ found. (batches : List (List Record)) × Keeps found.0 batches [] × (found.1.items ≡ records_of batches) × (IsTrue D.tells → HoldsBatches (part (D.bytes disk.old) at room) batches)) }
         ensures held { IsTrue D.tells → (batches : List (List Record)) → HoldsBatches (part (D.bytes disk.old) at room) batches → AllByRecursion IsRecord (records_of batches) → IfOk result (λ found. Keeps found.0 batches [] × (found.1.items ≡ records_of batches)) }
         ensures whole { IsTrue D.tells → (batches : List (List Record)) → HoldsBatches (part (D.bytes disk.old) at room) batches → AllByRecursion IsRecord (records_of batches) → (offset : ℕ) → result ≢ Err (BadBatch offset) }
 
-        // The disk is only read.
-        ensures bytes { IsTrue D.tells → D.bytes disk.new ≡ D.bytes disk.old }
-        ensures crash { IsTrue D.tells → Narrows (D.may_leave disk.old) (D.may_leave disk.new) }
-        ensures moments { IsTrue D.tells → LeavesOnly D.moment D.left_since disk.old disk.new (D.may_leave disk.old) }
-        ensures passed { IsTrue D.tells → D.passed disk.new ≡ D.passed disk.old }
-        ensures restarts { IsTrue D.tells → D.restarts disk.new ≡ D.restarts disk.old }
-        ensures extent { D.extent disk.new ≡ D.extent disk.old }
-        ensures origin { D.origin disk.new ≡ D.origin disk.old }
-        ensures cause { HasCause (D.faults disk.old) (D.faults disk.new) (D.stops disk.old) (D.stops disk.new) (log_device_result result) }
-        ensures no_first_stop { D.stops disk.old ≡ 0 → D.stops disk.new ≡ 0 }
+        // A bad batch is told exactly where the batch rule fails.
+        ensures bad { IsTrue D.tells → (offset : ℕ) → result ≡ Err (BadBatch offset) → BreaksAt (part (D.bytes disk.old) at room) offset }
+        ensures broken { IsTrue D.tells → (offset : ℕ) → BreaksAt (part (D.bytes disk.old) at room) offset → IsErr result }
+
+        ensures disk { OnlyReads D.Disk disk.old disk.new (log_device_result result) }
     {
         let hand = Vec::from_array(alloc, NO_LENGTH)?;
-        let mut area = vec![in alloc; 0u8; room as usize]?;
-        disk.read(at, &mut area).map_err(LogError::Disk)?;
+        let area = read_area(alloc, disk, at, room)?;
         let (records, tail) = read_batches(alloc, &area)?;
         let log = Log {
             at,
@@ -197,6 +193,8 @@ impl Log {
         requires inside { log_place self.old + log_room self.old ≤ D.extent disk.old }
         requires ready { IsReady self.old }
 
+        ensures disk { KeepsDisk D.Disk disk.old disk.new result }
+
         // Where nothing waits there is nothing to do.
         ensures idle { IsHandEmpty self.old → (result ≡ Ok tt) × (disk.new ≡ disk.old) × (self.new ≡ self.old) }
 
@@ -208,11 +206,6 @@ impl Log {
         ensures moments { IsTrue D.tells → Only (D.bytes disk.old) (D.may_leave disk.old) → (batches : List (List Record)) (pending : List Record) → Keeps self.old batches pending → HoldsBatches (part (D.bytes disk.old) (log_place self.old) (log_room self.old)) batches
             → LeavesOnly D.moment D.left_since disk.old disk.new (λ c. SameOutside (log_place self.old) (log_place self.old + log_room self.old) (D.bytes disk.old) c × (HoldsBatches (part c (log_place self.old) (log_room self.old)) batches ⊎ HoldsBatches (part c (log_place self.old) (log_room self.old)) (with_batch batches pending))) }
         ensures passes { IsTrue D.tells → Passes (if is_waiting self.old then 4 else 0) (D.passed disk.old) (D.passed disk.new) result }
-        ensures restarts { IsTrue D.tells → D.restarts disk.new ≡ D.restarts disk.old }
-
-        ensures extent { D.extent disk.new ≡ D.extent disk.old }
-        ensures origin { D.origin disk.new ≡ D.origin disk.old }
-        ensures cause { HasCause (D.faults disk.old) (D.faults disk.new) (D.stops disk.old) (D.stops disk.new) result }
 
         ensures nothing_waits { IsHandEmpty self.new }
         ensures used { log_used self.new ≤ log_used self.old }
@@ -232,6 +225,19 @@ impl Log {
         self.tail += size;
         Ok(())
     }
+}
+
+/// The `room` bytes of the disk from byte `at` on.
+fn read_area<D: Disk>(alloc: Global, disk: &mut D, at: u64, room: u32) -> Result<Vec<u8>, LogError>
+    requires { at + room ≤ D.extent disk.old }
+    ensures area { IsTrue D.tells → IfOk result (λ area. area.items ≡ part (D.bytes disk.old) at room) }
+    ensures len { IfOk result (λ area. vec_len area ≡ room) }
+    ensures no_batch { (offset : ℕ) → result ≢ Err (BadBatch offset) }
+    ensures disk { OnlyReads D.Disk disk.old disk.new (log_device_result result) }
+{
+    let mut area = vec![in alloc; 0u8; room as usize]?;
+    disk.read(at, &mut area).map_err(LogError::Disk)?;
+    Ok(area)
 }
 
 /// The spellings of the records, one after another.
@@ -274,8 +280,8 @@ fn read_batches(alloc: Global, area: &[u8]) -> Result<(Vec<Record>, u32), LogErr
     ensures good { IfOk result (λ found. AllByRecursion IsRecord found.0.items) }
     ensures few { IfOk result (λ found. vec_len found.0 ≤ length area.now) }
     ensures no_disk { log_device_result result ≡ Ok tt }
-    ensures held { (batches : List (List Record)) → HoldsBatches area.now batches → AllByRecursion IsRecord (records_of batches) → IfOk result (λ found. (found.0.items ≡ records_of batches) × (found.1 ≡ length (batches_bytes batches))) }
-    ensures whole { (batches : List (List Record)) → HoldsBatches area.now batches → AllByRecursion IsRecord (records_of batches) → (offset : ℕ) → result ≢ Err (BadBatch offset) }
+    ensures found { IfOk result (λ found. (batches : List (List Record)) × HoldsBatches area.now batches × (found.0.items ≡ records_of batches) × (found.1 ≡ length (batches_bytes batches))) }
+    ensures bad { (offset : ℕ) → result ≡ Err (BadBatch offset) → BreaksAt area.now offset }
 {
     let mut records = Vec::new(alloc);
     let mut tail = 0usize;
@@ -295,7 +301,8 @@ fn read_batch(bytes: &[u8], into: &mut Vec<Record>) -> Result<Option<usize>, All
     ensures good { AllByRecursion IsRecord into.new.items }
     ensures inside { IfOk result (λ found. IfSome found (λ size. (0 < size) × (size < length bytes.now))) }
     ensures few { IfOk result (λ found. IfSome found (λ size. vec_len into.new ≤ vec_len into.old + size)) }
-    ensures whole { (records : List Record) (behind : List ℕ) → length bytes.now < 2 ^ 32 → 0 < length behind → AllByRecursion IsRecord records → bytes.now ≡ batch records ++ behind → IfOk result (λ found. (found ≡ Some (length (batch records))) × (into.new.items ≡ into.old.items ++ records)) }
+    ensures found { slice_index bytes.now 0 ≡ 1 → IfOk result (λ found. IfSome found (λ size. IsBatchRead bytes.now size into.old.items into.new.items)) }
+    ensures none { length bytes.now < 2 ^ 32 → result ≡ Ok None → ¬ HasBatch bytes.now }
 {
     let Some(body) = batch_body(bytes) else {
         return Ok(None);
@@ -310,6 +317,7 @@ fn read_batch(bytes: &[u8], into: &mut Vec<Record>) -> Result<Option<usize>, All
 /// The records' bytes of the batch whose gate comes first, if it lies in these bytes with the next gate behind it.
 fn batch_body(bytes: &[u8]) -> Option<&[u8]>
     ensures inside { IfSome result (λ body. 5 + length body.now < length bytes.now) }
+    ensures found { IfSome result (λ body. (length body.now < 2 ^ 32) × ((behind : List ℕ) × (0 < length behind) × (bytes.now ≡ slice_index bytes.now 0 ∷ to_le_bytes w32 (length body.now) ++ body.now ++ behind))) }
     ensures whole { (records : List Record) (behind : List ℕ) → length bytes.now < 2 ^ 32 → 0 < length behind → bytes.now ≡ batch records ++ behind → IsSomeAnd result (λ body. body.now ≡ spellings records) }
 {
     let (head, rest) = bytes.split_first_chunk::<BATCH_HEAD>()?;
@@ -326,7 +334,8 @@ fn read_records(bytes: &[u8], into: &mut Vec<Record>) -> Result<bool, AllocError
     requires { AllByRecursion IsRecord into.old.items }
     ensures good { AllByRecursion IsRecord into.new.items }
     ensures few { vec_len into.new ≤ vec_len into.old + length bytes.now }
-    ensures whole { (records : List Record) → AllByRecursion IsRecord records → bytes.now ≡ spellings records → IfOk result (λ whole. IsTrue whole × (into.new.items ≡ into.old.items ++ records)) }
+    ensures found { IfOk result (λ whole. IsTrue whole → (records : List Record) × AllByRecursion IsRecord records × (bytes.now ≡ spellings records) × (into.new.items ≡ into.old.items ++ records)) }
+    ensures whole { (records : List Record) → AllByRecursion IsRecord records → bytes.now ≡ spellings records → IfOk result (λ whole. IsTrue whole) }
 {
     let mut rest = bytes;
     while !rest.is_empty() {

@@ -1,6 +1,5 @@
 -- The records of the log, and how they are spelled.
-use Rattle.std.specs.Prelude.{◌≡◌, ℕ, ◌^◌, ◌<◌, ◌≤◌, List, ◌∷◌, ◌++◌, Option, MatchOption}
-use Rattle.std.specs.Borrow.{Bor}
+use Rattle.std.specs.Prelude.{◌≡◌, ℕ, ◌^◌, ◌<◌, List, ◌∷◌, ◌++◌}
 use Rattle.std.specs.List.{flat_map}
 use Rattle.std.specs.Int.{w16, w32, w64, to_le_bytes}
 use Rattle.heap_words.specs.Word.{IsFieldWord}
@@ -21,10 +20,6 @@ spellings records = flat_map spelling records
 -- the bytes begin with the record's spelling
 abbrev pub Begins : List ℕ → Record → Type 0
 Begins bytes rec = (rest : List ℕ) × (bytes ≡ spelling rec ++ rest)
-
--- a number was read from the front of bytes, and this is the rest of them
-abbrev pub Reads : Option (ℕ × Bor (List ℕ)) → ℕ → List ℕ → Type 0
-Reads result n rest = MatchOption result ⊥ (λ x. (x.0 ≡ n) × (x.1.now ≡ rest))
 
 -- an update that has a spelling
 pub record IsUpdate (t object field was word : ℕ) : Type 0 where
