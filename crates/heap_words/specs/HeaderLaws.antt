@@ -1,5 +1,5 @@
 -- Headers and births are read as they are written, and no word is read as two.
-use Rattle.std.proofs.Common.{◌≡◌, ℕ, ◌^◌, ◌<◌, Some, arith}
+use Rattle.std.proofs.Common.{◌≡◌, ℕ, ◌^◌, ◌<◌, Some, None, refl, arith}
 use Rattle.heap_words.specs.declared.Header.{Header}
 use Rattle.heap_words.specs.declared.Header.TheVariants.{Length, Forward}
 use Rattle.heap_words.specs.Header.{header_bits, IsHeader, header, birth_bits, born_in, born_as}
@@ -15,6 +15,11 @@ pub bits-header : (w : ℕ) (h : Header) → header w ≡ Some h → IsHeader h 
 unfolding header
 bits-header w (Length n) is = (grind arith, grind arith)
 bits-header w (Forward address) is = (grind arith, grind arith)
+
+-- zero is no header
+pub header_zero : header 0 ≡ None
+unfolding header
+header_zero = refl
 
 -- a birth tells the transaction
 pub born_in-birth_bits : (t k : ℕ) → k < 2 ^ 32 → born_in (birth_bits t k) ≡ t

@@ -11,6 +11,7 @@ use Rattle.graph_model.specs.declared.val.Val.{Val}
 use Rattle.graph_model.specs.declared.val.Val.TheVariants.{Null, Int, Ref}
 use Rattle.graph_model.specs.Graph.{Graph, root}
 use Rattle.std.specs.FinMap.{get}
+use Rattle.std.specs.Option.{option_map}
 
 -- the length, if the words of an object with that header are all there
 abbrev pub whole_length : List ℕ → ℕ → Option Header → Option ℕ
@@ -29,6 +30,10 @@ words_of words at None = []
 -- the words of the fields of the object that stands at an address, in order, and none where there is no object
 abbrev pub field_words : List ℕ → ℕ → List ℕ
 field_words words at = words_of words at (object_at words at)
+
+-- the same as an option: none where there is no object
+abbrev pub fields_at : List ℕ → ℕ → Option (List ℕ)
+fields_at words at = option_map (λ n. words_of words at (Some n)) (object_at words at)
 
 -- the birth word of the object at an address, and the id that it gives
 abbrev pub birth_at : List ℕ → ℕ → ℕ

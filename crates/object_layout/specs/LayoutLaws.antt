@@ -1,12 +1,12 @@
 -- Laws of objects in words.
-use Rattle.std.proofs.Common.{◌≡◌, ℕ, ◌+◌, ◌*◌, ◌<◌, ◌≤◌, Bool, true, false, List, length, take, drop, Option, None, Some, is_some, refl, sym, ap, ◌∙◌, arith}
-use Rattle.std.specs.Prelude.{nat_le, slice_index, if◌then◌else◌}
-use Rattle.std.proofs.lemmas.Bool.{le-leb, leb-true}
-use Rattle.std.proofs.lemmas.List.{length-take, length-drop}
+use Rattle.std.proofs.Common.{◌≡◌, ℕ, ◌+◌, ◌*◌, ◌<◌, ◌≤◌, List, length, Option, None, Some, is_some, refl, sym, ap, ◌∙◌, arith}
+use Rattle.std.specs.Prelude.{slice_index, if◌then◌else◌}
+use Rattle.std.proofs.lemmas.Bool.{le-leb}
+use Rattle.std.proofs.lemmas.List.{length-take, length-drop, get_or_past}
 use Rattle.heap_words.specs.declared.Header.{Header}
 use Rattle.heap_words.specs.declared.Header.TheVariants.{Length, Forward}
 use Rattle.heap_words.specs.Header.{header}
-use Rattle.heap_words.specs.HeaderLaws.{header-header_bits, bits-header}
+use Rattle.heap_words.specs.HeaderLaws.{header-header_bits, bits-header, header_zero}
 use Rattle.object_layout.specs.Layout.{whole_length, object_at, words_of, field_words, led, standing, stand}
 
 -- an object stands where its header does, if its words are all there
@@ -51,3 +51,9 @@ object_stand words at b is =
     let a = led at (header (slice_index words at)) in
     let parts = standing_parts a b (object_at words a) is in
     (parts.0, ap (object_at words) (sym parts.1) ∙ parts.2)
+
+-- no address behind the words names an object
+pub stand_past : (words : List ℕ) (at : ℕ) → length words ≤ at → stand words at ≡ None
+stand_past words at past =
+    let nothing : header (slice_index words at) ≡ None = ap header (get_or_past words at 0 past) ∙ header_zero in
+    ap (λ h. standing words (led at h)) nothing ∙ ap (λ h. if is_some (whole_length words at h) then Some at else None) nothing

@@ -1,20 +1,19 @@
 -- The root object alone in the words: what is seen of it, and that its walk passes.
-use Rattle.std.proofs.Common.{◌≡◌, ℕ, zero, suc, ◌+◌, ◌*◌, ◌^◌, ◌<◌, ◌≤◌, ◌⊎◌, inl, inr, List, [], ◌∷◌, length, map, take, drop, Option, None, Some, refl, sym, ap, ◌∙◌, subst, arith, lit<}
-use Rattle.std.specs.Prelude.{slice_get, slice_index, Contains}
+use Rattle.std.proofs.Common.{◌≡◌, ℕ, zero, suc, ◌+◌, ◌*◌, ◌^◌, ◌<◌, ◌≤◌, List, [], ◌∷◌, length, map, take, drop, Some, refl, sym, ap, ◌∙◌, subst, arith, lit<}
+use Rattle.std.specs.Prelude.{slice_get, slice_index}
 use Rattle.std.specs.Option.{option_and_then}
 use Rattle.std.proofs.lemmas.Option.{same_Some}
 use Rattle.std.specs.FinMap.{get, empty}
-use Rattle.heap_words.specs.declared.Word.{Word}
 use Rattle.heap_words.specs.declared.Word.TheVariants as word
 use Rattle.heap_words.specs.Word.{meaning}
 use Rattle.heap_words.specs.WordLaws.{meaning-bits}
 use Rattle.graph_model.specs.declared.id.Id.{Id}
 use Rattle.graph_model.specs.declared.val.Val.{Val}
 use Rattle.graph_model.specs.declared.val.Val.TheVariants.{Null, Int, Ref}
-use Rattle.graph_model.specs.Graph.{Graph, root, root_graph}
+use Rattle.graph_model.specs.Graph.{root, root_graph}
 use Rattle.graph_model.specs.RootGraph.{get-insert_same}
-use Rattle.object_layout.specs.Layout.{object_at, words_of, field_words, birth_at, id_of, id_at, stand, referred, as_ref, value, values, IsMet, at_start, along, IsKnown, IsSeenAs, IsSeen}
-use Rattle.object_layout.specs.LayoutLaws.{object_from_header, object_header, stand_object}
+use Rattle.object_layout.specs.Layout.{object_at, words_of, field_words, id_of, id_at, stand, referred, as_ref, value, IsMet, at_start, along, IsKnown, IsSeen}
+use Rattle.object_layout.specs.LayoutLaws.{object_from_header, stand_object}
 
 -- the word of a value of the root that stands at an address and is all that there is: a reference can only lead to the root
 abbrev pub IsRootWord : ℕ → ℕ → Val → Type 0
@@ -47,7 +46,7 @@ root_value : (name : ℕ → Id) (words : List ℕ) (at w : ℕ) (v : Val) → s
 root_value name words at w Null stands named is = ap (λ x. value name words (meaning x)) is ∙ ap (value name words) (meaning-bits word.Null tt)
 root_value name words at w (Int n) stands named is = ap (λ x. value name words (meaning x)) is.1 ∙ ap (value name words) (meaning-bits (word.Int n) is.0)
 root_value name words at w (Ref id) stands named is =
-    ap (λ x. value name words (meaning x)) is.2 ∙ ap (value name words) (meaning-bits (word.Stable at) is.0) 
+    ap (λ x. value name words (meaning x)) is.2 ∙ ap (value name words) (meaning-bits (word.Stable at) is.0)
     ∙ ap (option_and_then (as_ref name)) stands ∙ ap (λ i. Some (Ref i)) (named ∙ sym is.1)
 
 root_values : (name : ℕ → Id) (words : List ℕ) (at : ℕ) (ws : List ℕ) (vs : List Val) → stand words at ≡ Some at → name at ≡ root → AreRootWords at ws vs

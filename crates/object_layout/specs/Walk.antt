@@ -1,7 +1,7 @@
 -- The walk of a space: its used words are objects end to end, and their fields lead to no other place.
-use Rattle.std.specs.Prelude.{◌≡◌, ℕ, ◌+◌, ◌^◌, ◌≤◌, ◌<◌, ◌⊎◌, List, [], ◌∷◌, length, take, slice_get, slice_index, Option, None, Some, Contains}
+use Rattle.std.specs.Prelude.{◌≡◌, ℕ, ◌+◌, ◌^◌, ◌≤◌, ◌<◌, ◌⊎◌, List, [], ◌∷◌, take, slice_get, Option, None, Some, Contains}
 use Rattle.heap_words.specs.declared.Word.{Word}
-use Rattle.heap_words.specs.declared.Word.TheVariants.{Null, Int, Stable, Volatile}
+use Rattle.heap_words.specs.declared.Word.TheVariants.{Null, Int, Stable}
 use Rattle.heap_words.specs.Header.{birth_bits}
 use Rattle.heap_words.specs.Word.{meaning}
 use Rattle.object_layout.specs.Layout.{object_at, field_words, birth_at}

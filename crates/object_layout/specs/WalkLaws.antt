@@ -1,21 +1,19 @@
 -- Laws of the walk: objects of a space are objects of the words, the first fault is one, and a walk that passes has none.
-use Rattle.std.proofs.Common.{◌≡◌, ℕ, zero, suc, ◌+◌, ◌*◌, ◌^◌, ◌<◌, ◌≤◌, ◌⊎◌, inl, inr, List, [], ◌∷◌, length, map, take, drop, Option, None, Some, refl, sym, ap, ◌∙◌, subst, arith, lit<, get_or}
-use Rattle.std.specs.Prelude.{slice_get, slice_index, Contains, if◌then◌else◌}
+use Rattle.std.proofs.Common.{◌≡◌, ℕ, zero, suc, ◌+◌, ◌<◌, ◌≤◌, ◌⊎◌, inl, inr, List, [], ◌∷◌, length, take, drop, Option, None, Some, refl, sym, ap, ◌∙◌, subst, arith, lit<}
+use Rattle.std.specs.Prelude.{slice_get, Contains, if◌then◌else◌}
 use Rattle.std.proofs.lemmas.Bool.{le-leb, cases_order}
-use Rattle.std.proofs.lemmas.List.{get_or-take, length-take, length-take-le, get_or_past}
+use Rattle.std.proofs.lemmas.List.{get_or-take, length-take, length-take-le}
 use Rattle.std.proofs.lemmas.Option.{same_Some}
-use Rattle.heap_words.specs.declared.Header.TheVariants.{Length}
-use Rattle.heap_words.specs.declared.Word.{Word}
 use Rattle.heap_words.specs.declared.Word.TheVariants as word
 use Rattle.heap_words.specs.Word.{meaning}
 use Rattle.heap_words.specs.WordLaws.{meaning-bits}
 use Rattle.graph_model.specs.declared.val.Val.{Val}
 use Rattle.graph_model.specs.declared.val.Val.TheVariants.{Null, Int, Ref}
 use Rattle.heap_words.specs.Header.{header}
-use Rattle.object_layout.specs.Layout.{whole_length, object_at, words_of, field_words, birth_at}
+use Rattle.object_layout.specs.Layout.{whole_length, object_at, words_of, field_words}
 use Rattle.object_layout.specs.LayoutLaws.{object_from_header, object_header}
 use Rattle.object_layout.specs.Walk.{used_words, AreEndToEnd, IsRootAt, IsInside, KeepsInside, IsFilled, IsWalked, BreaksAt, at_root, behind, IsWalkFault, breaks, leads_out}
-use Rattle.object_layout.specs.RootLaws.{IsRootWord, AreRootWords, StandsAlone, root_object, root_field_words}
+use Rattle.object_layout.specs.RootLaws.{IsRootWord, AreRootWords, StandsAlone, root_field_words}
 
 -- the head of a list is in it
 pub Contains-head : {X : Type 0} (x : X) (xs : List X) → Contains (x ∷ xs) x
@@ -81,8 +79,8 @@ root_walked words at vs alone =
       starts = at ∷ [];
       filled = record { root = root; objects = (4, refl, root.length, omega arith) };
       inside = λ a has. elim (Contains-cases at [] a has) [
-        inl same ↦ subst (KeepsInside words (at ∷ [])) same (root_keeps_inside words at vs alone)
-      | inr none ↦ absurd (Contains-none a none)
+        | inl same ↦ subst (KeepsInside words (at ∷ [])) same (root_keeps_inside words at vs alone)
+        | inr none ↦ absurd (Contains-none a none)
       ];
     }
 
@@ -154,7 +152,7 @@ fault_one words base used a b (leads_out xs filled has out first) (leads_out ys 
     let earlier = subst First (sym same) first' in
     let led = subst Out (sym same) (has', out') in
     elim (cases_order a b) [
-      inl equal ↦ equal
-    | inr (inl below) ↦ absurd (out (earlier a has below))
-    | inr (inr above) ↦ absurd (led.1 (first b led.0 above))
+      | inl equal ↦ equal
+      | inr (inl below) ↦ absurd (out (earlier a has below))
+      | inr (inr above) ↦ absurd (led.1 (first b led.0 above))
     ]

@@ -1,2 +1,13 @@
 //! Objects in words: where they stand, what their fields are, and the walk of a space.
 #![tactic(auto)]
+
+mod object;
+mod read_error;
+mod walk;
+mod word_slice;
+mod words;
+
+pub use object::{fields, object_at, stand};
+pub use read_error::ReadError;
+pub use word_slice::WordSlice;
+pub use words::Words;
