@@ -223,10 +223,17 @@ on_ok (Ok x) P ok ensures = ensures
 on_ok (Err e) P ok ensures = absurd (cc ok)
 
 -- a log whose reading is done
-pub keeps_read : (log : Log) (batches : List (List Record)) → log.tail ≡ length (batches_bytes batches) → vec_len log.hand ≡ 4 → Keeps log batches []
-keeps_read log batches tail four = record {
+pub keeps_read : (log : Log) (batches : List (List Record)) → log.tail ≡ length (batches_bytes batches) → vec_len log.hand ≡ 4 → log.forced ≡ length (records_of batches) → log.waiting ≡ 0 → Keeps log batches []
+keeps_read log batches tail four forced waiting = record {
   tail = tail;
   head = log.hand.items;
   four = sym log.hand.ok.0 ∙ four;
   items = sym (append-nil log.hand.items);
+  forced = forced;
+  count = omega (arith, forced, waiting);
 }
+
+-- a byte at least for each record
+pub fewer_records : (records : List Record) → length records ≤ length (spellings records)
+fewer_records [] = omega arith
+fewer_records (rec ∷ records) = omega (arith, fewer_records records, some_spelling rec, length-append (spelling rec) (spellings records))

@@ -1,7 +1,7 @@
 //! A log in a part of a disk: batches of records, each behind its gate, and the records in hand that are not forced yet.
 #![tactic(auto)]
 
-ghost use Rattle.std.specs.Prelude.{◌≡◌, ◌≢◌, ◌⊎◌, ℕ, ◌+◌, ◌-◌, ◌^◌, ◌<◌, ◌≤◌, ◌++◌, List, [], ◌∷◌, length, drop, slice_index, nat_lt, vec_len, vec_capacity, IsTrue, IsErr, OnOk, OnErr, IfOk, IfSome, IsSomeAnd, Some, None, Ok, Err, if◌then◌else◌};
+ghost use Rattle.std.specs.Prelude.{◌≡◌, ◌≢◌, ◌⊎◌, ℕ, ◌+◌, ◌-◌, ◌^◌, ◌<◌, ◌≤◌, ◌++◌, List, [], ◌∷◌, length, drop, slice_index, nat_lt, vec_len, vec_capacity, IsTrue, is_ok, IsOk, IsErr, OnOk, OnErr, IfOk, IfSome, IsSomeAnd, Some, None, Ok, Err, if◌then◌else◌};
 ghost use Rattle.std.specs.Int.{w32, to_le_bytes};
 ghost use Rattle.std.specs.List.{AllByRecursion};
 ghost use Rattle.disk_model.specs.Disk.{part, Only, SameOutside};
@@ -62,16 +62,22 @@ pub struct Log {
     room: u32,
     // The offset in it of the closed gate behind the forced batches.
     tail: u32,
+    // How many records are in these batches, and how many wait.
+    forced: u64,
+    waiting: u64,
     // Room for the length of a batch, and the records that wait, spelled.
     hand: Vec<u8>,
     pub ghost small: { room < 2 ^ 32 },
     ghost has_head: { 4 ≤ vec_len hand },
     ghost fits: { used_bytes tail (vec_len hand) ≤ room },
     ghost inside: { at + room < 2 ^ 64 },
+    // A record takes a byte at least.
+    ghost few_forced: { forced ≤ tail },
+    ghost few_waiting: { waiting + 4 ≤ vec_len hand },
 }
 
 impl Log {
-    ghost use Rattle.gated_log.specs.LogState.{log_place, log_room, log_tail, log_hand, hand_size, is_waiting, IsHandEmpty, IsReady, log_used, log_used_with, log_need, Keeps, IsPlaced};
+    ghost use Rattle.gated_log.specs.LogState.{log_place, log_room, log_tail, log_hand, is_waiting, IsHandEmpty, IsReady, HasSpare, log_memory, log_used, log_used_with, log_need, log_forced, log_count, Keeps, IsPlaced, IsSameLog};
 
     /// Reads the log of `room` bytes from byte `at` of the disk on, and the records of its batches in order.
     pub fn open<D: Disk>(
@@ -106,6 +112,8 @@ impl Log {
             at,
             room,
             tail,
+            forced: records.len() as u64,
+            waiting: 0,
             hand,
         };
         Ok((log, records))
@@ -116,6 +124,20 @@ impl Log {
         ensures { result ≡ is_waiting self.now }
     {
         self.hand.len() > NO_LENGTH.len()
+    }
+
+    /// How many records it has, forced or waiting: the LSN of the last one.
+    pub fn records(&self) -> u64
+        ensures { result ≡ log_count self.now }
+    {
+        self.forced + self.waiting
+    }
+
+    /// How many of its records were forced: the last LSN that is on the disk.
+    pub fn forced(&self) -> u64
+        ensures { result ≡ log_forced self.now }
+    {
+        self.forced
     }
 
     /// The bytes that are used: the forced batches, a gate, and a batch of the records that wait.
@@ -150,14 +172,14 @@ impl Log {
         }
     }
 
-    /// Takes the memory that a force needs.
-    pub fn reserve(&mut self) -> Result<(), AllocError>
-        ensures ready { OnOk result (IsReady self.new) }
-        ensures place { IsPlaced self.old self.new }
-        ensures hand { log_hand self.new ≡ log_hand self.old }
-        ensures len { hand_size self.new ≡ hand_size self.old }
+    /// Takes the memory for records of that many bytes more, and for a force of all that wait then. A log has room for fewer
+    /// than 2^32 bytes.
+    pub fn reserve(&mut self, bytes: usize) -> Result<(), AllocError>
+        requires { bytes < 2 ^ 32 }
+        ensures spare { OnOk result (HasSpare self.new bytes) }
+        ensures same { IsSameLog self.old self.new }
     {
-        self.hand.reserve(1)
+        self.hand.reserve(bytes + 1)
     }
 
     /// Adds a record behind those that wait, where the log has room for it. An `Err` changes nothing.
@@ -167,10 +189,16 @@ impl Log {
         ensures added { (batches : List (List Record)) (pending : List Record) → Keeps self.old batches pending → OnOk result (Keeps self.new batches (pending ++ rec.now ∷ [])) }
         ensures ok { OnOk result (log_hand self.new ≡ log_hand self.old ++ spelling rec.now) }
         ensures used { OnOk result (log_used self.new ≡ log_used self.old + log_need self.old (length (spelling rec.now))) }
-        ensures err { OnErr result (log_hand self.new ≡ log_hand self.old) }
+        ensures count { OnOk result (log_count self.new ≡ log_count self.old + 1) }
+        ensures err { OnErr result (IsSameLog self.old self.new) }
         ensures place { IsPlaced self.old self.new }
+        // Where `reserve` took the memory, it takes none.
+        ensures in_room { HasSpare self.old (length (spelling rec.now)) → IsOk result }
+        ensures memory { log_memory self.old ≤ log_memory self.new }
     {
-        log_records::encode(rec, &mut self.hand)
+        log_records::encode(rec, &mut self.hand)?;
+        self.waiting += 1;
+        Ok(())
     }
 
     /// Adds the records behind those that wait, where the log has room for them: all of them, or after an `Err` none.
@@ -180,11 +208,14 @@ impl Log {
         ensures added { (batches : List (List Record)) (pending : List Record) → Keeps self.old batches pending → OnOk result (Keeps self.new batches (pending ++ records.now)) }
         ensures ok { OnOk result (log_hand self.new ≡ log_hand self.old ++ spellings records.now) }
         ensures used { OnOk result (log_used self.new ≡ log_used_with self.old (length (spellings records.now))) }
-        ensures err { OnErr result (log_hand self.new ≡ log_hand self.old) }
+        ensures count { OnOk result (log_count self.new ≡ log_count self.old + length records.now) }
+        ensures err { OnErr result (IsSameLog self.old self.new) }
         ensures place { IsPlaced self.old self.new }
     {
         let bytes = spell(*self.hand.allocator(), records)?;
-        self.hand.extend_from_slice(&bytes)
+        self.hand.extend_from_slice(&bytes)?;
+        self.waiting += records.len() as u64;
+        Ok(())
     }
 
     /// Writes all records that wait as one batch, in four device calls. Without any it makes none. After an error
@@ -213,17 +244,21 @@ impl Log {
         ensures at { log_place self.new ≡ log_place self.old }
         ensures same_room { log_room self.new ≡ log_room self.old }
         ensures err { OnErr result (log_tail self.new ≡ log_tail self.old) }
+        ensures forced { log_forced self.new ≡ (if is_ok result then log_count self.old else log_forced self.old) }
     {
         if !self.pending() {
             return Ok(());
         }
         let gate = self.at + u64::from(self.tail);
+        let waiting = self.waiting;
         close_batch(&mut self.hand);
         let size = self.hand.len() as u32;
         let written = fill_and_open(disk, gate, gate + 1, &self.hand);
+        self.waiting = 0;
         self.hand.truncate(NO_LENGTH.len());
         written?;
         self.tail += size;
+        self.forced += waiting;
         Ok(())
     }
 }
@@ -279,7 +314,7 @@ fn read_batches(alloc: Global, area: &[u8]) -> Result<(Vec<Record>, u32), LogErr
     requires small { length area.now < 2 ^ 32 }
     ensures inside { IfOk result (λ found. found.1 < length area.now) }
     ensures good { IfOk result (λ found. AllByRecursion IsRecord found.0.items) }
-    ensures few { IfOk result (λ found. vec_len found.0 ≤ length area.now) }
+    ensures few { IfOk result (λ found. vec_len found.0 ≤ found.1) }
     ensures no_disk { log_device_result result ≡ Ok tt }
     ensures found { IfOk result (λ found. (batches : List (List Record)) × HoldsBatches area.now batches × (found.0.items ≡ records_of batches) × (found.1 ≡ length (batches_bytes batches))) }
     ensures bad { (offset : ℕ) → result ≡ Err (BadBatch offset) → BreaksAt area.now offset }

@@ -42,7 +42,7 @@ fn forced_and_opened_again(rt: HostRuntime) -> Result<(), Fail> {
     assert!(rt; log.pending());
     assert!(rt; log.used() + log.need(&commit) <= log.room());
     log.append(&commit)?;
-    log.reserve()?;
+    log.reserve(0)?;
     log.force(&mut disk)?;
     assert!(rt; !log.pending());
     assert_eq!(rt; log.used(), 38);
@@ -68,7 +68,7 @@ fn records_appended_together_are_one_batch(rt: HostRuntime) -> Result<(), Fail> 
     let (mut log, _) = Log::open(alloc, &mut disk, 4, 40)?;
     assert_eq!(rt; log.used(), 1);
     log.append_all(&RECORDS)?;
-    log.reserve()?;
+    log.reserve(0)?;
     log.force(&mut disk)?;
     assert_eq!(rt; disk.contents(), FORCED.as_slice());
     Ok(())

@@ -24,7 +24,7 @@ use Rattle.heap_model.specs.CoreValid.{HearsSerial, AnswersSerially, IsSound, Is
 use Rattle.heap_model.specs.CoreReplies.{Heard, nothing_heard, with_reply, hear_call, hear, heard_in, call_replies_of}
 use Rattle.heap_model.specs.CoreLawsGranted.{called}
 use Rattle.heap_model.specs.CoreLawsStep.{core_refusal-HasNoFault, call_account}
-use Rattle.heap_model.specs.CoreLawsRun.{sound_agrees, step_history, calls-force, sound_step}
+use Rattle.heap_model.specs.CoreLawsRun.{sound_agrees, step_history, calls-force, sound_step, same_step}
 
 -- the replies of one transaction more
 pub serial_replies-append : (g : Graph) (ts : List Transaction) (t : Transaction) → serial_replies g (ts ++ t ∷ []) ≡ serial_replies g ts ++ replies (serial g ts) t ∷ []
@@ -135,23 +135,6 @@ cut_hears g0 a heard reply (inl told) h =
 cut_hears g0 a heard reply (inr told) h =
     subst (λ (r : Reply). HearsSerial g0 (account_after a (record { event = Force; reply = r })) (hear heard Force r)) (sym told) (record { sealed = h.sealed; active = h.active; in_doubt = h.in_doubt })
 
-forced_g0 : (c : Core) (p : List Record) → (forced c p).g0 ≡ c.g0
-forced_g0 c [] = refl
-forced_g0 c (r ∷ rs) = refl
-
-done_g0 : (c : Core) (event : Event) → (done c event).g0 ≡ c.g0
-done_g0 c Force = forced_g0 c c.pending
-done_g0 c event = refl
-
-refusal_g0 : (o : Option Refusal) (c : Core) (event : Event) → (after_refusal o c event).g0 ≡ c.g0
-refusal_g0 None c event = done_g0 c event
-refusal_g0 (Some why) c event = refl
-
--- the graph at the opening stays
-pub step_g0 : (c d : Core) (event : Event) (reply : Reply) → IsStep c event reply d → d.g0 ≡ c.g0
-step_g0 c d event reply (inl whole) = ap (λ (x : Core). x.g0) whole.1 ∙ refusal_g0 (core_refusal c event) c event
-step_g0 c d event reply (inr cut) = ap (λ (x : Core). x.g0) cut.1
-
 entry_answers : (c d : Core) (event : Event) (reply : Reply) → d.g0 ≡ c.g0 → d.history ≡ c.history ++ record { event = event; reply = reply } ∷ []
     → HearsSerial c.g0 (account_after (account c.history) (record { event = event; reply = reply })) (hear (heard_in c.history) event reply) → AnswersSerially d
 entry_answers c d event reply graph history h =
@@ -171,12 +154,12 @@ step_answers c d event reply sound h one (inl whole) =
     let go = λ (e : core_refusal c event ≡ None). granted_hears (next_number c) c.g0 a heard event (sound_agrees c sound).certain h one in
     let own = answer_hears (next_number c) c.g0 a heard event (core_refusal c event) h (core_refusal-HasNoFault c event) go in
     let P : Reply → Type 0 = λ r. HearsSerial c.g0 (account_after a (record { event = event; reply = r })) (hear heard event r) in
-    entry_answers c d event reply (step_g0 c d event reply (inl whole)) (step_history c d event reply (inl whole)) (subst P (sym whole.0) own)
+    entry_answers c d event reply (same_step c d event reply (inl whole)).g0 (step_history c d event reply (inl whole)) (subst P (sym whole.0) own)
 step_answers c d event reply sound h one (inr cut) =
     let a = account c.history in
     let heard = heard_in c.history in
     let P : Event → Type 0 = λ e. HearsSerial c.g0 (account_after a (record { event = e; reply = reply })) (hear heard e reply) in
-    entry_answers c d event reply (step_g0 c d event reply (inr cut)) (step_history c d event reply (inr cut))
+    entry_answers c d event reply (same_step c d event reply (inr cut)).g0 (step_history c d event reply (inr cut))
     (subst P (sym (calls-force c event cut.0.some).0) (cut_hears c.g0 a heard reply cut.0.told h))
 
 -- A step of session 1 reaches a core.

@@ -14,7 +14,8 @@ use Rattle.graph_model.specs.HistoryLaws.{account-append}
 use Rattle.graph_model.specs.Plain.{event_refusal, refusal_of, granted, reply_of}
 use Rattle.graph_model.specs.PlainLaws.{account_after-refused}
 use Rattle.log_records.specs.declared.Record.{Record}
-use Rattle.heap_model.specs.Core.{Core, next_number, log_refusal, first_of_two, core_refusal, answer, with_entry, after_refusal, after, force_calls, calls_if, calls, IsCutShort, IsStep, IsRun}
+use Rattle.heap_model.specs.Core.{Core, next_number, log_refusal, first_of_two, core_refusal, answer, with_entry, forced, done, after_refusal, after, force_calls, calls_if, calls, IsCutShort, IsStep, IsRun}
+use Rattle.heap_model.specs.CoreRuns.{SameOpening}
 use Rattle.heap_model.specs.CoreLawsGranted.{agrees_history, agrees_entry}
 use Rattle.heap_model.specs.CoreValid.{Agrees, IsValid, HasFailed, IsSound, IsReached}
 use Rattle.heap_model.specs.CoreLawsStep.{done_history, log_force, valid_after}
@@ -157,3 +158,41 @@ IsIdle c = (account c.history).active 1 ≡ None
 idle_entry : (c : Core) (event : Event) (reply : Reply) → (account_after (account c.history) (record { event = event; reply = reply })).active 1 ≡ None
     → (account (c.history ++ record { event = event; reply = reply } ∷ [])).active 1 ≡ None
 idle_entry c event reply e = ap (λ (a : Account). a.active 1) (account-append c.history (record { event = event; reply = reply })) ∙ e
+
+-- What each step keeps.
+
+same_forced : (c : Core) (p : List Record) → SameOpening c (forced c p)
+same_forced c [] = record { pages = refl; room = refl; first = refl; g0 = refl; before = refl }
+same_forced c (r ∷ rs) = record { pages = refl; room = refl; first = refl; g0 = refl; before = refl }
+
+same_done : (c : Core) (event : Event) → SameOpening c (done c event)
+same_done c Force = same_forced c c.pending
+same_done c event = record { pages = refl; room = refl; first = refl; g0 = refl; before = refl }
+
+same_refusal : (o : Option Refusal) (c : Core) (event : Event) → SameOpening c (after_refusal o c event)
+same_refusal None c event = same_done c event
+same_refusal (Some why) c event = record { pages = refl; room = refl; first = refl; g0 = refl; before = refl }
+
+same_entry : (c d : Core) (event : Event) (reply : Reply) → SameOpening c d → SameOpening c (with_entry d event reply)
+same_entry c d event reply same = record { pages = same.pages; room = same.room; first = same.first; g0 = same.g0; before = same.before }
+
+-- a step keeps what the core was opened with
+pub same_step : (c d : Core) (event : Event) (reply : Reply) → IsStep c event reply d → SameOpening c d
+same_step c d event reply (inl whole) =
+    subst (SameOpening c) (sym whole.1) (same_entry c (after_refusal (core_refusal c event) c event) event (answer c event) (same_refusal (core_refusal c event) c event))
+same_step c d event reply (inr cut) =
+    subst (SameOpening c) (sym cut.1) (same_entry c c event reply (record { pages = refl; room = refl; first = refl; g0 = refl; before = refl }))
+
+same_on : (c mid d : Core) → SameOpening c mid → SameOpening mid d → SameOpening c d
+same_on c mid d one more = record {
+  pages = more.pages ∙ one.pages;
+  room = more.room ∙ one.room;
+  first = more.first ∙ one.first;
+  g0 = more.g0 ∙ one.g0;
+  before = more.before ∙ one.before;
+}
+
+-- so do steps, one after another
+pub same_run : (c d : Core) (events : List Event) → IsRun c events d → SameOpening c d
+same_run c d [] run = subst (SameOpening c) (sym run) (record { pages = refl; room = refl; first = refl; g0 = refl; before = refl })
+same_run c d (event ∷ events) run = same_on c run.1 d (same_step c run.1 event run.0 run.2) (same_run run.1 d events run.3)

@@ -18,3 +18,6 @@ pub mod CoreLawsRun
 pub mod CoreLawsLegal
 pub mod CoreLawsCrash
 pub mod CoreLawsReplies
+pub mod CoreLawsCalls
+pub mod CoreLawsEnding
+pub mod CoreLawsGrow

@@ -1,2 +1,3 @@
+mod LegalLog
 mod Opening
 mod Replay

@@ -10,22 +10,26 @@ use Rattle.log_records.specs.declared.Record.TheVariants.{Undo}
 use Rattle.log_records.specs.Record.{spelling, spellings, IsRecord}
 use Rattle.log_machine.specs.declared.UndoEntry.{UndoEntry}
 use Rattle.log_machine.specs.UndoEntry.{IsEntry}
-use Rattle.log_machine.specs.Machine.{State, Loser, undo_of, with_entries, with_word, is_number, turned, after_all, put_record, taken_back, each_taken_back, losing, commits, abort_records, abort_each, rollback, undo_bytes, reserve}
+use Rattle.log_machine.specs.Machine.{State, Loser, undo_in, undo_of, with_entries, with_word, is_number, turned, after_all, put_record, taken_back, each_taken_back, losing, commits, abort_records, abort_each, rollback, undo_bytes, reserve}
 use Rattle.log_machine.specs.ListLaws.{AllByRecursion-append}
 use Rattle.log_machine.specs.MapLaws.{EachEntry, each_remove, get_first, remove_first, remove_absent, empty_of_entries}
 use Rattle.log_machine.specs.MachineLaws.{after_all-append2, undo_with, with_with, after-Undo, after-End, number_small, commits-append}
-use Rattle.log_machine.specs.Sound.{IsLoser, IsSound, HaveSpellings, CanRollBack}
+use Rattle.log_machine.specs.Sound.{IsLoser, NoneEmpty, IsSound, HaveSpellings, CanRollBack}
 use Rattle.log_machine.specs.StateLaws.{sound_after, sound_after_all}
 
 -- One transaction.
 
-no_list : (s : State) (t : ℕ) (o : Option (List UndoEntry)) → get s.undo t ≡ o → IsSound s → unwrap_or o [] ≡ [] → get s.undo t ≡ None
-no_list s t None is sound none = is
-no_list s t (Some us) is sound none = absurd ((sound t us is).some none)
+no_list : (undo : FinMap nat_cmp (List UndoEntry)) (t : ℕ) (o : Option (List UndoEntry)) → get undo t ≡ o → NoneEmpty undo → unwrap_or o [] ≡ [] → get undo t ≡ None
+no_list undo t None is some none = is
+no_list undo t (Some us) is some none = absurd (some t us is none)
 
 -- a transaction without writes has no list of them
-pub none_standing : (s : State) (t : ℕ) → IsSound s → undo_of s t ≡ [] → get s.undo t ≡ None
-none_standing s t sound none = no_list s t (get s.undo t) refl sound none
+pub none_standing : (undo : FinMap nat_cmp (List UndoEntry)) (t : ℕ) → NoneEmpty undo → undo_in undo t ≡ [] → get undo t ≡ None
+none_standing undo t some none = no_list undo t (get undo t) refl some none
+
+-- in a sound state no list is empty
+pub none_empty : (s : State) → IsSound s → NoneEmpty s.undo
+none_empty s sound t us is = (sound t us is).some
 
 -- of two records of one transaction the last one's writes are left
 turned_turned : (s : State) (t : ℕ) (first last : FinMap nat_cmp (List UndoEntry)) → turned (turned s t first 0) t last 0 ≡ turned s t last 0
@@ -37,7 +41,7 @@ turned_turned s t first last =
 abort_on : (s : State) (t : ℕ) (us : List UndoEntry) → is_number t ≡ true → IsSound s → undo_of s t ≡ us → after_all s (abort_records t us) ≡ Some (turned s t (with_entries s.undo t []) 0)
 abort_on s t [] number sound own =
     ap (λ (x : Option State). option_and_then (λ next. Some next) x) (after-End s t number own)
-    ∙ ap (λ undo. Some (turned s t undo 0)) (sym (remove_absent s.undo t (none_standing s t sound own)))
+    ∙ ap (λ undo. Some (turned s t undo 0)) (sym (remove_absent s.undo t (none_standing s.undo t (none_empty s sound) own)))
 abort_on s t (u ∷ us) number sound own =
     let first = after-Undo s t u us number own in
     ap (λ (x : Option State). option_and_then (λ next. after_all next (abort_records t us)) x) first

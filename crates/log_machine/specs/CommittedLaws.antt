@@ -14,7 +14,7 @@ use Rattle.log_machine.specs.Machine.{State, Loser, start, field_at, undo_of, wi
 use Rattle.log_machine.specs.MapLaws.{EachEntry, get_removed, insert_remove, insert_known, remove_absent, entries_empty, each_entry, each_other, remove_only}
 use Rattle.log_machine.specs.MachineLaws.{after_all-append, after_all-append2, words-append, after-Update, after-Commit, standing}
 use Rattle.log_machine.specs.Sound.{IsSound}
-use Rattle.log_machine.specs.AbortLaws.{settled, none_standing, abort_reaches, abort_words, rollback_reaches, rollback_words}
+use Rattle.log_machine.specs.AbortLaws.{settled, none_standing, none_empty, abort_reaches, abort_words, rollback_reaches, rollback_words}
 use Rattle.log_machine.specs.Apart.{written, AreApart, IsApart, IsOnlyLoser, others_taken_back}
 
 -- Writes to different fields, in any order.
@@ -65,7 +65,7 @@ pub only_apart : (s : State) (t : ℕ) (us : List UndoEntry) → IsOnlyLoser s t
 only_apart s t us only q vs some other = absurd (other (only q vs some))
 
 taken_first : (s : State) (t : ℕ) (us : List UndoEntry) (now : List ℕ) → IsSound s → undo_of s t ≡ us → IsApart s t us → all_taken_back s now ≡ others_taken_back s t (taken_back us now)
-taken_first s t [] now sound own other = ap (λ n. each_taken_back (entries n) now) (sym (remove_absent s.undo t (none_standing s t sound own)))
+taken_first s t [] now sound own other = ap (λ n. each_taken_back (entries n) now) (sym (remove_absent s.undo t (none_standing s.undo t (none_empty s sound) own)))
 taken_first s t (u ∷ us) now sound own other =
     ap (λ n. each_taken_back (entries n) now) (sym (insert_known s.undo t (u ∷ us) (standing s.undo t u us own)))
     ∙ insert_first s.undo t (u ∷ us) now other

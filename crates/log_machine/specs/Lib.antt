@@ -11,3 +11,6 @@ pub mod Apart
 pub mod CommittedLaws
 pub mod ReserveLaws
 pub mod WordsLaws
+pub mod Seen
+pub mod Kept
+pub mod Effect

@@ -180,9 +180,13 @@ abort_each entries = flat_map (λ e. abort_records e.0 e.1) entries
 abbrev pub rollback : State → List Record
 rollback s = abort_each (losing s)
 
--- the log's bytes that are kept to take a transaction's writes back: a batch, an End, and an Undo for each write
+-- the log's bytes that are kept to take so many writes of a transaction back: a batch, an End, and an Undo for each write
+abbrev pub end_bytes : ℕ → ℕ
+end_bytes writes = 10 + 19 * writes
+
+-- those for a transaction's writes
 abbrev pub undo_bytes : List UndoEntry → ℕ
-undo_bytes entries = 10 + 19 * length entries
+undo_bytes entries = end_bytes (length entries)
 
 -- the log's bytes that are kept to take all of them back
 abbrev pub reserve : State → ℕ

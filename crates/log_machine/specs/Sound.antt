@@ -1,12 +1,12 @@
 -- What holds of every state that records reach.
-use Rattle.std.specs.Prelude.{◌≡◌, ◌≢◌, ℕ, ◌<◌, ◌≤◌, List, [], true, cond}
+use Rattle.std.specs.Prelude.{◌≡◌, ◌≢◌, ℕ, ◌+◌, ◌<◌, ◌≤◌, List, [], true, cond}
 use Rattle.std.specs.List.{AllByRecursion}
 use Rattle.std.specs.Ordering.{nat_cmp}
 use Rattle.std.specs.FinMap.{FinMap}
 use Rattle.log_records.specs.declared.Record.{Record}
 use Rattle.log_machine.specs.declared.UndoEntry.{UndoEntry}
 use Rattle.log_machine.specs.UndoEntry.{IsEntry, LiesInside}
-use Rattle.log_machine.specs.Machine.{State, number_of, is_number, is_commit, turned}
+use Rattle.log_machine.specs.Machine.{State, words_in, number_of, is_number, is_commit, turned}
 use Rattle.log_machine.specs.MapLaws.{EachEntry}
 
 -- A transaction whose writes may be taken back, and these.
@@ -15,6 +15,10 @@ pub record IsLoser (s : State) (t : ℕ) (entries : List UndoEntry) : Type 0 whe
   pub number : is_number t ≡ true
   pub known : t < s.next
   pub inside : AllByRecursion (LiesInside s.base s.used) entries  -- each is a write of a used word
+
+-- no transaction has an empty list
+abbrev pub NoneEmpty : FinMap nat_cmp (List UndoEntry) → Type 0
+NoneEmpty undo = EachEntry (λ t entries. entries ≢ []) undo
 
 -- each of the transactions whose writes may be taken back is such
 abbrev pub IsSound : State → Type 0
@@ -42,3 +46,8 @@ pub record Leads (s n : State) : Type 0 where
   pub used : n.used ≡ s.used
   pub grows : s.next ≤ n.next
   pub next_in_range : s.next ≤ 4294967295 → n.next ≤ 4294967295
+
+-- What holds of every state that records reach in a heap that has the root object.
+pub record IsConsistent (s : State) : Type 0 where
+  pub sound : IsSound s
+  pub fits : s.base + s.used ≤ words_in s.pages  -- the used words are words of the pages

@@ -35,7 +35,7 @@ turns s n r e = let told = told_if _ _ _ e in row_turns s n r told.0 told.1
 -- Sound states.
 
 -- a loser is one behind a record more
-grown : (s : State) (t : ℕ) (undo : FinMap nat_cmp (List UndoEntry)) (more q : ℕ) (entries : List UndoEntry) → IsLoser s q entries → IsLoser (turned s t undo more) q entries
+pub grown : (s : State) (t : ℕ) (undo : FinMap nat_cmp (List UndoEntry)) (more q : ℕ) (entries : List UndoEntry) → IsLoser s q entries → IsLoser (turned s t undo more) q entries
 grown s t undo more q entries is = record { some = is.some; number = is.number; known = omega (arith, is.known); inside = is.inside }
 
 at_option : (P : ℕ → List UndoEntry → Type 0) (o : Option (List UndoEntry)) (t : ℕ) → P t [] → ((v : List UndoEntry) → o ≡ Some v → P t v) → P t (unwrap_or o [])
@@ -55,7 +55,7 @@ pub all_spelled : (undo : FinMap nat_cmp (List UndoEntry)) (t : ℕ) → HaveSpe
 all_spelled undo t good = each_at (λ q us. AllByRecursion IsEntry us) undo t tt good
 
 -- with other writes of one transaction
-sound_with : (s : State) (t : ℕ) (us : List UndoEntry) (more : ℕ) → is_number t ≡ true → AllByRecursion (LiesInside s.base s.used) us → IsSound s → IsSound (turned s t (with_entries s.undo t us) more)
+pub sound_with : (s : State) (t : ℕ) (us : List UndoEntry) (more : ℕ) → is_number t ≡ true → AllByRecursion (LiesInside s.base s.used) us → IsSound s → IsSound (turned s t (with_entries s.undo t us) more)
 sound_with s t [] more number inside sound =
     each_remove (IsLoser (turned s t (with_entries s.undo t []) more)) s.undo t (λ q w some. grown s t (with_entries s.undo t []) more q w (sound q w some))
 sound_with s t (u ∷ us) more number inside sound =

@@ -1,6 +1,18 @@
 //! The state of a heap after the records of its log, and the words that they leave.
 #![tactic(auto)]
 
+mod abort;
+mod effects;
+mod log_state;
+mod page_words;
+mod undo_lists;
+
+pub use abort::abort_records;
+pub use effects::effect;
+pub use log_state::{AfterError, LogState};
+pub use page_words::{FIELDS_AT, PAGE_WORDS, PageWords, ROOT_FIELDS, ROOT_WORDS};
+pub use undo_lists::end_bytes;
+
 /// A write that may be taken back: the field of the object at a word address, and the word that stood there before.
 #[derive(Clone, Copy, Debug, PartialEq, Eq)]
 pub struct UndoEntry {

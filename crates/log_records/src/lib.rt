@@ -1,7 +1,7 @@
 //! The records of the log, and how they are spelled: a byte of its kind, then its fields, lowest bytes first.
 #![tactic(auto)]
 
-ghost use Rattle.std.specs.Prelude.{◌≡◌, ◌^◌, ◌<◌, ◌∷◌, ◌++◌, List, ℕ, length, take, Some, IfSome, OnOk, OnErr};
+ghost use Rattle.std.specs.Prelude.{◌≡◌, ◌+◌, ◌^◌, ◌<◌, ◌≤◌, ◌∷◌, ◌++◌, List, ℕ, length, take, vec_len, vec_capacity, Some, IfSome, IsOk, OnOk, OnErr};
 ghost use Rattle.std.specs.Int.{w32, to_le_bytes};
 ghost use Rattle.log_records.specs.declared.Record.{Record};
 ghost use Rattle.log_records.specs.declared.Record.TheVariants.{Update, Undo, Commit, End};
@@ -72,10 +72,12 @@ pub fn length(rec: &Record) -> u64
     }
 }
 
-/// Spells the record behind what is there. An `Err` changes nothing.
+/// Spells the record behind what is there. An `Err` changes nothing, and comes only where memory has to be taken.
 pub fn encode(rec: &Record, into: &mut Vec<u8>) -> Result<(), AllocError>
     ensures ok { OnOk result (into.new.items ≡ into.old.items ++ spelling rec.now) }
     ensures err { OnErr result (into.new.items ≡ into.old.items) }
+    ensures in_room { vec_len into.old + length (spelling rec.now) ≤ vec_capacity into.old → IsOk result }
+    ensures capacity { vec_capacity into.old ≤ vec_capacity into.new }
 {
     match rec {
         Record::Update {

@@ -1,4 +1,4 @@
-use Rattle.std.proofs.Common.{◌≡◌, ◌^◌, ◌<◌, List, ℕ, Err, length, ◌∙◌, ap, subst, arith, rules}
+use Rattle.std.proofs.Common.{◌≡◌, ◌^◌, ◌<◌, List, ℕ, Err, length, refl, ◌∙◌, ap, subst, arith, rules}
 use Rattle.disk_model.specs.Disk.{part}
 use Rattle.std.specs.List.{AllByRecursion}
 use Rattle.log_records.specs.declared.Record.{Record}
@@ -25,7 +25,8 @@ returns-clause-held g c told batches holds good =
     let short : length log < 2 ^ 32 = omega (arith, ap (λ (l : List ℕ). length l) area, c.deref.ensures.len, c.in_ok-area.ensures.len, c.ranges.room.fits) in
     let found = c.in_ok-records.ensures.found in
     let one = holds_once log short found.0 batches (subst (λ (l : List Record). AllByRecursion IsRecord l) found.2 c.in_ok-records.ensures.good) good (subst (λ (l : List ℕ). HoldsBatches l found.0) area found.1) holds in
-    (keeps_read _ batches (found.3 ∙ ap (λ (l : List (List Record)). length (batches_bytes l)) one) c.in_ok-hand.ensures.len, found.2 ∙ ap records_of one)
+    let none : ◌≡◌ {A = ℕ} 0 0 = refl in
+    (keeps_read _ batches (found.3 ∙ ap (λ (l : List (List Record)). length (batches_bytes l)) one) c.in_ok-hand.ensures.len (c.len.ensures ∙ c.in_ok-records.records.ok.0 ∙ ap length (found.2 ∙ ap records_of one)) none, found.2 ∙ ap records_of one)
 
 pub returns-clause-broken : goal.returns-clause-broken
 returns-clause-broken g c told offset breaks =

@@ -1,0 +1,21 @@
+-- Where a record writes, and what it asks of memory.
+use Rattle.std.specs.Prelude.{ℕ, ◌<◌, List}
+use Rattle.std.specs.List.{AllByRecursion}
+use Rattle.log_records.specs.declared.Record.{Record}
+use Rattle.log_records.specs.declared.Record.TheVariants.{Update, Undo, Commit, End}
+use Rattle.log_machine.specs.Machine.{effect}
+
+-- a record writes only words below an address
+abbrev pub WritesBelow : ℕ → Record → Type 0
+WritesBelow end rec = AllByRecursion (λ w. w.0 < end) (effect rec)
+
+-- so do these
+abbrev pub EachWritesBelow : ℕ → List Record → Type 0
+EachWritesBelow end records = AllByRecursion (WritesBelow end) records
+
+-- a record adds a write that may be taken back
+abbrev pub AddsEntry : Record → Type 0
+AddsEntry (Update t object field was word) = Unit {0}
+AddsEntry (Undo t object field word) = ⊥
+AddsEntry (Commit t) = ⊥
+AddsEntry (End t) = ⊥

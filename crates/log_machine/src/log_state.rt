@@ -1,0 +1,272 @@
+//! The state of the heap after a list of records.
+ghost use Rattle.std.specs.Prelude.{◌≡◌, ◌+◌, ◌<◌, ◌≤◌, ◌^◌, ◌↔◌, ◌∷◌, [], None, Some, IfOk, OnOk, OnErr, IsTrue, is_some, true, drop, reverse, nat_lt};
+ghost use Rattle.std.specs.List.{AllByRecursion};
+ghost use Rattle.std.specs.FinMap as map;
+ghost use Rattle.log_records.specs.declared.Record.TheVariants.{Update, Undo, Commit, End};
+ghost use Rattle.log_machine.specs.Machine.{start, undo_of, losers, with_entries, words_in, field_at, number_of, is_number, lies_inside, without_newest, has_none, turned, row_after, after, reserve, rollback};
+ghost use Rattle.log_machine.specs.Effect.{WritesBelow, EachWritesBelow, AddsEntry};
+ghost use Rattle.log_machine.specs.UndoEntry.{LiesInside};
+
+use crate::UndoEntry;
+use crate::page_words::{FIELDS_AT, ROOT_WORDS};
+use crate::undo_lists::UndoLists;
+use log_records::{LAST_NUMBER, Record};
+use std::alloc::{AllocError, Global};
+use std::marker::Model;
+
+/// Why a record was not taken.
+#[derive(Clone, Copy, Debug, PartialEq, Eq)]
+pub enum AfterError {
+    /// There was no memory for another write that may be taken back.
+    NoMemory,
+    /// The record can't follow those before it.
+    Unshaped,
+}
+
+impl From<AllocError> for AfterError {
+    ghost use Rattle.std.specs.Prelude.{◌≡◌};
+    ghost use Rattle.log_machine.specs.declared.log_state.AfterError.TheVariants.{NoMemory};
+
+    ghost from_gives = { λ _ error. error ≡ NoMemory };
+
+    fn from(_: AllocError) -> AfterError {
+        AfterError::NoMemory
+    }
+}
+
+/// What the records so far say: which writes may be taken back, how many transactions are committed, and the number of the
+/// next one.
+#[derive(Debug, Drop)]
+pub struct LogState {
+    pages: u32,
+    base: u32,
+    used: u32,
+    undo: UndoLists,
+    commits: u64,
+    next: u32,
+}
+
+impl Model for LogState {
+    ghost use Rattle.log_machine.specs.Machine.{State};
+    ghost use Rattle.log_machine.specs.Sound.{IsConsistent};
+    ghost use Rattle.log_machine.specs.StateCode.{state_code};
+
+    ghost Value = { State };
+
+    ghost coded = { state_code };
+
+    ghost view = { λ s. record { pages = s.pages; base = s.base; used = s.used; undo = s.undo; commits = s.commits; next = s.next } };
+
+    ghost invariant = { λ s. IsConsistent (record { pages = s.pages; base = s.base; used = s.used; undo = s.undo; commits = s.commits; next = s.next }) };
+}
+
+impl LogState {
+    /// Before the first record, in a heap of two spaces of so many pages whose first transaction has the number `first`. It takes
+    /// no memory.
+    pub fn start(alloc: Global, pages: u32, first: u32) -> LogState
+        requires { 1 ≤ pages }
+        ensures { result ≡ start pages first }
+    {
+        LogState {
+            pages,
+            base: 0,
+            used: ROOT_WORDS,
+            undo: UndoLists::new(alloc),
+            commits: 0,
+            next: first,
+        }
+    }
+
+    /// What the writes of transaction `t` replaced that may be taken back. The newest stands last.
+    pub fn undo_list(&self, t: u32) -> &[UndoEntry]
+        ensures entries { reverse result.now ≡ undo_of self.now t }
+        ensures inside { AllByRecursion (LiesInside self.now.base self.now.used) result.now }
+    {
+        self.undo.of(t)
+    }
+
+    /// The transactions whose writes may be taken back, ascending.
+    pub fn losers(&self) -> Result<Vec<u32>, AllocError>
+        ensures { IfOk result (λ found. found.items ≡ losers self.now) }
+    {
+        self.undo.losers()
+    }
+
+    /// How many transactions are committed.
+    pub fn commits(&self) -> u64
+        ensures { result ≡ self.now.commits }
+    {
+        self.commits
+    }
+
+    /// The number of the next transaction.
+    pub fn next(&self) -> u32
+        ensures { result ≡ self.now.next }
+    {
+        self.next
+    }
+
+    /// The log's bytes that are kept to take writes back: a batch, an `End`, and an `Undo` for each write, for each transaction.
+    pub fn reserve(&self) -> u64
+        ensures { result ≡ reserve self.now }
+    {
+        self.undo.reserve()
+    }
+
+    /// The records that an opening appends: they take back the writes of each transaction that has not ended, ascending.
+    pub fn rollback(&self) -> Result<Vec<Record>, AllocError>
+        ensures records { IfOk result (λ records. records.items ≡ rollback self.now) }
+        ensures inside { IfOk result (λ records. EachWritesBelow (words_in self.now.pages) records.items) }
+    {
+        self.undo.abort_records()
+    }
+
+    /// Takes one record more, or tells that it can't follow. After any error the state is as before. Only an `Update` may
+    /// lack memory.
+    pub fn after(&mut self, rec: &Record) -> Result<(), AfterError>
+        requires commits { self.old.commits + 1 < 2 ^ 64 }
+        requires room { reserve self.old + 29 < 2 ^ 64 }
+        ensures ok { OnOk result (after self.old rec.now ≡ Some self.new) }
+        ensures inside { OnOk result (WritesBelow (words_in self.old.pages) rec.now) }
+        ensures unshaped { (result ≡ Err AfterError.Unshaped) ↔ (after self.old rec.now ≡ None) }
+        ensures no_memory { result ≡ Err AfterError.NoMemory → AddsEntry rec.now }
+        ensures err { OnErr result (self.new ≡ self.old) }
+    {
+        if !self.can_follow(rec) {
+            return Err(AfterError::Unshaped);
+        }
+        match rec {
+            Record::Update {
+                t,
+                object,
+                field,
+                was,
+                ..
+            } => self.add(*t, entry(*object, *field, *was))?,
+            Record::Undo { t, .. } => self.take_off(*t),
+            Record::Commit { t } => self.commit(*t),
+            Record::End { t } => self.end(*t),
+        }
+        Ok(())
+    }
+
+    // Adds a write of transaction `t` that may be taken back.
+    fn add(&mut self, t: u32, write: UndoEntry) -> Result<(), AllocError>
+        requires number { is_number t ≡ true }
+        requires inside { lies_inside self.old write.object write.field ≡ true }
+        requires room { reserve self.old + 29 < 2 ^ 64 }
+        ensures ok { OnOk result (self.new ≡ turned self.old t (with_entries self.old.undo t (write ∷ undo_of self.old t)) 0) }
+        ensures err { OnErr result (self.new ≡ self.old) }
+    {
+        self.undo.push(t, write)?;
+        self.next = self.next.max(t + 1);
+        Ok(())
+    }
+
+    // Takes the newest write of transaction `t` off.
+    fn take_off(&mut self, t: u32)
+        requires { is_number t ≡ true }
+        ensures { self.new ≡ turned self.old t (with_entries self.old.undo t (drop 1 (undo_of self.old t))) 0 }
+    {
+        self.undo.pop(t);
+        self.next = self.next.max(t + 1);
+    }
+
+    // Drops the writes of transaction `t`, which is committed.
+    fn commit(&mut self, t: u32)
+        requires number { is_number t ≡ true }
+        requires few { self.old.commits + 1 < 2 ^ 64 }
+        ensures { self.new ≡ turned self.old t (with_entries self.old.undo t []) 1 }
+    {
+        self.undo.remove(t);
+        self.commits += 1;
+        self.next = self.next.max(t + 1);
+    }
+
+    // Transaction `t` has ended.
+    fn end(&mut self, t: u32)
+        requires { is_number t ≡ true }
+        ensures { self.new ≡ turned self.old t self.old.undo 0 }
+    {
+        self.next = self.next.max(t + 1);
+    }
+
+    // The record can follow those before it.
+    fn can_follow(&self, rec: &Record) -> bool
+        ensures follows { result ≡ is_some (after self.now rec.now) }
+        ensures inside { result ≡ true → WritesBelow (words_in self.now.pages) rec.now }
+    {
+        is_number(number(rec)) && self.passes(rec)
+    }
+
+    // The record of a transaction whose number is one can follow those before it.
+    fn passes(&self, rec: &Record) -> bool
+        ensures follows { result ≡ is_some (row_after self.now rec.now) }
+        ensures inside { result ≡ true → WritesBelow (words_in self.now.pages) rec.now }
+    {
+        match rec {
+            Record::Update { object, field, .. } => self.lies_inside(*object, *field),
+            Record::Undo {
+                t,
+                object,
+                field,
+                word,
+            } => self.is_newest(*t, entry(*object, *field, *word)),
+            Record::Commit { .. } => true,
+            Record::End { t } => self.undo.of(*t).is_empty(),
+        }
+    }
+
+    // The field lies in the used words of the current space.
+    fn lies_inside(&self, object: u32, field: u16) -> bool
+        ensures answer { result ≡ lies_inside self.now object field }
+        ensures inside { result ≡ true → field_at object field < words_in self.now.pages }
+    {
+        let address = u64::from(object) + u64::from(FIELDS_AT) + u64::from(field);
+        object >= self.base && address < u64::from(self.base) + u64::from(self.used)
+    }
+
+    // This is the newest write of transaction `t` that may be taken back.
+    fn is_newest(&self, t: u32, write: UndoEntry) -> bool
+        ensures answer { result ≡ is_some (without_newest (undo_of self.now t) write) }
+        ensures inside { result ≡ true → field_at write.object write.field < words_in self.now.pages }
+    {
+        ends_with(self.undo.of(t), write)
+    }
+}
+
+// This is the newest write, which stands last.
+fn ends_with(list: &[UndoEntry], write: UndoEntry) -> bool
+    ensures { result ≡ is_some (without_newest (reverse list.now) write) }
+{
+    match list.last() {
+        Some(newest) => *newest == write,
+        None => false,
+    }
+}
+
+// What a write replaced.
+fn entry(object: u32, field: u16, was: u64) -> UndoEntry
+    ensures { result ≡ record { object = object; field = field; was = was } }
+{
+    UndoEntry { object, field, was }
+}
+
+// A transaction can have this number.
+fn is_number(t: u32) -> bool
+    ensures { result ≡ is_number t }
+{
+    1 <= t && t <= LAST_NUMBER
+}
+
+// The number of the record's transaction.
+fn number(rec: &Record) -> u32
+    ensures { result ≡ number_of rec.now }
+{
+    match rec {
+        Record::Update { t, .. }
+        | Record::Undo { t, .. }
+        | Record::Commit { t }
+        | Record::End { t } => *t,
+    }
+}
