@@ -21,3 +21,5 @@ pub mod CoreLawsReplies
 pub mod CoreLawsCalls
 pub mod CoreLawsEnding
 pub mod CoreLawsGrow
+pub mod CoreLawsOneMeaning
+pub mod CoreLawsOpening
