@@ -1,5 +1,5 @@
 -- An image stands for one graph, up to the names of objects, and for one number of commits.
-use Rattle.std.proofs.Common.{◌≡◌, ℕ, ◌+◌, ◌≤◌, List, Some, length, take, refl, sym, ap, ◌∙◌, subst, arith, lit<}
+use Rattle.std.proofs.Common.{◌≡◌, ℕ, List, Some, sym, ◌∙◌, subst, arith}
 use Rattle.disk_model.specs.Disk.{part}
 use Rattle.gate_slot.specs.Images.{length_part}
 use Rattle.graph_model.specs.Graph.{Graph}
@@ -8,13 +8,10 @@ use Rattle.image_plan.specs.declared.superblock.Super.{Super}
 use Rattle.image_plan.specs.Plan.{log_offset}
 use Rattle.image_plan.specs.SuperLaws.{one_super}
 use Rattle.log_records.specs.declared.Record.{Record}
-use Rattle.gated_log.specs.Log.{HoldsBatches}
 use Rattle.gated_log.specs.LogLaws.{holds_once}
-use Rattle.log_machine.specs.Machine.{State, start, after_all}
 use Rattle.object_layout.specs.Layout.{id_at, IsSeen}
 use Rattle.object_layout.specs.SeenLaws.{seen_canon}
 use Rattle.heap_model.specs.Image.{words_of, IsLegalLog, Holds, IsLegal, Says, StandsFor}
-use Rattle.gated_log.specs.Log.{records_of}
 
 -- an image holds one superblock
 pub one_held : (s r : Super) (bs cs : List (List Record)) (image : List ℕ) → IsLegal s bs image → IsLegal r cs image → s ≡ r

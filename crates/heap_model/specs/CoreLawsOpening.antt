@@ -1,45 +1,27 @@
 -- Laws of an opening: the batches behind it are a legal log that says the same graph and commits, and the core that it opens is reached.
-use Rattle.std.proofs.Common.{◌≡◌, ℕ, ◌+◌, ◌≤◌, ◌⊎◌, inl, inr, List, [], ◌∷◌, ◌++◌, map, length, take, drop, max, Some, unwrap_or, refl, sym, ap, ◌∙◌, subst, arith, take-append-drop}
-use Rattle.std.specs.Prelude.{fold, slice_index, option_and_then}
+use Rattle.std.proofs.Common.{◌≡◌, ℕ, ◌+◌, ◌≤◌, List, [], ◌∷◌, ◌++◌, length, Some, refl, sym, ap, ◌∙◌, subst, arith}
 use Rattle.std.specs.List.{AllByRecursion}
-use Rattle.std.specs.FinMap.{get}
-use Rattle.std.proofs.lemmas.List.{append-nil}
-use Rattle.std.proofs.lemmas.Option.{option_and_then_some}
-use Rattle.disk_model.specs.Disk.{part, SameOutside}
-use Rattle.gate_slot.specs.Images.{same_part}
-use Rattle.graph_model.specs.declared.val.Val.{Val}
-use Rattle.graph_model.specs.declared.val.Val.TheVariants.{Null, Int, Ref}
-use Rattle.graph_model.specs.Graph.{Graph, root, fields, new_graph}
-use Rattle.graph_model.specs.History.{nothing_yet}
-use Rattle.graph_model.specs.RootOnly.{IsRootOnly-of}
+use Rattle.graph_model.specs.Graph.{Graph}
 use Rattle.image_plan.specs.declared.superblock.Super.{Super}
-use Rattle.image_plan.specs.Plan.{log_offset, frame_offset}
-use Rattle.image_plan.specs.Super.{IsSuper}
 use Rattle.log_records.specs.declared.Record.{Record}
 use Rattle.log_records.specs.Record.{spellings, IsRecord}
-use Rattle.log_machine.specs.Machine.{State, Loser, start, after, after_all, number_of, words, committed_words, commits, losing, abort_each, rollback, reserve}
+use Rattle.log_machine.specs.Machine.{State, Loser, start, after_all, words, committed_words, commits, losing, abort_each, rollback, reserve}
 use Rattle.log_machine.specs.ListLaws.{AllByRecursion-append}
 use Rattle.log_machine.specs.MachineLaws.{after_all-append2, words-append, commits-append}
-use Rattle.log_machine.specs.StateLaws.{turns, leads_after_all, commits-start, can_roll_back}
+use Rattle.log_machine.specs.StateLaws.{can_roll_back}
 use Rattle.log_machine.specs.Sound.{CanRollBack}
 use Rattle.log_machine.specs.AbortLaws.{settled, rollback_reaches, rollback_words, rollback_commits, rollback_fits, rollback_good}
 use Rattle.log_machine.specs.CommittedLaws.{committed_words_at, committed_words-rollback}
-use Rattle.gated_log.specs.Log.{HoldsBatches, batches_bytes, records_of}
+use Rattle.gated_log.specs.Log.{batches_bytes, records_of}
 use Rattle.object_layout.specs.Layout.{IsSeen}
-use Rattle.object_layout.specs.RootLaws.{IsRootWord, AreRootWords, StandsAlone}
 use Rattle.object_layout.specs.Walk.{IsWalked, HaveOwnBirths, AreBornBefore}
-use Rattle.heap_model.specs.Core.{Core, need}
-use Rattle.heap_model.specs.CoreCrash.{StandsForFirst, KeepsCommits}
+use Rattle.heap_model.specs.Core.{need}
 use Rattle.heap_model.specs.CoreLawsCrash.{records_of-with_batch, length-with_batch}
-use Rattle.heap_model.specs.CoreLawsLegal.{with_next, after_all_moved, legal_base, legal_used, legal_alone, legal_four, legal_fit, shown_root, root_shows, root_legal}
+use Rattle.heap_model.specs.CoreLawsLegal.{legal_base}
 use Rattle.heap_model.specs.CoreLawsLone.{none_reserve}
-use Rattle.heap_model.specs.CoreLawsReplies.{hears_nothing}
 use Rattle.heap_model.specs.CoreLawsRoom.{length-hand-append}
-use Rattle.heap_model.specs.CoreLawsRoot.{all_lead, stands_alone}
-use Rattle.heap_model.specs.CoreValid.{at_first, Behind, IsTold, Agrees, IsValid, IsReached}
-use Rattle.heap_model.specs.Image.{words_of, IsLegalLog, Holds, IsLegal, Shows, Says, StandsFor}
-use Rattle.heap_model.specs.Opening.{state_of, rollback_in, rollback_of, rolled_back, next_in, next_of, opened}
-use Rattle.heap_model.specs.ValueWord.{word_of, root_values, IsRootVal}
+use Rattle.heap_model.specs.Image.{words_of, IsLegalLog, Shows, Says}
+use Rattle.heap_model.specs.Opening.{rollback_in, rollback_of, rolled_back, next_in, next_of}
 
 need_most : (rs : List Record) → need [] rs ≤ length (spellings rs) + 5
 need_most [] = omega arith

@@ -23,3 +23,4 @@ pub mod CoreLawsEnding
 pub mod CoreLawsGrow
 pub mod CoreLawsOneMeaning
 pub mod CoreLawsOpening
+pub mod CoreLawsOpened
