@@ -24,3 +24,5 @@ pub mod CoreLawsGrow
 pub mod CoreLawsOneMeaning
 pub mod CoreLawsOpening
 pub mod CoreLawsOpened
+pub mod CoreLawsNew
+pub mod CoreLawsHeld
