@@ -1,29 +1,25 @@
 -- What a crash leaves of a reached core: the graph of the first commits since its opening, among them all that were acknowledged.
-use Rattle.std.proofs.Common.{◌≡◌, ◌⊎◌, inl, inr, ℕ, ◌+◌, ◌≤◌, List, [], ◌∷◌, ◌++◌, length, take, Option, None, Some, refl, sym, ap, ◌∙◌, subst, arith}
-use Rattle.std.specs.List.{AllByRecursion}
+use Rattle.std.proofs.Common.{◌≡◌, ◌⊎◌, inl, inr, ℕ, ◌+◌, ◌≤◌, List, [], ◌∷◌, ◌++◌, length, take, Option, None, refl, sym, ap, ◌∙◌, subst, arith}
 use Rattle.std.specs.Option.{option_to_list}
 use Rattle.std.proofs.lemmas.List.{append-nil}
-use Rattle.graph_model.specs.Graph.{Graph}
 use Rattle.graph_model.specs.Transaction.{Transaction, serial}
 use Rattle.graph_model.specs.History.{account, sealed, commits, acknowledged}
 use Rattle.image_plan.specs.declared.superblock.Super.{Super}
 use Rattle.image_plan.specs.Super.{IsSuper}
 use Rattle.log_records.specs.declared.Record.{Record}
-use Rattle.log_records.specs.Record.{IsRecord}
 use Rattle.gated_log.specs.Log.{batches_bytes, hand, records_of, with_batch}
 use Rattle.log_machine.specs.Machine.{start, after_all, committed_words, reserve}
-use Rattle.log_machine.specs.Machine as machine
 use Rattle.object_layout.specs.Layout.{IsSeen}
 use Rattle.object_layout.specs.RootLaws.{StandsAlone}
 use Rattle.heap_model.specs.Core.{Core, forced}
-use Rattle.heap_model.specs.CoreCrash.{StandsForFirst, KeepsCommits}
-use Rattle.heap_model.specs.CoreValid.{Behind, IsTold, IsSound, IsReached}
+use Rattle.heap_model.specs.CoreCrash.{KeepsCommits}
+use Rattle.heap_model.specs.CoreValid.{Behind, IsTold, IsSound}
 use Rattle.heap_model.specs.CoreLawsGranted.{all_on_disk, undo_fits}
 use Rattle.heap_model.specs.CoreLawsLegal.{with_next, after_all_moved, committed_words-next, legal_base, root_legal}
 use Rattle.heap_model.specs.CoreLawsRecords.{told_commits, told_alone, told_seen}
 use Rattle.heap_model.specs.CoreLawsRoom.{records_of-append, length-forced}
 use Rattle.heap_model.specs.CoreLawsRun.{sound_agrees}
-use Rattle.heap_model.specs.Image.{words_of, Shows, IsLegalLog, Holds, Says}
+use Rattle.heap_model.specs.Image.{words_of, IsLegalLog, Holds, Says}
 
 -- The disk holds the batches that were forced, or those that wait as one more.
 abbrev pub IsOnDisk : Core → List (List Record) → Type 0

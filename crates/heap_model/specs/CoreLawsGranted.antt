@@ -1,7 +1,6 @@
 -- An event that is granted leaves a core that agrees with its history.
-use Rattle.std.proofs.Common.{◌≡◌, ◌≢◌, ◌⊎◌, inl, inr, ℕ, ◌+◌, ◌*◌, ◌<◌, ◌≤◌, Bool, true, false, cond, List, [], ◌∷◌, ◌++◌, length, take, Option, Some, None, refl, sym, ap, ◌∙◌, subst, arith, length-append, append_assoc}
+use Rattle.std.proofs.Common.{◌≡◌, ◌≢◌, ◌⊎◌, inl, inr, ℕ, ◌+◌, ◌<◌, ◌≤◌, Bool, true, false, cond, List, [], ◌∷◌, ◌++◌, length, take, Option, Some, None, refl, sym, ap, ◌∙◌, subst, arith, length-append, append_assoc}
 use Rattle.std.specs.Prelude.{slice_set, option_to_list}
-use Rattle.std.specs.List.{AllByRecursion}
 use Rattle.std.proofs.lemmas.Bool.{leb-false, ne_eqb}
 use Rattle.std.proofs.lemmas.List.{append-nil}
 use Rattle.std.proofs.Math.Seq.{take-length}
@@ -22,7 +21,7 @@ use Rattle.graph_model.specs.Plain.{view, no_number, field_refusal}
 use Rattle.log_records.specs.declared.Record.{Record}
 use Rattle.log_records.specs.declared.Record.TheVariants.{Commit}
 use Rattle.log_machine.specs.declared.UndoEntry.{UndoEntry}
-use Rattle.log_machine.specs.Machine.{State, start, after_all, is_number, undo_of, undo_bytes, reserve, abort_records}
+use Rattle.log_machine.specs.Machine.{start, after_all, is_number, undo_bytes, reserve}
 use Rattle.log_machine.specs.MachineLaws.{number_in_range}
 use Rattle.gated_log.specs.Log.{batches_bytes, records_of, hand}
 use Rattle.heap_model.specs.Core.{Core, all_records, undo_with, undo_behind, write_records, view_records, update, call_records, used, need, kept_for, forced}

@@ -1,5 +1,5 @@
 -- Legal logs of heaps whose only object is the root: what is seen of them, and which logs are legal.
-use Rattle.std.proofs.Common.{◌≡◌, ℕ, ◌+◌, ◌≤◌, inl, ⊎_elim, zero, suc, unwrap_or, lit<, List, [], ◌∷◌, map, length, take, drop, Option, Some, None, Bool, true, false, cond, max, refl, sym, ap, ◌∙◌, subst, arith}
+use Rattle.std.proofs.Common.{◌≡◌, ℕ, ◌+◌, ◌≤◌, inl, ⊎_elim, suc, unwrap_or, lit<, List, [], ◌∷◌, map, length, take, drop, Option, Some, None, Bool, true, false, cond, max, refl, sym, ap, ◌∙◌, subst, arith}
 use Rattle.std.specs.Prelude.{Contains, slice_get, slice_index, option_and_then}
 use Rattle.std.specs.List.{AllByRecursion}
 use Rattle.std.specs.Option.{option_map}
@@ -23,7 +23,6 @@ use Rattle.log_records.specs.declared.Record.TheVariants.{Update, Undo, Commit, 
 use Rattle.log_records.specs.Record.{IsRecord}
 use Rattle.log_machine.specs.declared.UndoEntry.{UndoEntry}
 use Rattle.log_machine.specs.Machine.{State, start, after, after_all, row_after, turned, number_of, is_number, lies_inside, undo_of, with_entries, without_newest, has_none, committed_words, losing_in, each_taken_back, words, reserve}
-use Rattle.log_machine.specs.MachineLaws.{told_if}
 use Rattle.log_machine.specs.StateLaws.{leads_after_all}
 use Rattle.gated_log.specs.Log.{records_of, batches_bytes}
 use Rattle.object_layout.specs.Layout.{object_at, field_words, birth_at, id_at, values, at_start, IsSeen}

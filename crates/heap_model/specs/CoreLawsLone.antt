@@ -1,11 +1,11 @@
 -- Where one transaction's writes may be taken back, or none: what each record makes of them.
-use Rattle.std.proofs.Common.{◌≡◌, ℕ, ◌+◌, ◌≤◌, List, [], ◌∷◌, Option, Some, None, unwrap_or, refl, sym, ap, ◌∙◌, subst, arith}
-use Rattle.std.specs.Prelude.{sum_by, fold}
+use Rattle.std.proofs.Common.{◌≡◌, ℕ, ◌≤◌, List, [], ◌∷◌, unwrap_or, refl, ap, ◌∙◌, arith}
+use Rattle.std.specs.Prelude.{sum_by}
 use Rattle.std.specs.Ordering.{nat_cmp}
 use Rattle.std.specs.Cmp.{nat_cmp_total}
-use Rattle.std.specs.FinMap.{FinMap, empty, insert, remove, get, entries, put, get-empty, entries-insert}
+use Rattle.std.specs.FinMap.{empty, insert, remove, entries, put, get-empty, entries-insert}
 use Rattle.log_machine.specs.declared.UndoEntry.{UndoEntry}
-use Rattle.log_machine.specs.Machine.{State, undo_in, undo_of, with_entries, Loser, losing, each_taken_back, taken_back, undo_bytes, reserve}
+use Rattle.log_machine.specs.Machine.{State, undo_in, with_entries, Loser, losing, each_taken_back, taken_back, undo_bytes, reserve}
 use Rattle.log_machine.specs.MapLaws.{get_inserted, insert_insert, remove_insert, remove_absent, entries_empty}
 use Rattle.heap_model.specs.CoreValid.{lone, IsOwn}
 

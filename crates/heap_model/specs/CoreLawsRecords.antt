@@ -1,5 +1,5 @@
 -- Laws of records that tell a graph: what they leave, and one record more.
-use Rattle.std.proofs.Common.{◌≡◌, ℕ, ◌+◌, ◌*◌, ◌<◌, ◌≤◌, List, [], ◌∷◌, ◌++◌, true, map, length, Some, refl, sym, ap, ◌∙◌, subst, arith}
+use Rattle.std.proofs.Common.{◌≡◌, ℕ, ◌+◌, ◌<◌, List, [], ◌∷◌, ◌++◌, true, map, length, refl, sym, ap, ◌∙◌, subst, arith}
 use Rattle.std.specs.Prelude.{slice_index_or, slice_set, fold}
 use Rattle.std.specs.List.{AllByRecursion}
 use Rattle.std.proofs.lemmas.List.{length-set}
@@ -12,7 +12,7 @@ use Rattle.log_records.specs.declared.Record.TheVariants.{Commit}
 use Rattle.log_records.specs.Record.{IsRecord}
 use Rattle.log_machine.specs.declared.UndoEntry.{UndoEntry}
 use Rattle.log_machine.specs.UndoEntry.{IsEntry}
-use Rattle.log_machine.specs.Machine.{State, start, after_all, with_word, words, taken_back, put_record, commits, undo_of, with_entries, is_number, turned, each_taken_back, losing_in, committed_words, abort_records}
+use Rattle.log_machine.specs.Machine.{start, after_all, with_word, words, taken_back, put_record, commits, undo_of, with_entries, is_number, turned, each_taken_back, losing_in, committed_words, abort_records}
 use Rattle.log_machine.specs.ListLaws.{AllByRecursion-append}
 use Rattle.log_machine.specs.MachineLaws.{after_all-append, after_all-append2, words-append, number_small, inside_from, after-Update, after-Commit}
 use Rattle.log_machine.specs.AbortLaws.{abort_reaches, abort_words, abort_good}

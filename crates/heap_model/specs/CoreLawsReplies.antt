@@ -18,8 +18,7 @@ use Rattle.graph_model.specs.History.{Account, nothing_yet, account, account_aft
 use Rattle.graph_model.specs.HistoryLaws.{IsCallReply, account-append, call_replies-append}
 use Rattle.graph_model.specs.Plain.{call_reply, granted, reply_of}
 use Rattle.graph_model.specs.PlainLaws.{IsNoFault, HasNoFault, call_reply-IsCallReply, granted-call, account_after-refused}
-use Rattle.log_records.specs.declared.Record.{Record}
-use Rattle.heap_model.specs.Core.{Core, next_number, core_refusal, forced, done, after_refusal, IsStep, IsRun}
+use Rattle.heap_model.specs.Core.{Core, next_number, core_refusal, IsStep, IsRun}
 use Rattle.heap_model.specs.CoreValid.{HearsSerial, AnswersSerially, IsSound, IsReached}
 use Rattle.heap_model.specs.CoreReplies.{Heard, nothing_heard, with_reply, hear_call, hear, heard_in, call_replies_of}
 use Rattle.heap_model.specs.CoreLawsGranted.{called}

@@ -1,6 +1,6 @@
 -- The root in the words: the words of its values, and the graph that is seen of them.
-use Rattle.std.proofs.Common.{◌≡◌, ℕ, zero, suc, ◌+◌, ◌*◌, ◌<◌, ◌⊎◌, inl, inr, List, [], ◌∷◌, ◌++◌, map, length, take, drop, Option, Some, None, Bool, true, false, cond, Ordering, Less, Equal, Greater, unwrap_or, refl, sym, ap, ◌∙◌, subst, arith, lit<}
-use Rattle.std.specs.Prelude.{slice_set, slice_get, Contains}
+use Rattle.std.proofs.Common.{◌≡◌, ℕ, suc, ◌+◌, ◌<◌, List, [], ◌∷◌, ◌++◌, map, length, take, Option, Some, None, Bool, true, false, cond, Ordering, Less, Equal, Greater, unwrap_or, refl, sym, ap, ◌∙◌, subst, arith, lit<}
+use Rattle.std.specs.Prelude.{slice_set}
 use Rattle.std.specs.List.{AllByRecursion}
 use Rattle.std.specs.Ordering.{eq_by_cmp, is_eq}
 use Rattle.std.specs.FinMap.{empty, get, get-empty, get-insert}
@@ -15,7 +15,7 @@ use Rattle.graph_model.specs.RootOnly.{LeadsToRoot}
 use Rattle.heap_words.specs.declared.Word.TheVariants as means
 use Rattle.heap_words.specs.Word.{IsFieldWord}
 use Rattle.log_machine.specs.Machine.{with_word}
-use Rattle.object_layout.specs.Layout.{IsMet, IsKnown, IsSeen, id_at}
+use Rattle.object_layout.specs.Layout.{IsKnown, IsSeen, id_at}
 use Rattle.object_layout.specs.RootLaws.{IsRootWord, AreRootWords, StandsAlone, root_seen}
 use Rattle.heap_model.specs.CoreValid.{at_first}
 use Rattle.heap_model.specs.ListLaws.{AllByRecursion-map}

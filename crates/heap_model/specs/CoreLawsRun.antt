@@ -1,6 +1,5 @@
 -- What is reached by steps of one session.
 use Rattle.std.proofs.Common.{◌≡◌, ◌≢◌, ◌<◌, arith, ◌⊎◌, inl, inr, ℕ, ◌+◌, List, [], ◌∷◌, ◌++◌, Option, Some, None, refl, sym, ap, ◌∙◌, subst}
-use Rattle.std.specs.List.{AllByRecursion}
 use Rattle.graph_model.specs.declared.event.Event.{Event}
 use Rattle.graph_model.specs.declared.event.Event.TheVariants.{Force}
 use Rattle.graph_model.specs.declared.reply.Entry.{Entry}

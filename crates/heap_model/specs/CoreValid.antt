@@ -7,7 +7,6 @@ use Rattle.std.specs.FinMap.{FinMap}
 use Rattle.std.specs.FinMap as finmap
 use Rattle.graph_model.specs.declared.id.Id.{Id}
 use Rattle.graph_model.specs.declared.val.Val.{Val}
-use Rattle.graph_model.specs.declared.val.Val.TheVariants.{Null, Int, Ref}
 use Rattle.graph_model.specs.Graph.{Graph, root}
 use Rattle.graph_model.specs.Graph as graph
 use Rattle.graph_model.specs.RootOnly.{IsRootOnly}

@@ -21,3 +21,8 @@ pub mod CoreLawsReplies
 pub mod CoreLawsCalls
 pub mod CoreLawsEnding
 pub mod CoreLawsGrow
+pub mod CoreLawsOneMeaning
+pub mod CoreLawsOpening
+pub mod CoreLawsOpened
+pub mod CoreLawsNew
+pub mod CoreLawsHeld

@@ -99,6 +99,20 @@ impl LogState {
         self.commits
     }
 
+    /// The address of the current space's first word.
+    pub fn base(&self) -> u32
+        ensures { result ≡ self.now.base }
+    {
+        self.base
+    }
+
+    /// How many words of the current space its objects take.
+    pub fn used(&self) -> u32
+        ensures { result ≡ self.now.used }
+    {
+        self.used
+    }
+
     /// The number of the next transaction.
     pub fn next(&self) -> u32
         ensures { result ≡ self.now.next }

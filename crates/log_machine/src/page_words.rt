@@ -59,6 +59,13 @@ impl PageWords {
         self.words.len()
     }
 
+    /// The words, by address.
+    pub fn as_slice(&self) -> &[u64]
+        ensures { result.now ≡ self.now }
+    {
+        &self.words
+    }
+
     /// The word at an address.
     pub fn word(&self, at: u32) -> u64
         requires { at < length self.now }

@@ -7,5 +7,6 @@ pub mod ReadLaws
 pub mod RootLaws
 pub mod SeenLaws
 pub mod Walk
+pub mod WalkFailure
 pub mod WalkLaws
 pub mod WalkedLaws

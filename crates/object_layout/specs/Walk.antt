@@ -1,5 +1,5 @@
 -- The walk of a space: its used words are objects end to end, and their fields lead to no other place.
-use Rattle.std.specs.Prelude.{◌≡◌, ℕ, ◌+◌, ◌^◌, ◌≤◌, ◌<◌, ◌⊎◌, List, [], ◌∷◌, take, slice_get, Option, None, Some, Contains}
+use Rattle.std.specs.Prelude.{◌≡◌, ℕ, ◌+◌, ◌^◌, ◌≤◌, ◌<◌, ◌⊎◌, List, [], ◌∷◌, length, take, slice_get, slice_index, Option, None, Some, Contains}
 use Rattle.heap_words.specs.declared.Word.{Word}
 use Rattle.heap_words.specs.declared.Word.TheVariants.{Null, Int, Stable}
 use Rattle.heap_words.specs.Header.{birth_bits}
@@ -66,3 +66,11 @@ IsBornBefore next birth = (t : ℕ) × (k : ℕ) × (birth ≡ birth_bits t k) �
 -- each of these objects but the root at the base has such a birth
 abbrev pub AreBornBefore : ℕ → List ℕ → ℕ → List ℕ → Type 0
 AreBornBefore next words base starts = (at : ℕ) → Contains starts at → (at ≡ base) ⊎ IsBornBefore next (birth_at words at)
+
+-- these words are fields that lead to no other place
+abbrev pub AreInside : List ℕ → List ℕ → Type 0
+AreInside starts ws = (i w : ℕ) → slice_get ws i ≡ Some w → IsInside starts (meaning w)
+
+-- addresses in ascending order
+abbrev pub AreAscending : List ℕ → Type 0
+AreAscending starts = (i j : ℕ) → i ≤ j → j < length starts → slice_index starts i ≤ slice_index starts j

@@ -1,12 +1,12 @@
 use Rattle.std.proofs.Common.{◌≡◌, take, Some}
 use Rattle.log_machine.specs.Machine.{start, after_all, words}
 use Rattle.heap_recovery.proofs.Replay.{Bounds}
-use Rattle.heap_recovery.proofs.recovery.replay.Given as goal
+use Rattle.heap_recovery.proofs.reading.replay.Given as goal
 
 -- the state and the words are those of the records so far
 abbrev pub invariant-loop-i : goal.invariant-loop-i
 invariant-loop-i l = record {
-  state : after_all start (take l.i l.records) ≡ Some l.state;
-  words : l.words ≡ words (take l.i l.records);
-  bounds : Bounds l.i l.state;
+  state : after_all (start l.pages l.first) (take l.i l.records) ≡ Some l.state;
+  words : l.words ≡ words l.pages (take l.i l.records);
+  bounds : Bounds l.pages l.i l.state;
 }
