@@ -8,7 +8,7 @@ use Rattle.graph_model.specs.declared.id.Id.{Id}
 use Rattle.graph_model.specs.declared.val.Val.{Val}
 use Rattle.graph_model.specs.declared.val.Val.TheVariants.{Null, Int}
 use Rattle.graph_model.specs.declared.event.Event.{Event}
-use Rattle.graph_model.specs.declared.event.Event.TheVariants.{Begin, Root, Put, Clear, Drop, Get, Same, Len, Seal, Abort, Force}
+use Rattle.graph_model.specs.declared.event.Event.TheVariants.{Begin, Root, Put, Clear, Drop, Get, Same, Len, Seal, Abort}
 use Rattle.graph_model.specs.declared.reply.Refusal.{Refusal}
 use Rattle.graph_model.specs.declared.reply.Refusal.TheVariants.{AlreadyActive, NotActive, NumbersSpent, BadHandle, Range, BadField}
 use Rattle.graph_model.specs.Graph.{Graph, root, fields}
@@ -28,7 +28,7 @@ use Rattle.heap_model.specs.CoreLawsGranted.{called, idle_with, need_nothing, un
 use Rattle.heap_model.specs.CoreLawsRecords.{entry_at, written, told_write}
 use Rattle.heap_model.specs.CoreLawsRoom.{reserved-one}
 use Rattle.heap_model.specs.CoreLawsRun.{first_alone}
-use Rattle.heap_model.specs.CoreLawsStep.{is_write, call_account, unfailed_refusal, log_quiet, log_seal, log_abort, log_force}
+use Rattle.heap_model.specs.CoreLawsStep.{is_write, call_account, unfailed_refusal, log_quiet, log_seal, log_abort}
 use Rattle.heap_model.specs.ValueWord.{IsRootVal}
 use Rattle.heap_core.specs.Means.{IsActive, Works}
 use Rattle.heap_core.specs.Working.{no_room, begin_refusal, handle_refusal, held_refusal, field_refusal, range_refusal, write_room, write_refusal, put_refusal, clear_refusal, get_refusal, same_refusal, end_refusal}
@@ -94,9 +94,6 @@ abort_same w c valid works =
     unfailed_refusal c (Abort 1) valid.unfailed
     ∙ first_alone _ (log_refusal c (Abort 1)) (log_abort c valid)
     ∙ (end_cases c.g0 a _ (a.active 1) w.active works.active).1
-
-pub force_same : (c : Core) → IsValid c → core_refusal c Force ≡ None
-force_same c valid = unfailed_refusal c Force valid.unfailed ∙ first_alone None _ (log_force c valid)
 
 -- the root has four fields, of which the active transaction sees those that the records left
 pub now_fields : (c : Core) (t : Transaction) → (valid : IsValid c) → (account c.history).active 1 ≡ Some t → fields (view c.g0 (account c.history) t).graph root ≡ valid.behind.now

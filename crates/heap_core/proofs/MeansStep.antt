@@ -6,7 +6,7 @@ use Rattle.std.specs.Option.{option_to_list}
 use Rattle.std.proofs.lemmas.Bool.{leb-false}
 use Rattle.std.proofs.lemmas.List.{append-nil}
 use Rattle.gated_log.specs.Log.{records_of}
-use Rattle.gated_log.specs.LogState.{log_place, log_room, log_hand}
+use Rattle.gated_log.specs.LogState.{log_place, log_room}
 use Rattle.graph_model.specs.declared.id.Id.{Id}
 use Rattle.graph_model.specs.declared.val.Val.{Val}
 use Rattle.graph_model.specs.declared.val.Val.TheVariants.{Null, Int, Ref}
@@ -26,7 +26,6 @@ use Rattle.graph_model.specs.Plain.{no_int, view, call_refusal, call_reply, gran
 use Rattle.graph_model.specs.PlainLaws.{IsNoFault, HasNoFault, account_after-refused, call_reply-done}
 use Rattle.log_records.specs.declared.Record.{Record}
 use Rattle.log_records.specs.declared.Record.TheVariants.{Update, Commit}
-use Rattle.log_records.specs.Record.{spelling, spellings}
 use Rattle.log_machine.specs.declared.UndoEntry.{UndoEntry}
 use Rattle.log_machine.specs.Machine.{field_at, words, put_record, taken_back, abort_records}
 use Rattle.log_machine.specs.MachineLaws.{words-append}
@@ -43,9 +42,9 @@ use Rattle.heap_model.specs.ValueWord.{word_of, value_meant, value_of, IsRootVal
 use Rattle.heap_core.specs.declared.active.Active.{Active}
 use Rattle.heap_core.specs.declared.working.Working.{Working}
 use Rattle.heap_core.specs.Means.{IsActive, Works}
-use Rattle.heap_core.specs.Working.{Seen, seen_active, new_seen, with_handle, with_read, with_write, IsGranted, begin_refusal, handle_refusal, held_refusal, field_refusal, range_refusal, write_refusal, put_refusal, clear_refusal, get_refusal, same_refusal, end_refusal, field_word, field_reply, SameLog, IsAsItWas, Begins, SetsHandle, Gets, Writes, Seals, Aborts}
+use Rattle.heap_core.specs.Working.{Seen, seen_active, new_seen, with_handle, with_read, with_write, IsGranted, begin_refusal, handle_refusal, held_refusal, field_refusal, range_refusal, write_refusal, put_refusal, clear_refusal, get_refusal, same_refusal, end_refusal, field_word, field_reply, Adds, IsAsItWas, Begins, SetsHandle, Gets, Writes, Seals, Aborts}
 use Rattle.heap_core.proofs.MeansActive.{kept, active_of, seen_is, is_seen, is_some_active, has_active, same_handles, root_handle, drop_handle, read_handle}
-use Rattle.heap_core.proofs.MeansLog.{keeps_same, keeps_all}
+use Rattle.heap_core.proofs.MeansLog.{keeps_same}
 use Rattle.heap_core.proofs.MeansRefusal.{begin_same, root_same, drop_same, put_same, clear_same, get_same, same_same, len_same, seal_same, abort_same, now_fields, four_fields, undo_written, get_cases, same_cases, len_cases}
 
 -- another history, and one entry more, change nothing of this
@@ -179,8 +178,8 @@ module _ (w new : Working) (c : Core) (valid : IsValid c) (works : Works w (acco
   pub as_it_was : IsAsItWas w new → Works new a c
   as_it_was same = record {
     log = keeps_same w.log new.log c.batches c.pending same.log works.log;
-    place = same.log.at ∙ works.place;
-    room = same.log.room ∙ works.room;
+    place = same.log.place.at ∙ works.place;
+    room = same.log.place.room ∙ works.room;
     stored = same.words ∙ works.stored;
     active = is_seen g undo (a.active 1) new.active (same.active ∙ in_memory);
     next = same.next ∙ works.next;
@@ -319,21 +318,18 @@ module _ (w new : Working) (c : Core) (valid : IsValid c) (works : Works w (acco
       (λ why is. stays (refused why is))
 
   -- more records wait
-  appended : (b : Account) (more : List Record) → SameLog w.log new.log (log_hand w.log ++ spellings more) → new.words ≡ fold put_record w.words more
+  appended : (b : Account) (more : List Record) → Adds w.log new.log more → new.words ≡ fold put_record w.words more
       → IsActive (serial c.g0 b.sealed) (undo_behind c (records_of c.batches ++ (c.pending ++ more))) (b.active 1) new.active → new.next ≡ c.first + b.begun → new.sealed ≡ length b.sealed
       → Works new b (record c { pending = c.pending ++ more })
   appended b more log stored active next sealed = record {
-    log = keeps_all w.log new.log c.batches c.pending more log works.log;
-    place = log.at ∙ works.place;
-    room = log.room ∙ works.room;
+    log = log.kept c.batches c.pending works.log;
+    place = log.place.at ∙ works.place;
+    room = log.place.room ∙ works.room;
     stored = stored ∙ ap (λ (ws : List ℕ). fold put_record ws more) works.stored ∙ sym (words-append c.pages (all_records c) more) ∙ ap (words c.pages) (append_assoc (records_of c.batches) c.pending more);
     active = active;
     next = next;
     sealed = sealed;
   }
-
-  one_spelled : (r : Record) → SameLog w.log new.log (log_hand w.log ++ spelling r) → SameLog w.log new.log (log_hand w.log ++ spellings (r ∷ []))
-  one_spelled r log = subst (λ (l : List ℕ). SameLog w.log new.log (log_hand w.log ++ l)) (sym (append-nil (spelling r))) log
 
   -- the transaction in memory is the core's
   mine : (t : Transaction) (x : Active) → a.active 1 ≡ Some t → w.active ≡ Some x → (x.number ≡ t.number) × (reverse x.undo.items ≡ undo t.number)
@@ -355,7 +351,7 @@ module _ (w new : Working) (c : Core) (valid : IsValid c) (works : Works w (acco
       let own = (mine t writes.active e writes.was_active).0 in
       let spelled : Update writes.active.number 0 i (field_word w.words i) (word_of at_first v) ≡ r =
       ap (λ (n : ℕ). Update n 0 i (field_word w.words i) (word_of at_first v)) own ∙ ap (λ (n : ℕ). Update t.number 0 i n (word_of at_first v)) (field_is i lt) in
-      let log = one_spelled r (subst (λ (x : Record). SameLog w.log new.log (log_hand w.log ++ spelling x)) spelled writes.log) in
+      let log = subst (λ (x : Record). Adds w.log new.log (x ∷ [])) spelled writes.log in
       let undo' = undo_behind c (records_of c.batches ++ (c.pending ++ r ∷ [])) in
       let last : undo' t.number ≡ entry_at now i ∷ undo t.number =
       ap (λ (rs : List Record). undo_behind c rs t.number) (sym (append_assoc (records_of c.batches) c.pending (r ∷ [])))
@@ -416,7 +412,7 @@ module _ (w new : Working) (c : Core) (valid : IsValid c) (works : Works w (acco
       let b = account_after a (record { event = Seal 1; reply = Sealed (length a.sealed + 1) }) in
       let more : List Record = Commit t.number ∷ [] in
       let records : event_records c (Seal 1) ≡ more = ap (λ (o : Option Transaction). call_records at_first c.g0 a undo o (Seal 1)) e in
-      let log = one_spelled (Commit t.number) (subst (λ (n : ℕ). SameLog w.log new.log (log_hand w.log ++ spelling (Commit n))) (mine t seals.active e seals.was_active).0 seals.log) in
+      let log = subst (λ (n : ℕ). Adds w.log new.log (Commit n ∷ [])) (mine t seals.active e seals.was_active).0 seals.log in
       let count : new.sealed ≡ length b.sealed =
       seals.sealed ∙ ap (λ (n : ℕ). n + 1) works.sealed ∙ sym (ap (λ (o : Option Transaction). length (a.sealed ++ option_to_list o)) e ∙ length-append a.sealed (t ∷ [])) in
       subst (λ (rs : List Record). Works new b (record c { pending = c.pending ++ rs })) (sym records)
@@ -441,7 +437,7 @@ module _ (w new : Working) (c : Core) (valid : IsValid c) (works : Works w (acco
       let own = mine t aborts.active e aborts.was_active in
       let same : abort_records aborts.active.number (reverse aborts.active.undo.items) ≡ more =
       ap (λ (n : ℕ). abort_records n (reverse aborts.active.undo.items)) own.0 ∙ ap (abort_records t.number) own.1 in
-      let log = subst (λ (rs : List Record). SameLog w.log new.log (log_hand w.log ++ spellings rs)) same aborts.log in
+      let log = subst (λ (rs : List Record). Adds w.log new.log rs) same aborts.log in
       let stored : new.words ≡ fold put_record w.words more = aborts.words ∙ ap (λ (us : List UndoEntry). taken_back us w.words) own.1 ∙ sym (abort_words t.number (undo t.number) w.words) in
       subst (λ (rs : List Record). Works new b (record c { pending = c.pending ++ rs })) (sym records)
       (appended b more log stored (none_left b.sealed more aborts.not_active) (aborts.next ∙ works.next) (aborts.sealed ∙ works.sealed))

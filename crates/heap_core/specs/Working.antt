@@ -1,7 +1,7 @@
 -- What the events of a session do to the working state.
 use Rattle.std.specs.Prelude.{◌≡◌, ℕ, ◌+◌, ◌==◌, nat_lt, nat_le, List, [], ◌∷◌, ◌++◌, replicate, reverse, Bool, true, false, Option, None, Some, is_some, unwrap_or, slice_get, slice_set, slice_index, vec_len, if◌then◌else◌}
 use Rattle.gated_log.specs.declared.Log.{Log}
-use Rattle.gated_log.specs.LogState.{log_place, log_room, log_tail, log_hand, log_used, log_need}
+use Rattle.gated_log.specs.LogState.{log_room, log_used, log_need, IsPlaced, IsSameLog, Keeps}
 use Rattle.graph_model.specs.declared.reply.Refusal.{Refusal}
 use Rattle.graph_model.specs.declared.reply.Refusal.TheVariants.{AlreadyActive, NotActive, NumbersSpent, BadHandle, Range, BadField}
 use Rattle.graph_model.specs.declared.reply.Reply.{Reply}
@@ -10,8 +10,8 @@ use Rattle.graph_model.specs.declared.val.Val.{Val}
 use Rattle.graph_model.specs.declared.val.Val.TheVariants.{Null, Int, Ref}
 use Rattle.graph_model.specs.Plain.{no_number, no_int}
 use Rattle.graph_model.specs.Transaction.{value_reply}
+use Rattle.log_records.specs.declared.Record.{Record}
 use Rattle.log_records.specs.declared.Record.TheVariants.{Update, Commit}
-use Rattle.log_records.specs.Record.{spelling, spellings}
 use Rattle.log_machine.specs.declared.UndoEntry.{UndoEntry}
 use Rattle.log_machine.specs.Machine.{field_at, with_word, taken_back, abort_records, end_bytes}
 use Rattle.heap_core.specs.declared.active.Active.{Active}
@@ -126,16 +126,14 @@ abbrev pub IsGranted : Reply → Type 0
 IsGranted (Refused why) = ⊥
 IsGranted reply = Unit {0}
 
--- the log is where it was, with these records in hand
-pub record SameLog (old new : Log) (hand : List ℕ) : Type 0 where
-  pub at : log_place new ≡ log_place old
-  pub room : log_room new ≡ log_room old
-  pub tail : log_tail new ≡ log_tail old
-  pub in_hand : log_hand new ≡ hand
+-- The log has these records more in hand, and is where it was.
+pub record Adds (old new : Log) (records : List Record) : Type 0 where
+  pub place : IsPlaced old new
+  pub kept : (batches : List (List Record)) (pending : List Record) → Keeps old batches pending → Keeps new batches (pending ++ records)
 
 -- The working state is as it was.
 pub record IsAsItWas (old new : Working) : Type 0 where
-  pub log : SameLog old.log new.log (log_hand old.log)
+  pub log : IsSameLog old.log new.log
   pub words : new.words ≡ old.words
   pub active : seen_active new.active ≡ seen_active old.active
   pub next : new.next ≡ old.next
@@ -169,7 +167,7 @@ pub record Gets (old new : Working) (h : ℕ) (value : Val) : Type 0 where
 pub record Writes (old new : Working) (i word : ℕ) : Type 0 where
   pub active : Active
   pub was_active : old.active ≡ Some active
-  pub log : SameLog old.log new.log (log_hand old.log ++ spelling (Update active.number 0 i (field_word old.words i) word))
+  pub log : Adds old.log new.log (Update active.number 0 i (field_word old.words i) word ∷ [])
   pub words : new.words ≡ with_word old.words 0 i word
   pub now_active : seen_active new.active ≡ with_write (seen_active old.active) (record { object = 0; field = i; was = field_word old.words i })
   pub next : new.next ≡ old.next
@@ -179,7 +177,7 @@ pub record Writes (old new : Working) (i word : ℕ) : Type 0 where
 pub record Seals (old new : Working) : Type 0 where
   pub active : Active
   pub was_active : old.active ≡ Some active
-  pub log : SameLog old.log new.log (log_hand old.log ++ spelling (Commit active.number))
+  pub log : Adds old.log new.log (Commit active.number ∷ [])
   pub words : new.words ≡ old.words
   pub not_active : new.active ≡ None
   pub next : new.next ≡ old.next
@@ -189,7 +187,7 @@ pub record Seals (old new : Working) : Type 0 where
 pub record Aborts (old new : Working) : Type 0 where
   pub active : Active
   pub was_active : old.active ≡ Some active
-  pub log : SameLog old.log new.log (log_hand old.log ++ spellings (abort_records active.number (reverse active.undo.items)))
+  pub log : Adds old.log new.log (abort_records active.number (reverse active.undo.items))
   pub words : new.words ≡ taken_back (reverse active.undo.items) old.words
   pub not_active : new.active ≡ None
   pub next : new.next ≡ old.next
