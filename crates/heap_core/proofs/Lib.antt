@@ -1,6 +1,5 @@
 mod Calls
 mod Empty
-mod FieldRead
 mod MeansActive
 mod MeansForce
 pub mod MeansLeft
@@ -10,5 +9,4 @@ mod MeansRefusal
 mod MeansStep
 mod OpenErrors
 mod Room
-mod RootText
 mod Zeros

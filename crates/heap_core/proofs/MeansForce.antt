@@ -5,7 +5,6 @@ use Rattle.std.specs.declared.alloc.AllocError.{AllocError}
 use Rattle.std.proofs.lemmas.List.{append-nil}
 use Rattle.disk_model.specs.Disk.{part, Only, SameOutside}
 use Rattle.disk_model.specs.declared.disk.DiskError.{DiskError}
-use Rattle.gate_slot.specs.Images.{same_part}
 use Rattle.gated_log.specs.declared.Log.{Log}
 use Rattle.gated_log.specs.Log.{records_of, with_batch, HoldsBatches}
 use Rattle.gated_log.specs.LogLaws.{hand_size-Keeps}
@@ -24,7 +23,6 @@ use Rattle.graph_model.specs.HistoryLaws.{account-append, entries-account}
 use Rattle.graph_model.specs.Plain.{granted, reply_of}
 use Rattle.graph_model.specs.PlainLaws.{account_after-refused}
 use Rattle.image_plan.specs.declared.superblock.Super.{Super}
-use Rattle.image_plan.specs.Plan.{frame_offset}
 use Rattle.log_records.specs.declared.Record.{Record}
 use Rattle.log_records.specs.Record.{spellings}
 use Rattle.log_machine.specs.declared.UndoEntry.{UndoEntry}
@@ -35,6 +33,7 @@ use Rattle.heap_model.specs.CoreCrash.{KeepsCommits}
 use Rattle.heap_model.specs.CoreValid.{IsValid, IsSound, IsReached}
 use Rattle.heap_model.specs.CoreLawsCrash.{IsSuperOf, IsOnDisk, forced-with_batch, records_of-with_batch, crash_law}
 use Rattle.heap_model.specs.CoreLawsGranted.{writer_as, undo_active}
+use Rattle.heap_model.specs.CoreLawsHeld.{held_with}
 use Rattle.heap_model.specs.CoreLawsLone.{lone_words}
 use Rattle.heap_model.specs.CoreLawsRun.{sound_valid, failed_refusal, failed_after, calls-force, calls-unfailed, calls-forced, force_granted, after_history, step_history}
 use Rattle.heap_model.specs.CoreLawsStep.{done_records, valid_after}
@@ -74,15 +73,6 @@ force_does w new c reply valid works keeps at room stored active next sealed rep
           (λ why e. cc);
     }
 
--- a disk whose log holds other batches
-holds_other : (s : Super) (bs bs' : List (List Record)) (old new : List ℕ) → Holds s bs old → SameOutside 64 (64 + s.log_bytes) old new → HoldsBatches (part new 64 s.log_bytes) bs' → Holds s bs' new
-holds_other s bs bs' old new held outside log = record {
-  size = omega (arith, held.size, outside.size);
-  super = same_part 0 64 old new outside.size (λ i low high. outside.before i (omega arith)) ∙ held.super;
-  log = log;
-  frames = λ p f few one is. held.frames p f few one (sym (outside.behind (frame_offset s.log_bytes p f) (omega arith)) ∙ is);
-}
-
 -- another history, and other records, are of a heap with the same numbers
 of_same : (s : Super) (c d : Core) → IsSuperOf s c → d.pages ≡ c.pages → d.room ≡ c.room → IsSuperOf s d
 of_same s c d of pages room = record { limits = of.limits; pages = of.pages ∙ sym pages; room = of.room ∙ sym room }
@@ -118,7 +108,7 @@ disk_forced s c old new may_leave' may_leave valid disk outside holds only =
     let P : Core → Type 0 = λ d. OnDisk s (with_entry d Force (answer c Force)) new may_leave in
     subst P (sym forced_now) (record {
       of = of_same s c _ disk.of refl refl;
-      held = holds_other s c.batches (with_batch c.batches c.pending) old new disk.held outside holds;
+      held = held_with s c.batches (with_batch c.batches c.pending) old new disk.held outside holds;
       only = only;
     })
 
@@ -284,7 +274,7 @@ module _ (c : Core) (w : Working) (log : Log) (works : Works w (account c.histor
 
     kept_batches : (bs : List (List Record)) (image : List ℕ) → IsSound c → IsOnDisk c bs → SameOutside 64 (64 + s.log_bytes) old image → HoldsBatches (part image (log_place log) (log_room log)) bs → KeepsCommits c image
     kept_batches bs image sound on outside held =
-        crash_law c s bs sound on disk.of image (holds_other s c.batches bs old image disk.held outside (let P : ℕ → ℕ → Type 0 = λ n m. HoldsBatches (part image n m) bs in in_log P held))
+        crash_law c s bs sound on disk.of image (held_with s c.batches bs old image disk.held outside (let P : ℕ → ℕ → Type 0 = λ n m. HoldsBatches (part image n m) bs in in_log P held))
 
     -- what a crash leaves during a force are first commits
     pub force_keeps : (image : List ℕ) → IsSound c → SameOutside (log_place log) (log_place log + log_room log) old image × (HoldsBatches (part image (log_place log) (log_room log)) c.batches ⊎ HoldsBatches (part image (log_place log) (log_room log)) (with_batch c.batches c.pending))

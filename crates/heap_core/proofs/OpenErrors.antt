@@ -1,8 +1,8 @@
 -- What a recovery's error tells, the opening's does.
 use Rattle.std.proofs.Common.{◌≡◌, ℕ, refl}
 use Rattle.disk_model.specs.declared.disk.DiskError.TheVariants.{Failed, Stopped}
-use Rattle.heap_recovery.specs.declared.recovery.RecoverError.{RecoverError}
-use Rattle.heap_recovery.specs.declared.recovery.RecoverError.TheVariants.{NoMemory, NotHeap, Damaged, Disk}
+use Rattle.heap_recovery.specs.declared.error.RecoverError.{RecoverError}
+use Rattle.heap_recovery.specs.declared.error.RecoverError.TheVariants.{NoMemory, NotHeap, Damaged, Disk}
 use Rattle.heap_recovery.specs.Causes as recovery
 use Rattle.heap_recovery.specs.Recovered as recovered
 use Rattle.heap_core.specs.Causes.{open_error, error_device, IsFromOutside, ErrorPasses}

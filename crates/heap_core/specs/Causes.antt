@@ -7,8 +7,12 @@ use Rattle.gate_slot.specs.Passing.{Passes}
 use Rattle.graph_model.specs.declared.reply.Refusal.TheVariants.{DiskFault, Stopped}
 use Rattle.graph_model.specs.declared.reply.Reply.{Reply}
 use Rattle.graph_model.specs.declared.reply.Reply.TheVariants.{Refused}
-use Rattle.heap_recovery.specs.declared.recovery.RecoverError.{RecoverError}
-use Rattle.heap_recovery.specs.declared.recovery.RecoverError.TheVariants as recovery
+use Rattle.graph_print.specs.declared.print_error.PrintError.{PrintError}
+use Rattle.graph_print.specs.declared.print_error.PrintError.TheVariants as printing
+use Rattle.heap_recovery.specs.declared.error.RecoverError.{RecoverError}
+use Rattle.heap_recovery.specs.declared.error.RecoverError.TheVariants as recovery
+use Rattle.heap_core.specs.declared.errors.GraphError.{GraphError}
+use Rattle.heap_core.specs.declared.errors.GraphError.TheVariants as graphs
 use Rattle.heap_core.specs.declared.errors.OpenError.{OpenError}
 use Rattle.heap_core.specs.declared.errors.OpenError.TheVariants as opening
 
@@ -55,3 +59,10 @@ ErrorPasses n before now e = Passes n before now (error_device e)
 abbrev pub OpenedPasses : {H D : Type 0} → ℕ → ℕ → ℕ → Result H (OpenError × D) → Type 0
 OpenedPasses n before now (Ok heap) = Passes n before now (Ok tt)
 OpenedPasses n before now (Err e) = ErrorPasses n before now e.0
+
+-- what a print's error is of a graph
+abbrev pub graph_error : PrintError → GraphError
+graph_error printing.NoMemory = graphs.NoMemory
+graph_error (printing.Disk device.Failed) = graphs.DiskFault
+graph_error (printing.Disk device.Stopped) = graphs.Stopped
+graph_error (printing.Damaged address) = graphs.Damaged address

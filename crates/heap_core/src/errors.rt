@@ -1,5 +1,6 @@
 //! Why a call of a heap gives an error.
 use disk_model::DiskError;
+use graph_print::PrintError;
 use heap_recovery::{At, RecoverError};
 use std::alloc::AllocError;
 use thiserror::Error;
@@ -75,6 +76,15 @@ pub enum GraphError {
     /// Memory was refused.
     #[error("memory was refused")]
     NoMemory,
+    /// The disk failed in a call.
+    #[error("the disk failed")]
+    DiskFault,
+    /// The disk stopped.
+    #[error("the disk stopped")]
+    Stopped,
+    /// No object stands as it should at that word address. No heap that was opened holds such words.
+    #[error("the heap is damaged: address {address}")]
+    Damaged { address: u32 },
 }
 
 impl From<AllocError> for GraphError {
@@ -85,5 +95,21 @@ impl From<AllocError> for GraphError {
 
     fn from(_: AllocError) -> Self {
         GraphError::NoMemory
+    }
+}
+
+impl From<PrintError> for GraphError {
+    ghost use Rattle.std.specs.Prelude.{◌≡◌};
+    ghost use Rattle.heap_core.specs.Causes.{graph_error};
+
+    ghost from_gives = { λ e error. error ≡ graph_error e };
+
+    fn from(e: PrintError) -> Self {
+        match e {
+            PrintError::NoMemory => GraphError::NoMemory,
+            PrintError::Disk(DiskError::Failed) => GraphError::DiskFault,
+            PrintError::Disk(DiskError::Stopped) => GraphError::Stopped,
+            PrintError::Damaged { address } => GraphError::Damaged { address },
+        }
     }
 }

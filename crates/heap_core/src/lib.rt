@@ -4,7 +4,6 @@
 mod active;
 mod errors;
 mod formatting;
-mod graph_text;
 mod heap;
 mod history;
 mod log_room;

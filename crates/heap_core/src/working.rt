@@ -1,5 +1,5 @@
 //! What an open heap keeps in memory, and how the events of a session change it.
-ghost use Rattle.std.specs.Prelude.{◌≡◌, ◌+◌, ◌*◌, ◌<◌, ◌≤◌, length, Ok, OnErr, IfOk, true, false};
+ghost use Rattle.std.specs.Prelude.{◌≡◌, ◌+◌, ◌*◌, ◌^◌, ◌<◌, ◌≤◌, length, Ok, OnErr, IfOk, true, false};
 ghost use Rattle.gated_log.specs.LogState.{log_place, log_room, log_used};
 ghost use Rattle.graph_model.specs.Plain.{reply_of};
 ghost use Rattle.graph_model.specs.declared.reply.Reply.TheVariants.{Begun, Done, Yes, Length, Sealed, Aborted};
@@ -40,6 +40,7 @@ pub struct Working {
     ghost counted: { sealed + active_count active < next },
     // The root object stands in front.
     ghost rooted: { 6 ≤ length words },
+    ghost few: { length words < 2 ^ 32 },
 }
 
 /// The answer of an event that is refused.
