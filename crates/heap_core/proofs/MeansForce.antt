@@ -35,6 +35,8 @@ use Rattle.heap_model.specs.CoreLawsCrash.{IsSuperOf, IsOnDisk, forced-with_batc
 use Rattle.heap_model.specs.CoreLawsGranted.{writer_as, undo_active}
 use Rattle.heap_model.specs.CoreLawsHeld.{held_with}
 use Rattle.heap_model.specs.CoreLawsLone.{lone_words}
+use Rattle.object_layout.specs.Layout.{IsSeen}
+use Rattle.heap_model.specs.CoreLawsRecords.{told_seen}
 use Rattle.heap_model.specs.CoreLawsRun.{sound_valid, failed_refusal, failed_after, calls-force, calls-unfailed, calls-forced, force_granted, after_history, step_history}
 use Rattle.heap_model.specs.CoreLawsStep.{done_records, valid_after}
 use Rattle.heap_model.specs.Image.{Holds}
@@ -391,3 +393,9 @@ committed c w valid works =
     ap (λ (us : List UndoEntry). taken_back us w.words) (committed_as c w ((account c.history).active 1) w.active valid refl works.active)
     ∙ ap (taken_back valid.behind.undo) works.stored
     ∙ sym (ap (λ o. each_taken_back (losing_in o) (words c.pages (all_records c))) told.reached ∙ lone_words valid.behind.state valid.behind.writer valid.behind.undo (words c.pages (all_records c)) told.alone)
+
+-- in which the graph of the sealed transactions is seen
+pub committed_seen : (c : Core) (w : Working) → IsValid c → Works w (account c.history) c → IsSeen (taken_back (active_undo w.active) w.words) 0 (serial c.g0 (account c.history).sealed)
+committed_seen c w valid works =
+    let g = serial c.g0 (account c.history).sealed in
+    subst (λ (ws : List ℕ). IsSeen ws 0 g) (sym (committed c w valid works)) (told_seen c.pages c.first g (c.before + length (account c.history).sealed) (all_records c) valid.behind valid.told)

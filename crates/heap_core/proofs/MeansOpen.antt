@@ -1,15 +1,20 @@
 -- A heap that has just been opened.
-use Rattle.std.proofs.Common.{◌≡◌, ℕ, ◌+◌, List, Option, Some, None, is_some, refl, sym, ap, ◌∙◌, arith}
+use Rattle.std.proofs.Common.{◌≡◌, ℕ, ◌+◌, ◌^◌, ◌<◌, ◌≤◌, List, length, Option, Some, None, is_some, refl, sym, ap, ◌∙◌, arith}
 use Rattle.std.proofs.lemmas.List.{append-nil}
 use Rattle.disk_model.specs.Disk.{Only}
 use Rattle.gated_log.specs.Log.{records_of}
-use Rattle.graph_model.specs.Graph.{Graph}
+use Rattle.graph_model.specs.Graph.{Graph, root_graph}
 use Rattle.image_plan.specs.declared.superblock.Super.{Super}
 use Rattle.image_plan.specs.Super.{IsSuper}
 use Rattle.log_records.specs.declared.Record.{Record}
 use Rattle.log_machine.specs.Machine.{words}
-use Rattle.heap_model.specs.Image.{Holds}
+use Rattle.log_machine.specs.WordsLaws.{length-words}
+use Rattle.heap_model.specs.CoreLawsLegal.{root_shown}
+use Rattle.heap_model.specs.CoreLawsOpened.{opened_reached}
+use Rattle.heap_model.specs.CoreLawsRun.{reached_agrees}
+use Rattle.heap_model.specs.Image.{IsLegalLog, Holds, words_of}
 use Rattle.heap_model.specs.Opening.{rolled_back, opened}
+use Rattle.heap_model.specs.ValueWord.{root_values}
 use Rattle.heap_recovery.specs.declared.recovery.Recovered.{Recovered}
 use Rattle.heap_recovery.specs.Recovered.{IsRecovered}
 use Rattle.heap_core.specs.declared.working.Working.{Working}
@@ -41,3 +46,17 @@ opened_disk_holds s batches g new may_leave limits held only = record {
   unfailed = λ none. record { of = record { limits = limits; pages = refl; room = refl }; held = held; only = only };
   failed = λ some. absurd (some refl);
 }
+
+-- numbers and words that every heap has that was opened
+pub opened_bounds : (s : Super) (batches : List (List Record)) (found : Recovered) → IsLegalLog s batches → IsRecovered s batches found
+    → (0 < found.next) × (6 ≤ length found.words) × (length found.words < 2 ^ 32)
+opened_bounds s batches found legal recovered =
+    let gr = root_graph (root_values (words_of s batches) 0) in
+    let reached = opened_reached s batches legal gr (root_shown s batches legal) in
+    let first = (reached_agrees (opened s batches gr) reached).some_first in
+    let next = recovered.next in
+    let size = ap (λ (ws : List ℕ). length ws) recovered.words ∙ length-words s.pages (records_of (rolled_back s batches)) in
+    let limits = legal.limits in
+    let some = limits.some_pages in
+    let most = limits.few_pages in
+    (omega arith, omega arith, omega arith)

@@ -48,17 +48,8 @@ use Rattle.heap_core.proofs.MeansLog.{keeps_same}
 use Rattle.heap_core.proofs.MeansRefusal.{begin_same, root_same, drop_same, put_same, clear_same, get_same, same_same, len_same, seal_same, abort_same, now_fields, four_fields, undo_written, get_cases, same_cases, len_cases}
 
 -- another history, and one entry more, change nothing of this
-pub works_like : (w : Working) (a b : Account) (c d : Core) → b.sealed ≡ a.sealed → b.active 1 ≡ a.active 1 → b.begun ≡ a.begun
-    → d.batches ≡ c.batches → d.pending ≡ c.pending → d.room ≡ c.room → d.g0 ≡ c.g0 → d.first ≡ c.first → Works w a c → Works w b d
-works_like w a b c d sealed active begun batches pending room g0 first h = record {
-  log = rw (batches, pending) h.log;
-  place = h.place;
-  room = h.room ∙ sym room;
-  stored = rw (batches, pending) h.stored;
-  active = rw (sealed, active, g0, batches, pending) h.active;
-  next = rw (begun, first) h.next;
-  sealed = rw sealed h.sealed;
-}
+works_with : (w : Working) (a : Account) (c : Core) (event : Event) (reply : Reply) → Works w a c → Works w a (with_entry c event reply)
+works_with w a c event reply h = record { log = h.log; place = h.place; room = h.room; stored = h.stored; active = h.active; next = h.next; sealed = h.sealed }
 
 works_entry : (w : Working) (c d : Core) (event : Event) (reply : Reply) → d.history ≡ c.history → Works w (account_after (account c.history) (record { event = event; reply = reply })) d
     → Works w (account (with_entry d event reply).history) (with_entry d event reply)
@@ -66,12 +57,12 @@ works_entry w c d event reply same h =
     let entry : Entry = record { event = event; reply = reply } in
     let said : account (d.history ++ entry ∷ []) ≡ account_after (account c.history) entry = account-append d.history entry ∙ ap (λ (l : List Entry). account_after (account l) entry) same in
     let P : Account → Type 0 = λ a. Works w a (with_entry d event reply) in
-    subst P (sym said) (works_like w _ _ d (with_entry d event reply) refl refl refl refl refl refl refl refl h)
+    subst P (sym said) (works_with w _ d event reply h)
 
 works_refused : (w : Working) (a : Account) (c : Core) (event : Event) (why : Refusal) → IsNoFault why → Works w a c → Works w (account_after a (record { event = event; reply = Refused why })) c
 works_refused w a c event why sound h =
     let P : Account → Type 0 = λ b. Works w b c in
-    subst P (sym (account_after-refused a event why sound)) (works_like w a (record a { entries = a.entries + 1 }) c c refl refl refl refl refl refl refl refl h)
+    subst P (sym (account_after-refused a event why sound)) (record { log = h.log; place = h.place; room = h.room; stored = h.stored; active = h.active; next = h.next; sealed = h.sealed })
 
 either_way : (w : Working) (c : Core) (event : Event) (o : Option Refusal) → HasNoFault o
     → (o ≡ None → Works w (account_after (account c.history) (record { event = event; reply = granted (next_number c) c.g0 (account c.history) event })) (done c event))

@@ -1,5 +1,5 @@
 -- When what an open heap keeps is a core.
-use Rattle.std.specs.Prelude.{◌≡◌, ◌≢◌, ℕ, ◌+◌, List, length, map, reverse, is_some, Option, None, Some}
+use Rattle.std.specs.Prelude.{◌≡◌, ◌≢◌, ℕ, ◌+◌, List, [], length, map, reverse, is_some, Option, None, Some}
 use Rattle.disk_model.specs.Disk.{Only}
 use Rattle.disk_model.specs.declared.disk.Disk.{Ghosts}
 use Rattle.gated_log.specs.LogState.{Keeps, log_place, log_room}

@@ -134,7 +134,7 @@ impl<D: Disk> Heap<D> {
         ensures holds { IsTrue D.tells → (s : Super) (c : Core) → IsHeap s c self.old → IsReached c → IsSingleSession event → IfOk result (λ reply. (d : Core) × IsStep c event reply d × IsHeap s d self.new) }
         // At each moment of it a crash leaves first commits, among them all that were acknowledged before.
         ensures moments { IsTrue D.tells → (s : Super) (c : Core) → IsHeap s c self.old → IsReached c → LeavesOnly D.moment D.left_since self.old.disk self.new.disk (KeepsCommits c) }
-        ensures passes { IsTrue D.tells → (c : Core) → IsCore c self.old → IfOk result (λ reply. Passes (calls c event) (D.passed self.old.disk) (D.passed self.new.disk) (reply_device reply)) }
+        ensures passes { IsTrue D.tells → (c : Core) → IsCore c self.old → IsReached c → IfOk result (λ reply. Passes (calls c event) (D.passed self.old.disk) (D.passed self.new.disk) (reply_device reply)) }
     {
         self.history.reserve()?;
         let reply = self.reply_to(event)?;
@@ -148,9 +148,10 @@ impl<D: Disk> Heap<D> {
         ensures core { (c : Core) → IsCore c self.old → IsReached c → IsSingleSession event → IfOk result (λ reply. Steps c event reply self.new.working self.new.failed) }
         ensures holds { IsTrue D.tells → (s : Super) (c : Core) → IsHeap s c self.old → IsReached c → IsSingleSession event → IfOk result (λ reply. StepsOn s c event reply self.new.working self.new.failed (D.bytes self.new.disk) (D.may_leave self.new.disk)) }
         ensures kept { (c : Core) → IsCore c self.old → OnErr result (IsCore c self.new) }
+        ensures before { self.new.before ≡ self.old.before }
         ensures untouched { OnErr result (self.new.disk ≡ self.old.disk) }
         ensures moments { IsTrue D.tells → (s : Super) (c : Core) → IsHeap s c self.old → IsReached c → LeavesOnly D.moment D.left_since self.old.disk self.new.disk (KeepsCommits c) }
-        ensures passes { IsTrue D.tells → (c : Core) → IsCore c self.old → IfOk result (λ reply. Passes (calls c event) (D.passed self.old.disk) (D.passed self.new.disk) (reply_device reply)) }
+        ensures passes { IsTrue D.tells → (c : Core) → IsCore c self.old → IsReached c → IfOk result (λ reply. Passes (calls c event) (D.passed self.old.disk) (D.passed self.new.disk) (reply_device reply)) }
     {
         match self.failed {
             Some(entry) => Ok(refused(Refusal::Failed { entry })),
@@ -163,10 +164,11 @@ impl<D: Disk> Heap<D> {
         ensures core { (c : Core) → IsCore c self.old → self.old.failed ≡ None → IsReached c → IsSingleSession event → IfOk result (λ reply. Steps c event reply self.new.working self.new.failed) }
         ensures holds { IsTrue D.tells → (s : Super) (c : Core) → IsHeap s c self.old → self.old.failed ≡ None → IsReached c → IsSingleSession event → IfOk result (λ reply. StepsOn s c event reply self.new.working self.new.failed (D.bytes self.new.disk) (D.may_leave self.new.disk)) }
         ensures kept { (c : Core) → IsCore c self.old → OnErr result (IsCore c self.new) }
+        ensures before { self.new.before ≡ self.old.before }
         ensures history { self.new.history ≡ self.old.history }
         ensures untouched { OnErr result (self.new.disk ≡ self.old.disk) }
         ensures moments { IsTrue D.tells → (s : Super) (c : Core) → IsHeap s c self.old → self.old.failed ≡ None → IsReached c → LeavesOnly D.moment D.left_since self.old.disk self.new.disk (KeepsCommits c) }
-        ensures passes { IsTrue D.tells → (c : Core) → IsCore c self.old → self.old.failed ≡ None → IfOk result (λ reply. Passes (calls c event) (D.passed self.old.disk) (D.passed self.new.disk) (reply_device reply)) }
+        ensures passes { IsTrue D.tells → (c : Core) → IsCore c self.old → IsReached c → self.old.failed ≡ None → IfOk result (λ reply. Passes (calls c event) (D.passed self.old.disk) (D.passed self.new.disk) (reply_device reply)) }
     {
         let alloc = self.history.allocator();
         match event {
@@ -189,10 +191,11 @@ impl<D: Disk> Heap<D> {
         ensures core { (c : Core) → IsCore c self.old → self.old.failed ≡ None → IsReached c → IfOk result (λ reply. Steps c Force reply self.new.working self.new.failed) }
         ensures holds { IsTrue D.tells → (s : Super) (c : Core) → IsHeap s c self.old → self.old.failed ≡ None → IsReached c → IfOk result (λ reply. StepsOn s c Force reply self.new.working self.new.failed (D.bytes self.new.disk) (D.may_leave self.new.disk)) }
         ensures kept { (c : Core) → IsCore c self.old → OnErr result (IsCore c self.new) }
+        ensures before { self.new.before ≡ self.old.before }
         ensures history { self.new.history ≡ self.old.history }
         ensures untouched { OnErr result (self.new.disk ≡ self.old.disk) }
         ensures moments { IsTrue D.tells → (s : Super) (c : Core) → IsHeap s c self.old → self.old.failed ≡ None → IsReached c → LeavesOnly D.moment D.left_since self.old.disk self.new.disk (KeepsCommits c) }
-        ensures passes { IsTrue D.tells → (c : Core) → IsCore c self.old → self.old.failed ≡ None → IfOk result (λ reply. Passes (calls c Force) (D.passed self.old.disk) (D.passed self.new.disk) (reply_device reply)) }
+        ensures passes { IsTrue D.tells → (c : Core) → IsCore c self.old → IsReached c → self.old.failed ≡ None → IfOk result (λ reply. Passes (calls c Force) (D.passed self.old.disk) (D.passed self.new.disk) (reply_device reply)) }
     {
         self.working.log.reserve(0)?;
         match self.working.log.force(&mut self.disk) {

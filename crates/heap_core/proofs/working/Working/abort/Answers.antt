@@ -1,9 +1,10 @@
-use Rattle.std.proofs.Common.{◌≡◌, List, ◌++◌, ◌<◌, length, refl, sym, ap, ◌∙◌, reverse, subst, arith}
+use Rattle.std.proofs.Common.{◌≡◌, ℕ, List, ◌++◌, ◌<◌, length, refl, sym, ap, ◌∙◌, reverse, subst, arith}
 use Rattle.std.specs.List.{AllByRecursion}
 use Rattle.log_records.specs.declared.Record.{Record}
 use Rattle.gated_log.specs.LogState.{Keeps}
 use Rattle.log_machine.specs.declared.UndoEntry.{UndoEntry}
 use Rattle.log_machine.specs.Machine.{field_at, abort_records, taken_back}
+use Rattle.log_machine.specs.WordsLaws.{length-taken_back}
 use Rattle.heap_core.specs.Reserve.{active_reserve}
 use Rattle.heap_core.proofs.Room.{abort_room, inside_words}
 use Rattle.heap_core.proofs.working.Working.abort.Goals as goal
@@ -20,6 +21,16 @@ take_back-requires c =
     let t = c.in-Some.active in
     let P : List UndoEntry → Type 0 = λ us. AllByRecursion (λ (u : UndoEntry). field_at u.object u.field < length c.args.self.now.words) us in
     subst P (sym c.deref-3.ensures.value) (inside_words t.undo.items (length c.args.self.now.words) c.args.self.now.rooted t.inside)
+
+pub invariant_of-self-2-clause-rooted : goal.invariant_of-self-2-clause-rooted
+invariant_of-self-2-clause-rooted c =
+    let same = ap (λ (ws : List ℕ). length ws) c.take_back.ensures ∙ length-taken_back (reverse c.deref-3.result.now) c.args.self.now.words in
+    omega (arith, same, c.args.self.now.rooted)
+
+pub invariant_of-self-2-clause-few : goal.invariant_of-self-2-clause-few
+invariant_of-self-2-clause-few c =
+    let same = ap (λ (ws : List ℕ). length ws) c.take_back.ensures ∙ length-taken_back (reverse c.deref-3.result.now) c.args.self.now.words in
+    omega (arith, same, c.args.self.now.few)
 
 pub returns-clause-aborted : goal.returns-clause-aborted
 returns-clause-aborted c is =

@@ -1,4 +1,5 @@
-use Rattle.std.proofs.Common.{◌≡◌, List, ◌++◌, ◌∷◌, [], ℕ, Option, Some, refl, sym, ap, ◌∙◌, subst}
+use Rattle.std.proofs.Common.{◌≡◌, ◌+◌, List, ◌++◌, ◌∷◌, [], ℕ, Option, Some, refl, sym, ap, ◌∙◌, subst}
+use Rattle.std.specs.Prelude.{slice_index}
 use Rattle.gated_log.specs.LogState.{Keeps}
 use Rattle.log_records.specs.declared.Record.{Record}
 use Rattle.log_records.specs.declared.Record.TheVariants.{Update}
@@ -13,9 +14,9 @@ returns-clause-done c is =
     let t = c.in-Some-active.active in
     let old = c.args.self.now in
     let i = c.args.i in
-    let was : c.word.result ≡ field_word old.words i = c.word.ensures in
+    let was : c.word-was.result ≡ field_word old.words i = c.word-was.ensures ∙ ap (λ (n : ℕ). slice_index old.words (2 + n)) c.from.ensures in
     let entry : ℕ → UndoEntry = λ n. record { object = 0; field = i; was = n } in
-    let rec : Update t.number 0 i c.word.result c.encode.result ≡ Update t.number 0 i (field_word old.words i) _ =
+    let rec : Update t.number 0 i c.word-was.result c.encode.result ≡ Update t.number 0 i (field_word old.words i) _ =
     ap (λ (n : ℕ). Update t.number 0 i n c.encode.result) was ∙ ap (λ (n : ℕ). Update t.number 0 i (field_word old.words i) n) c.encode.ensures in
     record {
       active = t;
@@ -26,8 +27,8 @@ returns-clause-done c is =
       };
       words = c.apply.ensures ∙ ap (λ (n : ℕ). with_word old.words 0 i n) c.encode.ensures;
       now_active = ap Some (c.push_reserved.ensures.seen
-          ∙ ap (λ (s : Seen). record s { undo = entry c.word.result ∷ s.undo }) c.in_ok-reserve.ensures.seen)
-          ∙ sym (ap (λ (o : Option Active). with_write (seen_active o) (entry c.word.result)) c.in-Some-active.is)
+          ∙ ap (λ (s : Seen). record s { undo = entry c.word-was.result ∷ s.undo }) c.in_ok-reserve.ensures.seen)
+          ∙ sym (ap (λ (o : Option Active). with_write (seen_active o) (entry c.word-was.result)) c.in-Some-active.is)
           ∙ ap (λ (n : ℕ). with_write (seen_active old.active) (entry n)) was;
       next = refl;
       sealed = refl;
