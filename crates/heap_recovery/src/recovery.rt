@@ -21,6 +21,7 @@ use crate::reading::{Reading, read_image};
 use disk_model::Disk;
 use gated_log::Log;
 use log_machine::PageWords;
+use object_layout::{WordSlice, walk};
 use std::alloc::Global;
 
 /// A heap that was opened, in which no writes may be taken back any more.
@@ -92,7 +93,7 @@ impl Reading {
     {
         let records = self.state.rollback()?;
         self.log.append_all(&records)?;
-        self.log.reserve()?;
+        self.log.reserve(0)?;
         self.words.apply_all(&records);
         self.log.force(disk).map_err(RecoverError::Disk)
     }
@@ -104,13 +105,12 @@ impl Reading {
         ensures pages { IfOk result (λ found. found.pages ≡ self.of.pages) }
         ensures commits { IfOk result (λ found. found.commits ≡ self.state.commits) }
         ensures next { IfOk result (λ found. found.next ≡ self.state.next) }
-        // TEMP ensures walked { IfOk result (λ found. IsWalked self.words self.state.base self.state.used) }
+        ensures walked { IfOk result (λ found. IsWalked self.words self.state.base self.state.used) }
         ensures legal { IsWalked self.words self.state.base self.state.used → IfErr result IsFromOutside }
         ensures no_disk { open_device result ≡ Ok tt }
     {
-        if self.state.used() == 7 {
-            return Err(RecoverError::NoMemory);
-        }
+        let mut words = WordSlice::of(self.words.as_slice());
+        walk(alloc, &mut words, self.state.base(), self.state.used())?;
         Ok(Recovered {
             pages: self.of.pages,
             commits: self.state.commits(),

@@ -10,9 +10,12 @@ ghost use Rattle.log_machine.specs.UndoEntry.{LiesInside};
 use crate::UndoEntry;
 use crate::page_words::{FIELDS_AT, ROOT_WORDS};
 use crate::undo_lists::UndoLists;
-use log_records::{LAST_NUMBER, Record};
+use log_records::Record;
 use std::alloc::{AllocError, Global};
 use std::marker::Model;
+
+/// The greatest number of a transaction.
+pub const LAST_NUMBER: u32 = 4_294_967_294;
 
 /// Why a record was not taken.
 #[derive(Clone, Copy, Debug, PartialEq, Eq)]
