@@ -43,6 +43,11 @@ cause_first faults mid faults' stops mids stops' result last cause behind = reco
 }
 
 module _ {D : Type 0} (g : Ghosts D) where
+  -- a call, by its clauses
+  pub keeps_by_call : {T : Type 0} (old new : D) (result : Result T DiskError) → g.extent new ≡ g.extent old → g.origin new ≡ g.origin old → HasCause (g.faults old) (g.faults new) (g.stops old) (g.stops new) result
+      → (IsTrue g.tells → g.restarts new ≡ g.restarts old) → KeepsDisk g old new result
+  keeps_by_call old new result extent origin cause restarts = record { extent = extent; origin = origin; cause = cause; restarts = restarts }
+
   -- no call was made, and no error of the disk is told
   pub keeps_none : {T : Type 0} (disk : D) (x : T) → KeepsDisk {T = T} g disk disk (Ok x)
   keeps_none disk x = record {
