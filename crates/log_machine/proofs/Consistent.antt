@@ -30,7 +30,7 @@ pub consistent_with : (s : State) (t : ℕ) (us : List UndoEntry) (undo : FinMap
 consistent_with s t us undo commits next number inside is with_them later =
     let sound = sound_with s t us 0 number inside is.sound in
     let whole : IsConsistent (record { pages = s.pages; base = s.base; used = s.used; undo = with_entries s.undo t us; commits = commits; next = max s.next (t + 1) }) =
-        record { sound = λ q w some. let loser = sound q w some in record { some = loser.some; number = loser.number; known = loser.known; inside = loser.inside }; fits = is.fits } in
+    record { sound = λ q w some. let loser = sound q w some in record { some = loser.some; number = loser.number; known = loser.known; inside = loser.inside }; fits = is.fits } in
     subst (λ u. IsConsistent (record { pages = s.pages; base = s.base; used = s.used; undo = u; commits = commits; next = next })) (sym with_them)
     (subst (λ n. IsConsistent (record { pages = s.pages; base = s.base; used = s.used; undo = with_entries s.undo t us; commits = commits; next = n })) (sym later) whole)
 

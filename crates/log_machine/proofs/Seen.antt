@@ -89,7 +89,7 @@ pub entries_seen : (es : List (ℕ × Vec UndoEntry)) → IsStrictlySortedBy nat
 entries_seen es sorted =
     let in_order = sorted_seen es sorted in
     let same : seen_undo es ≡ from_sorted (map seen_loser es) = same_map nat_cmp_total nat_cmp-IsAntisymmetric _ _ (λ q.
-        get-from_entries nat_cmp_total (map seen_loser es) q ∙ sym (get-from_sorted nat_cmp (map seen_loser es) q in_order)) in
+    get-from_entries nat_cmp_total (map seen_loser es) q ∙ sym (get-from_sorted nat_cmp (map seen_loser es) q in_order)) in
     ap entries same ∙ entries-from_sorted nat_cmp (map seen_loser es) in_order
 
 keys_seen_in : (es : List (ℕ × Vec UndoEntry)) → map (λ e. e.0) (map seen_loser es) ≡ keys_of es

@@ -54,7 +54,7 @@ insert_first undo t us now other =
     ap (λ n. each_taken_back (entries n) now) (sym (insert_remove undo t us))
     ∙ ap (λ es. each_taken_back es now) (entries-insert nat_cmp_total (remove undo t) t us)
     ∙ each_put t us (entries (remove undo t)) now (sym (get-entries (remove undo t) t) ∙ get_removed undo t)
-      (each_entry (λ q vs. AreApart us vs) (remove undo t) (each_other (λ q vs. AreApart us vs) undo t other))
+    (each_entry (λ q vs. AreApart us vs) (remove undo t) (each_other (λ q vs. AreApart us vs) undo t other))
 
 -- where no others have writes nothing else is taken back
 pub others_none : (s : State) (t : ℕ) (now : List ℕ) → IsOnlyLoser s t → others_taken_back s t now ≡ now
@@ -88,11 +88,11 @@ committed_words-Update s pages first rs t object field was word e sound number i
     let write : UndoEntry = record { object = object; field = field; was = was } in
     let now = words pages rs in
     committed_words_at (turned s t (with_entries s.undo t (write ∷ undo_of s t)) 0) pages first (rs ++ Update t object field was word ∷ [])
-      (after_all-append (start pages first) s rs (Update t object field was word) e ∙ after-Update s t object field was word number inside)
+    (after_all-append (start pages first) s rs (Update t object field was word) e ∙ after-Update s t object field was word number inside)
     ∙ ap (λ x. each_taken_back (entries (insert s.undo t (write ∷ undo_of s t))) x) (words-append pages rs (Update t object field was word ∷ []))
     ∙ insert_first s.undo t (write ∷ undo_of s t) (with_word now object field word) other
     ∙ ap (λ x. others_taken_back s t (taken_back (undo_of s t) x))
-      (set-set now (field_at object field) word was ∙ ap (λ w. set now (field_at object field) w) (sym stood) ∙ set-get_or now (field_at object field) 0)
+    (set-set now (field_at object field) word was ∙ ap (λ w. set now (field_at object field) w) (sym stood) ∙ set-get_or now (field_at object field) 0)
     ∙ sym (all_taken_back-first s t now sound (λ q vs some apart. (other q vs some apart).1))
     ∙ sym (committed_words_at s pages first rs e)
 
@@ -108,7 +108,7 @@ pub committed_words-abort : (s : State) (pages first : ℕ) (rs : List Record) (
     → committed_words pages first (rs ++ abort_records t (undo_of s t)) ≡ committed_words pages first rs
 committed_words-abort s pages first rs t e sound number other =
     committed_words_at (turned s t (with_entries s.undo t []) 0) pages first (rs ++ abort_records t (undo_of s t))
-      (after_all-append2 (start pages first) s rs (abort_records t (undo_of s t)) e ∙ abort_reaches s t number sound)
+    (after_all-append2 (start pages first) s rs (abort_records t (undo_of s t)) e ∙ abort_reaches s t number sound)
     ∙ ap (λ x. others_taken_back s t x) (words-append pages rs (abort_records t (undo_of s t)) ∙ abort_words t (undo_of s t) (words pages rs))
     ∙ sym (all_taken_back-first s t (words pages rs) sound other)
     ∙ sym (committed_words_at s pages first rs e)

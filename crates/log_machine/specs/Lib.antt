@@ -14,3 +14,4 @@ pub mod WordsLaws
 pub mod Seen
 pub mod Kept
 pub mod Effect
+pub mod Replay

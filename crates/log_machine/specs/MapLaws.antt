@@ -118,10 +118,10 @@ module _ {X : Type 0} where
       let in_order = second_of_both _ _ sorted in
       let gone = find_below k rest (first_of_both _ _ sorted) in
       let same : remove m k ≡ from_sorted rest = same_map nat_cmp_total nat_cmp-IsAntisymmetric _ _ (λ q.
-          get-remove nat_cmp_total m k q
-          ∙ ap (λ x. cond (eq_by_cmp nat_cmp q k) None x) (get-entries m q ∙ ap (λ es. find nat_cmp q es) e)
-          ∙ skipped q k rest v (eq_by_cmp nat_cmp q k) refl gone
-          ∙ sym (get-from_sorted nat_cmp rest q in_order)) in
+      get-remove nat_cmp_total m k q
+      ∙ ap (λ x. cond (eq_by_cmp nat_cmp q k) None x) (get-entries m q ∙ ap (λ es. find nat_cmp q es) e)
+      ∙ skipped q k rest v (eq_by_cmp nat_cmp q k) refl gone
+      ∙ sym (get-from_sorted nat_cmp rest q in_order)) in
       ap entries same ∙ entries-from_sorted nat_cmp rest in_order
 
 -- Sums over the values.

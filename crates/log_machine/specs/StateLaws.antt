@@ -1,5 +1,5 @@
 -- Every state that records reach is sound, and what its fields are.
-use Rattle.std.proofs.Common.{◌≡◌, ℕ, ◌+◌, true, cond, List, [], ◌∷◌, Option, None, Some, refl, ap, ◌∙◌, subst, arith}
+use Rattle.std.proofs.Common.{◌≡◌, ℕ, ◌+◌, true, cond, List, [], ◌∷◌, Option, None, Some, refl, ap, ◌∙◌, subst, arith, Bool, false, ◌≤◌}
 use Rattle.std.specs.Prelude.{unwrap_or}
 use Rattle.std.specs.List.{AllByRecursion}
 use Rattle.std.specs.Ordering.{nat_cmp}
@@ -165,14 +165,14 @@ leads_after_all s m [] e = let same : s ≡ m = cc e in subst (Leads s) same (re
 leads_after_all s m (r ∷ rs) e = option_and_then_some (λ next. after_all next rs) (after s r) m e (λ next first rest. leads_on s next m (leads_after s next r first) (leads_after_all next m rs rest))
 
 -- one record is a commit or none
-one_counted : (s n : State) (r : Record) → after s r ≡ Some n → n.commits ≡ cond (is_commit r) 1 0 + s.commits
-one_counted s n r e = let is = ap (λ (x : State). x.commits) (turns s n r e).is in omega arith
+pub commits_after : (s n : State) (r : Record) → after s r ≡ Some n → n.commits ≡ cond (is_commit r) 1 0 + s.commits
+commits_after s n r e = let is = ap (λ (x : State). x.commits) (turns s n r e).is in omega arith
 
 -- records say how many of them are commits
 pub commits-after_all : (s m : State) (rs : List Record) → after_all s rs ≡ Some m → m.commits ≡ commits rs + s.commits
 commits-after_all s m [] e = let same : s.commits ≡ m.commits = cc in omega arith
 commits-after_all s m (r ∷ rs) e = option_and_then_some (λ next. after_all next rs) (after s r) m e (λ next first rest.
-    let one = one_counted s next r first in
+    let one = commits_after s next r first in
     let others = commits-after_all next m rs rest in
     let more = sum_by-cons (λ x. cond (is_commit x) 1 0) r rs in
     omega arith)
@@ -180,3 +180,11 @@ commits-after_all s m (r ∷ rs) e = option_and_then_some (λ next. after_all ne
 -- so does the state that they leave behind the start
 pub commits-start : (pages first : ℕ) (m : State) (rs : List Record) → after_all (start pages first) rs ≡ Some m → m.commits ≡ commits rs
 commits-start pages first m rs e = let all = commits-after_all (start pages first) m rs e in omega arith
+
+one_at_most : (b : Bool) → cond b 1 0 ≤ 1
+one_at_most true = omega arith
+one_at_most false = omega arith
+
+-- one record is at most one commit
+pub commits_few : (s n : State) (r : Record) → after s r ≡ Some n → n.commits ≤ s.commits + 1
+commits_few s n r e = let one = commits_after s n r e in let few = one_at_most (is_commit r) in omega arith

@@ -5,12 +5,14 @@ mod abort;
 mod effects;
 mod log_state;
 mod page_words;
+mod replaying;
 mod undo_lists;
 
 pub use abort::abort_records;
 pub use effects::effect;
 pub use log_state::{AfterError, LAST_NUMBER, LogState};
 pub use page_words::{FIELDS_AT, PAGE_WORDS, PageWords, ROOT_FIELDS, ROOT_WORDS};
+pub use replaying::{ReplayError, replay};
 pub use undo_lists::end_bytes;
 
 /// A write that may be taken back: the field of the object at a word address, and the word that stood there before.
@@ -23,3 +25,6 @@ pub struct UndoEntry {
     /// The word that stood in the field.
     pub was: u64,
 }
+
+#[cfg(test)]
+mod tests;
