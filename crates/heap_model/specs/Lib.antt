@@ -26,3 +26,4 @@ pub mod CoreLawsOpening
 pub mod CoreLawsOpened
 pub mod CoreLawsNew
 pub mod CoreLawsHeld
+pub mod Theorems
