@@ -16,8 +16,10 @@
 -- The opening. A heap that is opened on any legal log goes on, with any graph and any number of commits.
 --   CoreLawsOpening, CoreLawsHeld   the batches behind an opening are a legal log that says the same
 --   CoreLawsOpened, CoreLawsNew     the core that is opened is reached; an empty log is legal
+--   CoreLawsAgain                   opened on what a crash left of a core, it goes on from that core's first commits, any number of times
 --
--- CoreLawsCalls and CoreLawsEnding are on the calls of the disk and on the events that end a run; ListLaws on lists.
+-- CoreLawsCalls and CoreLawsEnding are on the calls of the disk and on the events that end a run, CoreLawsGraph on what is in memory,
+-- ListLaws on lists.
 use Rattle.std.specs.Prelude.{◌≡◌, ◌⊎◌, ℕ, List}
 use Rattle.std.specs.List.{AllByRecursion}
 use Rattle.graph_model.specs.declared.event.Event.{Event}
@@ -32,6 +34,7 @@ use Rattle.log_records.specs.declared.Record.{Record}
 use Rattle.log_machine.specs.Machine as machine
 use Rattle.heap_model.specs.Core.{Core, IsRun}
 use Rattle.heap_model.specs.CoreCrash.{KeepsCommits}
+use Rattle.heap_model.specs.CoreLawsAgain.{GoesOnFrom, opened_again}
 use Rattle.heap_model.specs.CoreLawsCrash.{IsOnDisk, IsSuperOf, crash_law}
 use Rattle.heap_model.specs.CoreLawsOneMeaning.{one_graph}
 use Rattle.heap_model.specs.CoreLawsOpened.{next_pinned, opened_reached, found_says, left_says, opened_keeps}
@@ -75,3 +78,8 @@ theorem_opening s batches legal g shows = record {
   left = left_says s batches legal g shows;
   images = opened_keeps s batches legal g shows;
 }
+
+-- A crash, and the opening behind it.
+pub theorem_again : (c : Core) (s : Super) (batches : List (List Record)) (g : Graph) → IsReached c → IsSuperOf s c → IsOnDisk c batches
+    → (legal : IsLegalLog s batches) → Shows s batches legal g → (k : ℕ) × GoesOnFrom c k (opened s batches g)
+theorem_again c s batches g reached of on legal shows = opened_again c s batches g reached of on legal shows
