@@ -20,3 +20,10 @@ pub record HasCommits (c : Core) (image : List ℕ) : Type 0 where
   pub count : ℕ
   pub stands : StandsFor (serial c.g0 (take count (commits c.history))) (c.before + count) image
   pub some : count ≤ length (commits c.history)
+
+-- The image stands for first commits, so many at least.
+pub record HasAtLeast (c : Core) (least : ℕ) (image : List ℕ) : Type 0 where
+  pub count : ℕ
+  pub stands : StandsFor (serial c.g0 (take count (commits c.history))) (c.before + count) image
+  pub enough : least ≤ count
+  pub some : count ≤ length (commits c.history)
