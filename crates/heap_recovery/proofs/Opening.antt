@@ -1,7 +1,7 @@
 -- What an opening reads of a log, and what it leaves.
-use Rattle.std.proofs.Common.{◌≡◌, ◌≢◌, ◌⊎◌, ⊎_elim, ℕ, ◌+◌, ◌≤◌, List, [], ◌∷◌, ◌++◌, length, Some, Result, Ok, Err, refl, sym, ap, ◌∙◌, subst, arith}
-use Rattle.std.specs.Prelude.{fold, IsOk, IfOk, IfErr}
-use Rattle.std.specs.List.{AllByRecursion}
+use Rattle.std.proofs.Common.{◌≡◌, ◌≢◌, ◌⊎◌, ⊎_elim, ℕ, ◌+◌, ◌≤◌, List, [], ◌∷◌, ◌++◌, length, take, drop, take-append-drop, Option, None, Some, Result, Ok, Err, refl, sym, ap, ◌∙◌, subst, arith}
+use Rattle.std.specs.Prelude.{option_and_then, IfOk}
+use Rattle.std.proofs.lemmas.Option.{option_and_then_some}
 use Rattle.std.proofs.lemmas.Bool.Decides.{nat_tests}
 use Rattle.disk_model.specs.Disk.{part, Only, Narrows, SameOutside}
 use Rattle.disk_model.specs.Moments.{LeavesOnly, joined, weaker}
@@ -18,12 +18,18 @@ use Rattle.image_plan.specs.declared.superblock.Super.{Super}
 use Rattle.image_plan.specs.Plan.{log_offset}
 use Rattle.log_records.specs.declared.Record.{Record}
 use Rattle.log_records.specs.Record.{spellings}
-use Rattle.log_machine.specs.Machine.{State, Loser, losing, words, put_record, all_taken_back, rollback, abort_each, reserve}
+use Rattle.log_machine.specs.declared.replaying.ReplayError.{ReplayError}
+use Rattle.log_machine.specs.declared.replaying.ReplayError.TheVariants as replaying
+use Rattle.log_machine.specs.Replay.{IsFirstUnshaped}
+use Rattle.log_machine.specs.Machine.{State, Loser, after, after_all, losing, words, all_taken_back, rollback, abort_each, reserve}
 use Rattle.log_machine.specs.MachineLaws.{words-append}
-use Rattle.log_machine.specs.StateLaws.{commits-start, sound_after_all, sound_start}
+use Rattle.log_machine.specs.StateLaws.{commits-start}
 use Rattle.log_machine.specs.AbortLaws.{rollback_fits, rollback_words}
 use Rattle.log_machine.specs.CommittedLaws.{committed_words_at}
-use Rattle.object_layout.specs.Walk.{IsWalked}
+use Rattle.object_layout.specs.declared.walk_error.WalkError.{WalkError}
+use Rattle.object_layout.specs.declared.walk_error.WalkError.TheVariants as walking
+use Rattle.object_layout.specs.Walk.{IsWalked, IsWalkFault}
+use Rattle.object_layout.specs.WalkLaws.{walked_fault}
 use Rattle.heap_model.specs.CoreLawsCrash.{records_of-with_batch}
 use Rattle.heap_model.specs.Image.{words_of, IsLegalLog, Holds, IsLegal, Says, StandsFor}
 use Rattle.heap_model.specs.Opening.{rollback_in, rollback_of, rolled_back, next_in, next_of}
@@ -31,7 +37,7 @@ use Rattle.heap_recovery.specs.declared.error.RecoverError.{RecoverError}
 use Rattle.heap_recovery.specs.declared.error.RecoverError.TheVariants.{NoMemory, NotHeap, Damaged, Disk}
 use Rattle.heap_recovery.specs.declared.reading.Reading.{Reading}
 use Rattle.heap_recovery.specs.declared.recovery.Recovered.{Recovered}
-use Rattle.heap_recovery.specs.Recovered.{IsRead, IsRecovered, IsFromOutside, IsFromImage, ErrorPasses, OpenPasses, log_error}
+use Rattle.heap_recovery.specs.Recovered.{IsRead, IsRecovered, IsFromOutside, ErrorPasses, log_error, replay_error, walk_error}
 use Rattle.heap_recovery.proofs.LegalLog.{legal_log}
 
 -- a log that is not damaged fails by the outside
@@ -40,12 +46,25 @@ outside_of logging.NoMemory sound = tt
 outside_of (logging.BadBatch at) sound = absurd (sound at refl)
 outside_of (logging.Disk e) sound = tt
 
--- so does an opening that finds no fault with the image
-pub outside_unless : (e : RecoverError) → (IsFromImage e → ⊥) → IsFromOutside e
-outside_unless NoMemory sound = tt
-outside_unless NotHeap sound = absurd (sound tt)
-outside_unless (Damaged at) sound = absurd (sound tt)
-outside_unless (Disk e) sound = tt
+-- so do records of which all follow one another
+some_front : (s m : State) (rs more : List Record) → after_all s (rs ++ more) ≡ Some m → (n : State) × (after_all s rs ≡ Some n)
+some_front s m [] more e = (s, refl)
+some_front s m (r ∷ rs) more e = option_and_then_some (λ next. after_all next (rs ++ more)) (after s r) m e (λ next is rest.
+    let front = some_front next m rs more rest in
+    (front.0, ap (λ (o : Option State). option_and_then (λ (x : State). after_all x rs) o) is ∙ front.1))
+
+pub shaped_outside : (s m : State) (rs : List Record) (e : ReplayError) → after_all s rs ≡ Some m → ((lsn : ℕ) → e ≡ replaying.Unshaped lsn → IsFirstUnshaped s rs lsn) → IsFromOutside (replay_error e)
+shaped_outside s m rs replaying.NoMemory reached fault = tt
+shaped_outside s m rs (replaying.Unshaped lsn) reached fault =
+    let front = some_front s m (take lsn rs) (drop lsn rs) (ap (λ (l : List Record). after_all s l) (take-append-drop lsn rs) ∙ reached) in
+    let never : None ≡ Some front.0 = sym (fault lsn refl).stuck ∙ front.1 in
+    cc never
+
+-- so does a walk that passes
+pub walked_outside : (words : List ℕ) (base used : ℕ) (e : WalkError) → IsWalked words base used → ((at : ℕ) → e ≡ walking.Damaged at → IsWalkFault words base used at) → IsFromOutside (walk_error e)
+walked_outside words base used walking.NoMemory walked fault = tt
+walked_outside words base used (walking.Damaged at) walked fault = absurd (walked_fault words base used at walked (fault at refl))
+walked_outside words base used (walking.Disk e) walked fault = tt
 
 -- a log in which no record waits is known to be so
 pub none_waits : (log : Log) (batches : List (List Record)) → Keeps log batches [] → IsHandEmpty log
