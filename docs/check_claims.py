@@ -1,9 +1,9 @@
 #!/usr/bin/env python3
 """Checks that what the documents name is there, crate by crate, and lists each row and line that does not match.
 
-    docs/check_claims.py
+    docs/check_claims.py [--move]
 
-Of docs/CLAIMS.md: each function, type, impl and law in the crate of its row, and each clause in the contracts of its functions. Of
+With --move a row whose functions and clauses are all in just one other crate is moved there first. Of docs/CLAIMS.md: each function, type, impl and law in the crate of its row, and each clause in the contracts of its functions. Of
 README.md and docs/*.md: each file that is named, and each definition that is named behind a .antt file. It reads texts
 and proves nothing; a clause that is there may still say something else.
 """
@@ -56,7 +56,7 @@ def contracts(crate, function):
     found = []
     for path in files(crate, "src", "rt"):
         module, text = os.path.basename(path)[: -len(".rt")], text_of(path)
-        if module in ("tests", "stops", "openings"):
+        if module.endswith("tests") or module in ("stops", "openings"):
             continue
         for it in re.finditer(rf"^[ ]*(?:pub(?:\([a-z]+\))? )?(?:const )?fn {re.escape(name)}\b", text, re.M):
             head = owner(text, it.start())
@@ -159,13 +159,31 @@ def row(crate, function, clause):
     return wrong
 
 
+def cells_of(line):
+    """The cells of a claim's row, or nothing for any other line."""
+    cells = [it.strip() for it in line.strip().strip("|").split("|")] if line.startswith("|") else []
+    return [] if cells[:1] in (["Claim"], ["---"]) else cells
+
+
+def move_claims():
+    """Moves each row that does not match to the one crate in which it does."""
+    path, lines = f"{TOP}/docs/CLAIMS.md", []
+    for line in open(path, encoding="utf-8"):
+        cells = cells_of(line)
+        if len(cells) > 4 and cells[-1] == "proved" and cells[1] != "all" and row(*cells[1:4]):
+            found = [it for it in crates() if not row(it, *cells[2:4])]
+            if len(found) == 1:
+                line = line.replace(f"| {cells[1]} |", f"| {found[0]} |", 1)
+        lines.append(line)
+    with open(path, "w", encoding="utf-8") as file:
+        file.writelines(lines)
+
+
 def check_claims():
-    page = open(f"{TOP}/docs/CLAIMS.md", encoding="utf-8").read()
-    table = page.partition("<!-- CLAIMS -->")[2].partition("<!-- CLAIMS END -->")[0]
-    before, rows = page[: page.index("<!-- CLAIMS -->")].count("\n"), 0
-    for at, line in enumerate(table.split("\n"), before + 1):
-        cells = [it.strip() for it in line.strip().strip("|").split("|")] if line.startswith("|") else []
-        if not cells or cells[0] in ("Claim", "---"):
+    rows = 0
+    for at, line in enumerate(open(f"{TOP}/docs/CLAIMS.md", encoding="utf-8"), 1):
+        cells = cells_of(line)
+        if not cells:
             continue
         rows += 1
         if len(cells) < 4:
@@ -200,6 +218,8 @@ def check_names():
     return count
 
 
+if "--move" in sys.argv:
+    move_claims()
 rows, names = check_claims(), check_names()
 print(*faults, sep="\n", end="\n" * bool(faults))
 print(f"{rows} rows, {names} names of files: {len(faults)} do not match")
