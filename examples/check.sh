@@ -91,6 +91,7 @@ tell full_log.out "$status" 0 $?
 
 complains bad_line.err 3 1 play --fresh 1 <examples/bad_line.script
 complains usage.err 2 2 play --fresh 0 </dev/null
+complains help.err 2 3 </dev/null
 passes_signals_on
 
 # Each of these compiles the program.
