@@ -3,7 +3,6 @@ use crate::at::At;
 use disk_model::DiskError;
 use gated_log::LogError;
 use log_machine::ReplayError;
-use object_layout::WalkError;
 use std::alloc::AllocError;
 
 /// Why an image can't be opened.
@@ -41,23 +40,6 @@ impl From<LogError> for RecoverError {
             LogError::NoMemory => RecoverError::NoMemory,
             LogError::BadBatch { at } => RecoverError::Damaged { at: At::Batch(at) },
             LogError::Disk(e) => RecoverError::Disk(e),
-        }
-    }
-}
-
-impl From<WalkError> for RecoverError {
-    ghost use Rattle.std.specs.Prelude.{◌≡◌};
-    ghost use Rattle.heap_recovery.specs.Recovered.{walk_error};
-
-    ghost from_gives = { λ e error. error ≡ walk_error e };
-
-    fn from(e: WalkError) -> Self {
-        match e {
-            WalkError::NoMemory => RecoverError::NoMemory,
-            WalkError::Damaged { address } => RecoverError::Damaged {
-                at: At::Address(address),
-            },
-            WalkError::Disk(e) => RecoverError::Disk(e),
         }
     }
 }

@@ -1,5 +1,5 @@
 //! What an image says before anything is rolled back: its superblock, its log, and the words that the records leave.
-ghost use Rattle.std.specs.Prelude.{◌≡◌, ℕ, ◌+◌, ◌≤◌, List, take, IsTrue, IfOk, IfErr};
+ghost use Rattle.std.specs.Prelude.{◌≡◌, ℕ, ◌+◌, ◌*◌, ◌≤◌, List, take, length, IsTrue, IfOk, IfErr};
 ghost use Rattle.disk_model.specs.Disk.{part};
 ghost use Rattle.disk_model.specs.Keeps.{OnlyReads};
 ghost use Rattle.gated_log.specs.Log.{HoldsBatches};
@@ -32,6 +32,9 @@ pub struct Reading {
     pub words: PageWords,
     /// What the records say.
     pub state: LogState,
+    ghost few_pages: { of.pages ≤ 16384 },
+    ghost same_pages: { state.pages ≡ of.pages },
+    ghost sized: { length words ≡ 128 * of.pages },
 }
 
 /// Reads the image on the disk.
