@@ -230,3 +230,12 @@ root_legal s batches state vs limits good reached room alone =
       own_births = subst (HaveOwnBirths (words_of s batches)) (sym starts) (one_birth (words_of s batches));
       born_before = subst (AreBornBefore plain.next (words_of s batches) 0) (sym starts) (λ a has. inl (one_start a has));
     }
+
+-- a log is legal whose records follow one another and leave room, and whose words the walk passes
+pub walked_legal : (s : Super) (batches : List (List Record)) (state : State) → IsSuper s → AllByRecursion IsRecord (records_of batches)
+    → after_all (start s.pages s.first) (records_of batches) ≡ Some state → length (batches_bytes batches) + 1 + reserve state ≤ s.log_bytes
+    → IsWalked (words_of s batches) state.base state.used → IsLegalLog s batches
+walked_legal s batches state limits good reached room walked =
+    let to = leads_after_all (start s.pages s.first) state (records_of batches) reached in
+    let first = subst (λ n. IsWalked (words_of s batches) 0 n) to.used (subst (λ n. IsWalked (words_of s batches) n state.used) to.base walked) in
+    root_legal s batches state (root_values (words_of s batches) 0) limits good reached room (walked_alone (words_of s batches) first)
