@@ -1,5 +1,6 @@
 -- A heap that is opened again after a crash goes on from its first commits, any number of times.
-use Rattle.std.proofs.Common.{◌+◌, List, take, refl}
+use Rattle.std.proofs.Common.{◌≡◌, ℕ, ◌+◌, List, take, refl}
+use Rattle.graph_model.specs.Canon.{canon}
 use Rattle.graph_model.specs.Graph.{Graph}
 use Rattle.graph_model.specs.History.{commits}
 use Rattle.graph_model.specs.Transaction.{serial}
@@ -8,9 +9,9 @@ use Rattle.log_records.specs.declared.Record.{Record}
 use Rattle.log_machine.specs.Machine as machine
 use Rattle.gated_log.specs.Log.{records_of}
 use Rattle.heap_model.specs.CoreLawsCrash.{IsSuperOf, disk_says}
-use Rattle.heap_model.specs.CoreLawsOneMeaning.{one_said}
+use Rattle.heap_model.specs.CoreLawsOneMeaning.{one_said, one_graph}
 use Rattle.heap_model.specs.CoreLawsOpened.{opened_reached, found_says}
-use Rattle.heap_model.specs.Image.{IsLegalLog}
+use Rattle.heap_model.specs.Image.{IsLegal, IsLegalLog, Shows, StandsFor}
 use Rattle.heap_model.specs.Opening.{opened}
 use Rattle.heap_model.specs.Theorems.{AgainTheorem}
 
@@ -24,3 +25,11 @@ opened_again c s batches g reached of on legal shows =
 -- the superblock stays that of the heap
 pub again_super : (s : Super) (batches : List (List Record)) (g : Graph) → IsLegalLog s batches → IsSuperOf s (opened s batches g)
 again_super s batches g legal = record { limits = legal.limits; pages = refl; room = refl }
+
+-- What an image stands for is what an opening finds in it: the graph, up to names, and the number of commits.
+pub found_one : (s : Super) (batches : List (List Record)) (image : List ℕ) (legal : IsLegal s batches image) (g h : Graph) (j : ℕ) → Shows s batches legal.log g → StandsFor h j image
+    → (canon g ≡ canon h) × (machine.commits (records_of batches) ≡ j)
+found_one s batches image legal g h j shows stands =
+    one_graph g h (machine.commits (records_of batches)) j image
+    (record { super = s; batches = batches; says = found_says s batches legal.log g shows; held = legal.held })
+    stands
