@@ -1,11 +1,13 @@
 #!/usr/bin/env python3
 """Checks that what the documents name is there, crate by crate, and lists each row and line that does not match.
 
-    docs/check_claims.py
+    docs/check_claims.py [--move]
 
-Of docs/CLAIMS.md: each function, type, impl and law in the crate of its row, and each clause in the contracts of its functions. Of
-README.md and docs/*.md: each file that is named, and each definition that is named behind a .antt file. It reads texts
-and proves nothing; a clause that is there may still say something else.
+With --move a row whose functions and clauses are all in just one other crate is moved there first.
+
+Of docs/CLAIMS.md it checks each function, type, impl and law in the crate of its row, and each clause in the contracts of its
+functions. Of all pages it checks each file that is named, each definition that is named with it, and each name of code, which has
+to stand somewhere in the repository. It reads texts and proves nothing; a clause that is there may still say something else.
 """
 import functools
 import glob
@@ -56,7 +58,7 @@ def contracts(crate, function):
     found = []
     for path in files(crate, "src", "rt"):
         module, text = os.path.basename(path)[: -len(".rt")], text_of(path)
-        if module in ("tests", "stops", "openings"):
+        if module.endswith("tests") or module in ("stops", "openings"):
             continue
         for it in re.finditer(rf"^[ ]*(?:pub(?:\([a-z]+\))? )?(?:const )?fn {re.escape(name)}\b", text, re.M):
             head = owner(text, it.start())
@@ -159,13 +161,31 @@ def row(crate, function, clause):
     return wrong
 
 
+def cells_of(line):
+    """The cells of a claim's row, or nothing for any other line."""
+    cells = [it.strip() for it in line.strip().strip("|").split("|")] if line.startswith("|") else []
+    return [] if cells[:1] in (["Claim"], ["---"]) else cells
+
+
+def move_claims():
+    """Moves each row that does not match to the one crate in which it does."""
+    path, lines = f"{TOP}/docs/CLAIMS.md", []
+    for line in open(path, encoding="utf-8"):
+        cells = cells_of(line)
+        if len(cells) > 4 and cells[-1] == "proved" and cells[1] != "all" and row(*cells[1:4]):
+            found = [it for it in crates() if not row(it, *cells[2:4])]
+            if len(found) == 1:
+                line = line.replace(f"| {cells[1]} |", f"| {found[0]} |", 1)
+        lines.append(line)
+    with open(path, "w", encoding="utf-8") as file:
+        file.writelines(lines)
+
+
 def check_claims():
-    page = open(f"{TOP}/docs/CLAIMS.md", encoding="utf-8").read()
-    table = page.partition("<!-- CLAIMS -->")[2].partition("<!-- CLAIMS END -->")[0]
-    before, rows = page[: page.index("<!-- CLAIMS -->")].count("\n"), 0
-    for at, line in enumerate(table.split("\n"), before + 1):
-        cells = [it.strip() for it in line.strip().strip("|").split("|")] if line.startswith("|") else []
-        if not cells or cells[0] in ("Claim", "---"):
+    rows = 0
+    for at, line in enumerate(open(f"{TOP}/docs/CLAIMS.md", encoding="utf-8"), 1):
+        cells = cells_of(line)
+        if not cells:
             continue
         rows += 1
         if len(cells) < 4:
@@ -179,28 +199,53 @@ def check_claims():
     return rows
 
 
-def check_names():
-    """Files that documents name, and the definitions that are named behind one: `crates/../X.antt`: `a`, `b`."""
-    count = 0
-    for path in [f"{TOP}/README.md", *sorted(glob.glob(f"{TOP}/docs/*.md")), f"{TOP}/examples/README.md"]:
-        page = os.path.relpath(path, TOP)
-        for at, line in enumerate(open(path, encoding="utf-8"), 1):
-            for it in re.finditer(r"`((?:crates|docs|examples|tools|bench)/[\w/.*-]+)`((?:: |, )`" + NAME + r"`(?:, `" + NAME + r"`)*)?", line):
-                if "NAME" in it[1] or it[1].endswith("/out"):
-                    continue
-                count += 1
-                found = glob.glob(f"{TOP}/{it[1]}")
-                if not found:
-                    faults.append(f"{page}:{at}: no file {it[1]}")
-                elif it[2] and it[2].startswith(": ") and os.path.isfile(found[0]):
-                    text = text_of(found[0])
-                    for name in TICKED.findall(it[2]):
-                        if not re.search(rf"(?<![\w-]){re.escape(name)}(?![\w-])", text):
-                            faults.append(f"{page}:{at}: no {name} in {it[1]}")
+def pages():
+    """The pages by their names, with the number of each line; what is only planned is left out."""
+    for name in ["README.md", "docs/*.md", "examples/README.md", "bench/README.md"]:
+        for path in sorted(glob.glob(f"{TOP}/{name}")):
+            planned = False
+            for at, line in enumerate(open(path, encoding="utf-8"), 1):
+                planned = line.startswith("## Planned") or planned and not line.startswith("#")
+                if not planned:
+                    yield f"{os.path.relpath(path, TOP)}:{at}", line
+
+
+def check_files():
+    """Files that pages name, and the definitions that are named behind one: `crates/../X.antt`: `a`, `b`."""
+    count, behind = 0, rf"((?:: |, )`{NAME}`(?:, `{NAME}`)*)?"
+    for place, line in pages():
+        for it in re.finditer(r"`((?:crates|docs|examples|tools|bench)/[\w/.*-]+)`" + behind, line):
+            if "NAME" in it[1] or it[1].endswith("/out"):
+                continue
+            count += 1
+            found = glob.glob(f"{TOP}/{it[1]}")
+            if not found:
+                faults.append(f"{place}: no file {it[1]}")
+            elif it[2] and it[2].startswith(": ") and os.path.isfile(found[0]):
+                text = text_of(found[0])
+                lacking = [name for name in TICKED.findall(it[2]) if not re.search(rf"(?<![\w-]){re.escape(name)}(?![\w-])", text)]
+                faults.extend(f"{place}: no {name} in {it[1]}" for name in lacking)
     return count
 
 
-rows, names = check_claims(), check_names()
+def check_words():
+    """Names of code in pages, as `a_name` and `Type::name`."""
+    known, count = {*os.listdir(TOP), *crates()}, 0
+    texts = [f"{TOP}/{it}" for it in ("heap", "HANDLES", "crates.txt")] + glob.glob(f"{TOP}/examples/*") + glob.glob(f"{TOP}/bench/*")
+    for path in texts + [it for part in (("src", "rt"), ("specs", "antt")) for it in files("*", *part)]:
+        known |= {*re.findall(r"[A-Za-z_]\w*", text_of(path)), *re.findall(NAME, text_of(path)), os.path.basename(path).split(".")[0]}
+    for place, line in pages():
+        for name in TICKED.findall(line):
+            if re.fullmatch(rf"{NAME}(?:::{NAME})*", name):
+                count += 1
+                if not known.issuperset(name.split("::")):
+                    faults.append(f"{place}: nothing is named {name}")
+    return count
+
+
+if "--move" in sys.argv:
+    move_claims()
+rows, names, words = check_claims(), check_files(), check_words()
 print(*faults, sep="\n", end="\n" * bool(faults))
-print(f"{rows} rows, {names} names of files: {len(faults)} do not match")
+print(f"{rows} claims, {names} names of files, {words} names of code: {len(faults)} do not match")
 sys.exit(bool(faults))

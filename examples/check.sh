@@ -33,6 +33,11 @@ example() {
     made "$wanted" ./heap play --fresh 1 "$@" <"examples/$script"
 }
 
+# quick OUTPUT SCRIPT: the program as it is compiled with nothing proved.
+quick() {
+    made "$1" ./heap --quick play --fresh 1 <"examples/$2" 2>/dev/null
+}
+
 # complains ERROR STATUS LINES WORDS..: nothing on standard output, and these last lines on standard error.
 complains() {
     wanted=$1 expected=$2 lines=$3
@@ -86,7 +91,12 @@ tell full_log.out "$status" 0 $?
 
 complains bad_line.err 3 1 play --fresh 1 <examples/bad_line.script
 complains usage.err 2 2 play --fresh 0 </dev/null
+complains help.err 2 3 </dev/null
 passes_signals_on
+
+# Each of these compiles the program.
+quick first.out first.script
+complains quick.err 2 3 --quick play </dev/null
 
 made transfer.dot tools/graph_to_dot <examples/transfer.out
 made references.dot tools/graph_to_dot <examples/references.graph

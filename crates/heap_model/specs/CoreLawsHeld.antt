@@ -1,5 +1,5 @@
 -- What a disk holds stays where it is changed inside of the log alone.
-use Rattle.std.proofs.Common.{◌≡◌, ℕ, ◌+◌, ◌≤◌, List, sym, ◌∙◌, arith}
+use Rattle.std.proofs.Common.{ℕ, ◌+◌, List, sym, ◌∙◌, arith}
 use Rattle.disk_model.specs.Disk.{part, SameOutside}
 use Rattle.gate_slot.specs.Images.{same_part}
 use Rattle.graph_model.specs.Graph.{Graph}

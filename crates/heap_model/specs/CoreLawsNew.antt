@@ -1,12 +1,12 @@
 -- A new heap: its log is empty and legal, and says the root alone with four null fields.
-use Rattle.std.proofs.Common.{◌≡◌, ℕ, zero, suc, ◌+◌, ◌*◌, ◌-◌, ◌≤◌, List, [], ◌∷◌, ◌++◌, length, replicate, refl, sym, ap, ◌∙◌, subst, arith}
+use Rattle.std.proofs.Common.{◌≡◌, ℕ, suc, ◌-◌, List, [], ◌∷◌, replicate, refl, sym, ap, ◌∙◌, subst, arith}
 use Rattle.std.specs.Prelude.{slice_set}
 use Rattle.graph_model.specs.declared.val.Val.TheVariants.{Null}
-use Rattle.graph_model.specs.Graph.{root, fields, new_graph}
+use Rattle.graph_model.specs.Graph.{new_graph}
 use Rattle.graph_model.specs.RootGraph.{fields-root_graph}
 use Rattle.image_plan.specs.declared.superblock.Super.{Super}
 use Rattle.image_plan.specs.Super.{IsSuper}
-use Rattle.log_machine.specs.Machine.{start, words_in, first_contents}
+use Rattle.log_machine.specs.Machine.{start, words_in}
 use Rattle.log_machine.specs.CommittedLaws.{committed_words-settled}
 use Rattle.object_layout.specs.RootLaws.{StandsAlone}
 use Rattle.heap_model.specs.CoreLawsLegal.{legal_base, root_legal}

@@ -1,6 +1,5 @@
 -- A core that was opened on a legal log is reached, whatever graph and however many commits the log says.
 use Rattle.std.proofs.Common.{◌≡◌, ◌⊎◌, inl, inr, ℕ, ◌+◌, List, [], ◌∷◌, ◌++◌, map, take, drop, max, Some, unwrap_or, refl, sym, ap, ◌∙◌, subst, arith, take-append-drop}
-use Rattle.std.specs.Prelude.{fold}
 use Rattle.std.proofs.lemmas.List.{append-nil}
 use Rattle.std.proofs.lemmas.Option.{option_and_then_some}
 use Rattle.graph_model.specs.declared.val.Val.{Val}
@@ -20,9 +19,10 @@ use Rattle.heap_model.specs.CoreLawsLone.{none_reserve}
 use Rattle.heap_model.specs.CoreLawsOpening.{next_is, rolled_reached, rolled_words, rolled_good, rolled_room, rolled_says}
 use Rattle.heap_model.specs.CoreLawsReplies.{hears_nothing}
 use Rattle.heap_model.specs.CoreLawsRoot.{all_lead}
+use Rattle.heap_model.specs.Theorems.{OpeningTheorem}
 use Rattle.heap_model.specs.CoreValid.{at_first, Behind, IsTold, IsValid, IsReached}
 use Rattle.heap_model.specs.Image.{words_of, IsLegalLog, Holds, Shows, Says}
-use Rattle.heap_model.specs.Opening.{rolled_back, next_of, opened}
+use Rattle.heap_model.specs.Opening.{rolled_back, next_of, next_behind, opened}
 use Rattle.heap_model.specs.ValueWord.{word_of, root_values}
 
 -- The words of a root that stands alone.
@@ -47,10 +47,6 @@ alone_words (a ∷ b ∷ ws) vs alone =
     ∙ ap (λ l. 17 ∷ 0 ∷ l) (sym (take-append-drop 4 ws) ∙ ap (λ l. l ++ drop 4 ws) (words_are (take 4 ws) vs alone.fields))
 
 -- The number of the next transaction.
-
--- the number behind records: one more than the greatest among them, or the first if that is greater
-abbrev pub next_behind : ℕ → List Record → ℕ
-next_behind first records = fold (λ n rec. max n (number_of rec + 1)) first records
 
 next_after : (s n : State) (r : Record) → after s r ≡ Some n → max s.next (number_of r + 1) ≡ n.next
 next_after s n r is = ap (λ (x : State). x.next) (turns s n r is).is
@@ -132,12 +128,28 @@ module _ (s : Super) (batches : List (List Record)) (legal : IsLegalLog s batche
   pub opened_reached : IsReached (opened s batches g)
   opened_reached = record { sound = inl opened_valid; answers = hears_nothing g }
 
-  -- the log that was found says its first commits: none since the opening
-  pub found_says : Says g (commits (records_of batches) + 0) s batches
-  found_says = record { legal = legal; seen = g; shows = shows; graph = refl; count = omega arith }
+  -- the log that was found says the graph
+  pub found_says : Says g (commits (records_of batches)) s batches
+  found_says = record { legal = legal; seen = g; shows = shows; graph = refl; count = refl }
 
-  -- so does the one behind the opening; and an image of either stands for them, wherever the opening was stopped
+  -- so does the one behind the opening
+  pub left_says : Says g (commits (records_of batches)) s (rolled_back s batches)
+  left_says = rolled_says g (commits (records_of batches)) s batches found_says
+
+  none_since : (found : List (List Record)) → Says g (commits (records_of batches)) s found → Says g (commits (records_of batches) + 0) s found
+  none_since found says = record { legal = says.legal; seen = says.seen; shows = says.shows; graph = says.graph; count = omega (arith, says.count) }
+
+  -- an image of either keeps all commits, wherever the opening was stopped
   pub opened_keeps : (image : List ℕ) → Holds s batches image ⊎ Holds s (rolled_back s batches) image → KeepsCommits (opened s batches g) image
-  opened_keeps image (inl held) = (0, record { stands = record { super = s; batches = batches; says = found_says; held = held }; kept = omega arith; some = omega arith })
+  opened_keeps image (inl held) = (0, record { stands = record { super = s; batches = batches; says = none_since batches found_says; held = held }; kept = omega arith; some = omega arith })
   opened_keeps image (inr held) =
-      (0, record { stands = record { super = s; batches = rolled_back s batches; says = rolled_says g (commits (records_of batches) + 0) s batches found_says; held = held }; kept = omega arith; some = omega arith })
+      (0, record { stands = record { super = s; batches = rolled_back s batches; says = none_since (rolled_back s batches) left_says; held = held }; kept = omega arith; some = omega arith })
+
+-- A heap that is opened on any legal log goes on.
+pub opening_law : OpeningTheorem
+opening_law s batches legal g shows = record {
+  reached = opened_reached s batches legal g shows;
+  next = next_pinned s batches legal;
+  found = found_says s batches legal g shows;
+  left = left_says s batches legal g shows;
+}

@@ -14,18 +14,30 @@ use Rattle.graph_model.specs.RootGraph.{id_cmp_total, id_cmp-IsAntisymmetric}
 use Rattle.graph_model.specs.RootOnly.{LeadsToRoot}
 use Rattle.heap_words.specs.declared.Word.TheVariants as means
 use Rattle.heap_words.specs.Word.{IsFieldWord}
+use Rattle.heap_words.specs.WordLaws.{meaning-bits}
 use Rattle.log_machine.specs.Machine.{with_word}
 use Rattle.object_layout.specs.Layout.{IsKnown, IsSeen, id_at}
 use Rattle.object_layout.specs.RootLaws.{IsRootWord, AreRootWords, StandsAlone, root_seen}
 use Rattle.heap_model.specs.CoreValid.{at_first}
 use Rattle.heap_model.specs.ListLaws.{AllByRecursion-map}
-use Rattle.heap_model.specs.ValueWord.{word_of, IsRootVal}
+use Rattle.heap_model.specs.ValueWord.{word_of, value_meant, value_of, IsRootVal}
 
 -- the word of such a value is a field's
 pub word_of-IsFieldWord : (v : Val) → IsRootVal v → IsFieldWord (word_of at_first v)
 word_of-IsFieldWord Null fits = (means.Null, tt, refl)
 word_of-IsFieldWord (Int n) fits = (means.Int n, fits, refl)
 word_of-IsFieldWord (Ref id) fits = (means.Stable 0, lit< tt, refl)
+
+-- a value is read back from its word
+pub value_of-word_of : (v : Val) → IsRootVal v → value_of (word_of at_first v) ≡ v
+value_of-word_of Null fits = ap value_meant (meaning-bits means.Null tt)
+value_of-word_of (Int n) fits = ap value_meant (meaning-bits (means.Int n) fits)
+value_of-word_of (Ref id) fits = ap value_meant (meaning-bits (means.Stable 0) (lit< tt)) ∙ ap Ref (sym fits)
+
+-- the same of each
+pub map-value_of-word_of : (vs : List Val) → AllByRecursion IsRootVal vs → map value_of (map (word_of at_first) vs) ≡ vs
+map-value_of-word_of [] fit = refl
+map-value_of-word_of (v ∷ vs) fit = ap (λ u. u ∷ map value_of (map (word_of at_first) vs)) (value_of-word_of v fit.0) ∙ ap (λ us. v ∷ us) (map-value_of-word_of vs fit.1)
 
 -- such a value leads to the root alone
 pub leads : (v : Val) → IsRootVal v → LeadsToRoot v

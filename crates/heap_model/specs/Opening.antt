@@ -1,10 +1,10 @@
 -- What an opening of a legal image does: it takes back the writes of transactions that have not ended, in one batch more.
-use Rattle.std.specs.Prelude.{ℕ, List, [], Option, None, Some}
+use Rattle.std.specs.Prelude.{ℕ, ◌+◌, List, [], Option, None, Some, fold, max}
 use Rattle.graph_model.specs.Graph.{Graph}
 use Rattle.image_plan.specs.declared.superblock.Super.{Super}
 use Rattle.log_records.specs.declared.Record.{Record}
 use Rattle.gated_log.specs.Log.{records_of, with_batch}
-use Rattle.log_machine.specs.Machine.{State, start, after_all, commits, rollback}
+use Rattle.log_machine.specs.Machine.{State, start, after_all, number_of, commits, rollback}
 use Rattle.heap_model.specs.Core.{Core, force_calls}
 
 -- what the records of these batches say
@@ -31,9 +31,13 @@ abbrev pub next_in : Option State → ℕ
 next_in None = 0
 next_in (Some state) = state.next
 
--- the number of the first transaction behind an opening: the heap's first, or one more than the greatest in its log
+-- the number of the first transaction behind an opening
 abbrev pub next_of : Super → List (List Record) → ℕ
 next_of s batches = next_in (state_of s batches)
+
+-- the greater of a heap's first number and one more than the greatest among these records
+abbrev pub next_behind : ℕ → List Record → ℕ
+next_behind first records = fold (λ n rec. max n (number_of rec + 1)) first records
 
 -- The core of a heap just opened, where the log held these batches and this graph was seen.
 abbrev pub opened : Super → List (List Record) → Graph → Core

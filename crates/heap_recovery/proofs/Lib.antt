@@ -1,3 +1,2 @@
 mod LegalLog
 mod Opening
-mod Replay

@@ -1,7 +1,7 @@
 -- What an opening reads of a log, and what it leaves.
-use Rattle.std.proofs.Common.{◌≡◌, ◌≢◌, ◌⊎◌, ⊎_elim, ℕ, ◌+◌, ◌≤◌, List, [], ◌∷◌, ◌++◌, length, Some, Result, Ok, Err, refl, sym, ap, ◌∙◌, subst, arith}
-use Rattle.std.specs.Prelude.{fold, IsOk, IfOk, IfErr}
-use Rattle.std.specs.List.{AllByRecursion}
+use Rattle.std.proofs.Common.{◌≡◌, ◌≢◌, ◌⊎◌, ⊎_elim, ℕ, ◌+◌, ◌≤◌, List, [], ◌∷◌, ◌++◌, length, take, drop, take-append-drop, Option, None, Some, Result, Ok, Err, refl, sym, ap, ◌∙◌, subst, arith}
+use Rattle.std.specs.Prelude.{option_and_then, IfOk, IsOk}
+use Rattle.std.proofs.lemmas.Option.{option_and_then_some}
 use Rattle.std.proofs.lemmas.Bool.Decides.{nat_tests}
 use Rattle.disk_model.specs.Disk.{part, Only, Narrows, SameOutside}
 use Rattle.disk_model.specs.Moments.{LeavesOnly, joined, weaker}
@@ -12,26 +12,30 @@ use Rattle.gated_log.specs.declared.LogError.TheVariants as logging
 use Rattle.gated_log.specs.Log.{records_of, with_batch, HoldsBatches, batches_bytes}
 use Rattle.gated_log.specs.LogLaws.{hand_size-Keeps}
 use Rattle.gated_log.specs.LogRoom.{used_bytes}
-use Rattle.gated_log.specs.LogState.{log_place, log_room, log_tail, hand_size, log_used, log_used_with, IsHandEmpty, Keeps}
+use Rattle.gated_log.specs.LogState.{log_place, log_room, log_tail, hand_size, log_used, log_used_with, IsHandEmpty, IsSameLog, Keeps}
 use Rattle.graph_model.specs.Graph.{Graph}
 use Rattle.image_plan.specs.declared.superblock.Super.{Super}
 use Rattle.image_plan.specs.Plan.{log_offset}
 use Rattle.log_records.specs.declared.Record.{Record}
 use Rattle.log_records.specs.Record.{spellings}
-use Rattle.log_machine.specs.Machine.{State, Loser, losing, words, put_record, all_taken_back, rollback, abort_each, reserve}
+use Rattle.log_machine.specs.declared.replaying.ReplayError.{ReplayError}
+use Rattle.log_machine.specs.declared.replaying.ReplayError.TheVariants as replaying
+use Rattle.log_machine.specs.Replay.{IsFirstUnshaped}
+use Rattle.log_machine.specs.Machine.{State, Loser, after, after_all, losing, words, all_taken_back, rollback, abort_each, reserve}
 use Rattle.log_machine.specs.MachineLaws.{words-append}
-use Rattle.log_machine.specs.StateLaws.{commits-start, sound_after_all, sound_start}
+use Rattle.log_machine.specs.StateLaws.{commits-start}
 use Rattle.log_machine.specs.AbortLaws.{rollback_fits, rollback_words}
 use Rattle.log_machine.specs.CommittedLaws.{committed_words_at}
 use Rattle.object_layout.specs.Walk.{IsWalked}
 use Rattle.heap_model.specs.CoreLawsCrash.{records_of-with_batch}
+use Rattle.heap_model.specs.CoreLawsHeld.{held_with, still_stands, rolled_stands}
 use Rattle.heap_model.specs.Image.{words_of, IsLegalLog, Holds, IsLegal, Says, StandsFor}
 use Rattle.heap_model.specs.Opening.{rollback_in, rollback_of, rolled_back, next_in, next_of}
 use Rattle.heap_recovery.specs.declared.error.RecoverError.{RecoverError}
 use Rattle.heap_recovery.specs.declared.error.RecoverError.TheVariants.{NoMemory, NotHeap, Damaged, Disk}
 use Rattle.heap_recovery.specs.declared.reading.Reading.{Reading}
 use Rattle.heap_recovery.specs.declared.recovery.Recovered.{Recovered}
-use Rattle.heap_recovery.specs.Recovered.{IsRead, IsRecovered, IsFromOutside, IsFromImage, ErrorPasses, OpenPasses, log_error}
+use Rattle.heap_recovery.specs.Recovered.{IsRead, IsRecovered, IsFromOutside, ErrorPasses, OpenPasses, log_error, replay_error}
 use Rattle.heap_recovery.proofs.LegalLog.{legal_log}
 
 -- a log that is not damaged fails by the outside
@@ -40,12 +44,19 @@ outside_of logging.NoMemory sound = tt
 outside_of (logging.BadBatch at) sound = absurd (sound at refl)
 outside_of (logging.Disk e) sound = tt
 
--- so does an opening that finds no fault with the image
-pub outside_unless : (e : RecoverError) → (IsFromImage e → ⊥) → IsFromOutside e
-outside_unless NoMemory sound = tt
-outside_unless NotHeap sound = absurd (sound tt)
-outside_unless (Damaged at) sound = absurd (sound tt)
-outside_unless (Disk e) sound = tt
+-- so do records of which all follow one another
+some_front : (s m : State) (rs more : List Record) → after_all s (rs ++ more) ≡ Some m → (n : State) × (after_all s rs ≡ Some n)
+some_front s m [] more e = (s, refl)
+some_front s m (r ∷ rs) more e = option_and_then_some (λ next. after_all next (rs ++ more)) (after s r) m e (λ next is rest.
+    let front = some_front next m rs more rest in
+    (front.0, ap (λ (o : Option State). option_and_then (λ (x : State). after_all x rs) o) is ∙ front.1))
+
+pub shaped_outside : (s m : State) (rs : List Record) (e : ReplayError) → after_all s rs ≡ Some m → ((lsn : ℕ) → e ≡ replaying.Unshaped lsn → IsFirstUnshaped s rs lsn) → IsFromOutside (replay_error e)
+shaped_outside s m rs replaying.NoMemory reached fault = tt
+shaped_outside s m rs (replaying.Unshaped lsn) reached fault =
+    let front = some_front s m (take lsn rs) (drop lsn rs) (ap (λ (l : List Record). after_all s l) (take-append-drop lsn rs) ∙ reached) in
+    let never : None ≡ Some front.0 = sym (fault lsn refl).stuck ∙ front.1 in
+    cc never
 
 -- a log in which no record waits is known to be so
 pub none_waits : (log : Log) (batches : List (List Record)) → Keeps log batches [] → IsHandEmpty log
@@ -152,3 +163,48 @@ module _ (s : Super) (batches : List (List Record)) (read : Reading) (is : IsRea
     commits = same_commits ∙ ap (λ (x : State). x.commits) state ∙ commits-start s.pages s.first read.state (records_of batches) is.state;
     next = next ∙ ap (λ (x : State). x.next) state ∙ sym (ap next_in is.state);
   }
+
+-- what is opened is a legal log
+pub opened_legal : (s : Super) (batches : List (List Record)) (read : Reading) (is : IsRead s batches read) (r : Result Recovered RecoverError) (behind : Reading)
+    → log_used read.log + reserve read.state ≤ log_room read.log → behind.state ≡ read.state → behind.words ≡ all_taken_back read.state read.words
+    → IfOk r (λ found. IsWalked behind.words behind.state.base behind.state.used) → IfOk r (IsRecovered s batches)
+    → IfOk r (λ found. (t : Super) × (bs : List (List Record)) × IsLegalLog t bs × IsRecovered t bs found)
+opened_legal s batches read is (Err e) behind room state taken walked found = tt
+opened_legal s batches read is (Ok f) behind room state taken walked found =
+    let passes = subst (λ (x : State). IsWalked behind.words x.base x.used) state walked in
+    (s, batches, read_legal s batches read is room behind.words taken passes, found)
+
+-- what is found in any case
+pub if_ok : (r : Result Recovered RecoverError) (P : Type 0) → P → IfOk r (λ found. P)
+if_ok (Ok found) P h = h
+if_ok (Err e) P h = tt
+
+-- the calls of an opening that ends well
+pub ok_passes : (r : Result Recovered RecoverError) (n before now : ℕ) → IsOk r → Passes n before now (Ok tt) → OpenPasses n before now r
+ok_passes (Ok found) n before now ok passes = passes
+ok_passes (Err e) n before now ok passes = cc ok
+
+-- a log that only took memory keeps what it did
+pub keeps_same : (old new : Log) (batches : List (List Record)) (pending : List Record) → IsSameLog old new → Keeps old batches pending → Keeps new batches pending
+keeps_same old new batches pending same keeps = record {
+  tail = same.place.tail ∙ keeps.tail;
+  head = keeps.head;
+  four = keeps.four;
+  items = same.hand ∙ keeps.items;
+  forced = same.place.forced ∙ keeps.forced;
+  count = same.count ∙ keeps.count;
+}
+
+-- A crash at any moment of an opening leaves what stands for the same graph and commits.
+pub opening_moments : {D : Type 0} (moment : D → ℕ) (left_since : D → ℕ → List ℕ → Type 0) (old mid new : D) (may_leave : List ℕ → Type 0) (now image : List ℕ) (g : Graph) (k : ℕ) (stands : StandsFor g k image) (read : Reading)
+    → IsRead stands.super stands.batches read → Only image may_leave → now ≡ image → LeavesOnly moment left_since old mid may_leave
+    → LeavesOnly moment left_since mid new (λ c. SameOutside (log_place read.log) (log_place read.log + log_room read.log) now c × (HoldsBatches (part c (log_place read.log) (log_room read.log)) stands.batches ⊎ HoldsBatches (part c (log_place read.log) (log_room read.log)) (with_batch stands.batches (rollback read.state))))
+    → LeavesOnly moment left_since old new (StandsFor g k)
+opening_moments moment left_since old mid new may_leave now image g k stands read is only same first second =
+    let s = stands.super in
+    let batches = stands.batches in
+    let outside = outside_log s batches read is image now in
+    weaker moment left_since old new _ (StandsFor g k) (joined moment left_since old mid new _ _ first second)
+    (λ c. ⊎_elim (λ left. subst (StandsFor g k) (sym (only c left)) stands)
+    (λ found. ⊎_elim (λ holds. still_stands g k image c stands (outside c same found.0) (in_log s batches read is (λ n m. HoldsBatches (part c n m) batches) holds))
+    (λ holds. rolled_stands g k image c stands (outside c same found.0) (rolled_held s batches read is c holds)) found.1))

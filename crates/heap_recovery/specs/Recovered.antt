@@ -11,10 +11,12 @@ use Rattle.image_plan.specs.Plan.{log_offset}
 use Rattle.image_plan.specs.Super.{IsSuper}
 use Rattle.log_records.specs.declared.Record.{Record}
 use Rattle.log_records.specs.Record.{IsRecord}
+use Rattle.log_machine.specs.declared.replaying.ReplayError.{ReplayError}
+use Rattle.log_machine.specs.declared.replaying.ReplayError.TheVariants as replaying
 use Rattle.log_machine.specs.Machine.{words, commits}
 use Rattle.heap_model.specs.Opening.{state_of, rolled_back, next_of}
 use Rattle.heap_recovery.specs.Causes.{error_device}
-use Rattle.heap_recovery.specs.declared.at.At.TheVariants.{Batch}
+use Rattle.heap_recovery.specs.declared.at.At.TheVariants.{Batch, Rec}
 use Rattle.heap_recovery.specs.declared.error.RecoverError.{RecoverError}
 use Rattle.heap_recovery.specs.declared.error.RecoverError.TheVariants.{NoMemory, NotHeap, Damaged, Disk}
 use Rattle.heap_recovery.specs.declared.reading.Reading.{Reading}
@@ -48,13 +50,6 @@ IsFromOutside NotHeap = ⊥
 IsFromOutside (Damaged at) = ⊥
 IsFromOutside (Disk e) = Unit {0}
 
--- The image is not legal, which the disk didn't hinder.
-abbrev pub IsFromImage : RecoverError → Type 0
-IsFromImage NoMemory = ⊥
-IsFromImage NotHeap = Unit {0}
-IsFromImage (Damaged at) = Unit {0}
-IsFromImage (Disk e) = ⊥
-
 -- The calls of an opening that ends in an error: fewer than n where the disk stopped it, and none where memory was refused.
 abbrev pub ErrorPasses : ℕ → ℕ → ℕ → RecoverError → Type 0
 ErrorPasses n before now NoMemory = now ≡ before
@@ -70,3 +65,8 @@ abbrev pub log_error : LogError → RecoverError
 log_error logging.NoMemory = NoMemory
 log_error (logging.BadBatch at) = Damaged (Batch at)
 log_error (logging.Disk e) = Disk e
+
+-- what a replay's error is of an opening
+abbrev pub replay_error : ReplayError → RecoverError
+replay_error replaying.NoMemory = NoMemory
+replay_error (replaying.Unshaped lsn) = Damaged (Rec lsn)

@@ -2,6 +2,7 @@
 use crate::at::At;
 use disk_model::DiskError;
 use gated_log::LogError;
+use log_machine::ReplayError;
 use std::alloc::AllocError;
 
 /// Why an image can't be opened.
@@ -39,6 +40,20 @@ impl From<LogError> for RecoverError {
             LogError::NoMemory => RecoverError::NoMemory,
             LogError::BadBatch { at } => RecoverError::Damaged { at: At::Batch(at) },
             LogError::Disk(e) => RecoverError::Disk(e),
+        }
+    }
+}
+
+impl From<ReplayError> for RecoverError {
+    ghost use Rattle.std.specs.Prelude.{◌≡◌};
+    ghost use Rattle.heap_recovery.specs.Recovered.{replay_error};
+
+    ghost from_gives = { λ e error. error ≡ replay_error e };
+
+    fn from(e: ReplayError) -> Self {
+        match e {
+            ReplayError::NoMemory => RecoverError::NoMemory,
+            ReplayError::Unshaped { lsn } => RecoverError::Damaged { at: At::Rec(lsn) },
         }
     }
 }

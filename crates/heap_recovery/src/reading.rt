@@ -1,6 +1,5 @@
 //! What an image says before anything is rolled back: its superblock, its log, and the words that the records leave.
-ghost use Rattle.std.specs.Prelude.{◌≡◌, ℕ, ◌+◌, ◌^◌, ◌<◌, ◌≤◌, List, None, Some, Ok, take, length, IsTrue, IfOk, IfErr};
-ghost use Rattle.std.specs.List.{AllByRecursion};
+ghost use Rattle.std.specs.Prelude.{◌≡◌, ℕ, ◌+◌, ◌*◌, ◌≤◌, List, take, length, IsTrue, IfOk, IfErr};
 ghost use Rattle.disk_model.specs.Disk.{part};
 ghost use Rattle.disk_model.specs.Keeps.{OnlyReads};
 ghost use Rattle.gated_log.specs.Log.{HoldsBatches};
@@ -9,19 +8,17 @@ ghost use Rattle.image_plan.specs.declared.superblock.Super.{Super};
 ghost use Rattle.image_plan.specs.Plan.{log_offset, image_size};
 ghost use Rattle.image_plan.specs.Super.{IsSuper, superblock};
 ghost use Rattle.log_records.specs.declared.Record.{Record};
-ghost use Rattle.log_records.specs.Record.{IsRecord};
-ghost use Rattle.log_machine.specs.Machine.{start, after_all, words, reserve};
+ghost use Rattle.log_machine.specs.Machine.{reserve};
 ghost use Rattle.heap_model.specs.Image.{IsLegalLog, IsLegal};
 ghost use Rattle.heap_recovery.specs.Causes.{open_device};
-ghost use Rattle.heap_recovery.specs.Recovered.{IsRead, IsFromOutside, IsFromImage};
+ghost use Rattle.heap_recovery.specs.Recovered.{IsRead, IsFromOutside};
 
 use crate::at::At;
 use crate::error::RecoverError;
 use disk_model::Disk;
 use gated_log::Log;
 use image_plan::{SUPER_BYTES, Super, read_super};
-use log_machine::{AfterError, LogState, PageWords};
-use log_records::Record;
+use log_machine::{LogState, PageWords, replay};
 use std::alloc::Global;
 
 /// What is read of an image.
@@ -35,6 +32,9 @@ pub struct Reading {
     pub words: PageWords,
     /// What the records say.
     pub state: LogState,
+    ghost few_pages: { of.pages ≤ 16384 },
+    ghost same_pages: { state.pages ≡ of.pages },
+    ghost sized: { length words ≡ 128 * of.pages },
 }
 
 /// Reads the image on the disk.
@@ -96,35 +96,4 @@ fn read_log<D: Disk>(alloc: Global, disk: &mut D, of: Super) -> Result<Reading, 
         words,
         state,
     })
-}
-
-/// The state and the words after the records, if each of them can follow those before it.
-fn replay(
-    alloc: Global,
-    pages: u32,
-    first: u32,
-    records: &[Record],
-) -> Result<(LogState, PageWords), RecoverError>
-    requires some { 1 ≤ pages }
-    requires few { length records.now < 2 ^ 32 }
-    ensures state { IfOk result (λ found. after_all (start pages first) records.now ≡ Some found.0) }
-    ensures words { IfOk result (λ found. found.1 ≡ words pages records.now) }
-    ensures small { IfOk result (λ found. reserve found.0 < 2 ^ 37) }
-    ensures exact { IfErr result (λ e. IsFromImage e → after_all (start pages first) records.now ≡ None) }
-    ensures no_disk { open_device result ≡ Ok tt }
-{
-    let mut state = LogState::start(alloc, pages, first);
-    let mut words = PageWords::first_contents(alloc, pages)?;
-    for (i, record) in records.iter().enumerate() {
-        match state.after(record) {
-            Ok(()) => words.apply(record),
-            Err(AfterError::NoMemory) => return Err(RecoverError::NoMemory),
-            Err(AfterError::Unshaped) => {
-                return Err(RecoverError::Damaged {
-                    at: At::Rec(i as u64 + 1),
-                });
-            }
-        }
-    }
-    Ok((state, words))
 }

@@ -14,6 +14,9 @@ use log_records::Record;
 use std::alloc::{AllocError, Global};
 use std::marker::Model;
 
+/// The greatest number of a transaction.
+pub const LAST_NUMBER: u32 = 4_294_967_294;
+
 /// Why a record was not taken.
 #[derive(Clone, Copy, Debug, PartialEq, Eq)]
 pub enum AfterError {

@@ -1,0 +1,3 @@
+pub mod NumberLaws
+pub mod Order
+pub mod OrderLaws

@@ -1,0 +1,2 @@
+//! The text of the graph that is seen in words.
+#![tactic(auto)]
