@@ -7,7 +7,7 @@ ghost use Rattle.log_machine.specs.Machine.{start, undo_of, losers, with_entries
 ghost use Rattle.log_machine.specs.Effect.{WritesBelow, EachWritesBelow, AddsEntry};
 ghost use Rattle.log_machine.specs.UndoEntry.{LiesInside};
 
-use crate::{LAST_NUMBER, UndoEntry};
+use crate::UndoEntry;
 use crate::page_words::{FIELDS_AT, ROOT_WORDS};
 use crate::undo_lists::UndoLists;
 use log_records::Record;
