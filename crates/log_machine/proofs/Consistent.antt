@@ -1,21 +1,20 @@
 -- The state in memory stays consistent, and its records write within the pages.
-use Rattle.std.proofs.Common.{◌≡◌, ℕ, ◌+◌, ◌<◌, ◌≤◌, max, Bool, true, false, cond, List, [], ◌∷◌, ◌++◌, length, reverse, drop, Option, None, Some, is_some, refl, sym, ap, ◌∙◌, subst, arith, Result, Ok, Err}
+use Rattle.std.proofs.Common.{◌≡◌, ℕ, ◌+◌, ◌<◌, ◌≤◌, max, Bool, true, false, cond, List, [], ◌∷◌, reverse, drop, None, Some, is_some, refl, sym, ap, ◌∙◌, subst, arith, Result, Ok, Err}
 use Rattle.std.specs.Prelude.{IfOk}
 use Rattle.std.specs.List.{AllByRecursion}
 use Rattle.std.specs.Ordering.{nat_cmp}
-use Rattle.std.specs.FinMap.{FinMap, empty, get, remove, entries}
+use Rattle.std.specs.FinMap.{FinMap, empty, remove, entries}
 use Rattle.std.specs.Global.{Vec}
 use Rattle.std.proofs.lemmas.List.{reverse-reverse}
 use Rattle.log_records.specs.declared.Record.{Record}
-use Rattle.log_records.specs.declared.Record.TheVariants.{Update, Undo, Commit, End}
 use Rattle.log_machine.specs.declared.UndoEntry.{UndoEntry}
 use Rattle.log_machine.specs.UndoEntry.{LiesInside}
-use Rattle.log_machine.specs.Machine.{State, Loser, start, undo_in, undo_of, with_entries, words_in, field_at, is_number, lies_inside, is_same_write, without_newest, losing, abort_records, abort_each, rollback}
+use Rattle.log_machine.specs.Machine.{State, Loser, start, undo_of, with_entries, words_in, field_at, is_number, lies_inside, is_same_write, without_newest, losing, abort_records, abort_each, rollback}
 use Rattle.log_machine.specs.ListLaws.{AllByRecursion-append, AllByRecursion-reverse}
 use Rattle.log_machine.specs.MapLaws.{EachEntry, each_empty, each_remove, get_first, remove_first}
 use Rattle.log_machine.specs.MachineLaws.{inside_told, newest_told}
-use Rattle.log_machine.specs.Sound.{IsLoser, IsSound, IsConsistent}
-use Rattle.log_machine.specs.StateLaws.{all_inside, sound_with, grown}
+use Rattle.log_machine.specs.Sound.{IsLoser, IsConsistent}
+use Rattle.log_machine.specs.StateLaws.{all_inside, sound_with}
 use Rattle.log_machine.specs.Effect.{WritesBelow, EachWritesBelow}
 
 -- before the first record

@@ -4,7 +4,7 @@ use Rattle.std.specs.Prelude.{option_and_then}
 use Rattle.std.proofs.lemmas.List.{take_more}
 use Rattle.log_records.specs.declared.Record.{Record}
 use Rattle.log_machine.specs.Machine.{State, start, after, after_all, put_record, words, words_in, reserve}
-use Rattle.log_machine.specs.MachineLaws.{after_all-append, after_all-append2, after_all_none, words-append}
+use Rattle.log_machine.specs.MachineLaws.{after_all-append, words-append}
 use Rattle.log_machine.specs.Effect.{WritesBelow}
 use Rattle.log_machine.specs.Sound.{IsSound}
 use Rattle.log_machine.specs.WordsLaws.{length-words}

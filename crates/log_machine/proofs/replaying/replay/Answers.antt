@@ -1,4 +1,4 @@
-use Rattle.std.proofs.Common.{◌≡◌, ◌+◌, ℕ, Err, Some, take, get_or, ap, sym, ◌∙◌, subst}
+use Rattle.std.proofs.Common.{◌≡◌, ◌+◌, Err, Some, take, get_or, ap, sym, ◌∙◌, subst}
 use Rattle.log_records.specs.declared.Record.TheVariants.{Update}
 use Rattle.log_machine.specs.Machine.{start}
 use Rattle.log_machine.specs.Replay.{IsFirstUnshaped, Bounds, bounds_start, bounds_on, state_on, words_on, unshaped_at, same_size, within_words}
