@@ -102,3 +102,17 @@ pub told_below : {E : Type 0} (now : State) (r : Result (Vec Record) E) → Each
     → IfOk r (λ records. EachWritesBelow (words_in now.pages) records.items)
 told_below now (Ok records) below is = subst (λ l. EachWritesBelow (words_in now.pages) l) (sym is) below
 told_below now (Err e) below is = tt
+
+all_below : (s : State) (us : List UndoEntry) → IsConsistent s → AllByRecursion (LiesInside s.base s.used) us → AllByRecursion (λ u. field_at u.object u.field < words_in s.pages) us
+all_below s [] is all = tt
+all_below s (u ∷ us) is all = (below_pages s u is all.0, all_below s us is all.1)
+
+-- the writes in the other order write within the pages
+pub below_reversed : (s now : State) (t : ℕ) (us : List UndoEntry) → IsConsistent s → s ≡ now → reverse us ≡ undo_of s t → AllByRecursion (λ (u : UndoEntry). field_at u.object u.field < words_in now.pages) us
+below_reversed s now t us is same e =
+    subst (λ (x : State). AllByRecursion (λ (u : UndoEntry). field_at u.object u.field < words_in x.pages) us) same
+    (all_below s us is (inside_reversed s s t us is refl e))
+
+-- the used words are words of the pages
+pub fits_now : (s now : State) → IsConsistent s → s ≡ now → now.base + now.used ≤ words_in now.pages
+fits_now s now is same = subst (λ (x : State). x.base + x.used ≤ words_in x.pages) same is.fits
