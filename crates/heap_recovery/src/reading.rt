@@ -1,5 +1,5 @@
 //! What is read of an image before anything is rolled back.
-ghost use Rattle.std.specs.Prelude.{◌≡◌, ◌+◌, ◌*◌, ◌≤◌, length};
+ghost use Rattle.std.specs.Prelude.{◌≡◌, ◌*◌, ◌≤◌, length};
 
 use gated_log::Log;
 use image_plan::Super;
@@ -19,5 +19,4 @@ pub struct Reading {
     ghost few_pages: { of.pages ≤ 16384 },
     ghost same_pages: { state.pages ≡ of.pages },
     ghost sized: { length words ≡ 128 * of.pages },
-    ghost inside: { state.base + state.used ≤ 128 * of.pages },
 }

@@ -1,4 +1,4 @@
-use Rattle.std.proofs.Common.{◌≡◌, List, length, Some, Err, ap, sym, subst, ◌∙◌, rules, arith}
+use Rattle.std.proofs.Common.{◌≡◌, List, length, Some, Err, ap, sym, subst, ◌∙◌, rules}
 use Rattle.disk_model.specs.Disk.{part}
 use Rattle.gated_log.specs.Log.{records_of, HoldsBatches}
 use Rattle.log_records.specs.declared.Record.{Record}
@@ -26,8 +26,3 @@ invariant_of-result-clause-same_pages g c = (leads_after_all (start c.args.of.pa
 
 pub invariant_of-result-clause-sized : goal.invariant_of-result-clause-sized
 invariant_of-result-clause-sized g c = ap length c.in_ok-state.ensures.words ∙ length-words c.args.of.pages c.deref.result.now
-
-pub invariant_of-result-clause-inside : goal.invariant_of-result-clause-inside
-invariant_of-result-clause-inside g c =
-    let leads = leads_after_all (start c.args.of.pages c.args.of.first) _ c.deref.result.now c.in_ok-state.ensures.state in
-    omega (arith, leads.base, leads.used, c.requires.good.some_pages)
