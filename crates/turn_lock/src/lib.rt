@@ -1,0 +1,18 @@
+//! A fair ticket lock round one value, whose turns are a history.
+#![tactic(auto)]
+
+mod law;
+mod lock;
+
+mod pass;
+mod turns;
+mod view;
+
+
+pub use lock::{Held, TurnLock};
+pub use pass::Pass;
+pub use turns::Turns;
+pub use view::{Stage, View};
+
+
+
