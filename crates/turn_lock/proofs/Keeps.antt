@@ -7,13 +7,14 @@ use native.Mathlib.Decide.{ℕ_discrete}
 use lib.ListN.{get_elem?}
 use Rattle.std.proofs.Math.Nat.{mod-add-mod, add-mod-mod}
 use Rattle.std.proofs.lemmas.List.{set-get_or}
+use Rattle.std.proofs.lemmas.Option.{none-some}
 use Rattle.atomic_table.specs.Table.{State, Me, Act, keeps, takes, gives, Allows, Splits, Joins, stepped, put_back, opening, Final, Seen}
 use Rattle.atomic_table.proofs.Lists.{at_set, set_here, set_else, set_again, at_snoc, at_longer, at_last, one_turn}
 use Rattle.turn_lock.specs.declared.view.View.{View}
 use Rattle.turn_lock.specs.declared.view.Stage.{Stage}
 use Rattle.turn_lock.specs.declared.view.Stage.TheVariants.{Resting, Waiting, Turn, Raised}
-use Rattle.turn_lock.specs.Turning.{one, times, total, EachOnce, IsBeginning, greatest, places, StandIn, added, longer, IsOneTurn}
-use Rattle.turn_lock.specs.Rule.{is_queued, is_held, ahead, tickets, tickets_of, times_at, Kept, Shared, Fits, AtHome, IsOut, HasTurns, front_of}
+use Rattle.turn_lock.specs.Turning.{one, times, total, EachOnce, IsBeginning, greatest, places, StandIn, added, longer, numbers_from, IsOneTurn}
+use Rattle.turn_lock.specs.Rule.{is_queued, is_held, ahead, tickets, tickets_of, times_at, Kept, Shared, Fits, AtHome, IsOut, HasTurns, front_of, newcomer}
 use Rattle.turn_lock.specs.Steps.{waiting, in_turn, raising, resting, left_to_deal, dealt, joined, spent, queued, raised, passed, read, Suits, Gets, looked}
 use Rattle.turn_lock.proofs.Lists.{begins_itself, begins_more, begins_length, begins_longer, stand_more, stand_append, get_last, added_one, added_none, greatest_since, times_append, places_append}
 use Rattle.turn_lock.proofs.Counts.{one_same, one_other, at_within, total_append, total_set, total_same, term_le, terms_le, total_le, total_none, total_alone, once_same, once_grown, once_passed, once_bound, once_inside, length_numbers, once_numbers}
@@ -30,6 +31,15 @@ no_bool b t f = search (Rattle.std.proofs.Common.rules, sym t ∙ f)
 not_true : (b : Bool) → (b ≡ true → ⊥) → b ≡ false
 not_true true h = absurd (h refl)
 not_true false h = refl
+
+-- a list with no number is empty
+no_number : (l : List ℕ) → ((n : ℕ) → 0 < times n l → ⊥) → l ≡ []
+no_number [] h = refl
+no_number (x ∷ xs) h = absurd (h x (omega (arith, one_same x x refl)))
+
+abbrev value_or : {A : Type 0} → Option A → A → A
+value_or (Some x) d = x
+value_or None d = d
 
 cond_le : (b : Bool) → cond b 1 0 ≤ 1
 cond_le true = omega arith
@@ -438,3 +448,208 @@ module _ {T E O : Type 0} (entries : T → List E) (stood : T → ℕ) (front : 
         },
         (refl, omega (arith, is, fit.front_in)),
       )
+
+  slot_more : (served : ℕ) (log : List E) (home : maybe.Option (Option T)) (views : List V) (w : V) → is_held w.stage ≡ false
+      → Home served log home views ⊎ Out served log home views → Home served log home (views ++ w ∷ []) ⊎ Out served log home (views ++ w ∷ [])
+  slot_more served log home views w hw (inl h) = inl record {
+    value = h.value;
+    home_is = h.home_is;
+    entries_are = h.entries_are;
+    stood_is = h.stood_is;
+    origin_is = h.origin_is;
+    turns_are = h.turns_are;
+    nobody = λ j u is. ⊎_elim (λ t. h.nobody j u t) (λ t. ap (λ (x : V). is_held x.stage) (sym t) ∙ hw) (at_snoc views w u j is);
+  }
+  slot_more served log home views w hw (inr o) = inr record { seat = o.seat; view = o.view; seat_is = at_longer views (w ∷ []) o.seat o.view o.seat_is; held = o.held; home_is = o.home_is; seen_is = o.seen_is; front_is = o.front_is; turns_are = o.turns_are }
+
+  first_and_rest : (n : ℕ) (l : List ℕ) → times n (drop 1 l) + times n (take 1 l) ≡ times n l
+  first_and_rest n [] = refl
+  first_and_rest n (x ∷ xs) = omega arith
+
+  first_and_rest_length : (l : List ℕ) → length (drop 1 l) + length (take 1 l) ≡ length l
+  first_and_rest_length [] = refl
+  first_and_rest_length (x ∷ xs) = omega arith
+
+  -- step 8, a pass that is made
+  pub splits : (id : ℕ) (v : V) → v.stage ≡ Resting → v.mine ≡ [] → v.turns ≡ 0 → Splits Rule id v (left_to_deal v) (dealt v)
+  splits id v st no_mine no_turns s r at =
+      let l : V = left_to_deal v in let d : V = dealt v in let sh = r.knows in let fit = sh.each id v at in
+      let vs : List V = set s.views id l in let all : List V = vs ++ d ∷ [] in
+      let hv : is_held v.stage ≡ false = ap is_held st in
+      let more : (f : V → ℕ) → f l + f d ≡ f v → total f all ≡ total f s.views = λ f e. omega (arith, total_append f vs (d ∷ []), total_set f s.views id v l at, e) in
+      let of_d : (t : ℕ) → tickets_of t d ≡ 0 = λ t. ap (λ b. cond b (one t v.ticket) 0) (ap is_queued st) in
+      let n_d : tickets d ≡ 0 = ap (λ b. cond b 1 0) (ap is_queued st) in
+      let at_d : (n : ℕ) → times_at n d ≡ 0 = λ n. ap (λ (m : List (ℕ × E)). times n (places m)) no_mine in
+      record {
+        taken = r.taken;
+        served = r.served;
+        log = r.log;
+        home = r.home;
+        words_are = r.words_are;
+        homes_are = r.homes_are;
+        few = r.few;
+        long = r.long;
+        knows = record {
+          tickets_once = once_same (λ t. total (tickets_of t) s.views) (λ t. total (tickets_of t) all) r.served r.taken sh.tickets_once (λ t. more (tickets_of t) (omega (arith, of_d t)));
+          tickets_out = ap (λ z. z + r.served) (more tickets (omega (arith, n_d))) ∙ sh.tickets_out;
+          numbers_once = once_same (λ n. total (λ (u : V). times n u.numbers) s.views) (λ n. total (λ (u : V). times n u.numbers) all) 0 passes sh.numbers_once (λ n. more (λ u. times n u.numbers) (first_and_rest n v.numbers));
+          numbers_all = more (λ u. length u.numbers) (first_and_rest_length v.numbers) ∙ sh.numbers_all;
+          places_once = once_same (λ n. total (times_at n) s.views) (λ n. total (times_at n) all) (stood first) (length r.log) sh.places_once (λ n. more (times_at n) (omega (arith, at_d n)));
+          turns_made = more (λ u. u.turns) (omega (arith, no_turns)) ∙ sh.turns_made;
+          each = λ j u is. ⊎_elim
+              (λ t. each_set r.served r.served r.log r.log s.views id l sh.each (λ _ _ _ _ f. f)
+                  record { first_is = fit.first_is; seen_in = fit.seen_in; mine_in = fit.mine_in; front_in = fit.front_in; turn_is = fit.turn_is; idle = λ _. (st, no_mine, no_turns) } j u t)
+              (λ t. subst (Fit r.served r.log) t
+                  record { first_is = fit.first_is; seen_in = fit.seen_in; mine_in = fit.mine_in; front_in = fit.front_in; turn_is = fit.turn_is; idle = λ _. (st, no_mine, no_turns) })
+              (at_snoc vs d u j is);
+        };
+        slot = slot_more r.served r.log r.home vs d hv (slot_set r.served r.log r.home s.views id v l at hv hv r.slot);
+      }
+
+  no_append : (xs ys : List ℕ) → xs ++ ys ≡ [] → (xs ≡ []) × (ys ≡ [])
+  no_append [] ys e = (refl, e)
+  no_append (x ∷ xs) ys e = absurd (let n : suc (length (xs ++ ys)) ≡ 0 = ap length e in omega arith)
+
+  -- step 8, two passes that become one
+  pub joins : (id : ℕ) (v : V) (other : ℕ) (u : V) → v.stage ≡ Resting → u.stage ≡ Resting → Joins Rule id v other u (joined v u) spent
+  joins id v other u sv su s r at apart at_other =
+      let w : V = joined v u in let e : V = spent in let sh = r.knows in
+      let at_u : get_elem? s.views other ≡ some u = sym (set_else s.views id other w apart) ∙ at_other in
+      let fv = sh.each id v at in let fu = sh.each other u at_u in
+      let vs : List V = set s.views id w in let all : List V = set vs other e in
+      let hv : is_held v.stage ≡ false = ap is_held sv in let hu : is_held u.stage ≡ false = ap is_held su in
+      let more : (f : V → ℕ) → f w ≡ f v + f u → f e ≡ 0 → total f all ≡ total f s.views = λ f a b. omega (arith, total_set f vs other u e at_other, total_set f s.views id v w at, a, b) in
+      let of_v : (t : ℕ) → tickets_of t v ≡ 0 = λ t. ap (λ b. cond b (one t v.ticket) 0) (ap is_queued sv) in
+      let of_u : (t : ℕ) → tickets_of t u ≡ 0 = λ t. ap (λ b. cond b (one t u.ticket) 0) (ap is_queued su) in
+      let n_v : tickets v ≡ 0 = ap (λ b. cond b 1 0) (ap is_queued sv) in
+      let n_u : tickets u ≡ 0 = ap (λ b. cond b 1 0) (ap is_queued su) in
+      let fit_w : Fit r.served r.log w = record {
+        first_is = fv.first_is;
+        seen_in = begins_longer v.seen u.seen r.log fv.seen_in fu.seen_in;
+        mine_in = stand_append r.log v.mine u.mine fv.mine_in fu.mine_in;
+        front_in = omega (arith, fv.front_in, fu.front_in);
+        turn_is = fv.turn_is;
+        idle = λ none. let n = no_append v.numbers u.numbers none in let a = fv.idle n.0 in let b = fu.idle n.1 in (sv, (λ i. a.1 i ++ b.1 i), omega (arith, a.2, b.2));
+      } in
+      record {
+        taken = r.taken;
+        served = r.served;
+        log = r.log;
+        home = r.home;
+        words_are = r.words_are;
+        homes_are = r.homes_are;
+        few = r.few;
+        long = r.long;
+        knows = record {
+          tickets_once = once_same (λ t. total (tickets_of t) s.views) (λ t. total (tickets_of t) all) r.served r.taken sh.tickets_once (λ t. more (tickets_of t) (omega (arith, of_v t, of_u t)) refl);
+          tickets_out = ap (λ z. z + r.served) (more tickets (omega (arith, n_v, n_u)) refl) ∙ sh.tickets_out;
+          numbers_once = once_same (λ n. total (λ (x : V). times n x.numbers) s.views) (λ n. total (λ (x : V). times n x.numbers) all) 0 passes sh.numbers_once (λ n. more (λ x. times n x.numbers) (times_append n v.numbers u.numbers) refl);
+          numbers_all = more (λ x. length x.numbers) (length-append v.numbers u.numbers) refl ∙ sh.numbers_all;
+          places_once = once_same (λ n. total (times_at n) s.views) (λ n. total (times_at n) all) (stood first) (length r.log) sh.places_once (λ n. more (times_at n) (places_append n v.mine u.mine) refl);
+          turns_made = more (λ x. x.turns) refl refl ∙ sh.turns_made;
+          each = λ j x is. ⊎_elim
+              (λ t. subst (Fit r.served r.log) t.1 record {
+                first_is = λ value no. absurd (none-some value no);
+                seen_in = (r.log, refl);
+                mine_in = tt;
+                front_in = omega arith;
+                turn_is = λ h. absurd (no_bool false h refl);
+                idle = λ _. (refl, refl, refl);
+              })
+              (λ t. each_set r.served r.served r.log r.log s.views id w sh.each (λ _ _ _ _ f. f) fit_w j x t.1)
+              (at_set vs other j e x is);
+        };
+        slot = slot_set r.served r.log r.home vs other u e at_other hu refl (slot_set r.served r.log r.home s.views id v w at hv hv r.slot);
+      }
+
+  only_view : (v : V) (j : ℕ) (u : V) → get_elem? (v ∷ []) j ≡ some u → u ≡ v
+  only_view v zero u is = sym (some-injective v u is)
+  only_view v (suc j) u is = absurd (some-ne-none u (sym is))
+
+  nothing_since : (log : List E) → drop (length log) log ≡ []
+  nothing_since [] = refl
+  nothing_since (x ∷ xs) = nothing_since xs
+
+  -- the table at the start
+  pub opens : stood first ≡ length (entries first) → empty_turns first ≡ 0 → passes < W → Rule (opening (0 ∷ 0 ∷ 0 ∷ []) (Some first ∷ []) (newcomer entries first passes))
+  opens all none_empty few =
+      let v : V = newcomer entries first passes in
+      let one_view : (f : V → ℕ) → total f (v ∷ []) ≡ f v = λ f. omega arith in
+      let since : drop (stood first) (entries first) ≡ [] = ap (λ n. drop n (entries first)) all ∙ nothing_since (entries first) in
+      let fit : Fit 0 (entries first) v = record {
+        first_is = λ value e. sym (ap (λ o. value_or o first) e);
+        seen_in = begins_itself (entries first);
+        mine_in = tt;
+        front_in = omega arith;
+        turn_is = λ h. absurd (no_bool false h refl);
+        idle = λ _. (refl, refl, refl);
+      } in
+      record {
+        taken = 0;
+        served = 0;
+        log = entries first;
+        home = some (Some first);
+        words_are = ap (λ (l : List E). 0 ∷ 0 ∷ greatest front l ∷ []) (sym since);
+        homes_are = refl;
+        few = few;
+        long = omega (arith, all);
+        knows = record {
+          tickets_once = record { inside = λ x a b. absurd (omega arith); below = λ x a. refl; above = λ x a. refl };
+          tickets_out = refl;
+          numbers_once = once_same (λ x. times x (numbers_from 0 passes)) (λ n. total (λ (u : V). times n u.numbers) (v ∷ [])) 0 passes (subst (EachOnce (λ x. times x (numbers_from 0 passes)) 0) (let e : 0 + passes ≡ passes = omega arith in e) (once_numbers 0 passes)) (λ n. one_view (λ u. times n u.numbers));
+          numbers_all = one_view (λ u. length u.numbers) ∙ length_numbers 0 passes;
+          places_once = record { inside = λ x a b. absurd (omega (arith, all)); below = λ x a. refl; above = λ x a. refl };
+          turns_made = refl;
+          each = λ j u is. subst (Fit 0 (entries first)) (sym (only_view v j u is)) fit;
+        };
+        slot = inl record {
+          value = first;
+          home_is = refl;
+          entries_are = refl;
+          stood_is = refl;
+          origin_is = refl;
+          turns_are = ap (λ (z : ℕ). z % W) (let z : length (entries first) - stood first + empty_turns first ≡ 0 = omega (arith, all, none_empty) in z);
+          nobody = λ j u is. ap (λ (x : V). is_held x.stage) (only_view v j u is);
+        };
+      }
+
+  -- What is known once the lock is closed with a pass that has the number of every other.
+  pub record Ends (xs : List (Option T)) (v : V) : Type 0 where
+    pub value : T
+    pub home_is : get_elem? xs 0 ≡ some (Some value)
+    pub stood_is : stood value ≡ stood first
+    pub origin_is : origin value ≡ origin first
+    pub seen_in : IsBeginning v.seen (entries value)
+    pub mine_in : StandIn (entries value) v.mine
+    pub once : EachOnce (λ k. times k (places v.mine)) (stood first) (length (entries value))
+    pub turns_are : (length (entries value) - stood first + empty_turns value) % W ≡ v.turns % W
+    pub front_in : v.front ≤ fr (entries value)
+
+  numbers_none : (s : St) (r : Rule s) (id : ℕ) (v : V) → get_elem? s.views id ≡ some v → ((n : ℕ) → n < passes → 0 < times n v.numbers) → (j : ℕ) (u : V) → j ≢ id → get_elem? s.views j ≡ some u → u.numbers ≡ []
+  numbers_none s r id v at all j u apart is = no_number u.numbers (λ n has.
+      let f : V → ℕ = λ x. times n x.numbers in let c : ℕ → ℕ = λ k. total (λ (x : V). times k x.numbers) s.views in let sh = r.knows in
+      let in_all = once_inside c c 0 passes sh.numbers_once n (omega (arith, term_le f s.views j u is, has)) in
+      absurd (omega (arith, terms_le f s.views id j v u apart at is, has, all n in_all.1, once_bound c c 0 passes sh.numbers_once n)))
+
+  pub ends : (ws : List ℕ) (xs : List (Option T)) (id : ℕ) (v : V) → v.stage ≡ Resting → ((n : ℕ) → n < passes → 0 < times n v.numbers) → Final (Seen Rule id v) ws xs → Ends xs v
+  ends ws xs id v st all f =
+      let s : St = f.0 in let r : Rule s = f.1.0 in let at = f.1.1 in let sh = r.knows in let fit = sh.each id v at in
+      let others : (j : ℕ) (u : V) → j ≢ id → get_elem? s.views j ≡ some u → (u.stage ≡ Resting) × (u.mine ≡ []) × (u.turns ≡ 0) = λ j u n is. (sh.each j u is).idle (numbers_none s r id v at all j u n is) in
+      let alone_at : (k : ℕ) → total (times_at k) s.views ≡ times_at k v = λ k. total_alone (times_at k) s.views id v at (λ j u n is. ap (λ (m : List (ℕ × E)). times k (places m)) (others j u n is).1) in
+      let turns_alone : total (λ (u : V). u.turns) s.views ≡ v.turns = total_alone (λ (u : V). u.turns) s.views id v at (λ j u n is. (others j u n is).2) in
+      ⊎_elim
+      (λ h. let es = h.entries_are in record {
+        value = h.value;
+        home_is = f.4 0 (Some h.value) (ap (λ hs. get_elem? hs 0) r.homes_are ∙ ap some h.home_is);
+        stood_is = h.stood_is;
+        origin_is = h.origin_is;
+        seen_in = subst (IsBeginning v.seen) (sym es) fit.seen_in;
+        mine_in = subst (λ l. StandIn l v.mine) (sym es) fit.mine_in;
+        once = once_same (λ k. total (times_at k) s.views) (λ k. times k (places v.mine)) (stood first) (length (entries h.value)) (subst (λ l. EachOnce (λ k. total (times_at k) s.views) (stood first) (length l)) (sym es) sh.places_once) (λ k. sym (alone_at k));
+        turns_are = subst (λ l. (length l - stood first + empty_turns h.value) % W ≡ r.served % W) (sym es) h.turns_are ∙ ap (λ (z : ℕ). z % W) (sym sh.turns_made ∙ turns_alone);
+        front_in = subst (λ l. v.front ≤ fr l) (sym es) fit.front_in;
+      })
+      (λ o. absurd (dite (ℕ_discrete o.seat id)
+        (λ e. no_bool (is_held o.view.stage) o.held (ap (λ (x : V). is_held x.stage) (some-injective o.view v (sym o.seat_is ∙ (ap (get_elem? s.views) e ∙ at))) ∙ ap is_held st))
+        (λ n. no_bool (is_held o.view.stage) o.held (ap is_held (others o.seat o.view n o.seat_is).0))))
+      r.slot
