@@ -1,5 +1,5 @@
 -- Totals over lists that change at one place, and numbers that stand once each.
-use Rattle.std.proofs.Common.{◌≡◌, ℕ, zero, suc, ◌+◌, ◌<◌, ◌≤◌, ◌≢◌, ◌⊎◌, Bool, true, false, List, [], ◌∷◌, ◌++◌, length, cond, eqb, set, sym, refl, ap, ◌∙◌, inl, inr, arith, eq-eqb, ne_eqb}
+use Rattle.std.proofs.Common.{◌≡◌, ℕ, zero, suc, ◌+◌, ◌<◌, ◌≤◌, ◌≢◌, ◌⊎◌, Bool, true, false, List, [], ◌∷◌, ◌++◌, length, cond, eqb, set, sym, refl, ap, ap₂, ◌∙◌, ◌-◌, inl, inr, arith, eq-eqb, ne_eqb}
 use mathlib.Core.Logic.{dite}
 use mathlib.Core.Option.{some, some-injective, some-ne-none}
 use native.Mathlib.Decide.{ℕ_discrete}
@@ -98,3 +98,7 @@ once_numbers low (suc n) = let r = once_numbers (suc low) n in record {
   below = λ x a. omega (arith, one_other x low (λ s. omega arith), r.below x (omega arith));
   above = λ x a. omega (arith, one_other x low (λ s. omega arith), r.above x (omega arith));
 }
+
+pub next_number : (low n : ℕ) → 0 < n → numbers_from low n ≡ low ∷ numbers_from (low + 1) (n - 1)
+next_number low zero h = absurd (omega arith)
+next_number low (suc n) h = ap₂ (λ (a b : ℕ). low ∷ numbers_from a b) (omega arith) (omega arith)

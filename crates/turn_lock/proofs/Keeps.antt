@@ -16,8 +16,8 @@ use Rattle.turn_lock.specs.declared.view.Stage.TheVariants.{Resting, Waiting, Tu
 use Rattle.turn_lock.specs.Turning.{one, times, total, EachOnce, IsBeginning, greatest, places, StandIn, added, longer, numbers_from, IsOneTurn}
 use Rattle.turn_lock.specs.Rule.{is_queued, is_held, ahead, tickets, tickets_of, times_at, Kept, Shared, Fits, AtHome, IsOut, HasTurns, front_of, newcomer}
 use Rattle.turn_lock.specs.Steps.{waiting, in_turn, raising, resting, left_to_deal, dealt, joined, spent, queued, raised, passed, read, Suits, Gets, looked}
-use Rattle.turn_lock.proofs.Lists.{begins_itself, begins_more, begins_length, begins_longer, stand_more, stand_append, get_last, added_one, added_none, greatest_since, times_append, places_append}
-use Rattle.turn_lock.proofs.Counts.{one_same, one_other, at_within, total_append, total_set, total_same, term_le, terms_le, total_le, total_none, total_alone, once_same, once_grown, once_passed, once_bound, once_inside, length_numbers, once_numbers}
+use Rattle.turn_lock.proofs.Lists.{value_or, begins_itself, begins_more, begins_length, begins_longer, stand_more, stand_append, get_last, added_one, added_none, greatest_since, times_append, places_append}
+use Rattle.turn_lock.proofs.Counts.{one_same, one_other, at_within, total_append, total_set, total_same, term_le, terms_le, total_le, total_none, total_alone, once_same, once_grown, once_passed, once_bound, once_inside, length_numbers, once_numbers, next_number}
 
 abbrev W : ℕ
 W = 18446744073709551616
@@ -37,9 +37,9 @@ no_number : (l : List ℕ) → ((n : ℕ) → 0 < times n l → ⊥) → l ≡ [
 no_number [] h = refl
 no_number (x ∷ xs) h = absurd (h x (omega (arith, one_same x x refl)))
 
-abbrev value_or : {A : Type 0} → Option A → A → A
-value_or (Some x) d = x
-value_or None d = d
+pub no_append : (xs ys : List ℕ) → xs ++ ys ≡ [] → (xs ≡ []) × (ys ≡ [])
+no_append [] ys e = (refl, e)
+no_append (x ∷ xs) ys e = absurd (let n : suc (length (xs ++ ys)) ≡ 0 = ap length e in omega arith)
 
 cond_le : (b : Bool) → cond b 1 0 ≤ 1
 cond_le true = omega arith
@@ -506,10 +506,6 @@ module _ {T E O : Type 0} (entries : T → List E) (stood : T → ℕ) (front : 
         slot = slot_more r.served r.log r.home vs d hv (slot_set r.served r.log r.home s.views id v l at hv hv r.slot);
       }
 
-  no_append : (xs ys : List ℕ) → xs ++ ys ≡ [] → (xs ≡ []) × (ys ≡ [])
-  no_append [] ys e = (refl, e)
-  no_append (x ∷ xs) ys e = absurd (let n : suc (length (xs ++ ys)) ≡ 0 = ap length e in omega arith)
-
   -- step 8, two passes that become one
   pub joins : (id : ℕ) (v : V) (other : ℕ) (u : V) → v.stage ≡ Resting → u.stage ≡ Resting → Joins Rule id v other u (joined v u) spent
   joins id v other u sv su s r at apart at_other =
@@ -613,10 +609,8 @@ module _ {T E O : Type 0} (entries : T → List E) (stood : T → ℕ) (front : 
         };
       }
 
-  -- What is known once the lock is closed with a pass that has the number of every other.
-  pub record Ends (xs : List (Option T)) (v : V) : Type 0 where
-    pub value : T
-    pub home_is : get_elem? xs 0 ≡ some (Some value)
+  -- What is known of the value once the lock is closed with a pass that has the number of every other.
+  pub record Ends (v : V) (value : T) : Type 0 where
     pub stood_is : stood value ≡ stood first
     pub origin_is : origin value ≡ origin first
     pub seen_in : IsBeginning v.seen (entries value)
@@ -631,16 +625,14 @@ module _ {T E O : Type 0} (entries : T → List E) (stood : T → ℕ) (front : 
       let in_all = once_inside c c 0 passes sh.numbers_once n (omega (arith, term_le f s.views j u is, has)) in
       absurd (omega (arith, terms_le f s.views id j v u apart at is, has, all n in_all.1, once_bound c c 0 passes sh.numbers_once n)))
 
-  pub ends : (ws : List ℕ) (xs : List (Option T)) (id : ℕ) (v : V) → v.stage ≡ Resting → ((n : ℕ) → n < passes → 0 < times n v.numbers) → Final (Seen Rule id v) ws xs → Ends xs v
+  pub ends : (ws : List ℕ) (xs : List (Option T)) (id : ℕ) (v : V) → v.stage ≡ Resting → ((n : ℕ) → n < passes → 0 < times n v.numbers) → Final (Seen Rule id v) ws xs → (value : T) × (get_elem? xs 0 ≡ some (Some value)) × Ends v value
   ends ws xs id v st all f =
       let s : St = f.0 in let r : Rule s = f.1.0 in let at = f.1.1 in let sh = r.knows in let fit = sh.each id v at in
       let others : (j : ℕ) (u : V) → j ≢ id → get_elem? s.views j ≡ some u → (u.stage ≡ Resting) × (u.mine ≡ []) × (u.turns ≡ 0) = λ j u n is. (sh.each j u is).idle (numbers_none s r id v at all j u n is) in
       let alone_at : (k : ℕ) → total (times_at k) s.views ≡ times_at k v = λ k. total_alone (times_at k) s.views id v at (λ j u n is. ap (λ (m : List (ℕ × E)). times k (places m)) (others j u n is).1) in
       let turns_alone : total (λ (u : V). u.turns) s.views ≡ v.turns = total_alone (λ (u : V). u.turns) s.views id v at (λ j u n is. (others j u n is).2) in
       ⊎_elim
-      (λ h. let es = h.entries_are in record {
-        value = h.value;
-        home_is = f.4 0 (Some h.value) (ap (λ hs. get_elem? hs 0) r.homes_are ∙ ap some h.home_is);
+      (λ h. let es = h.entries_are in (h.value, f.4 0 (Some h.value) (ap (λ hs. get_elem? hs 0) r.homes_are ∙ ap some h.home_is), record {
         stood_is = h.stood_is;
         origin_is = h.origin_is;
         seen_in = subst (IsBeginning v.seen) (sym es) fit.seen_in;
@@ -648,8 +640,19 @@ module _ {T E O : Type 0} (entries : T → List E) (stood : T → ℕ) (front : 
         once = once_same (λ k. total (times_at k) s.views) (λ k. times k (places v.mine)) (stood first) (length (entries h.value)) (subst (λ l. EachOnce (λ k. total (times_at k) s.views) (stood first) (length l)) (sym es) sh.places_once) (λ k. sym (alone_at k));
         turns_are = subst (λ l. (length l - stood first + empty_turns h.value) % W ≡ r.served % W) (sym es) h.turns_are ∙ ap (λ (z : ℕ). z % W) (sym sh.turns_made ∙ turns_alone);
         front_in = subst (λ l. v.front ≤ fr l) (sym es) fit.front_in;
-      })
+      }))
       (λ o. absurd (dite (ℕ_discrete o.seat id)
         (λ e. no_bool (is_held o.view.stage) o.held (ap (λ (x : V). is_held x.stage) (some-injective o.view v (sym o.seat_is ∙ (ap (get_elem? s.views) e ∙ at))) ∙ ap is_held st))
         (λ n. no_bool (is_held o.view.stage) o.held (ap is_held (others o.seat o.view n o.seat_is).0))))
       r.slot
+
+  -- the first seat once the passes below k have their numbers
+  abbrev pub dealing : ℕ → V
+  dealing k = record (newcomer entries first passes) { numbers = numbers_from k (passes - k) }
+
+  pub deals_next : (k : ℕ) → k < passes → left_to_deal (dealing k) ≡ dealing (k + 1)
+  deals_next k h = ap (λ (l : List ℕ). record (newcomer entries first passes) { numbers = drop 1 l }) (next_number k (passes - k) (omega arith))
+      ∙ ap (λ (n : ℕ). record (newcomer entries first passes) { numbers = numbers_from (k + 1) n }) (let e : passes - k - 1 ≡ passes - (k + 1) = omega arith in e)
+
+  pub deals_number : (k : ℕ) → k < passes → (dealt (dealing k)).numbers ≡ k ∷ []
+  deals_number k h = ap (take 1) (next_number k (passes - k) (omega arith))

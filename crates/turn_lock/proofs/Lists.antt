@@ -1,5 +1,5 @@
 -- Beginnings of histories, entries at their places, and the greatest number of a list.
-use Rattle.std.proofs.Common.{◌≡◌, ℕ, zero, suc, ◌+◌, ◌-◌, ◌%◌, ◌<◌, ◌≤◌, ◌≢◌, ◌⊎◌, Bool, true, false, List, [], ◌∷◌, ◌++◌, map, length, drop, max, cond, sym, refl, ap, ◌∙◌, subst, inl, inr, arith, append_assoc, append-nil, length-append, Some, slice_get}
+use Rattle.std.proofs.Common.{◌≡◌, ℕ, zero, suc, ◌+◌, ◌-◌, ◌%◌, ◌<◌, ◌≤◌, ◌≢◌, ◌⊎◌, Bool, true, false, List, [], ◌∷◌, ◌++◌, map, length, drop, max, cond, sym, refl, ap, ◌∙◌, subst, inl, inr, ⊎_elim, arith, append_assoc, append-nil, length-append, Option, Some, None, slice_get}
 use lib.Seq.{drop-append-le}
 use Rattle.std.proofs.lemmas.Option.{none-some}
 use Rattle.turn_lock.specs.Turning.{times, IsBeginning, greatest, places, StandIn, placed, added, longer, IsOneTurn}
@@ -58,3 +58,17 @@ module _ {E : Type 0} where
   pub places_append : (k : ℕ) (ps qs : List (ℕ × E)) → times k (places (ps ++ qs)) ≡ times k (places ps) + times k (places qs)
   places_append k [] qs = omega arith
   places_append k (p ∷ ps) qs = omega (arith, places_append k ps qs)
+
+abbrev pub value_or : {A : Type 0} → Option A → A → A
+value_or (Some x) d = x
+value_or None d = d
+
+get_push : {X : Type 0} (xs : List X) (y p : X) (i : ℕ) → slice_get (xs ++ y ∷ []) i ≡ Some p → (slice_get xs i ≡ Some p) ⊎ ((i ≡ length xs) × (slice_get (y ∷ []) 0 ≡ Some p))
+get_push [] y p zero at = inr (refl, at)
+get_push [] y p (suc i) at = absurd (none-some p at)
+get_push (x ∷ xs) y p zero at = inl at
+get_push (x ∷ xs) y p (suc i) at = ⊎_elim inl (λ t. inr (omega (arith, t.0), t.1)) (get_push xs y p i at)
+
+-- what holds of each item and of one more holds of all
+pub each_push : {X : Type 0} (P : ℕ → X → Type 0) (xs : List X) (y : X) → ((i : ℕ) (p : X) → slice_get xs i ≡ Some p → P i p) → P (length xs) y → (i : ℕ) (p : X) → slice_get (xs ++ y ∷ []) i ≡ Some p → P i p
+each_push P xs y old new i p at = ⊎_elim (old i p) (λ t. subst (λ n. P n p) (sym t.0) (subst (P (length xs)) (ap (λ o. value_or o y) t.1) new)) (get_push xs y p i at)

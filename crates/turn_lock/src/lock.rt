@@ -38,10 +38,11 @@ pub struct Held<T> {
 }
 
 impl<T: Turns> TurnLock<T> {
-    ghost use Rattle.std.specs.Prelude.{◌≡◌, ◌≢◌, ℕ, ◌+◌, ◌-◌, ◌%◌, ◌^◌, ◌<◌, ◌≤◌, ◌++◌, [], ◌∷◌, length, drop, max, IfOk, IfErr, slice_get, slice_index, Some, None, vec_len};
+    ghost use Rattle.std.specs.Prelude.{◌≡◌, ◌≢◌, ℕ, ◌+◌, ◌-◌, ◌%◌, ◌^◌, ◌<◌, ◌≤◌, ◌++◌, [], ◌∷◌, length, drop, max, IfOk, IfErr, slice_get, slice_index, Some, None, vec_len, vec_capacity};
     ghost use Rattle.turn_lock.specs.declared.view.Stage.TheVariants.{Resting, Waiting, Turn};
     ghost use Rattle.turn_lock.specs.Turning.{EachOnce, IsBeginning, IsOneTurn, StandIn, added, greatest, numbers_from, places, times};
     ghost use Rattle.turn_lock.specs.Passes.{first_of, passes_of, numbers_of, seen_of, mine_of, turns_of, front_of, empty_of, IsResting, HasTurn, IsSamePass, HasSameTurns, IsJoined, IsPassOf, IsNew};
+    ghost use Rattle.turn_lock.specs.Rule.{newcomer};
     ghost use Rattle.turn_lock.specs.Steps.{Gets, queued, raised};
 
     /// A lock round `value`, with one pass for each label, in their order. Where memory is refused the value comes back.
@@ -86,6 +87,10 @@ impl<T: Turns> TurnLock<T> {
         labels: &[u32],
         mut passes: Vec<Pass<T>>,
     ) -> Vec<Pass<T>>
+        requires seat { (seat.table_id ≡ self.now.table.shared.table_id) × (seat.me ≡ (newcomer T.entries (first_of self.now) (length labels.now), [])) }
+        requires room { (passes.items ≡ []) × (length labels.now ≤ vec_capacity passes) }
+        ensures count { vec_len result ≡ length labels.now }
+        ensures passes { (i : ℕ) (pass : _) → slice_get result.items i ≡ Some pass → IsNew self.now i (slice_index labels.now i) (T.entries (first_of self.now)) pass }
     {
         for label in labels {
             passes.push_reserved(Pass {
