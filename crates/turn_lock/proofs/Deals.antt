@@ -1,5 +1,5 @@
 -- A pass that was just made.
-use Rattle.std.proofs.Common.{◌≡◌, ℕ, suc, ◌+◌, List, [], ◌∷◌, length, take, ap, sym, ◌∙◌, arith, Some}
+use Rattle.std.proofs.Common.{◌≡◌, ℕ, suc, ◌+◌, List, [], ◌∷◌, length, take, ap, sym, ◌∙◌, arith, subst, Some}
 use Rattle.turn_lock.specs.declared.view.View.{View}
 use Rattle.turn_lock.specs.declared.view.Stage.TheVariants.{Resting}
 use Rattle.turn_lock.specs.declared.lock.TurnLock.{TurnLock}
@@ -24,3 +24,6 @@ new_pass lock y k label log v table me first rests number seen mine turns front 
       turns = ap (λ m. m.0.turns) me ∙ turns;
       front = ap (λ m. m.0.front) me ∙ front;
     }
+
+pub new_of : {T E : Type 0} (entries : T → List E) (a b : T) → a ≡ b → (lock : TurnLock T E) (k label : ℕ) (pass : Pass T E) → IsNew lock k label (entries a) pass → IsNew lock k label (entries b) pass
+new_of entries a b same lock k label pass h = subst (λ v. IsNew lock k label (entries v) pass) same h
