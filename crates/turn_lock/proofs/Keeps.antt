@@ -161,6 +161,11 @@ module _ {T E O : Type 0} (entries : T → List E) (stood : T → ℕ) (front : 
       (o, e, some-injective o.view v (sym o.seat_is ∙ (ap (get_elem? s.views) e ∙ at))))
       r.slot
 
+  -- one pass at most has its turn
+  pub one_holder : (s : St) → Rule s → (i j : ℕ) (v w : V) → get_elem? s.views i ≡ some v → get_elem? s.views j ≡ some w → is_held v.stage ≡ true → is_held w.stage ≡ true → i ≡ j
+  one_holder s r i j v w at bt hv hw = let k = r.knows in
+      alone r.taken r.served r.log s.views k j i w v bt at (queued_held w.stage hw) (queued_held v.stage hv) ((k.each j w bt).turn_is hw ∙ sym ((k.each i v at).turn_is hv))
+
   ticket_le : (u : V) → (u.numbers ≡ [] → is_queued u.stage ≡ false) → tickets u ≤ length u.numbers
   ticket_le u h = ⊎_elim (λ none. omega (arith, ap {B = ℕ} (λ b. cond b 1 0) (h none))) (λ some_number. omega (arith, cond_le (is_queued u.stage))) (empty_or u.numbers)
 

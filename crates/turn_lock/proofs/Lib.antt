@@ -2,3 +2,4 @@ pub mod Lists
 pub mod Counts
 pub mod Keeps
 pub mod Deals
+pub mod Merges

@@ -1,5 +1,10 @@
 //! The lock itself: a ticket, a turn with the value, and the front.
-ghost use Rattle.std.specs.Prelude.{◌≡◌, [], ◌∷◌, Some};
+ghost use Rattle.std.specs.Prelude.{◌≡◌, ℕ, true, [], ◌∷◌, Some, Option};
+ghost use mathlib.Core.Option.{some};
+ghost use lib.ListN.{get_elem?};
+ghost use Rattle.atomic_table.specs.Table.{State};
+ghost use Rattle.turn_lock.specs.declared.view.View.{View};
+ghost use Rattle.turn_lock.specs.Rule.{Kept, is_held};
 
 use crate::law::{Board, Deal, Left, Look, Merge, Opening, PassOn, Place, Queue, Raise, Read};
 use crate::pass::Pass;
@@ -256,6 +261,25 @@ impl<T: Turns> TurnLock<T> {
         value
     }
 }
+
+/// In each state of the words, the slot and the passes that the rule allows, one pass at most has its turn.
+pub fn one_at_a_time<T: Turns>()
+    ensures { (first : T) (passes : ℕ) (s : State (Option T) (View T T.Entry)) → Kept T.entries T.stood T.front T.empty_turns T.origin first passes s
+        → (i j : ℕ) (v w : View T T.Entry) → get_elem? s.views i ≡ some v → get_elem? s.views j ≡ some w → is_held v.stage ≡ true → is_held w.stage ≡ true → i ≡ j }
+{
+}
+
+/// A lock is shared by threads, and a pass goes from one to another, wherever the value may.
+pub fn cross_threads<T: Turns + Send>() {
+    is_sync::<TurnLock<T>>();
+    is_send::<TurnLock<T>>();
+    is_send::<Pass<T>>();
+    is_send::<Held<T>>();
+}
+
+fn is_sync<X: Sync>() {}
+
+fn is_send<X: Send>() {}
 
 // The value of the only slot.
 fn only<T>(mut slots: Vec<Option<T>>) -> T
