@@ -21,6 +21,9 @@ module _ {E : Type 0} where
   pub begins_longer : (xs ys zs : List E) → IsBeginning xs zs → IsBeginning ys zs → IsBeginning (longer xs ys) zs
   begins_longer xs ys zs a b = elim (Rattle.std.specs.Prelude.nat_lt (length xs) (length ys)) as (λ c. IsBeginning (cond c ys xs) zs) [ true ↦ b | false ↦ a ]
 
+  pub length_longer : (n : ℕ) (xs ys : List E) → n ≤ length xs → n ≤ length ys → n ≤ length (longer xs ys)
+  length_longer n xs ys a b = elim (Rattle.std.specs.Prelude.nat_lt (length xs) (length ys)) as (λ c. n ≤ length (cond c ys xs)) [ true ↦ b | false ↦ a ]
+
   get_longer : (xs rest : List E) (k : ℕ) (e : E) → slice_get xs k ≡ Some e → slice_get (xs ++ rest) k ≡ Some e
   get_longer [] rest k e at = absurd (none-some e at)
   get_longer (x ∷ xs) rest zero e at = at

@@ -3,10 +3,10 @@ use Rattle.std.proofs.Common.{◌≡◌, ℕ, zero, suc, ◌+◌, ◌-◌, ◌<�
 use mathlib.Core.Logic.{dite}
 use native.Mathlib.Decide.{ℕ_discrete}
 use Rattle.std.proofs.lemmas.Option.{none-some}
-use Rattle.turn_lock.specs.Turning.{one, times, EachOnce, places, StandIn}
+use Rattle.turn_lock.specs.Turning.{one, times, EachOnce, places, StandIn, added}
 use Rattle.turn_lock.specs.Merging.{entries_of, Rise, IsMerge}
 use Rattle.turn_lock.proofs.Counts.{one_same, one_other, once_passed, once_same}
-use Rattle.turn_lock.proofs.Lists.{value_or, places_append}
+use Rattle.turn_lock.proofs.Lists.{value_or, places_append, added_one}
 
 module _ {E : Type 0} where
   -- no place of a list that rises lies below its start
@@ -104,3 +104,6 @@ module _ {E : Type 0} where
   pub rise_more : (low : ℕ) (log : List E) (ps : List (ℕ × E)) (e : E) → low ≤ length log → Rise low ps → StandIn log ps → Rise low (ps ++ (length log, e) ∷ [])
   rise_more low log [] e le r h = (le, tt)
   rise_more low log (p ∷ ps) e le r h = (r.0, rise_more (p.0 + 1) log ps e (omega (arith, within log p.0 p.1 h.0)) r.1 h.1)
+
+  pub rise_added : (low : ℕ) (log log' : List E) (ps : List (ℕ × E)) (e : E) → low ≤ length log → Rise low ps → StandIn log ps → log' ≡ log ++ e ∷ [] → Rise low (ps ++ added log log')
+  rise_added low log log' ps e le r h is = subst (λ l. Rise low (ps ++ l)) (sym (ap (added log) is ∙ added_one log e)) (rise_more low log ps e le r h)

@@ -16,3 +16,6 @@ pub use view::{Stage, View};
 
 
 
+
+#[cfg(test)]
+mod tests;
