@@ -15,7 +15,7 @@ use Rattle.turn_lock.specs.declared.view.Stage.{Stage}
 use Rattle.turn_lock.specs.declared.view.Stage.TheVariants.{Resting, Waiting, Turn, Raised}
 use Rattle.turn_lock.specs.Turning.{one, times, total, EachOnce, IsBeginning, greatest, places, StandIn, added, longer, numbers_from, IsOneTurn}
 use Rattle.turn_lock.specs.Rule.{is_queued, is_held, ahead, tickets, tickets_of, times_at, Kept, Shared, Fits, AtHome, IsOut, HasTurns, front_of, newcomer}
-use Rattle.turn_lock.specs.Steps.{waiting, in_turn, raising, resting, left_to_deal, dealt, joined, spent, queued, raised, passed, read, Suits, Gets, looked}
+use Rattle.turn_lock.specs.Steps.{waiting, in_turn, raising, resting, left_to_deal, dealt, joined, spent, queued, raised, passed, read, Suits, Gets, GoesBack, looked}
 use Rattle.turn_lock.proofs.Lists.{value_or, begins_itself, begins_more, begins_length, begins_longer, stand_more, stand_append, get_last, added_one, added_none, greatest_since, times_append, places_append}
 use Rattle.turn_lock.proofs.Counts.{one_same, one_other, at_within, total_append, total_set, total_same, term_le, terms_le, total_le, total_none, total_alone, once_same, once_grown, once_passed, once_bound, once_inside, length_numbers, once_numbers, next_number}
 
@@ -351,9 +351,9 @@ module _ {T E O : Type 0} (entries : T → List E) (stood : T → ℕ) (front : 
       turn
 
   -- steps 5 and 6
-  pub passes_on : (slots id : ℕ) (me : M) (value : T) → me.0.stage ≡ Raised → me.1 ≡ (0, Some value) ∷ [] → entries value ≡ me.0.seen → empty_turns value ≡ me.0.empty → stood value ≡ stood first → origin value ≡ origin first
+  pub passes_on : (slots id : ℕ) (me : M) (value : T) → me.0.stage ≡ Raised → me.1 ≡ (0, Some value) ∷ [] → GoesBack entries stood empty_turns origin first me.0 value
       → Allows Rule slots id me 1 (λ n. (n + 1) % W) (λ _. passed me)
-  passes_on slots id me value st slot entries_are empty_is stood_is origin_is s r wide at small =
+  passes_on slots id me value st slot back s r wide at small =
       let v : V = me.0 in let w : V = resting v in let sh = r.knows in let fit = sh.each id v at in
       let held : is_held v.stage ≡ true = ap is_held st in let qv : is_queued v.stage ≡ true = ap is_queued st in
       let out = holder s r id v at held in let o = out.0 in
@@ -390,10 +390,10 @@ module _ {T E O : Type 0} (entries : T → List E) (stood : T → ℕ) (front : 
           slot = inl record {
             value = value;
             home_is = refl;
-            entries_are = entries_are ∙ seen;
-            stood_is = stood_is;
-            origin_is = origin_is;
-            turns_are = ap (λ (z : ℕ). (length r.log - stood first + z) % W) empty_is ∙ turns;
+            entries_are = back.entries_are ∙ seen;
+            stood_is = back.stood_is;
+            origin_is = back.origin_is;
+            turns_are = ap (λ (z : ℕ). (length r.log - stood first + z) % W) back.empty_is ∙ turns;
             nobody = λ j u is. ⊎_elim (λ t. ap (λ (x : V). is_held x.stage) (sym t.1)) (λ t. nobody j u t.0 t.1) (at_set s.views id j w u is);
           };
         },

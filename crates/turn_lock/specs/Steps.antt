@@ -70,6 +70,13 @@ module _ {T E O : Type 0} (entries : T → List E) (stood : T → ℕ) (front : 
   abbrev pub looked : Knows T E → ℕ → Knows T E → Type 0
   looked m r n = (r ≡ m.0.ticket % 2 ^ 64 → Gets m n) × (r ≢ m.0.ticket % 2 ^ 64 → n ≡ m)
 
+-- The value that goes back is the one that the view keeps, and the lock's.
+pub record GoesBack {T E O : Type 0} (entries : T → List E) (stood : T → ℕ) (empty_turns : T → ℕ) (origin : T → O) (first : T) (v : View T E) (value : T) : Type 0 where
+  pub entries_are : entries value ≡ v.seen
+  pub empty_is : empty_turns value ≡ v.empty
+  pub stood_is : stood value ≡ stood first
+  pub origin_is : origin value ≡ origin first
+
 -- the front was raised to that of a value with this history and these empty turns, which goes back
 abbrev pub raised : {T E : Type 0} → (T → ℕ) → (E → ℕ) → List E → ℕ → Knows T E → Knows T E → Type 0
 raised stood front log empty m n = (known : ℕ) × (n ≡ (raising m.0 log empty known, m.1)) × ((first : _) → m.0.first ≡ Some first → known ≡ greatest front (drop (stood first) log))

@@ -2,6 +2,7 @@
 #![tactic(auto)]
 
 mod law;
+pub mod ledger;
 mod lock;
 
 mod pass;

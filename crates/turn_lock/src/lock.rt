@@ -44,11 +44,11 @@ pub struct Held<T> {
 
 impl<T: Turns> TurnLock<T> {
     ghost use Rattle.std.specs.Prelude.{◌≡◌, ◌≢◌, ℕ, ◌+◌, ◌-◌, ◌%◌, ◌^◌, ◌<◌, ◌≤◌, ◌++◌, [], ◌∷◌, length, drop, max, IfOk, IfErr, slice_get, slice_index, Some, None, vec_len, vec_capacity};
-    ghost use Rattle.turn_lock.specs.declared.view.Stage.TheVariants.{Resting, Waiting, Turn};
+    ghost use Rattle.turn_lock.specs.declared.view.Stage.TheVariants.{Waiting, Raised};
     ghost use Rattle.turn_lock.specs.Turning.{EachOnce, IsBeginning, IsOneTurn, StandIn, added, greatest, numbers_from, places, times};
     ghost use Rattle.turn_lock.specs.Passes.{first_of, passes_of, numbers_of, seen_of, mine_of, turns_of, front_of, empty_of, IsResting, HasTurn, IsSamePass, HasSameTurns, IsJoined, IsPassOf, IsNew};
     ghost use Rattle.turn_lock.specs.Rule.{newcomer};
-    ghost use Rattle.turn_lock.specs.Steps.{Gets, queued, raised};
+    ghost use Rattle.turn_lock.specs.Steps.{Gets, GoesBack, passed, queued, raised};
 
     /// A lock round `value`, with one pass for each label, in their order. Where memory is refused the value comes back.
     pub fn new(
@@ -185,9 +185,7 @@ impl<T: Turns> TurnLock<T> {
         } = held;
         self.raise::<Brand>(pass, &value, front);
         self.put_back(pass, value);
-        self.table
-            .shared
-            .fetch_add::<PassOn>(&mut pass.seat, SERVED, 1);
+        self.pass_on(pass);
     }
 
     // Raises the front to the new entry's, and takes that entry among the pass's own.
@@ -218,6 +216,18 @@ impl<T: Turns> TurnLock<T> {
             None => {}
             Some(_) => unreachable!(),
         }
+    }
+
+    // Passes the turn, and the slot goes home with the value.
+    fn pass_on(&self, pass: &mut Pass<T>)
+        requires pass { (pass.old.seat.table_id ≡ self.now.table.shared.table_id) × (pass.old.seat.me.0.stage ≡ Raised) }
+        requires value { (value : T) × (pass.old.seat.me.1 ≡ (0, Some value) ∷ []) × GoesBack T.entries T.stood T.empty_turns T.origin (first_of self.now) pass.old.seat.me.0 value }
+        ensures pass { (pass.new.label ≡ pass.old.label) × (pass.new.seat.table_id ≡ pass.old.seat.table_id) }
+        ensures passed { passed pass.old.seat.me pass.new.seat.me }
+    {
+        self.table
+            .shared
+            .fetch_add::<PassOn>(&mut pass.seat, SERVED, 1);
     }
 
     /// The greatest number that was acknowledged so far, read without waiting, whoever has the turn.

@@ -1,8 +1,9 @@
 //! Turns in threads, and what a caller makes of the clauses alone.
-mod ledger;
+mod threads;
 
 use crate::TurnLock;
-use ledger::{Ledger, both, post_four, post_two};
+use crate::ledger::{Ledger, both, post_two};
+use threads::post_four;
 use std::alloc::Global;
 use std::test::Fail;
 
@@ -36,7 +37,7 @@ fn two_threads_post_each_number_once(rt: HostRuntime) -> Result<(), Fail> {
     let posted = post_two(
         &rt,
         alloc,
-        Ledger::new(alloc),
+        Ledger::new(alloc, 1),
         first.as_slice(),
         second.as_slice(),
     );
@@ -54,7 +55,7 @@ fn four_threads_post_each_number_once(rt: HostRuntime) -> Result<(), Fail> {
     let (a, b) = (numbers(alloc, 0)?, numbers(alloc, 1)?);
     let (c, d) = (numbers(alloc, 2)?, numbers(alloc, 3)?);
     let lists = ((a.as_slice(), b.as_slice()), (c.as_slice(), d.as_slice()));
-    let Ok(ledger) = post_four(&rt, alloc, Ledger::new(alloc), lists) else {
+    let Ok(ledger) = post_four(&rt, alloc, Ledger::new(alloc, 1), lists) else {
         panic!(rt; "memory was refused")
     };
     assert!(rt; ledger.posts.len() == 4000 && has_each_once(&ledger.posts)?);
@@ -64,7 +65,7 @@ fn four_threads_post_each_number_once(rt: HostRuntime) -> Result<(), Fail> {
 // Posts in turns of one pass, and looks at the front with another that never has a turn.
 #[test]
 fn a_front_shows_at_once(rt: HostRuntime) -> Result<(), Fail> {
-    let Ok((lock, passes)) = TurnLock::new(rt.alloc(), Ledger::new(rt.alloc()), &[7, 0]) else {
+    let Ok((lock, passes)) = TurnLock::new(rt.alloc(), Ledger::new(rt.alloc(), 1), &[7, 0]) else {
         panic!(rt; "memory was refused")
     };
     let (mut writer, mut watcher) = both(passes);

@@ -1,5 +1,5 @@
-//! A shared ledger: a second use of the lock, of a few lines.
-ghost use Rattle.std.specs.Prelude.{◌≡◌, ℕ, ◌+◌, ◌%◌, ◌^◌, ◌<◌, ◌≤◌, ◌++◌, [], ◌∷◌, length, take, drop, IfOk, MatchBool, Some, slice_get, vec_len};
+//! A second use of the lock: a ledger that threads share. What it ends with follows from the public clauses of the lock alone.
+ghost use Rattle.std.specs.Prelude.{◌≡◌, ℕ, ◌+◌, ◌%◌, ◌^◌, ◌<◌, ◌≤◌, ◌++◌, [], ◌∷◌, length, take, drop, IfOk, IfErr, MatchBool, Some, slice_get, vec_len};
 ghost use Rattle.turn_lock.specs.Merging.{entries_of, Rise, IsMerge};
 ghost use Rattle.turn_lock.specs.Passes.{first_of, numbers_of, seen_of, mine_of, IsPassOf, IsResting};
 
@@ -11,8 +11,13 @@ use std::thread::{Threads, join};
 /// Numbers in the order in which they were posted.
 #[derive(Drop)]
 pub struct Ledger {
+    /// Which ledger it is.
+    pub name: u64,
+    /// All posts.
     pub posts: Vec<u64>,
+    /// How many posts there were when it was shared.
     pub before: usize,
+    /// How many posts were refused for want of memory, by remainder of 2^64.
     pub refused: u64,
 }
 
@@ -27,17 +32,19 @@ impl Turns for Ledger {
 
     ghost empty_turns = { λ l. l.refused };
 
-    ghost Origin = { Unit {0} };
+    ghost Origin = { ℕ };
 
-    ghost origin = { λ _. tt };
+    ghost origin = { λ l. l.name };
 }
 
 impl Ledger {
     /// A ledger with no posts.
-    pub fn new(alloc: Global) -> Ledger
-        ensures { (result.before ≡ length result.posts.items) × (result.refused ≡ 0) }
+    pub fn new(alloc: Global, name: u64) -> Ledger
+        ensures name { result.name ≡ name }
+        ensures empty { (result.posts.items ≡ []) × (result.before ≡ 0) × (result.refused ≡ 0) }
     {
         Ledger {
+            name,
             posts: Vec::new(alloc),
             before: 0,
             refused: 0,
@@ -47,7 +54,7 @@ impl Ledger {
     /// Posts a number, or counts that memory was refused.
     pub fn post(&mut self, number: u64) -> bool
         ensures posted { MatchBool result ((self.new.posts.items ≡ self.old.posts.items ++ number ∷ []) × (self.new.refused ≡ self.old.refused)) ((self.new.posts.items ≡ self.old.posts.items) × (self.new.refused ≡ (self.old.refused + 1) % 2 ^ 64)) }
-        ensures before { self.new.before ≡ self.old.before }
+        ensures same { (self.new.before ≡ self.old.before) × (self.new.name ≡ self.old.name) }
     {
         if self.posts.push(number).is_ok() {
             return true;
@@ -116,7 +123,9 @@ pub fn post_two<R: Threads + Wait + Sync>(
     second: &[u64],
 ) -> Result<(Ledger, usize, usize), (AllocError, Ledger)>
     requires { (ledger.before ≡ length ledger.posts.items) × (ledger.refused ≡ 0) }
-    ensures { IfOk result (λ r. IsMerge (take r.1 first.now) (take r.2 second.now) (drop ledger.before r.0.posts.items)) }
+    ensures posts { IfOk result (λ r. IsMerge (take r.1 first.now) (take r.2 second.now) (drop ledger.before r.0.posts.items)) }
+    ensures same { IfOk result (λ r. r.0.name ≡ ledger.name) }
+    ensures err { IfErr result (λ e. e.1 ≡ ledger) }
 {
     let (lock, passes) = TurnLock::new(alloc, ledger, &[1, 2])?;
     let (one, two) = both(passes);
@@ -139,85 +148,4 @@ pub fn post_two<R: Threads + Wait + Sync>(
     );
     lock.join(&mut one, two);
     Ok((lock.close(one), first_posts, second_posts))
-}
-
-/// Two threads post, and their passes become one.
-fn post_beside<R: Threads + Wait + Sync>(
-    rt: &R,
-    lock: &TurnLock<Ledger>,
-    one: Pass<Ledger>,
-    two: Pass<Ledger>,
-    first: &[u64],
-    second: &[u64],
-) -> Pass<Ledger>
-    requires one { IsPassOf lock.now one × IsResting one }
-    requires new_one { (mine_of one ≡ []) × ((first_of lock.now).before ≤ length (seen_of one)) }
-    requires two { IsPassOf lock.now two × IsResting two }
-    requires new_two { (mine_of two ≡ []) × ((first_of lock.now).before ≤ length (seen_of two)) }
-    ensures pass { IsPassOf lock.now result × IsResting result }
-    ensures numbers { numbers_of result ≡ numbers_of one ++ numbers_of two }
-{
-    let (mut one, two) = join(
-        rt,
-        || -> Pass<Ledger>
-            requires pass { IsPassOf lock.now one × IsResting one }
-            requires new { (mine_of one ≡ []) × ((first_of lock.now).before ≤ length (seen_of one)) }
-            ensures { IsPassOf lock.entry.now result × IsResting result × (numbers_of result ≡ numbers_of one) }
-        { post_all(rt, lock, one, first).0 },
-        || -> Pass<Ledger>
-            requires pass { IsPassOf lock.now two × IsResting two }
-            requires new { (mine_of two ≡ []) × ((first_of lock.now).before ≤ length (seen_of two)) }
-            ensures { IsPassOf lock.entry.now result × IsResting result × (numbers_of result ≡ numbers_of two) }
-        { post_all(rt, lock, two, second).0 },
-    );
-    lock.join(&mut one, two);
-    one
-}
-
-// The four passes of a list.
-fn all_four(
-    mut passes: Vec<Pass<Ledger>>,
-) -> ((Pass<Ledger>, Pass<Ledger>), (Pass<Ledger>, Pass<Ledger>))
-    requires { vec_len passes ≡ 4 }
-    ensures first { (slice_get passes.items 0 ≡ Some result.0.0) × (slice_get passes.items 1 ≡ Some result.0.1) }
-    ensures second { (slice_get passes.items 2 ≡ Some result.1.0) × (slice_get passes.items 3 ≡ Some result.1.1) }
-{
-    let four = passes.pop().unwrap();
-    let three = passes.pop().unwrap();
-    (both(passes), (three, four))
-}
-
-/// Four threads post to one ledger.
-pub fn post_four<R: Threads + Wait + Sync>(
-    rt: &R,
-    alloc: Global,
-    ledger: Ledger,
-    numbers: ((&[u64], &[u64]), (&[u64], &[u64])),
-) -> Result<Ledger, (AllocError, Ledger)>
-    requires { (ledger.before ≡ length ledger.posts.items) × (ledger.refused ≡ 0) }
-{
-    let (lock, passes) = TurnLock::new(alloc, ledger, &[1, 2, 3, 4])?;
-    let ((one, two), (three, four)) = all_four(passes);
-    let ((a, b), (c, d)) = numbers;
-    let (mut left, right) = join(
-        rt,
-        || -> Pass<Ledger>
-            requires one { IsPassOf lock one × IsResting one }
-            requires new_one { (mine_of one ≡ []) × ((first_of lock).before ≤ length (seen_of one)) }
-            requires two { IsPassOf lock two × IsResting two }
-            requires new_two { (mine_of two ≡ []) × ((first_of lock).before ≤ length (seen_of two)) }
-            requires numbers { numbers_of one ++ numbers_of two ≡ 0 ∷ 1 ∷ [] }
-            ensures { IsPassOf lock result × IsResting result × (numbers_of result ≡ 0 ∷ 1 ∷ []) }
-        { post_beside(rt, &lock, one, two, a, b) },
-        || -> Pass<Ledger>
-            requires one { IsPassOf lock three × IsResting three }
-            requires new_one { (mine_of three ≡ []) × ((first_of lock).before ≤ length (seen_of three)) }
-            requires two { IsPassOf lock four × IsResting four }
-            requires new_two { (mine_of four ≡ []) × ((first_of lock).before ≤ length (seen_of four)) }
-            requires numbers { numbers_of three ++ numbers_of four ≡ 2 ∷ 3 ∷ [] }
-            ensures { IsPassOf lock result × IsResting result × (numbers_of result ≡ 2 ∷ 3 ∷ []) }
-        { post_beside(rt, &lock, three, four, c, d) },
-    );
-    lock.join(&mut left, right);
-    Ok(lock.close(left))
 }

@@ -4,7 +4,7 @@ use Rattle.turn_lock.specs.Merging.{entries_of, Rise, IsMerge}
 use Rattle.turn_lock.specs.Passes.{first_of, numbers_of, seen_of, mine_of, IsPassOf, IsResting, IsNew}
 use Rattle.turn_lock.proofs.Lists.{begins_length, length_longer}
 use Rattle.turn_lock.proofs.Merges.{two_make_all}
-use Rattle.turn_lock.proofs.tests.ledger.post_two.Goals as goal
+use Rattle.turn_lock.proofs.ledger.post_two.Goals as goal
 
 pub join-one-requires-after_bounds : goal.join-one-requires-after_bounds
 join-one-requires-after_bounds g c κs within =
