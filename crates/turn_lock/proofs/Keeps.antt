@@ -227,13 +227,18 @@ module _ {T E O : Type 0} (entries : T → List E) (stood : T → ℕ) (front : 
           };
         },
         (
-          (λ _. (x, fr (entries x), refl, record {
-            seen_in = subst (IsBeginning v.seen) (sym h.entries_are) fit.seen_in;
-            mine_in = subst (λ l. StandIn l v.mine) (sym h.entries_are) fit.mine_in;
-            stood_is = λ f e. h.stood_is ∙ ap stood (sym (fit.first_is f e));
-            origin_is = λ f e. h.origin_is ∙ ap origin (sym (fit.first_is f e));
-            front_is = λ f e. ap (λ y. greatest front (drop (stood y) (entries x))) (sym (fit.first_is f e));
-          })),
+          (λ _. (
+            x,
+            fr (entries x),
+            refl,
+            record {
+              seen_in = subst (IsBeginning v.seen) (sym h.entries_are) fit.seen_in;
+              mine_in = subst (λ l. StandIn l v.mine) (sym h.entries_are) fit.mine_in;
+              stood_is = λ f e. h.stood_is ∙ ap stood (sym (fit.first_is f e));
+              origin_is = λ f e. h.origin_is ∙ ap origin (sym (fit.first_is f e));
+              front_is = λ f e. ap (λ y. greatest front (drop (stood y) (entries x))) (sym (fit.first_is f e));
+            },
+          )),
           λ miss. absurd (miss hit),
         ),
       )
@@ -243,11 +248,11 @@ module _ {T E O : Type 0} (entries : T → List E) (stood : T → ℕ) (front : 
   looks slots id me st s r wide at small = let v : V = me.0 in
       dite (ℕ_discrete (get_or s.words 1 0) (v.ticket % W))
       (λ hit. ⊎_elim (gets s r slots id me at st hit)
-          (λ o. let k = r.knows in let mine = served_is s r id v at (ap is_queued st) hit in let its = (k.each o.seat o.view o.seat_is).turn_is o.held in
-          let e : o.seat ≡ id = alone r.taken r.served r.log s.views k id o.seat v o.view at o.seat_is (ap is_queued st) (queued_held o.view.stage o.held) (mine ∙ sym its) in
-          let same : o.view ≡ v = some-injective o.view v (sym o.seat_is ∙ (ap (get_elem? s.views) e ∙ at)) in
-          absurd (no_bool (is_held v.stage) (ap (λ (u : V). is_held u.stage) (sym same) ∙ o.held) (ap is_held st)))
-          r.slot)
+      (λ o. let k = r.knows in let mine = served_is s r id v at (ap is_queued st) hit in let its = (k.each o.seat o.view o.seat_is).turn_is o.held in
+      let e : o.seat ≡ id = alone r.taken r.served r.log s.views k id o.seat v o.view at o.seat_is (ap is_queued st) (queued_held o.view.stage o.held) (mine ∙ sym its) in
+      let same : o.view ≡ v = some-injective o.view v (sym o.seat_is ∙ (ap (get_elem? s.views) e ∙ at)) in
+      absurd (no_bool (is_held v.stage) (ap (λ (u : V). is_held u.stage) (sym same) ∙ o.held) (ap is_held st)))
+      r.slot)
       (λ miss. (v, keeps, tt, unchanged s r (set s.words 1 (get_or s.words 1 0)) (set s.views id v) (set-get_or s.words 1 0) (set_again s.views id v at), ((λ hit. absurd (miss hit)), λ _. refl)))
 
   grown : (log log' more : List E) (e : log' ≡ log ++ more) → fr log ≤ fr log' → (served : ℕ) (u : V) → Fit served log u → Fit served log' u
@@ -329,25 +334,25 @@ module _ {T E O : Type 0} (entries : T → List E) (stood : T → ℕ) (front : 
       let long : stood first ≤ length r.log = r.long in
       ⊎_elim
       (λ t. let e : E = t.0 in let is : log' ≡ r.log ++ e ∷ [] = t.1 ∙ ap (λ l. l ++ e ∷ []) seen in
-        let one_more : length log' ≡ length r.log + 1 = ap length is ∙ length-append r.log (e ∷ []) in
-        let new : added r.log log' ≡ (length r.log, e) ∷ [] = ap (added r.log) is ∙ added_one r.log e in
-        raises_with s r id me log' (e ∷ []) empty' k at st first_is is
-          (sym (ap fr is ∙ (greatest_since front (stood first) r.log e long ∙ ap (max (fr r.log)) (sym t.3))))
-          (ap (λ l. added l log') seen)
-          (subst (StandIn log') (sym new) (subst (λ l. slice_get l (length r.log) ≡ Some e) (sym is) (get_last r.log e), tt))
-          (subst (EachOnce (λ n. total (times_at n) s.views + times n (places (added r.log log'))) (stood first)) (sym one_more)
-            (once_grown (λ n. total (times_at n) s.views) (λ n. total (times_at n) s.views + times n (places (added r.log log'))) (stood first) (length r.log) r.knows.places_once long
-              (λ n. omega (arith, ap (λ (l : List (ℕ × E)). times n (places l)) new))))
-          (ap (λ (z : ℕ). z % W) (let a : length log' - stood first + empty' ≡ length r.log - stood first + v.empty + 1 = omega (arith, one_more, t.2) in a) ∙ next_mod (length r.log - stood first + v.empty) r.served old))
+      let one_more : length log' ≡ length r.log + 1 = ap length is ∙ length-append r.log (e ∷ []) in
+      let new : added r.log log' ≡ (length r.log, e) ∷ [] = ap (added r.log) is ∙ added_one r.log e in
+      raises_with s r id me log' (e ∷ []) empty' k at st first_is is
+      (sym (ap fr is ∙ (greatest_since front (stood first) r.log e long ∙ ap (max (fr r.log)) (sym t.3))))
+      (ap (λ l. added l log') seen)
+      (subst (StandIn log') (sym new) (subst (λ l. slice_get l (length r.log) ≡ Some e) (sym is) (get_last r.log e), tt))
+      (subst (EachOnce (λ n. total (times_at n) s.views + times n (places (added r.log log'))) (stood first)) (sym one_more)
+      (once_grown (λ n. total (times_at n) s.views) (λ n. total (times_at n) s.views + times n (places (added r.log log'))) (stood first) (length r.log) r.knows.places_once long
+      (λ n. omega (arith, ap (λ (l : List (ℕ × E)). times n (places l)) new))))
+      (ap (λ (z : ℕ). z % W) (let a : length log' - stood first + empty' ≡ length r.log - stood first + v.empty + 1 = omega (arith, one_more, t.2) in a) ∙ next_mod (length r.log - stood first + v.empty) r.served old))
       (λ t. let is : log' ≡ r.log = t.0 ∙ seen in
-        let none_new : added r.log log' ≡ [] = ap (added r.log) is ∙ added_none r.log in
-        raises_with s r id me log' [] empty' k at st first_is (is ∙ sym (append-nil r.log))
-          (sym (ap fr is ∙ (let z : fr r.log ≡ max (fr r.log) k = omega (arith, t.2) in z)))
-          (ap (λ l. added l log') seen)
-          (subst (StandIn log') (sym none_new) tt)
-          (once_same (λ n. total (times_at n) s.views) (λ n. total (times_at n) s.views + times n (places (added r.log log'))) (stood first) (length log') (subst (λ (z : ℕ). EachOnce (λ n. total (times_at n) s.views) (stood first) z) (ap length (sym is)) r.knows.places_once)
-            (λ n. omega (arith, ap (λ (l : List (ℕ × E)). times n (places l)) none_new)))
-          (ap (λ (z : ℕ). (length log' - stood first + z) % W) t.1 ∙ (add-mod-mod (length log' - stood first) (v.empty + 1) W ∙ (ap (λ (z : ℕ). z % W) (let a : length log' - stood first + (v.empty + 1) ≡ length r.log - stood first + v.empty + 1 = omega (arith, ap length is) in a) ∙ next_mod (length r.log - stood first + v.empty) r.served old))))
+      let none_new : added r.log log' ≡ [] = ap (added r.log) is ∙ added_none r.log in
+      raises_with s r id me log' [] empty' k at st first_is (is ∙ sym (append-nil r.log))
+      (sym (ap fr is ∙ (let z : fr r.log ≡ max (fr r.log) k = omega (arith, t.2) in z)))
+      (ap (λ l. added l log') seen)
+      (subst (StandIn log') (sym none_new) tt)
+      (once_same (λ n. total (times_at n) s.views) (λ n. total (times_at n) s.views + times n (places (added r.log log'))) (stood first) (length log') (subst (λ (z : ℕ). EachOnce (λ n. total (times_at n) s.views) (stood first) z) (ap length (sym is)) r.knows.places_once)
+      (λ n. omega (arith, ap (λ (l : List (ℕ × E)). times n (places l)) none_new)))
+      (ap (λ (z : ℕ). (length log' - stood first + z) % W) t.1 ∙ (add-mod-mod (length log' - stood first) (v.empty + 1) W ∙ (ap (λ (z : ℕ). z % W) (let a : length log' - stood first + (v.empty + 1) ≡ length r.log - stood first + v.empty + 1 = omega (arith, ap length is) in a) ∙ next_mod (length r.log - stood first + v.empty) r.served old))))
       turn
 
   -- steps 5 and 6
@@ -363,7 +368,7 @@ module _ {T E O : Type 0} (entries : T → List E) (stood : T → ℕ) (front : 
       let of_v : (t : ℕ) → tickets_of t v ≡ one t r.served = λ t. ap (λ b. cond b (one t v.ticket) 0) qv ∙ ap (one t) mine in
       let n_v : tickets v ≡ 1 = ap (λ b. cond b 1 0) qv in
       let nobody : (j : ℕ) (u : V) → j ≢ id → get_elem? s.views j ≡ some u → is_held u.stage ≡ false = λ j u n is. not_true (is_held u.stage) (λ h.
-          n (alone r.taken r.served r.log s.views sh id j v u at is qv (queued_held u.stage h) (mine ∙ sym ((sh.each j u is).turn_is h)))) in (
+      n (alone r.taken r.served r.log s.views sh id j v u at is qv (queued_held u.stage h) (mine ∙ sym ((sh.each j u is).turn_is h)))) in (
         w,
         gives,
         tt,
@@ -438,17 +443,17 @@ module _ {T E O : Type 0} (entries : T → List E) (stood : T → ℕ) (front : 
                 nobody = λ j u at_j. ⊎_elim (λ t. ap (λ (x : V). is_held x.stage) (sym t.1) ∙ h.nobody id v at) (λ t. h.nobody j u t.1) (at_set s.views id j w u at_j);
               })
               (λ o. dite (ℕ_discrete o.seat id)
-                (λ e. let same : o.view ≡ v = some-injective o.view v (sym o.seat_is ∙ (ap (get_elem? s.views) e ∙ at)) in inr record {
-                  seat = id;
-                  view = w;
-                  seat_is = set_here s.views id w (at_within s.views id v at);
-                  held = ap (λ (u : V). is_held u.stage) (sym same) ∙ o.held;
-                  home_is = o.home_is;
-                  seen_is = ap (λ (u : V). u.seen) (sym same) ∙ o.seen_is;
-                  front_is = is;
-                  turns_are = subst (λ (u : V). HasTurns entries stood front empty_turns origin first passes r.log u.empty (r.served + ahead u.stage)) same o.turns_are;
-                })
-                (λ n. inr record { seat = o.seat; view = o.view; seat_is = set_else s.views id o.seat w n ∙ o.seat_is; held = o.held; home_is = o.home_is; seen_is = o.seen_is; front_is = o.front_is; turns_are = o.turns_are }))
+              (λ e. let same : o.view ≡ v = some-injective o.view v (sym o.seat_is ∙ (ap (get_elem? s.views) e ∙ at)) in inr record {
+                seat = id;
+                view = w;
+                seat_is = set_here s.views id w (at_within s.views id v at);
+                held = ap (λ (u : V). is_held u.stage) (sym same) ∙ o.held;
+                home_is = o.home_is;
+                seen_is = ap (λ (u : V). u.seen) (sym same) ∙ o.seen_is;
+                front_is = is;
+                turns_are = subst (λ (u : V). HasTurns entries stood front empty_turns origin first passes r.log u.empty (r.served + ahead u.stage)) same o.turns_are;
+              })
+              (λ n. inr record { seat = o.seat; view = o.view; seat_is = set_else s.views id o.seat w n ∙ o.seat_is; held = o.held; home_is = o.home_is; seen_is = o.seen_is; front_is = o.front_is; turns_are = o.turns_are }))
               r.slot;
         },
         (refl, omega (arith, is, fit.front_in)),
@@ -503,9 +508,9 @@ module _ {T E O : Type 0} (entries : T → List E) (stood : T → ℕ) (front : 
           turns_made = more (λ u. u.turns) (omega (arith, no_turns)) ∙ sh.turns_made;
           each = λ j u is. ⊎_elim
               (λ t. each_set r.served r.served r.log r.log s.views id l sh.each (λ _ _ _ _ f. f)
-                  record { first_is = fit.first_is; seen_in = fit.seen_in; mine_in = fit.mine_in; front_in = fit.front_in; turn_is = fit.turn_is; idle = λ _. (st, no_mine, no_turns) } j u t)
+              record { first_is = fit.first_is; seen_in = fit.seen_in; mine_in = fit.mine_in; front_in = fit.front_in; turn_is = fit.turn_is; idle = λ _. (st, no_mine, no_turns) } j u t)
               (λ t. subst (Fit r.served r.log) t
-                  record { first_is = fit.first_is; seen_in = fit.seen_in; mine_in = fit.mine_in; front_in = fit.front_in; turn_is = fit.turn_is; idle = λ _. (st, no_mine, no_turns) })
+              record { first_is = fit.first_is; seen_in = fit.seen_in; mine_in = fit.mine_in; front_in = fit.front_in; turn_is = fit.turn_is; idle = λ _. (st, no_mine, no_turns) })
               (at_snoc vs d u j is);
         };
         slot = slot_more r.served r.log r.home vs d hv (slot_set r.served r.log r.home s.views id v l at hv hv r.slot);
@@ -637,18 +642,22 @@ module _ {T E O : Type 0} (entries : T → List E) (stood : T → ℕ) (front : 
       let alone_at : (k : ℕ) → total (times_at k) s.views ≡ times_at k v = λ k. total_alone (times_at k) s.views id v at (λ j u n is. ap (λ (m : List (ℕ × E)). times k (places m)) (others j u n is).1) in
       let turns_alone : total (λ (u : V). u.turns) s.views ≡ v.turns = total_alone (λ (u : V). u.turns) s.views id v at (λ j u n is. (others j u n is).2) in
       ⊎_elim
-      (λ h. let es = h.entries_are in (h.value, f.4 0 (Some h.value) (ap (λ hs. get_elem? hs 0) r.homes_are ∙ ap some h.home_is), record {
-        stood_is = h.stood_is;
-        origin_is = h.origin_is;
-        seen_in = subst (IsBeginning v.seen) (sym es) fit.seen_in;
-        mine_in = subst (λ l. StandIn l v.mine) (sym es) fit.mine_in;
-        once = once_same (λ k. total (times_at k) s.views) (λ k. times k (places v.mine)) (stood first) (length (entries h.value)) (subst (λ l. EachOnce (λ k. total (times_at k) s.views) (stood first) (length l)) (sym es) sh.places_once) (λ k. sym (alone_at k));
-        turns_are = subst (λ l. (length l - stood first + empty_turns h.value) % W ≡ r.served % W) (sym es) h.turns_are ∙ ap (λ (z : ℕ). z % W) (sym sh.turns_made ∙ turns_alone);
-        front_in = subst (λ l. v.front ≤ fr l) (sym es) fit.front_in;
-      }))
+      (λ h. let es = h.entries_are in (
+        h.value,
+        f.4 0 (Some h.value) (ap (λ hs. get_elem? hs 0) r.homes_are ∙ ap some h.home_is),
+        record {
+          stood_is = h.stood_is;
+          origin_is = h.origin_is;
+          seen_in = subst (IsBeginning v.seen) (sym es) fit.seen_in;
+          mine_in = subst (λ l. StandIn l v.mine) (sym es) fit.mine_in;
+          once = once_same (λ k. total (times_at k) s.views) (λ k. times k (places v.mine)) (stood first) (length (entries h.value)) (subst (λ l. EachOnce (λ k. total (times_at k) s.views) (stood first) (length l)) (sym es) sh.places_once) (λ k. sym (alone_at k));
+          turns_are = subst (λ l. (length l - stood first + empty_turns h.value) % W ≡ r.served % W) (sym es) h.turns_are ∙ ap (λ (z : ℕ). z % W) (sym sh.turns_made ∙ turns_alone);
+          front_in = subst (λ l. v.front ≤ fr l) (sym es) fit.front_in;
+        },
+      ))
       (λ o. absurd (dite (ℕ_discrete o.seat id)
-        (λ e. no_bool (is_held o.view.stage) o.held (ap (λ (x : V). is_held x.stage) (some-injective o.view v (sym o.seat_is ∙ (ap (get_elem? s.views) e ∙ at))) ∙ ap is_held st))
-        (λ n. no_bool (is_held o.view.stage) o.held (ap is_held (others o.seat o.view n o.seat_is).0))))
+      (λ e. no_bool (is_held o.view.stage) o.held (ap (λ (x : V). is_held x.stage) (some-injective o.view v (sym o.seat_is ∙ (ap (get_elem? s.views) e ∙ at))) ∙ ap is_held st))
+      (λ n. no_bool (is_held o.view.stage) o.held (ap is_held (others o.seat o.view n o.seat_is).0))))
       r.slot
 
   -- the first seat once the passes below k have their numbers

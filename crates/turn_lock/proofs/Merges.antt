@@ -46,8 +46,8 @@ module _ {E : Type 0} where
   heads low z zs [] r h = inl refl
   heads low z zs (p ∷ ps) r h = dite (ℕ_discrete p.0 low)
       (λ e. let rise : Rise (low + 1) ps = subst (λ n. Rise (n + 1) ps) e r.1 in
-        let is : Some z ≡ Some p.1 = ap (slice_get (z ∷ zs)) (let n : 0 ≡ p.0 - low = omega arith in n) ∙ h.0 in
-        inr (ps, ap (λ x. x ∷ entries_of ps) (sym (ap (λ o. value_or o z) is)), (λ k. ap (λ n. one k n + times k (places ps)) e), rise, later low z zs ps rise h.1))
+      let is : Some z ≡ Some p.1 = ap (slice_get (z ∷ zs)) (let n : 0 ≡ p.0 - low = omega arith in n) ∙ h.0 in
+      inr (ps, ap (λ x. x ∷ entries_of ps) (sym (ap (λ o. value_or o z) is)), (λ k. ap (λ n. one k n + times k (places ps)) e), rise, later low z zs ps rise h.1))
       (λ n. inl (omega (arith, one_other low p.0 (λ e. n (sym e)), none_below (p.0 + 1) low ps r.1 (omega (arith, r.0)))))
 
   pub merges : (low : ℕ) (log : List E) (ps qs : List (ℕ × E)) → Rise low ps → Rise low qs → StandFrom low log ps → StandFrom low log qs
@@ -60,14 +60,14 @@ module _ {E : Type 0} where
       let here = once.inside low (omega arith) (omega arith) in
       let high : low + length (z ∷ zs) ≡ low + 1 + length zs = omega arith in
       let next : (f : ℕ → ℕ) → ((k : ℕ) → f k + one k low ≡ times k (places ps) + times k (places qs)) → EachOnce f (low + 1) (low + 1 + length zs) = λ f e.
-          subst (EachOnce f (low + 1)) high (once_passed (λ k. times k (places ps) + times k (places qs)) f low (low + length (z ∷ zs)) once e) in
+      subst (EachOnce f (low + 1)) high (once_passed (λ k. times k (places ps) + times k (places qs)) f low (low + length (z ∷ zs)) once e) in
       ⊎_elim
       (λ no_p. let a' = starts_later low ps a no_p in ⊎_elim
-        (λ no_q. absurd (omega arith))
-        (λ q. inr (entries_of q.0, q.1, merges (low + 1) zs ps q.0 a' q.3 (later low z zs ps a' c) q.4 (next (λ k. times k (places ps) + times k (places q.0)) (λ k. omega (arith, q.2 k)))))
-        (heads low z zs qs b d))
+      (λ no_q. absurd (omega arith))
+      (λ q. inr (entries_of q.0, q.1, merges (low + 1) zs ps q.0 a' q.3 (later low z zs ps a' c) q.4 (next (λ k. times k (places ps) + times k (places q.0)) (λ k. omega (arith, q.2 k)))))
+      (heads low z zs qs b d))
       (λ p. let no_q : times low (places qs) ≡ 0 = omega (arith, p.2 low, one_same low low refl) in let b' = starts_later low qs b no_q in
-        inl (entries_of p.0, p.1, merges (low + 1) zs p.0 qs p.3 b' p.4 (later low z zs qs b' d) (next (λ k. times k (places p.0) + times k (places qs)) (λ k. omega (arith, p.2 k)))))
+      inl (entries_of p.0, p.1, merges (low + 1) zs p.0 qs p.3 b' p.4 (later low z zs qs b' d) (next (λ k. times k (places p.0) + times k (places qs)) (λ k. omega (arith, p.2 k)))))
       (heads low z zs ps a c)
 
   get_drop : (n k : ℕ) (log : List E) → n ≤ k → slice_get (drop n log) (k - n) ≡ slice_get log k
@@ -93,7 +93,7 @@ module _ {E : Type 0} where
       → IsMerge (entries_of ps) (entries_of qs) (drop low log)
   two_make_all low log ps qs le a b stand once = merges low (drop low log) ps qs a b (stand_from low log ps a (stand_first log ps qs stand)) (stand_from low log qs b (stand_second log ps qs stand))
       (subst (EachOnce (λ k. times k (places ps) + times k (places qs)) low) (let e : length log ≡ low + length (drop low log) = omega (arith, length-drop low log) in e)
-        (once_same (λ k. times k (places (ps ++ qs))) (λ k. times k (places ps) + times k (places qs)) low (length log) once (λ k. sym (places_append k ps qs))))
+      (once_same (λ k. times k (places (ps ++ qs))) (λ k. times k (places ps) + times k (places qs)) low (length log) once (λ k. sym (places_append k ps qs))))
 
   within : (log : List E) (k : ℕ) (e : E) → slice_get log k ≡ Some e → k < length log
   within [] k e at = absurd (none-some e at)

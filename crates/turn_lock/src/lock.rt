@@ -276,8 +276,7 @@ impl<T: Turns> TurnLock<T> {
 pub fn one_at_a_time<T: Turns>()
     ensures { (first : T) (passes : ℕ) (s : State (Option T) (View T T.Entry)) → Kept T.entries T.stood T.front T.empty_turns T.origin first passes s
         → (i j : ℕ) (v w : View T T.Entry) → get_elem? s.views i ≡ some v → get_elem? s.views j ≡ some w → is_held v.stage ≡ true → is_held w.stage ≡ true → i ≡ j }
-{
-}
+{}
 
 /// A lock is shared by threads, and a pass goes from one to another, wherever the value may.
 pub fn cross_threads<T: Turns + Send>() {

@@ -1,9 +1,6 @@
 //! Turns in threads, and what a caller makes of the clauses alone.
-mod threads;
-
 use crate::TurnLock;
-use crate::ledger::{Ledger, both, post_two};
-use threads::post_four;
+use crate::ledger::{Ledger, both, post_four, post_two};
 use std::alloc::Global;
 use std::test::Fail;
 
@@ -23,10 +20,12 @@ fn numbers(alloc: Global, thread: u64) -> Result<Vec<u64>, Fail> {
 fn has_each_once(posts: &Vec<u64>) -> Result<bool, Fail> {
     let mut sorted = posts.clone()?;
     sorted.sort()?;
-    Ok(sorted
-        .iter()
-        .enumerate()
-        .all(|(i, post)| *post == i as u64 + 1))
+    Ok(
+        sorted
+            .iter()
+            .enumerate()
+            .all(|(i, post)| *post == i as u64 + 1),
+    )
 }
 
 #[test]
