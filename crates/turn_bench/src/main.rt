@@ -7,8 +7,7 @@ use std::env;
 use std::sync::{Mutex, Wait};
 use std::thread::{Threads, join};
 use std::time::{Clock, Duration, Instant};
-use turn_lock::TurnLock;
-use turn_lock::ledger::{Ledger, post_all, post_four, post_two};
+use turn_lock::ledger::{Ledger, post_four, post_two};
 
 // How often each is timed. The least time counts.
 const ROUNDS: u32 = 7;
@@ -22,22 +21,16 @@ fn numbers(alloc: Global, turns: u32) -> Result<Vec<u64>, Error> {
     Ok(all)
 }
 
-fn lock_alone<R: Wait>(rt: &R, alloc: Global, posts: &[u64]) -> bool {
-    let Ok((lock, mut passes)) = TurnLock::new(alloc, Ledger::new(alloc, 1), &[1]) else {
-        return false;
-    };
-    let Some(pass) = passes.pop() else {
-        return false;
-    };
-    let (pass, posted) = post_all(rt, &lock, pass, posts);
-    drop(lock.close(pass));
-    posted == posts.len()
-}
-
-fn lock_turns<R: Threads + Wait + Sync>(rt: &R, alloc: Global, threads: u32, posts: &[u64]) -> bool {
+// One thread posts beside one that has nothing to post, so that both sides start the same threads.
+fn lock_turns<R: Threads + Wait + Sync>(
+    rt: &R,
+    alloc: Global,
+    threads: u32,
+    posts: &[u64],
+) -> bool {
     let ledger = Ledger::new(alloc, 1);
     match threads {
-        1 => lock_alone(rt, alloc, posts),
+        1 => post_two(rt, alloc, ledger, posts, &[]).is_ok(),
         2 => post_two(rt, alloc, ledger, posts, posts).is_ok(),
         _ => post_four(rt, alloc, ledger, ((posts, posts), (posts, posts))).is_ok(),
     }
@@ -49,24 +42,29 @@ fn mutex_posts<R: Wait>(rt: &R, ledger: &Mutex<Ledger>, posts: &[u64]) {
     }
 }
 
-fn mutex_two<R: Threads + Wait + Sync>(rt: &R, ledger: &Mutex<Ledger>, posts: &[u64]) {
+fn mutex_two<R: Threads + Wait + Sync>(
+    rt: &R,
+    ledger: &Mutex<Ledger>,
+    first: &[u64],
+    second: &[u64],
+) {
     join(
         rt,
-        || mutex_posts(rt, ledger, posts),
-        || mutex_posts(rt, ledger, posts),
+        || mutex_posts(rt, ledger, first),
+        || mutex_posts(rt, ledger, second),
     );
 }
 
 fn mutex_turns<R: Threads + Wait + Sync>(rt: &R, alloc: Global, threads: u32, posts: &[u64]) {
     let ledger = Mutex::new(Ledger::new(alloc, 1));
     match threads {
-        1 => mutex_posts(rt, &ledger, posts),
-        2 => mutex_two(rt, &ledger, posts),
+        1 => mutex_two(rt, &ledger, posts, &[]),
+        2 => mutex_two(rt, &ledger, posts, posts),
         _ => {
             join(
                 rt,
-                || mutex_two(rt, &ledger, posts),
-                || mutex_two(rt, &ledger, posts),
+                || mutex_two(rt, &ledger, posts, posts),
+                || mutex_two(rt, &ledger, posts, posts),
             );
         }
     }
