@@ -1,11 +1,10 @@
 -- A pass that was just made.
-use Rattle.std.proofs.Common.{◌≡◌, ℕ, suc, ◌+◌, List, [], ◌∷◌, length, take, ap, sym, ◌∙◌, arith, subst, Some}
+use Rattle.std.proofs.Common.{◌≡◌, ℕ, suc, List, [], ◌∷◌, length, ap, sym, ◌∙◌, arith, subst, Some}
 use Rattle.turn_lock.specs.declared.view.View.{View}
 use Rattle.turn_lock.specs.declared.view.Stage.TheVariants.{Resting}
 use Rattle.turn_lock.specs.declared.lock.TurnLock.{TurnLock}
 use Rattle.turn_lock.specs.declared.pass.Pass.{Pass}
 use Rattle.turn_lock.specs.Passes.{first_of, IsNew}
-use Rattle.turn_lock.specs.Rule.{newcomer}
 use Rattle.turn_lock.specs.Steps.{dealt}
 
 not_none : (k : ℕ) (l : List ℕ) → l ≡ k ∷ [] → l ≡ [] → ⊥

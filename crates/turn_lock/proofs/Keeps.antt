@@ -9,15 +9,15 @@ use Rattle.std.proofs.Math.Nat.{mod-add-mod, add-mod-mod}
 use Rattle.std.proofs.lemmas.List.{set-get_or}
 use Rattle.std.proofs.lemmas.Option.{none-some}
 use Rattle.atomic_table.specs.Table.{State, Me, Act, keeps, takes, gives, Allows, Splits, Joins, stepped, put_back, opening, Final, Seen}
-use Rattle.atomic_table.proofs.Lists.{at_set, set_here, set_else, set_again, at_snoc, at_longer, at_last, one_turn}
+use Rattle.atomic_table.proofs.Lists.{at_set, set_here, set_else, set_again, at_snoc, at_longer, one_turn}
 use Rattle.turn_lock.specs.declared.view.View.{View}
 use Rattle.turn_lock.specs.declared.view.Stage.{Stage}
 use Rattle.turn_lock.specs.declared.view.Stage.TheVariants.{Resting, Waiting, Turn, Raised}
-use Rattle.turn_lock.specs.Turning.{one, times, total, EachOnce, IsBeginning, greatest, places, StandIn, added, longer, numbers_from, IsOneTurn}
-use Rattle.turn_lock.specs.Rule.{is_queued, is_held, ahead, tickets, tickets_of, times_at, Kept, Shared, Fits, AtHome, IsOut, HasTurns, front_of, newcomer}
-use Rattle.turn_lock.specs.Steps.{waiting, in_turn, raising, resting, left_to_deal, dealt, joined, spent, queued, raised, passed, read, Suits, Gets, GoesBack, looked}
+use Rattle.turn_lock.specs.Turning.{one, times, total, EachOnce, IsBeginning, greatest, places, StandIn, added, numbers_from, IsOneTurn}
+use Rattle.turn_lock.specs.Rule.{is_queued, is_held, ahead, tickets, tickets_of, times_at, Kept, Shared, Fits, AtHome, IsOut, HasTurns, newcomer}
+use Rattle.turn_lock.specs.Steps.{waiting, in_turn, raising, resting, left_to_deal, dealt, joined, spent, queued, raised, passed, read, GoesBack, looked}
 use Rattle.turn_lock.proofs.Lists.{value_or, begins_itself, begins_more, begins_length, begins_longer, stand_more, stand_append, get_last, added_one, added_none, greatest_since, times_append, places_append}
-use Rattle.turn_lock.proofs.Counts.{one_same, one_other, at_within, total_append, total_set, total_same, term_le, terms_le, total_le, total_none, total_alone, once_same, once_grown, once_passed, once_bound, once_inside, length_numbers, once_numbers, next_number}
+use Rattle.turn_lock.proofs.Counts.{one_same, at_within, total_append, total_set, total_same, term_le, terms_le, total_le, total_alone, once_same, once_grown, once_passed, once_bound, once_inside, length_numbers, once_numbers, next_number}
 
 abbrev W : ℕ
 W = 18446744073709551616

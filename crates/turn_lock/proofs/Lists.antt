@@ -1,8 +1,8 @@
 -- Beginnings of histories, entries at their places, and the greatest number of a list.
-use Rattle.std.proofs.Common.{◌≡◌, ℕ, zero, suc, ◌+◌, ◌-◌, ◌%◌, ◌<◌, ◌≤◌, ◌≢◌, ◌⊎◌, Bool, true, false, List, [], ◌∷◌, ◌++◌, map, length, drop, max, cond, sym, refl, ap, ◌∙◌, subst, inl, inr, ⊎_elim, arith, append_assoc, append-nil, length-append, Option, Some, None, slice_get}
+use Rattle.std.proofs.Common.{◌≡◌, ℕ, zero, suc, ◌+◌, ◌≤◌, ◌⊎◌, true, false, List, [], ◌∷◌, ◌++◌, length, drop, max, cond, sym, refl, ap, ◌∙◌, subst, inl, inr, ⊎_elim, arith, append_assoc, append-nil, length-append, Option, Some, None, slice_get}
 use lib.Seq.{drop-append-le}
 use Rattle.std.proofs.lemmas.Option.{none-some}
-use Rattle.turn_lock.specs.Turning.{times, IsBeginning, greatest, places, StandIn, placed, added, longer, IsOneTurn}
+use Rattle.turn_lock.specs.Turning.{times, IsBeginning, greatest, places, StandIn, placed, added, longer}
 
 pub times_append : (k : ℕ) (xs ys : List ℕ) → times k (xs ++ ys) ≡ times k xs + times k ys
 times_append k [] ys = omega arith

@@ -1,9 +1,9 @@
 -- What contracts say of a lock and of its passes.
-use Rattle.std.specs.Prelude.{◌≡◌, ◌≢◌, ℕ, ◌+◌, ◌-◌, ◌%◌, ◌^◌, ◌<◌, ◌≤◌, List, [], ◌∷◌, ◌++◌, length, max, Option, Some, None, slice_index}
+use Rattle.std.specs.Prelude.{◌≡◌, ◌≢◌, ℕ, ◌+◌, List, [], ◌∷◌, ◌++◌, max, Some, None}
 use Rattle.turn_lock.specs.declared.lock.TurnLock.{TurnLock}
 use Rattle.turn_lock.specs.declared.pass.Pass.{Pass}
 use Rattle.turn_lock.specs.declared.view.Stage.TheVariants.{Resting, Turn}
-use Rattle.turn_lock.specs.Turning.{times, longer}
+use Rattle.turn_lock.specs.Turning.{longer}
 
 module _ {T E : Type 0} where
   -- the value that was handed to the lock, as it was then

@@ -1,4 +1,4 @@
-use Rattle.std.proofs.Common.{rules, ◌++◌, length, ap, ap₂, ◌∙◌, arith}
+use Rattle.std.proofs.Common.{rules, ◌++◌, length, ap, ap₂, arith}
 use Rattle.turn_lock.proofs.ledger.post_four.Goals as goal
 
 pub join-left-requires-after_bounds : goal.join-left-requires-after_bounds

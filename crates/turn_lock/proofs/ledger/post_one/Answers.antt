@@ -1,4 +1,4 @@
-use Rattle.std.proofs.Common.{rules, ◌≡◌, ℕ, ◌≤◌, ◌++◌, [], ◌∷◌, length, List, sym, ap, ◌∙◌, subst, arith, length-append}
+use Rattle.std.proofs.Common.{◌≡◌, ℕ, ◌≤◌, ◌++◌, [], ◌∷◌, length, List, sym, ap, ◌∙◌, subst, arith, length-append}
 use Rattle.turn_lock.specs.Merging.{Rise}
 use Rattle.turn_lock.specs.Passes.{first_of, seen_of, mine_of}
 use Rattle.turn_lock.proofs.Lists.{begins_length}

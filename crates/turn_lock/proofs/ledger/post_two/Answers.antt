@@ -1,7 +1,7 @@
-use Rattle.std.proofs.Common.{rules, ◌≡◌, ℕ, ◌≤◌, ◌++◌, [], ◌∷◌, length, take, drop, List, sym, ap, ◌∙◌, subst, arith}
+use Rattle.std.proofs.Common.{◌≡◌, ℕ, ◌≤◌, length, take, drop, List, ap, subst, arith}
 use Rattle.turn_lock.specs.Turning.{EachOnce, StandIn, times, places}
-use Rattle.turn_lock.specs.Merging.{entries_of, Rise, IsMerge}
-use Rattle.turn_lock.specs.Passes.{first_of, numbers_of, seen_of, mine_of, IsPassOf, IsResting, IsNew}
+use Rattle.turn_lock.specs.Merging.{entries_of, IsMerge}
+use Rattle.turn_lock.specs.Passes.{first_of, mine_of}
 use Rattle.turn_lock.proofs.Lists.{begins_length, length_longer}
 use Rattle.turn_lock.proofs.Merges.{two_make_all}
 use Rattle.turn_lock.proofs.ledger.post_two.Goals as goal

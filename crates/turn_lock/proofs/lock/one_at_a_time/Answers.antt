@@ -1,4 +1,3 @@
-use Rattle.turn_lock.proofs.Merges.{two_make_all}
 use Rattle.turn_lock.proofs.Keeps.{one_holder}
 use Rattle.turn_lock.proofs.lock.one_at_a_time.Goals as goal
 

@@ -1,4 +1,3 @@
-use Rattle.std.proofs.Common.{rules}
 use Rattle.turn_lock.proofs.tests.a_front_shows_at_once.Goals as goal
 
 pub loop-number-init : goal.loop-number-init

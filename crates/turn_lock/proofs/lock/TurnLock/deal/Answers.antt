@@ -1,4 +1,4 @@
-use Rattle.std.proofs.Common.{rules, ◌≡◌, ℕ, ◌+◌, ◌<◌, ◌++◌, [], ◌∷◌, length, sym, refl, ap, ◌∙◌, subst, ⊎_elim, arith, Some, slice_get, slice_index, vec_len}
+use Rattle.std.proofs.Common.{rules, ◌≡◌, ℕ, ◌+◌, ◌<◌, [], length, sym, refl, ap, ◌∙◌, arith, slice_get, slice_index}
 use Rattle.turn_lock.specs.Passes.{IsNew, first_of}
 use Rattle.turn_lock.specs.Steps.{left_to_deal, dealt}
 use Rattle.turn_lock.proofs.Lists.{each_push}

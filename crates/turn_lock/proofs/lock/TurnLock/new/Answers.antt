@@ -1,4 +1,4 @@
-use Rattle.std.proofs.Common.{rules, ◌≡◌, ℕ, ◌<◌, [], ◌∷◌, ◌++◌, length, ap, ◌∙◌, arith, subst, Some}
+use Rattle.std.proofs.Common.{rules, ◌≡◌, [], ◌∷◌, ap, ◌∙◌, arith, Some}
 use Rattle.turn_lock.proofs.Keeps.{opens}
 use Rattle.turn_lock.proofs.Deals.{new_of}
 use Rattle.turn_lock.proofs.lock.TurnLock.new.Goals as goal
