@@ -9,5 +9,6 @@ mod MeansRefusal
 mod MeansStep
 mod OpenErrors
 mod Room
+mod RoundLaws
 mod Undamaged
 mod Zeros

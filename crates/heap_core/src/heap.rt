@@ -82,6 +82,8 @@ impl<D: Disk> Heap<D> {
         // What is opened is the core that a legal log says, whatever graph is seen in it: the log that was read.
         ensures opens { IfOk result (λ heap. (s : Super) × (batches : List (List Record)) × (legal : IsLegalLog s batches) × ((g : Graph) → Shows s batches legal g → IsCore (opened s batches g) heap)) }
 
+        ensures unfailed { IfOk result (λ heap. failed_at heap ≡ None) }
+
         // Of a disk that tells it is the log that the disk holds, and the disk then holds the core.
         ensures holds { IsTrue D.tells → (s : Super) (batches : List (List Record)) → (legal : IsLegal s batches (D.bytes disk)) → Only (D.bytes disk) (D.may_leave disk) → IfOk result (λ heap. (g : Graph) → Shows s batches legal.log g → IsHeap s (opened s batches g) heap) }
         // A legal image is refused only for want of memory or by the disk.

@@ -1,5 +1,8 @@
 //! A heap that is opened from an image whose log ends inside a transaction: what that wrote is taken back, wherever the
 //! opening stops.
+ghost use Rattle.std.specs.Prelude.{◌≡◌, None};
+ghost use Rattle.heap_core.specs.HeapState.{failed_at};
+
 use crate::errors::OpenError;
 use crate::heap::Heap;
 use disk_model::{Disk, FuseDisk, MemoryDisk, Pick};
@@ -82,7 +85,9 @@ fn make_disk(alloc: Global, pick: Pick) -> Result<MemoryDisk, AllocError> {
     )
 }
 
-fn open<D: Disk + Drop>(rt: &impl Abort, alloc: Global, disk: D) -> Heap<D> {
+fn open<D: Disk + Drop>(rt: &impl Abort, alloc: Global, disk: D) -> Heap<D>
+    ensures { failed_at result ≡ None }
+{
     match Heap::open(alloc, disk) {
         Ok(heap) => heap,
         Err((e, _)) => panic!(rt; "not opened: {e:?}"),
