@@ -2,7 +2,7 @@
 use Rattle.std.specs.Prelude.{◌≡◌, ℕ, ◌+◌, List, [], ◌∷◌, ◌++◌, map, nat_eq, position, slice_get, unwrap_or, Option, None, Some, IsSome, if◌then◌else◌}
 use Rattle.std.specs.List.{list_any}
 use Rattle.heap_words.specs.declared.Word.{Word}
-use Rattle.heap_words.specs.declared.Word.TheVariants.{Null, Int, Stable, Volatile}
+use Rattle.heap_words.specs.declared.Word.TheVariants.{Null, Int, Stable}
 use Rattle.heap_words.specs.Word.{meaning}
 use Rattle.graph_model.specs.Canon.{Shown, Nothing, Number, Object}
 use Rattle.object_layout.specs.Layout.{field_words, stand, referred}
@@ -41,14 +41,14 @@ AreWhole words ws = (i w : ℕ) → slice_get ws i ≡ Some w → IsWhole words 
 pub data IsOrder (words : List ℕ) (start : ℕ) : ℕ → List ℕ → Type 0 where
   first : {at : ℕ} → stand words start ≡ Some at → IsOrder words start 0 (at ∷ [])
   next : {count : ℕ} {places : List ℕ} (at : ℕ) → IsOrder words start count places → slice_get places count ≡ Some at → AreWhole words (field_words words at)
-    → IsOrder words start (count + 1) (with_places places (targets words (field_words words at)))
+      → IsOrder words start (count + 1) (with_places places (targets words (field_words words at)))
 
 -- The address that damage is told at: the one that is printed, where it names no object; else that of the first object, in the order of
 -- the numbers, with a field that names none.
 pub data IsDamage (words : List ℕ) (start : ℕ) : ℕ → Type 0 where
   no_root : stand words start ≡ None → IsDamage words start start
   no_object : {count : ℕ} {places : List ℕ} (at : ℕ) → IsOrder words start count places → slice_get places count ≡ Some at
-    → (AreWhole words (field_words words at) → ⊥) → IsDamage words start at
+      → (AreWhole words (field_words words at) → ⊥) → IsDamage words start at
 
 -- the number of a place
 abbrev pub number_of : List ℕ → ℕ → ℕ

@@ -1,10 +1,10 @@
 -- Laws of the numbering: numbers stay, and it is that of the canon of each graph that is seen.
-use Rattle.std.proofs.Common.{◌≡◌, ℕ, zero, suc, ◌+◌, ◌<◌, ◌≤◌, ◌⊎◌, inl, inr, Bool, true, false, cond, not, List, [], ◌∷◌, ◌++◌, length, map, take, Option, Some, None, is_some, unwrap_or, refl, sym, ap, ◌∙◌, subst, arith}
-use Rattle.std.specs.Prelude.{nat_eq, nat_lt, ◌||◌, slice_get, position, Contains, IsSome, if◌then◌else◌}
+use Rattle.std.proofs.Common.{◌≡◌, ℕ, zero, suc, ◌+◌, Bool, true, false, cond, not, List, [], ◌∷◌, ◌++◌, length, map, Option, Some, None, unwrap_or, refl, sym, ap, ◌∙◌, subst, arith}
+use Rattle.std.specs.Prelude.{nat_eq, nat_lt, ◌||◌, slice_get, position, if◌then◌else◌}
 use Rattle.std.specs.Option.{option_and_then, option_map}
 use Rattle.std.proofs.lemmas.List.{map-append, length-map}
 use Rattle.std.specs.List.{list_any, position_or_len}
-use Rattle.std.specs.FinMap.{get, len}
+use Rattle.std.specs.FinMap.{len}
 use Rattle.std.proofs.lemmas.Option.{same_Some, slice_get-map}
 use Rattle.std.proofs.lemmas.Bool.{eqb-true, eq-eqb}
 use Rattle.heap_words.specs.declared.Word.{Word}
@@ -14,14 +14,14 @@ use Rattle.graph_model.specs.declared.id.Id.{Id}
 use Rattle.graph_model.specs.declared.val.Val.{Val}
 use Rattle.graph_model.specs.declared.val.Val.TheVariants.{Null, Int, Ref}
 use Rattle.graph_model.specs.Graph.{Graph, is_same_id, root, fields}
-use Rattle.graph_model.specs.Canon.{with_target, with_targets, visit, numbered, Shown, Nothing, Number, Object, shown, canon}
-use Rattle.object_layout.specs.Layout.{field_words, stand, referred, as_ref, value, values, IsMet, at_start, along, IsKnown, IsSeenAs}
+use Rattle.graph_model.specs.Canon.{with_target, with_targets, visit, numbered, Object, shown, canon}
+use Rattle.object_layout.specs.Layout.{field_words, stand, referred, as_ref, value, IsMet, at_start, along, IsKnown, IsSeenAs}
 use Rattle.object_layout.specs.CanonMatch.{rows_of, same_id, itself, enough_turns}
 use Rattle.object_layout.specs.SeenLaws.{seen_whole}
-use Rattle.graph_print.specs.Order.{with_place, with_places, target, targets, IsWhole, AreWhole, IsOrder, first, next, IsDamage, no_root, no_object, number_of, shown_place, shown_word, row, rows}
+use Rattle.graph_print.specs.Order.{with_place, with_places, target, targets, IsOrder, first, next, shown_place, shown_word, row, rows}
 
 -- places that are met
-abbrev AreMet : List ℕ → ℕ → List ℕ → Type 0
+abbrev pub AreMet : List ℕ → ℕ → List ℕ → Type 0
 AreMet words start [] = Unit {0}
 AreMet words start (at ∷ ats) = IsMet words start at × AreMet words start ats
 
@@ -48,13 +48,14 @@ met_places words start places (w ∷ ws) all leads =
     met_places words start (with_place places (target words w)) ws
     (met_place words start places (target words w) all (λ t is. leads zero w t refl is)) (λ i. leads (suc i))
 
-met_get : (words : List ℕ) (start : ℕ) (places : List ℕ) (i at : ℕ) → AreMet words start places → slice_get places i ≡ Some at → IsMet words start at
+-- so is each of them
+pub met_get : (words : List ℕ) (start : ℕ) (places : List ℕ) (i at : ℕ) → AreMet words start places → slice_get places i ≡ Some at → IsMet words start at
 met_get words start [] i at all is = cc
 met_get words start (p ∷ ps) zero at all is = subst (IsMet words start) (same_Some p at is) all.0
 met_get words start (p ∷ ps) (suc i) at all is = met_get words start ps i at all.1 is
 
 -- what is numbered is met
-order_met : (words : List ℕ) (start count : ℕ) (places : List ℕ) → IsOrder words start count places → AreMet words start places
+pub order_met : (words : List ℕ) (start count : ℕ) (places : List ℕ) → IsOrder words start count places → AreMet words start places
 order_met words start count places (first is) = (at_start is, tt)
 order_met words start count places (next {count = before} {places = ps} at order is whole) =
     let all = order_met words start before ps order in
@@ -197,7 +198,7 @@ shown_rows name words start g places [] seen all met = refl
 shown_rows name words start g places (at ∷ ats) seen all met =
     let known = seen.known at met.0 in
     let here = ap (λ vs. map (shown (map name places)) vs) (known_fields name words g at known)
-        ∙ shown_row name words start g places (field_words words at) known.fields seen all (λ i w t is leads. along i w t met.0 is leads) known.values in
+    ∙ shown_row name words start g places (field_words words at) known.fields seen all (λ i w t is leads. along i w t met.0 is leads) known.values in
     ap (λ r. r ∷ rows_of g (map name places) (map name ats)) here
     ∙ ap (λ rs. row words places (field_words words at) ∷ rs) (shown_rows name words start g places ats seen all met.1)
 

@@ -1,5 +1,5 @@
+mod Calls
 mod Empty
-mod FieldRead
 mod MeansActive
 mod MeansForce
 pub mod MeansLeft
@@ -7,6 +7,7 @@ mod MeansLog
 mod MeansOpen
 mod MeansRefusal
 mod MeansStep
+mod OpenErrors
 mod Room
-mod RootText
+mod Undamaged
 mod Zeros

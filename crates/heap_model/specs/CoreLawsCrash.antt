@@ -1,35 +1,25 @@
 -- What a crash leaves of a reached core: the graph of the first commits since its opening, among them all that were acknowledged.
-use Rattle.std.proofs.Common.{◌≡◌, ◌⊎◌, inl, inr, ℕ, ◌+◌, ◌≤◌, List, [], ◌∷◌, ◌++◌, length, take, Option, None, refl, sym, ap, ◌∙◌, subst, arith}
+use Rattle.std.proofs.Common.{◌≡◌, inl, inr, ℕ, ◌+◌, ◌≤◌, List, [], ◌∷◌, ◌++◌, length, take, Option, None, refl, sym, ap, ◌∙◌, subst, arith}
 use Rattle.std.specs.Option.{option_to_list}
 use Rattle.std.proofs.lemmas.List.{append-nil}
 use Rattle.graph_model.specs.Transaction.{Transaction, serial}
 use Rattle.graph_model.specs.History.{account, sealed, commits, acknowledged}
 use Rattle.image_plan.specs.declared.superblock.Super.{Super}
-use Rattle.image_plan.specs.Super.{IsSuper}
 use Rattle.log_records.specs.declared.Record.{Record}
 use Rattle.gated_log.specs.Log.{batches_bytes, hand, records_of, with_batch}
 use Rattle.log_machine.specs.Machine.{start, after_all, committed_words, reserve}
 use Rattle.object_layout.specs.Layout.{IsSeen}
 use Rattle.object_layout.specs.RootLaws.{StandsAlone}
 use Rattle.heap_model.specs.Core.{Core, forced}
-use Rattle.heap_model.specs.CoreCrash.{KeepsCommits}
+pub use Rattle.heap_model.specs.CoreCrash.{IsOnDisk, IsSuperOf}
 use Rattle.heap_model.specs.CoreValid.{Behind, IsTold, IsSound}
 use Rattle.heap_model.specs.CoreLawsGranted.{all_on_disk, undo_fits}
 use Rattle.heap_model.specs.CoreLawsLegal.{with_next, after_all_moved, committed_words-next, legal_base, root_legal}
 use Rattle.heap_model.specs.CoreLawsRecords.{told_commits, told_alone, told_seen}
 use Rattle.heap_model.specs.CoreLawsRoom.{records_of-append, length-forced}
 use Rattle.heap_model.specs.CoreLawsRun.{sound_agrees}
-use Rattle.heap_model.specs.Image.{words_of, IsLegalLog, Holds, Says}
-
--- The disk holds the batches that were forced, or those that wait as one more.
-abbrev pub IsOnDisk : Core → List (List Record) → Type 0
-IsOnDisk c batches = (batches ≡ c.batches) ⊎ (batches ≡ with_batch c.batches c.pending)
-
--- the superblock is that of a core's heap
-pub record IsSuperOf (s : Super) (c : Core) : Type 0 where
-  pub limits : IsSuper s
-  pub pages : s.pages ≡ c.pages
-  pub room : s.log_bytes ≡ c.room
+use Rattle.heap_model.specs.Image.{words_of, IsLegalLog, Says}
+use Rattle.heap_model.specs.Theorems.{CrashTheorem}
 
 force_batch : (c : Core) (p : List Record) → c.pending ≡ p → forced c p ≡ record c { batches = with_batch c.batches p; pending = [] }
 force_batch c [] e = ap (λ (q : List Record). record c { pending = q }) e
@@ -139,8 +129,8 @@ module _ (c : Core) (s : Super) (batches : List (List Record)) (h : IsSound c) (
         tell.some,
       )
 
-  -- A crash leaves an image of the first commits.
-  pub crash_law : (image : List ℕ) → Holds s batches image → KeepsCommits c image
-  crash_law image held =
-      let says = disk_says in
-      (says.0, record { stands = record { super = s; batches = batches; says = says.1; held = held }; kept = says.2; some = says.3 })
+-- A crash leaves an image of the first commits.
+pub crash_law : CrashTheorem
+crash_law c s batches sound on of image held =
+    let says = disk_says c s batches sound on of in
+    (says.0, record { stands = record { super = s; batches = batches; says = says.1; held = held }; kept = says.2; some = says.3 })

@@ -1,7 +1,6 @@
 -- Laws of the events that end a run.
-use Rattle.std.proofs.Common.{◌≡◌, ◌≢◌, zero, suc, sym, ap, subst, ◌∙◌, ℕ, ◌+◌, ◌*◌, ◌≤◌, List, [], ◌∷◌, ◌++◌, length, Option, Some, None, refl, arith, length-append}
-use Rattle.std.specs.List.{AllByRecursion, flat_map, range_with_len}
-use Rattle.std.proofs.lemmas.List.{append-nil}
+use Rattle.std.proofs.Common.{◌≡◌, ◌≢◌, sym, ap, subst, ℕ, ◌+◌, ◌*◌, ◌≤◌, List, [], ◌∷◌, ◌++◌, length, Option, Some, None, refl, arith, length-append}
+use Rattle.std.specs.List.{AllByRecursion, flat_map}
 use Rattle.graph_model.specs.declared.event.Event.{Event}
 use Rattle.graph_model.specs.declared.event.Event.TheVariants.{Force}
 use Rattle.graph_model.specs.declared.reply.Refusal.{Refusal}
@@ -9,6 +8,7 @@ use Rattle.graph_model.specs.SlowHeap.{IsSingleSession}
 use Rattle.graph_model.specs.Transaction.{Transaction}
 use Rattle.graph_model.specs.History.{account}
 use Rattle.log_records.specs.declared.Record.{Record}
+use Rattle.heap_model.specs.ListLaws.{flat_map-first}
 use Rattle.heap_model.specs.Core.{Core, sessions, core_refusal, after, force_calls, calls_if}
 use Rattle.heap_model.specs.CoreLawsCalls.{reached_events}
 use Rattle.heap_model.specs.CoreLawsRun.{sound_agrees}
@@ -26,15 +26,9 @@ abort_single : (o : Option Transaction) → AllByRecursion IsSingleSession (abor
 abort_single None = tt
 abort_single (Some t) = (refl, tt)
 
-none_abort : (active : ℕ → Option Transaction) (from n : ℕ) → 2 ≤ from → ((s : ℕ) → s ≢ 1 → active s ≡ None) → flat_map (λ s. abort_of s (active s)) (range_with_len from n) ≡ []
-none_abort active from zero low idle = refl
-none_abort active from (suc n) low idle =
-    ap (λ o. abort_of from o ++ flat_map (λ s. abort_of s (active s)) (range_with_len (from + 1) n)) (idle from (λ is. absurd (omega arith)))
-    ∙ none_abort active (from + 1) n (omega arith) idle
-
 one_aborts : (active : ℕ → Option Transaction) → ((s : ℕ) → s ≢ 1 → active s ≡ None) → flat_map (λ s. abort_of s (active s)) sessions ≡ abort_of 1 (active 1)
 unfolding sessions
-one_aborts active idle = ap (λ l. abort_of 1 (active 1) ++ l) (none_abort active 2 31 (omega arith) idle) ∙ append-nil (abort_of 1 (active 1))
+one_aborts active idle = flat_map-first (λ s. abort_of s (active s)) 1 31 (λ s other. ap (abort_of s) (idle s other))
 
 -- of a sound core only session 1 aborts
 pub aborting-one : (c : Core) → IsSound c → aborting c ≡ abort_of 1 ((account c.history).active 1)

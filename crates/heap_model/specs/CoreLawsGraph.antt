@@ -1,17 +1,24 @@
 -- What a core's records leave in memory: its graph, and what its active transaction sees.
-use Rattle.std.proofs.Common.{◌≡◌, ◌+◌, length, Some}
+use Rattle.std.proofs.Common.{◌≡◌, ◌+◌, length, None, Some, subst, append_assoc, sym, ap, ◌∙◌}
 use Rattle.graph_model.specs.Graph.{root, fields}
+use Rattle.graph_model.specs.declared.event.Event.{Event}
+use Rattle.graph_model.specs.declared.event.Event.TheVariants.{Force}
+use Rattle.graph_model.specs.SlowHeap.{IsSingleSession}
+use Rattle.graph_model.specs.Plain
 use Rattle.graph_model.specs.Plain.{view}
 use Rattle.graph_model.specs.Transaction.{Transaction, serial}
-use Rattle.graph_model.specs.History.{account, sealed}
-use Rattle.log_machine.specs.Machine.{start, after_all, committed_words, words}
+use Rattle.graph_model.specs.History.{account, account_after, sealed}
+use Rattle.gated_log.specs.Log.{records_of}
+use Rattle.log_machine.specs.MachineLaws.{after_all-append2}
+use Rattle.log_machine.specs.Machine.{State, start, after_all, committed_words, words}
 use Rattle.object_layout.specs.Layout.{IsSeen}
 use Rattle.object_layout.specs.RootLaws.{StandsAlone}
-use Rattle.heap_model.specs.Core.{Core, all_records}
+use Rattle.heap_model.specs.Core.{Core, all_records, next_number, event_records, core_refusal}
 use Rattle.heap_model.specs.CoreLawsGranted.{writer_as}
 use Rattle.heap_model.specs.CoreLawsRecords.{words_with, told_alone, told_seen}
 use Rattle.heap_model.specs.CoreLawsRun.{sound_agrees}
-use Rattle.heap_model.specs.CoreValid.{IsSound}
+use Rattle.heap_model.specs.CoreLawsStep.{done_records, goes, may_go}
+use Rattle.heap_model.specs.CoreValid.{Agrees, IsValid, IsSound}
 
 module _ (c : Core) (sound : IsSound c) where
   -- the records follow one another
@@ -37,3 +44,15 @@ module _ (c : Core) (sound : IsSound c) where
   -- the active transaction sees the fields as it wrote them
   pub core_view : (t : Transaction) → (account c.history).active 1 ≡ Some t → fields (view c.g0 (account c.history) t).graph root ≡ (sound_agrees c sound).behind.now
   core_view t e = (writer_as _ c (Some t) e (sound_agrees c sound)).sees
+
+-- the records that a granted event appends follow those before them
+pub event_follows : (c : Core) (event : Event) → (valid : IsValid c) → IsSingleSession event → core_refusal c event ≡ None → (event ≡ Force → ⊥)
+    → (state : State) × (after_all valid.behind.state (event_records c event) ≡ Some state)
+event_follows c event valid one granted other =
+    let next = goes c event valid one (may_go c event valid granted) in
+    let left = subst (λ (d : Core). Agrees (account_after (account c.history) (record { event = event; reply = Plain.granted (next_number c) c.g0 (account c.history) event })) d) (done_records c event other) next in (
+      left.behind.state,
+      sym (after_all-append2 (start c.pages c.first) valid.behind.state (all_records c) (event_records c event) valid.told.reached)
+          ∙ ap (λ l. after_all (start c.pages c.first) l) (append_assoc (records_of c.batches) c.pending (event_records c event))
+          ∙ left.told.reached,
+    )

@@ -1,5 +1,5 @@
 -- Legal logs of heaps whose only object is the root: what is seen of them, and which logs are legal.
-use Rattle.std.proofs.Common.{◌≡◌, ℕ, ◌+◌, ◌≤◌, inl, ⊎_elim, suc, unwrap_or, lit<, List, [], ◌∷◌, map, length, take, drop, Option, Some, None, Bool, true, false, cond, max, refl, sym, ap, ◌∙◌, subst, arith}
+use Rattle.std.proofs.Common.{◌≡◌, ℕ, ◌+◌, ◌≤◌, inl, ⊎_elim, suc, lit<, List, [], ◌∷◌, map, length, take, drop, Option, Some, None, Bool, true, false, cond, max, refl, sym, ap, ◌∙◌, subst, arith}
 use Rattle.std.specs.Prelude.{Contains, slice_get, slice_index, option_and_then}
 use Rattle.std.specs.List.{AllByRecursion}
 use Rattle.std.specs.Option.{option_map}
@@ -30,6 +30,7 @@ use Rattle.object_layout.specs.LayoutLaws.{object_header, length-field_words}
 use Rattle.object_layout.specs.RootLaws.{IsRootWord, AreRootWords, StandsAlone, root_seen}
 use Rattle.object_layout.specs.Walk.{IsInside, KeepsInside, IsWalked, HaveOwnBirths, AreBornBefore}
 use Rattle.object_layout.specs.WalkLaws.{Contains-head, Contains-cases, Contains-none, object_take, field_words_take, root_walked, filled_one}
+use Rattle.heap_model.specs.ListLaws.{same_things}
 use Rattle.heap_model.specs.Image.{words_of, IsLegalLog, Shows}
 use Rattle.heap_model.specs.ValueWord.{value_meant, value_of, root_values, IsRootVal}
 use Rattle.heap_model.specs.CoreLawsRoot.{in_root_graph, seen_in}
@@ -151,13 +152,6 @@ module _ (words : List ℕ) (walked : IsWalked words 0 6) where
   pub walked_fit : AllByRecursion IsRootVal (root_values words 0)
   walked_fit = all_fit_of (take 4 (drop 2 words)) (root_values words 0) inside_words
 
-bare_all : (vs : List Val) → map (λ (o : Option Val). unwrap_or o Null) (map Some vs) ≡ vs
-bare_all [] = refl
-bare_all (v ∷ vs) = ap (λ us. v ∷ us) (bare_all vs)
-
-same_all : (us vs : List Val) → map Some us ≡ map Some vs → us ≡ vs
-same_all us vs same = sym (bare_all us) ∙ ap (λ os. map (λ (o : Option Val). unwrap_or o Null) os) same ∙ bare_all vs
-
 -- in each graph that is seen the root that stands alone has its values
 pub seen_root : (words : List ℕ) (vs : List Val) (g : Graph) → StandsAlone words 0 vs → IsSeen words 0 g → get g root ≡ Some vs
 seen_root words vs g alone seen =
@@ -166,7 +160,7 @@ seen_root words vs g alone seen =
     let there = seen.known seen.first (at_start seen.stands) in
     let known = one.known one.first (at_start one.stands) in
     let same = in_root_graph vs known.fields (id_at words one.first) known.is in
-    let fields : there.fields ≡ known.fields = same_all there.fields known.fields (sym there.values ∙ ap (values (id_at words) words) first ∙ known.values) in
+    let fields : there.fields ≡ known.fields = same_things Null there.fields known.fields (sym there.values ∙ ap (values (id_at words) words) first ∙ known.values) in
     ap (get g) (sym seen.named) ∙ there.is ∙ ap Some (fields ∙ same.1)
 
 -- What a legal log says.
@@ -230,3 +224,12 @@ root_legal s batches state vs limits good reached room alone =
       own_births = subst (HaveOwnBirths (words_of s batches)) (sym starts) (one_birth (words_of s batches));
       born_before = subst (AreBornBefore plain.next (words_of s batches) 0) (sym starts) (λ a has. inl (one_start a has));
     }
+
+-- a log is legal whose records follow one another and leave room, and whose words the walk passes
+pub walked_legal : (s : Super) (batches : List (List Record)) (state : State) → IsSuper s → AllByRecursion IsRecord (records_of batches)
+    → after_all (start s.pages s.first) (records_of batches) ≡ Some state → length (batches_bytes batches) + 1 + reserve state ≤ s.log_bytes
+    → IsWalked (words_of s batches) state.base state.used → IsLegalLog s batches
+walked_legal s batches state limits good reached room walked =
+    let to = leads_after_all (start s.pages s.first) state (records_of batches) reached in
+    let first = subst (λ n. IsWalked (words_of s batches) 0 n) to.used (subst (λ n. IsWalked (words_of s batches) n state.used) to.base walked) in
+    root_legal s batches state (root_values (words_of s batches) 0) limits good reached room (walked_alone (words_of s batches) first)

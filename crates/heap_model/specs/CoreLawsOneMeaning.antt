@@ -11,6 +11,7 @@ use Rattle.log_records.specs.declared.Record.{Record}
 use Rattle.gated_log.specs.LogLaws.{holds_once}
 use Rattle.object_layout.specs.Layout.{id_at, IsSeen}
 use Rattle.object_layout.specs.SeenLaws.{seen_canon}
+use Rattle.heap_model.specs.Theorems.{OneMeaningTheorem}
 use Rattle.heap_model.specs.Image.{words_of, IsLegalLog, Holds, IsLegal, Says, StandsFor}
 
 -- an image holds one superblock
@@ -47,7 +48,7 @@ stands_at g h k j image s r bs cs same says held other_says other_held =
     one_said g h k j s bs says (subst (λ x. Says h j s x) (sym log) there.0)
 
 -- An image stands for one graph, up to names, and for one number of commits.
-pub one_graph : (g h : Graph) (k j : ℕ) (image : List ℕ) → StandsFor g k image → StandsFor h j image → (canon g ≡ canon h) × (k ≡ j)
+pub one_graph : OneMeaningTheorem
 one_graph g h k j image stands other =
     let same = one_held stands.super other.super stands.batches other.batches image
     (record { log = stands.says.legal; held = stands.held }) (record { log = other.says.legal; held = other.held }) in

@@ -19,6 +19,7 @@ use Rattle.heap_model.specs.CoreLawsLone.{none_reserve}
 use Rattle.heap_model.specs.CoreLawsOpening.{next_is, rolled_reached, rolled_words, rolled_good, rolled_room, rolled_says}
 use Rattle.heap_model.specs.CoreLawsReplies.{hears_nothing}
 use Rattle.heap_model.specs.CoreLawsRoot.{all_lead}
+use Rattle.heap_model.specs.Theorems.{OpeningTheorem}
 use Rattle.heap_model.specs.CoreValid.{at_first, Behind, IsTold, IsValid, IsReached}
 use Rattle.heap_model.specs.Image.{words_of, IsLegalLog, Holds, Shows, Says}
 use Rattle.heap_model.specs.Opening.{rolled_back, next_of, next_behind, opened}
@@ -143,3 +144,12 @@ module _ (s : Super) (batches : List (List Record)) (legal : IsLegalLog s batche
   opened_keeps image (inl held) = (0, record { stands = record { super = s; batches = batches; says = none_since batches found_says; held = held }; kept = omega arith; some = omega arith })
   opened_keeps image (inr held) =
       (0, record { stands = record { super = s; batches = rolled_back s batches; says = none_since (rolled_back s batches) left_says; held = held }; kept = omega arith; some = omega arith })
+
+-- A heap that is opened on any legal log goes on.
+pub opening_law : OpeningTheorem
+opening_law s batches legal g shows = record {
+  reached = opened_reached s batches legal g shows;
+  next = next_pinned s batches legal;
+  found = found_says s batches legal g shows;
+  left = left_says s batches legal g shows;
+}

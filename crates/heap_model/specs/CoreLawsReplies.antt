@@ -2,7 +2,6 @@
 use Rattle.std.proofs.Common.{◌≡◌, ◌⊎◌, inl, inr, ℕ, ◌+◌, List, [], ◌∷◌, ◌++◌, length, Option, Some, None, refl, sym, ap, ◌∙◌, subst}
 use Rattle.std.specs.Option.{option_to_list, option_map}
 use Rattle.std.proofs.lemmas.List.{append-nil}
-use Rattle.std.specs.List.{AllByRecursion}
 use Rattle.std.proofs.lemmas.List.Sums.{fold-append}
 use Rattle.graph_model.specs.declared.event.Event.{Event}
 use Rattle.graph_model.specs.declared.event.Event.TheVariants.{Begin, Root, Put, Clear, Drop, Get, Same, Len, Seal, Abort, Force}
@@ -14,13 +13,14 @@ use Rattle.graph_model.specs.declared.reply.Reply.TheVariants.{Begun, Sealed, Ab
 use Rattle.graph_model.specs.Graph.{Graph}
 use Rattle.graph_model.specs.SlowHeap.{IsSingleSession}
 use Rattle.graph_model.specs.Transaction.{Transaction, IsCall, fresh_view, replies, run, serial, serial_replies}
-use Rattle.graph_model.specs.History.{Account, nothing_yet, account, account_after, commits, session_of, with_call}
+use Rattle.graph_model.specs.History.{Account, nothing_yet, account, account_after, session_of, with_call}
 use Rattle.graph_model.specs.HistoryLaws.{IsCallReply, account-append, call_replies-append}
 use Rattle.graph_model.specs.Plain.{call_reply, granted, reply_of}
 use Rattle.graph_model.specs.PlainLaws.{IsNoFault, HasNoFault, call_reply-IsCallReply, granted-call, account_after-refused}
-use Rattle.heap_model.specs.Core.{Core, next_number, core_refusal, IsStep, IsRun}
+use Rattle.heap_model.specs.Core.{Core, next_number, core_refusal, IsStep}
+use Rattle.heap_model.specs.Theorems.{StepsTheorem, RepliesTheorem}
 use Rattle.heap_model.specs.CoreValid.{HearsSerial, AnswersSerially, IsSound, IsReached}
-use Rattle.heap_model.specs.CoreReplies.{Heard, nothing_heard, with_reply, hear_call, hear, heard_in, call_replies_of}
+use Rattle.heap_model.specs.CoreReplies.{Heard, nothing_heard, with_reply, hear_call, hear, heard_in}
 use Rattle.heap_model.specs.CoreLawsGranted.{called}
 use Rattle.heap_model.specs.CoreLawsStep.{core_refusal-HasNoFault, call_account}
 use Rattle.heap_model.specs.CoreLawsRun.{sound_agrees, step_history, calls-force, sound_step, same_step}
@@ -166,12 +166,12 @@ pub step_reached : (c d : Core) (event : Event) (reply : Reply) → IsReached c 
 step_reached c d event reply h one step = record { sound = sound_step c d event reply h.sound one step; answers = step_answers c d event reply h.sound h.answers one step }
 
 -- So do steps, one after another.
-pub run_reached : (c d : Core) (events : List Event) → IsReached c → AllByRecursion IsSingleSession events → IsRun c events d → IsReached d
+pub run_reached : StepsTheorem
 run_reached c d [] h one run = subst IsReached (sym run) h
 run_reached c d (event ∷ events) h one run = run_reached run.1 d events (step_reached c run.1 event run.0 h one.0 run.2) one.1 run.3
 
 -- The calls of each commit had the replies of the serial run.
-pub replies_law : (c : Core) → IsReached c → call_replies_of c.history ≡ serial_replies c.g0 (commits c.history)
+pub replies_law : RepliesTheorem
 replies_law c h =
     let a = account c.history in
     ap (λ (l : List (List Reply)). l ++ option_to_list (heard_in c.history).in_doubt) h.answers.sealed

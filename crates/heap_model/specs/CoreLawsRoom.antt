@@ -1,11 +1,9 @@
 -- Laws of the log's room: what records take, and when the log has room for an event.
-use Rattle.std.proofs.Common.{◌≡◌, ◌≢◌, ℕ, zero, suc, ◌+◌, ◌≤◌, Bool, true, false, cond, List, [], ◌∷◌, ◌++◌, length, Some, None, refl, ap, ◌∙◌, arith, length-append}
-use Rattle.std.specs.Prelude.{nat_lt, sum_by}
-use Rattle.std.specs.List.{range_with_len}
+use Rattle.std.proofs.Common.{◌≡◌, ◌≢◌, ℕ, ◌+◌, ◌≤◌, Bool, true, false, cond, List, [], ◌∷◌, ◌++◌, length, Some, None, refl, ap, ◌∙◌, arith, length-append}
+use Rattle.std.specs.Prelude.{nat_lt}
 use Rattle.std.specs.Int.{w32, to_le_bytes}
 use Rattle.std.proofs.lemmas.Bool.{le-ltb, ltb-false}
 use Rattle.std.proofs.lemmas.List.{append-nil}
-use Rattle.std.proofs.lemmas.List.Sums.{sum_by-cons}
 use Rattle.std.proofs.lemmas.Grind.{flat_map-append}
 use Rattle.graph_model.specs.History.{Account}
 use Rattle.graph_model.specs.declared.reply.Refusal.{Refusal}
@@ -16,6 +14,7 @@ use Rattle.log_machine.specs.Machine.{abort_records, undo_bytes}
 use Rattle.log_machine.specs.AbortLaws.{abort_length}
 use Rattle.log_records.specs.Record.{spelling, spellings}
 use Rattle.gated_log.specs.Log.{framed, batch, batches_bytes, records_of, hand}
+use Rattle.heap_model.specs.ListLaws.{sum-first}
 use Rattle.heap_model.specs.Core.{need, sessions, kept_for, reserved, full_log}
 
 -- the records of batches with one more
@@ -70,24 +69,10 @@ no_room false why e = refl
 pub full_log-room : (room used more kept : ℕ) → full_log room used more kept ≡ None → used + more + kept ≤ room
 full_log-room room used more kept e = ltb-false room (used + more + kept) (no_room (nat_lt room (used + more + kept)) (LogFull used more kept) e)
 
--- the bytes that are kept where one session alone has a transaction
-
-other_sessions : (f : ℕ → ℕ) (from n : ℕ) → 2 ≤ from → ((s : ℕ) → s ≢ 1 → f s ≡ 0) → sum_by f (range_with_len from n) ≡ 0
-other_sessions f from zero low none = refl
-other_sessions f from (suc n) low none =
-    let first = none from (λ is. absurd (omega arith)) in
-    let rest = other_sessions f (from + 1) n (omega arith) none in
-    sum_by-cons f from (range_with_len (from + 1) n) ∙ omega arith
-
-first_session : (f : ℕ → ℕ) → ((s : ℕ) → s ≢ 1 → f s ≡ 0) → sum_by f sessions ≡ f 1
-unfolding sessions
-first_session f none =
-    let rest = other_sessions f 2 31 (omega arith) none in
-    sum_by-cons f 1 (range_with_len 2 31) ∙ omega arith
-
 -- what is kept is kept for the one session that has a transaction
 pub reserved-one : (undo : ℕ → List UndoEntry) (a : Account) → ((s : ℕ) → s ≢ 1 → a.active s ≡ None) → reserved undo a ≡ kept_for undo (a.active 1)
-reserved-one undo a idle = first_session (λ s. kept_for undo (a.active s)) (λ s other. ap (kept_for undo) (idle s other))
+unfolding sessions
+reserved-one undo a idle = sum-first (λ s. kept_for undo (a.active s)) 1 31 (λ s other. ap (kept_for undo) (idle s other))
 
 -- what the records take that take writes back and end their transaction, with a batch's gate and length where none waits
 pub need-abort_records : (pending : List Record) (t : ℕ) (us : List UndoEntry) → need pending (abort_records t us) ≤ undo_bytes us

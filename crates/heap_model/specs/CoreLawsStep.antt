@@ -34,13 +34,13 @@ use Rattle.heap_model.specs.CoreLawsRoom.{full_log-none, full_log-room, reserved
 use Rattle.heap_model.specs.CoreLawsGranted.{called, idle_with, kept_active, need_nothing, commit_fits, abort_fits, agrees_history, agrees_entry, begin_agrees, quiet_agrees, write_agrees, seal_agrees, abort_agrees, force_agrees}
 
 -- What an event leaves that isn't refused agrees with its entry.
-abbrev Goes : Core → Event → Type 0
+abbrev pub Goes : Core → Event → Type 0
 Goes c event =
     let a = account c.history in
     Agrees (account_after a (record { event = event; reply = granted (next_number c) c.g0 a event })) (done c event)
 
 -- What is left where an event isn't refused.
-abbrev IsGranted : Core → Event → Type 0
+abbrev pub IsGranted : Core → Event → Type 0
 IsGranted c event = (event_refusal (next_number c) c.g0 (account c.history) event ≡ None) × (log_refusal c event ≡ None)
 
 -- a call that isn't refused is one more of its transaction
@@ -269,7 +269,7 @@ abort_goes c valid may =
     abort_agrees a c t.0 valid t.1
 
 -- an event of session 1 that isn't refused, by its form
-goes : (c : Core) (event : Event) → IsValid c → IsSingleSession event → IsGranted c event → Goes c event
+pub goes : (c : Core) (event : Event) → IsValid c → IsSingleSession event → IsGranted c event → Goes c event
 goes c (Begin s) valid one may = let P : ℕ → Type 0 = λ n. IsGranted c (Begin n) → Goes c (Begin n) in subst P (sym one) (begin_goes c valid) may
 goes c (Root s h) valid one may = quiet_goes c (Root s h) valid tt one refl may
 goes c (Put s h i v) valid one may = let P : ℕ → Type 0 = λ n. IsGranted c (Put n h i v) → Goes c (Put n h i v) in subst P (sym one) (put_goes c h i v valid) may
@@ -291,7 +291,7 @@ pub unfailed_refusal : (c : Core) (event : Event) → (account c.history).failed
     → core_refusal c event ≡ first_of_two (event_refusal (next_number c) c.g0 (account c.history) event) (log_refusal c event)
 unfailed_refusal c event e = ap (λ (o : Option ℕ). refusal_of o (first_of_two (event_refusal (next_number c) c.g0 (account c.history) event) (log_refusal c event))) e
 
-may_go : (c : Core) (event : Event) → IsValid c → core_refusal c event ≡ None → IsGranted c event
+pub may_go : (c : Core) (event : Event) → IsValid c → core_refusal c event ≡ None → IsGranted c event
 may_go c event valid e = both_none (event_refusal (next_number c) c.g0 (account c.history) event) (log_refusal c event) (sym (unfailed_refusal c event valid.unfailed) ∙ e)
 
 full_no_fault : (b : Bool) (used more kept : ℕ) → HasNoFault (cond b (Some (LogFull used more kept)) None)

@@ -1,6 +1,6 @@
 -- What an opening reads of a log, and what it leaves.
 use Rattle.std.proofs.Common.{◌≡◌, ◌≢◌, ◌⊎◌, ⊎_elim, ℕ, ◌+◌, ◌≤◌, List, [], ◌∷◌, ◌++◌, length, take, drop, take-append-drop, Option, None, Some, Result, Ok, Err, refl, sym, ap, ◌∙◌, subst, arith}
-use Rattle.std.specs.Prelude.{option_and_then, IfOk}
+use Rattle.std.specs.Prelude.{option_and_then, IfOk, IfErr, IsOk}
 use Rattle.std.proofs.lemmas.Option.{option_and_then_some}
 use Rattle.std.proofs.lemmas.Bool.Decides.{nat_tests}
 use Rattle.disk_model.specs.Disk.{part, Only, Narrows, SameOutside}
@@ -12,7 +12,7 @@ use Rattle.gated_log.specs.declared.LogError.TheVariants as logging
 use Rattle.gated_log.specs.Log.{records_of, with_batch, HoldsBatches, batches_bytes}
 use Rattle.gated_log.specs.LogLaws.{hand_size-Keeps}
 use Rattle.gated_log.specs.LogRoom.{used_bytes}
-use Rattle.gated_log.specs.LogState.{log_place, log_room, log_tail, hand_size, log_used, log_used_with, IsHandEmpty, Keeps}
+use Rattle.gated_log.specs.LogState.{log_place, log_room, log_tail, hand_size, log_used, log_used_with, IsHandEmpty, IsSameLog, Keeps}
 use Rattle.graph_model.specs.Graph.{Graph}
 use Rattle.image_plan.specs.declared.superblock.Super.{Super}
 use Rattle.image_plan.specs.Plan.{log_offset}
@@ -26,18 +26,17 @@ use Rattle.log_machine.specs.MachineLaws.{words-append}
 use Rattle.log_machine.specs.StateLaws.{commits-start}
 use Rattle.log_machine.specs.AbortLaws.{rollback_fits, rollback_words}
 use Rattle.log_machine.specs.CommittedLaws.{committed_words_at}
-use Rattle.object_layout.specs.declared.walk_error.WalkError.{WalkError}
-use Rattle.object_layout.specs.declared.walk_error.WalkError.TheVariants as walking
 use Rattle.object_layout.specs.Walk.{IsWalked, IsWalkFault}
 use Rattle.object_layout.specs.WalkLaws.{walked_fault}
 use Rattle.heap_model.specs.CoreLawsCrash.{records_of-with_batch}
+use Rattle.heap_model.specs.CoreLawsHeld.{held_with, still_stands, rolled_stands}
 use Rattle.heap_model.specs.Image.{words_of, IsLegalLog, Holds, IsLegal, Says, StandsFor}
 use Rattle.heap_model.specs.Opening.{rollback_in, rollback_of, rolled_back, next_in, next_of}
 use Rattle.heap_recovery.specs.declared.error.RecoverError.{RecoverError}
 use Rattle.heap_recovery.specs.declared.error.RecoverError.TheVariants.{NoMemory, NotHeap, Damaged, Disk}
 use Rattle.heap_recovery.specs.declared.reading.Reading.{Reading}
 use Rattle.heap_recovery.specs.declared.recovery.Recovered.{Recovered}
-use Rattle.heap_recovery.specs.Recovered.{IsRead, IsRecovered, IsFromOutside, ErrorPasses, log_error, replay_error, walk_error}
+use Rattle.heap_recovery.specs.Recovered.{IsRead, IsRecovered, IsFromOutside, ErrorPasses, OpenPasses, log_error, replay_error}
 use Rattle.heap_recovery.proofs.LegalLog.{legal_log}
 
 -- a log that is not damaged fails by the outside
@@ -60,12 +59,6 @@ shaped_outside s m rs (replaying.Unshaped lsn) reached fault =
     let never : None ≡ Some front.0 = sym (fault lsn refl).stuck ∙ front.1 in
     cc never
 
--- so does a walk that passes
-pub walked_outside : (words : List ℕ) (base used : ℕ) (e : WalkError) → IsWalked words base used → ((at : ℕ) → e ≡ walking.Damaged at → IsWalkFault words base used at) → IsFromOutside (walk_error e)
-walked_outside words base used walking.NoMemory walked fault = tt
-walked_outside words base used (walking.Damaged at) walked fault = absurd (walked_fault words base used at walked (fault at refl))
-walked_outside words base used (walking.Disk e) walked fault = tt
-
 -- a log in which no record waits is known to be so
 pub none_waits : (log : Log) (batches : List (List Record)) → Keeps log batches [] → IsHandEmpty log
 none_waits log batches keeps = hand_size-Keeps log batches [] keeps
@@ -79,7 +72,10 @@ used_more tail hand k = grind (arith, nat_tests)
 
 fits_with : (log : Log) (s : State) (es : List Loser) → losing s ≡ es → log_used log + reserve s ≤ log_room log → log_used_with log (length (spellings (rollback s))) ≤ log_room log
 fits_with log s [] none le =
-    subst (λ (rs : List Record). log_used_with log (length (spellings rs)) ≤ log_room log) (sym (ap abort_each none)) (omega (arith, le))
+    let nothing : rollback s ≡ [] = ap abort_each none in
+    let same : hand_size log ≡ hand_size log + 0 = omega arith in
+    subst (λ (rs : List Record). log_used_with log (length (spellings rs)) ≤ log_room log) (sym nothing)
+    (subst (λ (h : ℕ). used_bytes (log_tail log) h ≤ log_room log) same (omega (arith, le)))
 fits_with log s (e ∷ es) some le =
     let size = rollback_fits s (λ none. (let never : e ∷ es ≡ [] = sym some ∙ none in cc never)) in
     let more = used_more (log_tail log) (hand_size log) (length (spellings (rollback s))) in
@@ -157,17 +153,72 @@ module _ (s : Super) (batches : List (List Record)) (read : Reading) (is : IsRea
       subst (λ (x : State). IsWalked now x.base x.used) one (subst (λ (l : List ℕ). IsWalked l legal.state.base legal.state.used) (sym (rolled ∙ committed)) legal.walked)
 
   -- what is opened
-  pub recovered : (r : Result Recovered RecoverError) (behind : Reading) → behind.state ≡ read.state → behind.of ≡ read.of → log_place behind.log ≡ log_place read.log → log_room behind.log ≡ log_room read.log
-      → behind.words ≡ all_taken_back read.state read.words → Keeps behind.log (with_batch batches (rollback read.state)) []
-      → IfOk r (λ found. found.log ≡ behind.log) → IfOk r (λ found. found.words ≡ behind.words) → IfOk r (λ found. found.pages ≡ behind.of.pages)
-      → IfOk r (λ found. found.commits ≡ behind.state.commits) → IfOk r (λ found. found.next ≡ behind.state.next) → IfOk r (IsRecovered s batches)
-  recovered (Err e) behind state of at room taken keeps same_log same_words same_pages same_commits next = tt
-  recovered (Ok found) behind state of at room taken keeps same_log same_words same_pages same_commits next = record {
-    log = subst (λ (log : Log). Keeps log (rolled_back s batches) []) (sym same_log) (subst (λ (l : List Record). Keeps behind.log (with_batch batches l) []) (sym same_rollback) keeps);
+  pub recovered : (r : Result Recovered RecoverError) (log : Log) (now : List ℕ) (of : Super) (state : State) → state ≡ read.state → of ≡ read.of → log_place log ≡ log_place read.log → log_room log ≡ log_room read.log
+      → now ≡ all_taken_back read.state read.words → Keeps log (with_batch batches (rollback read.state)) []
+      → IfOk r (λ found. found.log ≡ log) → IfOk r (λ found. found.words ≡ now) → IfOk r (λ found. found.pages ≡ of.pages)
+      → IfOk r (λ found. found.commits ≡ state.commits) → IfOk r (λ found. found.next ≡ state.next) → IfOk r (IsRecovered s batches)
+  recovered (Err e) log now of state same_state same_of at room taken keeps same_log same_words same_pages same_commits next = tt
+  recovered (Ok found) log now of state same_state same_of at room taken keeps same_log same_words same_pages same_commits next = record {
+    log = subst (λ (x : Log). Keeps x (rolled_back s batches) []) (sym same_log) (subst (λ (l : List Record). Keeps log (with_batch batches l) []) (sym same_rollback) keeps);
     place = ap log_place same_log ∙ at ∙ is.place;
     room = ap log_room same_log ∙ room ∙ is.room;
     words = same_words ∙ taken ∙ rolled_words;
-    pages = same_pages ∙ ap (λ (x : Super). x.pages) (of ∙ is.of);
-    commits = same_commits ∙ ap (λ (x : State). x.commits) state ∙ commits-start s.pages s.first read.state (records_of batches) is.state;
-    next = next ∙ ap (λ (x : State). x.next) state ∙ sym (ap next_in is.state);
+    pages = same_pages ∙ ap (λ (x : Super). x.pages) (same_of ∙ is.of);
+    commits = same_commits ∙ ap (λ (x : State). x.commits) same_state ∙ commits-start s.pages s.first read.state (records_of batches) is.state;
+    next = next ∙ ap (λ (x : State). x.next) same_state ∙ sym (ap next_in is.state);
   }
+
+-- what is opened is a legal log
+pub opened_legal : (s : Super) (batches : List (List Record)) (read : Reading) (is : IsRead s batches read) (r : Result Recovered RecoverError) (now : List ℕ) (state : State) (fault : Option ℕ)
+    → log_used read.log + reserve read.state ≤ log_room read.log → state ≡ read.state → now ≡ all_taken_back read.state read.words
+    → (fault ≡ None → IsWalked now state.base state.used) → IfOk r (λ found. fault ≡ None) → IfOk r (IsRecovered s batches)
+    → IfOk r (λ found. (t : Super) × (bs : List (List Record)) × IsLegalLog t bs × IsRecovered t bs found)
+opened_legal s batches read is (Err e) now state fault room same taken passes none found = tt
+opened_legal s batches read is (Ok f) now state fault room same taken passes none found =
+    let walked = subst (λ (x : State). IsWalked now x.base x.used) same (passes none) in
+    (s, batches, read_legal s batches read is room now taken walked, found)
+
+-- a walk that passes finds no fault
+pub no_fault : (words : List ℕ) (base used : ℕ) (fault : Option ℕ) → IsWalked words base used → ((at : ℕ) → fault ≡ Some at → IsWalkFault words base used at) → fault ≡ None
+no_fault words base used None walked faults = refl
+no_fault words base used (Some at) walked faults = absurd (walked_fault words base used at walked (faults at refl))
+
+-- an opening that ended well
+pub ok_outside : (r : Result Recovered RecoverError) → IsOk r → IfErr r IsFromOutside
+ok_outside (Ok found) ok = tt
+ok_outside (Err e) ok = cc ok
+
+-- what is found in any case
+pub if_ok : (r : Result Recovered RecoverError) (P : Type 0) → P → IfOk r (λ found. P)
+if_ok (Ok found) P h = h
+if_ok (Err e) P h = tt
+
+-- the calls of an opening that ends well
+pub ok_passes : (r : Result Recovered RecoverError) (n before now : ℕ) → IsOk r → Passes n before now (Ok tt) → OpenPasses n before now r
+ok_passes (Ok found) n before now ok passes = passes
+ok_passes (Err e) n before now ok passes = cc ok
+
+-- a log that only took memory keeps what it did
+pub keeps_same : (old new : Log) (batches : List (List Record)) (pending : List Record) → IsSameLog old new → Keeps old batches pending → Keeps new batches pending
+keeps_same old new batches pending same keeps = record {
+  tail = same.place.tail ∙ keeps.tail;
+  head = keeps.head;
+  four = keeps.four;
+  items = same.hand ∙ keeps.items;
+  forced = same.place.forced ∙ keeps.forced;
+  count = same.count ∙ keeps.count;
+}
+
+-- A crash at any moment of an opening leaves what stands for the same graph and commits.
+pub opening_moments : {D : Type 0} (moment : D → ℕ) (left_since : D → ℕ → List ℕ → Type 0) (old mid new : D) (may_leave : List ℕ → Type 0) (now image : List ℕ) (g : Graph) (k : ℕ) (stands : StandsFor g k image) (read : Reading)
+    → IsRead stands.super stands.batches read → Only image may_leave → now ≡ image → LeavesOnly moment left_since old mid may_leave
+    → LeavesOnly moment left_since mid new (λ c. SameOutside (log_place read.log) (log_place read.log + log_room read.log) now c × (HoldsBatches (part c (log_place read.log) (log_room read.log)) stands.batches ⊎ HoldsBatches (part c (log_place read.log) (log_room read.log)) (with_batch stands.batches (rollback read.state))))
+    → LeavesOnly moment left_since old new (StandsFor g k)
+opening_moments moment left_since old mid new may_leave now image g k stands read is only same first second =
+    let s = stands.super in
+    let batches = stands.batches in
+    let outside = outside_log s batches read is image now in
+    weaker moment left_since old new _ (StandsFor g k) (joined moment left_since old mid new _ _ first second)
+    (λ c. ⊎_elim (λ left. subst (StandsFor g k) (sym (only c left)) stands)
+    (λ found. ⊎_elim (λ holds. still_stands g k image c stands (outside c same found.0) (in_log s batches read is (λ n m. HoldsBatches (part c n m) batches) holds))
+    (λ holds. rolled_stands g k image c stands (outside c same found.0) (rolled_held s batches read is c holds)) found.1))

@@ -5,8 +5,6 @@ use Rattle.gate_slot.specs.Passing.{Passes}
 use Rattle.gated_log.specs.declared.LogError.{LogError}
 use Rattle.gated_log.specs.declared.LogError.TheVariants as logging
 use Rattle.gated_log.specs.Log.{records_of}
-use Rattle.object_layout.specs.declared.walk_error.WalkError.{WalkError}
-use Rattle.object_layout.specs.declared.walk_error.WalkError.TheVariants as walking
 use Rattle.gated_log.specs.LogState.{Keeps, log_place, log_room}
 use Rattle.image_plan.specs.declared.superblock.Super.{Super}
 use Rattle.image_plan.specs.Plan.{log_offset}
@@ -18,7 +16,7 @@ use Rattle.log_machine.specs.declared.replaying.ReplayError.TheVariants as repla
 use Rattle.log_machine.specs.Machine.{words, commits}
 use Rattle.heap_model.specs.Opening.{state_of, rolled_back, next_of}
 use Rattle.heap_recovery.specs.Causes.{error_device}
-use Rattle.heap_recovery.specs.declared.at.At.TheVariants.{Batch, Rec, Address}
+use Rattle.heap_recovery.specs.declared.at.At.TheVariants.{Batch, Rec}
 use Rattle.heap_recovery.specs.declared.error.RecoverError.{RecoverError}
 use Rattle.heap_recovery.specs.declared.error.RecoverError.TheVariants.{NoMemory, NotHeap, Damaged, Disk}
 use Rattle.heap_recovery.specs.declared.reading.Reading.{Reading}
@@ -67,12 +65,6 @@ abbrev pub log_error : LogError → RecoverError
 log_error logging.NoMemory = NoMemory
 log_error (logging.BadBatch at) = Damaged (Batch at)
 log_error (logging.Disk e) = Disk e
-
--- what a walk's error is of an opening
-abbrev pub walk_error : WalkError → RecoverError
-walk_error walking.NoMemory = NoMemory
-walk_error (walking.Damaged address) = Damaged (Address address)
-walk_error (walking.Disk e) = Disk e
 
 -- what a replay's error is of an opening
 abbrev pub replay_error : ReplayError → RecoverError

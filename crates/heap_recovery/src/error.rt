@@ -3,7 +3,6 @@ use crate::at::At;
 use disk_model::DiskError;
 use gated_log::LogError;
 use log_machine::ReplayError;
-use object_layout::WalkError;
 use std::alloc::AllocError;
 
 /// Why an image can't be opened.
@@ -30,6 +29,17 @@ impl From<AllocError> for RecoverError {
     }
 }
 
+impl From<DiskError> for RecoverError {
+    ghost use Rattle.std.specs.Prelude.{◌≡◌};
+    ghost use Rattle.heap_recovery.specs.declared.error.RecoverError.TheVariants.{Disk};
+
+    ghost from_gives = { λ e error. error ≡ Disk e };
+
+    fn from(e: DiskError) -> Self {
+        RecoverError::Disk(e)
+    }
+}
+
 impl From<LogError> for RecoverError {
     ghost use Rattle.std.specs.Prelude.{◌≡◌};
     ghost use Rattle.heap_recovery.specs.Recovered.{log_error};
@@ -41,23 +51,6 @@ impl From<LogError> for RecoverError {
             LogError::NoMemory => RecoverError::NoMemory,
             LogError::BadBatch { at } => RecoverError::Damaged { at: At::Batch(at) },
             LogError::Disk(e) => RecoverError::Disk(e),
-        }
-    }
-}
-
-impl From<WalkError> for RecoverError {
-    ghost use Rattle.std.specs.Prelude.{◌≡◌};
-    ghost use Rattle.heap_recovery.specs.Recovered.{walk_error};
-
-    ghost from_gives = { λ e error. error ≡ walk_error e };
-
-    fn from(e: WalkError) -> Self {
-        match e {
-            WalkError::NoMemory => RecoverError::NoMemory,
-            WalkError::Damaged { address } => RecoverError::Damaged {
-                at: At::Address(address),
-            },
-            WalkError::Disk(e) => RecoverError::Disk(e),
         }
     }
 }

@@ -1,27 +1,29 @@
 //! An image is opened, and the writes of unfinished transactions are rolled back.
-ghost use Rattle.std.specs.Prelude.{◌≡◌, ◌⊎◌, ◌+◌, ◌≤◌, ℕ, List, [], IsTrue, IfOk, IfErr, OnOk};
-ghost use Rattle.disk_model.specs.Disk.{part, Only, SameOutside};
+ghost use Rattle.std.specs.Prelude.{◌≡◌, ◌+◌, ◌≤◌, ℕ, List, [], None, Some, Ok, Err, IsTrue, IsOk, IfOk, IfErr, OnOk};
+ghost use Rattle.disk_model.specs.Disk.{Only};
 ghost use Rattle.disk_model.specs.Keeps.{KeepsDisk};
 ghost use Rattle.disk_model.specs.Moments.{LeavesOnly};
-ghost use Rattle.gated_log.specs.Log.{with_batch, HoldsBatches};
-ghost use Rattle.gated_log.specs.LogState.{log_place, log_room, log_used, IsHandEmpty, Keeps};
+ghost use Rattle.gated_log.specs.LogState.{log_place, log_room, log_used, IsReady, Keeps};
 ghost use Rattle.graph_model.specs.Graph.{Graph};
 ghost use Rattle.image_plan.specs.declared.superblock.Super.{Super};
 ghost use Rattle.log_records.specs.declared.Record.{Record};
 ghost use Rattle.log_machine.specs.Machine.{rollback, all_taken_back, reserve};
-ghost use Rattle.object_layout.specs.Walk.{IsWalked};
-ghost use Rattle.heap_model.specs.Core.{force_calls};
+ghost use Rattle.object_layout.specs.Walk.{IsWalked, IsWalkFault};
 ghost use Rattle.heap_model.specs.Image.{IsLegalLog, Holds, IsLegal, StandsFor};
 ghost use Rattle.heap_model.specs.Opening.{rollback_of, rolled_back, opening_calls};
 ghost use Rattle.heap_recovery.specs.Causes.{open_device};
+ghost use Rattle.heap_recovery.specs.declared.at.At.TheVariants.{Address};
+ghost use Rattle.heap_recovery.specs.declared.error.RecoverError.TheVariants.{NoMemory, Damaged};
 ghost use Rattle.heap_recovery.specs.Recovered.{IsRecovered, IsFromOutside, OpenPasses};
 
+use crate::at::At;
 use crate::error::RecoverError;
-use crate::reading::{Reading, read_image};
+use crate::read_image::read_image;
+use crate::reading::Reading;
 use disk_model::Disk;
 use gated_log::Log;
 use log_machine::PageWords;
-use object_layout::{WordSlice, walk};
+use object_layout::{WalkError, WordSlice, walk};
 use std::alloc::Global;
 
 /// A heap that was opened, in which no writes may be taken back any more.
@@ -60,57 +62,66 @@ pub fn recover<D: Disk>(alloc: Global, disk: &mut D) -> Result<Recovered, Recove
     ensures no_first_stop { IsTrue D.tells → (s : Super) (batches : List (List Record)) → IsLegal s batches (D.bytes disk.old) → rollback_of s batches ≡ [] → D.stops disk.old ≡ 0 → D.stops disk.new ≡ 0 }
 {
     let mut read = read_image(alloc, disk)?;
-    read.roll_back(disk)?;
-    read.finish(alloc)
+    read.roll_back()?;
+    // The walk takes its memory before the disk is written; what it finds is told afterwards.
+    let fault = read.walk_fault(alloc)?;
+    read.log.force(disk)?;
+    read.finish(fault)
 }
 
 impl Reading {
-    /// Rolls back the writes of unfinished transactions: in memory, and by one batch more on the disk.
-    fn roll_back<D: Disk>(&mut self, disk: &mut D) -> Result<(), RecoverError>
-        requires inside { log_place self.old.log + log_room self.old.log ≤ D.extent disk.old }
-        requires idle { IsHandEmpty self.old.log }
-        requires room { log_used self.old.log + reserve self.old.state ≤ log_room self.old.log }
+    /// Rolls back the writes of unfinished transactions in memory. The records that do so wait to be forced.
+    fn roll_back(&mut self) -> Result<(), RecoverError>
+        requires { log_used self.old.log + reserve self.old.state ≤ log_room self.old.log }
 
         ensures words { OnOk result (self.new.words ≡ all_taken_back self.old.state self.old.words) }
         ensures state { self.new.state ≡ self.old.state }
         ensures of { self.new.of ≡ self.old.of }
         ensures place { log_place self.new.log ≡ log_place self.old.log }
         ensures same_room { log_room self.new.log ≡ log_room self.old.log }
-        ensures kept { (batches : List (List Record)) → Keeps self.old.log batches [] → OnOk result (Keeps self.new.log (with_batch batches (rollback self.old.state)) []) }
-        ensures error { IfErr result IsFromOutside }
-        ensures disk { KeepsDisk D.Disk disk.old disk.new (open_device result) }
-        ensures untouched { rollback self.old.state ≡ [] → disk.new ≡ disk.old }
-
-        ensures held { IsTrue D.tells → (batches : List (List Record)) → Keeps self.old.log batches [] → HoldsBatches (part (D.bytes disk.old) (log_place self.old.log) (log_room self.old.log)) batches
-            → OnOk result (HoldsBatches (part (D.bytes disk.new) (log_place self.old.log) (log_room self.old.log)) (with_batch batches (rollback self.old.state))) }
-        ensures outside { IsTrue D.tells → OnOk result (SameOutside (log_place self.old.log) (log_place self.old.log + log_room self.old.log) (D.bytes disk.old) (D.bytes disk.new)) }
-        ensures durable { IsTrue D.tells → Only (D.bytes disk.old) (D.may_leave disk.old) → OnOk result (Only (D.bytes disk.new) (D.may_leave disk.new)) }
-
-        // A crash at any moment leaves the batches as they were, or with that one more.
-        ensures moments { IsTrue D.tells → Only (D.bytes disk.old) (D.may_leave disk.old) → (batches : List (List Record)) → Keeps self.old.log batches [] → HoldsBatches (part (D.bytes disk.old) (log_place self.old.log) (log_room self.old.log)) batches
-            → LeavesOnly D.moment D.left_since disk.old disk.new (λ c. SameOutside (log_place self.old.log) (log_place self.old.log + log_room self.old.log) (D.bytes disk.old) c × (HoldsBatches (part c (log_place self.old.log) (log_room self.old.log)) batches ⊎ HoldsBatches (part c (log_place self.old.log) (log_room self.old.log)) (with_batch batches (rollback self.old.state)))) }
-        ensures passes { IsTrue D.tells → (batches : List (List Record)) → Keeps self.old.log batches [] → OpenPasses (force_calls (rollback self.old.state)) (D.passed disk.old) (D.passed disk.new) result }
+        ensures kept { (batches : List (List Record)) → Keeps self.old.log batches [] → OnOk result (Keeps self.new.log batches (rollback self.old.state)) }
+        ensures ready { OnOk result (IsReady self.new.log) }
+        ensures error { IfErr result (λ e. e ≡ NoMemory) }
     {
         let records = self.state.rollback()?;
         self.log.append_all(&records)?;
         self.log.reserve(0)?;
         self.words.apply_all(&records);
-        self.log.force(disk).map_err(RecoverError::Disk)
+        Ok(())
     }
 
-    /// What was opened, if the used words are objects that refer to one another.
-    fn finish(self, alloc: Global) -> Result<Recovered, RecoverError>
+    /// The first address at which the used words are no objects that refer to one another, if there is one.
+    fn walk_fault(&self, alloc: Global) -> Result<Option<u32>, RecoverError>
+        ensures passes { IfOk result (λ fault. fault ≡ None → IsWalked self.now.words self.now.state.base self.now.state.used) }
+        ensures fault { IfOk result (λ fault. (at : ℕ) → fault ≡ Some at → IsWalkFault self.now.words self.now.state.base self.now.state.used at) }
+        ensures error { IfErr result (λ e. e ≡ NoMemory) }
+    {
+        let mut words = WordSlice::of(self.words.as_slice());
+        match walk(alloc, &mut words, self.state.base(), self.state.used()) {
+            Ok(()) => Ok(None),
+            Err(WalkError::Damaged { address }) => Ok(Some(address)),
+            // Words in memory don't fail.
+            Err(WalkError::NoMemory | WalkError::Disk(_)) => Err(RecoverError::NoMemory),
+        }
+    }
+
+    /// What was opened, if the walk of its words passed.
+    fn finish(self, fault: Option<u32>) -> Result<Recovered, RecoverError>
+        ensures damaged { (at : ℕ) → fault ≡ Some at → result ≡ Err (Damaged (Address at)) }
+        ensures whole { fault ≡ None → IsOk result }
+        ensures walked { IfOk result (λ found. fault ≡ None) }
         ensures log { IfOk result (λ found. found.log ≡ self.log) }
         ensures words { IfOk result (λ found. found.words ≡ self.words) }
         ensures pages { IfOk result (λ found. found.pages ≡ self.of.pages) }
         ensures commits { IfOk result (λ found. found.commits ≡ self.state.commits) }
         ensures next { IfOk result (λ found. found.next ≡ self.state.next) }
-        ensures walked { IfOk result (λ found. IsWalked self.words self.state.base self.state.used) }
-        ensures legal { IsWalked self.words self.state.base self.state.used → IfErr result IsFromOutside }
         ensures no_disk { open_device result ≡ Ok tt }
     {
-        let mut words = WordSlice::of(self.words.as_slice());
-        walk(alloc, &mut words, self.state.base(), self.state.used())?;
+        if let Some(address) = fault {
+            return Err(RecoverError::Damaged {
+                at: At::Address(address),
+            });
+        }
         Ok(Recovered {
             pages: self.of.pages,
             commits: self.state.commits(),

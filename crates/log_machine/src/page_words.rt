@@ -66,6 +66,15 @@ impl PageWords {
         &self.words
     }
 
+    /// The same words once more.
+    pub fn copy(&self, alloc: Global) -> Result<PageWords, AllocError>
+        ensures { IfOk result (λ words. words ≡ self.now) }
+    {
+        let mut words = Vec::with_capacity(alloc, self.words.len())?;
+        words.extend_from_slice(&self.words)?;
+        Ok(PageWords { words })
+    }
+
     /// The word at an address.
     pub fn word(&self, at: u32) -> u64
         requires { at < length self.now }

@@ -2,7 +2,7 @@
 ghost use Rattle.object_layout.specs.declared.read_error.ReadError.TheVariants.{NoMemory};
 
 use disk_model::DiskError;
-use std::alloc::AllocFailed;
+use std::alloc::{AllocError, AllocFailed};
 
 /// Why the fields of an object could not be read.
 #[derive(Clone, Copy, Debug, PartialEq, Eq)]
@@ -30,6 +30,16 @@ impl<T: Drop> From<AllocFailed<T>> for ReadError {
     ghost from_gives = { λ _ e. e ≡ NoMemory };
 
     fn from(_refused: AllocFailed<T>) -> ReadError {
+        ReadError::NoMemory
+    }
+}
+
+impl From<AllocError> for ReadError {
+    ghost use Rattle.std.specs.Prelude.{◌≡◌};
+
+    ghost from_gives = { λ _ e. e ≡ NoMemory };
+
+    fn from(_refused: AllocError) -> ReadError {
         ReadError::NoMemory
     }
 }

@@ -5,7 +5,7 @@ use crate::words::Words;
 use disk_model::DiskError;
 
 /// Words in memory, less than 2^32 of them. They tell all, no read fails, and reads change nothing.
-#[derive(Debug, Drop)]
+#[derive(Drop)]
 pub struct WordSlice<'a> {
     words: &'a [u64],
     ghost few: { length words.now < 2 ^ 32 },
