@@ -15,6 +15,6 @@ pub use heap_recovery::At;
 pub use history::History;
 
 #[cfg(test)]
-mod library;
+mod library_tests;
 #[cfg(test)]
-mod openings;
+mod opening_tests;

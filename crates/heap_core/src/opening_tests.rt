@@ -1,11 +1,10 @@
 //! A heap that is opened from an image whose log ends inside a transaction: what that wrote is taken back, wherever the
 //! opening stops.
-use crate::formatting::format;
+use crate::errors::OpenError;
 use crate::heap::Heap;
-use disk_model::{Disk, DiskError, FuseDisk, MemoryDisk, Pick};
+use disk_model::{Disk, FuseDisk, MemoryDisk, Pick};
 use gated_log::Log;
 use graph_model::{Event, Reply};
-use heap_recovery::OpenError;
 use log_records::Record;
 use std::alloc::{AllocError, Global};
 use std::process::Abort;
@@ -69,7 +68,7 @@ const ROLLBACK: [Record; 3] = [
     Record::End { t: 2 },
 ];
 
-const GRAPH: &str = "graph 1\n0: 7 - - -\n";
+const GRAPH: &[u8] = b"graph 1\n0: 7 - - -\n";
 
 fn make_disk(alloc: Global, pick: Pick) -> Result<MemoryDisk, AllocError> {
     let zeros = vec![in alloc; 0u8; DISK_BYTES]?;
@@ -111,7 +110,7 @@ fn writes_are_taken_back(rt: HostRuntime) -> Result<(), Fail> {
     let disk = make_unended(&rt, alloc, Pick::Newest)?;
     let mut heap = open(&rt, alloc, disk);
     assert_eq!(rt; heap.commits(), 1);
-    assert_eq!(rt; heap.graph(alloc)?.as_str(), GRAPH);
+    assert_eq!(rt; heap.graph(alloc)?.as_slice(), GRAPH);
     assert_eq!(rt; heap.step(Event::Begin { s: 1 })?, Reply::Begun { n: 3 });
     let mut disk = heap.close();
     assert!(rt; LOG_AT + u64::from(LOG_BYTES) <= disk.size());
@@ -136,7 +135,7 @@ fn stopped_at_each_call(rt: HostRuntime) -> Result<(), Fail> {
             disk.restart();
             let heap = open(&rt, alloc, disk);
             assert_eq!(rt; heap.commits(), 1, "{calls}");
-            assert_eq!(rt; heap.graph(alloc)?.as_str(), GRAPH, "{calls}");
+            assert_eq!(rt; heap.graph(alloc)?.as_slice(), GRAPH, "{calls}");
         }
     }
     Ok(())
