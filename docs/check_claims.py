@@ -58,7 +58,7 @@ def contracts(crate, function):
     found = []
     for path in files(crate, "src", "rt"):
         module, text = os.path.basename(path)[: -len(".rt")], text_of(path)
-        if module.endswith("tests") or module in ("stops", "openings"):
+        if module.endswith("tests") and place != module:
             continue
         for it in re.finditer(rf"^[ ]*(?:pub(?:\([a-z]+\))? )?(?:const )?fn {re.escape(name)}\b", text, re.M):
             head = owner(text, it.start())

@@ -9,8 +9,8 @@ use std::thread::{Threads, join};
 use std::time::{Clock, Duration, Instant};
 use turn_lock::ledger::{Ledger, post_four, post_two};
 
-// How often each is timed. The least time counts.
-const ROUNDS: u32 = 7;
+// How often each is timed, in turn. The sum counts, so that a round in which the threads hardly met is one of several.
+const ROUNDS: u32 = 5;
 
 // The numbers that a thread posts.
 fn numbers(alloc: Global, turns: u32) -> Result<Vec<u64>, Error> {
@@ -70,32 +70,33 @@ fn mutex_turns<R: Threads + Wait + Sync>(rt: &R, alloc: Global, threads: u32, po
     }
 }
 
-// Nanoseconds of all rounds' best, for the lock and for the mutex.
+// The time of all rounds, for the lock and for the mutex.
 fn measure<R: Threads + Wait + Clock + Sync>(
     rt: &R,
     alloc: Global,
     threads: u32,
     posts: &[u64],
 ) -> Result<(Duration, Duration), Error> {
-    let mut lock = Duration::MAX;
-    let mut mutex = Duration::MAX;
+    let mut lock = Duration::ZERO;
+    let mut mutex = Duration::ZERO;
     for _ in 0..ROUNDS {
         let start = Instant::now(rt)?;
         lock_turns(rt, alloc, threads, posts);
-        lock = lock.min(start.elapsed(rt)?);
+        lock = lock.saturating_add(start.elapsed(rt)?);
         let start = Instant::now(rt)?;
         mutex_turns(rt, alloc, threads, posts);
-        mutex = mutex.min(start.elapsed(rt)?);
+        mutex = mutex.saturating_add(start.elapsed(rt)?);
     }
     Ok((lock, mutex))
 }
 
-// Nanoseconds a turn, where there are turns.
-fn a_turn(time: Duration, turns: u64) -> u64 {
-    if turns == 0 {
+// Turns a second.
+fn rate(time: Duration, turns: u64) -> u64 {
+    let micros = u64::try_from(time.as_micros()).unwrap_or(u64::MAX);
+    if micros == 0 {
         return 0;
     }
-    u64::try_from(time.as_nanos()).unwrap_or(u64::MAX) / turns
+    turns.saturating_mul(1_000_000) / micros
 }
 
 // One number as a percentage of another.
@@ -109,17 +110,19 @@ fn percent(part: u64, whole: u64) -> u64 {
 fn main(rt: HostRuntime) -> Result<(), Error> {
     let alloc = rt.alloc();
     let Some(word) = env::args(&rt)?.nth(1) else {
-        println!(rt; "turn_bench TURNS: the time of a turn with 1, 2 and 4 threads")?;
+        println!(rt; "turn_bench TURNS: turns a second with 1, 2 and 4 threads")?;
         return Ok(());
     };
     let turns = word.parse::<u32>()?;
     let posts = numbers(alloc, turns)?;
     for threads in [1u32, 2, 4] {
         let (lock, mutex) = measure(&rt, alloc, threads, posts.as_slice())?;
-        let all = u64::from(threads) * u64::from(turns);
-        let (lock, mutex) = (a_turn(lock, all), a_turn(mutex, all));
+        let all = u64::from(threads)
+            .saturating_mul(u64::from(turns))
+            .saturating_mul(u64::from(ROUNDS));
+        let (lock, mutex) = (rate(lock, all), rate(mutex, all));
         let of = percent(lock, mutex);
-        println!(rt; "{threads} threads: {lock} ns a turn, {mutex} ns under a Mutex, {of} %")?;
+        println!(rt; "{threads} threads: {lock} turns a second, {mutex} under a Mutex, {of} %")?;
     }
     Ok(())
 }

@@ -237,6 +237,7 @@ module _ {T E O : Type 0} (entries : T → List E) (stood : T → ℕ) (front : 
               stood_is = λ f e. h.stood_is ∙ ap stood (sym (fit.first_is f e));
               origin_is = λ f e. h.origin_is ∙ ap origin (sym (fit.first_is f e));
               front_is = λ f e. ap (λ y. greatest front (drop (stood y) (entries x))) (sym (fit.first_is f e));
+              front_up = omega (arith, fw, fit.front_in);
             },
           )),
           λ miss. absurd (miss hit),
@@ -320,7 +321,7 @@ module _ {T E O : Type 0} (entries : T → List E) (stood : T → ℕ) (front : 
             turns_are = turns;
           };
         },
-        (fr log', refl, λ f e. ap (λ (y : T). greatest front (drop (stood y) log')) (sym (fit.first_is f e))),
+        (fr log', refl, (λ f e. ap (λ (y : T). greatest front (drop (stood y) log')) (sym (fit.first_is f e))), omega (arith, up, fit.front_in)),
       )
 
   -- step 4

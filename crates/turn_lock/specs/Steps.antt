@@ -61,6 +61,7 @@ module _ {T E O : Type 0} (entries : T → List E) (stood : T → ℕ) (front : 
     pub stood_is : (first : T) → v.first ≡ Some first → stood value ≡ stood first
     pub origin_is : (first : T) → v.first ≡ Some first → origin value ≡ origin first
     pub front_is : (first : T) → v.first ≡ Some first → known ≡ greatest front (drop (stood first) (entries value))
+    pub front_up : v.front ≤ known
 
   -- the ticket was served, and the value is taken
   abbrev pub Gets : Knows T E → Knows T E → Type 0
@@ -80,3 +81,4 @@ pub record GoesBack {T E O : Type 0} (entries : T → List E) (stood : T → ℕ
 -- the front was raised to that of a value with this history and these empty turns, which goes back
 abbrev pub raised : {T E : Type 0} → (T → ℕ) → (E → ℕ) → List E → ℕ → Knows T E → Knows T E → Type 0
 raised stood front log empty m n = (known : ℕ) × (n ≡ (raising m.0 log empty known, m.1)) × ((first : _) → m.0.first ≡ Some first → known ≡ greatest front (drop (stood first) log))
+    × (m.0.front ≤ known)

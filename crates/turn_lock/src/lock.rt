@@ -115,7 +115,7 @@ impl<T: Turns> TurnLock<T> {
         ensures mine { (mine_of pass.new ≡ mine_of pass.old) × StandIn (seen_of pass.new) (mine_of pass.new) }
         ensures turns { (turns_of pass.new ≡ turns_of pass.old) × (T.empty_turns result.value ≡ empty_of pass.new) }
         ensures same_value { (T.stood result.value ≡ T.stood (first_of self.now)) × (T.origin result.value ≡ T.origin (first_of self.now)) }
-        ensures front { front_of pass.new ≡ greatest T.front (drop (T.stood (first_of self.now)) (seen_of pass.new)) }
+        ensures front { (front_of pass.new ≡ greatest T.front (drop (T.stood (first_of self.now)) (seen_of pass.new))) × (front_of pass.old ≤ front_of pass.new) }
     {
         let ticket = self.queue(pass);
         self.wait(rt, pass, ticket);
@@ -177,7 +177,7 @@ impl<T: Turns> TurnLock<T> {
         ensures history { seen_of pass.new ≡ T.entries held.value }
         ensures mine { mine_of pass.new ≡ mine_of pass.old ++ added (seen_of pass.old) (seen_of pass.new) }
         ensures turns { turns_of pass.new ≡ turns_of pass.old + 1 }
-        ensures front { front_of pass.new ≡ greatest T.front (drop (T.stood (first_of self.now)) (seen_of pass.new)) }
+        ensures front { (front_of pass.new ≡ greatest T.front (drop (T.stood (first_of self.now)) (seen_of pass.new))) × (front_of pass.old ≤ front_of pass.new) }
     {
         let Held {
             value,
