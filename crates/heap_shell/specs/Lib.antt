@@ -8,3 +8,4 @@ pub mod Playable
 pub mod Status
 pub mod StatusOf
 pub mod Steps
+pub mod StepsLaws

@@ -1,7 +1,7 @@
 use Rattle.std.proofs.Common.{ℕ, List, ◌++◌, ◌∙◌, ap}
 use Rattle.heap_shell.specs.Headline.{graph_text}
 use Rattle.heap_shell.proofs.Written.{wrote_nothing, wrote_front}
-use Rattle.heap_shell.proofs.run.write_graph.Goals as goal
+use Rattle.heap_shell.proofs.output.write_graph.Goals as goal
 
 pub returns-in_err-text-clause-wrote : goal.returns-in_err-text-clause-wrote
 returns-in_err-text-clause-wrote g c = λ tells s core gr is has. wrote_nothing _ _ _ c.from_residual.ensures.0

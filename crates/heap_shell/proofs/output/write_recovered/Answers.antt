@@ -3,7 +3,7 @@ use Rattle.std.specs.Prelude.{string_bytes}
 use Rattle.heap_shell.specs.Headline.{recovered_line, graph_text}
 use Rattle.heap_core.specs.HeapState.{commits_of}
 use Rattle.heap_shell.proofs.Written.{wrote_nothing, wrote_front, wrote_less, wrote_then}
-use Rattle.heap_shell.proofs.run.write_recovered.Goals as goal
+use Rattle.heap_shell.proofs.output.write_recovered.Goals as goal
 
 pub returns-in_err-line-clause-wrote : goal.returns-in_err-line-clause-wrote
 returns-in_err-line-clause-wrote g c = λ tells s core gr is has. wrote_nothing _ _ _ c.from_residual.ensures.0

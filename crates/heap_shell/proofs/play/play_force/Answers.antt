@@ -1,8 +1,7 @@
 use Rattle.std.proofs.Common.{◌≡◌, true, false, List, Ok, rules, sym, ◌∙◌, subst}
 use Rattle.graph_model.specs.declared.event.Event.{Event}
-use Rattle.heap_shell.specs.declared.play.Ended.TheVariants as ended
 use Rattle.heap_shell.specs.Play.{Plays}
-use Rattle.heap_shell.proofs.PlayEnding.{force_of-none, force_of-some, heap_has}
+use Rattle.heap_shell.proofs.PlayEnding.{force_of-none, force_of-some}
 use Rattle.heap_shell.proofs.PlayLaws.{plays_none}
 use Rattle.heap_shell.proofs.play.play_force.Goals as goal
 
@@ -13,8 +12,7 @@ returns-then-not-pending-clause-plays g c tells of core heap valid =
     let before = k.written c.args.sink.now in
     let off : c.pending.result ≡ false = search rules in
     let none = force_of-none core.pending c.pending.result (c.pending.ensures of core heap (heap.means.failure ∙ valid.unfailed)) off in
-    subst (λ (l : List Event). Plays of core l old old k.tells before before (Ok ended.Whole)) (sym none)
-    (plays_none of core old k.tells before heap valid (λ image left. heap_has of core old heap valid image (g.met.D.Disk.only_now tells old.disk image left)))
+    subst (λ (l : List Event). Plays of core l old old k.tells before before (Ok tt)) (sym none) (plays_none of core old k.tells before heap)
 
 pub returns-clause-plays : goal.returns-clause-plays
 returns-clause-plays g c tells of core heap valid =
