@@ -1,4 +1,5 @@
 mod Causes
+mod Counts
 mod PlayEnding
 mod PlayEnds
 mod PlayEvent

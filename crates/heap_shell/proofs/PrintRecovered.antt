@@ -1,24 +1,26 @@
 -- How the end of a stopped run comes out: the heap is opened again, and what came back is printed.
-use Rattle.std.proofs.Common.{◌≡◌, ℕ, List, [], ◌++◌, take, Bool, Result, refl, sym, ap, ◌∙◌, subst}
-use Rattle.std.specs.Prelude.{drop, IsTrue, IfErr}
+use Rattle.std.proofs.Common.{◌≡◌, inl, inr, ⊎_elim, ℕ, List, [], ◌++◌, take, Bool, Result, refl, sym, ap, ◌∙◌, subst}
+use Rattle.std.specs.Prelude.{drop, IsTrue}
 use Rattle.std.specs.List.{AllByRecursion}
 use Rattle.std.proofs.lemmas.List.{append-nil}
+use Rattle.counts.specs.Count.{counted, raised}
+use Rattle.disk_model.specs.declared.disk.Disk.{Ghosts}
 use Rattle.gated_log.specs.Log.{records_of}
 use Rattle.graph_model.specs.Graph.{Graph}
 use Rattle.graph_model.specs.Transaction.{serial}
 use Rattle.graph_model.specs.History.{commits}
 use Rattle.heap_recovery.specs.declared.recovery.OpenError.{OpenError}
+use Rattle.heap_shell.specs.declared.output.WriteError.{WriteError}
 use Rattle.heap_shell.specs.declared.status.Status.{Status}
-use Rattle.heap_shell.specs.Causes.{IsOutputError}
 use Rattle.heap_model.specs.Core.{Core}
 use Rattle.heap_model.specs.CoreCrash.{KeepsCommits}
 use Rattle.heap_model.specs.CoreLawsGrow.{keeps_as}
 use Rattle.heap_model.specs.CoreLawsOpening.{committed_words-rolled_back}
-use Rattle.heap_shell.specs.Headline.{recovered_line, graph_text}
+use Rattle.heap_shell.specs.Headline.{recovered_line, graph_text, IsEndOfPlay, Reopens, StartsAgain}
 use Rattle.heap_model.specs.Image.{StandsFor, graph_of_words}
 use Rattle.heap_model.specs.Opening.{opened, rolled_back, opening_calls}
 use Rattle.log_machine.specs.Machine.{committed_words}
-use Rattle.heap_shell.specs.Output.{WroteText, Recovers, status_after}
+use Rattle.heap_shell.specs.Output.{WroteText, Recovers, WroteRecovered, status_after}
 use Rattle.heap_core.specs.CoreGraph.{HasGraph}
 use Rattle.heap_recovery.specs.Recovered.{IsFromOutside}
 use Rattle.heap_shell.specs.StatusOf.{open_status}
@@ -38,38 +40,53 @@ opened_graph g k next image stands =
       is = ap graph_of_words same ∙ stands.graph;
     }
 
-module _ (c : Core) (image : List ℕ) (may_leave : List ℕ → Type 0) (passed : ℕ → Type 0) (keeps : KeepsCommits c image) where
+module _ {D : Type 0} (g : Ghosts D) (c : Core) (old new : D) (keeps : KeepsCommits c (g.bytes old)) where
   abbrev pub first : Graph
   first = serial c.g0 (take keeps.0 (commits c.history))
 
   -- what an opening leaves stands for the same commits
   pub still : (left : List ℕ) → StandsFor first keeps.0 left → KeepsCommits c left
-  still left stands = keeps_as c image keeps left stands
+  still left stands = keeps_as c (g.bytes old) keeps left stands
 
-  module _ (leaves : (left : List ℕ) → may_leave left → StandsFor first keeps.0 left) where
+  module _ (leaves : (left : List ℕ) → g.may_leave new left → StandsFor first keeps.0 left) where
     -- it couldn't be opened
-    pub recovers_nothing : (e : OpenError) (s : Status) (told : Bool) (before : List ℕ) → IsFromOutside e → s ≡ open_status e → Recovers c s may_leave passed told before before
-    recovers_nothing e s told before outside is = subst (λ (x : Status). Recovers c x may_leave passed told before before) (sym is) (record {
-      end = open_end e outside;
+    pub recovers_nothing : (opens : ℕ → Type 0) (e : OpenError) (s : Status) (told : Bool) (before : List ℕ) → IsFromOutside e → s ≡ open_status e → Recovers c opens (g.may_leave new) s told before before
+    recovers_nothing opens e s told before outside is = record {
+      end = subst IsEndOfPlay (sym is) (open_end e outside);
       kept = λ left may. still left (leaves left may);
-      count = keeps.0;
-      least = keeps.1.kept;
-      most = keeps.1.some;
-      calls = λ done. absurd (open_not_done e done);
-      written = λ tells. none_written before (recovered_line keeps.0 ++ graph_text first);
-      whole = λ tells done. absurd (open_not_done e done);
-    })
+      found = inr (record { early = λ done. open_not_done e (sym is ∙ done); nothing = λ t. refl });
+    }
 
     -- it was opened, and what came back printed, as far as the sink took it
-    pub recovers_first : (r : Result (Unit {0}) Status) (s : Status) (told : Bool) (faults faults' : ℕ) (before after : List ℕ) → s ≡ status_after r → IfErr r (IsOutputError faults faults')
-        → passed (opening_calls keeps.1.stands.batches) → (IsTrue told → WroteText r before (recovered_line keeps.0 ++ graph_text first) after) → Recovers c s may_leave passed told before after
-    recovers_first r s told faults faults' before after is error calls wrote = subst (λ (x : Status). Recovers c x may_leave passed told before after) (sym is) (record {
-      end = written_end faults faults' r error;
+    pub recovers_first : (r : Result (Unit {0}) WriteError) (s : Status) (told : Bool) (before after : List ℕ) → s ≡ status_after r → g.passed new ≡ counted (opening_calls keeps.1.stands.batches) (g.passed old)
+        → (IsTrue told → WroteText r before (recovered_line keeps.0 ++ graph_text first) after) → Recovers c (λ k. Reopens g c k old new) (g.may_leave new) s told before after
+    recovers_first r s told before after is passes wrote = record {
+      end = subst IsEndOfPlay (sym is) (written_end r);
       kept = λ left may. still left (leaves left may);
-      count = keeps.0;
-      least = keeps.1.kept;
-      most = keeps.1.some;
-      calls = λ done. (opening_calls keeps.1.stands.batches, record { image = image; first = keeps.1; made = refl }, calls);
-      written = λ tells. wrote_some r before _ after (wrote tells);
-      whole = λ tells done. wrote_all faults faults' r before _ after error done (wrote tells);
-    })
+      found = inl (record {
+        count = keeps.0;
+        opened = record {
+          first = keeps.1;
+          still = λ left may. record { stands = leaves left may; kept = keeps.1.kept; some = keeps.1.some };
+          passed = passes;
+        };
+        written = λ t. wrote_some r before _ after (wrote t);
+        whole = λ t done. wrote_all r before _ after (sym is ∙ done) (wrote t);
+      });
+    }
+
+-- What was opened again behind a restart was opened of the disk as it stopped.
+pub recovers_again : {D : Type 0} (g : Ghosts D) (c : Core) (stopped again new : D) (by : Status) (told : Bool) (before after : List ℕ) → g.may_leave stopped (g.bytes again) → g.restarts again ≡ raised (g.restarts stopped)
+    → g.passed again ≡ g.passed stopped → Recovers c (λ k. Reopens g c k again new) (g.may_leave new) by told before after → Recovers c (λ k. StartsAgain g c k stopped new) (g.may_leave new) by told before after
+recovers_again g c stopped again new by told before after left restarts passed recovers = record {
+  end = recovers.end;
+  kept = recovers.kept;
+  found = ⊎_elim
+      (λ (found : WroteRecovered c (λ k. Reopens g c k again new) by told before after). inl (record {
+        count = found.count;
+        opened = record { again = again; left = left; restarts = restarts; passed = passed; opens = found.opened };
+        written = found.written;
+        whole = found.whole;
+      }))
+      inr recovers.found;
+}
