@@ -6,6 +6,7 @@ use Rattle.std.proofs.lemmas.List.{append-nil, take_all}
 use Rattle.counts.specs.Count.{Rose, counted}
 use Rattle.disk_model.specs.declared.disk.Disk.{Ghosts}
 use Rattle.disk_model.specs.declared.disk.DiskError.TheVariants as device
+use Rattle.disk_model.specs.Moments.{LeavesOnly, begins}
 use Rattle.graph_model.specs.declared.event.Event.{Event}
 use Rattle.graph_model.specs.declared.reply.Entry.{Entry}
 use Rattle.graph_model.specs.declared.reply.Refusal.TheVariants.{DiskFault, Stopped}
@@ -40,6 +41,8 @@ use Rattle.heap_shell.specs.Playable.{IsPlayable}
 use Rattle.heap_shell.specs.Output.{WroteText, Recovers, WroteRecovered, WroteNothing, status_after}
 use Rattle.heap_core.specs.CoreGraph.{HasGraph}
 use Rattle.heap_shell.specs.Play.{AreReady, MakesAll, MakesShort, Makes, Ends, Plays, Wrote, lines_text, WroteFront, WroteLines}
+use Rattle.heap_shell.specs.StatusOf.{halt_status}
+use Rattle.heap_shell.specs.StepsLaws.{heap_steps}
 use Rattle.heap_shell.proofs.Causes.{disk_rose}
 use Rattle.heap_shell.proofs.Counts.{counted-sum}
 use Rattle.heap_shell.proofs.PlayEvent.{heap_leaves}
@@ -47,7 +50,7 @@ use Rattle.heap_shell.proofs.PlayLaws.{ends_makes}
 use Rattle.heap_shell.proofs.Statuses.{written_end, written_no_fault, wrote_all}
 use Rattle.heap_shell.proofs.Written.{front_more, then_front, whole_front, wrote_some}
 
-module _ {D : Type 0} {g : Ghosts D} (s : Super) (c : Core) (valid : IsValid c) (answers : AnswersSerially c) (none : c.history ≡ []) (events : List Event) (playable : IsPlayable events)
+module _ {D : Type 0} {g : Ghosts D} (s : Super) (c : Core) (valid : IsValid c) (answers : AnswersSerially c) (new_history : c.history ≡ []) (events : List Event) (playable : IsPlayable events)
     (old new : Heap D g) (told : Bool) (before after : List ℕ) (result : Result (Unit {0}) Halt) (plays : Plays s c events old new told before after result) where
   abbrev core : Core
   core = plays.core
@@ -85,7 +88,7 @@ module _ {D : Type 0} {g : Ghosts D} (s : Super) (c : Core) (valid : IsValid c) 
   most = let same : length (commits core.history) ≡ all = ap (λ (ts : List Transaction). length ts) (commits-sealed core run_reached.1) in omega arith
 
   -- where the disk did what it was asked, the heap's graph is that of all commits
-  pub whole_graph : IsWhole made core → HasGraph core (serial core.g0 (sealed core.history))
+  pub whole_graph : IsWhole c made core → HasGraph core (serial core.g0 (sealed core.history))
   whole_graph whole = valid_graph core (subst IsValid (sym whole) (ready_behind c made plays.behind ready).0)
 
   -- the graph of all commits
@@ -95,7 +98,7 @@ module _ {D : Type 0} {g : Ghosts D} (s : Super) (c : Core) (valid : IsValid c) 
       ap (λ (ts : List Transaction). graph_text (serial core.g0 ts)) (sym first)
 
   nothing_yet : before ≡ before ++ lines_text c.history
-  nothing_yet = sym (ap (λ (h : List Entry). before ++ lines_text h) none ∙ append-nil before)
+  nothing_yet = sym (ap (λ (h : List Entry). before ++ lines_text h) new_history ∙ append-nil before)
 
   -- what was written of the lines, by how the play ended
   pub lines_wrote : (r : Result (Unit {0}) Halt) → result ≡ r → IsTrue told → Wrote r before core.history after
@@ -107,7 +110,29 @@ module _ {D : Type 0} {g : Ghosts D} (s : Super) (c : Core) (valid : IsValid c) 
   pub lines_more : (after' rest : List ℕ) → after ≡ before ++ lines_text core.history → after' ≡ after ++ rest → WroteLines before core.history after'
   lines_more after' rest out more = (core.history, [], rest, sym (append-nil core.history), omega arith, more ∙ ap (λ (l : List ℕ). l ++ rest) out)
 
-  last_made : IsWhole made core ⊎ ((reply : Reply) × IsCutBy reply made core)
+  all_part : after ≡ before ++ lines_text core.history → WroteFront before (lines_text core.history) after × WroteLines before core.history after
+  all_part out = (whole_front before (lines_text core.history) after out, lines_more after [] out (sym (append-nil after)))
+
+  -- what was written of the lines by a play that halted
+  pub halt_part : (h : Halt) → result ≡ Err h → IsTrue told → WroteFront before (lines_text core.history) after × WroteLines before core.history after
+  halt_part halt.NoMemory is t = lines_wrote (Err halt.NoMemory) is t
+  halt_part halt.WriteFault is t = lines_wrote (Err halt.WriteFault) is t
+  halt_part halt.DiskFault is t = all_part (lines_wrote (Err halt.DiskFault) is t)
+  halt_part halt.Stopped is t = all_part (lines_wrote (Err halt.Stopped) is t)
+
+  -- all of them, if it was the disk
+  pub halt_lines : (h : Halt) → result ≡ Err h → IsTrue told → halt_status h ≡ status.DiskFault → after ≡ before ++ lines_text core.history
+  halt_lines halt.NoMemory is t fault = cc
+  halt_lines halt.WriteFault is t fault = cc
+  halt_lines halt.DiskFault is t fault = lines_wrote (Err halt.DiskFault) is t
+  halt_lines halt.Stopped is t fault = lines_wrote (Err halt.Stopped) is t
+
+  -- or if it went on
+  pub stopped_lines : (result ≡ Ok tt) ⊎ (result ≡ Err halt.Stopped) → IsTrue told → after ≡ before ++ lines_text core.history
+  stopped_lines (inl is) t = lines_wrote (Ok tt) is t
+  stopped_lines (inr is) t = lines_wrote (Err halt.Stopped) is t
+
+  pub last_made : IsWhole c made core ⊎ ((reply : Reply) × IsCutBy reply c made core)
   last_made = ⊎_elim
       (λ (all : MakesAll c made core old new). inl all.reached)
       (λ (some : (reply : Reply) × MakesShort c made core old new reply).
@@ -115,8 +140,21 @@ module _ {D : Type 0} {g : Ghosts D} (s : Super) (c : Core) (valid : IsValid c) 
       inr (some.0, record { before = short.before; event = short.event; parts = short.parts; cut = short.cut; reached = short.reached }))
       makes
 
+  -- What a crash leaves of the heap's own disk since it was opened.
+  abbrev pub keeps_own : (start : D) → ((disk : D) (image : List ℕ) → g.left_since disk (g.moment disk) image → g.may_leave disk image) → LeavesOnly g.moment g.left_since start old.disk (KeepsCommits c)
+      → ((image : List ℕ) → g.may_leave old.disk image → KeepsCommits c image) → KeepsThroughout g (Unharmed g start new.disk) c made core start new.disk
+  keeps_own start now opening here = record {
+    opened = old.disk;
+    opening = opening;
+    here = here;
+    stopped = new.disk;
+    steps = heap_steps g (Unharmed g start new.disk) c core old.disk new.disk made plays.steps;
+    rest = begins g.moment g.left_since new.disk (KeepsCommits core) (λ image since. kept image (now new.disk image since));
+    kept = kept;
+  }
+
   -- the events that were made, as a run tells them
-  events_made : (stop : Option ℕ) (by : Status) (unharmed : Type 0) → (by ≡ status.Done → HasMade stop c made plays.behind core) → (unharmed → IsExact stop c made core) → MakesEvents stop c events by unharmed
+  abbrev pub events_made : (stop : Option ℕ) (by : Status) (unharmed : Type 0) → (by ≡ status.Done → HasMade stop c made plays.behind core) → (unharmed → IsExact stop c made core) → MakesEvents stop c events by unharmed
   events_made stop by unharmed done place = record { made = made; behind = plays.behind; parts = plays.parts; core = core; last = last_made; done = done; exact = place }
 
   -- what was written of lines alone, as a first part of the output
@@ -229,7 +267,7 @@ module _ {D : Type 0} {g : Ghosts D} (s : Super) (c : Core) (valid : IsValid c) 
       omega arith
 
   -- Where the disk does what it is asked, all events were made.
-  pub exact_none : (DiskRose (g.faults old.disk) (g.stops old.disk) (g.faults new.disk) (g.stops new.disk) → ⊥) → IsExact None made core
+  pub exact_none : (DiskRose (g.faults old.disk) (g.stops old.disk) (g.faults new.disk) (g.stops new.disk) → ⊥) → IsExact None c made core
   exact_none unharmed = ⊎_elim
       (λ (all : MakesAll c made core old new). all.reached)
       (λ (some : (reply : Reply) × MakesShort c made core old new reply). absurd (unharmed (short_harm some.0 some.1)))
@@ -263,7 +301,7 @@ module _ {D : Type 0} {g : Ghosts D} (s : Super) (c : Core) (valid : IsValid c) 
           sym (at has_stopped) ∙ passes.2 ∙ ap (counted (total_calls c short.before + passes.0)) none
           ∙ counted-sum (total_calls c short.before + passes.0) 0 (omega (arith, few, total, passes.1)) ∙ omega arith
 
-      stopped_last : StopsLast n made core
+      stopped_last : StopsLast n c made core
       stopped_last =
           let below = (short.passes is_stopped).1 in
           let place = here in
@@ -277,7 +315,7 @@ module _ {D : Type 0} {g : Ghosts D} (s : Super) (c : Core) (valid : IsValid c) 
       passes_few = omega (arith, at has_stopped, here, total, (short.passes is_stopped).1)
 
     -- It stops in the event that has more calls than are left.
-    pub exact_some : IsExact (Some n) made core
+    pub exact_some : IsExact (Some n) c made core
     exact_some = ⊎_elim
         (λ (all : MakesAll c made core old new). inl (all.reached, omega (arith, passes_all all)))
         (λ (some : (reply : Reply) × MakesShort c made core old new reply). inr (stopped_last some.0 some.1))

@@ -6,6 +6,7 @@ use Rattle.disk_model.specs.declared.disk.Disk.{Ghosts}
 use Rattle.disk_model.specs.declared.disk.DiskError.{DiskError}
 use Rattle.disk_model.specs.declared.fuse.FuseDisk.{FuseDisk}
 use Rattle.disk_model.specs.Fuse.{FuseOrigin, fuse_inner, fuse_origin, fuse_passed}
+use Rattle.disk_model.specs.Keeps.{KeepsDisk}
 use Rattle.disk_model.specs.KeepsLaws.{rose_until}
 use Rattle.disk_model.specs.Moments.{LeavesOnly}
 use Rattle.gate_slot.specs.Passing.{Passes}
@@ -100,3 +101,10 @@ module _ {D : Type 0} {g : Ghosts D} where
                 (made.passes tt);
           } in
           (steps.0, fuse_inner mid, one, fuse_steps steps.0 d mid new events same_mid still steps.3)
+
+  -- the same, by what the fuse keeps
+  pub fuse_steps_of : {h : Ghosts (FuseDisk D g)} {x y : FuseDisk D g} {r : Result (Unit {0}) DiskError} → KeepsDisk h x y r → IsFuse h → (unharmed : Type 0) (began : D) → IsTrue g.tells
+      → (c d : Core) (old new : FuseDisk D g) (events : List Event) → (fuse_origin old).disk ≡ began
+      → (unharmed → DiskRose (g.faults began) (g.stops began) (g.faults (fuse_inner new)) (g.stops (fuse_inner new)) → ⊥)
+      → AreSteps (HeapStep h) c old events d new → AreSteps (Step g unharmed) c (fuse_inner old) events d (fuse_inner new)
+  fuse_steps_of {h} keeps is unharmed began tells c d old new events same still steps = fuse_steps h is unharmed began tells c d old new events same still steps

@@ -1,5 +1,5 @@
 -- How the ways in which a play may end go on.
-use Rattle.std.proofs.Common.{◌≡◌, inl, inr, ℕ, List, ◌++◌, Result, Ok, Err, arith, refl, ap, subst}
+use Rattle.std.proofs.Common.{◌≡◌, ◌≢◌, ◌⊎◌, inl, inr, ℕ, List, ◌++◌, Option, None, Some, Result, Ok, Err, arith, refl}
 use Rattle.counts.specs.Count.{Rose}
 use Rattle.heap_shell.specs.declared.output.WriteError.{WriteError}
 use Rattle.heap_shell.specs.declared.output.WriteError.TheVariants as writing
@@ -7,11 +7,13 @@ use Rattle.heap_shell.specs.declared.play.Halt.{Halt}
 use Rattle.heap_shell.specs.declared.play.Halt.TheVariants as halt
 use Rattle.heap_shell.specs.declared.status.Status.{Status}
 use Rattle.heap_shell.specs.declared.status.Status.TheVariants.{Done, DiskFault}
+use Rattle.disk_model.specs.declared.disk.DiskError.TheVariants as device
+use Rattle.heap_shell.specs.Causes.{played_device}
 use Rattle.heap_recovery.specs.declared.recovery.OpenError.{OpenError}
 use Rattle.heap_recovery.specs.declared.recovery.OpenError.TheVariants as opening
 use Rattle.heap_recovery.specs.Recovered.{IsFromOutside}
 use Rattle.heap_shell.specs.Headline.{IsEndOfPlay}
-use Rattle.heap_shell.specs.Output.{WroteText, status_after}
+use Rattle.heap_shell.specs.Output.{WroteText, early_end, status_after}
 use Rattle.heap_shell.specs.StatusOf.{open_status, write_status, halt_status}
 
 -- an output error ends a play
@@ -53,6 +55,29 @@ halt_not_done halt.NoMemory is = cc
 halt_not_done halt.WriteFault is = cc
 halt_not_done halt.DiskFault is = cc
 halt_not_done halt.Stopped is = cc
+
+-- a run that is to stop goes on where all was played or the disk stopped
+pub early_none : (r : Result (Unit {0}) Halt) → early_end r ≡ None → (r ≡ Ok tt) ⊎ (r ≡ Err halt.Stopped)
+early_none (Ok done) is = inl refl
+early_none (Err halt.Stopped) is = inr refl
+early_none (Err halt.NoMemory) is = cc
+early_none (Err halt.WriteFault) is = cc
+early_none (Err halt.DiskFault) is = cc
+
+-- and ends where it halted otherwise
+pub early_some : (r : Result (Unit {0}) Halt) (s : Status) → early_end r ≡ Some s → (h : Halt) × (r ≡ Err h) × (h ≢ halt.Stopped) × (s ≡ halt_status h)
+early_some (Ok done) s is = cc
+early_some (Err halt.Stopped) s is = cc
+early_some (Err halt.NoMemory) s is = (halt.NoMemory, refl, (λ e. cc), cc)
+early_some (Err halt.WriteFault) s is = (halt.WriteFault, refl, (λ e. cc), cc)
+early_some (Err halt.DiskFault) s is = (halt.DiskFault, refl, (λ e. cc), cc)
+
+-- a halt by the disk that isn't a stop is its fault
+pub halt_device : (h : Halt) → h ≢ halt.Stopped → halt_status h ≡ DiskFault → played_device (Err h) ≡ Err device.Failed
+halt_device halt.NoMemory other is = cc
+halt_device halt.WriteFault other is = cc
+halt_device halt.DiskFault other is = refl
+halt_device halt.Stopped other is = absurd (other refl)
 
 -- an opening that the outside hinders ends a play
 pub open_end : (e : OpenError) → IsFromOutside e → IsEndOfPlay (open_status e)

@@ -18,7 +18,7 @@ ghost use Rattle.heap_shell.specs.Headline.{made_super, made_core, OfTold, IsPla
 ghost use Rattle.heap_shell.specs.Playable.{IsPlayable};
 ghost use Rattle.heap_model.specs.Ending.{all_events};
 ghost use Rattle.heap_model.specs.Image.{IsLegal};
-ghost use Rattle.heap_shell.specs.Output.{Recovers, status_after};
+ghost use Rattle.heap_shell.specs.Output.{Recovers, early_end, status_after};
 ghost use Rattle.script_text.specs.Line.{events};
 ghost use Rattle.script_text.specs.Script.{script};
 
@@ -167,9 +167,20 @@ fn play_stopped<D: Disk, K: Sink>(
         }
     };
     let before = heap.commits();
-    match play_lines(alloc, &mut heap, script, sink) {
-        Ok(()) | Err(Halt::Stopped) => start_again(alloc, heap.close(), before, sink),
-        Err(halt) => (Status::from(halt), heap.close().into_inner()),
+    let played = play_lines(alloc, &mut heap, script, sink);
+    match early_end(played) {
+        None => start_again(alloc, heap.close(), before, sink),
+        Some(status) => (status, heap.close().into_inner()),
+    }
+}
+
+/// The status of a run that is to stop where it ends before the disk is started again.
+fn early_end(played: Result<(), Halt>) -> Option<Status>
+    ensures { result ≡ early_end played }
+{
+    match played {
+        Ok(()) | Err(Halt::Stopped) => None,
+        Err(halt) => Some(Status::from(halt)),
     }
 }
 
