@@ -200,6 +200,7 @@ impl Log {
         // Where nothing waits there is nothing to do.
         ensures idle { IsHandEmpty self.old → (result ≡ Ok tt) × (disk.new ≡ disk.old) × (self.new ≡ self.old) }
 
+        ensures kept { (batches : List (List Record)) (pending : List Record) → Keeps self.old batches pending → OnOk result (Keeps self.new (with_batch batches pending) []) }
         ensures held { IsTrue D.tells → (batches : List (List Record)) (pending : List Record) → Keeps self.old batches pending → HoldsBatches (part (D.bytes disk.old) (log_place self.old) (log_room self.old)) batches → OnOk result (Keeps self.new (with_batch batches pending) [] × HoldsBatches (part (D.bytes disk.new) (log_place self.old) (log_room self.old)) (with_batch batches pending)) }
         ensures outside { IsTrue D.tells → OnOk result (SameOutside (log_place self.old) (log_place self.old + log_room self.old) (D.bytes disk.old) (D.bytes disk.new)) }
         ensures durable { IsTrue D.tells → Only (D.bytes disk.old) (D.may_leave disk.old) → OnOk result (Only (D.bytes disk.new) (D.may_leave disk.new)) }

@@ -1,4 +1,3 @@
-pub mod Causes
 mod Empty
 mod FieldRead
 mod MeansActive

@@ -1,5 +1,5 @@
 -- A force, and what the disk holds behind an event.
-use Rattle.std.proofs.Common.{true, false, ◌≡◌, ◌⊎◌, inl, inr, ℕ, ◌+◌, ◌*◌, ◌≤◌, List, [], ◌∷◌, ◌++◌, length, Option, Some, None, Result, Ok, Err, refl, sym, ap, ◌∙◌, subst, ⊎_elim, arith}
+use Rattle.std.proofs.Common.{true, false, ◌≡◌, ◌≢◌, ◌⊎◌, inl, inr, ℕ, ◌+◌, ◌*◌, ◌≤◌, List, [], ◌∷◌, ◌++◌, length, Option, Some, None, Result, Ok, Err, is_some, refl, sym, ap, ◌∙◌, subst, ⊎_elim, arith}
 use Rattle.std.specs.Prelude.{IfOk}
 use Rattle.std.specs.declared.alloc.AllocError.{AllocError}
 use Rattle.std.proofs.lemmas.List.{append-nil}
@@ -18,7 +18,7 @@ use Rattle.graph_model.specs.declared.reply.Refusal.TheVariants.{Failed, DiskFau
 use Rattle.graph_model.specs.declared.reply.Reply.{Reply}
 use Rattle.graph_model.specs.declared.reply.Reply.TheVariants.{Begun, Done, Yes, Length, Sealed, Aborted, Durable, Refused}
 use Rattle.graph_model.specs.SlowHeap.{IsSingleSession}
-use Rattle.graph_model.specs.Transaction.{serial}
+use Rattle.graph_model.specs.Transaction.{Transaction, serial}
 use Rattle.graph_model.specs.History.{Account, account, account_after, first_failure}
 use Rattle.graph_model.specs.HistoryLaws.{account-append, entries-account}
 use Rattle.graph_model.specs.Plain.{granted, reply_of}
@@ -39,8 +39,8 @@ use Rattle.heap_model.specs.CoreLawsStep.{valid_after}
 use Rattle.heap_model.specs.Image.{IsLegal}
 use Rattle.log_machine.specs.Machine as machine
 use Rattle.log_machine.specs.Machine.{words, undo_of, undo_reserve, taken_back, committed_words}
-use Rattle.heap_core.specs.Means.{IsActive, Works, OnDisk, Means, Steps}
-use Rattle.heap_core.proofs.MeansActive.{undo_is}
+use Rattle.heap_core.specs.Means.{IsActive, Works, OnDisk, Remembers, DiskHolds, Steps, StepsOn}
+use Rattle.heap_core.proofs.MeansActive.{undo_is, is_some_active}
 use Rattle.heap_core.proofs.MeansLeft.{keeps_refused, keeps_cut}
 use Rattle.heap_core.proofs.MeansLog.{keeps_same}
 use Rattle.heap_core.proofs.MeansRefusal.{force_same}
@@ -128,133 +128,201 @@ disk_forced s c old new may_leave' may_leave valid disk outside holds only =
     })
 
 -- an event that the disk did not cut short
-pub whole_steps : (s : Super) (c : Core) (event : Event) (reply : Reply) (w : Working) (failed : Option ℕ) (image : List ℕ) (may_leave : List ℕ → Type 0) → IsValid (after c event) → failed ≡ None
-    → Does c event reply w → OnDisk s (after c event) image may_leave → Steps s c event reply w failed image may_leave
-whole_steps s c event reply w failed image may_leave valid none does disk = record {
+abbrev pub whole_steps : (c : Core) (event : Event) (reply : Reply) (w : Working) (failed : Option ℕ) → IsValid (after c event) → failed ≡ None → Does c event reply w → Steps c event reply w failed
+whole_steps c event reply w failed valid none does = record {
   next = after c event;
   step = inl (does.replied, refl);
-  means = record { failure = none ∙ sym valid.unfailed; works = λ e. does.works; disk = λ e. disk; left = λ some. absurd (some none) };
+  memory = record {
+    failure = none ∙ sym valid.unfailed;
+    works = λ e. does.works;
+    lost = λ some. absurd (some none);
+    sealed = does.works.sealed;
+    active = is_some_active _ _ _ w.active does.works.active;
+  };
 }
 
-told_entry : (a : Account) (reply : Reply) → a.failed ≡ None → (reply ≡ Refused DiskFault) ⊎ (reply ≡ Refused Stopped) → Some (a.entries + 1) ≡ (account_after a (record { event = Force; reply = reply })).failed
+pub told_entry : (a : Account) (reply : Reply) → a.failed ≡ None → (reply ≡ Refused DiskFault) ⊎ (reply ≡ Refused Stopped) → Some (a.entries + 1) ≡ (account_after a (record { event = Force; reply = reply })).failed
 told_entry a reply none (inl is) =
     sym (ap (λ (r : Reply). (account_after a (record { event = Force; reply = r })).failed) is ∙ ap (λ (o : Option ℕ). first_failure o (a.entries + 1)) none)
 told_entry a reply none (inr is) =
     sym (ap (λ (r : Reply). (account_after a (record { event = Force; reply = r })).failed) is ∙ ap (λ (o : Option ℕ). first_failure o (a.entries + 1)) none)
 
+-- what is told of a force that the disk cut short, but for the failure
+pub cut_sealed : (a : Account) (reply : Reply) → (reply ≡ Refused DiskFault) ⊎ (reply ≡ Refused Stopped) → (account_after a (record { event = Force; reply = reply })).sealed ≡ a.sealed
+cut_sealed a reply (inl is) = ap (λ (r : Reply). (account_after a (record { event = Force; reply = r })).sealed) is
+cut_sealed a reply (inr is) = ap (λ (r : Reply). (account_after a (record { event = Force; reply = r })).sealed) is
+
+pub cut_active : (a : Account) (reply : Reply) → (reply ≡ Refused DiskFault) ⊎ (reply ≡ Refused Stopped) → (account_after a (record { event = Force; reply = reply })).active 1 ≡ a.active 1
+cut_active a reply (inl is) = ap (λ (r : Reply). (account_after a (record { event = Force; reply = r })).active 1) is
+cut_active a reply (inr is) = ap (λ (r : Reply). (account_after a (record { event = Force; reply = r })).active 1) is
+
 -- a force that the disk cut short
-pub cut_steps : (s : Super) (c : Core) (reply : Reply) (w new : Working) (entries : ℕ) (failed : Option ℕ) (image : List ℕ) (may_leave : List ℕ → Type 0) → IsValid c → Works w (account c.history) c
-    → ¬ IsHandEmpty w.log → (reply ≡ Refused DiskFault) ⊎ (reply ≡ Refused Stopped) → entries ≡ length c.history → failed ≡ Some (entries + 1) → ((d : List ℕ) → may_leave d → KeepsCommits c d) → Steps s c Force reply new failed image may_leave
-cut_steps s c reply w new entries failed image may_leave valid works waits told count is left =
+abbrev pub cut_steps : (c : Core) (reply : Reply) (w new : Working) (entries : ℕ) (failed : Option ℕ) → IsValid c → Works w (account c.history) c
+    → ¬ IsHandEmpty w.log → (reply ≡ Refused DiskFault) ⊎ (reply ≡ Refused Stopped) → entries ≡ length c.history → failed ≡ Some (entries + 1) → new.sealed ≡ w.sealed → new.active ≡ w.active → Steps c Force reply new failed
+cut_steps c reply w new entries failed valid works waits told count is sealed active =
     let a = account c.history in
     let entry : Entry = record { event = Force; reply = reply } in
+    let said : account (c.history ++ entry ∷ []) ≡ account_after a entry = account-append c.history entry in
+    let some : c.pending ≢ [] = λ none. waits (hand_size-Keeps w.log c.batches c.pending works.log ∙ ap (λ (p : List Record). 4 + length (spellings p)) none) in
     record {
       next = with_entry c Force reply;
-      step = inr (record { force = refl; waits = λ none. waits (hand_size-Keeps w.log c.batches c.pending works.log ∙ ap (λ (p : List Record). 4 + length (spellings p)) none); first = valid.unfailed; told = told }, refl);
-      means = record {
-        failure = is ∙ ap (λ (n : ℕ). Some (n + 1)) (count ∙ sym (entries-account c.history)) ∙ told_entry a reply valid.unfailed told ∙ ap (λ (b : Account). b.failed) (sym (account-append c.history entry));
+      step = inr (record { force = refl; waits = some; first = valid.unfailed; told = told }, refl);
+      memory = record {
+        failure = is ∙ ap (λ (n : ℕ). Some (n + 1)) (count ∙ sym (entries-account c.history)) ∙ told_entry a reply valid.unfailed told ∙ ap (λ (b : Account). b.failed) (sym said);
         works = λ none. let never : None ≡ Some (entries + 1) = sym none ∙ is in cc;
-        disk = λ none. let never : None ≡ Some (entries + 1) = sym none ∙ is in cc;
-        left = λ some d leaves. keeps_cut c reply d told (left d leaves);
+        lost = λ e. some;
+        sealed = sealed ∙ works.sealed ∙ ap (λ (ts : List Transaction). length ts) (sym (cut_sealed a reply told)) ∙ ap (λ (b : Account). length b.sealed) (sym said);
+        active = ap (λ (o : Option Active). is_some o) active ∙ is_some_active _ _ _ w.active works.active
+            ∙ ap (λ (o : Option Transaction). is_some o) (sym (cut_active a reply told)) ∙ ap (λ (b : Account). is_some (b.active 1)) (sym said);
       };
     }
 
 -- a heap that has failed refuses everything
-pub failed_steps : (s : Super) (c : Core) (event : Event) (entry : ℕ) (w : Working) (failed : Option ℕ) (image : List ℕ) (may_leave : List ℕ → Type 0) → Means s c w failed image may_leave → failed ≡ Some entry
-    → Steps s c event (Refused (Failed entry)) w failed image may_leave
-failed_steps s c event entry w failed image may_leave means is =
+pub failed_steps : (c : Core) (event : Event) (entry : ℕ) (w : Working) (failed : Option ℕ) → Remembers c w failed → failed ≡ Some entry → Steps c event (Refused (Failed entry)) w failed
+failed_steps c event entry w failed memory is =
     let a = account c.history in
-    let refused = failed_refusal c event entry (sym means.failure ∙ is) in
-    let answered : answer c event ≡ Refused (Failed entry) = ap (λ (o : Option Refusal). reply_of o (granted (next_number c) c.g0 a event)) refused in
-    let said : account (after c event).history ≡ account_after a (record { event = event; reply = answer c event }) = ap account (after_history c event) ∙ account-append c.history _ in
+    let fails = sym memory.failure ∙ is in
+    let answered : answer c event ≡ Refused (Failed entry) = ap (λ (o : Option Refusal). reply_of o (granted (next_number c) c.g0 a event)) (failed_refusal c event entry fails) in
+    let said : account (after c event).history ≡ record a { entries = a.entries + 1 } =
+    ap account (after_history c event) ∙ account-append c.history _ ∙ ap (λ (r : Reply). account_after a (record { event = event; reply = r })) answered ∙ account_after-refused a event (Failed entry) tt in
     record {
       next = after c event;
       step = inl (sym answered, refl);
-      means = record {
-        failure = means.failure ∙ sym (ap (λ (b : Account). b.failed) (said ∙ ap (λ (r : Reply). account_after a (record { event = event; reply = r })) answered ∙ account_after-refused a event (Failed entry) tt));
+      memory = record {
+        failure = memory.failure ∙ ap (λ (b : Account). b.failed) (sym said);
         works = λ none. let never : None ≡ Some entry = sym none ∙ is in cc;
-        disk = λ none. let never : None ≡ Some entry = sym none ∙ is in cc;
-        left = λ some d leaves. subst (λ (x : Core). KeepsCommits x d) (sym (failed_after c event entry (sym means.failure ∙ is))) (keeps_refused c event (Failed entry) d tt (means.left some d leaves));
+        lost = λ some. subst (λ (x : Core). x.pending ≢ []) (sym (failed_after c event entry fails)) (memory.lost some);
+        sealed = memory.sealed ∙ ap (λ (b : Account). length b.sealed) (sym said);
+        active = memory.active ∙ ap (λ (b : Account). is_some (b.active 1)) (sym said);
       };
     }
 
+-- and its disk is left alone
+pub failed_on : (s : Super) (c : Core) (event : Event) (reply : Reply) (entry : ℕ) (w : Working) (failed : Option ℕ) (image : List ℕ) (may_leave : List ℕ → Type 0) → (account c.history).failed ≡ Some entry
+    → DiskHolds s c image may_leave → (steps : Steps c event reply w failed) → DiskHolds s steps.next image may_leave
+failed_on s c event reply entry w failed image may_leave fails holds steps =
+    let a = account c.history in
+    let next_is : steps.next ≡ with_entry c event (Refused (Failed entry)) =
+    ⊎_elim (λ whole. whole.1 ∙ failed_after c event entry fails) (λ cut. let never : None ≡ Some entry = sym cut.0.first ∙ fails in cc) steps.step in
+    let some : a.failed ≢ None = λ none. let never : None ≡ Some entry = sym none ∙ fails in cc in
+    let said : account (with_entry c event (Refused (Failed entry))).history ≡ record a { entries = a.entries + 1 } = account-append c.history _ ∙ account_after-refused a event (Failed entry) tt in
+    let here : DiskHolds s (with_entry c event (Refused (Failed entry))) image may_leave = record {
+      unfailed = λ none. absurd (some (ap (λ (b : Account). b.failed) (sym said) ∙ none));
+      failed = λ e d leaves. keeps_refused c event (Failed entry) d tt (holds.failed some d leaves);
+    } in
+    subst (λ (x : Core). DiskHolds s x image may_leave) (sym next_is) here
+
+-- the disk that an event leaves alone
+pub quiet_on : (s : Super) (c : Core) (event : Event) (reply : Reply) (w : Working) (failed : Option ℕ) (image : List ℕ) (may_leave : List ℕ → Type 0) → IsValid c → IsSingleSession event → (event ≡ Force → ⊥)
+    → DiskHolds s c image may_leave → (steps : Steps c event reply w failed) → StepsOn s c event reply w failed image may_leave
+quiet_on s c event reply w failed image may_leave valid one other holds steps =
+    let next_is : steps.next ≡ after c event = ⊎_elim (λ whole. whole.1) (λ cut. absurd (other cut.0.force)) steps.step in
+    let here : DiskHolds s (after c event) image may_leave = record {
+      unfailed = λ none. disk_stays s c event image may_leave other (holds.unfailed valid.unfailed);
+      failed = λ some. absurd (some (valid_after c event valid one).unfailed);
+    } in
+    record { steps = steps; disk = subst (λ (x : Core). DiskHolds s x image may_leave) (sym next_is) here }
+
+pub quiet_result_on : (s : Super) (c : Core) (event : Event) (result : Result Reply AllocError) (w : Working) (failed : Option ℕ) (image : List ℕ) (may_leave : List ℕ → Type 0) → IsValid c → IsSingleSession event
+    → (event ≡ Force → ⊥) → DiskHolds s c image may_leave → IfOk result (λ reply. Steps c event reply w failed) → IfOk result (λ reply. StepsOn s c event reply w failed image may_leave)
+quiet_result_on s c event (Ok reply) w failed image may_leave valid one other holds steps = quiet_on s c event reply w failed image may_leave valid one other holds steps
+quiet_result_on s c event (Err e) w failed image may_leave valid one other holds steps = tt
+
 -- a heap that has not failed is a valid core
-pub unfailed_valid : (s : Super) (c : Core) (w : Working) (failed : Option ℕ) (image : List ℕ) (may_leave : List ℕ → Type 0) → Means s c w failed image may_leave → failed ≡ None → IsReached c → IsValid c
-unfailed_valid s c w failed image may_leave means none (inl valid) = valid
-unfailed_valid s c w failed image may_leave means none (inr bad) = let never : None ≡ Some bad.entry = sym none ∙ means.failure ∙ bad.failed in cc
+pub unfailed_valid : (c : Core) (failed : Option ℕ) → failed ≡ (account c.history).failed → failed ≡ None → IsReached c → IsValid c
+unfailed_valid c failed failure none (inl valid) = valid
+unfailed_valid c failed failure none (inr bad) = let never : None ≡ Some bad.entry = sym none ∙ failure ∙ bad.failed in cc
 
-module _ (s : Super) (c : Core) (w : Working) (log : Log) (failed : Option ℕ) (old : List ℕ) (may_have_left : List ℕ → Type 0) (means : Means s c w failed old may_have_left) (none : failed ≡ None)
-    (placed : IsPlaced w.log log) (hand : log_hand log ≡ log_hand w.log) where
-  abbrev works : Works w (account c.history) c
-  works = means.works none
-
-  abbrev disk : OnDisk s c old may_have_left
-  disk = means.disk none
-
+module _ (c : Core) (w : Working) (log : Log) (works : Works w (account c.history) c) (placed : IsPlaced w.log log) (hand : log_hand log ≡ log_hand w.log) where
   -- the log keeps the core's batches in memory
   pub keeps : Keeps log c.batches c.pending
   keeps = keeps_same w.log log c.batches c.pending (record { at = placed.at; room = placed.room; tail = placed.tail; in_hand = hand }) works.log
 
-  at : log_place log ≡ 64
-  at = placed.at ∙ works.place
-
-  room : log_room log ≡ s.log_bytes
-  room = placed.room ∙ works.room ∙ sym disk.room
-
-  in_log : (P : ℕ → ℕ → Type 0) → P (log_place log) (log_room log) → P 64 s.log_bytes
-  in_log P h = subst (P 64) room (let Q : ℕ → Type 0 = λ n. P n (log_room log) in subst Q at h)
-
-  -- and they stand on the disk
-  pub holds : HoldsBatches (part old (log_place log) (log_room log)) c.batches
-  holds = let P : ℕ → ℕ → Type 0 = λ n m. HoldsBatches (part old n m) c.batches in
-      let Q : ℕ → Type 0 = λ n. P n (log_room log) in subst Q (sym at) (subst (P 64) (sym room) disk.legal.log)
-
-  pub ok_steps : (new : Working) (image : List ℕ) (may_leave : List ℕ → Type 0) (reply : Reply) → IsReached c → Keeps new.log (with_batch c.batches c.pending) []
-      → HoldsBatches (part image (log_place log) (log_room log)) (with_batch c.batches c.pending) → SameOutside (log_place log) (log_place log + log_room log) old image → Only image may_leave
+  -- a force that the disk did
+  abbrev pub ok_steps : (new : Working) (reply : Reply) (failed : Option ℕ) → IsValid c → failed ≡ None → Keeps new.log (with_batch c.batches c.pending) []
       → log_place new.log ≡ log_place log → log_room new.log ≡ log_room log → new.words ≡ w.words → new.active ≡ w.active → new.next ≡ w.next → new.sealed ≡ w.sealed → reply ≡ Durable w.sealed
-      → Steps s c Force reply new failed image may_leave
-  ok_steps new image may_leave reply reached kept held outside only new_at new_room stored active next sealed replied =
-      let valid = unfailed_valid s c w failed old may_have_left means none reached in
-      whole_steps s c Force reply new failed image may_leave (valid_after c Force valid tt) none
+      → Steps c Force reply new failed
+  ok_steps new reply failed valid none kept new_at new_room stored active next sealed replied =
+      whole_steps c Force reply new failed (valid_after c Force valid tt) none
       (force_does w new c reply valid works kept (new_at ∙ placed.at) (new_room ∙ placed.room) stored active next sealed replied)
-      (disk_forced s c old image may_have_left may_leave valid disk
-      (let P : ℕ → ℕ → Type 0 = λ n m. SameOutside n (n + m) old image in in_log P outside)
-      (let P : ℕ → ℕ → Type 0 = λ n m. HoldsBatches (part image n m) (with_batch c.batches c.pending) in in_log P held)
-      only)
 
-  kept_batches : (bs : List (List Record)) (image : List ℕ) → IsReached c → IsOnDisk c bs → SameOutside 64 (64 + s.log_bytes) old image → HoldsBatches (part image (log_place log) (log_room log)) bs → KeepsCommits c image
-  kept_batches bs image reached on outside held =
-      let legal = legal_with s c c.batches bs old image disk.room reached on disk.legal outside (let P : ℕ → ℕ → Type 0 = λ n m. HoldsBatches (part image n m) bs in in_log P held) in
-      (machine.commits (records_of bs), crash_law c s bs image reached on legal)
-
-  -- what a crash leaves during a force are first commits
-  pub force_keeps : (image : List ℕ) → IsReached c → SameOutside (log_place log) (log_place log + log_room log) old image × (HoldsBatches (part image (log_place log) (log_room log)) c.batches ⊎ HoldsBatches (part image (log_place log) (log_room log)) (with_batch c.batches c.pending))
-      → KeepsCommits c image
-  force_keeps image reached found =
-      let outside = (let P : ℕ → ℕ → Type 0 = λ n m. SameOutside n (n + m) old image in in_log P found.0) in
-      ⊎_elim (λ held. kept_batches c.batches image reached (inl refl) outside held)
-      (λ held. kept_batches (with_batch c.batches c.pending) image reached (inr refl) outside held) found.1
-
-  pub err_steps : (new : Working) (image : List ℕ) (may_leave : List ℕ → Type 0) (reply : Reply) (entries : ℕ) (result : Result (Unit {0}) DiskError) (e : DiskError) (now : Option ℕ) → IsReached c
+  -- and one that it cut short
+  abbrev pub err_steps : (new : Working) (reply : Reply) (entries : ℕ) (result : Result (Unit {0}) DiskError) (e : DiskError) (now : Option ℕ) → IsValid c
       → (IsHandEmpty log → result ≡ Ok tt) → result ≡ Err e → hand_size log ≡ hand_size w.log → (reply ≡ Refused DiskFault) ⊎ (reply ≡ Refused Stopped)
-      → entries ≡ length c.history → now ≡ Some (entries + 1) → ((d : List ℕ) → may_leave d → KeepsCommits c d) → Steps s c Force reply new now image may_leave
-  err_steps new image may_leave reply entries result e now reached waited is same told count fails left =
-      let valid = unfailed_valid s c w failed old may_have_left means none reached in
-      cut_steps s c reply w new entries now image may_leave valid works (λ four. let never : Err e ≡ Ok tt = sym is ∙ waited (same ∙ four) in cc) told count fails left
+      → entries ≡ length c.history → now ≡ Some (entries + 1) → new.sealed ≡ w.sealed → new.active ≡ w.active → Steps c Force reply new now
+  err_steps new reply entries result e now valid waited is same told count fails sealed active =
+      cut_steps c reply w new entries now valid works (λ four. let never : Err e ≡ Ok tt = sym is ∙ waited (same ∙ four) in cc) told count fails sealed active
 
-module _ (s : Super) (c : Core) (w : Working) (failed : Option ℕ) (image : List ℕ) (may_leave : List ℕ → Type 0) (means : Means s c w failed image may_leave) (none : failed ≡ None) (reached : IsReached c) where
+  module _ (s : Super) (old : List ℕ) (may_have_left : List ℕ → Type 0) (disk : OnDisk s c old may_have_left) where
+    at : log_place log ≡ 64
+    at = placed.at ∙ works.place
+
+    room : log_room log ≡ s.log_bytes
+    room = placed.room ∙ works.room ∙ sym disk.room
+
+    in_log : (P : ℕ → ℕ → Type 0) → P (log_place log) (log_room log) → P 64 s.log_bytes
+    in_log P h = subst (P 64) room (let Q : ℕ → Type 0 = λ n. P n (log_room log) in subst Q at h)
+
+    -- and the batches stand on the disk
+    pub holds : HoldsBatches (part old (log_place log) (log_room log)) c.batches
+    holds = let P : ℕ → ℕ → Type 0 = λ n m. HoldsBatches (part old n m) c.batches in
+        let Q : ℕ → Type 0 = λ n. P n (log_room log) in subst Q (sym at) (subst (P 64) (sym room) disk.legal.log)
+
+    pub ok_on : (image : List ℕ) (may_leave : List ℕ → Type 0) (reply : Reply) (new : Working) (failed : Option ℕ) → IsValid c → failed ≡ None → Keeps new.log (with_batch c.batches c.pending) []
+        → HoldsBatches (part image (log_place log) (log_room log)) (with_batch c.batches c.pending) → SameOutside (log_place log) (log_place log + log_room log) old image → Only image may_leave
+        → log_place new.log ≡ log_place log → log_room new.log ≡ log_room log → new.words ≡ w.words → new.active ≡ w.active → new.next ≡ w.next → new.sealed ≡ w.sealed → reply ≡ Durable w.sealed
+        → StepsOn s c Force reply new failed image may_leave
+    ok_on image may_leave reply new failed valid none kept held outside only new_at new_room stored active next sealed replied = record {
+      steps = ok_steps new reply failed valid none kept new_at new_room stored active next sealed replied;
+      disk = record {
+        unfailed = λ e. disk_forced s c old image may_have_left may_leave valid disk
+            (let P : ℕ → ℕ → Type 0 = λ n m. SameOutside n (n + m) old image in in_log P outside)
+            (let P : ℕ → ℕ → Type 0 = λ n m. HoldsBatches (part image n m) (with_batch c.batches c.pending) in in_log P held)
+            only;
+        failed = λ some. absurd (some (valid_after c Force valid tt).unfailed);
+      };
+    }
+
+    kept_batches : (bs : List (List Record)) (image : List ℕ) → IsReached c → IsOnDisk c bs → SameOutside 64 (64 + s.log_bytes) old image → HoldsBatches (part image (log_place log) (log_room log)) bs → KeepsCommits c image
+    kept_batches bs image reached on outside held =
+        let legal = legal_with s c c.batches bs old image disk.room reached on disk.legal outside (let P : ℕ → ℕ → Type 0 = λ n m. HoldsBatches (part image n m) bs in in_log P held) in
+        (machine.commits (records_of bs), crash_law c s bs image reached on legal)
+
+    -- what a crash leaves during a force are first commits
+    pub force_keeps : (image : List ℕ) → IsReached c → SameOutside (log_place log) (log_place log + log_room log) old image × (HoldsBatches (part image (log_place log) (log_room log)) c.batches ⊎ HoldsBatches (part image (log_place log) (log_room log)) (with_batch c.batches c.pending))
+        → KeepsCommits c image
+    force_keeps image reached found =
+        let outside = (let P : ℕ → ℕ → Type 0 = λ n m. SameOutside n (n + m) old image in in_log P found.0) in
+        ⊎_elim (λ held. kept_batches c.batches image reached (inl refl) outside held)
+        (λ held. kept_batches (with_batch c.batches c.pending) image reached (inr refl) outside held) found.1
+
+    pub err_on : (image : List ℕ) (may_leave : List ℕ → Type 0) (reply : Reply) (new : Working) (entries : ℕ) (result : Result (Unit {0}) DiskError) (e : DiskError) (now : Option ℕ) → IsValid c
+        → (IsHandEmpty log → result ≡ Ok tt) → result ≡ Err e → hand_size log ≡ hand_size w.log → (reply ≡ Refused DiskFault) ⊎ (reply ≡ Refused Stopped)
+        → entries ≡ length c.history → now ≡ Some (entries + 1) → new.sealed ≡ w.sealed → new.active ≡ w.active → ((d : List ℕ) → may_leave d → KeepsCommits c d) → StepsOn s c Force reply new now image may_leave
+    err_on image may_leave reply new entries result e now valid waited is same told count fails sealed active left =
+        let steps = err_steps new reply entries result e now valid waited is same told count fails sealed active in
+        record {
+          steps = steps;
+          disk = record {
+            unfailed = λ none. let never : None ≡ Some (entries + 1) = sym none ∙ sym steps.memory.failure ∙ fails in cc;
+            failed = λ some d leaves. keeps_cut c reply d told (left d leaves);
+          };
+        }
+
+module _ (c : Core) (w : Working) (failed : Option ℕ) (memory : Remembers c w failed) (none : failed ≡ None) (reached : IsReached c) where
   abbrev is_valid : IsValid c
-  is_valid = unfailed_valid s c w failed image may_leave means none reached
+  is_valid = unfailed_valid c failed memory.failure none reached
+
+  abbrev works_now : Works w (account c.history) c
+  works_now = memory.works none
 
   -- an event that asks nothing of the disk
-  pub quiet_steps : (event : Event) (reply : Reply) (new : Working) → IsSingleSession event → (event ≡ Force → ⊥) → Does c event reply new → Steps s c event reply new failed image may_leave
-  quiet_steps event reply new one other does =
-      whole_steps s c event reply new failed image may_leave (valid_after c event is_valid one) none does (disk_stays s c event image may_leave other (means.disk none))
+  quiet_steps : (event : Event) (reply : Reply) (new : Working) → IsSingleSession event → Does c event reply new → Steps c event reply new failed
+  quiet_steps event reply new one does = whole_steps c event reply new failed (valid_after c event is_valid one) none does
 
-  quiet_result : (event : Event) (result : Result Reply AllocError) (new : Working) → IsSingleSession event → (event ≡ Force → ⊥) → IfOk result (λ reply. Does c event reply new)
-      → IfOk result (λ reply. Steps s c event reply new failed image may_leave)
-  quiet_result event (Ok reply) new one other does = quiet_steps event reply new one other does
-  quiet_result event (Err e) new one other does = tt
+  quiet_result : (event : Event) (result : Result Reply AllocError) (new : Working) → IsSingleSession event → IfOk result (λ reply. Does c event reply new) → IfOk result (λ reply. Steps c event reply new failed)
+  quiet_result event (Ok reply) new one does = quiet_steps event reply new one does
+  quiet_result event (Err e) new one does = tt
 
   -- an event of session 1 whose session is given
   of_one : (form : ℕ → Event) (event : Event) (n : ℕ) (P : Event → Type 0) → event ≡ form n → (IsSingleSession event → n ≡ 1) → IsSingleSession event → P (form 1) → P event
@@ -263,7 +331,7 @@ module _ (s : Super) (c : Core) (w : Working) (failed : Option ℕ) (image : Lis
       subst P (sym is) (subst Q (sym (own one)) h)
 
   abbrev Stepped : Working → Reply → Event → Type 0
-  Stepped new reply event = Steps s c event reply new failed image may_leave
+  Stepped new reply event = Steps c event reply new failed
 
   abbrev SteppedOr : Working → Result Reply AllocError → Event → Type 0
   SteppedOr new result event = IfOk result (λ reply. Stepped new reply event)
@@ -271,61 +339,59 @@ module _ (s : Super) (c : Core) (w : Working) (failed : Option ℕ) (image : Lis
   pub begin_steps : (event : Event) (n : ℕ) (new : Working) (reply : Reply) → event ≡ Begin n → IsSingleSession event → reply ≡ reply_of (begin_refusal w) (Begun w.next) → ((m : ℕ) → reply ≡ Begun m → Begins w new)
       → ((why : Refusal) → reply ≡ Refused why → new ≡ w) → Stepped new reply event
   begin_steps event n new reply is one replied begun stays =
-      of_one Begin event n (Stepped new reply) is (λ h. subst IsSingleSession is h) one (quiet_steps (Begin 1) reply new refl (λ e. cc) (begin_does w new c is_valid (means.works none) reply replied begun stays))
+      of_one Begin event n (Stepped new reply) is (λ h. subst IsSingleSession is h) one (quiet_steps (Begin 1) reply new refl (begin_does w new c is_valid works_now reply replied begun stays))
 
   pub root_steps : (event : Event) (n h : ℕ) (new : Working) (reply : Reply) → event ≡ Root n h → IsSingleSession event → reply ≡ reply_of (handle_refusal w.active h) Done → (reply ≡ Done → SetsHandle w new h true)
       → ((why : Refusal) → reply ≡ Refused why → new ≡ w) → Stepped new reply event
   root_steps event n h new reply is one replied set stays =
-      of_one (λ m. Root m h) event n (Stepped new reply) is (λ own. subst IsSingleSession is own) one (quiet_steps (Root 1 h) reply new refl (λ e. cc) (root_does w new c is_valid (means.works none) h reply replied set stays))
+      of_one (λ m. Root m h) event n (Stepped new reply) is (λ own. subst IsSingleSession is own) one (quiet_steps (Root 1 h) reply new refl (root_does w new c is_valid works_now h reply replied set stays))
 
   pub drop_steps : (event : Event) (n h : ℕ) (new : Working) (reply : Reply) → event ≡ Drop n h → IsSingleSession event → reply ≡ reply_of (handle_refusal w.active h) Done → (reply ≡ Done → SetsHandle w new h false)
       → ((why : Refusal) → reply ≡ Refused why → new ≡ w) → Stepped new reply event
   drop_steps event n h new reply is one replied set stays =
-      of_one (λ m. Drop m h) event n (Stepped new reply) is (λ own. subst IsSingleSession is own) one (quiet_steps (Drop 1 h) reply new refl (λ e. cc) (drop_does w new c is_valid (means.works none) h reply replied set stays))
+      of_one (λ m. Drop m h) event n (Stepped new reply) is (λ own. subst IsSingleSession is own) one (quiet_steps (Drop 1 h) reply new refl (drop_does w new c is_valid works_now h reply replied set stays))
 
   pub get_steps : (event : Event) (n h i h2 : ℕ) (reply : Reply) → event ≡ Get n h i h2 → IsSingleSession event → reply ≡ reply_of (get_refusal w.active h i h2) (field_reply w.words i) → Stepped w reply event
   get_steps event n h i h2 reply is one replied =
-      of_one (λ m. Get m h i h2) event n (Stepped w reply) is (λ own. subst IsSingleSession is own) one (quiet_steps (Get 1 h i h2) reply w refl (λ e. cc) (get_does w w c is_valid (means.works none) h i h2 reply replied refl))
+      of_one (λ m. Get m h i h2) event n (Stepped w reply) is (λ own. subst IsSingleSession is own) one (quiet_steps (Get 1 h i h2) reply w refl (get_does w w c is_valid works_now h i h2 reply replied refl))
 
   pub same_steps : (event : Event) (n h h2 : ℕ) (reply : Reply) → event ≡ Same n h h2 → IsSingleSession event → reply ≡ reply_of (same_refusal w.active h h2) Yes → Stepped w reply event
   same_steps event n h h2 reply is one replied =
-      of_one (λ m. Same m h h2) event n (Stepped w reply) is (λ own. subst IsSingleSession is own) one (quiet_steps (Same 1 h h2) reply w refl (λ e. cc) (same_does w w c is_valid (means.works none) h h2 reply replied refl))
+      of_one (λ m. Same m h h2) event n (Stepped w reply) is (λ own. subst IsSingleSession is own) one (quiet_steps (Same 1 h h2) reply w refl (same_does w w c is_valid works_now h h2 reply replied refl))
 
   pub len_steps : (event : Event) (n h : ℕ) (reply : Reply) → event ≡ Len n h → IsSingleSession event → reply ≡ reply_of (held_refusal w.active h) (Length 4) → Stepped w reply event
   len_steps event n h reply is one replied =
-      of_one (λ m. Len m h) event n (Stepped w reply) is (λ own. subst IsSingleSession is own) one (quiet_steps (Len 1 h) reply w refl (λ e. cc) (len_does w w c is_valid (means.works none) h reply replied refl))
+      of_one (λ m. Len m h) event n (Stepped w reply) is (λ own. subst IsSingleSession is own) one (quiet_steps (Len 1 h) reply w refl (len_does w w c is_valid works_now h reply replied refl))
 
   pub put_steps : (event : Event) (n h i v : ℕ) (new : Working) (result : Result Reply AllocError) → event ≡ Put n h i v → IsSingleSession event → IfOk result (λ reply. reply ≡ reply_of (put_refusal w.log w.active h i v) Done)
       → (result ≡ Ok Done → Writes w new i (4 * v + 1)) → ((why : Refusal) → result ≡ Ok (Refused why) → IsAsItWas w new) → SteppedOr new result event
   put_steps event n h i v new result is one replied wrote stays =
-      of_one (λ m. Put m h i v) event n (SteppedOr new result) is (λ own. subst IsSingleSession is own) one (quiet_result (Put 1 h i v) result new refl (λ e. cc) (put_does w new c is_valid (means.works none) h i v result replied wrote stays))
+      of_one (λ m. Put m h i v) event n (SteppedOr new result) is (λ own. subst IsSingleSession is own) one (quiet_result (Put 1 h i v) result new refl (put_does w new c is_valid works_now h i v result replied wrote stays))
 
   pub clear_steps : (event : Event) (n h i : ℕ) (new : Working) (result : Result Reply AllocError) → event ≡ Clear n h i → IsSingleSession event → IfOk result (λ reply. reply ≡ reply_of (clear_refusal w.log w.active h i) Done)
       → (result ≡ Ok Done → Writes w new i 0) → ((why : Refusal) → result ≡ Ok (Refused why) → IsAsItWas w new) → SteppedOr new result event
   clear_steps event n h i new result is one replied wrote stays =
-      of_one (λ m. Clear m h i) event n (SteppedOr new result) is (λ own. subst IsSingleSession is own) one (quiet_result (Clear 1 h i) result new refl (λ e. cc) (clear_does w new c is_valid (means.works none) h i result replied wrote stays))
+      of_one (λ m. Clear m h i) event n (SteppedOr new result) is (λ own. subst IsSingleSession is own) one (quiet_result (Clear 1 h i) result new refl (clear_does w new c is_valid works_now h i result replied wrote stays))
 
   pub seal_steps : (event : Event) (n : ℕ) (new : Working) (result : Result Reply AllocError) → event ≡ Seal n → IsSingleSession event → IfOk result (λ reply. reply ≡ reply_of (end_refusal w.active) (Sealed (w.sealed + 1)))
       → ((number : ℕ) → result ≡ Ok (Sealed number) → Seals w new) → ((why : Refusal) → result ≡ Ok (Refused why) → IsAsItWas w new) → SteppedOr new result event
   seal_steps event n new result is one replied sealed stays =
-      of_one Seal event n (SteppedOr new result) is (λ own. subst IsSingleSession is own) one (quiet_result (Seal 1) result new refl (λ e. cc) (seal_does w new c is_valid (means.works none) result replied sealed stays))
+      of_one Seal event n (SteppedOr new result) is (λ own. subst IsSingleSession is own) one (quiet_result (Seal 1) result new refl (seal_does w new c is_valid works_now result replied sealed stays))
 
   pub abort_steps : (event : Event) (n : ℕ) (new : Working) (result : Result Reply AllocError) → event ≡ Abort n → IsSingleSession event → IfOk result (λ reply. reply ≡ reply_of (end_refusal w.active) Aborted)
       → (result ≡ Ok Aborted → Aborts w new) → ((why : Refusal) → result ≡ Ok (Refused why) → IsAsItWas w new) → SteppedOr new result event
   abort_steps event n new result is one replied aborted stays =
-      of_one Abort event n (SteppedOr new result) is (λ own. subst IsSingleSession is own) one (quiet_result (Abort 1) result new refl (λ e. cc) (abort_does w new c is_valid (means.works none) result replied aborted stays))
+      of_one Abort event n (SteppedOr new result) is (λ own. subst IsSingleSession is own) one (quiet_result (Abort 1) result new refl (abort_does w new c is_valid works_now result replied aborted stays))
 
 -- what is kept of a heap and the entry that its history has got
-pub with_history : (s : Super) (c : Core) (event : Event) (reply : Reply) (w : Working) (failed : Option ℕ) (image : List ℕ) (may_leave : List ℕ → Type 0) (old new : List Entry)
-    → old ≡ c.history → new ≡ old ++ record { event = event; reply = reply } ∷ [] → (steps : Steps s c event reply w failed image may_leave) → new ≡ steps.next.history
-with_history s c event reply w failed image may_leave old new was is steps =
+pub with_history : (c : Core) (event : Event) (reply : Reply) (w : Working) (failed : Option ℕ) (old new : List Entry)
+    → old ≡ c.history → new ≡ old ++ record { event = event; reply = reply } ∷ [] → (steps : Steps c event reply w failed) → new ≡ steps.next.history
+with_history c event reply w failed old new was is steps =
     is ∙ ap (λ (l : List Entry). l ++ record { event = event; reply = reply } ∷ []) was ∙ sym (step_history c steps.next event reply steps.step)
 
 -- the words without what the active transaction wrote
-pub committed : (s : Super) (c : Core) (w : Working) (failed : Option ℕ) (image : List ℕ) (may_leave : List ℕ → Type 0) → Means s c w failed image may_leave → failed ≡ None
-    → taken_back (active_undo w.active) w.words ≡ committed_words (all_records c)
-committed s c w failed image may_leave means none =
+pub committed : (c : Core) (w : Working) → Works w (account c.history) c → taken_back (active_undo w.active) w.words ≡ committed_words (all_records c)
+committed c w works =
     let a = account c.history in
-    let works = means.works none in
     ap (λ (us : List UndoEntry). taken_back us w.words) (undo_is (serial c.g0 a.sealed) (undo_of (all_records c)) (a.active 1) w.active works.active)
     ∙ ap (taken_back (undo_of (all_records c))) works.stored

@@ -26,7 +26,6 @@ use Rattle.graph_model.specs.PlainLaws.{IsNoFault, account_after-refused}
 use Rattle.image_plan.specs.declared.superblock.Super.{Super}
 use Rattle.log_records.specs.declared.Record.{Record}
 use Rattle.log_records.specs.Record.{spellings}
-use Rattle.heap_core.specs.declared.working.Working.{Working}
 use Rattle.heap_core.specs.Causes.{reply_device}
 use Rattle.heap_model.specs.Core.{Core, with_entry, force_calls, calls_if, calls}
 use Rattle.heap_model.specs.CoreCrash.{KeepsCommits}
@@ -34,7 +33,7 @@ use Rattle.heap_model.specs.CoreLawsCrash.{crash_law}
 use Rattle.heap_model.specs.CoreValid.{IsReached}
 use Rattle.heap_model.specs.Image.{StandsFor, IsLegal}
 use Rattle.log_machine.specs.Machine as machine
-use Rattle.heap_core.specs.Means.{Means}
+use Rattle.heap_core.specs.Means.{DiskHolds}
 use Rattle.heap_core.proofs.MeansLog.{some_spellings}
 
 -- an entry that neither commits nor acknowledges anything
@@ -69,17 +68,17 @@ keeps_cut c reply image (inl told) kept =
 keeps_cut c reply image (inr told) kept =
     subst (λ (r : Reply). KeepsCommits (with_entry c Force r) image) (sym told) (keeps_entry c Force (Refused Stopped) _ image refl refl refl refl kept)
 
-module _ (s : Super) (c : Core) (w : Working) (failed : Option ℕ) (image : List ℕ) (may_leave : List ℕ → Type 0) (means : Means s c w failed image may_leave) (reached : IsReached c) where
-  keeps_as : (o : Option ℕ) → failed ≡ o → (d : List ℕ) → may_leave d → KeepsCommits c d
+module _ (s : Super) (c : Core) (image : List ℕ) (may_leave : List ℕ → Type 0) (holds : DiskHolds s c image may_leave) (reached : IsReached c) where
+  keeps_as : (o : Option ℕ) → (account c.history).failed ≡ o → (d : List ℕ) → may_leave d → KeepsCommits c d
   keeps_as None is d left =
-      let disk = means.disk is in
+      let disk = holds.unfailed is in
       let same : d ≡ image = disk.only d left in
       (machine.commits (records_of c.batches), crash_law c s c.batches d reached (inl refl) (subst (λ (x : List ℕ). IsLegal s c.batches x) (sym same) disk.legal))
-  keeps_as (Some entry) is d left = means.left (λ none. let never : None ≡ Some entry = sym none ∙ is in cc) d left
+  keeps_as (Some entry) is d left = holds.failed (λ none. let never : None ≡ Some entry = sym none ∙ is in cc) d left
 
   -- a crash leaves the heap's first commits
   pub heap_keeps : (d : List ℕ) → may_leave d → KeepsCommits c d
-  heap_keeps d left = keeps_as failed refl d left
+  heap_keeps d left = keeps_as (account c.history).failed refl d left
 
 -- an event that asks nothing of the disk
 pub stays : {D : Type 0} (moment : D → ℕ) (left_since : D → ℕ → List ℕ → Type 0) (disk : D) (may_leave P : List ℕ → Type 0)

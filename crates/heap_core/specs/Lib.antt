@@ -5,5 +5,6 @@ pub mod Format
 pub mod GivenBack
 pub mod HeapState
 pub mod Means
+pub mod OpenedLaws
 pub mod Reserve
 pub mod Working

@@ -48,22 +48,44 @@ pub record OnDisk (s : Super) (c : Core) (image : List ℕ) (may_leave : List �
   pub only : Only image may_leave
   pub room : s.log_bytes ≡ c.room
 
--- The working state and the disk are those of a core, until the disk stops or fails at an entry. From then on a crash leaves
--- its first commits.
-pub record Means (s : Super) (c : Core) (w : Working) (failed : Option ℕ) (image : List ℕ) (may_leave : List ℕ → Type 0) : Type 0 where
+-- What is kept in memory is a core. What waited is lost where the disk stopped or failed, and nothing else is.
+pub record Remembers (c : Core) (w : Working) (failed : Option ℕ) : Type 0 where
   pub failure : failed ≡ (account c.history).failed
   pub works : failed ≡ None → Works w (account c.history) c
-  pub disk : failed ≡ None → OnDisk s c image may_leave
-  pub left : failed ≢ None → (image : List ℕ) → may_leave image → KeepsCommits c image
+  pub lost : failed ≢ None → c.pending ≢ []
+  pub sealed : w.sealed ≡ length (account c.history).sealed
+  pub active : is_some w.active ≡ is_some ((account c.history).active 1)
 
--- An event was answered as from a core, and what is kept is what that leaves.
-pub record Steps (s : Super) (c : Core) (event : Event) (reply : Reply) (w : Working) (failed : Option ℕ) (image : List ℕ) (may_leave : List ℕ → Type 0) : Type 0 where
+-- The disk holds what a core has on the disk, until it stops or fails at an entry. From then on a crash leaves the core's
+-- first commits.
+pub record DiskHolds (s : Super) (c : Core) (image : List ℕ) (may_leave : List ℕ → Type 0) : Type 0 where
+  pub unfailed : (account c.history).failed ≡ None → OnDisk s c image may_leave
+  pub failed : (account c.history).failed ≢ None → (image : List ℕ) → may_leave image → KeepsCommits c image
+
+-- An event was answered as from a core, and what is kept in memory is what that leaves.
+pub record Steps (c : Core) (event : Event) (reply : Reply) (w : Working) (failed : Option ℕ) : Type 0 where
   pub next : Core
   pub step : IsStep c event reply next
-  pub means : Means s next w failed image may_leave
+  pub memory : Remembers next w failed
+
+-- likewise, and what the disk holds
+pub record StepsOn (s : Super) (c : Core) (event : Event) (reply : Reply) (w : Working) (failed : Option ℕ) (image : List ℕ) (may_leave : List ℕ → Type 0) : Type 0 where
+  pub steps : Steps c event reply w failed
+  pub disk : DiskHolds s steps.next image may_leave
 
 module _ {D : Type 0} {g : Ghosts D} where
-  -- A heap is a core, and its history is the core's.
-  pub record IsHeap (s : Super) (c : Core) (heap : Heap D g) : Type 0 where
+  -- What an open heap keeps in memory is a core, on every disk: its history, at which entry the disk stopped or failed, and
+  -- until then its working state.
+  pub record IsCore (c : Core) (heap : Heap D g) : Type 0 where
     pub history : heap.history.entries.items ≡ c.history
-    pub means : Means s c heap.working heap.failed (g.bytes heap.disk) (g.may_leave heap.disk)
+    pub memory : Remembers c heap.working heap.failed
+
+  -- The disk of an open heap holds a core's image, and a crash leaves nothing else; of a core whose disk stopped or failed a
+  -- crash leaves first commits.
+  abbrev pub HoldsCore : Super → Core → Heap D g → Type 0
+  HoldsCore s c heap = DiskHolds s c (g.bytes heap.disk) (g.may_leave heap.disk)
+
+  -- A heap on a disk that tells is a core, in memory and on the disk.
+  pub record IsHeap (s : Super) (c : Core) (heap : Heap D g) : Type 0 where
+    pub core : IsCore c heap
+    pub disk : HoldsCore s c heap

@@ -1,7 +1,8 @@
 //! An empty heap is made on a disk.
 ghost use Rattle.std.specs.Prelude.{◌≡◌, ℕ, ◌+◌, ◌-◌, ◌<◌, ◌≤◌, List, [], replicate, IsTrue, IfOk, IsErrAnd, OnOk};
 ghost use Rattle.counts.specs.Count.{counted};
-ghost use Rattle.disk_model.specs.Disk.{Only, Follows, HasCause, SameOutside};
+ghost use Rattle.disk_model.specs.Disk.{Only, Follows, SameOutside};
+ghost use Rattle.disk_model.specs.Keeps.{KeepsDisk};
 ghost use Rattle.disk_model.specs.Moments.{LeavesOnly};
 ghost use Rattle.image_plan.specs.Plan.{image_size};
 ghost use Rattle.image_plan.specs.Super.{IsSuper};
@@ -39,10 +40,7 @@ pub fn format<D: Disk>(mut disk: D, of: &Super) -> Result<D, (FormatError, D)>
     ensures made { IsTrue D.tells → IfOk result (λ made. IsLegal of.now [] (D.bytes made) × Only (D.bytes made) (D.may_leave made)) }
     ensures moments { IsTrue D.tells → Only (D.bytes disk) (D.may_leave disk) → LeavesOnly D.moment D.left_since disk (given_back result) (IsFormatting of.now (D.bytes disk)) }
     ensures passed { IsTrue D.tells → IfOk result (λ made. D.passed made ≡ counted (format_calls (image_size of.now.pages of.now.log_bytes) (D.bytes disk)) (D.passed disk)) }
-    ensures restarts { IsTrue D.tells → D.restarts (given_back result) ≡ D.restarts disk }
-    ensures extent { D.extent (given_back result) ≡ D.extent disk }
-    ensures origin { D.origin (given_back result) ≡ D.origin disk }
-    ensures cause { HasCause (D.faults disk) (D.faults (given_back result)) (D.stops disk) (D.stops (given_back result)) (device_result result) }
+    ensures disk { KeepsDisk D.Disk disk (given_back result) (device_result result) }
 {
     let size = disk.size();
     let need = of.plan().size();
@@ -63,10 +61,7 @@ fn write_empty<D: Disk>(disk: &mut D, of: &Super) -> Result<(), DiskError>
     ensures durable { IsTrue D.tells → OnOk result (Only (D.bytes disk.new) (D.may_leave disk.new)) }
     ensures moments { IsTrue D.tells → Only (D.bytes disk.old) (D.may_leave disk.old) → LeavesOnly D.moment D.left_since disk.old disk.new (IsFormatting of.now (D.bytes disk.old)) }
     ensures passed { IsTrue D.tells → OnOk result (D.passed disk.new ≡ counted (format_calls (image_size of.now.pages of.now.log_bytes) (D.bytes disk.old)) (D.passed disk.old)) }
-    ensures restarts { IsTrue D.tells → D.restarts disk.new ≡ D.restarts disk.old }
-    ensures extent { D.extent disk.new ≡ D.extent disk.old }
-    ensures origin { D.origin disk.new ≡ D.origin disk.old }
-    ensures cause { HasCause (D.faults disk.old) (D.faults disk.new) (D.stops disk.old) (D.stops disk.new) result }
+    ensures disk { KeepsDisk D.Disk disk.old disk.new result }
 {
     close_gate(disk, 0)?;
     write_zeros(disk, SUPER_BYTES as u64, of.plan().size())?;
@@ -84,10 +79,7 @@ fn write_zeros<D: Disk>(disk: &mut D, from: u64, end: u64) -> Result<(), DiskErr
     ensures crash { IsTrue D.tells → Follows (SameOutside from end) (D.may_leave disk.old) (D.may_leave disk.new) }
     ensures moments { IsTrue D.tells → LeavesOnly D.moment D.left_since disk.old disk.new (λ c. (d : List ℕ) × D.may_leave disk.old d × SameOutside from end d c) }
     ensures passed { IsTrue D.tells → OnOk result (D.passed disk.new ≡ counted (zero_writes (end - from)) (D.passed disk.old)) }
-    ensures restarts { IsTrue D.tells → D.restarts disk.new ≡ D.restarts disk.old }
-    ensures extent { D.extent disk.new ≡ D.extent disk.old }
-    ensures origin { D.origin disk.new ≡ D.origin disk.old }
-    ensures cause { HasCause (D.faults disk.old) (D.faults disk.new) (D.stops disk.old) (D.stops disk.new) result }
+    ensures disk { KeepsDisk D.Disk disk.old disk.new result }
 {
     let mut at = from;
     while at < end {

@@ -1,7 +1,8 @@
 //! The heap: events on an image, each of them one step.
-ghost use Rattle.std.specs.Prelude.{◌≡◌, ◌≢◌, ◌⊎◌, ◌↔◌, ◌+◌, ◌<◌, ◌≤◌, ℕ, List, [], drop, is_some, None, Err, IsTrue, IfOk, IfErr, OnErr, string_bytes};
-ghost use Rattle.std.specs.List.{AllByRecursion};
-ghost use Rattle.disk_model.specs.Disk.{HasCause, Only};
+ghost use Rattle.std.specs.Prelude.{◌≡◌, ◌≢◌, ◌⊎◌, ◌↔◌, ◌+◌, ◌≤◌, ℕ, List, [], length, min, is_some, None, Err, IsTrue, IfOk, IfErr, OnErr, string_bytes};
+ghost use Rattle.counts.specs.Count.{greatest};
+ghost use Rattle.disk_model.specs.Disk.{Only};
+ghost use Rattle.disk_model.specs.Keeps.{KeepsDisk};
 ghost use Rattle.disk_model.specs.Moments.{LeavesOnly};
 ghost use Rattle.gate_slot.specs.Passing.{Passes};
 ghost use Rattle.gated_log.specs.Log.{records_of};
@@ -10,20 +11,20 @@ ghost use Rattle.graph_model.specs.Graph.{Graph};
 ghost use Rattle.graph_model.specs.Canon.{canon};
 ghost use Rattle.graph_model.specs.Text.{canon_text};
 ghost use Rattle.graph_model.specs.SlowHeap.{IsSingleSession};
-ghost use Rattle.graph_model.specs.History.{account};
+ghost use Rattle.graph_model.specs.History.{account, sealed};
+ghost use Rattle.graph_model.specs.Transaction.{serial};
 ghost use Rattle.graph_model.specs.declared.event.Event.TheVariants.{Force};
 ghost use Rattle.graph_model.specs.declared.reply.Refusal.TheVariants.{DiskFault, Stopped};
 ghost use Rattle.image_plan.specs.declared.superblock.Super.{Super};
 ghost use Rattle.log_records.specs.declared.Record.{Record};
-ghost use Rattle.heap_model.specs.Image.{IsLegal, StandsFor, graph_of};
+ghost use Rattle.heap_model.specs.Image.{IsLegal, StandsFor};
 ghost use Rattle.heap_model.specs.Opening.{opened, rollback_of, rolled_back, opening_calls};
 ghost use Rattle.heap_core.specs.Causes.{step_device, reply_device, opened_device};
-ghost use Rattle.heap_model.specs.Core.{Core, all_records, IsStep, fresh, calls};
+ghost use Rattle.heap_model.specs.Core.{Core, IsStep, calls};
 ghost use Rattle.heap_model.specs.CoreCrash.{KeepsCommits};
 ghost use Rattle.heap_model.specs.CoreValid.{IsReached};
-ghost use Rattle.log_machine.specs.Machine.{committed_words, commits};
-ghost use Rattle.heap_recovery.specs.Recovered.{IsFromOutside, OpenedPasses};
-ghost use Rattle.heap_model.specs.ValueWord.{IsNumberWord};
+ghost use Rattle.log_machine.specs.Machine.{commits};
+ghost use Rattle.heap_recovery.specs.Recovered.{next_after, IsFromOutside, OpenedPasses};
 
 use crate::graph_text::root_text;
 use crate::history::History;
@@ -58,15 +59,12 @@ fn cut_short(e: DiskError) -> Reply
 }
 
 impl<D: Disk> Heap<D> {
-    ghost use Rattle.heap_core.specs.HeapState.{opened_disk, commits_of};
-    ghost use Rattle.heap_core.specs.Means.{IsHeap, Steps};
+    ghost use Rattle.heap_core.specs.HeapState.{opened_disk, heap_disk, before_of, commits_of, failed_at, entries_of};
+    ghost use Rattle.heap_core.specs.Means.{IsCore, IsHeap, Steps, StepsOn};
 
     /// Opens the heap on the disk.
     pub fn open(alloc: Global, mut disk: D) -> Result<Heap<D>, (OpenError, D)>
-        ensures extent { D.extent (opened_disk result) ≡ D.extent disk }
-        ensures origin { D.origin (opened_disk result) ≡ D.origin disk }
-        ensures cause { HasCause (D.faults disk) (D.faults (opened_disk result)) (D.stops disk) (D.stops (opened_disk result)) (opened_device result) }
-        ensures idle { IfOk result (λ heap. heap.working.active ≡ None) }
+        ensures disk { KeepsDisk D.Disk disk (opened_disk result) (opened_device result) }
 
         // At each moment of it a crash leaves an image that stands for the same graph and commits as the one that was opened.
         ensures moments { IsTrue D.tells → Only (D.bytes disk) (D.may_leave disk) → (g : Graph) (k : ℕ) → StandsFor g k (D.bytes disk) → LeavesOnly D.moment D.left_since disk (opened_disk result) (StandsFor g k) }
@@ -74,15 +72,13 @@ impl<D: Disk> Heap<D> {
         // It writes only where it has to take a transaction's writes back.
         ensures passes { IsTrue D.tells → (s : Super) (batches : List (List Record)) → IsLegal s batches (D.bytes disk) → OpenedPasses (opening_calls batches) (D.passed disk) (D.passed (opened_disk result)) result }
         ensures no_first_stop { IsTrue D.tells → (s : Super) (batches : List (List Record)) → IsLegal s batches (D.bytes disk) → rollback_of batches ≡ [] → D.stops disk ≡ 0 → D.stops (opened_disk result) ≡ 0 }
-        ensures restarts { IsTrue D.tells → D.restarts (opened_disk result) ≡ D.restarts disk }
 
         // A legal image is refused only for want of memory or by the disk.
         ensures legal { IsTrue D.tells → (s : Super) (batches : List (List Record)) → IsLegal s batches (D.bytes disk) → IfErr result (λ e. IsFromOutside e.0) }
         ensures count { IsTrue D.tells → (s : Super) (batches : List (List Record)) → IsLegal s batches (D.bytes disk) → IfOk result (λ heap. commits_of heap ≡ commits (records_of batches)) }
 
-        // A legal image is opened as the core that it stands for; an empty one as that of a new heap.
-        ensures means { IsTrue D.tells → (s : Super) (batches : List (List Record)) → IsLegal s batches (D.bytes disk) → Only (D.bytes disk) (D.may_leave disk) → IfOk result (λ heap. IsHeap s (opened s (rolled_back batches) heap.working.next) heap) }
-        ensures fresh { IsTrue D.tells → (s : Super) → IsLegal s [] (D.bytes disk) → Only (D.bytes disk) (D.may_leave disk) → IfOk result (λ heap. IsHeap s (fresh s.log_bytes s.first) heap) }
+        // A legal image is opened as the core that it stands for.
+        ensures means { IsTrue D.tells → (s : Super) (batches : List (List Record)) → IsLegal s batches (D.bytes disk) → Only (D.bytes disk) (D.may_leave disk) → IfOk result (λ heap. IsHeap s (opened s (rolled_back batches) (next_after s batches)) heap) }
     {
         match recover(alloc, &mut disk) {
             Ok(found) => {
@@ -113,19 +109,20 @@ impl<D: Disk> Heap<D> {
 
     /// Makes one step, and answers the event. Want of memory changes nothing.
     pub fn step(&mut self, event: Event) -> Result<Reply, AllocError>
-        ensures extent { D.extent self.new.disk ≡ D.extent self.old.disk }
-        ensures origin { D.origin self.new.disk ≡ D.origin self.old.disk }
-        ensures cause { HasCause (D.faults self.old.disk) (D.faults self.new.disk) (D.stops self.old.disk) (D.stops self.new.disk) (step_device result) }
+        ensures disk { KeepsDisk D.Disk self.old.disk self.new.disk (step_device result) }
 
         // Each event is a step of the core that the heap is.
-        ensures core { IsTrue D.tells → (s : Super) (c : Core) → IsHeap s c self.old → IsReached c → IsSingleSession event → IfOk result (λ reply. (d : Core) × IsStep c event reply d × IsHeap s d self.new) }
-        ensures kept { (s : Super) (c : Core) → IsHeap s c self.old → OnErr result (IsHeap s c self.new) }
+        ensures core { (c : Core) → IsCore c self.old → IsReached c → IsSingleSession event → IfOk result (λ reply. (d : Core) × IsStep c event reply d × IsCore d self.new) }
+        ensures kept { (c : Core) → IsCore c self.old → OnErr result (IsCore c self.new) }
         ensures untouched { OnErr result (self.new.disk ≡ self.old.disk) }
 
+        // The commits that the log held at the opening stay.
+        ensures before { before_of self.new ≡ before_of self.old }
+        // So is what a disk that tells holds.
+        ensures holds { IsTrue D.tells → (s : Super) (c : Core) → IsHeap s c self.old → IsReached c → IsSingleSession event → IfOk result (λ reply. (d : Core) × IsStep c event reply d × IsHeap s d self.new) }
         // At each moment of it a crash leaves first commits, among them all that were acknowledged before.
         ensures moments { IsTrue D.tells → (s : Super) (c : Core) → IsHeap s c self.old → IsReached c → LeavesOnly D.moment D.left_since self.old.disk self.new.disk (KeepsCommits c) }
-        ensures passes { IsTrue D.tells → (s : Super) (c : Core) → IsHeap s c self.old → IfOk result (λ reply. Passes (calls c event) (D.passed self.old.disk) (D.passed self.new.disk) (reply_device reply)) }
-        ensures restarts { IsTrue D.tells → D.restarts self.new.disk ≡ D.restarts self.old.disk }
+        ensures passes { IsTrue D.tells → (c : Core) → IsCore c self.old → IfOk result (λ reply. Passes (calls c event) (D.passed self.old.disk) (D.passed self.new.disk) (reply_device reply)) }
     {
         self.history.reserve()?;
         let reply = self.reply_to(event)?;
@@ -134,16 +131,15 @@ impl<D: Disk> Heap<D> {
     }
 
     fn reply_to(&mut self, event: Event) -> Result<Reply, AllocError>
-        ensures extent { D.extent self.new.disk ≡ D.extent self.old.disk }
-        ensures origin { D.origin self.new.disk ≡ D.origin self.old.disk }
-        ensures cause { HasCause (D.faults self.old.disk) (D.faults self.new.disk) (D.stops self.old.disk) (D.stops self.new.disk) (step_device result) }
+        ensures disk { KeepsDisk D.Disk self.old.disk self.new.disk (step_device result) }
         ensures history { self.new.history ≡ self.old.history }
-        ensures core { IsTrue D.tells → (s : Super) (c : Core) → IsHeap s c self.old → IsReached c → IsSingleSession event → IfOk result (λ reply. Steps s c event reply self.new.working self.new.failed (D.bytes self.new.disk) (D.may_leave self.new.disk)) }
-        ensures kept { (s : Super) (c : Core) → IsHeap s c self.old → OnErr result (IsHeap s c self.new) }
+        ensures core { (c : Core) → IsCore c self.old → IsReached c → IsSingleSession event → IfOk result (λ reply. Steps c event reply self.new.working self.new.failed) }
+        ensures holds { IsTrue D.tells → (s : Super) (c : Core) → IsHeap s c self.old → IsReached c → IsSingleSession event → IfOk result (λ reply. StepsOn s c event reply self.new.working self.new.failed (D.bytes self.new.disk) (D.may_leave self.new.disk)) }
+        ensures kept { (c : Core) → IsCore c self.old → OnErr result (IsCore c self.new) }
+        ensures before { before_of self.new ≡ before_of self.old }
         ensures untouched { OnErr result (self.new.disk ≡ self.old.disk) }
         ensures moments { IsTrue D.tells → (s : Super) (c : Core) → IsHeap s c self.old → IsReached c → LeavesOnly D.moment D.left_since self.old.disk self.new.disk (KeepsCommits c) }
-        ensures passes { IsTrue D.tells → (s : Super) (c : Core) → IsHeap s c self.old → IfOk result (λ reply. Passes (calls c event) (D.passed self.old.disk) (D.passed self.new.disk) (reply_device reply)) }
-        ensures restarts { IsTrue D.tells → D.restarts self.new.disk ≡ D.restarts self.old.disk }
+        ensures passes { IsTrue D.tells → (c : Core) → IsCore c self.old → IfOk result (λ reply. Passes (calls c event) (D.passed self.old.disk) (D.passed self.new.disk) (reply_device reply)) }
     {
         match self.failed {
             Some(entry) => Ok(refused(Refusal::Failed { entry })),
@@ -152,16 +148,15 @@ impl<D: Disk> Heap<D> {
     }
 
     fn answer(&mut self, event: Event) -> Result<Reply, AllocError>
-        ensures extent { D.extent self.new.disk ≡ D.extent self.old.disk }
-        ensures origin { D.origin self.new.disk ≡ D.origin self.old.disk }
-        ensures cause { HasCause (D.faults self.old.disk) (D.faults self.new.disk) (D.stops self.old.disk) (D.stops self.new.disk) (step_device result) }
-        ensures core { IsTrue D.tells → (s : Super) (c : Core) → IsHeap s c self.old → self.old.failed ≡ None → IsReached c → IsSingleSession event → IfOk result (λ reply. Steps s c event reply self.new.working self.new.failed (D.bytes self.new.disk) (D.may_leave self.new.disk)) }
-        ensures kept { (s : Super) (c : Core) → IsHeap s c self.old → OnErr result (IsHeap s c self.new) }
+        ensures disk { KeepsDisk D.Disk self.old.disk self.new.disk (step_device result) }
+        ensures core { (c : Core) → IsCore c self.old → self.old.failed ≡ None → IsReached c → IsSingleSession event → IfOk result (λ reply. Steps c event reply self.new.working self.new.failed) }
+        ensures holds { IsTrue D.tells → (s : Super) (c : Core) → IsHeap s c self.old → self.old.failed ≡ None → IsReached c → IsSingleSession event → IfOk result (λ reply. StepsOn s c event reply self.new.working self.new.failed (D.bytes self.new.disk) (D.may_leave self.new.disk)) }
+        ensures kept { (c : Core) → IsCore c self.old → OnErr result (IsCore c self.new) }
+        ensures before { before_of self.new ≡ before_of self.old }
         ensures history { self.new.history ≡ self.old.history }
         ensures untouched { OnErr result (self.new.disk ≡ self.old.disk) }
         ensures moments { IsTrue D.tells → (s : Super) (c : Core) → IsHeap s c self.old → self.old.failed ≡ None → IsReached c → LeavesOnly D.moment D.left_since self.old.disk self.new.disk (KeepsCommits c) }
-        ensures passes { IsTrue D.tells → (s : Super) (c : Core) → IsHeap s c self.old → self.old.failed ≡ None → IfOk result (λ reply. Passes (calls c event) (D.passed self.old.disk) (D.passed self.new.disk) (reply_device reply)) }
-        ensures restarts { IsTrue D.tells → D.restarts self.new.disk ≡ D.restarts self.old.disk }
+        ensures passes { IsTrue D.tells → (c : Core) → IsCore c self.old → self.old.failed ≡ None → IfOk result (λ reply. Passes (calls c event) (D.passed self.old.disk) (D.passed self.new.disk) (reply_device reply)) }
     {
         let alloc = self.history.allocator();
         match event {
@@ -180,16 +175,15 @@ impl<D: Disk> Heap<D> {
     }
 
     fn force(&mut self) -> Result<Reply, AllocError>
-        ensures extent { D.extent self.new.disk ≡ D.extent self.old.disk }
-        ensures origin { D.origin self.new.disk ≡ D.origin self.old.disk }
-        ensures cause { HasCause (D.faults self.old.disk) (D.faults self.new.disk) (D.stops self.old.disk) (D.stops self.new.disk) (step_device result) }
-        ensures core { IsTrue D.tells → (s : Super) (c : Core) → IsHeap s c self.old → self.old.failed ≡ None → IsReached c → IfOk result (λ reply. Steps s c Force reply self.new.working self.new.failed (D.bytes self.new.disk) (D.may_leave self.new.disk)) }
-        ensures kept { (s : Super) (c : Core) → IsHeap s c self.old → OnErr result (IsHeap s c self.new) }
+        ensures disk { KeepsDisk D.Disk self.old.disk self.new.disk (step_device result) }
+        ensures core { (c : Core) → IsCore c self.old → self.old.failed ≡ None → IsReached c → IfOk result (λ reply. Steps c Force reply self.new.working self.new.failed) }
+        ensures holds { IsTrue D.tells → (s : Super) (c : Core) → IsHeap s c self.old → self.old.failed ≡ None → IsReached c → IfOk result (λ reply. StepsOn s c Force reply self.new.working self.new.failed (D.bytes self.new.disk) (D.may_leave self.new.disk)) }
+        ensures kept { (c : Core) → IsCore c self.old → OnErr result (IsCore c self.new) }
+        ensures before { before_of self.new ≡ before_of self.old }
         ensures history { self.new.history ≡ self.old.history }
         ensures untouched { OnErr result (self.new.disk ≡ self.old.disk) }
         ensures moments { IsTrue D.tells → (s : Super) (c : Core) → IsHeap s c self.old → self.old.failed ≡ None → IsReached c → LeavesOnly D.moment D.left_since self.old.disk self.new.disk (KeepsCommits c) }
-        ensures passes { IsTrue D.tells → (s : Super) (c : Core) → IsHeap s c self.old → self.old.failed ≡ None → IfOk result (λ reply. Passes (calls c Force) (D.passed self.old.disk) (D.passed self.new.disk) (reply_device reply)) }
-        ensures restarts { IsTrue D.tells → D.restarts self.new.disk ≡ D.restarts self.old.disk }
+        ensures passes { IsTrue D.tells → (c : Core) → IsCore c self.old → self.old.failed ≡ None → IfOk result (λ reply. Passes (calls c Force) (D.passed self.old.disk) (D.passed self.new.disk) (reply_device reply)) }
     {
         self.working.log.reserve()?;
         match self.working.log.force(&mut self.disk) {
@@ -205,42 +199,46 @@ impl<D: Disk> Heap<D> {
 
     /// The entries since the heap was opened.
     pub fn history(&self) -> &History
-        ensures { (s : Super) (c : Core) → IsHeap s c self.now → result.now.entries.items ≡ c.history }
+        ensures { (c : Core) → IsCore c self.now → entries_of result.now ≡ c.history }
     {
         &self.history
     }
 
     /// The entry, from 1, at which the disk failed or stopped.
     pub fn failed(&self) -> Option<u64>
-        ensures { (s : Super) (c : Core) → IsHeap s c self.now → result ≡ (account c.history).failed }
+        ensures value { result ≡ failed_at self.now }
+        ensures exact { (c : Core) → IsCore c self.now → result ≡ (account c.history).failed }
     {
         self.failed
     }
 
     /// How many commits the log holds.
     pub fn commits(&self) -> u64
-        ensures { result ≡ commits_of self.now }
+        ensures value { result ≡ commits_of self.now }
+        ensures exact { (c : Core) → IsCore c self.now → result ≡ min (before_of self.now + length (sealed c.history)) greatest }
     {
         self.before.saturating_add(self.working.sealed)
     }
 
-    /// Whether records wait to be forced.
+    /// Whether records have been appended that are not known to be on the disk. Where it stopped or failed in a force, they
+    /// are what the force was to write.
     pub fn pending(&self) -> bool
-        ensures { (s : Super) (c : Core) → IsHeap s c self.now → self.now.failed ≡ None → IsTrue result ↔ (c.pending ≢ []) }
+        ensures { (c : Core) → IsCore c self.now → IsTrue result ↔ (c.pending ≢ []) }
     {
-        self.working.log.pending()
+        self.failed.is_some() || self.working.log.pending()
     }
 
     /// Whether a transaction is active.
     pub fn active(&self) -> bool
-        ensures { (s : Super) (c : Core) → IsHeap s c self.now → self.now.failed ≡ None → result ≡ is_some ((account c.history).active 1) }
+        ensures { (c : Core) → IsCore c self.now → result ≡ is_some ((account c.history).active 1) }
     {
         self.working.active.is_some()
     }
 
-    /// The text of the graph.
+    /// The text of the graph. What active transactions wrote is left out. It asks that the disk has neither failed nor stopped.
     pub fn graph(&self, alloc: Global) -> Result<String, AllocError>
-        ensures text { (s : Super) (c : Core) → IsHeap s c self.now → self.now.failed ≡ None → AllByRecursion IsNumberWord (drop 2 (committed_words (all_records c))) → IfOk result (λ text. string_bytes text ≡ canon_text (canon (graph_of (all_records c)))) }
+        requires unfailed { failed_at self.now ≡ None }
+        ensures text { (c : Core) → IsCore c self.now → IsReached c → IfOk result (λ text. string_bytes text ≡ canon_text (canon (serial c.g0 (sealed c.history)))) }
     {
         match root_values(&self.working.committed_words()) {
             Some(values) => root_text(alloc, &values),
@@ -250,7 +248,7 @@ impl<D: Disk> Heap<D> {
 
     /// Gives the disk back.
     pub fn close(self) -> D
-        ensures { result ≡ self.disk }
+        ensures { result ≡ heap_disk self }
     {
         let Heap {
             disk,

@@ -2,10 +2,10 @@
 //! opening stops.
 use crate::formatting::format;
 use crate::heap::Heap;
-use heap_recovery::OpenError;
 use disk_model::{Disk, DiskError, FuseDisk, MemoryDisk, Pick};
 use gated_log::Log;
 use graph_model::{Event, Reply};
+use heap_recovery::OpenError;
 use image_plan::Super;
 use log_records::Record;
 use std::alloc::{AllocError, Global};

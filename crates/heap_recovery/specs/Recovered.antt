@@ -1,5 +1,5 @@
 -- What an opening finds, and what it leaves.
-use Rattle.std.specs.Prelude.{◌≡◌, ℕ, ◌+◌, List, [], Result, Ok, Err, Some, max}
+use Rattle.std.specs.Prelude.{◌≡◌, ℕ, ◌+◌, List, [], Result, Ok, Err, Option, None, Some, max}
 use Rattle.gate_slot.specs.Passing.{Passes}
 use Rattle.gated_log.specs.declared.LogError.{LogError}
 use Rattle.gated_log.specs.declared.LogError.TheVariants as logging
@@ -20,6 +20,15 @@ use Rattle.heap_recovery.specs.declared.recovery.Recovered.{Recovered}
 -- the records that take back the writes that a log's records leave
 abbrev pub rollback_after : State → List Record
 rollback_after s = rollback s.writer s.undo
+
+abbrev pub next_in : Super → Option State → ℕ
+next_in s None = s.first
+next_in s (Some state) = max s.first (state.greatest + 1)
+
+-- the number of the first transaction that begins behind these batches: the first one of the heap, or the next one after the
+-- greatest in the log
+abbrev pub next_after : Super → List (List Record) → ℕ
+next_after s batches = next_in s (after_all start (records_of batches))
 
 -- What is read of a legal image with these numbers and batches.
 pub record IsRead (s : Super) (batches : List (List Record)) (read : Reading) : Type 0 where

@@ -5,4 +5,4 @@ mod at;
 mod recovery;
 
 pub use at::At;
-pub use recovery::{OpenError, Recovered, END_BYTES, UNDO_BYTES, recover, root_values};
+pub use recovery::{END_BYTES, OpenError, Recovered, UNDO_BYTES, recover, root_values};

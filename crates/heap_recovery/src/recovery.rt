@@ -2,7 +2,8 @@
 //! taken back first.
 ghost use Rattle.std.specs.Prelude.{◌≡◌, ◌⊎◌, ◌+◌, ◌^◌, ◌<◌, ◌≤◌, ℕ, List, [], None, Some, Ok, drop, take, map, max, reverse, length, vec_len, IsTrue, IsSome, IsOk, IfOk, IfErr, IfSome, OnOk};
 ghost use Rattle.std.specs.List.{AllByRecursion};
-ghost use Rattle.disk_model.specs.Disk.{part, Only, Narrows, HasCause, SameOutside};
+ghost use Rattle.disk_model.specs.Disk.{part, Only, SameOutside};
+ghost use Rattle.disk_model.specs.Keeps.{KeepsDisk, OnlyReads};
 ghost use Rattle.disk_model.specs.Moments.{LeavesOnly};
 ghost use Rattle.gate_slot.specs.Passing.{Passes};
 ghost use Rattle.gated_log.specs.Log.{with_batch, HoldsBatches};
@@ -119,10 +120,7 @@ pub fn recover<D: Disk>(alloc: Global, disk: &mut D) -> Result<Recovered, OpenEr
     // A crash at any moment leaves an image that stands for the same graph and commits.
     ensures moments { IsTrue D.tells → Only (D.bytes disk.old) (D.may_leave disk.old) → (g : Graph) (k : ℕ) → StandsFor g k (D.bytes disk.old) → LeavesOnly D.moment D.left_since disk.old disk.new (StandsFor g k) }
     ensures passes { IsTrue D.tells → (s : Super) (batches : List (List Record)) → IsLegal s batches (D.bytes disk.old) → OpenPasses (opening_calls batches) (D.passed disk.old) (D.passed disk.new) result }
-    ensures restarts { IsTrue D.tells → D.restarts disk.new ≡ D.restarts disk.old }
-    ensures extent { D.extent disk.new ≡ D.extent disk.old }
-    ensures origin { D.origin disk.new ≡ D.origin disk.old }
-    ensures cause { HasCause (D.faults disk.old) (D.faults disk.new) (D.stops disk.old) (D.stops disk.new) (open_device result) }
+    ensures disk { KeepsDisk D.Disk disk.old disk.new (open_device result) }
     // Where nothing is taken back the disk is only read.
     ensures no_first_stop { IsTrue D.tells → (s : Super) (batches : List (List Record)) → IsLegal s batches (D.bytes disk.old) → rollback_of batches ≡ [] → D.stops disk.old ≡ 0 → D.stops disk.new ≡ 0 }
 {
@@ -142,15 +140,7 @@ fn read_image<D: Disk>(alloc: Global, disk: &mut D) -> Result<Reading, OpenError
     ensures legal { IsTrue D.tells → (s : Super) (batches : List (List Record)) → IsLegal s batches (D.bytes disk.old) → IfErr result IsFromOutside }
 
     // The disk is only read.
-    ensures bytes { IsTrue D.tells → D.bytes disk.new ≡ D.bytes disk.old }
-    ensures crash { IsTrue D.tells → Narrows (D.may_leave disk.old) (D.may_leave disk.new) }
-    ensures moments { IsTrue D.tells → LeavesOnly D.moment D.left_since disk.old disk.new (D.may_leave disk.old) }
-    ensures passed { IsTrue D.tells → D.passed disk.new ≡ D.passed disk.old }
-    ensures restarts { IsTrue D.tells → D.restarts disk.new ≡ D.restarts disk.old }
-    ensures extent { D.extent disk.new ≡ D.extent disk.old }
-    ensures origin { D.origin disk.new ≡ D.origin disk.old }
-    ensures cause { HasCause (D.faults disk.old) (D.faults disk.new) (D.stops disk.old) (D.stops disk.new) (open_device result) }
-    ensures no_first_stop { D.stops disk.old ≡ 0 → D.stops disk.new ≡ 0 }
+    ensures disk { OnlyReads D.Disk disk.old disk.new (open_device result) }
 {
     let found = read_plan(disk)?;
     let plan = found.plan();
@@ -174,15 +164,7 @@ fn read_plan<D: Disk>(disk: &mut D) -> Result<Super, OpenError>
     ensures found { IsTrue D.tells → (s : Super) → IsSuper s → take 64 (D.bytes disk.old) ≡ superblock s → image_size s.pages s.log_bytes ≤ D.extent disk.old → IfOk result (λ found. found ≡ s) }
     ensures legal { IsTrue D.tells → (s : Super) → IsSuper s → take 64 (D.bytes disk.old) ≡ superblock s → image_size s.pages s.log_bytes ≤ D.extent disk.old → IfErr result IsFromOutside }
 
-    ensures bytes { IsTrue D.tells → D.bytes disk.new ≡ D.bytes disk.old }
-    ensures crash { IsTrue D.tells → Narrows (D.may_leave disk.old) (D.may_leave disk.new) }
-    ensures moments { IsTrue D.tells → LeavesOnly D.moment D.left_since disk.old disk.new (D.may_leave disk.old) }
-    ensures passed { IsTrue D.tells → D.passed disk.new ≡ D.passed disk.old }
-    ensures restarts { IsTrue D.tells → D.restarts disk.new ≡ D.restarts disk.old }
-    ensures extent { D.extent disk.new ≡ D.extent disk.old }
-    ensures origin { D.origin disk.new ≡ D.origin disk.old }
-    ensures cause { HasCause (D.faults disk.old) (D.faults disk.new) (D.stops disk.old) (D.stops disk.new) (open_device result) }
-    ensures no_first_stop { D.stops disk.old ≡ 0 → D.stops disk.new ≡ 0 }
+    ensures disk { OnlyReads D.Disk disk.old disk.new (open_device result) }
 {
     if disk.size() < SUPER_BYTES as u64 {
         return Err(OpenError::NotHeap);
@@ -260,10 +242,7 @@ impl Reading {
         ensures moments { IsTrue D.tells → Only (D.bytes disk.old) (D.may_leave disk.old) → (batches : List (List Record)) → Keeps self.old.log batches [] → HoldsBatches (part (D.bytes disk.old) (log_place self.old.log) (log_room self.old.log)) batches
             → LeavesOnly D.moment D.left_since disk.old disk.new (λ c. SameOutside (log_place self.old.log) (log_place self.old.log + log_room self.old.log) (D.bytes disk.old) c × (HoldsBatches (part c (log_place self.old.log) (log_room self.old.log)) batches ⊎ HoldsBatches (part c (log_place self.old.log) (log_room self.old.log)) (with_batch batches (rollback_after self.old.state)))) }
         ensures passes { IsTrue D.tells → (batches : List (List Record)) → Keeps self.old.log batches [] → OpenPasses (force_calls (rollback_after self.old.state)) (D.passed disk.old) (D.passed disk.new) result }
-        ensures restarts { IsTrue D.tells → D.restarts disk.new ≡ D.restarts disk.old }
-        ensures extent { D.extent disk.new ≡ D.extent disk.old }
-        ensures origin { D.origin disk.new ≡ D.origin disk.old }
-        ensures cause { HasCause (D.faults disk.old) (D.faults disk.new) (D.stops disk.old) (D.stops disk.new) (open_device result) }
+        ensures disk { KeepsDisk D.Disk disk.old disk.new (open_device result) }
     {
         let records = self.state.rollback(alloc)?;
         self.log.append_all(&records)?;

@@ -4,6 +4,15 @@ use Rattle.gated_log.proofs.LogBytes.{forced_outside}
 use Rattle.gated_log.proofs.LogForce.{used_waiting, keeps_forced, forced, moments}
 use Rattle.gated_log.proofs.Log.force.Goals as goal
 
+pub returns-clause-kept : goal.returns-clause-kept
+returns-clause-kept g c batches pending keeps =
+    let log = c.args.self.now in
+    let waits : nat_lt 4 (vec_len log.hand) ≡ true = search rules in
+    let closes : c.deref.result.now ≡ to_le_bytes w32 (vec_len log.hand - 4) ++ drop 4 log.hand.items ++ 0 ∷ [] = c.deref.ensures.value ∙ c.close_batch.ensures.items in
+    let size : c.len-size.result ≡ length c.deref.result.now = omega (arith, c.deref.ensures.len, c.len-size.ensures) in
+    let items : c.truncate.new.self.items ≡ take 4 c.deref.result.now = c.truncate.ensures.items ∙ ap (λ (l : List ℕ). take 4 l) (sym c.deref.ensures.value) in
+    keeps_forced log (g.D.Disk.bytes c.args.disk.now) c.deref.result.now batches pending waits closes keeps _ (ap (λ (k : ℕ). log.tail + k) size) items
+
 pub returns-clause-held : goal.returns-clause-held
 returns-clause-held g c told batches pending keeps holds =
     let log = c.args.self.now in

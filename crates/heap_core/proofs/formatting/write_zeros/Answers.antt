@@ -1,9 +1,9 @@
-use Rattle.std.proofs.Common.{◌≡◌, ℕ, ◌+◌, ◌≤◌, List, arith, length, get_or, IsTrue, Err, rules, sym, ◌∙◌, ap}
+use Rattle.std.proofs.Common.{◌≡◌, ℕ, ◌+◌, ◌≤◌, List, arith, length, get_or, IsTrue, Ok, sym, ◌∙◌, ap}
 use Rattle.std.proofs.lemmas.List.{length-replicate}
 use Rattle.disk_model.specs.Disk.{overwrite}
+use Rattle.disk_model.specs.KeepsLaws.{keeps_ok, keeps_on}
 use Rattle.disk_model.specs.Moments.{goes_on}
 use Rattle.heap_core.proofs.Zeros.{crash_on, zero_on, outside_on, zero_at, passed_on}
-use Rattle.heap_core.proofs.Causes.{cause_on}
 use Rattle.heap_core.proofs.formatting.write_zeros.Goals as goal
 
 pub returns-in_err-write-clause-crash : goal.returns-in_err-write-clause-crash
@@ -18,13 +18,6 @@ returns-in_err-write-clause-moments g c tells =
     let d = g.D.Disk in
     goes_on d.moment d.left_since c.args.disk.now c.loop-at.disk c.write.new.self _ (d.may_leave c.write.new.self) (c.loop-at.invariant.moments tells) (c.write.ensures.time tells) (returns-in_err-write-clause-crash g c tells)
 
-pub returns-in_err-write-clause-cause : goal.returns-in_err-write-clause-cause
-returns-in_err-write-clause-cause g c =
-    let d = g.D.Disk in
-    let i = c.loop-at.invariant in
-    let err : c.from_residual.result ≡ Err c.in_err-write.field-0.0 = search rules in
-    cause_on (d.faults c.args.disk.now) (d.faults c.loop-at.disk) (d.faults c.write.new.self) (d.stops c.args.disk.now) (d.stops c.loop-at.disk) (d.stops c.write.new.self) c.from_residual.result c.write.result i.faults i.stops c.write.ensures.cause (λ e is. c.in_err-write.was ∙ sym err ∙ is)
-
 pub loop-at-preserved : goal.loop-at-preserved
 loop-at-preserved g c =
     let d = g.D.Disk in
@@ -32,7 +25,7 @@ loop-at-preserved g c =
     let size : length c.zeros.result.now ≡ c.if-left.piece = ap length c.zeros.ensures ∙ length-replicate c.if-left.piece 0 in
     let crash = λ (tells : IsTrue d.tells). crash_on c.args.from c.args.end c.loop-at.at (length c.zeros.result.now) (d.may_leave c.args.disk.now) (d.may_leave c.loop-at.disk) (d.may_leave c.write.new.self) i.low (omega arith) (i.crash tells) (c.write.ensures.crash tells) in
     let whole = λ (tells : IsTrue d.tells). g.met.D.Disk.same_size tells c.loop-at.disk (d.bytes c.loop-at.disk) (g.met.D.Disk.reads_an_image tells c.loop-at.disk) in
-    let fits : (tells : IsTrue d.tells) → c.loop-at.at + c.if-left.piece ≤ length (d.bytes c.loop-at.disk) = λ tells. omega (arith, whole tells, i.extent, c.requires.inside) in
+    let fits : (tells : IsTrue d.tells) → c.loop-at.at + c.if-left.piece ≤ length (d.bytes c.loop-at.disk) = λ tells. omega (arith, whole tells, i.disk.extent, c.requires.inside) in
     let written : (tells : IsTrue d.tells) → d.bytes c.write.new.self ≡ overwrite (d.bytes c.loop-at.disk) c.loop-at.at c.zeros.result.now = λ tells. c.in_ok-write.ensures.written tells in
     let each : (k : ℕ) → get_or c.zeros.result.now k 0 ≡ 0 = λ k. ap (λ (l : List ℕ). get_or l k 0) c.zeros.ensures ∙ zero_at c.if-left.piece k in
     record {
@@ -43,9 +36,5 @@ loop-at-preserved g c =
       crash = crash;
       moments = λ tells. goes_on d.moment d.left_since c.args.disk.now c.loop-at.disk c.write.new.self _ (d.may_leave c.write.new.self) (i.moments tells) (c.write.ensures.time tells) (crash tells);
       passed = λ tells. passed_on c.loop-at.at c.if-left.piece c.args.end (d.passed c.loop-at.disk) (d.passed c.write.new.self) (omega arith) (omega arith) (c.in_ok-write.ensures.passed tells) ∙ i.passed tells;
-      restarts = λ tells. c.write.ensures.restarts tells ∙ i.restarts tells;
-      extent = c.write.ensures.extent ∙ i.extent;
-      origin = c.write.ensures.origin ∙ i.origin;
-      faults = omega (arith, c.write.ensures.cause.faults_kept, i.faults);
-      stops = omega (arith, c.write.ensures.cause.stops_kept, i.stops);
+      disk = keeps_ok d c.args.disk.now c.write.new.self c.write.result (keeps_on d c.args.disk.now c.loop-at.disk c.write.new.self (Ok tt) c.write.result i.disk (record { extent = c.write.ensures.extent; origin = c.write.ensures.origin; cause = c.write.ensures.cause; restarts = c.write.ensures.restarts }));
     }

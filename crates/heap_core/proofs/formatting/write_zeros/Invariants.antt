@@ -1,7 +1,8 @@
-use Rattle.std.proofs.Common.{◌≡◌, ℕ, ◌-◌, ◌≤◌, List}
+use Rattle.std.proofs.Common.{◌≡◌, ℕ, ◌-◌, ◌≤◌, List, Ok}
 use Rattle.std.specs.Prelude.{IsTrue}
 use Rattle.counts.specs.Count.{counted}
 use Rattle.disk_model.specs.Disk.{Follows, SameOutside}
+use Rattle.disk_model.specs.Keeps.{KeepsDisk}
 use Rattle.disk_model.specs.Moments.{LeavesOnly}
 use Rattle.heap_core.specs.Format.{AreZero, zero_writes}
 use Rattle.heap_core.proofs.formatting.write_zeros.Given as goal
@@ -19,11 +20,7 @@ invariant-loop-at g l =
       moments : IsTrue d.tells → LeavesOnly d.moment d.left_since l.fn.disk l.disk (λ c. (o : List ℕ) × d.may_leave l.fn.disk o × SameOutside l.from l.end o c);
       -- what is left is still to be counted
       passed : IsTrue d.tells → counted (zero_writes (l.end - l.at)) (d.passed l.disk) ≡ counted (zero_writes (l.end - l.from)) (d.passed l.fn.disk);
-      restarts : IsTrue d.tells → d.restarts l.disk ≡ d.restarts l.fn.disk;
-      extent : d.extent l.disk ≡ d.extent l.fn.disk;
-      origin : d.origin l.disk ≡ d.origin l.fn.disk;
-      faults : d.faults l.fn.disk ≤ d.faults l.disk;
-      stops : d.stops l.fn.disk ≤ d.stops l.disk;
+      disk : KeepsDisk d l.fn.disk l.disk (Ok tt);
     }
 
 abbrev pub decreases-loop-at : goal.decreases-loop-at

@@ -35,7 +35,7 @@ returns-in_err-log-clause-legal g c tells s batches legal =
     let same : c.in_ok-found.found ≡ s = c.in_ok-found.ensures.found tells s legal.limits legal.super fits in
     let e = c.in_err-log.field-0.0 in
     let err : c.from_residual-in_err-log.result ≡ Err (open_error e) = search rules in
-    let held = area old s batches legal (d.bytes c.read_plan.new.disk) c.log_at.result c.in_ok-found.found (c.read_plan.ensures.bytes tells) c.log_at.ensures same in
+    let held = area old s batches legal (d.bytes c.read_plan.new.disk) c.log_at.result c.in_ok-found.found (c.read_plan.ensures.disk.contents tells).bytes c.log_at.ensures same in
     rw err (outside_of e (λ offset bad. c.open.ensures.whole tells batches held legal.good offset (c.in_err-log.was ∙ ap (λ x. Err x) bad)))
 
 pub returns-in_err-state-clause-legal : goal.returns-in_err-state-clause-legal
@@ -45,7 +45,7 @@ returns-in_err-state-clause-legal g c tells s batches legal =
     let whole = g.met.D.Disk.same_size tells c.args.disk.now old (g.met.D.Disk.reads_an_image tells c.args.disk.now) in
     let fits : image_size s.pages s.log_bytes ≤ d.extent c.args.disk.now = omega (arith, whole, legal.size) in
     let same : c.in_ok-found.found ≡ s = c.in_ok-found.ensures.found tells s legal.limits legal.super fits in
-    let held = area old s batches legal (d.bytes c.read_plan.new.disk) c.log_at.result c.in_ok-found.found (c.read_plan.ensures.bytes tells) c.log_at.ensures same in
+    let held = area old s batches legal (d.bytes c.read_plan.new.disk) c.log_at.result c.in_ok-found.found (c.read_plan.ensures.disk.contents tells).bytes c.log_at.ensures same in
     let read = c.in_ok-log.ensures.held tells batches held legal.good in
     let records : c.deref.result.now ≡ records_of batches = c.deref.ensures.value ∙ read.1 in
     let reached : after_all start c.deref.result.now ≡ Some legal.state = ap (λ (rs : List Record). after_all start rs) records ∙ legal.reached in
@@ -59,7 +59,7 @@ returns-then-used-rollback_bytes-clause-legal g c tells s batches legal =
     let whole = g.met.D.Disk.same_size tells c.args.disk.now old (g.met.D.Disk.reads_an_image tells c.args.disk.now) in
     let fits : image_size s.pages s.log_bytes ≤ d.extent c.args.disk.now = omega (arith, whole, legal.size) in
     let same : c.in_ok-found.found ≡ s = c.in_ok-found.ensures.found tells s legal.limits legal.super fits in
-    let held = area old s batches legal (d.bytes c.read_plan.new.disk) c.log_at.result c.in_ok-found.found (c.read_plan.ensures.bytes tells) c.log_at.ensures same in
+    let held = area old s batches legal (d.bytes c.read_plan.new.disk) c.log_at.result c.in_ok-found.found (c.read_plan.ensures.disk.contents tells).bytes c.log_at.ensures same in
     let read = c.in_ok-log.ensures.held tells batches held legal.good in
     let records : c.deref.result.now ≡ records_of batches = c.deref.ensures.value ∙ read.1 in
     let reached = ap (λ (rs : List Record). after_all start rs) (sym records) ∙ c.in_ok-state.ensures.state in
@@ -75,7 +75,7 @@ returns-clause-found g c tells s batches legal =
     let whole = g.met.D.Disk.same_size tells c.args.disk.now old (g.met.D.Disk.reads_an_image tells c.args.disk.now) in
     let fits : image_size s.pages s.log_bytes ≤ d.extent c.args.disk.now = omega (arith, whole, legal.size) in
     let same : c.in_ok-found.found ≡ s = c.in_ok-found.ensures.found tells s legal.limits legal.super fits in
-    let held = area old s batches legal (d.bytes c.read_plan.new.disk) c.log_at.result c.in_ok-found.found (c.read_plan.ensures.bytes tells) c.log_at.ensures same in
+    let held = area old s batches legal (d.bytes c.read_plan.new.disk) c.log_at.result c.in_ok-found.found (c.read_plan.ensures.disk.contents tells).bytes c.log_at.ensures same in
     let read = c.in_ok-log.ensures.held tells batches held legal.good in
     let records : c.deref.result.now ≡ records_of batches = c.deref.ensures.value ∙ read.1 in
     record {

@@ -18,7 +18,7 @@ returns-in_err-read-clause-legal g c tells s batches legal =
 pub returns-in_err-read-clause-passes : goal.returns-in_err-read-clause-passes
 returns-in_err-read-clause-passes g c tells s batches legal =
     let err : c.from_residual.result ≡ Err c.in_err-read.field-0.0 = search rules in
-    rw err (error_passes (opening_calls batches) _ _ c.in_err-read.field-0.0 (c.read_image.ensures.passed tells) (c.in_err-read.ensures.legal tells s batches legal))
+    rw err (error_passes (opening_calls batches) _ _ c.in_err-read.field-0.0 (c.read_image.ensures.disk.contents tells).passed (c.in_err-read.ensures.legal tells s batches legal))
 
 pub returns-in_err-roll_back-clause-moments : goal.returns-in_err-roll_back-clause-moments
 returns-in_err-roll_back-clause-moments g c tells only gr k stands =
@@ -26,9 +26,9 @@ returns-in_err-roll_back-clause-moments g c tells only gr k stands =
     let s = stands.super in
     let batches = stands.batches in
     let is = c.in_ok-read.ensures.found tells s batches stands.legal in
-    let same = c.read_image.ensures.bytes tells in
-    let still = only_still _ _ (d.may_leave c.args.disk.now) (d.may_leave c.read_image.new.disk) only same (c.read_image.ensures.crash tells) in
-    opening_moments d.moment d.left_since c.args.disk.now c.read_image.new.disk c.roll_back.new.disk (d.may_leave c.args.disk.now) _ _ gr k stands c.in_ok-read.read is only same (c.read_image.ensures.moments tells)
+    let same = (c.read_image.ensures.disk.contents tells).bytes in
+    let still = only_still _ _ (d.may_leave c.args.disk.now) (d.may_leave c.read_image.new.disk) only same (c.read_image.ensures.disk.contents tells).crash in
+    opening_moments d.moment d.left_since c.args.disk.now c.read_image.new.disk c.roll_back.new.disk (d.may_leave c.args.disk.now) _ _ gr k stands c.in_ok-read.read is only same (c.read_image.ensures.disk.contents tells).moments
     (c.roll_back.ensures.moments tells still batches is.log (held s batches _ stands.legal c.in_ok-read.read is _ same))
 
 pub returns-in_err-roll_back-clause-passes : goal.returns-in_err-roll_back-clause-passes
@@ -41,19 +41,19 @@ returns-in_err-roll_back-clause-passes g c tells s batches legal =
     let now = d.passed c.roll_back.new.disk in
     let P : ℕ → Type 0 = λ n. ErrorPasses n (d.passed c.args.disk.now) now e in
     let Q : ℕ → Type 0 = λ n. ErrorPasses (force_calls (rollback_after c.in_ok-read.read.state)) n now e in
-    rw err (subst P calls (subst Q (c.read_image.ensures.passed tells) (c.in_err-roll_back.ensures.passes tells batches is.log)))
+    rw err (subst P calls (subst Q (c.read_image.ensures.disk.contents tells).passed (c.in_err-roll_back.ensures.passes tells batches is.log)))
 
 pub returns-in_err-roll_back-clause-no_first_stop : goal.returns-in_err-roll_back-clause-no_first_stop
 returns-in_err-roll_back-clause-no_first_stop g c tells s batches legal none before =
     let is = c.in_ok-read.ensures.found tells s batches legal in
     let same = c.roll_back.ensures.untouched (sym (same_rollback s batches _ legal c.in_ok-read.read is) ∙ none) in
-    ap g.D.Disk.stops same ∙ c.read_image.ensures.no_first_stop before
+    ap g.D.Disk.stops same ∙ c.read_image.ensures.disk.no_first_stop before
 
 pub returns-clause-found : goal.returns-clause-found
 returns-clause-found g c tells s batches legal =
     let is = c.in_ok-read.ensures.found tells s batches legal in
     let roll = c.in_ok-roll_back.ensures in
-    let keeps = (roll.held tells batches is.log (held s batches _ legal c.in_ok-read.read is _ (c.read_image.ensures.bytes tells))).0 in
+    let keeps = (roll.held tells batches is.log (held s batches _ legal c.in_ok-read.read is _ (c.read_image.ensures.disk.contents tells).bytes)).0 in
     recovered s batches _ legal c.in_ok-read.read is c.finish.result c.roll_back.new.self roll.state roll.first roll.place roll.same_room roll.words keeps
     c.finish.ensures.log c.finish.ensures.words c.finish.ensures.commits c.finish.ensures.next
 
@@ -68,7 +68,7 @@ returns-clause-legal g c tells s batches legal =
 pub returns-clause-image : goal.returns-clause-image
 returns-clause-image g c tells s batches legal =
     let is = c.in_ok-read.ensures.found tells s batches legal in
-    let same = c.read_image.ensures.bytes tells in
+    let same = (c.read_image.ensures.disk.contents tells).bytes in
     let roll = c.in_ok-roll_back.ensures in
     let holds = (roll.held tells batches is.log (held s batches _ legal c.in_ok-read.read is _ same)).1 in
     if_ok c.finish.result _ (rolled_image s batches _ legal c.in_ok-read.read is _ _ same (roll.outside tells) holds)
@@ -79,9 +79,9 @@ returns-clause-moments g c tells only gr k stands =
     let s = stands.super in
     let batches = stands.batches in
     let is = c.in_ok-read.ensures.found tells s batches stands.legal in
-    let same = c.read_image.ensures.bytes tells in
-    let still = only_still _ _ (d.may_leave c.args.disk.now) (d.may_leave c.read_image.new.disk) only same (c.read_image.ensures.crash tells) in
-    opening_moments d.moment d.left_since c.args.disk.now c.read_image.new.disk c.roll_back.new.disk (d.may_leave c.args.disk.now) _ _ gr k stands c.in_ok-read.read is only same (c.read_image.ensures.moments tells)
+    let same = (c.read_image.ensures.disk.contents tells).bytes in
+    let still = only_still _ _ (d.may_leave c.args.disk.now) (d.may_leave c.read_image.new.disk) only same (c.read_image.ensures.disk.contents tells).crash in
+    opening_moments d.moment d.left_since c.args.disk.now c.read_image.new.disk c.roll_back.new.disk (d.may_leave c.args.disk.now) _ _ gr k stands c.in_ok-read.read is only same (c.read_image.ensures.disk.contents tells).moments
     (c.roll_back.ensures.moments tells still batches is.log (held s batches _ stands.legal c.in_ok-read.read is _ same))
 
 pub returns-clause-passes : goal.returns-clause-passes
@@ -93,10 +93,10 @@ returns-clause-passes g c tells s batches legal =
     let calls = ap force_calls (sym (same_rollback s batches _ legal c.in_ok-read.read is)) in
     let now = d.passed c.roll_back.new.disk in
     ok_passes c.finish.result (opening_calls batches) (d.passed c.args.disk.now) now (c.finish.ensures.only plain)
-    (subst (λ (n : ℕ). Passes n (d.passed c.args.disk.now) now (Ok tt)) calls (subst (λ (n : ℕ). Passes (force_calls (rollback_after c.in_ok-read.read.state)) n now (Ok tt)) (c.read_image.ensures.passed tells) (c.in_ok-roll_back.ensures.passes tells batches is.log)))
+    (subst (λ (n : ℕ). Passes n (d.passed c.args.disk.now) now (Ok tt)) calls (subst (λ (n : ℕ). Passes (force_calls (rollback_after c.in_ok-read.read.state)) n now (Ok tt)) (c.read_image.ensures.disk.contents tells).passed (c.in_ok-roll_back.ensures.passes tells batches is.log)))
 
 pub returns-clause-no_first_stop : goal.returns-clause-no_first_stop
 returns-clause-no_first_stop g c tells s batches legal none before =
     let is = c.in_ok-read.ensures.found tells s batches legal in
     let same = c.roll_back.ensures.untouched (sym (same_rollback s batches _ legal c.in_ok-read.read is) ∙ none) in
-    ap g.D.Disk.stops same ∙ c.read_image.ensures.no_first_stop before
+    ap g.D.Disk.stops same ∙ c.read_image.ensures.disk.no_first_stop before

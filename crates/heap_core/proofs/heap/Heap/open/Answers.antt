@@ -1,18 +1,18 @@
-use Rattle.std.proofs.Common.{[], refl, arith}
-use Rattle.heap_core.proofs.MeansOpen.{opened_means, fresh_means}
+use Rattle.std.proofs.Common.{refl, arith}
+use Rattle.heap_model.specs.Opening.{rolled_back}
+use Rattle.heap_recovery.specs.Recovered.{next_after}
+use Rattle.heap_core.proofs.MeansOpen.{next_is, opened_memory, opened_disk_holds}
 use Rattle.heap_core.proofs.heap.Heap.open.Goals as goal
 
 pub returns-in-Ok-clause-means : goal.returns-in-Ok-clause-means
-returns-in-Ok-clause-means g c tells s batches legal only = record {
-  history = c.new.ensures;
-  means = opened_means s batches _ _ c.in-Ok.found _ (c.in-Ok.ensures.image tells s batches legal) (c.in-Ok.ensures.durable tells only) (c.in-Ok.ensures.found tells s batches legal) refl refl refl refl refl;
-}
-
-pub returns-in-Ok-clause-fresh : goal.returns-in-Ok-clause-fresh
-returns-in-Ok-clause-fresh g c tells s legal only = record {
-  history = c.new.ensures;
-  means = fresh_means s _ _ c.in-Ok.found _ (c.in-Ok.ensures.image tells s [] legal) (c.in-Ok.ensures.durable tells only) (c.in-Ok.ensures.found tells s [] legal) refl refl refl refl refl;
-}
+returns-in-Ok-clause-means g c tells s batches legal only =
+    let new = g.D.Disk.bytes c.recover.new.disk in
+    let image = c.in-Ok.ensures.image tells s batches legal in
+    let found = c.in-Ok.ensures.found tells s batches legal in
+    record {
+      core = record { history = c.new.ensures; memory = opened_memory s batches new c.in-Ok.found _ image found refl refl refl (next_is s batches c.in-Ok.found found) refl };
+      disk = opened_disk_holds s (rolled_back batches) (next_after s batches) new _ image (c.in-Ok.ensures.durable tells only);
+    }
 
 pub returns-in-Ok-clause-count : goal.returns-in-Ok-clause-count
 returns-in-Ok-clause-count g c tells s batches legal =

@@ -3,26 +3,37 @@ use Rattle.graph_model.specs.declared.reply.Reply.{Reply}
 use Rattle.heap_core.specs.Means.{Steps}
 use Rattle.heap_model.specs.CoreCrash.{KeepsCommits}
 use Rattle.heap_core.proofs.MeansLeft.{heap_keeps, stays, failed_passes}
-use Rattle.heap_core.proofs.MeansForce.{failed_steps}
+use Rattle.heap_core.proofs.MeansForce.{failed_steps, failed_on}
 use Rattle.heap_core.proofs.heap.Heap.reply_to.Goals as goal
 
 pub returns-in-Some-clause-core : goal.returns-in-Some-clause-core
-returns-in-Some-clause-core g c tells s core heap reached one =
-    let P : Reply → Type 0 = λ r. Steps s core c.args.event r c.args.self.now.working c.args.self.now.failed (g.D.Disk.bytes c.args.self.now.disk) (g.D.Disk.may_leave c.args.self.now.disk) in
-    subst P (sym c.refused.ensures) (failed_steps s core c.args.event c.in-Some.entry _ _ _ _ heap.means c.in-Some.is)
+returns-in-Some-clause-core g c core heap reached one =
+    let P : Reply → Type 0 = λ r. Steps core c.args.event r c.args.self.now.working c.args.self.now.failed in
+    subst P (sym c.refused.ensures) (failed_steps core c.args.event c.in-Some.entry _ _ heap.memory c.in-Some.is)
+
+pub returns-in-Some-clause-holds : goal.returns-in-Some-clause-holds
+returns-in-Some-clause-holds g c tells s core heap reached one =
+    let steps = returns-in-Some-clause-core g c core heap.core reached one in
+    record { steps = steps; disk = failed_on s core c.args.event _ c.in-Some.entry _ _ _ _ (sym heap.core.memory.failure ∙ c.in-Some.is) heap.disk steps }
 
 pub returns-in-Some-clause-moments : goal.returns-in-Some-clause-moments
 returns-in-Some-clause-moments g c tells s core heap reached =
     let d = g.D.Disk in
     let disk = c.args.self.now.disk in
-    stays d.moment d.left_since disk (d.may_leave disk) (KeepsCommits core) (g.met.D.Disk.only_now tells disk) (heap_keeps s core _ _ _ _ heap.means reached)
+    stays d.moment d.left_since disk (d.may_leave disk) (KeepsCommits core) (g.met.D.Disk.only_now tells disk) (heap_keeps s core _ _ heap.disk reached)
 
 pub returns-in-Some-clause-passes : goal.returns-in-Some-clause-passes
-returns-in-Some-clause-passes g c tells s core heap =
-    failed_passes core c.args.event c.in-Some.entry (g.D.Disk.passed c.args.self.now.disk) c.refused.result (sym heap.means.failure ∙ c.in-Some.is)
+returns-in-Some-clause-passes g c tells core heap =
+    failed_passes core c.args.event c.in-Some.entry (g.D.Disk.passed c.args.self.now.disk) c.refused.result (sym heap.memory.failure ∙ c.in-Some.is)
+
+pub returns-in-None-clause-core : goal.returns-in-None-clause-core
+returns-in-None-clause-core g c core heap reached one = c.answer.ensures.core core heap c.in-None.is reached one
+
+pub returns-in-None-clause-holds : goal.returns-in-None-clause-holds
+returns-in-None-clause-holds g c tells s core heap reached one = c.answer.ensures.holds tells s core heap c.in-None.is reached one
 
 pub returns-in-None-clause-moments : goal.returns-in-None-clause-moments
 returns-in-None-clause-moments g c tells s core heap reached = c.answer.ensures.moments tells s core heap c.in-None.is reached
 
 pub returns-in-None-clause-passes : goal.returns-in-None-clause-passes
-returns-in-None-clause-passes g c tells s core heap = c.answer.ensures.passes tells s core heap c.in-None.is
+returns-in-None-clause-passes g c tells core heap = c.answer.ensures.passes tells core heap c.in-None.is
