@@ -1,19 +1,19 @@
 -- An empty heap, as it is written over an image.
-use Rattle.std.proofs.Common.{◌≡◌, ◌⊎◌, inl, inr, ⊎_elim, ℕ, ◌+◌, ◌-◌, ◌*◌, ◌<◌, ◌≤◌, List, [], ◌∷◌, ◌++◌, length, get_or, take, drop, slice_index, ◌==◌, if◌then◌else◌, Result, OnOk, refl, sym, ◌∙◌, ap, subst, arith, append_assoc, length-append, length-drop}
+use Rattle.std.proofs.Common.{lit<, ◌≡◌, ◌⊎◌, inl, inr, ⊎_elim, ℕ, ◌+◌, ◌-◌, ◌*◌, ◌<◌, ◌≤◌, List, [], ◌∷◌, ◌++◌, length, get_or, take, drop, slice_index, ◌==◌, if◌then◌else◌, Result, Err, refl, sym, ◌∙◌, ap, subst, arith, append_assoc, length-append, length-drop}
 use Rattle.std.proofs.lemmas.Bool.{cases_eq}
 use Rattle.std.proofs.lemmas.Grind.{same_number_lists}
 use Rattle.std.proofs.lemmas.List.{take_at, drop_at, drop_more, get_or-drop, length-take-le}
-use Rattle.std.proofs.lemmas.Result.{on_ok_weaker}
 use Rattle.counts.specs.Count.{counted}
 use Rattle.disk_model.specs.declared.disk.DiskError.{DiskError}
 use Rattle.disk_model.specs.Disk.{part, Only, SameOutside}
 use Rattle.disk_model.specs.Moments.{LeavesOnly, weaker, joined}
 use Rattle.gate_slot.specs.Gate.{filled, IsClosed, SameButGate, IsFilling}
-use Rattle.gate_slot.specs.Passing.{counted-add}
+use Rattle.gate_slot.specs.Passing.{Passes, counted-add, joined as then_all, cut_short}
 use Rattle.gated_log.specs.Log.{HoldsBatches}
 use Rattle.image_plan.specs.declared.superblock.Super.{Super}
 use Rattle.image_plan.specs.Plan.{image_size, frame_offset}
 use Rattle.image_plan.specs.Super.{IsSuper, superblock}
+use Rattle.heap_core.proofs.Calls.{then_err}
 use Rattle.heap_core.specs.Format.{AreZero, IsFormatting, zero_writes, format_calls}
 use Rattle.heap_model.specs.Image.{IsLegal}
 use Rattle.log_machine.specs.Machine.{start}
@@ -116,9 +116,19 @@ module _ {D : Type 0} (moment : D → ℕ) (left_since : D → ℕ → List ℕ 
 
 -- the calls of a format: those that close the gate, the zeros, and the four behind them
 pub made_calls : (before closed zeroed now size : ℕ) (image : List ℕ) (result : Result (Unit {0}) DiskError) → closed ≡ counted (if slice_index image 0 == 1 then 2 else 0) before
-    → zeroed ≡ counted (zero_writes (size - 64)) closed → OnOk result (now ≡ counted 4 zeroed) → OnOk result (now ≡ counted (format_calls size image) before)
+    → zeroed ≡ counted (zero_writes (size - 64)) closed → Passes 4 zeroed now result → Passes (format_calls size image) before now result
 made_calls before closed zeroed now size image result first second last =
     let gate : ℕ = if slice_index image 0 == 1 then 2 else 0 in
     let both : zeroed ≡ counted (gate + zero_writes (size - 64)) before = second ∙ ap (counted (zero_writes (size - 64))) first ∙ counted-add (zero_writes (size - 64)) gate before in
-    let all = λ (is : now ≡ counted 4 zeroed). is ∙ ap (counted 4) both ∙ counted-add 4 (gate + zero_writes (size - 64)) before in
-    on_ok_weaker result all last
+    then_all (gate + zero_writes (size - 64)) 4 before zeroed now result (lit< tt) both last
+
+-- those of one that ended while it closed the gate
+pub gate_calls : (before now size : ℕ) (image : List ℕ) (e : DiskError) → Passes (if slice_index image 0 == 1 then 2 else 0) before now (Err e) → Passes (format_calls size image) before now (Err e)
+gate_calls before now size image e run = cut_short (if slice_index image 0 == 1 then 2 else 0) (format_calls size image) before now e (omega arith) run
+
+-- and of one that ended in the zeros
+pub zero_calls : (before closed now size : ℕ) (image : List ℕ) (e : DiskError) → closed ≡ counted (if slice_index image 0 == 1 then 2 else 0) before → Passes (zero_writes (size - 64)) closed now (Err e)
+    → Passes (format_calls size image) before now (Err e)
+zero_calls before closed now size image e first run =
+    let gate : ℕ = if slice_index image 0 == 1 then 2 else 0 in
+    then_err gate (zero_writes (size - 64)) (format_calls size image) before closed now e (omega arith) first run

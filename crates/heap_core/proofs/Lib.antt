@@ -1,3 +1,4 @@
+mod Calls
 mod Empty
 mod FieldRead
 mod MeansActive

@@ -2,10 +2,8 @@
 use Rattle.std.proofs.Common.{◌≡◌, inl, inr, ℕ, ◌+◌, ◌-◌, ◌<◌, ◌≤◌, min, List, length, get_or, replicate, ap, ◌∙◌, arith}
 use Rattle.std.proofs.lemmas.Bool.{cases_lt}
 use Rattle.std.proofs.lemmas.List.{length-replicate, get_or-replicate, get_or_past}
-use Rattle.counts.specs.Count.{raised, counted}
 use Rattle.disk_model.specs.Disk.{overwrite, Torn, Follows, SameOutside}
 use Rattle.gate_slot.specs.Images.{torn_outside, torn_overwrite, overwrite_inside}
-use Rattle.gate_slot.specs.Passing.{counted-add}
 use Rattle.heap_core.specs.Format.{AreZero, zero_writes}
 
 -- what was not touched at all
@@ -58,11 +56,11 @@ zero_at n k = elim (cases_lt k n) [
 piece_more : (left n : ℕ) → 0 < left → n ≡ min left 65536 → 1 + zero_writes (left - n) ≡ zero_writes left
 piece_more left n some is = omega arith
 
--- what is left to be counted behind a piece more
-pub passed_on : (at n end mid now : ℕ) → at < end → n ≡ min (end - at) 65536 → now ≡ raised mid → counted (zero_writes (end - (at + n))) now ≡ counted (zero_writes (end - at)) mid
-passed_on at n end mid now some is more =
+pub write_more : (at n end : ℕ) → at < end → n ≡ min (end - at) 65536 → 1 + zero_writes (end - (at + n)) ≡ zero_writes (end - at)
+write_more at n end some is =
     let rest : end - (at + n) ≡ (end - at) - n = omega arith in
-    ap (λ (k : ℕ). counted (zero_writes k) now) rest
-    ∙ ap (counted (zero_writes ((end - at) - n))) more
-    ∙ counted-add (zero_writes ((end - at) - n)) 1 mid
-    ∙ ap (λ (k : ℕ). counted k mid) (piece_more (end - at) n (omega arith) is)
+    ap (λ (k : ℕ). 1 + zero_writes k) rest ∙ piece_more (end - at) n (omega arith) is
+
+-- where zeros are left to be written, so is a write
+pub some_writes : (at end : ℕ) → at < end → 0 < zero_writes (end - at)
+some_writes at end some = omega arith

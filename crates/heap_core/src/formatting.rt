@@ -1,9 +1,9 @@
 //! An empty heap is made on a disk.
 ghost use Rattle.std.specs.Prelude.{◌≡◌, ℕ, ◌+◌, ◌-◌, ◌<◌, ◌≤◌, List, [], replicate, IsTrue, IfOk, IsErrAnd, OnOk};
-ghost use Rattle.counts.specs.Count.{counted};
 ghost use Rattle.disk_model.specs.Disk.{Only, Follows, SameOutside};
 ghost use Rattle.disk_model.specs.Keeps.{KeepsDisk};
 ghost use Rattle.disk_model.specs.Moments.{LeavesOnly};
+ghost use Rattle.gate_slot.specs.Passing.{Passes};
 ghost use Rattle.image_plan.specs.Plan.{image_size};
 ghost use Rattle.image_plan.specs.Super.{IsSuper};
 ghost use Rattle.heap_core.specs.declared.formatting.FormatError.TheVariants.{TooSmall};
@@ -39,7 +39,7 @@ pub fn format<D: Disk>(mut disk: D, of: &Super) -> Result<D, (FormatError, D)>
 
     ensures made { IsTrue D.tells → IfOk result (λ made. IsLegal of.now [] (D.bytes made) × Only (D.bytes made) (D.may_leave made)) }
     ensures moments { IsTrue D.tells → Only (D.bytes disk) (D.may_leave disk) → LeavesOnly D.moment D.left_since disk (given_back result) (IsFormatting of.now (D.bytes disk)) }
-    ensures passed { IsTrue D.tells → IfOk result (λ made. D.passed made ≡ counted (format_calls (image_size of.now.pages of.now.log_bytes) (D.bytes disk)) (D.passed disk)) }
+    ensures passes { IsTrue D.tells → image_size of.now.pages of.now.log_bytes ≤ D.extent disk → Passes (format_calls (image_size of.now.pages of.now.log_bytes) (D.bytes disk)) (D.passed disk) (D.passed (given_back result)) (device_result result) }
     ensures disk { KeepsDisk D.Disk disk (given_back result) (device_result result) }
 {
     let size = disk.size();
@@ -60,7 +60,7 @@ fn write_empty<D: Disk>(disk: &mut D, of: &Super) -> Result<(), DiskError>
     ensures made { IsTrue D.tells → OnOk result (IsLegal of.now [] (D.bytes disk.new)) }
     ensures durable { IsTrue D.tells → OnOk result (Only (D.bytes disk.new) (D.may_leave disk.new)) }
     ensures moments { IsTrue D.tells → Only (D.bytes disk.old) (D.may_leave disk.old) → LeavesOnly D.moment D.left_since disk.old disk.new (IsFormatting of.now (D.bytes disk.old)) }
-    ensures passed { IsTrue D.tells → OnOk result (D.passed disk.new ≡ counted (format_calls (image_size of.now.pages of.now.log_bytes) (D.bytes disk.old)) (D.passed disk.old)) }
+    ensures passes { IsTrue D.tells → Passes (format_calls (image_size of.now.pages of.now.log_bytes) (D.bytes disk.old)) (D.passed disk.old) (D.passed disk.new) result }
     ensures disk { KeepsDisk D.Disk disk.old disk.new result }
 {
     close_gate(disk, 0)?;
@@ -78,7 +78,7 @@ fn write_zeros<D: Disk>(disk: &mut D, from: u64, end: u64) -> Result<(), DiskErr
     ensures outside { IsTrue D.tells → OnOk result (SameOutside from end (D.bytes disk.old) (D.bytes disk.new)) }
     ensures crash { IsTrue D.tells → Follows (SameOutside from end) (D.may_leave disk.old) (D.may_leave disk.new) }
     ensures moments { IsTrue D.tells → LeavesOnly D.moment D.left_since disk.old disk.new (λ c. (d : List ℕ) × D.may_leave disk.old d × SameOutside from end d c) }
-    ensures passed { IsTrue D.tells → OnOk result (D.passed disk.new ≡ counted (zero_writes (end - from)) (D.passed disk.old)) }
+    ensures passes { IsTrue D.tells → Passes (zero_writes (end - from)) (D.passed disk.old) (D.passed disk.new) result }
     ensures disk { KeepsDisk D.Disk disk.old disk.new result }
 {
     let mut at = from;

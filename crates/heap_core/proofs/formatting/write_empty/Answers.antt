@@ -1,14 +1,15 @@
-use Rattle.std.proofs.Common.{◌≡◌, ℕ, ◌-◌, ◌≤◌, List, [], take, drop, length, get_or, ap, sym, ◌∙◌, arith, subst}
+use Rattle.std.proofs.Common.{◌≡◌, ℕ, ◌-◌, ◌≤◌, List, [], take, drop, length, get_or, ap, sym, ◌∙◌, arith, subst, Err, rules}
 use Rattle.std.proofs.lemmas.Result.{on_ok_weaker}
 use Rattle.counts.specs.Count.{counted}
 use Rattle.disk_model.specs.Moments.{weaker}
 use Rattle.gate_slot.specs.Gate.{filled, IsClosedInEach, IsFilling}
+use Rattle.gate_slot.specs.Passing.{Passes}
 use Rattle.image_plan.specs.declared.plan.Plan.{Plan}
 use Rattle.image_plan.specs.Super.{superblock}
 use Rattle.image_plan.specs.Plan.{image_size}
 use Rattle.heap_core.specs.Format.{AreZero, IsFormatting, zero_writes}
 use Rattle.heap_model.specs.Image.{IsLegal}
-use Rattle.heap_core.proofs.Empty.{empty, zeroing, filling, closing_run, run_then, made_calls}
+use Rattle.heap_core.proofs.Empty.{empty, zeroing, filling, closing_run, run_then, made_calls, gate_calls, zero_calls}
 use Rattle.heap_core.proofs.formatting.write_empty.Goals as goal
 
 pub returns-clause-made : goal.returns-clause-made
@@ -45,14 +46,30 @@ returns-clause-moments g c tells only =
     (λ f left. filling s old seen left.0 f large c.requires.good zero_all (subst (λ (t : List ℕ). IsFilling 0 1 t seen left.0 f) sb left.2)) in
     run_then d.moment d.left_since c.args.disk.now c.write_zeros.new.disk c.fill_and_open.new.disk P (run_then d.moment d.left_since c.args.disk.now c.close_gate.new.disk c.write_zeros.new.disk P first second) third
 
-pub returns-clause-passed : goal.returns-clause-passed
-returns-clause-passed g c tells =
+pub returns-clause-passes : goal.returns-clause-passes
+returns-clause-passes g c tells =
     let d = g.D.Disk in
     let s = c.args.of.now in
     let end : c.size.result ≡ image_size s.pages s.log_bytes = c.size.ensures ∙ ap (λ (p : Plan). image_size p.pages p.log_bytes) c.plan.ensures in
     made_calls _ _ _ (d.passed c.fill_and_open.new.disk) (image_size s.pages s.log_bytes) (d.bytes c.args.disk.now) c.fill_and_open.result (c.in_ok-close_gate.ensures.passes tells).ok
-    (c.in_ok-write_zeros.ensures.passed tells ∙ ap (λ (n : ℕ). counted (zero_writes (n - 64)) (d.passed c.close_gate.new.disk)) end)
-    (c.fill_and_open.ensures.passes tells).ok
+    ((c.in_ok-write_zeros.ensures.passes tells).ok ∙ ap (λ (n : ℕ). counted (zero_writes (n - 64)) (d.passed c.close_gate.new.disk)) end)
+    (c.fill_and_open.ensures.passes tells)
+
+pub returns-in_err-close_gate-clause-passes : goal.returns-in_err-close_gate-clause-passes
+returns-in_err-close_gate-clause-passes g c tells =
+    let d = g.D.Disk in
+    let s = c.args.of.now in
+    let err : c.from_residual.result ≡ Err c.in_err-close_gate.field-0.0 = search rules in
+    rw err (gate_calls (d.passed c.args.disk.now) (d.passed c.close_gate.new.disk) (image_size s.pages s.log_bytes) (d.bytes c.args.disk.now) c.in_err-close_gate.field-0.0 (c.in_err-close_gate.ensures.passes tells))
+
+pub returns-in_err-write_zeros-clause-passes : goal.returns-in_err-write_zeros-clause-passes
+returns-in_err-write_zeros-clause-passes g c tells =
+    let d = g.D.Disk in
+    let s = c.args.of.now in
+    let end : c.size.result ≡ image_size s.pages s.log_bytes = c.size.ensures ∙ ap (λ (p : Plan). image_size p.pages p.log_bytes) c.plan.ensures in
+    let err : c.from_residual-in_err-write_zeros.result ≡ Err c.in_err-write_zeros.field-0.0 = search rules in
+    rw err (zero_calls (d.passed c.args.disk.now) (d.passed c.close_gate.new.disk) (d.passed c.write_zeros.new.disk) (image_size s.pages s.log_bytes) (d.bytes c.args.disk.now) c.in_err-write_zeros.field-0.0 (c.in_ok-close_gate.ensures.passes tells).ok
+    (subst (λ (n : ℕ). Passes (zero_writes (n - 64)) (d.passed c.close_gate.new.disk) (d.passed c.write_zeros.new.disk) (Err c.in_err-write_zeros.field-0.0)) end (c.in_err-write_zeros.ensures.passes tells)))
 
 pub returns-in_err-close_gate-clause-moments : goal.returns-in_err-close_gate-clause-moments
 returns-in_err-close_gate-clause-moments g c tells only =

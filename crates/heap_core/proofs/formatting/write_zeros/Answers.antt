@@ -1,9 +1,10 @@
-use Rattle.std.proofs.Common.{◌≡◌, ℕ, ◌+◌, ◌≤◌, List, arith, length, get_or, IsTrue, Ok, sym, ◌∙◌, ap}
+use Rattle.std.proofs.Common.{◌≡◌, ℕ, ◌+◌, ◌≤◌, List, arith, length, get_or, IsTrue, Ok, Err, rules, sym, ◌∙◌, ap}
 use Rattle.std.proofs.lemmas.List.{length-replicate}
 use Rattle.disk_model.specs.Disk.{overwrite}
 use Rattle.disk_model.specs.KeepsLaws.{keeps_ok, keeps_on}
 use Rattle.disk_model.specs.Moments.{goes_on}
-use Rattle.heap_core.proofs.Zeros.{crash_on, zero_on, outside_on, zero_at, passed_on}
+use Rattle.heap_core.proofs.Zeros.{crash_on, zero_on, outside_on, zero_at, write_more, some_writes}
+use Rattle.heap_core.proofs.Calls.{one_more, ended}
 use Rattle.heap_core.proofs.formatting.write_zeros.Goals as goal
 
 pub returns-in_err-write-clause-crash : goal.returns-in_err-write-clause-crash
@@ -17,6 +18,12 @@ pub returns-in_err-write-clause-moments : goal.returns-in_err-write-clause-momen
 returns-in_err-write-clause-moments g c tells =
     let d = g.D.Disk in
     goes_on d.moment d.left_since c.args.disk.now c.loop-at.disk c.write.new.self _ (d.may_leave c.write.new.self) (c.loop-at.invariant.moments tells) (c.write.ensures.time tells) (returns-in_err-write-clause-crash g c tells)
+
+pub returns-in_err-write-clause-passes : goal.returns-in_err-write-clause-passes
+returns-in_err-write-clause-passes g c tells =
+    let d = g.D.Disk in
+    let err : c.from_residual.result ≡ Err c.in_err-write.field-0.0 = search rules in
+    ended _ _ _ _ _ c.from_residual.result c.in_err-write.field-0.0 err (some_writes c.loop-at.at c.args.end (omega arith)) (c.loop-at.invariant.calls tells) (c.in_err-write.ensures.passed tells)
 
 pub loop-at-preserved : goal.loop-at-preserved
 loop-at-preserved g c =
@@ -35,6 +42,6 @@ loop-at-preserved g c =
       outside = λ tells. outside_on c.args.from c.loop-at.at c.args.end (d.bytes c.args.disk.now) (d.bytes c.loop-at.disk) c.zeros.result.now (d.bytes c.write.new.self) i.low (omega (arith, size)) (omega (arith, size, fits tells)) (written tells) (i.outside tells);
       crash = crash;
       moments = λ tells. goes_on d.moment d.left_since c.args.disk.now c.loop-at.disk c.write.new.self _ (d.may_leave c.write.new.self) (i.moments tells) (c.write.ensures.time tells) (crash tells);
-      passed = λ tells. passed_on c.loop-at.at c.if-left.piece c.args.end (d.passed c.loop-at.disk) (d.passed c.write.new.self) (omega arith) (omega arith) (c.in_ok-write.ensures.passed tells) ∙ i.passed tells;
+      calls = λ tells. one_more _ _ _ _ _ _ (write_more c.loop-at.at c.if-left.piece c.args.end (omega arith) (omega arith)) (i.calls tells) (c.in_ok-write.ensures.passed tells);
       disk = keeps_ok d c.args.disk.now c.write.new.self c.write.result (keeps_on d c.args.disk.now c.loop-at.disk c.write.new.self (Ok tt) c.write.result i.disk (record { extent = c.write.ensures.extent; origin = c.write.ensures.origin; cause = c.write.ensures.cause; restarts = c.write.ensures.restarts }));
     }

@@ -1,10 +1,10 @@
 use Rattle.std.proofs.Common.{◌≡◌, ℕ, ◌-◌, ◌≤◌, List, Ok}
 use Rattle.std.specs.Prelude.{IsTrue}
-use Rattle.counts.specs.Count.{counted}
 use Rattle.disk_model.specs.Disk.{Follows, SameOutside}
 use Rattle.disk_model.specs.Keeps.{KeepsDisk}
 use Rattle.disk_model.specs.Moments.{LeavesOnly}
 use Rattle.heap_core.specs.Format.{AreZero, zero_writes}
+use Rattle.heap_core.proofs.Calls.{SoFar}
 use Rattle.heap_core.proofs.formatting.write_zeros.Given as goal
 
 -- up to `at` the bytes are zero, and all else is as it was
@@ -18,8 +18,7 @@ invariant-loop-at g l =
       outside : IsTrue d.tells → SameOutside l.from l.end (d.bytes l.fn.disk) (d.bytes l.disk);
       crash : IsTrue d.tells → Follows (SameOutside l.from l.end) (d.may_leave l.fn.disk) (d.may_leave l.disk);
       moments : IsTrue d.tells → LeavesOnly d.moment d.left_since l.fn.disk l.disk (λ c. (o : List ℕ) × d.may_leave l.fn.disk o × SameOutside l.from l.end o c);
-      -- what is left is still to be counted
-      passed : IsTrue d.tells → counted (zero_writes (l.end - l.at)) (d.passed l.disk) ≡ counted (zero_writes (l.end - l.from)) (d.passed l.fn.disk);
+      calls : IsTrue d.tells → SoFar (zero_writes (l.end - l.from)) (zero_writes (l.end - l.at)) (d.passed l.fn.disk) (d.passed l.disk);
       disk : KeepsDisk d l.fn.disk l.disk (Ok tt);
     }
 
