@@ -1,0 +1,88 @@
+use Rattle.std.proofs.Common.{◌≡◌, ◌≢◌, inl, inr, List, Some, None, Ok, Err, sym, ap, ◌∙◌, subst, refl, arith}
+use Rattle.script_text.specs.declared.line.Line.{Line}
+use Rattle.heap_core.specs.declared.formatting.FormatError.{FormatError}
+use Rattle.heap_model.specs.Ending.{all_events}
+use Rattle.heap_shell.specs.CoreLawsPlay.{script_playable}
+use Rattle.heap_shell.specs.Headline.{made_super, made_core}
+use Rattle.heap_shell.specs.Playable.{IsPlayable}
+use Rattle.script_text.specs.Line.{events}
+use Rattle.script_text.specs.Script.{script}
+use Rattle.disk_model.specs.KeepsLaws.{rose_since}
+use Rattle.heap_shell.proofs.RunLaws.{large_made, not_made, end_sound, end_done}
+use Rattle.heap_shell.proofs.run.run.Goals as goal
+
+pub returns-in-Err-format-clause-headline : goal.returns-in-Err-format-clause-headline
+returns-in-Err-format-clause-headline g c tells only play is =
+    let d = g.D.Disk in
+    let k = g.K.Sink in
+    let made = c.in-Err-format.ensures in
+    let same : play ≡ c.in-Some.play = cc (is, c.in-Some.is, c.read_words.ensures) in
+    rw same (inl (not_made d (made_super c.in-Some.play.pages) c.args.disk c.in-Err-format.disk c.in-Err-format.e c.from.result k.tells (k.written c.args.sink.now) c.from.ensures (λ less. (ap (λ (p : FormatError × g.row.D.Denot). p.0) (made.small less), ap (λ (p : FormatError × g.row.D.Denot). p.1) (made.small less))) made.large made.disk (made.passes tells) (made.moments tells only)))
+
+pub returns-in-None-clause-headline : goal.returns-in-None-clause-headline
+returns-in-None-clause-headline g c tells only play is =
+    let d = g.D.Disk in
+    let k = g.K.Sink in
+    let read = c.in-Ok.ensures.script in
+    let made = c.in-Ok-format.ensures.made tells in
+    let playable = subst (λ (ls : List Line). IsPlayable (all_events None made_core (events ls))) (sym c.deref.ensures.value) (script_playable read.0 c.in-Ok.script.items None read.1) in
+    let played = c.play_whole.ensures.played tells c.in-Some.play.pages made.0 made.1 playable in
+    let same : play ≡ c.in-Some.play = cc (is, c.in-Some.is, c.read_words.ensures) in
+    rw same (inr (record {
+      lines = c.deref.result.now;
+      script = λ t. ap script (sym (read.2 t)) ∙ read.1 ∙ ap (λ (ls : List Line). Ok ls) (sym c.deref.ensures.value);
+      made = c.in-Ok-format.disk;
+      format = record { moments = c.in-Ok-format.ensures.moments tells only; empty = made.0; only = made.1; passed = (c.in-Ok-format.ensures.passes tells (large_made _ _ c.in-Ok-format.ensures.small)).ok };
+      played = rw c.in-None.is played;
+    }))
+
+pub returns-in-None-clause-sound : goal.returns-in-None-clause-sound
+returns-in-None-clause-sound g c tells only =
+    let read = c.in-Ok.ensures.script in
+    let made = c.in-Ok-format.ensures.made tells in
+    let playable = subst (λ (ls : List Line). IsPlayable (all_events None made_core (events ls))) (sym c.deref.ensures.value) (script_playable read.0 c.in-Ok.script.items None read.1) in
+    let played = c.play_whole.ensures.played tells c.in-Some.play.pages made.0 made.1 playable in
+    end_sound c.play_whole.result.0 played.end
+
+pub returns-in-None-clause-complete : goal.returns-in-None-clause-complete
+returns-in-None-clause-complete g c tells only play is large told lines good no_source no_sink no_disk =
+    let read = c.in-Ok.ensures.script in
+    let made = c.in-Ok-format.ensures.made tells in
+    let playable = subst (λ (ls : List Line). IsPlayable (all_events None made_core (events ls))) (sym c.deref.ensures.value) (script_playable read.0 c.in-Ok.script.items None read.1) in
+    let played = c.play_whole.ensures.played tells c.in-Some.play.pages made.0 made.1 playable in
+    let harm = c.in-Ok-format.ensures.disk.cause in
+    end_done _ _ c.play_whole.result.0 played.end c.play_whole.ensures.disk.cause c.play_whole.ensures.sink.cause (λ rose. no_disk (rose_since _ _ _ (omega (arith, harm.faults_kept, harm.stops_kept)) c.play_whole.ensures.disk.kept rose)) no_sink
+
+pub returns-clause-headline : goal.returns-clause-headline
+returns-clause-headline g c tells only play is =
+    let d = g.D.Disk in
+    let k = g.K.Sink in
+    let read = c.in-Ok.ensures.script in
+    let made = c.in-Ok-format.ensures.made tells in
+    let playable = subst (λ (ls : List Line). IsPlayable (all_events (Some c.in-Some-stop.calls) made_core (events ls))) (sym c.deref-in-Some-stop.ensures.value) (script_playable read.0 c.in-Ok.script.items (Some c.in-Some-stop.calls) read.1) in
+    let played = c.play_stopped.ensures.played tells c.in-Some.play.pages made.0 made.1 playable in
+    let same : play ≡ c.in-Some.play = cc (is, c.in-Some.is, c.read_words.ensures) in
+    rw same (inr (record {
+      lines = c.deref-in-Some-stop.result.now;
+      script = λ t. ap script (sym (read.2 t)) ∙ read.1 ∙ ap (λ (ls : List Line). Ok ls) (sym c.deref-in-Some-stop.ensures.value);
+      made = c.in-Ok-format.disk;
+      format = record { moments = c.in-Ok-format.ensures.moments tells only; empty = made.0; only = made.1; passed = (c.in-Ok-format.ensures.passes tells (large_made _ _ c.in-Ok-format.ensures.small)).ok };
+      played = rw c.in-Some-stop.is played;
+    }))
+
+pub returns-clause-sound : goal.returns-clause-sound
+returns-clause-sound g c tells only =
+    let read = c.in-Ok.ensures.script in
+    let made = c.in-Ok-format.ensures.made tells in
+    let playable = subst (λ (ls : List Line). IsPlayable (all_events (Some c.in-Some-stop.calls) made_core (events ls))) (sym c.deref-in-Some-stop.ensures.value) (script_playable read.0 c.in-Ok.script.items (Some c.in-Some-stop.calls) read.1) in
+    let played = c.play_stopped.ensures.played tells c.in-Some.play.pages made.0 made.1 playable in
+    end_sound c.play_stopped.result.0 played.end
+
+pub returns-clause-complete : goal.returns-clause-complete
+returns-clause-complete g c tells only play is large told lines good no_source no_sink no_disk =
+    let read = c.in-Ok.ensures.script in
+    let made = c.in-Ok-format.ensures.made tells in
+    let playable = subst (λ (ls : List Line). IsPlayable (all_events (Some c.in-Some-stop.calls) made_core (events ls))) (sym c.deref-in-Some-stop.ensures.value) (script_playable read.0 c.in-Ok.script.items (Some c.in-Some-stop.calls) read.1) in
+    let played = c.play_stopped.ensures.played tells c.in-Some.play.pages made.0 made.1 playable in
+    let harm = c.in-Ok-format.ensures.disk.cause in
+    end_done _ _ c.play_stopped.result.0 played.end c.play_stopped.ensures.disk.cause c.play_stopped.ensures.sink.cause (λ rose. no_disk (rose_since _ _ _ (omega (arith, harm.faults_kept, harm.stops_kept)) c.play_stopped.ensures.disk.kept rose)) no_sink
