@@ -1,12 +1,24 @@
 -- What a run promises, from what its parts promise.
-use Rattle.std.proofs.Common.{◌≡◌, ◌⊎◌, inl, inr, ⊎_elim, ℕ, ◌<◌, ◌≤◌, Bool, List, Result, Ok, Err, refl, sym, ap, ◌∙◌, subst}
+use Rattle.std.proofs.Common.{◌≡◌, ◌⊎◌, inl, inr, ⊎_elim, ℕ, ◌<◌, ◌≤◌, Bool, List, ◌++◌, Option, Result, Ok, Err, refl, sym, ap, ◌∙◌, subst}
 use Rattle.std.specs.Prelude.{IsTrue, IsErrAnd}
+use Rattle.std.specs.List.{AllByRecursion}
 use Rattle.std.proofs.lemmas.Bool.{cases_lt}
 use Rattle.disk_model.specs.declared.disk.Disk.{Ghosts}
 use Rattle.disk_model.specs.declared.disk.DiskError.{DiskError}
 use Rattle.disk_model.specs.Keeps.{KeepsDisk}
-use Rattle.disk_model.specs.Moments.{LeavesOnly}
+use Rattle.disk_model.specs.Moments.{LeavesOnly, joined, weaker}
 use Rattle.gate_slot.specs.Passing.{Passes}
+use Rattle.graph_model.specs.declared.event.Event.{Event}
+use Rattle.graph_model.specs.History.{acknowledged}
+use Rattle.graph_model.specs.SlowHeap.{IsSingleSession}
+use Rattle.heap_model.specs.Core.{Core}
+use Rattle.heap_model.specs.CoreCrash.{KeepsCommits}
+use Rattle.heap_model.specs.CoreLawsEnding.{single_front}
+use Rattle.heap_model.specs.CoreLawsRun.{valid_run}
+use Rattle.heap_model.specs.CoreValid.{IsReached}
+use Rattle.heap_shell.specs.CrashSafe.{IsCrashSafe}
+use Rattle.heap_shell.specs.Steps.{Step, AreSteps, HasAtLeast}
+use Rattle.heap_shell.specs.StepsLaws.{steps_run, steps_last, prefix_lasts, run_acknowledges, at_least_on, at_least_keeps, at_least_less}
 use Rattle.image_plan.specs.declared.superblock.Super.{Super}
 use Rattle.image_plan.specs.Plan.{image_size}
 use Rattle.heap_core.specs.declared.formatting.FormatError.{FormatError}
@@ -15,7 +27,7 @@ use Rattle.heap_core.specs.Format.{IsFormatting, format_calls}
 use Rattle.heap_core.specs.GivenBack.{device_error, FailsByDisk}
 use Rattle.heap_shell.specs.declared.status.Status.{Status}
 use Rattle.heap_shell.specs.declared.status.Status.TheVariants as status
-use Rattle.heap_shell.specs.Headline.{IsEndOfPlay, IsSound, FailsFormat, IsUnmade, IsNotMade}
+use Rattle.heap_shell.specs.Headline.{IsEndOfPlay, IsSound, FailsFormat, IsUnmade, IsNotMade, Unharmed, IsPlayed}
 use Rattle.heap_shell.specs.StatusOf.{format_status}
 
 -- a play says nothing against the image
@@ -80,3 +92,38 @@ module _ {D : Type 0} (g : Ghosts D) (s : Super) (old new : D) where
     nothing = λ t. refl;
     moments = moments;
   }
+
+-- What a run says of crashes in short.
+module _ {D : Type 0} (g : Ghosts D) (now : (disk : D) (image : List ℕ) → g.left_since disk (g.moment disk) image → g.may_leave disk image) (start final : D) where
+  pub crash_safe : (stop : Option ℕ) (c : Core) (events : List Event) (result : Status) (told : Bool) (before after : List ℕ) → IsReached c → AllByRecursion IsSingleSession events
+      → IsPlayed g stop c events start final result told before after → IsCrashSafe g stop c start final result told before after
+  crash_safe stop c events result told before after reached single played =
+      let made = played.run.made in
+      let core = played.run.core in
+      let disk = played.disk in
+      let one = single_front made played.run.behind (subst (AllByRecursion IsSingleSession) played.run.parts single) in
+      let run = steps_run g (Unharmed g start final) c core disk.opened disk.stopped made disk.steps in
+      let at_end = valid_run c core made reached one run in
+      let least = acknowledged c.history in
+      let prefix = λ (front rest : List Event) (is : made ≡ front ++ rest). prefix_lasts g now (Unharmed g start final) c core disk.opened disk.stopped final front rest reached (subst (AllByRecursion IsSingleSession) is one) disk.here
+      (subst (λ (l : List Event). AreSteps (Step g (Unharmed g start final)) c disk.opened l core disk.stopped) is disk.steps) disk.rest in
+      let since = steps_last g now (Unharmed g start final) c core disk.opened disk.stopped made reached one disk.here disk.steps in
+      let low = run_acknowledges c core made run in
+      record {
+        made = made;
+        core = core;
+        opened = disk.opened;
+        each = weaker g.moment g.left_since start final _ (HasAtLeast least core)
+            (joined g.moment g.left_since start disk.opened final (KeepsCommits c) _ disk.opening (joined g.moment g.left_since disk.opened disk.stopped final (HasAtLeast least core) (KeepsCommits core) since disk.rest))
+            (λ image either. ⊎_elim
+            (λ (kept : KeepsCommits c image). at_least_on least c core made image reached at_end run (at_least_keeps c image kept))
+            (λ (later : HasAtLeast least core image ⊎ KeepsCommits core image). ⊎_elim
+            (λ (has : HasAtLeast least core image). has)
+            (λ (kept : KeepsCommits core image). at_least_less least (acknowledged core.history) core image low (at_least_keeps core image kept))
+            later)
+            either);
+        lasting = prefix;
+        replies = played.replies;
+        printed = λ done t. (played.prints.count, played.prints.most, (played.prints.written t).whole done);
+      }
+

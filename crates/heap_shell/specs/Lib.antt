@@ -1,6 +1,7 @@
 pub mod Causes
 pub mod Command
 pub mod CoreLawsPlay
+pub mod CrashSafe
 pub mod Headline
 pub mod Output
 pub mod Play

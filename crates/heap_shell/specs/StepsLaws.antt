@@ -80,7 +80,8 @@ at_least_on least c d events image from to run has =
 pub at_least_keeps : (c : Core) (image : List ℕ) → KeepsCommits c image → HasAtLeast (acknowledged c.history) c image
 at_least_keeps c image keeps = record { commits = record { count = keeps.0; stands = keeps.1.stands; some = keeps.1.some }; enough = keeps.1.kept }
 
-at_least_less : (less least : ℕ) (c : Core) (image : List ℕ) → less ≤ least → HasAtLeast least c image → HasAtLeast less c image
+-- at least so many are at least fewer
+pub at_least_less : (less least : ℕ) (c : Core) (image : List ℕ) → less ≤ least → HasAtLeast least c image → HasAtLeast less c image
 at_least_less less least c image below has = record { commits = has.commits; enough = omega (arith, has.enough) }
 
 -- Steps behind steps.

@@ -14,6 +14,7 @@ ghost use Rattle.heap_shell.specs.Causes.{DiskRose, StreamCause, RunsDisk, IsInp
 ghost use Rattle.heap_shell.specs.Command.{command};
 ghost use Rattle.heap_model.specs.Core.{Core};
 ghost use Rattle.heap_model.specs.CoreCrash.{KeepsCommits};
+ghost use Rattle.heap_shell.specs.CrashSafe.{RunsSafely};
 ghost use Rattle.heap_shell.specs.Headline.{made_super, made_core, OfTold, IsPlayed, Reopens, StartsAgain, Runs, IsSound, IsUntouching, EndsUnread, EndsUnmade, restarts_of};
 ghost use Rattle.heap_shell.specs.Playable.{IsPlayable};
 ghost use Rattle.heap_model.specs.Ending.{all_events};
@@ -68,7 +69,10 @@ pub fn run<D: Disk, S: Source, K: Sink>(
     // One that is done has read its script to the end.
     ensures read_whole { IsTrue S.tells → result.0 ≡ Status.Done → S.left source.new ≡ [] }
 
-    // The sentence that the stable heap is for: either no heap was made, or the script was played on a new one.
+    // A crash at any moment keeps what was acknowledged by then.
+    ensures crash_safe { OfTold D.tells (D.bytes disk) (D.may_leave disk) ((play : Play) → command (map string_bytes words.now) ≡ Some play
+        → RunsSafely D.Disk play disk result.1 result.0 K.tells (K.written sink.old) (K.written sink.new)) }
+    // The sentence that the stable heap is for, whole: either no heap was made, or the script was played on a new one.
     ensures headline { OfTold D.tells (D.bytes disk) (D.may_leave disk) ((play : Play) → command (map string_bytes words.now) ≡ Some play
         → Runs D.Disk play (λ lines. IsTrue S.tells → script (S.left source.old) ≡ Ok lines) disk result.1 result.0 K.tells (K.written sink.old) (K.written sink.new)) }
 

@@ -2,13 +2,13 @@ use Rattle.std.proofs.Common.{◌≡◌, ◌≢◌, inl, inr, List, Some, None, 
 use Rattle.script_text.specs.declared.line.Line.{Line}
 use Rattle.heap_core.specs.declared.formatting.FormatError.{FormatError}
 use Rattle.heap_model.specs.Ending.{all_events}
-use Rattle.heap_shell.specs.CoreLawsPlay.{script_playable}
+use Rattle.heap_shell.specs.CoreLawsPlay.{made_valid, script_playable}
 use Rattle.heap_shell.specs.Headline.{made_super, made_core}
 use Rattle.heap_shell.specs.Playable.{IsPlayable}
 use Rattle.script_text.specs.Line.{events}
 use Rattle.script_text.specs.Script.{script}
 use Rattle.disk_model.specs.KeepsLaws.{rose_since}
-use Rattle.heap_shell.proofs.RunLaws.{large_made, not_made, end_sound, end_done}
+use Rattle.heap_shell.proofs.RunLaws.{large_made, not_made, end_sound, end_done, crash_safe}
 use Rattle.heap_shell.proofs.run.run.Goals as goal
 
 pub returns-in-Err-format-clause-headline : goal.returns-in-Err-format-clause-headline
@@ -86,3 +86,36 @@ returns-clause-complete g c tells only play is large told lines good no_source n
     let played = c.play_stopped.ensures.played tells c.in-Some.play.pages made.0 made.1 playable in
     let harm = c.in-Ok-format.ensures.disk.cause in
     end_done _ _ c.play_stopped.result.0 played.end c.play_stopped.ensures.disk.cause c.play_stopped.ensures.sink.cause (λ rose. no_disk (rose_since _ _ _ (omega (arith, harm.faults_kept, harm.stops_kept)) c.play_stopped.ensures.disk.kept rose)) no_sink
+
+pub returns-in-Err-format-clause-crash_safe : goal.returns-in-Err-format-clause-crash_safe
+returns-in-Err-format-clause-crash_safe g c tells only play is =
+    let d = g.D.Disk in
+    let k = g.K.Sink in
+    let made = c.in-Err-format.ensures in
+    let same : play ≡ c.in-Some.play = cc (is, c.in-Some.is, c.read_words.ensures) in
+    rw same (inl (not_made d (made_super c.in-Some.play.pages) c.args.disk c.in-Err-format.disk c.in-Err-format.e c.from.result k.tells (k.written c.args.sink.now) c.from.ensures
+    (λ less. (ap (λ (p : FormatError × g.row.D.Denot). p.0) (made.small less), ap (λ (p : FormatError × g.row.D.Denot). p.1) (made.small less))) made.large made.disk (made.passes tells) (made.moments tells only)))
+
+pub returns-in-None-clause-crash_safe : goal.returns-in-None-clause-crash_safe
+returns-in-None-clause-crash_safe g c tells only play is =
+    let k = g.K.Sink in
+    let read = c.in-Ok.ensures.script in
+    let made = c.in-Ok-format.ensures.made tells in
+    let es = all_events None made_core (events c.deref.result.now) in
+    let playable = subst (λ (ls : List Line). IsPlayable (all_events None made_core (events ls))) (sym c.deref.ensures.value) (script_playable read.0 c.in-Ok.script.items None read.1) in
+    let played = c.play_whole.ensures.played tells c.in-Some.play.pages made.0 made.1 playable in
+    let same : play ≡ c.in-Some.play = cc (is, c.in-Some.is, c.read_words.ensures) in
+    let safe = crash_safe g.D.Disk (λ disk image since. g.met.D.Disk.only_now tells disk image since) c.in-Ok-format.disk c.play_whole.result.1 None made_core es c.play_whole.result.0 k.tells (k.written c.args.sink.now) (k.written c.play_whole.new.sink) (inl made_valid) playable.single played in
+    rw (same, c.in-None.is) (inr (c.in-Ok-format.disk, safe))
+
+pub returns-clause-crash_safe : goal.returns-clause-crash_safe
+returns-clause-crash_safe g c tells only play is =
+    let k = g.K.Sink in
+    let read = c.in-Ok.ensures.script in
+    let made = c.in-Ok-format.ensures.made tells in
+    let es = events c.deref-in-Some-stop.result.now in
+    let playable = subst (λ (ls : List Line). IsPlayable (all_events (Some c.in-Some-stop.calls) made_core (events ls))) (sym c.deref-in-Some-stop.ensures.value) (script_playable read.0 c.in-Ok.script.items (Some c.in-Some-stop.calls) read.1) in
+    let played = c.play_stopped.ensures.played tells c.in-Some.play.pages made.0 made.1 playable in
+    let same : play ≡ c.in-Some.play = cc (is, c.in-Some.is, c.read_words.ensures) in
+    let safe = crash_safe g.D.Disk (λ disk image since. g.met.D.Disk.only_now tells disk image since) c.in-Ok-format.disk c.play_stopped.result.1 (Some c.in-Some-stop.calls) made_core es c.play_stopped.result.0 k.tells (k.written c.args.sink.now) (k.written c.play_stopped.new.sink) (inl made_valid) playable.single played in
+    rw (same, c.in-Some-stop.is) (inr (c.in-Ok-format.disk, safe))
