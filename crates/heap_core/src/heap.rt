@@ -65,6 +65,7 @@ impl<D: Disk> Heap<D> {
     /// Opens the heap on the disk.
     pub fn open(alloc: Global, mut disk: D) -> Result<Heap<D>, (OpenError, D)>
         ensures disk { KeepsDisk D.Disk disk (opened_disk result) (opened_device result) }
+        ensures unfailed { IfOk result (λ heap. failed_at heap ≡ None) }
 
         // At each moment of it a crash leaves an image that stands for the same graph and commits as the one that was opened.
         ensures moments { IsTrue D.tells → Only (D.bytes disk) (D.may_leave disk) → (g : Graph) (k : ℕ) → StandsFor g k (D.bytes disk) → LeavesOnly D.moment D.left_since disk (opened_disk result) (StandsFor g k) }

@@ -29,7 +29,7 @@ use Rattle.heap_model.specs.CoreCrash.{KeepsCommits}
 use Rattle.heap_model.specs.CoreLawsRun.{step_history, valid_step}
 use Rattle.heap_model.specs.CoreLawsStep.{core_refusal-HasNoFault}
 use Rattle.heap_model.specs.CoreValid.{IsReached}
-use Rattle.heap_core.specs.Means.{IsHeap}
+use Rattle.heap_core.specs.Means.{DiskHolds, IsCore, IsHeap}
 use Rattle.heap_shell.specs.Play.{AreReady, MakesAll, MakesShort, Makes, Ends, Plays, ended_by, lines_text, Wrote, WroteFront, WroteLines}
 use Rattle.heap_shell.specs.StatusOf.{write_halt}
 use Rattle.heap_shell.specs.Steps.{Step, HeapStep, AreSteps}
@@ -56,12 +56,16 @@ cut_calls c event reply cut =
 answer_sound : (c : Core) (event : Event) → IsSoundReply (answer c event)
 answer_sound c event = sound_either _ _ (core_refusal-HasNoFault c event) (granted_sound (next_number c) c.g0 (account c.history) event)
 
+-- the reply of a disk that did what it was asked lets a play go on
+pub whole_reply : (c : Core) (event : Event) (reply : Reply) → reply ≡ answer c event → ended_by reply ≡ Ok tt
+whole_reply c event reply is = (sound_device reply (subst IsSoundReply (sym is) (answer_sound c event))).1
+
 one_call : (n m k : ℕ) → n ≡ counted m k → n ≡ counted (m + 0) k
 one_call n m k e = let same : m ≡ m + 0 = omega arith in e ∙ ap (λ (i : ℕ). counted i k) same
 
 -- what a crash leaves of a heap
 pub heap_leaves : {D : Type 0} {g : Ghosts D} (s : Super) (c : Core) (heap : Heap D g) → IsHeap s c heap → IsReached c → (image : List ℕ) → g.may_leave heap.disk image → KeepsCommits c image
-heap_leaves s c heap means reached = heap_keeps s c heap.working heap.failed _ _ means.means reached
+heap_leaves {g = g} s c heap is reached = heap_keeps s c (g.bytes heap.disk) (g.may_leave heap.disk) is.disk reached
 
 module _ {D : Type 0} {g : Ghosts D} (s : Super) (c d : Core) (event : Event) (reply : Reply) (old new : Heap D g) (ready : AreReady c (event ∷ [])) (step : IsStep c event reply d)
     (keeps : KeepsDisk g old.disk new.disk (reply_device reply)) (passes : Passes (calls c event) (g.passed old.disk) (g.passed new.disk) (reply_device reply))
@@ -119,7 +123,7 @@ module _ {D : Type 0} {g : Ghosts D} (s : Super) (c d : Core) (event : Event) (r
   -- it is a step on the heap's disk
   pub one_steps : AreSteps (HeapStep g) c old.disk one d new.disk
   one_steps =
-      let next = valid_step c d event reply (inl ready.0) ready.1.0 step in
+      let next = valid_step c d event reply ready.running.reached ready.single.0 step in
       let made : Step g (Unit {0}) c old.disk event d new.disk =
       record { reply = reply; step = step; moments = moments; kept = heap_leaves s d new heap next; passes = λ u. passes } in
       (d, new.disk, record { made = made; disk = keeps }, (refl, refl))
@@ -185,16 +189,16 @@ module _ {D : Type 0} {g : Ghosts D} (s : Super) (c d : Core) (event : Event) (r
   }
 
 -- memory was refused: nothing was made
-pub plays_nothing : {D : Type 0} {g : Ghosts D} (s : Super) (c : Core) (events : List Event) (old new : Heap D g) (told : Bool) (before : List ℕ) → IsHeap s c new → new.disk ≡ old.disk
+pub plays_nothing : {D : Type 0} {g : Ghosts D} (s : Super) (c : Core) (events : List Event) (old new : Heap D g) (told : Bool) (before : List ℕ) → IsHeap s c old → IsCore c new → new.disk ≡ old.disk
     → Plays s c events old new told before before (Err halt.NoMemory)
-plays_nothing {g = g} s c events old new told before heap same = record {
+plays_nothing {g = g} s c events old new told before heap core same = record {
   made = [];
   behind = events;
   parts = refl;
   core = c;
   steps = (refl, same);
   ends = inl (record { reached = refl; passes = ap g.passed same });
-  heap = heap;
+  heap = record { core = core; disk = subst (λ x. DiskHolds s c (g.bytes x) (g.may_leave x)) (sym same) heap.disk };
   written = λ t w is.
       let front : WroteFront w (lines_text c.history) before = (lines_text c.history, [], sym (append-nil (lines_text c.history)), is) in
       let lines : WroteLines w c.history before = (c.history, [], [], sym (append-nil c.history), omega arith, is ∙ sym (append-nil (w ++ lines_text c.history))) in

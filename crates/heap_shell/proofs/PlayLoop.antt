@@ -15,13 +15,13 @@ use Rattle.heap_shell.specs.Play.{AreReady, Plays}
 use Rattle.script_text.specs.Line.{line_events, events}
 use Rattle.heap_shell.proofs.PlayLaws.{plays_on, plays_then}
 
-events_next : (lines : List Line) (i : ℕ) (d : Line) → i < length lines → events (take (i + 1) lines) ≡ events (take i lines) ++ line_events (get_or lines i d)
+pub events_next : (lines : List Line) (i : ℕ) (d : Line) → i < length lines → events (take (i + 1) lines) ≡ events (take i lines) ++ line_events (get_or lines i d)
 events_next lines i d lt =
     ap events (take_more lines i d lt)
     ∙ flat_map-append line_events (take i lines) (get_or lines i d ∷ [])
     ∙ ap (λ (l : List Event). events (take i lines) ++ l) (append-nil (line_events (get_or lines i d)))
 
-events_parts : (lines : List Line) (i : ℕ) (d : Line) → i < length lines → events lines ≡ (events (take i lines) ++ line_events (get_or lines i d)) ++ events (drop (i + 1) lines)
+pub events_parts : (lines : List Line) (i : ℕ) (d : Line) → i < length lines → events lines ≡ (events (take i lines) ++ line_events (get_or lines i d)) ++ events (drop (i + 1) lines)
 events_parts lines i d lt =
     ap events (sym (take-append-drop i lines) ∙ ap (λ (l : List Line). take i lines ++ l) (drop_more lines i d lt))
     ∙ flat_map-append line_events (take i lines) (get_or lines i d ∷ drop (i + 1) lines)

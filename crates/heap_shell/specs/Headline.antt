@@ -20,7 +20,7 @@ use Rattle.graph_model.specs.Text.{canon_text}
 use Rattle.image_plan.specs.declared.superblock.Super.{Super}
 use Rattle.image_plan.specs.Plan.{image_size}
 use Rattle.heap_core.specs.Format.{IsFormatting, format_calls}
-use Rattle.heap_model.specs.Core.{Core, fresh, with_entry, IsCutShort}
+use Rattle.heap_model.specs.Core.{Core, fresh, with_entry}
 use Rattle.heap_model.specs.CoreCrash.{StandsForFirst, KeepsCommits}
 use Rattle.heap_model.specs.CoreReplies.{call_replies_of}
 use Rattle.heap_model.specs.CoreRuns.{after_events, total_calls, StopsAt}
@@ -33,7 +33,7 @@ use Rattle.heap_shell.specs.Causes.{DiskRose}
 use Rattle.heap_shell.specs.declared.command.Play.{Play}
 use Rattle.heap_shell.specs.declared.status.Status.{Status}
 use Rattle.heap_shell.specs.declared.status.Status.TheVariants as status
-use Rattle.heap_shell.specs.Play.{lines_text, WroteFront, WroteLines}
+use Rattle.heap_shell.specs.Play.{lines_text, WroteFront, WroteLines, IsWhole, IsCutBy}
 use Rattle.heap_shell.specs.Steps.{Step, AreSteps}
 
 -- A claim of a disk that tells its bytes and keeps the disk model, and on which nothing waits.
@@ -73,18 +73,6 @@ pub record Writes (result : Status) (history : List Entry) (text before after : 
 abbrev pub let_through : Option ℕ → ℕ → ℕ
 let_through None calls = calls
 let_through (Some n) calls = min n calls
-
--- The disk did what it was asked in all of these events.
-abbrev pub IsWhole : Core → List Event → Core → Type 0
-IsWhole c made d = d ≡ after_events c made
-
--- The disk stopped or failed in the last of these events, as the reply says.
-pub record IsCutBy (reply : Reply) (c : Core) (made : List Event) (d : Core) : Type 0 where
-  pub before : List Event
-  pub event : Event
-  pub parts : made ≡ before ++ event ∷ []
-  pub cut : IsCutShort (after_events c before) event reply
-  pub reached : d ≡ with_entry (after_events c before) event reply
 
 -- A run that is done has made all events, or the disk was to stop and did.
 abbrev pub HasMade : Option ℕ → Core → List Event → List Event → Core → Type 0
