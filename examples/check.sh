@@ -1,11 +1,12 @@
 #!/bin/sh
-# Plays each example and compares its output and exit status. It is no part of the gate.
+# Plays each example and compares its output and exit status, and then what README.md and the pages here quote of them.
+# It is no part of the gate.
 cd "$(dirname "$0")/.." || exit 1
-out=$(mktemp) && err=$(mktemp) || exit 1
-trap 'rm -f "$out" "$err"' EXIT
-failed=0
+room=$(mktemp -d) || exit 1
+trap 'rm -rf "$room"' EXIT
+out=$room/out err=$room/err failed=0
 
-# tell NAME STATUS WANTED: says whether the example went as it must, by the comparison's status too.
+# tell NAME STATUS WANTED DIFFERS: says whether the example went as it must, by the comparison's status too.
 tell() {
     if [ "$2" = "$3" ] && [ "$4" = 0 ]; then
         echo "ok      $1"
@@ -15,18 +16,63 @@ tell() {
     fi
 }
 
-# example OUTPUT SCRIPT WORDS..
-example() {
-    wanted=$1 script=$2
-    shift 2
-    ./heap play --fresh 1 "$@" <"examples/$script" >"$out"
+# made OUTPUT COMMAND..: the command writes what the file has, and ends with status 0.
+made() {
+    wanted=$1
+    shift
+    "$@" >"$out"
     status=$?
     cmp -s "$out" "examples/$wanted"
     tell "$wanted" "$status" 0 $?
 }
 
+# example OUTPUT SCRIPT WORDS..
+example() {
+    wanted=$1 script=$2
+    shift 2
+    made "$wanted" ./heap play --fresh 1 "$@" <"examples/$script"
+}
+
+# quick OUTPUT SCRIPT: the program as it is compiled with nothing proved.
+quick() {
+    made "$1" ./heap --quick play --fresh 1 <"examples/$2" 2>/dev/null
+}
+
+# complains ERROR STATUS LINES WORDS..: nothing on standard output, and these last lines on standard error.
+complains() {
+    wanted=$1 expected=$2 lines=$3
+    shift 3
+    ./heap "$@" >"$out" 2>"$err"
+    status=$?
+    [ ! -s "$out" ] && tail -n "$lines" "$err" | cmp -s - "examples/$wanted"
+    tell "$wanted" "$status" "$expected" $?
+}
+
+# quotes PAGE FILE [--notes]: the page has the lines of the file, indented by four blanks.
+quotes() {
+    python3 examples/quoted.py "$1" "examples/$2" ${3+"$3"}
+    tell "$1 quotes $2" $? 0 0
+}
+
+# A signal to the launcher ends the program.
+passes_signals_on() {
+    mkfifo "$room/script"
+    ./heap play --fresh 1 <"$room/script" >"$out" 2>&1 &
+    launcher=$!
+    exec 3>"$room/script"
+    sleep 1
+    program=$(pgrep -P "$launcher")
+    kill -TERM "$launcher"
+    wait "$launcher"
+    status=$?
+    exec 3>&-
+    [ -n "$program" ] && ! kill -0 "$program" 2>/dev/null
+    tell "a signal to the launcher" "$status" 143 $?
+}
+
 example first.out first.script
 example two_commits.out two_commits.script
+example transfer.out transfer.script
 example stop_during_commit.out first.script --stop 2
 example stop_in_doubt.out first.script --stop 3
 example stop_after_commit.out first.script --stop 4
@@ -34,16 +80,31 @@ example stop_during_second.out two_commits.script --stop 6
 example abort.out abort.script
 example refusals.out refusals.script
 example force_inside.out force_inside.script
-example taken_back.out force_inside.script --stop 8
+example rolled_back.out force_inside.script --stop 8
+made every_stop.out examples/every_stop.sh
+made refused.out examples/refused.sh
 
 examples/full_log.sh | ./heap play --fresh 1 >"$out"
 status=$?
 tail -n 7 "$out" | cmp -s - examples/full_log.out
 tell full_log.out "$status" 0 $?
 
-./heap play --fresh 1 <examples/bad_line.script >"$out" 2>"$err"
-status=$?
-[ ! -s "$out" ] && tail -n 1 "$err" | cmp -s - examples/bad_line.err
-tell bad_line.err "$status" 3 $?
+complains bad_line.err 3 1 play --fresh 1 <examples/bad_line.script
+complains usage.err 2 2 play --fresh 0 </dev/null
+complains help.err 2 3 </dev/null
+passes_signals_on
+
+# Each of these compiles the program.
+quick first.out first.script
+complains quick.err 2 3 --quick play </dev/null
+
+made transfer.dot tools/graph_to_dot <examples/transfer.out
+made references.dot tools/graph_to_dot <examples/references.graph
+
+quotes README.md first.out --notes
+quotes README.md every_stop.out
+quotes examples/README.md transfer.script
+quotes examples/README.md refused.out
+quotes examples/README.md transfer.dot
 
 exit "$failed"

@@ -7,7 +7,7 @@ use Rattle.disk_model.specs.declared.disk.DiskError.{DiskError}
 
 -- Every call, and every run of them, keeps the disk's size and what it was made of, and tells an error only where that
 -- error's count rose. A disk that tells was not restarted.
-pub record KeepsDisk {D : Type 0} (g : Ghosts D) (old new : D) (result : Result (Unit {0}) DiskError) : Type 0 where
+pub record KeepsDisk {D T : Type 0} (g : Ghosts D) (old new : D) (result : Result T DiskError) : Type 0 where
   pub extent : g.extent new ≡ g.extent old
   pub origin : g.origin new ≡ g.origin old
   pub cause : HasCause (g.faults old) (g.faults new) (g.stops old) (g.stops new) result
@@ -22,7 +22,7 @@ pub record SameContents {D : Type 0} (g : Ghosts D) (old new : D) : Type 0 where
   pub passed : g.passed new ≡ g.passed old
 
 -- A call, or a run of them, that only reads: it keeps the disk, writes nothing, and the first stop is never one of its own.
-pub record OnlyReads {D : Type 0} (g : Ghosts D) (old new : D) (result : Result (Unit {0}) DiskError) : Type 0 where
+pub record OnlyReads {D T : Type 0} (g : Ghosts D) (old new : D) (result : Result T DiskError) : Type 0 where
   pub disk : KeepsDisk g old new result
   pub contents : IsTrue g.tells → SameContents g old new
   pub no_first_stop : g.stops old ≡ 0 → g.stops new ≡ 0

@@ -43,9 +43,14 @@ cause_first faults mid faults' stops mids stops' result last cause behind = reco
 }
 
 module _ {D : Type 0} (g : Ghosts D) where
+  -- a call, by its clauses
+  pub keeps_by_call : {T : Type 0} (old new : D) (result : Result T DiskError) → g.extent new ≡ g.extent old → g.origin new ≡ g.origin old → HasCause (g.faults old) (g.faults new) (g.stops old) (g.stops new) result
+      → (IsTrue g.tells → g.restarts new ≡ g.restarts old) → KeepsDisk g old new result
+  keeps_by_call old new result extent origin cause restarts = record { extent = extent; origin = origin; cause = cause; restarts = restarts }
+
   -- no call was made, and no error of the disk is told
-  pub keeps_none : (disk : D) → KeepsDisk g disk disk (Ok tt)
-  keeps_none disk = record {
+  pub keeps_none : {T : Type 0} (disk : D) (x : T) → KeepsDisk {T = T} g disk disk (Ok x)
+  keeps_none disk x = record {
     extent = refl;
     origin = refl;
     cause = record { faults_kept = omega arith; stops_kept = omega arith; failed = λ is. absurd (cc is); stopped = λ is. absurd (cc is) };
@@ -53,16 +58,16 @@ module _ {D : Type 0} (g : Ghosts D) where
   }
 
   -- what a call kept is kept where no error of the disk is told
-  pub keeps_ok : (old new : D) (result : Result (Unit {0}) DiskError) → KeepsDisk g old new result → KeepsDisk g old new (Ok tt)
-  keeps_ok old new result kept = record {
+  pub keeps_ok : {S T : Type 0} (old new : D) (result : Result S DiskError) (x : T) → KeepsDisk g old new result → KeepsDisk {T = T} g old new (Ok x)
+  keeps_ok old new result x kept = record {
     extent = kept.extent;
     origin = kept.origin;
-    cause = no_cause (g.faults old) (g.faults new) (g.stops old) (g.stops new) result tt kept.cause;
+    cause = no_cause (g.faults old) (g.faults new) (g.stops old) (g.stops new) result x kept.cause;
     restarts = kept.restarts;
   }
 
   -- one call more, whose answer is told
-  pub keeps_on : (old mid new : D) (first result : Result (Unit {0}) DiskError) → KeepsDisk g old mid first → KeepsDisk g mid new result → KeepsDisk g old new result
+  pub keeps_on : {S T : Type 0} (old mid new : D) (first : Result S DiskError) (result : Result T DiskError) → KeepsDisk g old mid first → KeepsDisk g mid new result → KeepsDisk g old new result
   keeps_on old mid new first result before kept = record {
     extent = kept.extent ∙ before.extent;
     origin = kept.origin ∙ before.origin;
@@ -71,7 +76,7 @@ module _ {D : Type 0} (g : Ghosts D) where
   }
 
   -- one call more, where the answer of those before it is told
-  pub keeps_still : (old mid new : D) (result last : Result (Unit {0}) DiskError) → KeepsDisk g old mid result → KeepsDisk g mid new last → KeepsDisk g old new result
+  pub keeps_still : {S T : Type 0} (old mid new : D) (result : Result S DiskError) (last : Result T DiskError) → KeepsDisk g old mid result → KeepsDisk g mid new last → KeepsDisk g old new result
   keeps_still old mid new result last kept behind = record {
     extent = behind.extent ∙ kept.extent;
     origin = behind.origin ∙ kept.origin;
@@ -103,14 +108,14 @@ module _ {D : Type 0} (g : Ghosts D) where
   }
 
   -- nothing was read, and no error of the disk is told
-  pub reads_none : (disk : D) → (IsTrue g.tells → (c : List ℕ) → g.left_since disk (g.moment disk) c → g.may_leave disk c) → OnlyReads g disk disk (Ok tt)
-  reads_none disk only_now = record { disk = keeps_none disk; contents = λ told. same_none disk (only_now told); no_first_stop = λ none. none }
+  pub reads_none : {T : Type 0} (disk : D) (x : T) → (IsTrue g.tells → (c : List ℕ) → g.left_since disk (g.moment disk) c → g.may_leave disk c) → OnlyReads {T = T} g disk disk (Ok x)
+  reads_none disk x only_now = record { disk = keeps_none disk x; contents = λ told. same_none disk (only_now told); no_first_stop = λ none. none }
 
-  pub reads_ok : (old new : D) (result : Result (Unit {0}) DiskError) → OnlyReads g old new result → OnlyReads g old new (Ok tt)
-  reads_ok old new result reads = record { disk = keeps_ok old new result reads.disk; contents = reads.contents; no_first_stop = reads.no_first_stop }
+  pub reads_ok : {S T : Type 0} (old new : D) (result : Result S DiskError) (x : T) → OnlyReads g old new result → OnlyReads {T = T} g old new (Ok x)
+  reads_ok old new result x reads = record { disk = keeps_ok old new result x reads.disk; contents = reads.contents; no_first_stop = reads.no_first_stop }
 
   -- one more that only reads, whose answer is told
-  pub reads_on : (old mid new : D) (first result : Result (Unit {0}) DiskError) → OnlyReads g old mid first → OnlyReads g mid new result → OnlyReads g old new result
+  pub reads_on : {S T : Type 0} (old mid new : D) (first : Result S DiskError) (result : Result T DiskError) → OnlyReads g old mid first → OnlyReads g mid new result → OnlyReads g old new result
   reads_on old mid new first result before reads = record {
     disk = keeps_on old mid new first result before.disk reads.disk;
     contents = λ told. same_on old mid new (before.contents told) (reads.contents told);

@@ -1,6 +1,7 @@
 //! Tries of the disk in memory and of the fuse, and a caller that is proved by the disk's clauses alone.
 ghost use Rattle.std.specs.Prelude.{◌≡◌, ℕ, ◌+◌, ◌<◌, ◌≤◌, List, length, IsTrue, OnOk, IfOk};
 ghost use Rattle.disk_model.specs.Disk.{Torn, Only};
+ghost use Rattle.disk_model.specs.Keeps.{KeepsDisk, OnlyReads};
 ghost use Rattle.disk_model.specs.Moments.{LeavesOnly};
 ghost use Rattle.disk_model.specs.Memory.{now_of};
 
@@ -13,8 +14,7 @@ fn write_and_sync<D: Disk>(disk: &mut D, at: u64, piece: &[u8]) -> Result<(), Di
     requires { at + length piece.now ≤ D.extent disk.old }
     ensures moments { IsTrue D.tells → Only (D.bytes disk.old) (D.may_leave disk.old) → LeavesOnly D.moment D.left_since disk.old disk.new (Torn at (length piece.now) (D.bytes disk.old)) }
     ensures durable { IsTrue D.tells → OnOk result (Only (D.bytes disk.new) (D.may_leave disk.new)) }
-    ensures extent { D.extent disk.new ≡ D.extent disk.old }
-    ensures origin { D.origin disk.new ≡ D.origin disk.old }
+    ensures disk { KeepsDisk D.Disk disk.old disk.new result }
 {
     disk.write(at, piece)?;
     disk.sync()
@@ -34,7 +34,7 @@ fn answers<D: Disk>(disk: &mut D) -> [Result<(), DiskError>; 4]
 /// The byte at a place, if the read succeeds.
 fn byte_at<D: Disk>(disk: &mut D, at: u64) -> Result<u8, DiskError>
     requires { at < D.extent disk.old }
-    ensures { D.extent disk.new ≡ D.extent disk.old }
+    ensures { OnlyReads D.Disk disk.old disk.new result }
 {
     let mut byte = [0];
     disk.read(at, &mut byte)?;

@@ -1,7 +1,9 @@
 -- A force, from the log in memory to the image.
-use Rattle.std.proofs.Common.{◌≡◌, ◌⊎◌, ℕ, ◌+◌, ◌-◌, ◌<◌, ◌≤◌, List, [], ◌∷◌, ◌++◌, length, take, drop, true, nat_lt, vec_len, refl, sym, ◌∙◌, ap, subst, arith, length-append}
+use Rattle.std.proofs.Common.{◌≡◌, ◌⊎◌, inl, inr, ℕ, ◌+◌, ◌-◌, ◌^◌, ◌<◌, ◌≤◌, List, [], ◌∷◌, ◌++◌, length, take, drop, true, nat_lt, vec_len, refl, sym, ◌∙◌, ap, subst, arith, length-append}
 use Rattle.std.proofs.lemmas.Bool.Decides.{nat_tests}
+use Rattle.std.proofs.lemmas.Bool.{cases_lt}
 use Rattle.std.proofs.lemmas.List.{append-nil, drop_at, length-take-le}
+use Rattle.std.proofs.lemmas.Grind.{flat_map-append}
 use Rattle.std.specs.Int.{w32, to_le_bytes}
 use Rattle.disk_model.specs.Disk.{part, Only}
 use Rattle.disk_model.specs.Moments.{LeavesOnly, weaker}
@@ -10,7 +12,7 @@ use Rattle.gate_slot.specs.Gate.{IsClosed, IsClosedInEach, IsFilling, filled}
 use Rattle.log_records.specs.declared.Record.{Record}
 use Rattle.log_records.specs.Record.{spellings}
 use Rattle.gated_log.specs.declared.Log.{Log}
-use Rattle.gated_log.specs.Log.{framed, batch, batches_bytes, with_batch, HoldsBatches}
+use Rattle.gated_log.specs.Log.{framed, batch, batches_bytes, records_of, with_batch, HoldsBatches}
 use Rattle.gated_log.specs.LogRoom.{used_bytes}
 use Rattle.gated_log.specs.LogLaws.{hand_size-Keeps}
 use Rattle.gated_log.specs.LogState.{Keeps}
@@ -26,6 +28,16 @@ waiting hand is = grind (arith, nat_tests)
 
 pub used_waiting : (tail hand : ℕ) → nat_lt 4 hand ≡ true → used_bytes tail hand ≡ tail + 2 + hand
 used_waiting tail hand is = rw is refl
+
+-- few bytes are used, so few records are there
+pub few_bytes : (tail hand room : ℕ) → used_bytes tail hand ≤ room → room < 2 ^ 32 → tail + hand < 2 ^ 33
+few_bytes tail hand room fits small = elim (cases_lt 4 hand) [
+  | inl waits ↦ grind (arith, nat_tests)
+  | inr none ↦ grind (arith, nat_tests)
+]
+
+pub few_records : (log : Log) → log.forced + log.waiting < 2 ^ 33
+few_records log = omega (arith, few_bytes log.tail (vec_len log.hand) log.room log.fits log.small, log.few_forced, log.few_waiting)
 
 module _ (log : Log) (image hand : List ℕ) (batches : List (List Record)) (pending : List Record) (waits : nat_lt 4 (vec_len log.hand) ≡ true)
     (closes : hand ≡ to_le_bytes w32 (vec_len log.hand - 4) ++ drop 4 log.hand.items ++ 0 ∷ []) (keeps : Keeps log batches pending) where
@@ -48,15 +60,20 @@ module _ (log : Log) (image hand : List ℕ) (batches : List (List Record)) (pen
   fits = omega (arith, log.fits, used_waiting log.tail (vec_len log.hand) waits, size, batch_length)
 
   -- the log in memory, behind the new batch
-  pub keeps_forced : (new : Log) → new.tail ≡ log.tail + length hand → new.hand.items ≡ take 4 hand → Keeps new (with_batch batches pending) []
-  keeps_forced new tail items =
+  pub keeps_forced : (new : Log) → new.tail ≡ log.tail + length hand → new.hand.items ≡ take 4 hand → new.forced ≡ log.forced + log.waiting → new.waiting ≡ 0 → Keeps new (with_batch batches pending) []
+  keeps_forced new tail items forced waiting =
       rw with_more record {
         tail = tail ∙ ap (λ (l : List ℕ). log.tail + length l) closed_hand ∙ longer;
         head = take 4 hand;
         four = length-take-le 4 hand (omega (arith, ap length closed_hand, batch_length));
         items = items ∙ sym (append-nil (take 4 hand));
+        forced = forced ∙ keeps.count ∙ sym counted;
+        count = omega (arith, forced, waiting, keeps.count, counted);
       }
     where
+      counted : length (records_of (batches ++ pending ∷ [])) ≡ length (records_of batches) + length pending
+      counted = ap length (flat_map-append (λ (l : List Record). l) batches (pending ∷ []) ∙ ap (λ (l : List Record). records_of batches ++ l) (append-nil pending)) ∙ length-append (records_of batches) pending
+
       longer : log.tail + length (framed pending ++ 0 ∷ []) ≡ length (batches_bytes (batches ++ pending ∷ []))
       longer = omega (arith, keeps.tail, ap length (batches_bytes-push batches pending), length-append (batches_bytes batches) (batch pending), length-append (framed pending) (0 ∷ []))
 

@@ -1,9 +1,9 @@
 -- A log's bytes: batches of records, each behind an open gate, up to the first closed gate.
-use Rattle.std.specs.Prelude.{◌≡◌, ◌≢◌, ℕ, List, [], ◌∷◌, ◌++◌, length}
-use Rattle.std.specs.List.{flat_map}
+use Rattle.std.specs.Prelude.{◌≡◌, ◌≢◌, ℕ, ◌+◌, ◌<◌, List, [], ◌∷◌, ◌++◌, length, slice_index}
+use Rattle.std.specs.List.{flat_map, AllByRecursion}
 use Rattle.std.specs.Int.{w32, to_le_bytes}
 use Rattle.log_records.specs.declared.Record.{Record}
-use Rattle.log_records.specs.Record.{spellings}
+use Rattle.log_records.specs.Record.{spellings, IsRecord}
 
 -- a length and that many bytes of records
 abbrev pub framed : List Record → List ℕ
@@ -26,6 +26,31 @@ pub record HoldsBatches (log : List ℕ) (batches : List (List Record)) : Type 0
   pub rest : List ℕ
   pub bytes : log ≡ batches_bytes batches ++ gate ∷ rest
   pub shut : gate ≢ 1
+
+-- A whole batch stands at the front of the bytes: its records are records, and there is a next gate behind it.
+pub record HasBatch (bytes : List ℕ) : Type 0 where
+  pub records : List Record
+  pub behind : List ℕ
+  pub front : bytes ≡ batch records ++ behind
+  pub next_gate : 0 < length behind
+  pub good : AllByRecursion IsRecord records
+
+-- The batch rule fails at this offset, and nowhere before: whole batches stand up to it, and the gate there is open and
+-- has no whole batch behind it.
+pub record BreaksAt (log : List ℕ) (offset : ℕ) : Type 0 where
+  pub batches : List (List Record)
+  pub rest : List ℕ
+  pub bytes : log ≡ batches_bytes batches ++ rest
+  pub good : AllByRecursion IsRecord (records_of batches)
+  pub at : offset ≡ length (batches_bytes batches)
+  pub is_open : slice_index rest 0 ≡ 1
+  pub none : ¬ HasBatch rest
+
+-- The batch at the front of the bytes was read: it takes so many of them, and its records were added.
+pub record IsBatchRead (bytes : List ℕ) (size : ℕ) (before after : List Record) : Type 0 where
+  pub read : HasBatch bytes
+  pub takes : size ≡ 5 + length (spellings read.records)
+  pub added : after ≡ before ++ read.records
 
 -- the records that wait, as they will be written behind the closed gate, with the next closed gate behind them
 abbrev pub hand : List Record → List ℕ

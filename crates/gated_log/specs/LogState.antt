@@ -3,7 +3,7 @@ use Rattle.std.specs.Prelude.{◌≡◌, ℕ, ◌+◌, ◌<◌, Bool, List, ◌+
 use Rattle.log_records.specs.declared.Record.{Record}
 use Rattle.log_records.specs.Record.{spellings}
 use Rattle.gated_log.specs.declared.Log.{Log}
-use Rattle.gated_log.specs.Log.{batches_bytes}
+use Rattle.gated_log.specs.Log.{batches_bytes, records_of}
 use Rattle.gated_log.specs.LogRoom.{used_bytes, need_bytes}
 
 -- where it begins on the disk
@@ -34,9 +34,25 @@ is_waiting log = nat_lt 4 (hand_size log)
 abbrev pub IsHandEmpty : Log → Type 0
 IsHandEmpty log = hand_size log ≡ 4
 
+-- the bytes in hand that there is memory for
+abbrev pub log_memory : Log → ℕ
+log_memory log = vec_capacity log.hand
+
+-- there is memory for so many bytes more in hand, and the one that a force adds
+abbrev pub HasSpare : Log → ℕ → Type 0
+HasSpare log more = hand_size log + more < log_memory log
+
 -- the memory that a force needs was taken
 abbrev pub IsReady : Log → Type 0
-IsReady log = hand_size log < vec_capacity log.hand
+IsReady log = hand_size log < log_memory log
+
+-- how many records were forced
+abbrev pub log_forced : Log → ℕ
+log_forced log = log.forced
+
+-- how many records there are, forced or waiting
+abbrev pub log_count : Log → ℕ
+log_count log = log.forced + log.waiting
 
 -- the bytes that are used: the forced batches, a gate, and a batch of the records that wait
 abbrev pub log_used : Log → ℕ
@@ -50,15 +66,25 @@ log_used_with log more = used_bytes (log_tail log) (hand_size log + more)
 abbrev pub log_need : Log → ℕ → ℕ
 log_need log own = need_bytes (hand_size log) own
 
--- The log knows where these batches end, and these records wait in it behind room for their length.
+-- The log knows where these batches end, and these records wait in it behind room for their length. It has counted them.
 pub record Keeps (log : Log) (batches : List (List Record)) (pending : List Record) : Type 0 where
   pub tail : log_tail log ≡ length (batches_bytes batches)
   pub head : List ℕ
   pub four : length head ≡ 4
   pub items : log_hand log ≡ head ++ spellings pending
+  pub forced : log_forced log ≡ length (records_of batches)
+  pub count : log_count log ≡ length (records_of batches) + length pending
 
--- the log lies where it did, and ends there too
+-- the log lies where it did, and its forced batches end where they did
 pub record IsPlaced (old new : Log) : Type 0 where
   pub at : log_place new ≡ log_place old
   pub room : log_room new ≡ log_room old
   pub tail : log_tail new ≡ log_tail old
+  pub forced : log_forced new ≡ log_forced old
+
+-- the log has the same place, batches and records that wait
+pub record IsSameLog (old new : Log) : Type 0 where
+  pub place : IsPlaced old new
+  pub hand : log_hand new ≡ log_hand old
+  pub size : hand_size new ≡ hand_size old
+  pub count : log_count new ≡ log_count old

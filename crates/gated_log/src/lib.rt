@@ -1,15 +1,16 @@
 //! A log in a part of a disk: batches of records, each behind its gate, and the records in hand that are not forced yet.
 #![tactic(auto)]
 
-ghost use Rattle.std.specs.Prelude.{◌≡◌, ◌≢◌, ◌⊎◌, ℕ, ◌+◌, ◌-◌, ◌^◌, ◌<◌, ◌≤◌, ◌++◌, List, [], ◌∷◌, length, drop, nat_lt, vec_len, vec_capacity, IsTrue, OnOk, OnErr, IfOk, IfSome, IsSomeAnd, Some, Ok, Err, if◌then◌else◌};
+ghost use Rattle.std.specs.Prelude.{◌≡◌, ◌≢◌, ◌⊎◌, ℕ, ◌+◌, ◌-◌, ◌^◌, ◌<◌, ◌≤◌, ◌++◌, List, [], ◌∷◌, length, drop, slice_index, nat_lt, vec_len, vec_capacity, IsTrue, is_ok, IsOk, IsErr, OnOk, OnErr, IfOk, IfSome, IsSomeAnd, Some, None, Ok, Err, if◌then◌else◌};
 ghost use Rattle.std.specs.Int.{w32, to_le_bytes};
 ghost use Rattle.std.specs.List.{AllByRecursion};
-ghost use Rattle.disk_model.specs.Disk.{part, Only, Narrows, HasCause, SameOutside};
+ghost use Rattle.disk_model.specs.Disk.{part, Only, SameOutside};
+ghost use Rattle.disk_model.specs.Keeps.{KeepsDisk, OnlyReads};
 ghost use Rattle.disk_model.specs.Moments.{LeavesOnly};
 ghost use Rattle.gate_slot.specs.Passing.{Passes};
 ghost use Rattle.log_records.specs.declared.Record.{Record};
 ghost use Rattle.log_records.specs.Record.{spelling, spellings, IsRecord};
-ghost use Rattle.gated_log.specs.Log.{records_of, batch, batches_bytes, with_batch, HoldsBatches};
+ghost use Rattle.gated_log.specs.Log.{records_of, batch, batches_bytes, with_batch, HoldsBatches, HasBatch, BreaksAt, IsBatchRead};
 ghost use Rattle.gated_log.specs.declared.LogError.TheVariants.{NoMemory, BadBatch};
 ghost use Rattle.gated_log.specs.LogCause.{log_device_result};
 ghost use Rattle.gated_log.specs.LogRoom.{used_bytes};
@@ -61,16 +62,22 @@ pub struct Log {
     room: u32,
     // The offset in it of the closed gate behind the forced batches.
     tail: u32,
+    // How many records are in these batches, and how many wait.
+    forced: u64,
+    waiting: u64,
     // Room for the length of a batch, and the records that wait, spelled.
     hand: Vec<u8>,
     pub ghost small: { room < 2 ^ 32 },
     ghost has_head: { 4 ≤ vec_len hand },
     ghost fits: { used_bytes tail (vec_len hand) ≤ room },
     ghost inside: { at + room < 2 ^ 64 },
+    // A record takes a byte at least.
+    ghost few_forced: { forced ≤ tail },
+    ghost few_waiting: { waiting + 4 ≤ vec_len hand },
 }
 
 impl Log {
-    ghost use Rattle.gated_log.specs.LogState.{log_place, log_room, log_tail, log_hand, hand_size, is_waiting, IsHandEmpty, IsReady, log_used, log_used_with, log_need, Keeps, IsPlaced};
+    ghost use Rattle.gated_log.specs.LogState.{log_place, log_room, log_tail, log_hand, is_waiting, IsHandEmpty, IsReady, HasSpare, log_memory, log_used, log_used_with, log_need, log_forced, log_count, Keeps, IsPlaced, IsSameLog};
 
     /// Reads the log of `room` bytes from byte `at` of the disk on, and the records of its batches in order.
     pub fn open<D: Disk>(
@@ -87,29 +94,26 @@ impl Log {
         ensures good { IfOk result (λ found. AllByRecursion IsRecord found.1.items) }
         ensures few { IfOk result (λ found. vec_len found.1 ≤ room) }
 
-        // Where the log holds batches, it finds them and their records.
+        // It finds batches and their records: those that the log holds, on a disk that tells.
+        ensures found { IfOk result (λ found. (batches : List (List Record)) × Keeps found.0 batches [] × (found.1.items ≡ records_of batches) × (IsTrue D.tells → HoldsBatches (part (D.bytes disk.old) at room) batches)) }
         ensures held { IsTrue D.tells → (batches : List (List Record)) → HoldsBatches (part (D.bytes disk.old) at room) batches → AllByRecursion IsRecord (records_of batches) → IfOk result (λ found. Keeps found.0 batches [] × (found.1.items ≡ records_of batches)) }
         ensures whole { IsTrue D.tells → (batches : List (List Record)) → HoldsBatches (part (D.bytes disk.old) at room) batches → AllByRecursion IsRecord (records_of batches) → (offset : ℕ) → result ≢ Err (BadBatch offset) }
 
-        // The disk is only read.
-        ensures bytes { IsTrue D.tells → D.bytes disk.new ≡ D.bytes disk.old }
-        ensures crash { IsTrue D.tells → Narrows (D.may_leave disk.old) (D.may_leave disk.new) }
-        ensures moments { IsTrue D.tells → LeavesOnly D.moment D.left_since disk.old disk.new (D.may_leave disk.old) }
-        ensures passed { IsTrue D.tells → D.passed disk.new ≡ D.passed disk.old }
-        ensures restarts { IsTrue D.tells → D.restarts disk.new ≡ D.restarts disk.old }
-        ensures extent { D.extent disk.new ≡ D.extent disk.old }
-        ensures origin { D.origin disk.new ≡ D.origin disk.old }
-        ensures cause { HasCause (D.faults disk.old) (D.faults disk.new) (D.stops disk.old) (D.stops disk.new) (log_device_result result) }
-        ensures no_first_stop { D.stops disk.old ≡ 0 → D.stops disk.new ≡ 0 }
+        // A bad batch is told exactly where the batch rule fails.
+        ensures bad { IsTrue D.tells → (offset : ℕ) → result ≡ Err (BadBatch offset) → BreaksAt (part (D.bytes disk.old) at room) offset }
+        ensures broken { IsTrue D.tells → (offset : ℕ) → BreaksAt (part (D.bytes disk.old) at room) offset → IsErr result }
+
+        ensures disk { OnlyReads D.Disk disk.old disk.new (log_device_result result) }
     {
         let hand = Vec::from_array(alloc, NO_LENGTH)?;
-        let mut area = vec![in alloc; 0u8; room as usize]?;
-        disk.read(at, &mut area).map_err(LogError::Disk)?;
+        let area = read_area(alloc, disk, at, room)?;
         let (records, tail) = read_batches(alloc, &area)?;
         let log = Log {
             at,
             room,
             tail,
+            forced: records.len() as u64,
+            waiting: 0,
             hand,
         };
         Ok((log, records))
@@ -120,6 +124,20 @@ impl Log {
         ensures { result ≡ is_waiting self.now }
     {
         self.hand.len() > NO_LENGTH.len()
+    }
+
+    /// How many records it has, forced or waiting: the LSN of the last one.
+    pub fn records(&self) -> u64
+        ensures { result ≡ log_count self.now }
+    {
+        self.forced + self.waiting
+    }
+
+    /// How many of its records were forced: the last LSN that is on the disk.
+    pub fn forced(&self) -> u64
+        ensures { result ≡ log_forced self.now }
+    {
+        self.forced
     }
 
     /// The bytes that are used: the forced batches, a gate, and a batch of the records that wait.
@@ -154,14 +172,14 @@ impl Log {
         }
     }
 
-    /// Takes the memory that a force needs.
-    pub fn reserve(&mut self) -> Result<(), AllocError>
-        ensures ready { OnOk result (IsReady self.new) }
-        ensures place { IsPlaced self.old self.new }
-        ensures hand { log_hand self.new ≡ log_hand self.old }
-        ensures len { hand_size self.new ≡ hand_size self.old }
+    /// Takes the memory for records of that many bytes more, and for a force of all that wait then. A log has room for fewer
+    /// than 2^32 bytes.
+    pub fn reserve(&mut self, bytes: usize) -> Result<(), AllocError>
+        requires { bytes < 2 ^ 32 }
+        ensures spare { OnOk result (HasSpare self.new bytes) }
+        ensures same { IsSameLog self.old self.new }
     {
-        self.hand.reserve(1)
+        self.hand.reserve(bytes + 1)
     }
 
     /// Adds a record behind those that wait, where the log has room for it. An `Err` changes nothing.
@@ -171,10 +189,16 @@ impl Log {
         ensures added { (batches : List (List Record)) (pending : List Record) → Keeps self.old batches pending → OnOk result (Keeps self.new batches (pending ++ rec.now ∷ [])) }
         ensures ok { OnOk result (log_hand self.new ≡ log_hand self.old ++ spelling rec.now) }
         ensures used { OnOk result (log_used self.new ≡ log_used self.old + log_need self.old (length (spelling rec.now))) }
-        ensures err { OnErr result (log_hand self.new ≡ log_hand self.old) }
+        ensures count { OnOk result (log_count self.new ≡ log_count self.old + 1) }
+        ensures err { OnErr result (IsSameLog self.old self.new) }
         ensures place { IsPlaced self.old self.new }
+        // Where `reserve` took the memory, it takes none.
+        ensures in_room { HasSpare self.old (length (spelling rec.now)) → IsOk result }
+        ensures memory { log_memory self.old ≤ log_memory self.new }
     {
-        log_records::encode(rec, &mut self.hand)
+        log_records::encode(rec, &mut self.hand)?;
+        self.waiting += 1;
+        Ok(())
     }
 
     /// Adds the records behind those that wait, where the log has room for them: all of them, or after an `Err` none.
@@ -184,11 +208,14 @@ impl Log {
         ensures added { (batches : List (List Record)) (pending : List Record) → Keeps self.old batches pending → OnOk result (Keeps self.new batches (pending ++ records.now)) }
         ensures ok { OnOk result (log_hand self.new ≡ log_hand self.old ++ spellings records.now) }
         ensures used { OnOk result (log_used self.new ≡ log_used_with self.old (length (spellings records.now))) }
-        ensures err { OnErr result (log_hand self.new ≡ log_hand self.old) }
+        ensures count { OnOk result (log_count self.new ≡ log_count self.old + length records.now) }
+        ensures err { OnErr result (IsSameLog self.old self.new) }
         ensures place { IsPlaced self.old self.new }
     {
         let bytes = spell(*self.hand.allocator(), records)?;
-        self.hand.extend_from_slice(&bytes)
+        self.hand.extend_from_slice(&bytes)?;
+        self.waiting += records.len() as u64;
+        Ok(())
     }
 
     /// Writes all records that wait as one batch, in four device calls. Without any it makes none. After an error
@@ -196,6 +223,8 @@ impl Log {
     pub fn force<D: Disk>(&mut self, disk: &mut D) -> Result<(), DiskError>
         requires inside { log_place self.old + log_room self.old ≤ D.extent disk.old }
         requires ready { IsReady self.old }
+
+        ensures disk { KeepsDisk D.Disk disk.old disk.new result }
 
         // Where nothing waits there is nothing to do.
         ensures idle { IsHandEmpty self.old → (result ≡ Ok tt) × (disk.new ≡ disk.old) × (self.new ≡ self.old) }
@@ -209,30 +238,42 @@ impl Log {
         ensures moments { IsTrue D.tells → Only (D.bytes disk.old) (D.may_leave disk.old) → (batches : List (List Record)) (pending : List Record) → Keeps self.old batches pending → HoldsBatches (part (D.bytes disk.old) (log_place self.old) (log_room self.old)) batches
             → LeavesOnly D.moment D.left_since disk.old disk.new (λ c. SameOutside (log_place self.old) (log_place self.old + log_room self.old) (D.bytes disk.old) c × (HoldsBatches (part c (log_place self.old) (log_room self.old)) batches ⊎ HoldsBatches (part c (log_place self.old) (log_room self.old)) (with_batch batches pending))) }
         ensures passes { IsTrue D.tells → Passes (if is_waiting self.old then 4 else 0) (D.passed disk.old) (D.passed disk.new) result }
-        ensures restarts { IsTrue D.tells → D.restarts disk.new ≡ D.restarts disk.old }
-
-        ensures extent { D.extent disk.new ≡ D.extent disk.old }
-        ensures origin { D.origin disk.new ≡ D.origin disk.old }
-        ensures cause { HasCause (D.faults disk.old) (D.faults disk.new) (D.stops disk.old) (D.stops disk.new) result }
 
         ensures nothing_waits { IsHandEmpty self.new }
         ensures used { log_used self.new ≤ log_used self.old }
         ensures at { log_place self.new ≡ log_place self.old }
         ensures same_room { log_room self.new ≡ log_room self.old }
         ensures err { OnErr result (log_tail self.new ≡ log_tail self.old) }
+        ensures forced { log_forced self.new ≡ (if is_ok result then log_count self.old else log_forced self.old) }
     {
         if !self.pending() {
             return Ok(());
         }
         let gate = self.at + u64::from(self.tail);
+        let waiting = self.waiting;
         close_batch(&mut self.hand);
         let size = self.hand.len() as u32;
         let written = fill_and_open(disk, gate, gate + 1, &self.hand);
+        self.waiting = 0;
         self.hand.truncate(NO_LENGTH.len());
         written?;
         self.tail += size;
+        self.forced += waiting;
         Ok(())
     }
+}
+
+/// The `room` bytes of the disk from byte `at` on.
+fn read_area<D: Disk>(alloc: Global, disk: &mut D, at: u64, room: u32) -> Result<Vec<u8>, LogError>
+    requires { at + room ≤ D.extent disk.old }
+    ensures area { IsTrue D.tells → IfOk result (λ area. area.items ≡ part (D.bytes disk.old) at room) }
+    ensures len { IfOk result (λ area. vec_len area ≡ room) }
+    ensures no_batch { (offset : ℕ) → result ≢ Err (BadBatch offset) }
+    ensures disk { OnlyReads D.Disk disk.old disk.new (log_device_result result) }
+{
+    let mut area = vec![in alloc; 0u8; room as usize]?;
+    disk.read(at, &mut area).map_err(LogError::Disk)?;
+    Ok(area)
 }
 
 /// The spellings of the records, one after another.
@@ -273,10 +314,10 @@ fn read_batches(alloc: Global, area: &[u8]) -> Result<(Vec<Record>, u32), LogErr
     requires small { length area.now < 2 ^ 32 }
     ensures inside { IfOk result (λ found. found.1 < length area.now) }
     ensures good { IfOk result (λ found. AllByRecursion IsRecord found.0.items) }
-    ensures few { IfOk result (λ found. vec_len found.0 ≤ length area.now) }
+    ensures few { IfOk result (λ found. vec_len found.0 ≤ found.1) }
     ensures no_disk { log_device_result result ≡ Ok tt }
-    ensures held { (batches : List (List Record)) → HoldsBatches area.now batches → AllByRecursion IsRecord (records_of batches) → IfOk result (λ found. (found.0.items ≡ records_of batches) × (found.1 ≡ length (batches_bytes batches))) }
-    ensures whole { (batches : List (List Record)) → HoldsBatches area.now batches → AllByRecursion IsRecord (records_of batches) → (offset : ℕ) → result ≢ Err (BadBatch offset) }
+    ensures found { IfOk result (λ found. (batches : List (List Record)) × HoldsBatches area.now batches × (found.0.items ≡ records_of batches) × (found.1 ≡ length (batches_bytes batches))) }
+    ensures bad { (offset : ℕ) → result ≡ Err (BadBatch offset) → BreaksAt area.now offset }
 {
     let mut records = Vec::new(alloc);
     let mut tail = 0usize;
@@ -296,7 +337,8 @@ fn read_batch(bytes: &[u8], into: &mut Vec<Record>) -> Result<Option<usize>, All
     ensures good { AllByRecursion IsRecord into.new.items }
     ensures inside { IfOk result (λ found. IfSome found (λ size. (0 < size) × (size < length bytes.now))) }
     ensures few { IfOk result (λ found. IfSome found (λ size. vec_len into.new ≤ vec_len into.old + size)) }
-    ensures whole { (records : List Record) (behind : List ℕ) → length bytes.now < 2 ^ 32 → 0 < length behind → AllByRecursion IsRecord records → bytes.now ≡ batch records ++ behind → IfOk result (λ found. (found ≡ Some (length (batch records))) × (into.new.items ≡ into.old.items ++ records)) }
+    ensures found { slice_index bytes.now 0 ≡ 1 → IfOk result (λ found. IfSome found (λ size. IsBatchRead bytes.now size into.old.items into.new.items)) }
+    ensures none { length bytes.now < 2 ^ 32 → result ≡ Ok None → ¬ HasBatch bytes.now }
 {
     let Some(body) = batch_body(bytes) else {
         return Ok(None);
@@ -311,6 +353,7 @@ fn read_batch(bytes: &[u8], into: &mut Vec<Record>) -> Result<Option<usize>, All
 /// The records' bytes of the batch whose gate comes first, if it lies in these bytes with the next gate behind it.
 fn batch_body(bytes: &[u8]) -> Option<&[u8]>
     ensures inside { IfSome result (λ body. 5 + length body.now < length bytes.now) }
+    ensures found { IfSome result (λ body. (length body.now < 2 ^ 32) × ((behind : List ℕ) × (0 < length behind) × (bytes.now ≡ slice_index bytes.now 0 ∷ to_le_bytes w32 (length body.now) ++ body.now ++ behind))) }
     ensures whole { (records : List Record) (behind : List ℕ) → length bytes.now < 2 ^ 32 → 0 < length behind → bytes.now ≡ batch records ++ behind → IsSomeAnd result (λ body. body.now ≡ spellings records) }
 {
     let (head, rest) = bytes.split_first_chunk::<BATCH_HEAD>()?;
@@ -327,7 +370,8 @@ fn read_records(bytes: &[u8], into: &mut Vec<Record>) -> Result<bool, AllocError
     requires { AllByRecursion IsRecord into.old.items }
     ensures good { AllByRecursion IsRecord into.new.items }
     ensures few { vec_len into.new ≤ vec_len into.old + length bytes.now }
-    ensures whole { (records : List Record) → AllByRecursion IsRecord records → bytes.now ≡ spellings records → IfOk result (λ whole. IsTrue whole × (into.new.items ≡ into.old.items ++ records)) }
+    ensures found { IfOk result (λ whole. IsTrue whole → (records : List Record) × AllByRecursion IsRecord records × (bytes.now ≡ spellings records) × (into.new.items ≡ into.old.items ++ records)) }
+    ensures whole { (records : List Record) → AllByRecursion IsRecord records → bytes.now ≡ spellings records → IfOk result (λ whole. IsTrue whole) }
 {
     let mut rest = bytes;
     while !rest.is_empty() {

@@ -37,19 +37,22 @@ fn forced_and_opened_again(rt: HostRuntime) -> Result<(), Fail> {
     let (mut log, found) = Log::open(alloc, &mut disk, 4, 40)?;
     assert_eq!(rt; found.len(), 0);
     assert_eq!(rt; log.used(), 1);
+    log.reserve(32)?;
     assert!(rt; log.used() + log.need(&update) <= log.room());
     log.append(&update)?;
     assert!(rt; log.pending());
     assert!(rt; log.used() + log.need(&commit) <= log.room());
     log.append(&commit)?;
-    log.reserve()?;
+    assert_eq!(rt; (log.records(), log.forced()), (2, 0));
     log.force(&mut disk)?;
+    assert_eq!(rt; (log.records(), log.forced()), (2, 2));
     assert!(rt; !log.pending());
     assert_eq!(rt; log.used(), 38);
     assert_eq!(rt; disk.contents(), FORCED.as_slice());
     let (again, found) = Log::open(alloc, &mut disk, 4, 40)?;
     assert_eq!(rt; found.as_slice(), RECORDS.as_slice());
     assert_eq!(rt; again.used(), 38);
+    assert_eq!(rt; (again.records(), again.forced()), (2, 2));
     Ok(())
 }
 
@@ -68,8 +71,40 @@ fn records_appended_together_are_one_batch(rt: HostRuntime) -> Result<(), Fail> 
     let (mut log, _) = Log::open(alloc, &mut disk, 4, 40)?;
     assert_eq!(rt; log.used(), 1);
     log.append_all(&RECORDS)?;
-    log.reserve()?;
+    log.reserve(0)?;
     log.force(&mut disk)?;
     assert_eq!(rt; disk.contents(), FORCED.as_slice());
+    Ok(())
+}
+
+/// The log of `FORCED` with one byte changed: the byte's place, what it is now, and how many records are found or where the
+/// batch rule fails. The gate behind the batch lies at offset 37 of the log, where no length fits any more.
+const CHANGED: [(usize, u8, Result<usize, LogError>); 7] = [
+    (4, 2, Ok(0)),
+    (41, 2, Ok(2)),
+    (41, 1, Err(LogError::BadBatch { at: 37 })),
+    (5, 31, Err(LogError::BadBatch { at: 0 })),
+    (5, 35, Err(LogError::BadBatch { at: 0 })),
+    (9, 7, Err(LogError::BadBatch { at: 0 })),
+    (28, 28, Err(LogError::BadBatch { at: 0 })),
+];
+
+#[test]
+fn a_bad_batch_is_told_where_it_begins(rt: HostRuntime) -> Result<(), Fail> {
+    let alloc = rt.alloc();
+    for (place, byte, expected) in CHANGED {
+        let mut bytes = Vec::from_array(alloc, FORCED)?;
+        bytes[place] = byte;
+        let mut disk = MemoryDisk::of(
+            alloc,
+            bytes,
+            Pick::Newest,
+            0,
+            Vec::new(alloc),
+            Vec::new(alloc),
+        )?;
+        let found = Log::open(alloc, &mut disk, 4, 40).map(|(_, records)| records.len());
+        assert_eq!(rt; found, expected, "{byte} at {place}");
+    }
     Ok(())
 }

@@ -6,8 +6,8 @@ pub mod History
 pub mod HistoryLaws
 pub mod Plain
 pub mod PlainLaws
-pub mod RootAlone
 pub mod RootGraph
+pub mod RootOnly
 pub mod SlowHeap
 pub mod Text
 pub mod Transaction

@@ -15,8 +15,8 @@ use Rattle.image_plan.specs.Plan.{image_size, frame_offset}
 use Rattle.image_plan.specs.Super.{IsSuper, superblock}
 use Rattle.heap_core.proofs.Calls.{then_err}
 use Rattle.heap_core.specs.Format.{AreZero, IsFormatting, zero_writes, format_calls}
+use Rattle.heap_model.specs.CoreLawsNew.{new_legal}
 use Rattle.heap_model.specs.Image.{IsLegal}
-use Rattle.log_machine.specs.Machine.{start}
 
 -- what is written over the front of an image, behind its first byte
 put_front : (t image : List ℕ) → length t ≡ 63 → 64 ≤ length image → filled 0 1 t image ≡ 1 ∷ t ++ drop 64 image
@@ -63,18 +63,15 @@ module _ (s : Super) (image : List ℕ) (large : image_size s.pages s.log_bytes 
 
   pub empty : IsSuper s → AreZero 64 (image_size s.pages s.log_bytes) image → IsLegal s [] (filled 0 1 (drop 1 (superblock s)) image)
   empty good zero = record {
-    limits = good;
-    size = omega (arith, long, large);
-    super = ap (λ (l : List ℕ). take 64 l) front ∙ take_at (superblock s) (drop 64 image) 64 size;
-    log = subst (λ (l : List ℕ). HoldsBatches (take s.log_bytes l) []) (sym behind) (zero_log good zero);
-    good = tt;
-    state = start;
-    reached = refl;
-    reserve = omega (arith, good.some_log);
-    plain = (inl refl, (inl refl, (inl refl, (inl refl, tt))));
-    frames = λ p f low one is_open.
-        let there : 64 + s.log_bytes + (2 * p + f) * 528 < image_size s.pages s.log_bytes = omega arith in
-        absurd (omega (arith, is_open, behind_at (frame_offset s.log_bytes p f) (omega arith), zero (frame_offset s.log_bytes p f) (omega arith) there));
+    log = new_legal s good;
+    held = record {
+      size = omega (arith, long, large);
+      super = ap (λ (l : List ℕ). take 64 l) front ∙ take_at (superblock s) (drop 64 image) 64 size;
+      log = subst (λ (l : List ℕ). HoldsBatches (take s.log_bytes l) []) (sym behind) (zero_log good zero);
+      frames = λ p f low one is_open.
+          let there : 64 + s.log_bytes + (2 * p + f) * 528 < image_size s.pages s.log_bytes = omega arith in
+          absurd (omega (arith, is_open, behind_at (frame_offset s.log_bytes p f) (omega arith), zero (frame_offset s.log_bytes p f) (omega arith) there));
+    };
   }
 
 -- an image with the gate of another open and all else equal to it is that image

@@ -1,6 +1,5 @@
 mod Calls
 mod Empty
-mod FieldRead
 mod MeansActive
 mod MeansForce
 pub mod MeansLeft
@@ -8,6 +7,6 @@ mod MeansLog
 mod MeansOpen
 mod MeansRefusal
 mod MeansStep
+mod OpenErrors
 mod Room
-mod RootText
 mod Zeros

@@ -1,15 +1,14 @@
 -- A force, and what the disk holds behind an event.
-use Rattle.std.proofs.Common.{true, false, ◌≡◌, ◌≢◌, ◌⊎◌, inl, inr, ℕ, ◌+◌, ◌*◌, ◌≤◌, List, [], ◌∷◌, ◌++◌, length, Option, Some, None, Result, Ok, Err, is_some, refl, sym, ap, ◌∙◌, subst, ⊎_elim, arith}
+use Rattle.std.proofs.Common.{lit<, ◌<◌, true, false, ◌≡◌, ◌≢◌, ◌⊎◌, inl, inr, ℕ, ◌+◌, ◌*◌, ◌≤◌, List, [], ◌∷◌, ◌++◌, length, Option, Some, None, Result, Ok, Err, is_some, refl, sym, ap, ◌∙◌, subst, ⊎_elim, arith}
 use Rattle.std.specs.Prelude.{IfOk}
 use Rattle.std.specs.declared.alloc.AllocError.{AllocError}
 use Rattle.std.proofs.lemmas.List.{append-nil}
 use Rattle.disk_model.specs.Disk.{part, Only, SameOutside}
 use Rattle.disk_model.specs.declared.disk.DiskError.{DiskError}
-use Rattle.gate_slot.specs.Images.{same_part}
 use Rattle.gated_log.specs.declared.Log.{Log}
-use Rattle.gated_log.specs.Log.{records_of, batches_bytes, with_batch, HoldsBatches}
+use Rattle.gated_log.specs.Log.{records_of, with_batch, HoldsBatches}
 use Rattle.gated_log.specs.LogLaws.{hand_size-Keeps}
-use Rattle.gated_log.specs.LogState.{log_place, log_room, log_hand, hand_size, IsHandEmpty, Keeps, IsPlaced}
+use Rattle.gated_log.specs.LogState.{log_place, log_room, IsHandEmpty, Keeps, IsSameLog}
 use Rattle.graph_model.specs.declared.event.Event.{Event}
 use Rattle.graph_model.specs.declared.event.Event.TheVariants.{Begin, Root, Put, Clear, Drop, Get, Same, Len, Seal, Abort, Force}
 use Rattle.graph_model.specs.declared.reply.Entry.{Entry}
@@ -24,27 +23,30 @@ use Rattle.graph_model.specs.HistoryLaws.{account-append, entries-account}
 use Rattle.graph_model.specs.Plain.{granted, reply_of}
 use Rattle.graph_model.specs.PlainLaws.{account_after-refused}
 use Rattle.image_plan.specs.declared.superblock.Super.{Super}
-use Rattle.image_plan.specs.Plan.{frame_offset}
 use Rattle.log_records.specs.declared.Record.{Record}
 use Rattle.log_records.specs.Record.{spellings}
 use Rattle.log_machine.specs.declared.UndoEntry.{UndoEntry}
 use Rattle.heap_core.specs.declared.active.Active.{Active}
 use Rattle.heap_core.specs.declared.working.Working.{Working}
-use Rattle.heap_model.specs.Core.{Core, all_records, next_number, core_refusal, answer, with_entry, after_refusal, after}
+use Rattle.heap_model.specs.Core.{Core, all_records, undo_behind, next_number, core_refusal, answer, with_entry, after_refusal, after, force_calls}
 use Rattle.heap_model.specs.CoreCrash.{KeepsCommits}
-use Rattle.heap_model.specs.CoreValid.{IsValid, IsReached}
-use Rattle.heap_model.specs.CoreLawsCrash.{IsOnDisk, forced-with_batch, records_of-with_batch, disk_good, disk_reached, disk_plain, crash_law}
-use Rattle.heap_model.specs.CoreLawsRun.{failed_refusal, failed_after, after_history, step_history}
-use Rattle.heap_model.specs.CoreLawsStep.{valid_after}
-use Rattle.heap_model.specs.Image.{IsLegal}
-use Rattle.log_machine.specs.Machine as machine
-use Rattle.log_machine.specs.Machine.{words, undo_of, undo_reserve, taken_back, committed_words}
+use Rattle.heap_model.specs.CoreValid.{IsValid, IsSound, IsReached}
+use Rattle.heap_model.specs.CoreLawsCrash.{IsSuperOf, IsOnDisk, forced-with_batch, records_of-with_batch, crash_law}
+use Rattle.heap_model.specs.CoreLawsGranted.{writer_as, undo_active}
+use Rattle.heap_model.specs.CoreLawsHeld.{held_with}
+use Rattle.heap_model.specs.CoreLawsLone.{lone_words}
+use Rattle.object_layout.specs.Layout.{IsSeen}
+use Rattle.heap_model.specs.CoreLawsRecords.{told_seen}
+use Rattle.heap_model.specs.CoreLawsRun.{sound_valid, failed_refusal, failed_after, calls-force, calls-unfailed, calls-forced, force_granted, after_history, step_history}
+use Rattle.heap_model.specs.CoreLawsStep.{done_records, valid_after}
+use Rattle.heap_model.specs.Image.{Holds}
+use Rattle.heap_model.specs.ValueWord.{value_of}
+use Rattle.log_machine.specs.Machine.{words, taken_back, committed_words, each_taken_back, losing_in}
 use Rattle.heap_core.specs.Means.{IsActive, Works, OnDisk, Remembers, DiskHolds, Steps, StepsOn}
-use Rattle.heap_core.proofs.MeansActive.{undo_is, is_some_active}
+use Rattle.heap_core.proofs.MeansActive.{is_some_active}
 use Rattle.heap_core.proofs.MeansLeft.{keeps_refused, keeps_cut}
 use Rattle.heap_core.proofs.MeansLog.{keeps_same}
-use Rattle.heap_core.proofs.MeansRefusal.{force_same}
-use Rattle.heap_core.specs.Working.{active_undo, begin_refusal, handle_refusal, held_refusal, put_refusal, clear_refusal, get_refusal, same_refusal, end_refusal, field_reply, IsAsItWas, Begins, SetsHandle, Writes, Seals, Aborts}
+use Rattle.heap_core.specs.Working.{active_undo, begin_refusal, handle_refusal, held_refusal, put_refusal, clear_refusal, get_refusal, same_refusal, end_refusal, field_word, field_reply, IsGranted, IsAsItWas, Begins, SetsHandle, Gets, Writes, Seals, Aborts}
 use Rattle.heap_core.proofs.MeansStep.{Does, works_after, begin_does, root_does, drop_does, get_does, same_does, len_does, put_does, clear_does, seal_does, abort_does}
 
 records_forced : (bs : List (List Record)) (p : List Record) → records_of (with_batch bs p) ++ [] ≡ records_of bs ++ p
@@ -57,61 +59,46 @@ force_does w new c reply valid works keeps at room stored active next sealed rep
     let a = account c.history in
     let P : Core → Type 0 = λ d. Works new (account_after a (record { event = Force; reply = Durable (length a.sealed) })) d in
     record {
-      replied = replied ∙ ap Durable works.sealed ∙ sym (ap (λ (o : Option Refusal). reply_of o (Durable (length a.sealed))) (force_same c valid));
-      works = works_after new c Force None (force_same c valid)
+      replied = replied ∙ ap Durable works.sealed ∙ sym (ap (λ (o : Option Refusal). reply_of o (Durable (length a.sealed))) (force_granted c valid));
+      works = works_after new c Force None (force_granted c valid)
           (λ e. subst P (sym (forced-with_batch c)) (record {
             log = keeps;
             place = at ∙ works.place;
             room = room ∙ works.room;
-            stored = stored ∙ works.stored ∙ ap words (sym (records_forced c.batches c.pending));
+            stored = stored ∙ works.stored ∙ ap (words c.pages) (sym (records_forced c.batches c.pending));
             active =
-                let same = sym (ap undo_of (records_forced c.batches c.pending)) in
-                let at = subst (λ (p : Option Active). IsActive (serial c.g0 a.sealed) (undo_of (records_of c.batches ++ c.pending)) (a.active 1) p) (sym active) works.active in
-                subst (λ (us : List UndoEntry). IsActive (serial c.g0 a.sealed) us (a.active 1) new.active) same at;
+                let at = subst (λ (p : Option Active). IsActive (serial c.g0 a.sealed) (undo_behind c (all_records c)) (a.active 1) p) (sym active) works.active in
+                subst (λ (rs : List Record). IsActive (serial c.g0 a.sealed) (undo_behind c rs) (a.active 1) new.active) (sym (records_forced c.batches c.pending)) at;
             next = next ∙ works.next;
             sealed = sealed ∙ works.sealed;
           }))
           (λ why e. cc);
     }
 
--- an image whose log holds what a core may have on the disk
-pub legal_with : (s : Super) (c : Core) (bs bs' : List (List Record)) (old new : List ℕ) → s.log_bytes ≡ c.room → IsReached c → IsOnDisk c bs' → IsLegal s bs old → SameOutside 64 (64 + s.log_bytes) old new
-    → HoldsBatches (part new 64 s.log_bytes) bs' → IsLegal s bs' new
-legal_with s c bs bs' old new room reached on legal outside holds = let told = disk_reached c bs' reached on in record {
-  limits = legal.limits;
-  size = omega (arith, legal.size, outside.size);
-  super = same_part 0 64 old new outside.size (λ i low high. outside.before i (omega arith)) ∙ legal.super;
-  log = holds;
-  good = disk_good c bs' reached on;
-  state = told.0;
-  reached = told.1;
-  reserve = subst (λ (n : ℕ). length (batches_bytes bs') + 1 + undo_reserve told.0.undo ≤ n) (sym room) told.2;
-  plain = disk_plain c bs' reached on;
-  frames = λ p f few one is. legal.frames p f few one (sym (outside.behind (frame_offset s.log_bytes p f) (omega arith)) ∙ is);
-}
+-- another history, and other records, are of a heap with the same numbers
+of_same : (s : Super) (c d : Core) → IsSuperOf s c → d.pages ≡ c.pages → d.room ≡ c.room → IsSuperOf s d
+of_same s c d of pages room = record { limits = of.limits; pages = of.pages ∙ sym pages; room = of.room ∙ sym room }
 
-keeps_batches : (o : Option Refusal) (c : Core) (event : Event) → (event ≡ Force → ⊥) → ((after_refusal o c event).batches ≡ c.batches) × ((after_refusal o c event).room ≡ c.room)
-keeps_batches (Some why) c event other = (refl, refl)
-keeps_batches None c (Begin s) other = (refl, refl)
-keeps_batches None c (Root s h) other = (refl, refl)
-keeps_batches None c (Put s h i v) other = (refl, refl)
-keeps_batches None c (Clear s h i) other = (refl, refl)
-keeps_batches None c (Drop s h) other = (refl, refl)
-keeps_batches None c (Get s h i h2) other = (refl, refl)
-keeps_batches None c (Same s h h2) other = (refl, refl)
-keeps_batches None c (Len s h) other = (refl, refl)
-keeps_batches None c (Seal s) other = (refl, refl)
-keeps_batches None c (Abort s) other = (refl, refl)
-keeps_batches None c Force other = absurd (other refl)
+record SameDisk (c d : Core) : Type 0 where
+  batches : d.batches ≡ c.batches
+  pages : d.pages ≡ c.pages
+  room : d.room ≡ c.room
+
+all_same : (c : Core) → SameDisk c c
+all_same c = record { batches = refl; pages = refl; room = refl }
+
+same_disk : (o : Option Refusal) (c : Core) (event : Event) → (event ≡ Force → ⊥) → SameDisk c (after_refusal o c event)
+same_disk (Some why) c event other = all_same c
+same_disk None c event other = let P : Core → Type 0 = λ d. SameDisk c d in subst P (sym (done_records c event other)) (record { batches = refl; pages = refl; room = refl })
 
 -- only a force asks anything of the disk
 pub disk_stays : (s : Super) (c : Core) (event : Event) (image : List ℕ) (may_leave : List ℕ → Type 0) → (event ≡ Force → ⊥) → OnDisk s c image may_leave → OnDisk s (after c event) image may_leave
 disk_stays s c event image may_leave other disk =
-    let same = keeps_batches (core_refusal c event) c event other in
+    let same = same_disk (core_refusal c event) c event other in
     record {
-      legal = let P : List (List Record) → Type 0 = λ bs. IsLegal s bs image in subst P (sym same.0) disk.legal;
+      of = of_same s c (after c event) disk.of same.pages same.room;
+      held = let P : List (List Record) → Type 0 = λ bs. Holds s bs image in subst P (sym same.batches) disk.held;
       only = disk.only;
-      room = disk.room ∙ sym same.1;
     }
 
 -- the disk behind a force
@@ -119,12 +106,12 @@ pub disk_forced : (s : Super) (c : Core) (old new : List ℕ) (may_leave' may_le
     → HoldsBatches (part new 64 s.log_bytes) (with_batch c.batches c.pending) → Only new may_leave → OnDisk s (after c Force) new may_leave
 disk_forced s c old new may_leave' may_leave valid disk outside holds only =
     let forced_now : after_refusal (core_refusal c Force) c Force ≡ record c { batches = with_batch c.batches c.pending; pending = [] } =
-    ap (λ (o : Option Refusal). after_refusal o c Force) (force_same c valid) ∙ forced-with_batch c in
+    ap (λ (o : Option Refusal). after_refusal o c Force) (force_granted c valid) ∙ forced-with_batch c in
     let P : Core → Type 0 = λ d. OnDisk s (with_entry d Force (answer c Force)) new may_leave in
     subst P (sym forced_now) (record {
-      legal = legal_with s c c.batches (with_batch c.batches c.pending) old new disk.room (inl valid) (inr refl) disk.legal outside holds;
+      of = of_same s c _ disk.of refl refl;
+      held = held_with s c.batches (with_batch c.batches c.pending) old new disk.held outside holds;
       only = only;
-      room = disk.room;
     })
 
 -- an event that the disk did not cut short
@@ -156,6 +143,11 @@ pub cut_active : (a : Account) (reply : Reply) → (reply ≡ Refused DiskFault)
 cut_active a reply (inl is) = ap (λ (r : Reply). (account_after a (record { event = Force; reply = r })).active 1) is
 cut_active a reply (inr is) = ap (λ (r : Reply). (account_after a (record { event = Force; reply = r })).active 1) is
 
+-- a force of what waits makes calls
+pub some_calls : (p : List Record) → p ≢ [] → 0 < force_calls p
+some_calls [] some = absurd (some refl)
+some_calls (r ∷ rs) some = lit< tt
+
 -- a force that the disk cut short
 abbrev pub cut_steps : (c : Core) (reply : Reply) (w new : Working) (entries : ℕ) (failed : Option ℕ) → IsValid c → Works w (account c.history) c
     → ¬ IsHandEmpty w.log → (reply ≡ Refused DiskFault) ⊎ (reply ≡ Refused Stopped) → entries ≡ length c.history → failed ≡ Some (entries + 1) → new.sealed ≡ w.sealed → new.active ≡ w.active → Steps c Force reply new failed
@@ -166,7 +158,7 @@ cut_steps c reply w new entries failed valid works waits told count is sealed ac
     let some : c.pending ≢ [] = λ none. waits (hand_size-Keeps w.log c.batches c.pending works.log ∙ ap (λ (p : List Record). 4 + length (spellings p)) none) in
     record {
       next = with_entry c Force reply;
-      step = inr (record { force = refl; waits = some; first = valid.unfailed; told = told }, refl);
+      step = inr (record { some = subst (λ (n : ℕ). 0 < n) (sym (calls-forced c valid)) (some_calls c.pending some); told = told }, refl);
       memory = record {
         failure = is ∙ ap (λ (n : ℕ). Some (n + 1)) (count ∙ sym (entries-account c.history)) ∙ told_entry a reply valid.unfailed told ∙ ap (λ (b : Account). b.failed) (sym said);
         works = λ none. let never : None ≡ Some (entries + 1) = sym none ∙ is in cc;
@@ -203,7 +195,7 @@ pub failed_on : (s : Super) (c : Core) (event : Event) (reply : Reply) (entry : 
 failed_on s c event reply entry w failed image may_leave fails holds steps =
     let a = account c.history in
     let next_is : steps.next ≡ with_entry c event (Refused (Failed entry)) =
-    ⊎_elim (λ whole. whole.1 ∙ failed_after c event entry fails) (λ cut. let never : None ≡ Some entry = sym cut.0.first ∙ fails in cc) steps.step in
+    ⊎_elim (λ whole. whole.1 ∙ failed_after c event entry fails) (λ cut. let never : None ≡ Some entry = sym (calls-unfailed c event cut.0.some) ∙ fails in cc) steps.step in
     let some : a.failed ≢ None = λ none. let never : None ≡ Some entry = sym none ∙ fails in cc in
     let said : account (with_entry c event (Refused (Failed entry))).history ≡ record a { entries = a.entries + 1 } = account-append c.history _ ∙ account_after-refused a event (Failed entry) tt in
     let here : DiskHolds s (with_entry c event (Refused (Failed entry))) image may_leave = record {
@@ -216,7 +208,7 @@ failed_on s c event reply entry w failed image may_leave fails holds steps =
 pub quiet_on : (s : Super) (c : Core) (event : Event) (reply : Reply) (w : Working) (failed : Option ℕ) (image : List ℕ) (may_leave : List ℕ → Type 0) → IsValid c → IsSingleSession event → (event ≡ Force → ⊥)
     → DiskHolds s c image may_leave → (steps : Steps c event reply w failed) → StepsOn s c event reply w failed image may_leave
 quiet_on s c event reply w failed image may_leave valid one other holds steps =
-    let next_is : steps.next ≡ after c event = ⊎_elim (λ whole. whole.1) (λ cut. absurd (other cut.0.force)) steps.step in
+    let next_is : steps.next ≡ after c event = ⊎_elim (λ whole. whole.1) (λ cut. absurd (other (calls-force c event cut.0.some).0)) steps.step in
     let here : DiskHolds s (after c event) image may_leave = record {
       unfailed = λ none. disk_stays s c event image may_leave other (holds.unfailed valid.unfailed);
       failed = λ some. absurd (some (valid_after c event valid one).unfailed);
@@ -230,13 +222,12 @@ quiet_result_on s c event (Err e) w failed image may_leave valid one other holds
 
 -- a heap that has not failed is a valid core
 pub unfailed_valid : (c : Core) (failed : Option ℕ) → failed ≡ (account c.history).failed → failed ≡ None → IsReached c → IsValid c
-unfailed_valid c failed failure none (inl valid) = valid
-unfailed_valid c failed failure none (inr bad) = let never : None ≡ Some bad.entry = sym none ∙ failure ∙ bad.failed in cc
+unfailed_valid c failed failure none reached = sound_valid c reached.sound (sym failure ∙ none)
 
-module _ (c : Core) (w : Working) (log : Log) (works : Works w (account c.history) c) (placed : IsPlaced w.log log) (hand : log_hand log ≡ log_hand w.log) where
+module _ (c : Core) (w : Working) (log : Log) (works : Works w (account c.history) c) (same : IsSameLog w.log log) where
   -- the log keeps the core's batches in memory
   pub keeps : Keeps log c.batches c.pending
-  keeps = keeps_same w.log log c.batches c.pending (record { at = placed.at; room = placed.room; tail = placed.tail; in_hand = hand }) works.log
+  keeps = keeps_same w.log log c.batches c.pending same works.log
 
   -- a force that the disk did
   abbrev pub ok_steps : (new : Working) (reply : Reply) (failed : Option ℕ) → IsValid c → failed ≡ None → Keeps new.log (with_batch c.batches c.pending) []
@@ -244,21 +235,21 @@ module _ (c : Core) (w : Working) (log : Log) (works : Works w (account c.histor
       → Steps c Force reply new failed
   ok_steps new reply failed valid none kept new_at new_room stored active next sealed replied =
       whole_steps c Force reply new failed (valid_after c Force valid tt) none
-      (force_does w new c reply valid works kept (new_at ∙ placed.at) (new_room ∙ placed.room) stored active next sealed replied)
+      (force_does w new c reply valid works kept (new_at ∙ same.place.at) (new_room ∙ same.place.room) stored active next sealed replied)
 
   -- and one that it cut short
   abbrev pub err_steps : (new : Working) (reply : Reply) (entries : ℕ) (result : Result (Unit {0}) DiskError) (e : DiskError) (now : Option ℕ) → IsValid c
-      → (IsHandEmpty log → result ≡ Ok tt) → result ≡ Err e → hand_size log ≡ hand_size w.log → (reply ≡ Refused DiskFault) ⊎ (reply ≡ Refused Stopped)
+      → (IsHandEmpty log → result ≡ Ok tt) → result ≡ Err e → (reply ≡ Refused DiskFault) ⊎ (reply ≡ Refused Stopped)
       → entries ≡ length c.history → now ≡ Some (entries + 1) → new.sealed ≡ w.sealed → new.active ≡ w.active → Steps c Force reply new now
-  err_steps new reply entries result e now valid waited is same told count fails sealed active =
-      cut_steps c reply w new entries now valid works (λ four. let never : Err e ≡ Ok tt = sym is ∙ waited (same ∙ four) in cc) told count fails sealed active
+  err_steps new reply entries result e now valid waited is told count fails sealed active =
+      cut_steps c reply w new entries now valid works (λ four. let never : Err e ≡ Ok tt = sym is ∙ waited (same.size ∙ four) in cc) told count fails sealed active
 
   module _ (s : Super) (old : List ℕ) (may_have_left : List ℕ → Type 0) (disk : OnDisk s c old may_have_left) where
     at : log_place log ≡ 64
-    at = placed.at ∙ works.place
+    at = same.place.at ∙ works.place
 
     room : log_room log ≡ s.log_bytes
-    room = placed.room ∙ works.room ∙ sym disk.room
+    room = same.place.room ∙ works.room ∙ sym disk.of.room
 
     in_log : (P : ℕ → ℕ → Type 0) → P (log_place log) (log_room log) → P 64 s.log_bytes
     in_log P h = subst (P 64) room (let Q : ℕ → Type 0 = λ n. P n (log_room log) in subst Q at h)
@@ -266,7 +257,7 @@ module _ (c : Core) (w : Working) (log : Log) (works : Works w (account c.histor
     -- and the batches stand on the disk
     pub holds : HoldsBatches (part old (log_place log) (log_room log)) c.batches
     holds = let P : ℕ → ℕ → Type 0 = λ n m. HoldsBatches (part old n m) c.batches in
-        let Q : ℕ → Type 0 = λ n. P n (log_room log) in subst Q (sym at) (subst (P 64) (sym room) disk.legal.log)
+        let Q : ℕ → Type 0 = λ n. P n (log_room log) in subst Q (sym at) (subst (P 64) (sym room) disk.held.log)
 
     pub ok_on : (image : List ℕ) (may_leave : List ℕ → Type 0) (reply : Reply) (new : Working) (failed : Option ℕ) → IsValid c → failed ≡ None → Keeps new.log (with_batch c.batches c.pending) []
         → HoldsBatches (part image (log_place log) (log_room log)) (with_batch c.batches c.pending) → SameOutside (log_place log) (log_place log + log_room log) old image → Only image may_leave
@@ -283,24 +274,23 @@ module _ (c : Core) (w : Working) (log : Log) (works : Works w (account c.histor
       };
     }
 
-    kept_batches : (bs : List (List Record)) (image : List ℕ) → IsReached c → IsOnDisk c bs → SameOutside 64 (64 + s.log_bytes) old image → HoldsBatches (part image (log_place log) (log_room log)) bs → KeepsCommits c image
-    kept_batches bs image reached on outside held =
-        let legal = legal_with s c c.batches bs old image disk.room reached on disk.legal outside (let P : ℕ → ℕ → Type 0 = λ n m. HoldsBatches (part image n m) bs in in_log P held) in
-        (machine.commits (records_of bs), crash_law c s bs image reached on legal)
+    kept_batches : (bs : List (List Record)) (image : List ℕ) → IsSound c → IsOnDisk c bs → SameOutside 64 (64 + s.log_bytes) old image → HoldsBatches (part image (log_place log) (log_room log)) bs → KeepsCommits c image
+    kept_batches bs image sound on outside held =
+        crash_law c s bs sound on disk.of image (held_with s c.batches bs old image disk.held outside (let P : ℕ → ℕ → Type 0 = λ n m. HoldsBatches (part image n m) bs in in_log P held))
 
     -- what a crash leaves during a force are first commits
-    pub force_keeps : (image : List ℕ) → IsReached c → SameOutside (log_place log) (log_place log + log_room log) old image × (HoldsBatches (part image (log_place log) (log_room log)) c.batches ⊎ HoldsBatches (part image (log_place log) (log_room log)) (with_batch c.batches c.pending))
+    pub force_keeps : (image : List ℕ) → IsSound c → SameOutside (log_place log) (log_place log + log_room log) old image × (HoldsBatches (part image (log_place log) (log_room log)) c.batches ⊎ HoldsBatches (part image (log_place log) (log_room log)) (with_batch c.batches c.pending))
         → KeepsCommits c image
-    force_keeps image reached found =
+    force_keeps image sound found =
         let outside = (let P : ℕ → ℕ → Type 0 = λ n m. SameOutside n (n + m) old image in in_log P found.0) in
-        ⊎_elim (λ held. kept_batches c.batches image reached (inl refl) outside held)
-        (λ held. kept_batches (with_batch c.batches c.pending) image reached (inr refl) outside held) found.1
+        ⊎_elim (λ held. kept_batches c.batches image sound (inl refl) outside held)
+        (λ held. kept_batches (with_batch c.batches c.pending) image sound (inr refl) outside held) found.1
 
     pub err_on : (image : List ℕ) (may_leave : List ℕ → Type 0) (reply : Reply) (new : Working) (entries : ℕ) (result : Result (Unit {0}) DiskError) (e : DiskError) (now : Option ℕ) → IsValid c
-        → (IsHandEmpty log → result ≡ Ok tt) → result ≡ Err e → hand_size log ≡ hand_size w.log → (reply ≡ Refused DiskFault) ⊎ (reply ≡ Refused Stopped)
+        → (IsHandEmpty log → result ≡ Ok tt) → result ≡ Err e → (reply ≡ Refused DiskFault) ⊎ (reply ≡ Refused Stopped)
         → entries ≡ length c.history → now ≡ Some (entries + 1) → new.sealed ≡ w.sealed → new.active ≡ w.active → ((d : List ℕ) → may_leave d → KeepsCommits c d) → StepsOn s c Force reply new now image may_leave
-    err_on image may_leave reply new entries result e now valid waited is same told count fails sealed active left =
-        let steps = err_steps new reply entries result e now valid waited is same told count fails sealed active in
+    err_on image may_leave reply new entries result e now valid waited is told count fails sealed active left =
+        let steps = err_steps new reply entries result e now valid waited is told count fails sealed active in
         record {
           steps = steps;
           disk = record {
@@ -351,9 +341,10 @@ module _ (c : Core) (w : Working) (failed : Option ℕ) (memory : Remembers c w 
   drop_steps event n h new reply is one replied set stays =
       of_one (λ m. Drop m h) event n (Stepped new reply) is (λ own. subst IsSingleSession is own) one (quiet_steps (Drop 1 h) reply new refl (drop_does w new c is_valid works_now h reply replied set stays))
 
-  pub get_steps : (event : Event) (n h i h2 : ℕ) (reply : Reply) → event ≡ Get n h i h2 → IsSingleSession event → reply ≡ reply_of (get_refusal w.active h i h2) (field_reply w.words i) → Stepped w reply event
-  get_steps event n h i h2 reply is one replied =
-      of_one (λ m. Get m h i h2) event n (Stepped w reply) is (λ own. subst IsSingleSession is own) one (quiet_steps (Get 1 h i h2) reply w refl (get_does w w c is_valid works_now h i h2 reply replied refl))
+  pub get_steps : (event : Event) (n h i h2 : ℕ) (new : Working) (reply : Reply) → event ≡ Get n h i h2 → IsSingleSession event → reply ≡ reply_of (get_refusal w.active h i h2) (field_reply w.words i)
+      → (IsGranted reply → Gets w new h2 (value_of (field_word w.words i))) → ((why : Refusal) → reply ≡ Refused why → new ≡ w) → Stepped new reply event
+  get_steps event n h i h2 new reply is one replied got stays =
+      of_one (λ m. Get m h i h2) event n (Stepped new reply) is (λ own. subst IsSingleSession is own) one (quiet_steps (Get 1 h i h2) reply new refl (get_does w new c is_valid works_now h i h2 reply replied got stays))
 
   pub same_steps : (event : Event) (n h h2 : ℕ) (reply : Reply) → event ≡ Same n h h2 → IsSingleSession event → reply ≡ reply_of (same_refusal w.active h h2) Yes → Stepped w reply event
   same_steps event n h h2 reply is one replied =
@@ -390,8 +381,21 @@ with_history c event reply w failed old new was is steps =
     is ∙ ap (λ (l : List Entry). l ++ record { event = event; reply = reply } ∷ []) was ∙ sym (step_history c steps.next event reply steps.step)
 
 -- the words without what the active transaction wrote
-pub committed : (c : Core) (w : Working) → Works w (account c.history) c → taken_back (active_undo w.active) w.words ≡ committed_words (all_records c)
-committed c w works =
-    let a = account c.history in
-    ap (λ (us : List UndoEntry). taken_back us w.words) (undo_is (serial c.g0 a.sealed) (undo_of (all_records c)) (a.active 1) w.active works.active)
-    ∙ ap (taken_back (undo_of (all_records c))) works.stored
+committed_as : (c : Core) (w : Working) (o : Option Transaction) (p : Option Active) → (valid : IsValid c) → (account c.history).active 1 ≡ o → IsActive (serial c.g0 (account c.history).sealed) (undo_behind c (all_records c)) o p → active_undo p ≡ valid.behind.undo
+committed_as c w None None valid e is = sym (writer_as (account c.history) c None e valid)
+committed_as c w (Some t) (Some x) valid e is = is.undo ∙ undo_active (account c.history) c t e valid
+committed_as c w None (Some x) valid e is = absurd is
+committed_as c w (Some t) None valid e is = absurd is
+
+pub committed : (c : Core) (w : Working) → IsValid c → Works w (account c.history) c → taken_back (active_undo w.active) w.words ≡ committed_words c.pages c.first (all_records c)
+committed c w valid works =
+    let told = valid.told in
+    ap (λ (us : List UndoEntry). taken_back us w.words) (committed_as c w ((account c.history).active 1) w.active valid refl works.active)
+    ∙ ap (taken_back valid.behind.undo) works.stored
+    ∙ sym (ap (λ o. each_taken_back (losing_in o) (words c.pages (all_records c))) told.reached ∙ lone_words valid.behind.state valid.behind.writer valid.behind.undo (words c.pages (all_records c)) told.alone)
+
+-- in which the graph of the sealed transactions is seen
+pub committed_seen : (c : Core) (w : Working) → IsValid c → Works w (account c.history) c → IsSeen (taken_back (active_undo w.active) w.words) 0 (serial c.g0 (account c.history).sealed)
+committed_seen c w valid works =
+    let g = serial c.g0 (account c.history).sealed in
+    subst (λ (ws : List ℕ). IsSeen ws 0 g) (sym (committed c w valid works)) (told_seen c.pages c.first g (c.before + length (account c.history).sealed) (all_records c) valid.behind valid.told)

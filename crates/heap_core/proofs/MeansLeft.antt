@@ -9,7 +9,6 @@ use Rattle.disk_model.specs.Moments.{LeavesOnly, begins}
 use Rattle.disk_model.specs.declared.disk.DiskError.{DiskError}
 use Rattle.gate_slot.specs.Passing.{Passes}
 use Rattle.gated_log.specs.declared.Log.{Log}
-use Rattle.gated_log.specs.Log.{records_of}
 use Rattle.gated_log.specs.LogLaws.{hand_size-Keeps}
 use Rattle.gated_log.specs.LogState.{hand_size, is_waiting, Keeps}
 use Rattle.graph_model.specs.declared.event.Event.{Event}
@@ -27,12 +26,12 @@ use Rattle.image_plan.specs.declared.superblock.Super.{Super}
 use Rattle.log_records.specs.declared.Record.{Record}
 use Rattle.log_records.specs.Record.{spellings}
 use Rattle.heap_core.specs.Causes.{reply_device}
-use Rattle.heap_model.specs.Core.{Core, with_entry, force_calls, calls_if, calls}
+use Rattle.heap_model.specs.Core.{Core, core_refusal, with_entry, force_calls, calls_if, calls}
 use Rattle.heap_model.specs.CoreCrash.{KeepsCommits}
 use Rattle.heap_model.specs.CoreLawsCrash.{crash_law}
-use Rattle.heap_model.specs.CoreValid.{IsReached}
-use Rattle.heap_model.specs.Image.{StandsFor, IsLegal}
-use Rattle.log_machine.specs.Machine as machine
+use Rattle.heap_model.specs.CoreLawsRun.{failed_refusal, calls-forced}
+use Rattle.heap_model.specs.CoreValid.{IsValid, IsSound}
+use Rattle.heap_model.specs.Image.{StandsFor, Holds}
 use Rattle.heap_core.specs.Means.{DiskHolds}
 use Rattle.heap_core.proofs.MeansLog.{some_spellings}
 
@@ -51,7 +50,7 @@ keeps_entry c event reply b image is same_sealed same_doubt same_acknowledged ke
     let first = kept.1 in (
       k,
       record {
-        stands = subst (λ (ts : List Transaction). StandsFor (serial c.g0 (take k ts)) k image) (sym all) first.stands;
+        stands = subst (λ (ts : List Transaction). StandsFor (serial c.g0 (take k ts)) (c.before + k) image) (sym all) first.stands;
         kept = subst (λ (n : ℕ). n ≤ k) (sym told) first.kept;
         some = subst (λ (ts : List Transaction). k ≤ length ts) (sym all) first.some;
       },
@@ -68,12 +67,11 @@ keeps_cut c reply image (inl told) kept =
 keeps_cut c reply image (inr told) kept =
     subst (λ (r : Reply). KeepsCommits (with_entry c Force r) image) (sym told) (keeps_entry c Force (Refused Stopped) _ image refl refl refl refl kept)
 
-module _ (s : Super) (c : Core) (image : List ℕ) (may_leave : List ℕ → Type 0) (holds : DiskHolds s c image may_leave) (reached : IsReached c) where
+module _ (s : Super) (c : Core) (image : List ℕ) (may_leave : List ℕ → Type 0) (holds : DiskHolds s c image may_leave) (sound : IsSound c) where
   keeps_as : (o : Option ℕ) → (account c.history).failed ≡ o → (d : List ℕ) → may_leave d → KeepsCommits c d
   keeps_as None is d left =
       let disk = holds.unfailed is in
-      let same : d ≡ image = disk.only d left in
-      (machine.commits (records_of c.batches), crash_law c s c.batches d reached (inl refl) (subst (λ (x : List ℕ). IsLegal s c.batches x) (sym same) disk.legal))
+      crash_law c s c.batches sound (inl refl) disk.of d (subst (λ (x : List ℕ). Holds s c.batches x) (sym (disk.only d left)) disk.held)
   keeps_as (Some entry) is d left = holds.failed (λ none. let never : None ≡ Some entry = sym none ∙ is in cc) d left
 
   -- a crash leaves the heap's first commits
@@ -96,8 +94,8 @@ none_pass n before result none = subst (λ (k : ℕ). Passes k before before res
   stopped = λ same any. absurd (omega (arith, any));
 })
 
-quiet_calls : (o : Option ℕ) (c : Core) (event : Event) → (event ≡ Force → ⊥) → calls_if o c event ≡ 0
-quiet_calls (Some entry) c event other = refl
+quiet_calls : (o : Option Refusal) (c : Core) (event : Event) → (event ≡ Force → ⊥) → calls_if o c event ≡ 0
+quiet_calls (Some why) c event other = refl
 quiet_calls None c (Begin s) other = refl
 quiet_calls None c (Root s h) other = refl
 quiet_calls None c (Put s h i v) other = refl
@@ -111,7 +109,7 @@ quiet_calls None c (Abort s) other = refl
 quiet_calls None c Force other = absurd (other refl)
 
 pub quiet_passes : (c : Core) (event : Event) (before : ℕ) (reply : Reply) → (event ≡ Force → ⊥) → Passes (calls c event) before before (reply_device reply)
-quiet_passes c event before reply other = none_pass (calls c event) before (reply_device reply) (quiet_calls (account c.history).failed c event other)
+quiet_passes c event before reply other = none_pass (calls c event) before (reply_device reply) (quiet_calls (core_refusal c event) c event other)
 
 pub quiet_passes_result : (c : Core) (event : Event) (before : ℕ) (result : Result Reply AllocError) → (event ≡ Force → ⊥) → IfOk result (λ reply. Passes (calls c event) before before (reply_device reply))
 quiet_passes_result c event before (Ok reply) other = quiet_passes c event before reply other
@@ -119,14 +117,14 @@ quiet_passes_result c event before (Err e) other = tt
 
 -- nor does an event that a heap refuses since it has failed
 pub failed_passes : (c : Core) (event : Event) (entry before : ℕ) (reply : Reply) → (account c.history).failed ≡ Some entry → Passes (calls c event) before before (reply_device reply)
-failed_passes c event entry before reply is = none_pass (calls c event) before (reply_device reply) (ap (λ (o : Option ℕ). calls_if o c event) is)
+failed_passes c event entry before reply is = none_pass (calls c event) before (reply_device reply) (ap (λ (o : Option Refusal). calls_if o c event) (failed_refusal c event entry is))
 
 hand_calls : (n : ℕ) (p : List Record) → n ≡ 4 + length (spellings p) → (if nat_lt 4 n then 4 else 0) ≡ force_calls p
 hand_calls n [] is = ap (λ (k : ℕ). if nat_lt 4 k then 4 else 0) is
 hand_calls n (r ∷ rs) is = ap (λ b. cond b 4 0) (lt-ltb 4 n (omega (arith, is, some_spellings r rs)))
 
 -- a force makes four calls where something waits
-pub force_passes : (c : Core) (log : Log) (before now : ℕ) (result : Result (Unit {0}) DiskError) → (account c.history).failed ≡ None → Keeps log c.batches c.pending
+pub force_passes : (c : Core) (log : Log) (before now : ℕ) (result : Result (Unit {0}) DiskError) → IsValid c → Keeps log c.batches c.pending
     → Passes (if is_waiting log then 4 else 0) before now result → Passes (calls c Force) before now result
-force_passes c log before now result none keeps passes =
-    subst (λ (n : ℕ). Passes n before now result) (hand_calls (hand_size log) c.pending (hand_size-Keeps log c.batches c.pending keeps) ∙ ap (λ (o : Option ℕ). calls_if o c Force) (sym none)) passes
+force_passes c log before now result valid keeps passes =
+    subst (λ (n : ℕ). Passes n before now result) (hand_calls (hand_size log) c.pending (hand_size-Keeps log c.batches c.pending keeps) ∙ sym (calls-forced c valid)) passes

@@ -1,19 +1,17 @@
 -- The log in memory and a core's: what is used of it, and one record more.
-use Rattle.std.proofs.Common.{◌≡◌, ◌≢◌, ℕ, ◌+◌, ◌<◌, cond, refl, List, [], ◌∷◌, ◌++◌, length, sym, ap, ◌∙◌, arith, length-append, append_assoc}
+use Rattle.std.proofs.Common.{◌≡◌, ◌≢◌, ℕ, ◌+◌, ◌<◌, cond, refl, List, [], ◌∷◌, length, ap, ◌∙◌, arith, length-append}
 use Rattle.std.specs.Prelude.{◌↔◌, IsTrue, nat_lt}
 use Rattle.std.proofs.lemmas.Bool.{lt-ltb, ltb-true}
-use Rattle.std.proofs.lemmas.Grind.{flat_map-append}
 use Rattle.gated_log.specs.declared.Log.{Log}
 use Rattle.gated_log.specs.Log.{batches_bytes, hand}
 use Rattle.gated_log.specs.LogRoom.{used_bytes, need_bytes}
 use Rattle.gated_log.specs.LogLaws.{hand_size-Keeps}
-use Rattle.gated_log.specs.LogState.{log_tail, log_hand, hand_size, is_waiting, log_used, log_need, Keeps}
+use Rattle.gated_log.specs.LogState.{log_tail, hand_size, is_waiting, log_used, log_need, Keeps, IsSameLog}
 use Rattle.log_records.specs.declared.Record.{Record}
 use Rattle.log_records.specs.Record.{spelling, spellings}
 use Rattle.log_records.specs.RecordLaws.{some_spelling}
 use Rattle.heap_model.specs.Core.{need}
 use Rattle.heap_model.specs.CoreLawsRoom.{length-hand-append}
-use Rattle.heap_core.specs.Working.{SameLog}
 
 pub some_spellings : (r : Record) (rs : List Record) → 0 < length (spellings (r ∷ rs))
 some_spellings r rs = omega (arith, some_spelling r, length-append (spelling r) (spellings rs))
@@ -47,15 +45,12 @@ pub some_waits : (log : Log) (bs : List (List Record)) (p : List Record) → Kee
 some_waits log bs p keeps = waits_plain (hand_size log) p (hand_size-Keeps log bs p keeps)
 
 -- the log as it was
-pub keeps_same : (old new : Log) (bs : List (List Record)) (p : List Record) → SameLog old new (log_hand old) → Keeps old bs p → Keeps new bs p
-keeps_same old new bs p same keeps = record { tail = same.tail ∙ keeps.tail; head = keeps.head; four = keeps.four; items = same.in_hand ∙ keeps.items }
-
--- more records
-pub keeps_all : (old new : Log) (bs : List (List Record)) (p more : List Record) → SameLog old new (log_hand old ++ spellings more) → Keeps old bs p → Keeps new bs (p ++ more)
-keeps_all old new bs p more same keeps = record {
-  tail = same.tail ∙ keeps.tail;
+pub keeps_same : (old new : Log) (bs : List (List Record)) (p : List Record) → IsSameLog old new → Keeps old bs p → Keeps new bs p
+keeps_same old new bs p same keeps = record {
+  tail = same.place.tail ∙ keeps.tail;
   head = keeps.head;
   four = keeps.four;
-  items = same.in_hand ∙ ap (λ (l : List ℕ). l ++ spellings more) keeps.items ∙ append_assoc keeps.head (spellings p) (spellings more)
-      ∙ ap (λ (l : List ℕ). keeps.head ++ l) (sym (flat_map-append spelling p more));
+  items = same.hand ∙ keeps.items;
+  forced = same.place.forced ∙ keeps.forced;
+  count = same.count ∙ keeps.count;
 }

@@ -1,13 +1,12 @@
 -- The working state answers and does what a core does.
-use Rattle.std.proofs.Common.{◌≡◌, ◌⊎◌, inl, inr, ℕ, ◌+◌, ◌*◌, ◌<◌, Bool, true, false, cond, zero, suc, List, [], ◌∷◌, ◌++◌, length, map, drop, reverse, Option, Some, None, Result, Ok, Err, is_some, refl, sym, ap, ◌∙◌, subst, arith, length-append, append_assoc}
+use Rattle.std.proofs.Common.{lit<, ◌≡◌, ◌⊎◌, inl, inr, ℕ, ◌+◌, ◌*◌, ◌<◌, Bool, true, false, cond, zero, suc, List, [], ◌∷◌, ◌++◌, length, map, drop, reverse, Option, Some, None, Result, Ok, Err, is_some, refl, sym, ap, ◌∙◌, subst, arith, length-append, append_assoc}
 use Rattle.std.specs.declared.alloc.AllocError.{AllocError}
 use Rattle.std.specs.Prelude.{IfOk, fold, nat_le, nat_lt, slice_index, slice_index_or, replicate}
-use Rattle.std.specs.List.{AllByRecursion}
 use Rattle.std.specs.Option.{option_to_list}
 use Rattle.std.proofs.lemmas.Bool.{leb-false}
 use Rattle.std.proofs.lemmas.List.{append-nil}
 use Rattle.gated_log.specs.Log.{records_of}
-use Rattle.gated_log.specs.LogState.{log_place, log_room, log_hand}
+use Rattle.gated_log.specs.LogState.{log_place, log_room}
 use Rattle.graph_model.specs.declared.id.Id.{Id}
 use Rattle.graph_model.specs.declared.val.Val.{Val}
 use Rattle.graph_model.specs.declared.val.Val.TheVariants.{Null, Int, Ref}
@@ -19,9 +18,7 @@ use Rattle.graph_model.specs.declared.reply.Refusal.TheVariants.{AlreadyActive, 
 use Rattle.graph_model.specs.declared.reply.Reply.{Reply}
 use Rattle.graph_model.specs.declared.reply.Reply.TheVariants.{Begun, Done, Yes, Length, Sealed, Aborted, Refused}
 use Rattle.graph_model.specs.Graph.{Graph, root}
-use Rattle.graph_model.specs.RootGraph.{IsPlain}
-use Rattle.graph_model.specs.RootAlone.{with_referred-plain}
-use Rattle.graph_model.specs.Transaction.{Transaction, IsCall, held, fields_of, with_referred, value_reply, same_reply, call, serial}
+use Rattle.graph_model.specs.Transaction.{Transaction, IsCall, held, fields_of, value_reply, same_reply, call, serial}
 use Rattle.graph_model.specs.History.{Account, account, account_after, session_of, with_call}
 use Rattle.graph_model.specs.HistoryLaws.{account-append}
 use Rattle.graph_model.specs.Plain as plain
@@ -29,36 +26,30 @@ use Rattle.graph_model.specs.Plain.{no_int, view, call_refusal, call_reply, gran
 use Rattle.graph_model.specs.PlainLaws.{IsNoFault, HasNoFault, account_after-refused, call_reply-done}
 use Rattle.log_records.specs.declared.Record.{Record}
 use Rattle.log_records.specs.declared.Record.TheVariants.{Update, Commit}
-use Rattle.log_records.specs.Record.{spelling, spellings}
 use Rattle.log_machine.specs.declared.UndoEntry.{UndoEntry}
-use Rattle.log_machine.specs.Machine.{words, put_record, taken_back, start, undo_in, undo_of, abort_records}
-use Rattle.log_machine.specs.MachineLaws.{words-append, abort_words, abort_reaches, after_all-append2}
-use Rattle.heap_model.specs.Core.{Core, all_records, next_number, is_write, update, write_records, view_records, event_records, call_records, first_of_two, core_refusal, answer, with_entry, done, after_refusal, after}
-use Rattle.heap_model.specs.CoreValid.{IsNumberVal, IsValid}
-use Rattle.heap_model.specs.CoreLawsGranted.{called, numbered_as, writer_as, undo-told, held_as}
-use Rattle.heap_model.specs.CoreLawsRecords.{entry_at, told_write, told_commit, value_of-word_of}
-use Rattle.heap_model.specs.CoreLawsStep.{core_refusal-HasNoFault, done_history, done_records, call_account, quiet_records}
-use Rattle.heap_model.specs.ValueWord.{word_of, value_of}
+use Rattle.log_machine.specs.Machine.{field_at, words, put_record, taken_back, abort_records}
+use Rattle.log_machine.specs.MachineLaws.{words-append}
+use Rattle.log_machine.specs.AbortLaws.{abort_words}
+use Rattle.heap_words.specs.declared.Word.TheVariants as word
+use Rattle.heap_words.specs.WordLaws.{meaning-bits}
+use Rattle.heap_model.specs.Core.{Core, all_records, next_number, undo_behind, update, write_records, view_records, event_records, call_records, first_of_two, core_refusal, answer, with_entry, done, after_refusal, after}
+use Rattle.heap_model.specs.CoreValid.{at_first, IsOwn, IsValid}
+use Rattle.heap_model.specs.CoreLawsGranted.{called, writer_as, undo_told, undo_active, held_as}
+use Rattle.heap_model.specs.CoreLawsRecords.{words_with, entry_at}
+use Rattle.heap_model.specs.CoreLawsStep.{is_write, core_refusal-HasNoFault, done_history, done_records, call_account, quiet_records}
+use Rattle.heap_model.specs.ListLaws.{AllByRecursion-at}
+use Rattle.heap_model.specs.ValueWord.{word_of, value_meant, value_of, IsRootVal}
 use Rattle.heap_core.specs.declared.active.Active.{Active}
 use Rattle.heap_core.specs.declared.working.Working.{Working}
 use Rattle.heap_core.specs.Means.{IsActive, Works}
-use Rattle.heap_core.specs.Working.{Seen, seen_active, new_seen, with_handle, with_write, begin_refusal, handle_refusal, held_refusal, field_refusal, range_refusal, write_refusal, put_refusal, clear_refusal, get_refusal, same_refusal, end_refusal, field_word, field_reply, SameLog, IsAsItWas, Begins, SetsHandle, Writes, Seals, Aborts}
-use Rattle.heap_core.proofs.MeansActive.{kept, active_of, seen_is, is_seen, is_some_active, has_active, called_active, same_handles, root_handle, drop_handle}
-use Rattle.heap_core.proofs.MeansLog.{keeps_same, keeps_all}
-use Rattle.heap_core.proofs.MeansRefusal.{begin_same, root_same, drop_same, put_same, clear_same, get_same, same_same, len_same, seal_same, abort_same, now_fields, four_fields, get_cases, same_cases, len_cases}
+use Rattle.heap_core.specs.Working.{Seen, seen_active, new_seen, with_handle, with_read, with_write, IsGranted, begin_refusal, handle_refusal, held_refusal, field_refusal, range_refusal, write_refusal, put_refusal, clear_refusal, get_refusal, same_refusal, end_refusal, field_word, field_reply, Adds, IsAsItWas, Begins, SetsHandle, Gets, Writes, Seals, Aborts}
+use Rattle.heap_core.proofs.MeansActive.{kept, active_of, seen_is, is_seen, is_some_active, has_active, same_handles, root_handle, drop_handle, read_handle}
+use Rattle.heap_core.proofs.MeansLog.{keeps_same}
+use Rattle.heap_core.proofs.MeansRefusal.{begin_same, root_same, drop_same, put_same, clear_same, get_same, same_same, len_same, seal_same, abort_same, now_fields, four_fields, undo_written, get_cases, same_cases, len_cases}
 
 -- another history, and one entry more, change nothing of this
-pub works_like : (w : Working) (a b : Account) (c d : Core) → b.sealed ≡ a.sealed → b.active 1 ≡ a.active 1 → b.begun ≡ a.begun
-    → d.batches ≡ c.batches → d.pending ≡ c.pending → d.room ≡ c.room → d.g0 ≡ c.g0 → d.first ≡ c.first → Works w a c → Works w b d
-works_like w a b c d sealed active begun batches pending room g0 first h = record {
-  log = rw (batches, pending) h.log;
-  place = h.place;
-  room = h.room ∙ sym room;
-  stored = rw (batches, pending) h.stored;
-  active = rw (sealed, active, g0, batches, pending) h.active;
-  next = rw (begun, first) h.next;
-  sealed = rw sealed h.sealed;
-}
+works_with : (w : Working) (a : Account) (c : Core) (event : Event) (reply : Reply) → Works w a c → Works w a (with_entry c event reply)
+works_with w a c event reply h = record { log = h.log; place = h.place; room = h.room; stored = h.stored; active = h.active; next = h.next; sealed = h.sealed }
 
 works_entry : (w : Working) (c d : Core) (event : Event) (reply : Reply) → d.history ≡ c.history → Works w (account_after (account c.history) (record { event = event; reply = reply })) d
     → Works w (account (with_entry d event reply).history) (with_entry d event reply)
@@ -66,12 +57,12 @@ works_entry w c d event reply same h =
     let entry : Entry = record { event = event; reply = reply } in
     let said : account (d.history ++ entry ∷ []) ≡ account_after (account c.history) entry = account-append d.history entry ∙ ap (λ (l : List Entry). account_after (account l) entry) same in
     let P : Account → Type 0 = λ a. Works w a (with_entry d event reply) in
-    subst P (sym said) (works_like w _ _ d (with_entry d event reply) refl refl refl refl refl refl refl refl h)
+    subst P (sym said) (works_with w _ d event reply h)
 
 works_refused : (w : Working) (a : Account) (c : Core) (event : Event) (why : Refusal) → IsNoFault why → Works w a c → Works w (account_after a (record { event = event; reply = Refused why })) c
 works_refused w a c event why sound h =
     let P : Account → Type 0 = λ b. Works w b c in
-    subst P (sym (account_after-refused a event why sound)) (works_like w a (record a { entries = a.entries + 1 }) c c refl refl refl refl refl refl refl refl h)
+    subst P (sym (account_after-refused a event why sound)) (record { log = h.log; place = h.place; room = h.room; stored = h.stored; active = h.active; next = h.next; sealed = h.sealed })
 
 either_way : (w : Working) (c : Core) (event : Event) (o : Option Refusal) → HasNoFault o
     → (o ≡ None → Works w (account_after (account c.history) (record { event = event; reply = granted (next_number c) c.g0 (account c.history) event })) (done c event))
@@ -135,21 +126,27 @@ same_yes (Some id) (Some other) (inr some) (inl none) e = cc none
 same_yes (Some id) (Some other) (inr some) (inr another) e =
     ap (λ (q : Option Id). same_reply q (Some other)) some ∙ ap (same_reply (Some root)) another
 
--- one of nulls and numbers
-number_at : (vs : List Val) (i : ℕ) → AllByRecursion IsNumberVal vs → IsNumberVal (slice_index_or vs i Null)
-number_at [] i h = tt
-number_at (v ∷ vs) zero h = h.0
-number_at (v ∷ vs) (suc i) h = number_at vs i h.1
+-- the word of a field of the root, where the root stands in front
+word_at : (vs : List Val) (rest : List ℕ) (i : ℕ) → i < length vs → slice_index (map (word_of at_first) vs ++ rest) i ≡ word_of at_first (slice_index_or vs i Null)
+word_at [] rest i lt = absurd (omega arith)
+word_at (v ∷ vs) rest zero lt = refl
+word_at (v ∷ vs) rest (suc i) lt = word_at vs rest i (omega arith)
 
-number_plain : (v : Val) → IsNumberVal v → IsPlain v
-number_plain Null h = tt
-number_plain (Int n) h = tt
-number_plain (Ref id) h = h
+root_word : (vs : List Val) (rest : List ℕ) (i : ℕ) → i < length vs → slice_index (words_with vs rest) (field_at 0 i) ≡ word_of at_first (slice_index_or vs i Null)
+root_word vs rest i lt =
+    let there : field_at 0 i ≡ suc (suc i) = omega arith in
+    ap (slice_index (words_with vs rest)) there ∙ word_at vs rest i lt
 
-word_at : (vs : List Val) (i : ℕ) → slice_index (map word_of vs) i ≡ word_of (slice_index_or vs i Null)
-word_at [] i = refl
-word_at (v ∷ vs) zero = refl
-word_at (v ∷ vs) (suc i) = word_at vs i
+-- the value of the word of a value of the root
+value_of-word_of : (v : Val) → IsRootVal v → value_of (word_of at_first v) ≡ v
+value_of-word_of Null fits = ap value_meant (meaning-bits word.Null tt)
+value_of-word_of (Int n) fits = ap value_meant (meaning-bits (word.Int n) fits)
+value_of-word_of (Ref id) fits = ap value_meant (meaning-bits (word.Stable 0) (lit< tt)) ∙ ap Ref (sym fits)
+
+value_granted : (v : Val) → IsGranted (value_reply v)
+value_granted Null = tt
+value_granted (Int n) = tt
+value_granted (Ref id) = tt
 
 module _ (w new : Working) (c : Core) (valid : IsValid c) (works : Works w (account c.history) c) where
   abbrev a : Account
@@ -158,15 +155,11 @@ module _ (w new : Working) (c : Core) (valid : IsValid c) (works : Works w (acco
   abbrev g : Graph
   g = serial c.g0 a.sealed
 
-  abbrev undo : List UndoEntry
-  undo = undo_of (all_records c)
+  abbrev undo : ℕ → List UndoEntry
+  undo = undo_behind c (all_records c)
 
   in_memory : seen_active w.active ≡ active_of g undo (a.active 1)
   in_memory = seen_is g undo (a.active 1) w.active works.active
-
-  -- where no transaction is active, no write may be taken back
-  no_undo : a.active 1 ≡ None → undo ≡ []
-  no_undo idle = undo-told a c valid ∙ writer_as a c None idle valid
 
   -- what was refused
   stays : new ≡ w → Works new a c
@@ -176,34 +169,41 @@ module _ (w new : Working) (c : Core) (valid : IsValid c) (works : Works w (acco
   pub as_it_was : IsAsItWas w new → Works new a c
   as_it_was same = record {
     log = keeps_same w.log new.log c.batches c.pending same.log works.log;
-    place = same.log.at ∙ works.place;
-    room = same.log.room ∙ works.room;
+    place = same.log.place.at ∙ works.place;
+    room = same.log.place.room ∙ works.room;
     stored = same.words ∙ works.stored;
-    active = is_seen g undo (a.active 1) new.active no_undo (same.active ∙ in_memory);
+    active = is_seen g undo (a.active 1) new.active (same.active ∙ in_memory);
     next = same.next ∙ works.next;
     sealed = same.sealed ∙ works.sealed;
   }
 
   -- no record more waits
-  quiet : (b : Account) → new.log ≡ w.log → new.words ≡ w.words → b.sealed ≡ a.sealed → (b.active 1 ≡ None → undo ≡ []) → seen_active new.active ≡ active_of g undo (b.active 1) → new.next ≡ c.first + b.begun → new.sealed ≡ w.sealed
+  quiet : (b : Account) → new.log ≡ w.log → new.words ≡ w.words → b.sealed ≡ a.sealed → seen_active new.active ≡ active_of g undo (b.active 1) → new.next ≡ c.first + b.begun → new.sealed ≡ w.sealed
       → Works new b (record c { pending = c.pending ++ [] })
-  quiet b log stored same idle active next sealed = record {
+  quiet b log stored same active next sealed = record {
     log = rw (append-nil, log) works.log;
     place = ap (λ (l : _). log_place l) log ∙ works.place;
     room = ap (λ (l : _). log_room l) log ∙ works.room;
     stored = rw append-nil (stored ∙ works.stored);
-    active = rw (append-nil, same) (is_seen g undo (b.active 1) new.active idle active);
+    active = rw (append-nil, same) (is_seen g undo (b.active 1) new.active active);
     next = next;
     sealed = sealed ∙ works.sealed ∙ ap (λ (ts : List Transaction). length ts) (sym same);
   }
+
+  -- a transaction that begins has no writes that may be taken back
+  begin_undo : a.active 1 ≡ None → undo (next_number c) ≡ []
+  begin_undo none =
+      let ended : valid.behind.undo ≡ [] = writer_as a c None none valid in
+      let own : IsOwn valid.behind.writer valid.behind.undo (next_number c) = subst (λ (us : List UndoEntry). IsOwn valid.behind.writer us (next_number c)) (sym ended) tt in
+      undo_told c.pages c.first g (c.before + length a.sealed) (all_records c) valid.behind (next_number c) valid.told own ∙ ended
 
   pub begin_does : (reply : Reply) → reply ≡ reply_of (begin_refusal w) (Begun w.next) → ((n : ℕ) → reply ≡ Begun n → Begins w new) → ((why : Refusal) → reply ≡ Refused why → new ≡ w) → Does c (Begin 1) reply new
   begin_does reply replied begun refused =
       does c (Begin 1) (begin_refusal w) (Begun w.next) reply new (begin_same w c valid works) replied (λ e. ap Begun (sym works.next))
       (λ e is.
       let begins = begun w.next is in
-      quiet (account_after a (record { event = Begin 1; reply = Begun (next_number c) })) begins.log begins.words refl (λ none. cc none)
-      (begins.active ∙ ap (λ (n : ℕ). Some (new_seen n)) works.next ∙ ap (λ (us : List UndoEntry). Some (kept (next_number c) (replicate 64 false) us)) (sym (no_undo (not_active (a.active 1) (sym (is_some_active g undo (a.active 1) w.active works.active) ∙ (test_none (is_some w.active) AlreadyActive _ e).0)))))
+      quiet (account_after a (record { event = Begin 1; reply = Begun (next_number c) })) begins.log begins.words refl
+      (begins.active ∙ ap (λ (n : ℕ). Some (new_seen n)) works.next ∙ ap (λ (us : List UndoEntry). Some (kept (next_number c) (replicate 64 false) us)) (sym (begin_undo (not_active (a.active 1) (sym (is_some_active g undo (a.active 1) w.active works.active) ∙ (test_none (is_some w.active) AlreadyActive _ e).0)))))
       (begins.next ∙ omega (arith, works.next)) begins.sealed)
       (λ why is. stays (refused why is))
 
@@ -213,7 +213,7 @@ module _ (w new : Working) (c : Core) (valid : IsValid c) (works : Works w (acco
       → Works new (account_after a (record { event = event; reply = granted (next_number c) c.g0 a event })) (done c event)
   quiet_call event is one silent other log stored active next sealed =
       let left : done c event ≡ record c { pending = c.pending ++ [] } = done_records c event other ∙ ap (λ (more : List Record). record c { pending = c.pending ++ more }) (quiet_records c event is silent) in
-      let there = quiet (called a event) log stored refl (λ none. no_undo (called_active (a.active 1) event none)) active (next ∙ works.next) sealed in
+      let there = quiet (called a event) log stored refl active (next ∙ works.next) sealed in
       subst (λ (b : Account). Works new b (done c event)) (sym (call_account (next_number c) c.g0 a event is one)) (subst (λ (d : Core). Works new (called a event) d) (sym left) there)
 
   pub root_does : (h : ℕ) (reply : Reply) → reply ≡ reply_of (handle_refusal w.active h) Done → (reply ≡ Done → SetsHandle w new h true) → ((why : Refusal) → reply ≡ Refused why → new ≡ w) → Does c (Root 1 h) reply new
@@ -233,8 +233,10 @@ module _ (w new : Working) (c : Core) (valid : IsValid c) (works : Works w (acco
       (λ why is. stays (refused why is))
 
   -- the word of a field of the root
-  field_is : (i : ℕ) → field_word w.words i ≡ word_of (slice_index_or valid.now i Null)
-  field_is i = ap (λ (l : List ℕ). slice_index (drop 2 l) i) (works.stored ∙ valid.told.stored) ∙ word_at valid.now i
+  field_is : (i : ℕ) → i < 4 → field_word w.words i ≡ word_of at_first (slice_index_or valid.behind.now i Null)
+  field_is i lt =
+      let four = valid.told.four in
+      ap (λ (l : List ℕ). slice_index l (field_at 0 i)) (works.stored ∙ valid.told.stored) ∙ root_word valid.behind.now valid.told.rest i (omega arith)
 
   -- What a call that only reads was answered, and that it leaves the handles.
   abbrev Reads : Option Transaction → Event → Reply → Type 0
@@ -273,80 +275,85 @@ module _ (w new : Working) (c : Core) (valid : IsValid c) (works : Works w (acco
   same_does h h2 reply replied same =
       read_does (Same 1 h h2) (same_refusal w.active h h2) Yes reply tt refl refl (λ force. cc) (same_same w c valid works h h2) refl replied (λ e. same_reads (a.active 1) w.active h h2 refl works.active e) same
 
-  get_reads : (o : Option Transaction) (p : Option Active) (h i h2 : ℕ) → a.active 1 ≡ o → IsActive g undo o p → get_refusal p h i h2 ≡ None → Reads o (Get 1 h i h2) (field_reply w.words i)
+  below_four : (i : ℕ) → field_refusal i ≡ None → i < 4
+  below_four i e = leb-false 4 i (test_none (nat_le 4 i) BadField None e).0
+
+  -- What a get is answered, and what it leaves in the handles.
+  get_reads : (o : Option Transaction) (p : Option Active) (h i h2 : ℕ) → a.active 1 ≡ o → IsActive g undo o p → get_refusal p h i h2 ≡ None
+      → (call_reply c.g0 a o (Get 1 h i h2) ≡ field_reply w.words i) × (with_read (active_of g undo o) h2 (value_of (field_word w.words i)) ≡ active_of g undo (with_call o (Get 1 h i h2)))
   get_reads None None h i h2 e is none = cc none
   get_reads (Some t) (Some x) h i h2 e is none =
       let seen = view c.g0 a t in
       let own = get_cases w c valid works (Some t) (Some x) h i h2 e is ∙ none in
       let some = held_field seen.graph (held seen.registers h) i (held_as a c t h valid) (test_none (nat_lt 63 h2) BadHandle _ own).1 in
-      let v = slice_index_or valid.now i Null in
-      let number = number_at valid.now i valid.told.numbers in
-      let read : slice_index_or (fields_of seen.graph (held seen.registers h)) i Null ≡ v =
-      ap (λ (o : Option Id). slice_index_or (fields_of seen.graph o) i Null) some ∙ ap (λ (vs : List Val). slice_index_or vs i Null) (now_fields c t valid e) in (
-        ap value_reply (read ∙ sym (ap value_of (field_is i) ∙ value_of-word_of v number)),
-        same_handles g undo t (Get 1 h i h2) (ap (with_referred seen.registers h2) read ∙ with_referred-plain seen.registers h2 v (number_plain v number)),
+      let lt = below_four i (both_none (held_refusal (Some x) h) (field_refusal i) (both_none (handle_refusal (Some x) h2) (first_of_two (held_refusal (Some x) h) (field_refusal i)) none).1).1 in
+      let v = slice_index_or (fields_of seen.graph (held seen.registers h)) i Null in
+      let read : v ≡ slice_index_or valid.behind.now i Null =
+      ap (λ (o : Option Id). slice_index_or (fields_of seen.graph o) i Null) some ∙ ap (λ (vs : List Val). slice_index_or vs i Null) (now_fields c t valid e) in
+      let value : value_of (field_word w.words i) ≡ v =
+      ap value_of (field_is i lt) ∙ value_of-word_of (slice_index_or valid.behind.now i Null) (AllByRecursion-at IsRootVal valid.behind.now i Null tt valid.told.fit) ∙ sym read in (
+        ap value_reply (sym value),
+        ap (with_read (active_of g undo (Some t)) h2) value ∙ read_handle g undo t (Get 1 h i h2) h2 v refl,
       )
   get_reads None (Some x) h i h2 e is none = absurd is
   get_reads (Some t) None h i h2 e is none = absurd is
 
-  pub get_does : (h i h2 : ℕ) (reply : Reply) → reply ≡ reply_of (get_refusal w.active h i h2) (field_reply w.words i) → new ≡ w → Does c (Get 1 h i h2) reply new
-  get_does h i h2 reply replied same =
-      read_does (Get 1 h i h2) (get_refusal w.active h i h2) (field_reply w.words i) reply tt refl refl (λ force. cc) (get_same w c valid works h i h2) refl replied (λ e. get_reads (a.active 1) w.active h i h2 refl works.active e) same
+  pub get_does : (h i h2 : ℕ) (reply : Reply) → reply ≡ reply_of (get_refusal w.active h i h2) (field_reply w.words i) → (IsGranted reply → Gets w new h2 (value_of (field_word w.words i)))
+      → ((why : Refusal) → reply ≡ Refused why → new ≡ w) → Does c (Get 1 h i h2) reply new
+  get_does h i h2 reply replied got refused =
+      let reads = λ (e : get_refusal w.active h i h2 ≡ None). get_reads (a.active 1) w.active h i h2 refl works.active e in
+      does c (Get 1 h i h2) (get_refusal w.active h i h2) (field_reply w.words i) reply new (get_same w c valid works h i h2) replied (λ e. (reads e).0)
+      (λ e is.
+      let gets = got (subst IsGranted (sym is) (value_granted (value_of (field_word w.words i)))) in
+      quiet_call (Get 1 h i h2) tt refl refl (λ force. cc) gets.log gets.words (gets.active ∙ ap (λ (s : Option Seen). with_read s h2 (value_of (field_word w.words i))) in_memory ∙ (reads e).1) gets.next gets.sealed)
+      (λ why is. stays (refused why is))
 
   -- more records wait
-  appended : (b : Account) (more : List Record) → SameLog w.log new.log (log_hand w.log ++ spellings more) → new.words ≡ fold put_record w.words more
-      → IsActive (serial c.g0 b.sealed) (undo_of (records_of c.batches ++ (c.pending ++ more))) (b.active 1) new.active → new.next ≡ c.first + b.begun → new.sealed ≡ length b.sealed
+  appended : (b : Account) (more : List Record) → Adds w.log new.log more → new.words ≡ fold put_record w.words more
+      → IsActive (serial c.g0 b.sealed) (undo_behind c (records_of c.batches ++ (c.pending ++ more))) (b.active 1) new.active → new.next ≡ c.first + b.begun → new.sealed ≡ length b.sealed
       → Works new b (record c { pending = c.pending ++ more })
   appended b more log stored active next sealed = record {
-    log = keeps_all w.log new.log c.batches c.pending more log works.log;
-    place = log.at ∙ works.place;
-    room = log.room ∙ works.room;
-    stored = stored ∙ ap (λ (ws : List ℕ). fold put_record ws more) works.stored ∙ sym (words-append (all_records c) more) ∙ ap words (append_assoc (records_of c.batches) c.pending more);
+    log = log.kept c.batches c.pending works.log;
+    place = log.place.at ∙ works.place;
+    room = log.place.room ∙ works.room;
+    stored = stored ∙ ap (λ (ws : List ℕ). fold put_record ws more) works.stored ∙ sym (words-append c.pages (all_records c) more) ∙ ap (words c.pages) (append_assoc (records_of c.batches) c.pending more);
     active = active;
     next = next;
     sealed = sealed;
   }
 
-  one_spelled : (r : Record) → SameLog w.log new.log (log_hand w.log ++ spelling r) → SameLog w.log new.log (log_hand w.log ++ spellings (r ∷ []))
-  one_spelled r log = subst (λ (l : List ℕ). SameLog w.log new.log (log_hand w.log ++ l)) (sym (append-nil (spelling r))) log
-
   -- the transaction in memory is the core's
-  mine : (t : Transaction) (x : Active) → a.active 1 ≡ Some t → w.active ≡ Some x → (x.number ≡ t.number) × (reverse x.undo.items ≡ undo)
+  mine : (t : Transaction) (x : Active) → a.active 1 ≡ Some t → w.active ≡ Some x → (x.number ≡ t.number) × (reverse x.undo.items ≡ undo t.number)
   mine t x e is =
-      let both : Some (kept x.number x.handles (reverse x.undo.items)) ≡ Some (kept t.number (map is_some (view c.g0 a t).registers) undo) = sym (ap seen_active is) ∙ in_memory ∙ ap (active_of g undo) e in
-      let same : kept x.number x.handles (reverse x.undo.items) ≡ kept t.number (map is_some (view c.g0 a t).registers) undo = cc both in
+      let both : Some (kept x.number x.handles (reverse x.undo.items)) ≡ Some (kept t.number (map is_some (view c.g0 a t).registers) (undo t.number)) = sym (ap seen_active is) ∙ in_memory ∙ ap (active_of g undo) e in
+      let same : kept x.number x.handles (reverse x.undo.items) ≡ kept t.number (map is_some (view c.g0 a t).registers) (undo t.number) = cc both in
       (ap (λ (s : Seen). s.number) same, ap (λ (s : Seen). s.undo) same)
-
-  -- what may be taken back behind a write
-  undo_written : (t : Transaction) (i : ℕ) (v : Val) → a.active 1 ≡ Some t → i < 4 → IsNumberVal v → undo_of (records_of c.batches ++ (c.pending ++ update t.number valid.now i v ∷ [])) ≡ entry_at valid.now i ∷ undo
-  undo_written t i v e lt small =
-      let writer = writer_as a c (Some t) e valid in
-      let told = told_write g (length a.sealed) t.number (all_records c) valid.state valid.now i v (numbered_as a c t e valid) valid.told writer.own lt small in
-      ap undo_of (sym (append_assoc (records_of c.batches) c.pending (update t.number valid.now i v ∷ [])))
-      ∙ ap undo_in told.reached
-      ∙ ap (λ (us : List UndoEntry). entry_at valid.now i ∷ us) (sym (undo-told a c valid))
 
   -- a put or a clear
   wrote : (t : Transaction) (event : Event) (h i : ℕ) (v : Val) → a.active 1 ≡ Some t → IsCall event → session_of event ≡ 1 → (event ≡ Force → ⊥) → (call (view c.g0 a t) t.number event).view.registers ≡ (view c.g0 a t).registers
-      → event_records c event ≡ view_records t.number (view c.g0 a t) h i v → held (view c.g0 a t).registers h ≡ Some root → i < 4 → IsNumberVal v → Writes w new i (word_of v)
+      → event_records c event ≡ view_records at_first t.number (view c.g0 a t) h i v → held (view c.g0 a t).registers h ≡ Some root → i < 4 → IsRootVal v → Writes w new i (word_of at_first v)
       → Works new (account_after a (record { event = event; reply = granted (next_number c) c.g0 a event })) (done c event)
   wrote t event h i v e is one other same_registers records some lt small writes =
       let seen = view c.g0 a t in
-      let r = update t.number valid.now i v in
+      let now = valid.behind.now in
+      let r = update at_first t.number root now i v in
       let one_record : event_records c event ≡ r ∷ [] =
-      records ∙ ap (λ (o : Option Id). write_records t.number seen.graph o i v) some ∙ ap (λ (vs : List Val). update t.number vs i v ∷ []) (now_fields c t valid e) in
+      records ∙ ap (λ (o : Option Id). write_records at_first t.number seen.graph o i v) some ∙ ap (λ (vs : List Val). update at_first t.number root vs i v ∷ []) (now_fields c t valid e) in
       let own = (mine t writes.active e writes.was_active).0 in
-      let spelled : Update writes.active.number 0 i (field_word w.words i) (word_of v) ≡ r =
-      ap (λ (n : ℕ). Update n 0 i (field_word w.words i) (word_of v)) own ∙ ap (λ (n : ℕ). Update t.number 0 i n (word_of v)) (field_is i) in
-      let log = one_spelled r (subst (λ (x : Record). SameLog w.log new.log (log_hand w.log ++ spelling x)) spelled writes.log) in
-      let undo' = undo_of (records_of c.batches ++ (c.pending ++ r ∷ [])) in
+      let spelled : Update writes.active.number 0 i (field_word w.words i) (word_of at_first v) ≡ r =
+      ap (λ (n : ℕ). Update n 0 i (field_word w.words i) (word_of at_first v)) own ∙ ap (λ (n : ℕ). Update t.number 0 i n (word_of at_first v)) (field_is i lt) in
+      let log = subst (λ (x : Record). Adds w.log new.log (x ∷ [])) spelled writes.log in
+      let undo' = undo_behind c (records_of c.batches ++ (c.pending ++ r ∷ [])) in
+      let last : undo' t.number ≡ entry_at now i ∷ undo t.number =
+      ap (λ (rs : List Record). undo_behind c rs t.number) (sym (append_assoc (records_of c.batches) c.pending (r ∷ [])))
+      ∙ undo_written c t i v valid e lt small ∙ ap (λ (us : List UndoEntry). entry_at now i ∷ us) (sym (undo_active a c t e valid)) in
       let active : seen_active new.active ≡ active_of g undo' (with_call (a.active 1) event) =
       writes.now_active
-      ∙ ap (λ (n : ℕ). with_write (seen_active w.active) (record { object = 0; field = i; was = n })) (field_is i)
-      ∙ ap (λ (o : Option Seen). with_write o (entry_at valid.now i)) (in_memory ∙ ap (active_of g undo) e)
-      ∙ ap (λ (us : List UndoEntry). active_of g us (Some t)) (sym (undo_written t i v e lt small))
+      ∙ ap (λ (n : ℕ). with_write (seen_active w.active) (record { object = 0; field = i; was = n })) (field_is i lt)
+      ∙ ap (λ (o : Option Seen). with_write o (entry_at now i)) (in_memory ∙ ap (active_of g undo) e)
+      ∙ ap (λ (us : List UndoEntry). Some (kept t.number (map is_some seen.registers) us)) (sym last)
       ∙ sym (ap (λ (o : Option Transaction). active_of g undo' (with_call o event)) e ∙ same_handles g undo' t event same_registers) in
-      let there = appended (called a event) (r ∷ []) log writes.words (is_seen g undo' (with_call (a.active 1) event) new.active (λ none. let never : Some t ≡ None = sym e ∙ called_active (a.active 1) event none in cc never) active) (writes.next ∙ works.next) (writes.sealed ∙ works.sealed) in
+      let there = appended (called a event) (r ∷ []) log writes.words (is_seen g undo' (with_call (a.active 1) event) new.active active) (writes.next ∙ works.next) (writes.sealed ∙ works.sealed) in
       let left : done c event ≡ record c { pending = c.pending ++ r ∷ [] } = done_records c event other ∙ ap (λ (more : List Record). record c { pending = c.pending ++ more }) one_record in
       subst (λ (b : Account). Works new b (done c event)) (sym (call_account (next_number c) c.g0 a event is one)) (subst (λ (d : Core). Works new (called a event) d) (sym left) there)
 
@@ -355,9 +362,6 @@ module _ (w new : Working) (c : Core) (valid : IsValid c) (works : Works w (acco
   held_is t x h e at none =
       let is = subst (λ (o : Option Transaction). IsActive g undo o (Some x)) e (subst (λ (p : Option Active). IsActive g undo (a.active 1) p) at works.active) in
       held_len (held (view c.g0 a t).registers h) (held_as a c t h valid) (len_cases w c valid works (Some t) (Some x) h is ∙ sym (ap (λ (p : Option Active). held_refusal p h) at) ∙ none)
-
-  below_four : (i : ℕ) → field_refusal i ≡ None → i < 4
-  below_four i e = leb-false 4 i (test_none (nat_le 4 i) BadField None e).0
 
   pub put_does : (h i v : ℕ) (result : Result Reply AllocError) → IfOk result (λ reply. reply ≡ reply_of (put_refusal w.log w.active h i v) Done)
       → (result ≡ Ok Done → Writes w new i (4 * v + 1)) → ((why : Refusal) → result ≡ Ok (Refused why) → IsAsItWas w new) → IfOk result (λ reply. Does c (Put 1 h i v) reply new)
@@ -371,7 +375,7 @@ module _ (w new : Working) (c : Core) (valid : IsValid c) (works : Works w (acco
       let first = both_none (held_refusal w.active h) (first_of_two (range_refusal v) (write_refusal w.log w.active i)) e in
       let second = both_none (range_refusal v) (write_refusal w.log w.active i) first.1 in
       let third = both_none (field_refusal i) _ second.1 in
-      wrote t.0 event h i (Int v) t.1 tt refl (λ force. cc) refl (ap (λ (o : Option Transaction). call_records c.g0 a undo o event) t.1)
+      wrote t.0 event h i (Int v) t.1 tt refl (λ force. cc) refl (ap (λ (o : Option Transaction). call_records at_first c.g0 a undo o event) t.1)
       (held_is t.0 writes.active h t.1 writes.was_active first.0) (below_four i third.0) (leb-false no_int v (test_none (nat_le no_int v) Range None second.0).0) writes)
       (λ why is. as_it_was (stayed why (ap Ok is)))
 
@@ -386,40 +390,24 @@ module _ (w new : Working) (c : Core) (valid : IsValid c) (works : Works w (acco
       let t = has_active g undo (a.active 1) w.active writes.active works.active writes.was_active in
       let first = both_none (held_refusal w.active h) (write_refusal w.log w.active i) e in
       let third = both_none (field_refusal i) _ first.1 in
-      wrote t.0 event h i Null t.1 tt refl (λ force. cc) refl (ap (λ (o : Option Transaction). call_records c.g0 a undo o event) t.1)
+      wrote t.0 event h i Null t.1 tt refl (λ force. cc) refl (ap (λ (o : Option Transaction). call_records at_first c.g0 a undo o event) t.1)
       (held_is t.0 writes.active h t.1 writes.was_active first.0) (below_four i third.0) tt writes)
       (λ why is. as_it_was (stayed why (ap Ok is)))
 
   -- no transaction is active any more
-  none_left : (sealed : List Transaction) (more : List Record) → undo_of (records_of c.batches ++ (c.pending ++ more)) ≡ [] → new.active ≡ None → IsActive (serial c.g0 sealed) (undo_of (records_of c.batches ++ (c.pending ++ more))) None new.active
-  none_left sealed more left none = subst (λ (p : Option Active). IsActive (serial c.g0 sealed) (undo_of (records_of c.batches ++ (c.pending ++ more))) None p) (sym none) left
-
-  -- behind a commit no write may be taken back
-  undo_sealed : (t : Transaction) → a.active 1 ≡ Some t → undo_of (records_of c.batches ++ (c.pending ++ Commit t.number ∷ [])) ≡ []
-  undo_sealed t e =
-      let writer = writer_as a c (Some t) e valid in
-      let told = told_commit g (view c.g0 a t).graph (length a.sealed) t.number (all_records c) valid.state valid.now (numbered_as a c t e valid) valid.told writer.own writer.sees in
-      ap undo_of (sym (append_assoc (records_of c.batches) c.pending (Commit t.number ∷ []))) ∙ ap undo_in told.reached
-
-  -- nor behind an abort
-  undo_taken : (t : Transaction) → a.active 1 ≡ Some t → undo_of (records_of c.batches ++ (c.pending ++ abort_records t.number undo)) ≡ []
-  undo_taken t e =
-      let own = (writer_as a c (Some t) e valid).own in
-      let same = undo-told a c valid in
-      ap undo_of (sym (append_assoc (records_of c.batches) c.pending (abort_records t.number undo)))
-      ∙ ap (λ (us : List UndoEntry). undo_of (all_records c ++ abort_records t.number us)) same
-      ∙ ap undo_in (after_all-append2 start valid.state (all_records c) (abort_records t.number valid.state.undo) valid.told.reached ∙ abort_reaches valid.state t.number own)
+  none_left : (sealed : List Transaction) (more : List Record) → new.active ≡ None → IsActive (serial c.g0 sealed) (undo_behind c (records_of c.batches ++ (c.pending ++ more))) None new.active
+  none_left sealed more none = subst (λ (p : Option Active). IsActive (serial c.g0 sealed) (undo_behind c (records_of c.batches ++ (c.pending ++ more))) None p) (sym none) tt
 
   sealed_up : (t : Transaction) → a.active 1 ≡ Some t → Seals w new → Works new (account_after a (record { event = Seal 1; reply = Sealed (length a.sealed + 1) })) (done c (Seal 1))
   sealed_up t e seals =
       let b = account_after a (record { event = Seal 1; reply = Sealed (length a.sealed + 1) }) in
       let more : List Record = Commit t.number ∷ [] in
-      let records : event_records c (Seal 1) ≡ more = ap (λ (o : Option Transaction). call_records c.g0 a undo o (Seal 1)) e in
-      let log = one_spelled (Commit t.number) (subst (λ (n : ℕ). SameLog w.log new.log (log_hand w.log ++ spelling (Commit n))) (mine t seals.active e seals.was_active).0 seals.log) in
+      let records : event_records c (Seal 1) ≡ more = ap (λ (o : Option Transaction). call_records at_first c.g0 a undo o (Seal 1)) e in
+      let log = subst (λ (n : ℕ). Adds w.log new.log (Commit n ∷ [])) (mine t seals.active e seals.was_active).0 seals.log in
       let count : new.sealed ≡ length b.sealed =
       seals.sealed ∙ ap (λ (n : ℕ). n + 1) works.sealed ∙ sym (ap (λ (o : Option Transaction). length (a.sealed ++ option_to_list o)) e ∙ length-append a.sealed (t ∷ [])) in
       subst (λ (rs : List Record). Works new b (record c { pending = c.pending ++ rs })) (sym records)
-      (appended b more log seals.words (none_left b.sealed more (undo_sealed t e) seals.not_active) (seals.next ∙ works.next) count)
+      (appended b more log seals.words (none_left b.sealed more seals.not_active) (seals.next ∙ works.next) count)
 
   pub seal_does : (result : Result Reply AllocError) → IfOk result (λ reply. reply ≡ reply_of (end_refusal w.active) (Sealed (w.sealed + 1)))
       → ((number : ℕ) → result ≡ Ok (Sealed number) → Seals w new) → ((why : Refusal) → result ≡ Ok (Refused why) → IsAsItWas w new) → IfOk result (λ reply. Does c (Seal 1) reply new)
@@ -435,15 +423,15 @@ module _ (w new : Working) (c : Core) (valid : IsValid c) (works : Works w (acco
   taken : (t : Transaction) → a.active 1 ≡ Some t → Aborts w new → Works new (account_after a (record { event = Abort 1; reply = Aborted })) (done c (Abort 1))
   taken t e aborts =
       let b = account_after a (record { event = Abort 1; reply = Aborted }) in
-      let more : List Record = abort_records t.number undo in
-      let records : event_records c (Abort 1) ≡ more = ap (λ (o : Option Transaction). call_records c.g0 a undo o (Abort 1)) e in
+      let more : List Record = abort_records t.number (undo t.number) in
+      let records : event_records c (Abort 1) ≡ more = ap (λ (o : Option Transaction). call_records at_first c.g0 a undo o (Abort 1)) e in
       let own = mine t aborts.active e aborts.was_active in
       let same : abort_records aborts.active.number (reverse aborts.active.undo.items) ≡ more =
       ap (λ (n : ℕ). abort_records n (reverse aborts.active.undo.items)) own.0 ∙ ap (abort_records t.number) own.1 in
-      let log = subst (λ (rs : List Record). SameLog w.log new.log (log_hand w.log ++ spellings rs)) same aborts.log in
-      let stored : new.words ≡ fold put_record w.words more = aborts.words ∙ ap (λ (us : List UndoEntry). taken_back us w.words) own.1 ∙ sym (abort_words t.number undo w.words) in
+      let log = subst (λ (rs : List Record). Adds w.log new.log rs) same aborts.log in
+      let stored : new.words ≡ fold put_record w.words more = aborts.words ∙ ap (λ (us : List UndoEntry). taken_back us w.words) own.1 ∙ sym (abort_words t.number (undo t.number) w.words) in
       subst (λ (rs : List Record). Works new b (record c { pending = c.pending ++ rs })) (sym records)
-      (appended b more log stored (none_left b.sealed more (undo_taken t e) aborts.not_active) (aborts.next ∙ works.next) (aborts.sealed ∙ works.sealed))
+      (appended b more log stored (none_left b.sealed more aborts.not_active) (aborts.next ∙ works.next) (aborts.sealed ∙ works.sealed))
 
   pub abort_does : (result : Result Reply AllocError) → IfOk result (λ reply. reply ≡ reply_of (end_refusal w.active) Aborted)
       → (result ≡ Ok Aborted → Aborts w new) → ((why : Refusal) → result ≡ Ok (Refused why) → IsAsItWas w new) → IfOk result (λ reply. Does c (Abort 1) reply new)

@@ -1,13 +1,20 @@
--- What the disk answered in a call of a heap.
-use Rattle.std.specs.Prelude.{Result, Ok, Err}
+-- What the disk answered in a call of a heap, and what an error tells of it.
+use Rattle.std.specs.Prelude.{◌≡◌, ℕ, Result, Ok, Err, ⊤}
 use Rattle.std.specs.declared.alloc.AllocError.{AllocError}
 use Rattle.disk_model.specs.declared.disk.DiskError.{DiskError}
 use Rattle.disk_model.specs.declared.disk.DiskError.TheVariants as device
+use Rattle.gate_slot.specs.Passing.{Passes}
 use Rattle.graph_model.specs.declared.reply.Refusal.TheVariants.{DiskFault, Stopped}
 use Rattle.graph_model.specs.declared.reply.Reply.{Reply}
 use Rattle.graph_model.specs.declared.reply.Reply.TheVariants.{Refused}
-use Rattle.heap_recovery.specs.declared.recovery.OpenError.{OpenError}
-use Rattle.heap_recovery.specs.Causes.{error_device}
+use Rattle.graph_print.specs.declared.print_error.PrintError.{PrintError}
+use Rattle.graph_print.specs.declared.print_error.PrintError.TheVariants as printing
+use Rattle.heap_recovery.specs.declared.error.RecoverError.{RecoverError}
+use Rattle.heap_recovery.specs.declared.error.RecoverError.TheVariants as recovery
+use Rattle.heap_core.specs.declared.errors.GraphError.{GraphError}
+use Rattle.heap_core.specs.declared.errors.GraphError.TheVariants as graphs
+use Rattle.heap_core.specs.declared.errors.OpenError.{OpenError}
+use Rattle.heap_core.specs.declared.errors.OpenError.TheVariants as opening
 
 -- what the disk answered in a step
 abbrev pub reply_device : Reply → Result (Unit {0}) DiskError
@@ -19,7 +26,43 @@ abbrev pub step_device : Result Reply AllocError → Result (Unit {0}) DiskError
 step_device (Ok reply) = reply_device reply
 step_device (Err e) = Ok tt
 
--- what the disk answered in an opening that keeps or gives back a disk
+-- what an opening's error is of a recovery
+abbrev pub open_error : RecoverError → OpenError
+open_error recovery.NoMemory = opening.NoMemory
+open_error recovery.NotHeap = opening.NotHeap
+open_error (recovery.Damaged at) = opening.Damaged at
+open_error (recovery.Disk device.Failed) = opening.DiskFault
+open_error (recovery.Disk device.Stopped) = opening.Stopped
+
+-- what the disk answered in an opening
+abbrev pub error_device : OpenError → Result (Unit {0}) DiskError
+error_device opening.DiskFault = Err device.Failed
+error_device opening.Stopped = Err device.Stopped
+error_device e = Ok tt
+
 abbrev pub opened_device : {H D : Type 0} → Result H (OpenError × D) → Result (Unit {0}) DiskError
 opened_device (Ok heap) = Ok tt
 opened_device (Err e) = error_device e.0
+
+-- Memory was refused or the disk failed: nothing is told of the image.
+abbrev pub IsFromOutside : OpenError → Type 0
+IsFromOutside opening.NotHeap = ⊥
+IsFromOutside (opening.Damaged at) = ⊥
+IsFromOutside e = ⊤
+
+-- The calls of an opening that ends in an error: fewer than n where the disk stopped it, and none where memory was refused.
+abbrev pub ErrorPasses : ℕ → ℕ → ℕ → OpenError → Type 0
+ErrorPasses n before now opening.NoMemory = now ≡ before
+ErrorPasses n before now e = Passes n before now (error_device e)
+
+-- The calls of an opening: n where it succeeds.
+abbrev pub OpenedPasses : {H D : Type 0} → ℕ → ℕ → ℕ → Result H (OpenError × D) → Type 0
+OpenedPasses n before now (Ok heap) = Passes n before now (Ok tt)
+OpenedPasses n before now (Err e) = ErrorPasses n before now e.0
+
+-- what a print's error is of a graph
+abbrev pub graph_error : PrintError → GraphError
+graph_error printing.NoMemory = graphs.NoMemory
+graph_error (printing.Disk device.Failed) = graphs.DiskFault
+graph_error (printing.Disk device.Stopped) = graphs.Stopped
+graph_error (printing.Damaged address) = graphs.Damaged address

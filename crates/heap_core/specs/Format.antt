@@ -4,6 +4,10 @@ use Rattle.gate_slot.specs.Gate.{IsClosed}
 use Rattle.image_plan.specs.declared.superblock.Super.{Super}
 use Rattle.heap_model.specs.Image.{IsLegal}
 
+-- the numbers of a heap
+abbrev pub heap_of : ℕ → ℕ → ℕ → Super
+heap_of pages log_bytes first = record { pages = pages; log_bytes = log_bytes; first = first }
+
 -- the bytes from `from` to `end` are zero
 abbrev pub AreZero : ℕ → ℕ → List ℕ → Type 0
 AreZero from end image = (i : ℕ) → from ≤ i → i < end → slice_index image i ≡ 0

@@ -1,24 +1,36 @@
 -- A call that takes a disk and gives it back, also with an error.
-use Rattle.std.specs.Prelude.{◌≡◌, Result, Ok, Err, ⊤}
+use Rattle.std.specs.Prelude.{Result, Ok, Err, ⊤}
 use Rattle.disk_model.specs.declared.disk.DiskError.{DiskError}
-use Rattle.heap_core.specs.declared.formatting.FormatError.{FormatError}
-use Rattle.heap_core.specs.declared.formatting.FormatError.TheVariants.{TooSmall, Disk}
+use Rattle.disk_model.specs.declared.disk.DiskError.TheVariants as device
+use Rattle.heap_core.specs.declared.errors.FormatError.{FormatError}
+use Rattle.heap_core.specs.declared.errors.FormatError.TheVariants.{TooSmall, DiskFault, Stopped}
 
 -- the disk that a format gives back
 abbrev pub given_back : {D : Type 0} → Result D (FormatError × D) → D
 given_back (Ok disk) = disk
 given_back (Err e) = e.1
 
--- what the disk answered
-abbrev pub device_error : FormatError → Result (Unit {0}) DiskError
-device_error (TooSmall size need) = Ok tt
-device_error (Disk e) = Err e
+-- what a format's error is that the disk told
+abbrev pub format_error : DiskError → FormatError
+format_error device.Failed = DiskFault
+format_error device.Stopped = Stopped
+
+-- what the disk answered in a format
+abbrev pub format_device : FormatError → Result (Unit {0}) DiskError
+format_device (TooSmall size need) = Ok tt
+format_device DiskFault = Err device.Failed
+format_device Stopped = Err device.Stopped
+
+abbrev pub made_device : {T : Type 0} → Result T FormatError → Result (Unit {0}) DiskError
+made_device (Ok made) = Ok tt
+made_device (Err e) = format_device e
 
 abbrev pub device_result : {D : Type 0} → Result D (FormatError × D) → Result (Unit {0}) DiskError
 device_result (Ok disk) = Ok tt
-device_result (Err e) = device_error e.0
+device_result (Err e) = format_device e.0
 
--- no error but the disk's
-abbrev pub FailsByDisk : {D : Type 0} → Result D (FormatError × D) → Type 0
-FailsByDisk (Ok disk) = ⊤
-FailsByDisk (Err e) = (error : DiskError) × (e.0 ≡ Disk error)
+-- the disk's error
+abbrev pub IsFromDisk : FormatError → Type 0
+IsFromDisk (TooSmall size need) = ⊥
+IsFromDisk DiskFault = ⊤
+IsFromDisk Stopped = ⊤

@@ -1,11 +1,10 @@
 -- A heap, as the clauses of its calls see it.
-use Rattle.std.specs.Prelude.{ℕ, ◌+◌, min, List, Option, Result, Ok, Err}
-use Rattle.counts.specs.Count.{greatest}
+use Rattle.std.specs.Prelude.{ℕ, List, Option, Result, Ok, Err}
 use Rattle.disk_model.specs.declared.disk.Disk.{Ghosts}
 use Rattle.graph_model.specs.declared.reply.Entry.{Entry}
 use Rattle.heap_core.specs.declared.heap.Heap.{Heap}
 use Rattle.heap_core.specs.declared.history.History.{History}
-use Rattle.heap_recovery.specs.declared.recovery.OpenError.{OpenError}
+use Rattle.heap_core.specs.declared.errors.OpenError.{OpenError}
 
 -- the disk that an opening keeps, or gives back
 abbrev pub opened_disk : {D : Type 0} {g : Ghosts D} → Result (Heap D g) (OpenError × D) → D
@@ -15,14 +14,6 @@ opened_disk (Err e) = e.1
 -- the disk of a heap
 abbrev pub heap_disk : {D : Type 0} {g : Ghosts D} → Heap D g → D
 heap_disk heap = heap.disk
-
--- how many commits its log held when it was opened
-abbrev pub before_of : {D : Type 0} {g : Ghosts D} → Heap D g → ℕ
-before_of heap = heap.before
-
--- how many commits its log holds: those at the opening and those since, where they can be counted
-abbrev pub commits_of : {D : Type 0} {g : Ghosts D} → Heap D g → ℕ
-commits_of heap = min (heap.before + heap.working.sealed) greatest
 
 -- the entry, from 1, at which its disk failed or stopped
 abbrev pub failed_at : {D : Type 0} {g : Ghosts D} → Heap D g → Option ℕ

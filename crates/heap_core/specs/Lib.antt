@@ -1,10 +1,7 @@
 pub mod Causes
-pub mod CoreGraph
-pub mod CoreLawsGraph
 pub mod Format
 pub mod GivenBack
 pub mod HeapState
 pub mod Means
-pub mod OpenedLaws
 pub mod Reserve
 pub mod Working

@@ -14,10 +14,11 @@ use Rattle.log_machine.specs.declared.UndoEntry.{UndoEntry}
 use Rattle.heap_core.specs.declared.active.Active.{Active}
 use Rattle.heap_core.specs.declared.heap.Heap.{Heap}
 use Rattle.heap_core.specs.declared.working.Working.{Working}
-use Rattle.heap_model.specs.Core.{Core, all_records, IsStep}
+use Rattle.heap_model.specs.Core.{Core, all_records, undo_behind, IsStep}
 use Rattle.heap_model.specs.CoreCrash.{KeepsCommits}
-use Rattle.heap_model.specs.Image.{IsLegal}
-use Rattle.log_machine.specs.Machine.{words, undo_of}
+use Rattle.heap_model.specs.CoreLawsCrash.{IsSuperOf}
+use Rattle.heap_model.specs.Image.{Holds}
+use Rattle.log_machine.specs.Machine.{words}
 
 -- What is kept in memory of the transaction on a graph: its number, which handles hold an object, and the writes that may be
 -- taken back, of which the newest stands last.
@@ -26,10 +27,10 @@ pub record Follows (g : Graph) (t : Transaction) (writes : List UndoEntry) (acti
   pub handles : active.handles ≡ map is_some (run g t).registers
   pub undo : reverse active.undo.items ≡ writes
 
--- what is kept of the active transaction; without one no write may be taken back
-abbrev pub IsActive : Graph → List UndoEntry → Option Transaction → Option Active → Type 0
-IsActive g undo None None = undo ≡ []
-IsActive g undo (Some t) (Some active) = Follows g t undo active
+-- what is kept of the active transaction, where these writes of each may be taken back
+abbrev pub IsActive : Graph → (ℕ → List UndoEntry) → Option Transaction → Option Active → Type 0
+IsActive g undo None None = Unit {0}
+IsActive g undo (Some t) (Some active) = Follows g t (undo t.number) active
 IsActive g undo t active = ⊥
 
 -- The working state is that of a core whose history tells this account.
@@ -37,16 +38,16 @@ pub record Works (w : Working) (a : Account) (c : Core) : Type 0 where
   pub log : Keeps w.log c.batches c.pending
   pub place : log_place w.log ≡ log_offset
   pub room : log_room w.log ≡ c.room
-  pub stored : w.words ≡ words (all_records c)
-  pub active : IsActive (serial c.g0 a.sealed) (undo_of (all_records c)) (a.active 1) w.active
+  pub stored : w.words ≡ words c.pages (all_records c)
+  pub active : IsActive (serial c.g0 a.sealed) (undo_behind c (all_records c)) (a.active 1) w.active
   pub next : w.next ≡ c.first + a.begun
   pub sealed : w.sealed ≡ length a.sealed
 
 -- The disk holds a core's batches, and a crash can leave nothing else.
 pub record OnDisk (s : Super) (c : Core) (image : List ℕ) (may_leave : List ℕ → Type 0) : Type 0 where
-  pub legal : IsLegal s c.batches image
+  pub of : IsSuperOf s c
+  pub held : Holds s c.batches image
   pub only : Only image may_leave
-  pub room : s.log_bytes ≡ c.room
 
 -- What is kept in memory is a core. What waited is lost where the disk stopped or failed, and nothing else is.
 pub record Remembers (c : Core) (w : Working) (failed : Option ℕ) : Type 0 where
@@ -74,10 +75,11 @@ pub record StepsOn (s : Super) (c : Core) (event : Event) (reply : Reply) (w : W
   pub disk : DiskHolds s steps.next image may_leave
 
 module _ {D : Type 0} {g : Ghosts D} where
-  -- What an open heap keeps in memory is a core, on every disk: its history, at which entry the disk stopped or failed, and
-  -- until then its working state.
+  -- What an open heap keeps in memory is a core, on every disk: its history, the commits at the
+  -- opening, at which entry the disk stopped or failed, and until then its working state.
   pub record IsCore (c : Core) (heap : Heap D g) : Type 0 where
     pub history : heap.history.entries.items ≡ c.history
+    pub before : heap.before ≡ c.before
     pub memory : Remembers c heap.working heap.failed
 
   -- The disk of an open heap holds a core's image, and a crash leaves nothing else; of a core whose disk stopped or failed a

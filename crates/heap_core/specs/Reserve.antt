@@ -1,11 +1,12 @@
 -- What an active transaction keeps of the log.
-use Rattle.std.specs.Prelude.{ℕ, ◌+◌, ◌*◌, vec_len, Option, None, Some}
+use Rattle.std.specs.Prelude.{ℕ, vec_len, Option, None, Some}
+use Rattle.log_machine.specs.Machine.{end_bytes}
 use Rattle.heap_core.specs.declared.active.Active.{Active}
 
 -- the log's bytes that are kept for the end of the active transaction
 abbrev pub active_reserve : Option Active → ℕ
 active_reserve None = 0
-active_reserve (Some a) = 10 + 19 * vec_len a.undo
+active_reserve (Some a) = end_bytes (vec_len a.undo)
 
 -- how many transactions are active
 abbrev pub active_count : Option Active → ℕ

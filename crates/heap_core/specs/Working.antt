@@ -1,16 +1,19 @@
 -- What the events of a session do to the working state.
-use Rattle.std.specs.Prelude.{◌≡◌, ℕ, ◌+◌, ◌*◌, ◌==◌, nat_lt, nat_le, List, [], ◌∷◌, ◌++◌, drop, replicate, reverse, Bool, false, Option, None, Some, is_some, unwrap_or, slice_get, slice_set, slice_index, vec_len, if◌then◌else◌}
+use Rattle.std.specs.Prelude.{◌≡◌, ℕ, ◌+◌, ◌==◌, nat_lt, nat_le, List, [], ◌∷◌, ◌++◌, replicate, reverse, Bool, true, false, Option, None, Some, is_some, unwrap_or, slice_get, slice_set, slice_index, vec_len, if◌then◌else◌}
 use Rattle.gated_log.specs.declared.Log.{Log}
-use Rattle.gated_log.specs.LogState.{log_place, log_room, log_tail, log_hand, log_used, log_need}
+use Rattle.gated_log.specs.LogState.{log_room, log_used, log_need, IsPlaced, IsSameLog, Keeps}
 use Rattle.graph_model.specs.declared.reply.Refusal.{Refusal}
 use Rattle.graph_model.specs.declared.reply.Refusal.TheVariants.{AlreadyActive, NotActive, NumbersSpent, BadHandle, Range, BadField}
 use Rattle.graph_model.specs.declared.reply.Reply.{Reply}
+use Rattle.graph_model.specs.declared.reply.Reply.TheVariants.{Refused}
+use Rattle.graph_model.specs.declared.val.Val.{Val}
+use Rattle.graph_model.specs.declared.val.Val.TheVariants.{Null, Int, Ref}
 use Rattle.graph_model.specs.Plain.{no_number, no_int}
 use Rattle.graph_model.specs.Transaction.{value_reply}
+use Rattle.log_records.specs.declared.Record.{Record}
 use Rattle.log_records.specs.declared.Record.TheVariants.{Update, Commit}
-use Rattle.log_records.specs.Record.{spelling, spellings}
 use Rattle.log_machine.specs.declared.UndoEntry.{UndoEntry}
-use Rattle.log_machine.specs.Machine.{with_word, taken_back, abort_records}
+use Rattle.log_machine.specs.Machine.{field_at, with_word, taken_back, abort_records, end_bytes}
 use Rattle.heap_core.specs.declared.active.Active.{Active}
 use Rattle.heap_core.specs.declared.working.Working.{Working}
 use Rattle.heap_model.specs.Core.{full_log, first_of_two}
@@ -56,7 +59,12 @@ abbrev pub begin_refusal : Working → Option Refusal
 begin_refusal w =
     if is_some w.active then Some AlreadyActive
     else if w.next == no_number then Some NumbersSpent
-    else no_room w.log 0 10
+    else no_room w.log 0 (end_bytes 0)
+
+-- the handles when a field of that value was read into one of them
+abbrev pub with_read : Option Seen → ℕ → Val → Option Seen
+with_read active h (Ref id) = with_handle active h true
+with_read active h v = active
 
 -- why a handle can't be changed
 abbrev pub handle_refusal : Option Active → ℕ → Option Refusal
@@ -83,7 +91,7 @@ range_refusal v = if nat_le no_int v then Some Range else None
 -- why the log has no room for a write
 abbrev pub write_room : Log → Option Active → Option Refusal
 write_room log None = Some NotActive
-write_room log (Some a) = no_room log (log_need log 27) (10 + 19 * (vec_len a.undo + 1))
+write_room log (Some a) = no_room log (log_need log 27) (end_bytes (vec_len a.undo + 1))
 
 abbrev pub write_refusal : Log → Option Active → ℕ → Option Refusal
 write_refusal log active i = first_of_two (field_refusal i) (write_room log active)
@@ -107,22 +115,25 @@ end_refusal (Some a) = None
 
 -- the word of a field of the root object
 abbrev pub field_word : List ℕ → ℕ → ℕ
-field_word words i = slice_index (drop 2 words) i
+field_word words i = slice_index words (field_at 0 i)
 
 -- what a read of that field is answered
 abbrev pub field_reply : List ℕ → ℕ → Reply
 field_reply words i = value_reply (value_of (field_word words i))
 
--- the log is where it was, with these records in hand
-pub record SameLog (old new : Log) (hand : List ℕ) : Type 0 where
-  pub at : log_place new ≡ log_place old
-  pub room : log_room new ≡ log_room old
-  pub tail : log_tail new ≡ log_tail old
-  pub in_hand : log_hand new ≡ hand
+-- the event was not refused
+abbrev pub IsGranted : Reply → Type 0
+IsGranted (Refused why) = ⊥
+IsGranted reply = Unit {0}
+
+-- The log has these records more in hand, and is where it was.
+pub record Adds (old new : Log) (records : List Record) : Type 0 where
+  pub place : IsPlaced old new
+  pub kept : (batches : List (List Record)) (pending : List Record) → Keeps old batches pending → Keeps new batches (pending ++ records)
 
 -- The working state is as it was.
 pub record IsAsItWas (old new : Working) : Type 0 where
-  pub log : SameLog old.log new.log (log_hand old.log)
+  pub log : IsSameLog old.log new.log
   pub words : new.words ≡ old.words
   pub active : seen_active new.active ≡ seen_active old.active
   pub next : new.next ≡ old.next
@@ -144,11 +155,19 @@ pub record SetsHandle (old new : Working) (h : ℕ) (holds : Bool) : Type 0 wher
   pub next : new.next ≡ old.next
   pub sealed : new.sealed ≡ old.sealed
 
+-- The transaction read a field of that value into a handle.
+pub record Gets (old new : Working) (h : ℕ) (value : Val) : Type 0 where
+  pub log : new.log ≡ old.log
+  pub words : new.words ≡ old.words
+  pub active : seen_active new.active ≡ with_read (seen_active old.active) h value
+  pub next : new.next ≡ old.next
+  pub sealed : new.sealed ≡ old.sealed
+
 -- The transaction wrote a word into a field of the root object.
 pub record Writes (old new : Working) (i word : ℕ) : Type 0 where
   pub active : Active
   pub was_active : old.active ≡ Some active
-  pub log : SameLog old.log new.log (log_hand old.log ++ spelling (Update active.number 0 i (field_word old.words i) word))
+  pub log : Adds old.log new.log (Update active.number 0 i (field_word old.words i) word ∷ [])
   pub words : new.words ≡ with_word old.words 0 i word
   pub now_active : seen_active new.active ≡ with_write (seen_active old.active) (record { object = 0; field = i; was = field_word old.words i })
   pub next : new.next ≡ old.next
@@ -158,7 +177,7 @@ pub record Writes (old new : Working) (i word : ℕ) : Type 0 where
 pub record Seals (old new : Working) : Type 0 where
   pub active : Active
   pub was_active : old.active ≡ Some active
-  pub log : SameLog old.log new.log (log_hand old.log ++ spelling (Commit active.number))
+  pub log : Adds old.log new.log (Commit active.number ∷ [])
   pub words : new.words ≡ old.words
   pub not_active : new.active ≡ None
   pub next : new.next ≡ old.next
@@ -168,7 +187,7 @@ pub record Seals (old new : Working) : Type 0 where
 pub record Aborts (old new : Working) : Type 0 where
   pub active : Active
   pub was_active : old.active ≡ Some active
-  pub log : SameLog old.log new.log (log_hand old.log ++ spellings (abort_records active.number (reverse active.undo.items)))
+  pub log : Adds old.log new.log (abort_records active.number (reverse active.undo.items))
   pub words : new.words ≡ taken_back (reverse active.undo.items) old.words
   pub not_active : new.active ≡ None
   pub next : new.next ≡ old.next

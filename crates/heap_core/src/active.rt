@@ -2,10 +2,10 @@
 ghost use Rattle.std.specs.Prelude.{◌≡◌, ◌+◌, ◌*◌, ◌<◌, ◌^◌, [], ◌∷◌, replicate, reverse, false, vec_len, vec_capacity};
 ghost use Rattle.std.specs.List.{AllByRecursion};
 ghost use Rattle.std.proofs.Props.{props};
-ghost use Rattle.log_machine.specs.UndoEntry.{LiesInside};
+ghost use Rattle.log_machine.specs.declared.UndoEntry.{UndoEntry};
+ghost use Rattle.log_machine.specs.Machine.{field_at, end_bytes};
 
-use heap_recovery::{END_BYTES, UNDO_BYTES};
-use log_machine::UndoEntry;
+use log_machine::{UndoEntry, end_bytes};
 use std::alloc::{AllocError, Global};
 
 /// The handles of a transaction.
@@ -20,7 +20,8 @@ pub struct Active {
     pub handles: [bool; HANDLES],
     /// What its writes replaced. The newest stands last.
     pub undo: Vec<UndoEntry>,
-    ghost inside: { AllByRecursion LiesInside undo.items } by { Prim.hlevel props },
+    // Each of them is in the root object.
+    ghost inside: { AllByRecursion (λ (u : UndoEntry). field_at u.object u.field < 6) undo.items } by { Prim.hlevel props },
 }
 
 impl Active {
@@ -48,10 +49,10 @@ impl Active {
 
     /// The log's bytes that are kept for this transaction.
     pub fn reserved(&self) -> u64
-        requires { 10 + 19 * vec_len self.now.undo < 2 ^ 32 }
-        ensures { result ≡ 10 + 19 * vec_len self.now.undo }
+        requires { end_bytes (vec_len self.now.undo) < 2 ^ 32 }
+        ensures { result ≡ end_bytes (vec_len self.now.undo) }
     {
-        END_BYTES + UNDO_BYTES * self.undo.len() as u64
+        end_bytes(self.undo.len() as u64)
     }
 
     /// Makes room for one write.
@@ -66,7 +67,7 @@ impl Active {
     /// Adds a write, for which there is room.
     pub fn push_reserved(&mut self, write: UndoEntry)
         requires room { vec_len self.old.undo < vec_capacity self.old.undo }
-        requires inside { LiesInside write }
+        requires inside { field_at write.object write.field < 6 }
         ensures seen { seen self.new ≡ record (seen self.old) { undo = write ∷ (seen self.old).undo } }
         ensures writes { vec_len self.new.undo ≡ vec_len self.old.undo + 1 }
     {

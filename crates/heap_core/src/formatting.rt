@@ -1,16 +1,18 @@
 //! An empty heap is made on a disk.
-ghost use Rattle.std.specs.Prelude.{◌≡◌, ℕ, ◌+◌, ◌-◌, ◌<◌, ◌≤◌, List, [], replicate, IsTrue, IfOk, IsErrAnd, OnOk};
+ghost use Rattle.std.specs.Prelude.{◌≡◌, ℕ, ◌+◌, ◌-◌, ◌<◌, ◌≤◌, List, [], replicate, IsTrue, Err, IfOk, IfErr, IsErrAnd, OnOk};
 ghost use Rattle.disk_model.specs.Disk.{Only, Follows, SameOutside};
 ghost use Rattle.disk_model.specs.Keeps.{KeepsDisk};
 ghost use Rattle.disk_model.specs.Moments.{LeavesOnly};
 ghost use Rattle.gate_slot.specs.Passing.{Passes};
 ghost use Rattle.image_plan.specs.Plan.{image_size};
 ghost use Rattle.image_plan.specs.Super.{IsSuper};
-ghost use Rattle.heap_core.specs.declared.formatting.FormatError.TheVariants.{TooSmall};
-ghost use Rattle.heap_core.specs.Format.{AreZero, IsFormatting, zero_writes, format_calls};
-ghost use Rattle.heap_core.specs.GivenBack.{given_back, device_result, FailsByDisk};
+ghost use Rattle.heap_core.specs.declared.errors.FormatError.TheVariants.{TooSmall};
+ghost use Rattle.heap_core.specs.Format.{AreZero, IsFormatting, heap_of, zero_writes, format_calls};
+ghost use Rattle.heap_core.specs.GivenBack.{given_back, made_device, device_result, IsFromDisk};
 ghost use Rattle.heap_model.specs.Image.{IsLegal};
 
+use crate::errors::FormatError;
+use crate::heap::Heap;
 use disk_model::{Disk, DiskError};
 use gate_slot::{close_gate, fill_and_open};
 use image_plan::{SUPER_BYTES, Super, write_super};
@@ -20,37 +22,59 @@ const PIECE: usize = 65_536;
 
 static ZEROS: [u8; PIECE] = [0; PIECE];
 
-/// Why a heap could not be made.
-#[derive(Clone, Copy, Debug, PartialEq, Eq)]
-pub enum FormatError {
-    /// The disk has `size` bytes of the `need` that the heap takes.
-    TooSmall { size: u64, need: u64 },
-    /// The disk failed or stopped.
-    Disk(DiskError),
+impl<D: Disk> Heap<D> {
+    /// Makes an empty heap on the disk, which it takes whole and gives back: `pages` pages of 64 words in each of two spaces,
+    /// a log of `log_bytes` bytes, and `first` as its first transaction's number.
+    pub fn format(
+        mut disk: D,
+        pages: u32,
+        log_bytes: u32,
+        first: u32,
+    ) -> Result<D, (FormatError, D)>
+        requires { IsSuper (heap_of pages log_bytes first) }
+
+        ensures disk { KeepsDisk D.Disk disk (given_back result) (device_result result) }
+        // A disk that is too small is given back as it was.
+        ensures small { D.extent disk < image_size pages log_bytes → IsErrAnd result (λ e. e ≡ (TooSmall (D.extent disk) (image_size pages log_bytes), disk)) }
+        ensures large { image_size pages log_bytes ≤ D.extent disk → IfErr result (λ e. IsFromDisk e.0) }
+
+        ensures made { IsTrue D.tells → IfOk result (λ made. IsLegal (heap_of pages log_bytes first) [] (D.bytes made) × Only (D.bytes made) (D.may_leave made)) }
+        // A crash at any moment leaves no heap, the old image, or the new empty heap.
+        ensures moments { IsTrue D.tells → Only (D.bytes disk) (D.may_leave disk) → LeavesOnly D.moment D.left_since disk (given_back result) (IsFormatting (heap_of pages log_bytes first) (D.bytes disk)) }
+        ensures passes { IsTrue D.tells → image_size pages log_bytes ≤ D.extent disk → Passes (format_calls (image_size pages log_bytes) (D.bytes disk)) (D.passed disk) (D.passed (given_back result)) (device_result result) }
+    {
+        let of = Super {
+            pages,
+            log_bytes,
+            first,
+        };
+        match make_empty(&mut disk, &of) {
+            Ok(()) => Ok(disk),
+            Err(e) => Err((e, disk)),
+        }
+    }
 }
 
-/// Makes an empty heap on the disk.
-pub fn format<D: Disk>(mut disk: D, of: &Super) -> Result<D, (FormatError, D)>
+/// Makes an empty heap with these numbers, if the disk is large enough.
+fn make_empty<D: Disk>(disk: &mut D, of: &Super) -> Result<(), FormatError>
     requires { IsSuper of.now }
 
-    // A disk that is too small is given back as it was.
-    ensures small { D.extent disk < image_size of.now.pages of.now.log_bytes → IsErrAnd result (λ e. e ≡ (TooSmall (D.extent disk) (image_size of.now.pages of.now.log_bytes), disk)) }
-    ensures large { image_size of.now.pages of.now.log_bytes ≤ D.extent disk → FailsByDisk result }
+    ensures disk { KeepsDisk D.Disk disk.old disk.new (made_device result) }
+    ensures small { D.extent disk.old < image_size of.now.pages of.now.log_bytes → (result ≡ Err (TooSmall (D.extent disk.old) (image_size of.now.pages of.now.log_bytes))) × (disk.new ≡ disk.old) }
+    ensures large { image_size of.now.pages of.now.log_bytes ≤ D.extent disk.old → IfErr result IsFromDisk }
 
-    ensures made { IsTrue D.tells → IfOk result (λ made. IsLegal of.now [] (D.bytes made) × Only (D.bytes made) (D.may_leave made)) }
-    ensures moments { IsTrue D.tells → Only (D.bytes disk) (D.may_leave disk) → LeavesOnly D.moment D.left_since disk (given_back result) (IsFormatting of.now (D.bytes disk)) }
-    ensures passes { IsTrue D.tells → image_size of.now.pages of.now.log_bytes ≤ D.extent disk → Passes (format_calls (image_size of.now.pages of.now.log_bytes) (D.bytes disk)) (D.passed disk) (D.passed (given_back result)) (device_result result) }
-    ensures disk { KeepsDisk D.Disk disk (given_back result) (device_result result) }
+    ensures made { IsTrue D.tells → OnOk result (IsLegal of.now [] (D.bytes disk.new)) }
+    ensures durable { IsTrue D.tells → OnOk result (Only (D.bytes disk.new) (D.may_leave disk.new)) }
+    ensures moments { IsTrue D.tells → Only (D.bytes disk.old) (D.may_leave disk.old) → LeavesOnly D.moment D.left_since disk.old disk.new (IsFormatting of.now (D.bytes disk.old)) }
+    ensures passes { IsTrue D.tells → image_size of.now.pages of.now.log_bytes ≤ D.extent disk.old → Passes (format_calls (image_size of.now.pages of.now.log_bytes) (D.bytes disk.old)) (D.passed disk.old) (D.passed disk.new) (made_device result) }
 {
     let size = disk.size();
     let need = of.plan().size();
     if size < need {
-        return Err((FormatError::TooSmall { size, need }, disk));
+        return Err(FormatError::TooSmall { size, need });
     }
-    match write_empty(&mut disk, of) {
-        Ok(()) => Ok(disk),
-        Err(e) => Err((FormatError::Disk(e), disk)),
-    }
+    write_empty(disk, of)?;
+    Ok(())
 }
 
 fn write_empty<D: Disk>(disk: &mut D, of: &Super) -> Result<(), DiskError>

@@ -1,11 +1,10 @@
 //! The heap: events on an image, each of them one step.
-ghost use Rattle.std.specs.Prelude.{◌≡◌, ◌≢◌, ◌⊎◌, ◌↔◌, ◌+◌, ◌≤◌, ℕ, List, [], length, min, is_some, None, Err, IsTrue, IfOk, IfErr, OnErr, string_bytes};
+ghost use Rattle.std.specs.Prelude.{◌≡◌, ◌≢◌, ◌⊎◌, ◌↔◌, ◌+◌, ◌≤◌, ◌^◌, ◌<◌, ℕ, List, [], length, min, is_some, None, Err, IsTrue, IfOk, IfErr, OnErr};
 ghost use Rattle.counts.specs.Count.{greatest};
 ghost use Rattle.disk_model.specs.Disk.{Only};
 ghost use Rattle.disk_model.specs.Keeps.{KeepsDisk};
 ghost use Rattle.disk_model.specs.Moments.{LeavesOnly};
 ghost use Rattle.gate_slot.specs.Passing.{Passes};
-ghost use Rattle.gated_log.specs.Log.{records_of};
 ghost use Rattle.gated_log.specs.LogState.{log_place, log_room};
 ghost use Rattle.graph_model.specs.Graph.{Graph};
 ghost use Rattle.graph_model.specs.Canon.{canon};
@@ -17,22 +16,26 @@ ghost use Rattle.graph_model.specs.declared.event.Event.TheVariants.{Force};
 ghost use Rattle.graph_model.specs.declared.reply.Refusal.TheVariants.{DiskFault, Stopped};
 ghost use Rattle.image_plan.specs.declared.superblock.Super.{Super};
 ghost use Rattle.log_records.specs.declared.Record.{Record};
-ghost use Rattle.heap_model.specs.Image.{IsLegal, StandsFor};
-ghost use Rattle.heap_model.specs.Opening.{opened, rollback_of, rolled_back, opening_calls};
-ghost use Rattle.heap_core.specs.Causes.{step_device, reply_device, opened_device};
+ghost use Rattle.heap_model.specs.Image.{IsLegalLog, IsLegal, Shows, StandsFor};
+ghost use Rattle.object_layout.specs.Layout.{IsSeen};
+ghost use Rattle.heap_model.specs.Opening.{opened, rollback_of, opening_calls};
+ghost use Rattle.heap_core.specs.Causes.{step_device, reply_device, opened_device, IsFromOutside, OpenedPasses};
 ghost use Rattle.heap_model.specs.Core.{Core, IsStep, calls};
 ghost use Rattle.heap_model.specs.CoreCrash.{KeepsCommits};
 ghost use Rattle.heap_model.specs.CoreValid.{IsReached};
-ghost use Rattle.log_machine.specs.Machine.{commits};
-ghost use Rattle.heap_recovery.specs.Recovered.{next_after, IsFromOutside, OpenedPasses};
 
-use crate::graph_text::root_text;
+use crate::errors::{GraphError, OpenError};
 use crate::history::History;
 use crate::working::{Working, refused};
 use disk_model::{Disk, DiskError};
 use graph_model::{Entry, Event, Refusal, Reply};
-use heap_recovery::{OpenError, Recovered, recover, root_values};
+use heap_recovery::{Recovered, recover};
+use log_machine::PageWords;
+use object_layout::WordSlice;
 use std::alloc::{AllocError, Global};
+
+/// The word address of the root object.
+const ROOT_AT: u32 = 0;
 
 /// A heap on a disk, for one session.
 #[derive(Debug, Drop)]
@@ -58,34 +61,44 @@ fn cut_short(e: DiskError) -> Reply
     })
 }
 
+/// The text of the graph that is seen from the root on.
+fn print(alloc: Global, words: &PageWords) -> Result<Vec<u8>, GraphError>
+    requires { length words.now < 2 ^ 32 }
+    ensures text { (g : Graph) → IsSeen words.now 0 g → IfOk result (λ text. text.items ≡ canon_text (canon g)) }
+    ensures error { (g : Graph) → IsSeen words.now 0 g → IfErr result (λ e. e ≡ GraphError.NoMemory) }
+{
+    let mut words = WordSlice::of(words.as_slice());
+    Ok(graph_print::canon_text(alloc, &mut words, ROOT_AT)?)
+}
+
 impl<D: Disk> Heap<D> {
-    ghost use Rattle.heap_core.specs.HeapState.{opened_disk, heap_disk, before_of, commits_of, failed_at, entries_of};
+    ghost use Rattle.heap_core.specs.HeapState.{opened_disk, heap_disk, failed_at, entries_of};
     ghost use Rattle.heap_core.specs.Means.{IsCore, IsHeap, Steps, StepsOn};
 
     /// Opens the heap on the disk.
     pub fn open(alloc: Global, mut disk: D) -> Result<Heap<D>, (OpenError, D)>
         ensures disk { KeepsDisk D.Disk disk (opened_disk result) (opened_device result) }
-        ensures unfailed { IfOk result (λ heap. failed_at heap ≡ None) }
 
+        // What is opened is the core that a legal log says, whatever graph is seen in it: the log that was read.
+        ensures opens { IfOk result (λ heap. (s : Super) × (batches : List (List Record)) × (legal : IsLegalLog s batches) × ((g : Graph) → Shows s batches legal g → IsCore (opened s batches g) heap)) }
+
+        // Of a disk that tells it is the log that the disk holds, and the disk then holds the core.
+        ensures holds { IsTrue D.tells → (s : Super) (batches : List (List Record)) → (legal : IsLegal s batches (D.bytes disk)) → Only (D.bytes disk) (D.may_leave disk) → IfOk result (λ heap. (g : Graph) → Shows s batches legal.log g → IsHeap s (opened s batches g) heap) }
+        // A legal image is refused only for want of memory or by the disk.
+        ensures legal { IsTrue D.tells → (s : Super) (batches : List (List Record)) → IsLegal s batches (D.bytes disk) → IfErr result (λ e. IsFromOutside e.0) }
         // At each moment of it a crash leaves an image that stands for the same graph and commits as the one that was opened.
         ensures moments { IsTrue D.tells → Only (D.bytes disk) (D.may_leave disk) → (g : Graph) (k : ℕ) → StandsFor g k (D.bytes disk) → LeavesOnly D.moment D.left_since disk (opened_disk result) (StandsFor g k) }
         ensures crash { IsTrue D.tells → Only (D.bytes disk) (D.may_leave disk) → (g : Graph) (k : ℕ) → StandsFor g k (D.bytes disk) → (image : List ℕ) → D.may_leave (opened_disk result) image → StandsFor g k image }
-        // It writes only where it has to take a transaction's writes back.
-        ensures passes { IsTrue D.tells → (s : Super) (batches : List (List Record)) → IsLegal s batches (D.bytes disk) → OpenedPasses (opening_calls batches) (D.passed disk) (D.passed (opened_disk result)) result }
-        ensures no_first_stop { IsTrue D.tells → (s : Super) (batches : List (List Record)) → IsLegal s batches (D.bytes disk) → rollback_of batches ≡ [] → D.stops disk ≡ 0 → D.stops (opened_disk result) ≡ 0 }
-
-        // A legal image is refused only for want of memory or by the disk.
-        ensures legal { IsTrue D.tells → (s : Super) (batches : List (List Record)) → IsLegal s batches (D.bytes disk) → IfErr result (λ e. IsFromOutside e.0) }
-        ensures count { IsTrue D.tells → (s : Super) (batches : List (List Record)) → IsLegal s batches (D.bytes disk) → IfOk result (λ heap. commits_of heap ≡ commits (records_of batches)) }
-
-        // A legal image is opened as the core that it stands for.
-        ensures means { IsTrue D.tells → (s : Super) (batches : List (List Record)) → IsLegal s batches (D.bytes disk) → Only (D.bytes disk) (D.may_leave disk) → IfOk result (λ heap. IsHeap s (opened s (rolled_back batches) (next_after s batches)) heap) }
+        // It writes only where it has to take transactions' writes back.
+        ensures passes { IsTrue D.tells → (s : Super) (batches : List (List Record)) → IsLegal s batches (D.bytes disk) → OpenedPasses (opening_calls s batches) (D.passed disk) (D.passed (opened_disk result)) result }
+        ensures no_first_stop { IsTrue D.tells → (s : Super) (batches : List (List Record)) → IsLegal s batches (D.bytes disk) → rollback_of s batches ≡ [] → D.stops disk ≡ 0 → D.stops (opened_disk result) ≡ 0 }
     {
         match recover(alloc, &mut disk) {
             Ok(found) => {
                 let Recovered {
                     log,
                     words,
+                    pages: _,
                     commits,
                     next,
                 } = found;
@@ -104,7 +117,7 @@ impl<D: Disk> Heap<D> {
                     failed: None,
                 })
             }
-            Err(e) => Err((e, disk)),
+            Err(e) => Err((OpenError::from(e), disk)),
         }
     }
 
@@ -117,13 +130,11 @@ impl<D: Disk> Heap<D> {
         ensures kept { (c : Core) → IsCore c self.old → OnErr result (IsCore c self.new) }
         ensures untouched { OnErr result (self.new.disk ≡ self.old.disk) }
 
-        // The commits that the log held at the opening stay.
-        ensures before { before_of self.new ≡ before_of self.old }
         // So is what a disk that tells holds.
         ensures holds { IsTrue D.tells → (s : Super) (c : Core) → IsHeap s c self.old → IsReached c → IsSingleSession event → IfOk result (λ reply. (d : Core) × IsStep c event reply d × IsHeap s d self.new) }
         // At each moment of it a crash leaves first commits, among them all that were acknowledged before.
         ensures moments { IsTrue D.tells → (s : Super) (c : Core) → IsHeap s c self.old → IsReached c → LeavesOnly D.moment D.left_since self.old.disk self.new.disk (KeepsCommits c) }
-        ensures passes { IsTrue D.tells → (c : Core) → IsCore c self.old → IfOk result (λ reply. Passes (calls c event) (D.passed self.old.disk) (D.passed self.new.disk) (reply_device reply)) }
+        ensures passes { IsTrue D.tells → (c : Core) → IsCore c self.old → IsReached c → IfOk result (λ reply. Passes (calls c event) (D.passed self.old.disk) (D.passed self.new.disk) (reply_device reply)) }
     {
         self.history.reserve()?;
         let reply = self.reply_to(event)?;
@@ -137,10 +148,10 @@ impl<D: Disk> Heap<D> {
         ensures core { (c : Core) → IsCore c self.old → IsReached c → IsSingleSession event → IfOk result (λ reply. Steps c event reply self.new.working self.new.failed) }
         ensures holds { IsTrue D.tells → (s : Super) (c : Core) → IsHeap s c self.old → IsReached c → IsSingleSession event → IfOk result (λ reply. StepsOn s c event reply self.new.working self.new.failed (D.bytes self.new.disk) (D.may_leave self.new.disk)) }
         ensures kept { (c : Core) → IsCore c self.old → OnErr result (IsCore c self.new) }
-        ensures before { before_of self.new ≡ before_of self.old }
+        ensures before { self.new.before ≡ self.old.before }
         ensures untouched { OnErr result (self.new.disk ≡ self.old.disk) }
         ensures moments { IsTrue D.tells → (s : Super) (c : Core) → IsHeap s c self.old → IsReached c → LeavesOnly D.moment D.left_since self.old.disk self.new.disk (KeepsCommits c) }
-        ensures passes { IsTrue D.tells → (c : Core) → IsCore c self.old → IfOk result (λ reply. Passes (calls c event) (D.passed self.old.disk) (D.passed self.new.disk) (reply_device reply)) }
+        ensures passes { IsTrue D.tells → (c : Core) → IsCore c self.old → IsReached c → IfOk result (λ reply. Passes (calls c event) (D.passed self.old.disk) (D.passed self.new.disk) (reply_device reply)) }
     {
         match self.failed {
             Some(entry) => Ok(refused(Refusal::Failed { entry })),
@@ -153,11 +164,11 @@ impl<D: Disk> Heap<D> {
         ensures core { (c : Core) → IsCore c self.old → self.old.failed ≡ None → IsReached c → IsSingleSession event → IfOk result (λ reply. Steps c event reply self.new.working self.new.failed) }
         ensures holds { IsTrue D.tells → (s : Super) (c : Core) → IsHeap s c self.old → self.old.failed ≡ None → IsReached c → IsSingleSession event → IfOk result (λ reply. StepsOn s c event reply self.new.working self.new.failed (D.bytes self.new.disk) (D.may_leave self.new.disk)) }
         ensures kept { (c : Core) → IsCore c self.old → OnErr result (IsCore c self.new) }
-        ensures before { before_of self.new ≡ before_of self.old }
+        ensures before { self.new.before ≡ self.old.before }
         ensures history { self.new.history ≡ self.old.history }
         ensures untouched { OnErr result (self.new.disk ≡ self.old.disk) }
         ensures moments { IsTrue D.tells → (s : Super) (c : Core) → IsHeap s c self.old → self.old.failed ≡ None → IsReached c → LeavesOnly D.moment D.left_since self.old.disk self.new.disk (KeepsCommits c) }
-        ensures passes { IsTrue D.tells → (c : Core) → IsCore c self.old → self.old.failed ≡ None → IfOk result (λ reply. Passes (calls c event) (D.passed self.old.disk) (D.passed self.new.disk) (reply_device reply)) }
+        ensures passes { IsTrue D.tells → (c : Core) → IsCore c self.old → IsReached c → self.old.failed ≡ None → IfOk result (λ reply. Passes (calls c event) (D.passed self.old.disk) (D.passed self.new.disk) (reply_device reply)) }
     {
         let alloc = self.history.allocator();
         match event {
@@ -180,13 +191,13 @@ impl<D: Disk> Heap<D> {
         ensures core { (c : Core) → IsCore c self.old → self.old.failed ≡ None → IsReached c → IfOk result (λ reply. Steps c Force reply self.new.working self.new.failed) }
         ensures holds { IsTrue D.tells → (s : Super) (c : Core) → IsHeap s c self.old → self.old.failed ≡ None → IsReached c → IfOk result (λ reply. StepsOn s c Force reply self.new.working self.new.failed (D.bytes self.new.disk) (D.may_leave self.new.disk)) }
         ensures kept { (c : Core) → IsCore c self.old → OnErr result (IsCore c self.new) }
-        ensures before { before_of self.new ≡ before_of self.old }
+        ensures before { self.new.before ≡ self.old.before }
         ensures history { self.new.history ≡ self.old.history }
         ensures untouched { OnErr result (self.new.disk ≡ self.old.disk) }
         ensures moments { IsTrue D.tells → (s : Super) (c : Core) → IsHeap s c self.old → self.old.failed ≡ None → IsReached c → LeavesOnly D.moment D.left_since self.old.disk self.new.disk (KeepsCommits c) }
-        ensures passes { IsTrue D.tells → (c : Core) → IsCore c self.old → self.old.failed ≡ None → IfOk result (λ reply. Passes (calls c Force) (D.passed self.old.disk) (D.passed self.new.disk) (reply_device reply)) }
+        ensures passes { IsTrue D.tells → (c : Core) → IsCore c self.old → IsReached c → self.old.failed ≡ None → IfOk result (λ reply. Passes (calls c Force) (D.passed self.old.disk) (D.passed self.new.disk) (reply_device reply)) }
     {
-        self.working.log.reserve()?;
+        self.working.log.reserve(0)?;
         match self.working.log.force(&mut self.disk) {
             Ok(()) => Ok(Reply::Durable {
                 n: self.working.sealed,
@@ -213,10 +224,9 @@ impl<D: Disk> Heap<D> {
         self.failed
     }
 
-    /// How many commits the log holds.
+    /// How many commits the log has from its first record on, as far as 64 bits count.
     pub fn commits(&self) -> u64
-        ensures value { result ≡ commits_of self.now }
-        ensures exact { (c : Core) → IsCore c self.now → result ≡ min (before_of self.now + length (sealed c.history)) greatest }
+        ensures { (c : Core) → IsCore c self.now → result ≡ min (c.before + length (sealed c.history)) greatest }
     {
         self.before.saturating_add(self.working.sealed)
     }
@@ -236,14 +246,19 @@ impl<D: Disk> Heap<D> {
         self.working.active.is_some()
     }
 
-    /// The text of the graph. What active transactions wrote is left out. It asks that the disk has neither failed nor stopped.
-    pub fn graph(&self, alloc: Global) -> Result<String, AllocError>
+    /// The text of the graph, without what an active transaction wrote. It asks that the disk has neither failed nor stopped.
+    pub fn graph(&self, alloc: Global) -> Result<Vec<u8>, GraphError>
         requires unfailed { failed_at self.now ≡ None }
-        ensures text { (c : Core) → IsCore c self.now → IsReached c → IfOk result (λ text. string_bytes text ≡ canon_text (canon (serial c.g0 (sealed c.history)))) }
+        ensures text { (c : Core) → IsCore c self.now → IsReached c → IfOk result (λ text. text.items ≡ canon_text (canon (serial c.g0 (sealed c.history)))) }
+        ensures error { (c : Core) → IsCore c self.now → IsReached c → IfErr result (λ e. e ≡ GraphError.NoMemory) }
     {
-        match root_values(&self.working.committed_words()) {
-            Some(values) => root_text(alloc, &values),
-            None => root_text(alloc, &[]),
+        match &self.working.active {
+            None => print(alloc, &self.working.words),
+            Some(active) => {
+                let mut words = self.working.words.copy(alloc)?;
+                words.take_back(&active.undo);
+                print(alloc, &words)
+            }
         }
     }
 

@@ -2,16 +2,16 @@
 #![tactic(auto)]
 
 mod active;
+mod errors;
 mod formatting;
-mod graph_text;
 mod heap;
 mod history;
 mod log_room;
 mod working;
 
-pub use formatting::{FormatError, format};
+pub use errors::{FormatError, GraphError, OpenError};
 pub use heap::Heap;
-pub use heap_recovery::{At, OpenError};
+pub use heap_recovery::At;
 pub use history::History;
 
 #[cfg(test)]

@@ -6,7 +6,6 @@ use disk_model::{Disk, DiskError, FuseDisk, MemoryDisk, Pick};
 use gated_log::Log;
 use graph_model::{Event, Reply};
 use heap_recovery::OpenError;
-use image_plan::Super;
 use log_records::Record;
 use std::alloc::{AllocError, Global};
 use std::process::Abort;
@@ -93,12 +92,7 @@ fn open<D: Disk + Drop>(rt: &impl Abort, alloc: Global, disk: D) -> Heap<D> {
 
 /// A disk that was stopped behind these events, and started again.
 fn make_unended(rt: &impl Abort, alloc: Global, pick: Pick) -> Result<MemoryDisk, AllocError> {
-    let of = Super {
-        pages: 1,
-        log_bytes: LOG_BYTES,
-        first: 1,
-    };
-    let disk = match format(make_disk(alloc, pick)?, &of) {
+    let disk = match Heap::format(make_disk(alloc, pick)?, 1, LOG_BYTES, 1) {
         Ok(disk) => disk,
         Err((e, _)) => panic!(rt; "not made: {e:?}"),
     };
@@ -135,7 +129,7 @@ fn stopped_at_each_call(rt: HostRuntime) -> Result<(), Fail> {
             let mut disk = match Heap::open(alloc, FuseDisk::new(disk, calls)) {
                 Ok(_) => panic!(rt; "opened with {calls} calls"),
                 Err((e, fuse)) => {
-                    assert_eq!(rt; e, OpenError::Disk(DiskError::Stopped));
+                    assert_eq!(rt; e, OpenError::Stopped);
                     fuse.into_inner()
                 }
             };

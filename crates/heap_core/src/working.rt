@@ -1,9 +1,8 @@
 //! What an open heap keeps in memory, and how the events of a session change it.
-ghost use Rattle.std.specs.Prelude.{◌≡◌, ◌+◌, ◌*◌, ◌<◌, ◌≤◌, Ok, OnErr, IfOk, true, false};
+ghost use Rattle.std.specs.Prelude.{◌≡◌, ◌+◌, ◌*◌, ◌^◌, ◌<◌, ◌≤◌, length, Ok, OnErr, IfOk, true, false};
 ghost use Rattle.gated_log.specs.LogState.{log_place, log_room, log_used};
 ghost use Rattle.graph_model.specs.Plain.{reply_of};
 ghost use Rattle.graph_model.specs.declared.reply.Reply.TheVariants.{Begun, Done, Yes, Length, Sealed, Aborted};
-ghost use Rattle.graph_model.specs.Transaction.{value_reply};
 ghost use Rattle.heap_model.specs.ValueWord.{value_of};
 ghost use Rattle.heap_words.specs.Word.{bits, IsWord};
 ghost use Rattle.heap_core.specs.Reserve.{active_count, active_reserve};
@@ -11,12 +10,14 @@ ghost use Rattle.heap_core.specs.Reserve.{active_count, active_reserve};
 use crate::active::{Active, HANDLES};
 use crate::log_room::log_refusal;
 use gated_log::Log;
-use graph_model::{Refusal, Reply};
-use heap_recovery::UNDO_BYTES;
+use graph_model::{Id, Refusal, Reply, Val};
 use heap_words::{NO_INT, Word, decode, encode};
-use log_machine::{PageWords, ROOT_FIELDS, UndoEntry, abort_records};
-use log_records::{LAST_NUMBER, Record};
+use log_machine::{FIELDS_AT, LAST_NUMBER, PageWords, ROOT_FIELDS, UndoEntry, abort_records, end_bytes};
+use log_records::Record;
 use std::alloc::{AllocError, Global};
+
+/// The root's id.
+const ROOT: Id = Id { t: 0, k: 0 };
 
 /// The first number that no transaction has.
 const NO_NUMBER: u32 = LAST_NUMBER + 1;
@@ -37,6 +38,9 @@ pub struct Working {
     // The log has room for what is kept for the active transaction's end.
     ghost reserve: { log_used log + active_reserve active ≤ log_room log },
     ghost counted: { sealed + active_count active < next },
+    // The root object stands in front.
+    ghost rooted: { 6 ≤ length words },
+    ghost few: { length words < 2 ^ 32 },
 }
 
 /// The answer of an event that is refused.
@@ -46,30 +50,19 @@ pub fn refused(why: Refusal) -> Reply
     Reply::Refused { why }
 }
 
-/// What a read of a field is answered that has this word.
-fn told_word(word: u64) -> Reply
-    ensures { result ≡ value_reply (value_of word) }
+/// The value of a word where the root is the only object.
+fn value_of_word(word: u64) -> Val
+    ensures { result ≡ value_of word }
 {
     match decode(word) {
-        Some(Word::Int(v)) => Reply::Int { v },
-        _ => Reply::Null,
+        Some(Word::Int(n)) => Val::Int(n),
+        Some(Word::Stable(_)) => Val::Ref(ROOT),
+        Some(Word::Null | Word::Volatile(_)) | None => Val::Null,
     }
 }
 
 impl Working {
-    ghost use Rattle.log_machine.specs.Machine.{taken_back};
-    ghost use Rattle.heap_core.specs.Working.{active_undo, field_word, field_reply, begin_refusal, handle_refusal, held_refusal, field_refusal, write_refusal, put_refusal, clear_refusal, get_refusal, same_refusal, end_refusal, IsAsItWas, Begins, SetsHandle, Writes, Seals, Aborts};
-
-    /// The words without what the active transaction wrote.
-    pub fn committed_words(&self) -> PageWords
-        ensures { result ≡ taken_back (active_undo self.now.active) self.now.words }
-    {
-        let mut words = self.words;
-        if let Some(active) = &self.active {
-            words.take_back(&active.undo);
-        }
-        words
-    }
+    ghost use Rattle.heap_core.specs.Working.{field_word, field_reply, IsGranted, begin_refusal, handle_refusal, held_refusal, field_refusal, write_refusal, put_refusal, clear_refusal, get_refusal, same_refusal, end_refusal, IsAsItWas, Begins, SetsHandle, Gets, Writes, Seals, Aborts};
 
     /// Begins a transaction.
     pub fn begin(&mut self, alloc: Global) -> Reply
@@ -175,7 +168,7 @@ impl Working {
             return Ok(refused(Refusal::NotActive));
         };
         let field = i as u16;
-        let was = self.words.root_fields()[i as usize];
+        let was = self.words.word(FIELDS_AT + u32::from(field));
         let rec = Record::Update {
             t: active.number,
             object: 0,
@@ -183,7 +176,7 @@ impl Working {
             was,
             word: encode(value),
         };
-        let reserved = active.reserved() + UNDO_BYTES;
+        let reserved = end_bytes(active.undo.len() as u64 + 1);
         if let Some(why) = log_refusal(&self.log, self.log.need(&rec), reserved) {
             return Ok(refused(why));
         }
@@ -198,10 +191,12 @@ impl Working {
         Ok(Reply::Done)
     }
 
-    /// What is in a field of the object that a handle of the transaction holds. No field holds a reference, so that `h2`
-    /// stays as it is.
-    pub fn get(&self, h: u64, i: u64, h2: u64) -> Reply
-        ensures { result ≡ reply_of (get_refusal self.now.active h i h2) (field_reply self.now.words i) }
+    /// What is in a field of the object that a handle of the transaction holds. Where it is a reference, `h2` holds what it
+    /// refers to from then on.
+    pub fn get(&mut self, h: u64, i: u64, h2: u64) -> Reply
+        ensures reply { result ≡ reply_of (get_refusal self.old.active h i h2) (field_reply self.old.words i) }
+        ensures got { IsGranted result → Gets self.old self.new h2 (value_of (field_word self.old.words i)) }
+        ensures refused { (why : _) → result ≡ Reply.Refused why → self.new ≡ self.old }
     {
         if let Some(why) = self.handle_refusal(h2) {
             return refused(why);
@@ -212,7 +207,14 @@ impl Working {
         if let Some(why) = Self::field_refusal(i) {
             return refused(why);
         }
-        told_word(self.words.root_fields()[i as usize])
+        match value_of_word(self.words.word(FIELDS_AT + i as u32)) {
+            Val::Null => Reply::Null,
+            Val::Int(v) => Reply::Int { v },
+            Val::Ref(_) => {
+                self.set_handle(h2, true);
+                Reply::Reference
+            }
+        }
     }
 
     /// Whether two handles of the transaction hold the same object, which they do where both hold one.

@@ -1,5 +1,6 @@
 -- The core: what each event is answered, and the state that it leaves.
-use Rattle.std.specs.Prelude.{◌≡◌, ◌≢◌, ◌⊎◌, ℕ, ◌+◌, ◌*◌, nat_lt, List, [], ◌∷◌, ◌++◌, length, Bool, true, false, Option, None, Some, slice_index_or, count_by, if◌then◌else◌}
+use Rattle.std.specs.Prelude.{◌≡◌, ◌⊎◌, ℕ, ◌+◌, ◌<◌, nat_lt, List, [], ◌∷◌, ◌++◌, length, Option, None, Some, slice_index_or, sum_by, if◌then◌else◌}
+use Rattle.std.specs.List.{range_with_len}
 use Rattle.graph_model.specs.declared.id.Id.{Id}
 use Rattle.graph_model.specs.declared.val.Val.{Val}
 use Rattle.graph_model.specs.declared.val.Val.TheVariants.{Null, Int}
@@ -10,31 +11,28 @@ use Rattle.graph_model.specs.declared.reply.Refusal.TheVariants.{LogFull, DiskFa
 use Rattle.graph_model.specs.declared.reply.Reply.{Reply}
 use Rattle.graph_model.specs.declared.reply.Reply.TheVariants.{Refused}
 use Rattle.graph_model.specs.declared.reply.Entry.{Entry}
-use Rattle.graph_model.specs.Graph.{Graph, fields, new_graph}
+use Rattle.graph_model.specs.Graph.{Graph, fields}
 use Rattle.graph_model.specs.Transaction.{View, Transaction, held}
 use Rattle.graph_model.specs.History.{Account, account, account_after}
 use Rattle.graph_model.specs.Plain.{view, event_refusal, refusal_of, granted, reply_of}
 use Rattle.log_records.specs.declared.Record.{Record}
 use Rattle.log_records.specs.declared.Record.TheVariants.{Update, Commit}
-use Rattle.heap_model.specs.ValueWord.{word_of}
 use Rattle.log_records.specs.Record.{spellings}
 use Rattle.log_machine.specs.declared.UndoEntry.{UndoEntry}
-use Rattle.gated_log.specs.Log.{records_of}
-use Rattle.gated_log.specs.Log.{batches_bytes, hand}
-use Rattle.log_machine.specs.Machine.{undo_of, abort_records}
+use Rattle.log_machine.specs.Machine.{State, start, after_all, undo_of, undo_bytes, abort_records}
+use Rattle.gated_log.specs.Log.{records_of, batches_bytes, hand}
+use Rattle.heap_model.specs.ValueWord.{word_of}
 
 -- The state of a heap since it was opened.
 pub record Core : Type 0 where
+  pub pages : ℕ  -- how many pages each of the two spaces has
   pub room : ℕ  -- the bytes of the log
   pub first : ℕ  -- the next transaction's number at the opening
   pub g0 : Graph  -- the graph at the opening
+  pub before : ℕ  -- how many commits the log had at the opening
   pub history : List Entry  -- the events since then and their replies
   pub batches : List (List Record)  -- the log's batches on the disk
   pub pending : List Record  -- the records behind them that wait to be forced
-
--- a new heap, just opened
-abbrev pub fresh : ℕ → ℕ → Core
-fresh room first = record { room = room; first = first; g0 = new_graph; history = []; batches = []; pending = [] }
 
 -- the next transaction's number
 abbrev pub next_number : Core → ℕ
@@ -44,39 +42,55 @@ next_number c = c.first + (account c.history).begun
 abbrev pub all_records : Core → List Record
 all_records c = records_of c.batches ++ c.pending
 
--- the record of a write of a value into field i of the object with these fields: the root, at address 0
-abbrev pub update : ℕ → List Val → ℕ → Val → Record
-update t vs i v = Update t 0 i (word_of (slice_index_or vs i Null)) (word_of v)
+-- what records say of a core's heap, if they follow one another
+abbrev pub state_behind : Core → List Record → Option State
+state_behind c records = after_all (start c.pages c.first) records
+
+abbrev pub undo_with : Option State → ℕ → List UndoEntry
+undo_with None t = []
+undo_with (Some s) t = undo_of s t
+
+-- the writes of each transaction that may be taken back behind records, the newest first
+abbrev pub undo_behind : Core → List Record → ℕ → List UndoEntry
+undo_behind c records t = undo_with (state_behind c records) t
+
+-- where an object stands: the root, which is the only one, at the first word of the current space
+abbrev pub place : Core → Id → ℕ
+place c id = 0
+
+-- the record of a write of a value into field i of an object with these fields, where objects have these places
+abbrev pub update : (Id → ℕ) → ℕ → Id → List Val → ℕ → Val → Record
+update place t id vs i v = Update t (place id) i (word_of place (slice_index_or vs i Null)) (word_of place v)
 
 -- the record of a write into the object that a handle holds
-abbrev pub write_records : ℕ → Graph → Option Id → ℕ → Val → List Record
-write_records t g None i v = []
-write_records t g (Some id) i v = update t (fields g id) i v ∷ []
+abbrev pub write_records : (Id → ℕ) → ℕ → Graph → Option Id → ℕ → Val → List Record
+write_records place t g None i v = []
+write_records place t g (Some id) i v = update place t id (fields g id) i v ∷ []
 
 -- the same, where the transaction sees this
-abbrev pub view_records : ℕ → View → ℕ → ℕ → Val → List Record
-view_records t view h i v = write_records t view.graph (held view.registers h) i v
+abbrev pub view_records : (Id → ℕ) → ℕ → View → ℕ → ℕ → Val → List Record
+view_records place t view h i v = write_records place t view.graph (held view.registers h) i v
 
 -- the records of a call of a session, by its transaction and the writes that may be taken back
-abbrev pub call_records : Graph → Account → List UndoEntry → Option Transaction → Event → List Record
-call_records g0 a undo None event = []
-call_records g0 a undo (Some t) (Put s h i v) = view_records t.number (view g0 a t) h i (Int v)
-call_records g0 a undo (Some t) (Clear s h i) = view_records t.number (view g0 a t) h i Null
-call_records g0 a undo (Some t) (Seal s) = Commit t.number ∷ []
-call_records g0 a undo (Some t) (Abort s) = abort_records t.number undo
-call_records g0 a undo (Some t) event = []
+abbrev pub call_records : (Id → ℕ) → Graph → Account → (ℕ → List UndoEntry) → Option Transaction → Event → List Record
+call_records place g0 a undo None event = []
+call_records place g0 a undo (Some t) (Put s h i v) = view_records place t.number (view g0 a t) h i (Int v)
+call_records place g0 a undo (Some t) (Clear s h i) = view_records place t.number (view g0 a t) h i Null
+call_records place g0 a undo (Some t) (Seal s) = Commit t.number ∷ []
+call_records place g0 a undo (Some t) (Abort s) = abort_records t.number (undo t.number)
+call_records place g0 a undo (Some t) event = []
 
 -- the records that an event appends, where these writes may be taken back
-abbrev pub records_for : Graph → Account → List UndoEntry → Event → List Record
-records_for g0 a undo (Put s h i v) = call_records g0 a undo (a.active s) (Put s h i v)
-records_for g0 a undo (Clear s h i) = call_records g0 a undo (a.active s) (Clear s h i)
-records_for g0 a undo (Seal s) = call_records g0 a undo (a.active s) (Seal s)
-records_for g0 a undo (Abort s) = call_records g0 a undo (a.active s) (Abort s)
-records_for g0 a undo event = []
+abbrev pub records_for : (Id → ℕ) → Graph → Account → (ℕ → List UndoEntry) → Event → List Record
+records_for place g0 a undo (Put s h i v) = call_records place g0 a undo (a.active s) (Put s h i v)
+records_for place g0 a undo (Clear s h i) = call_records place g0 a undo (a.active s) (Clear s h i)
+records_for place g0 a undo (Seal s) = call_records place g0 a undo (a.active s) (Seal s)
+records_for place g0 a undo (Abort s) = call_records place g0 a undo (a.active s) (Abort s)
+records_for place g0 a undo event = []
 
 -- the records that an event appends
 abbrev pub event_records : Core → Event → List Record
-event_records c event = records_for c.g0 (account c.history) (undo_of (all_records c)) event
+event_records c event = records_for (place c) c.g0 (account c.history) (undo_behind c (all_records c)) event
 
 -- the log's bytes that are used: the forced batches, a gate, and the batch in hand
 abbrev pub used : Core → ℕ
@@ -88,21 +102,24 @@ need pending [] = 0
 need [] (r ∷ rs) = length (spellings (r ∷ rs)) + 5
 need (p ∷ ps) (r ∷ rs) = length (spellings (r ∷ rs))
 
-abbrev pub is_write : Event → Bool
-is_write (Put s h i v) = true
-is_write (Clear s h i) = true
-is_write event = false
+-- the numbers of the sessions
+unfoldable pub sessions : List ℕ
+sessions = range_with_len 1 32
 
--- the bytes that are kept for the end of a transaction: a record, a batch, and the old word of each write
-abbrev pub reserved : Option Transaction → ℕ
-reserved None = 0
-reserved (Some t) = 10 + 19 * count_by is_write t.calls
+-- the bytes that are kept for the end of a transaction that has these writes to be taken back
+abbrev pub kept_for : (ℕ → List UndoEntry) → Option Transaction → ℕ
+kept_for undo None = 0
+kept_for undo (Some t) = undo_bytes (undo t.number)
+
+-- the bytes that are kept for the ends of all active transactions
+abbrev pub reserved : (ℕ → List UndoEntry) → Account → ℕ
+reserved undo a = sum_by (λ s. kept_for undo (a.active s)) sessions
 
 -- what is kept after an event, if it is granted
 abbrev pub reserved_after : Core → Event → ℕ
 reserved_after c event =
     let a = account c.history in
-    reserved ((account_after a (record { event = event; reply = granted (next_number c) c.g0 a event })).active 1)
+    reserved (undo_behind c (all_records c ++ event_records c event)) (account_after a (record { event = event; reply = granted (next_number c) c.g0 a event }))
 
 abbrev pub full_log : ℕ → ℕ → ℕ → ℕ → Option Refusal
 full_log room used need reserved = if nat_lt room (used + need + reserved) then Some (LogFull used need reserved) else None
@@ -149,11 +166,23 @@ after_refusal (Some why) c event = c
 abbrev pub after : Core → Event → Core
 after c event = with_entry (after_refusal (core_refusal c event) c event) event (answer c event)
 
--- the disk fails or stops in a force that has something to do
+-- the writes and syncs of a force of what waits
+abbrev pub force_calls : List Record → ℕ
+force_calls [] = 0
+force_calls (r ∷ rs) = 4
+
+-- those of an event that may be refused
+abbrev pub calls_if : Option Refusal → Core → Event → ℕ
+calls_if None c Force = force_calls c.pending
+calls_if why c event = 0
+
+-- the writes and syncs of an event where the disk does what it is asked
+abbrev pub calls : Core → Event → ℕ
+calls c event = calls_if (core_refusal c event) c event
+
+-- the disk fails or stops in an event that calls it
 pub record IsCutShort (c : Core) (event : Event) (reply : Reply) : Type 0 where
-  pub force : event ≡ Force
-  pub waits : c.pending ≢ []
-  pub first : (account c.history).failed ≡ None
+  pub some : 0 < calls c event
   pub told : (reply ≡ Refused DiskFault) ⊎ (reply ≡ Refused Stopped)
 
 -- From c an event may be answered so, and leave d.
@@ -165,15 +194,3 @@ IsStep c event reply d =
 abbrev pub IsRun : Core → List Event → Core → Type 0
 IsRun c [] d = d ≡ c
 IsRun c (event ∷ events) d = (reply : Reply) × (mid : Core) × IsStep c event reply mid × IsRun mid events d
-
--- the writes and syncs of an event where the disk does what it is asked: a force of what waits makes four
-abbrev pub force_calls : List Record → ℕ
-force_calls [] = 0
-force_calls (r ∷ rs) = 4
-
-abbrev pub calls_if : Option ℕ → Core → Event → ℕ
-calls_if None c Force = force_calls c.pending
-calls_if failed c event = 0
-
-abbrev pub calls : Core → Event → ℕ
-calls c event = calls_if (account c.history).failed c event

@@ -1,16 +1,14 @@
 -- Laws of events, one after another: the calls that they make of the disk, and where it stops.
-use Rattle.std.proofs.Common.{◌≡◌, ◌≢◌, inl, ⊎_elim, ℕ, ◌+◌, ◌-◌, ◌≤◌, ◌<◌, List, [], ◌∷◌, ◌++◌, Option, Some, None, refl, ap, subst, arith}
+use Rattle.std.proofs.Common.{◌≡◌, inl, ⊎_elim, ℕ, ◌+◌, ◌-◌, ◌≤◌, ◌<◌, List, [], ◌∷◌, ◌++◌, refl, ap, subst, arith}
 use Rattle.std.specs.List.{AllByRecursion}
 use Rattle.std.proofs.lemmas.Bool.{cases_lt}
 use Rattle.graph_model.specs.declared.event.Event.{Event}
-use Rattle.graph_model.specs.declared.event.Event.TheVariants.{Force}
 use Rattle.graph_model.specs.declared.reply.Reply.{Reply}
 use Rattle.graph_model.specs.SlowHeap.{IsSingleSession}
-use Rattle.graph_model.specs.History.{account}
-use Rattle.log_records.specs.declared.Record.{Record}
-use Rattle.heap_model.specs.Core.{Core, answer, after, IsStep, IsRun, force_calls, calls_if, calls}
+use Rattle.heap_model.specs.Core.{Core, answer, after, IsStep, IsRun, calls}
 use Rattle.heap_model.specs.CoreRuns.{after_events, total_calls, StopsAt}
-use Rattle.heap_model.specs.CoreValid.{IsValid}
+use Rattle.heap_model.specs.CoreValid.{IsValid, IsReached}
+use Rattle.heap_model.specs.CoreLawsReplies.{run_reached}
 use Rattle.heap_model.specs.CoreLawsStep.{valid_after}
 
 -- the state after more events
@@ -44,23 +42,14 @@ run_split c d (event ∷ before) behind run =
 pub run_step : (c mid d : Core) (events : List Event) (event : Event) (reply : Reply) → IsRun c events mid → IsStep mid event reply d → IsRun c (events ++ event ∷ []) d
 run_step c mid d events event reply run step = run_append c mid d events (event ∷ []) run (reply, d, step, refl)
 
--- Events of session 1 keep a core valid.
+-- Where the disk does what it is asked, events of session 1 keep a core valid.
 pub valid_events : (c : Core) (events : List Event) → IsValid c → AllByRecursion IsSingleSession events → IsValid (after_events c events)
 valid_events c [] valid one = valid
 valid_events c (event ∷ events) valid one = valid_events (after c event) events (valid_after c event valid one.0) one.1
 
-some_calls : (p : List Record) → 0 < force_calls p → p ≢ []
-some_calls [] some e = omega arith
-some_calls (r ∷ rs) some e = cc
-
-calls_made : (failed : Option ℕ) (c : Core) (event : Event) → 0 < calls_if failed c event → (event ≡ Force) × (c.pending ≢ []) × (failed ≡ None)
-calls_made (Some entry) c event some = absurd (omega arith)
-calls_made None c Force some = (refl, some_calls c.pending some, refl)
-calls_made None c event some = absurd (omega arith)
-
--- what calls the disk is a force of what waits, in a core that has not failed
-pub calls-force : (c : Core) (event : Event) → 0 < calls c event → (event ≡ Force) × (c.pending ≢ []) × ((account c.history).failed ≡ None)
-calls-force c event some = calls_made (account c.history).failed c event some
+-- and reach a core
+pub reached_events : (c : Core) (events : List Event) → IsReached c → AllByRecursion IsSingleSession events → IsReached (after_events c events)
+reached_events c events reached one = run_reached c (after_events c events) events reached one (whole_run c events)
 
 stop_step : (c : Core) (n : ℕ) (event : Event) (events : List Event) → calls c event ≤ n → StopsAt (after c event) (n - calls c event) events → StopsAt c n (event ∷ events)
 stop_step c n event events le at =

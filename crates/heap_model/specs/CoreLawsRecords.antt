@@ -1,279 +1,218 @@
 -- Laws of records that tell a graph: what they leave, and one record more.
-use Rattle.std.proofs.Common.{◌≡◌, ℕ, ◌+◌, ◌*◌, ◌/◌, ◌%◌, ◌<◌, zero, suc, inl, inr, true, cond, List, [], ◌∷◌, ◌++◌, map, length, drop, Some, None, refl, sym, ap, ◌∙◌, subst, arith, append_assoc}
-use Rattle.std.specs.Prelude.{slice_index_or, slice_set, option_and_then, ◌&&◌, nat_lt, max}
+use Rattle.std.proofs.Common.{◌≡◌, ℕ, ◌+◌, ◌<◌, List, [], ◌∷◌, ◌++◌, true, map, length, refl, sym, ap, ◌∙◌, subst, arith}
+use Rattle.std.specs.Prelude.{slice_index_or, slice_set, fold}
 use Rattle.std.specs.List.{AllByRecursion}
-use Rattle.std.proofs.lemmas.Bool.{lt-ltb, eq-eqb}
-use Rattle.std.proofs.lemmas.List.{length-set, map-set}
+use Rattle.std.proofs.lemmas.List.{length-set}
 use Rattle.graph_model.specs.declared.val.Val.{Val}
-use Rattle.graph_model.specs.declared.val.Val.TheVariants.{Null, Int, Ref}
-use Rattle.graph_model.specs.Graph.{Graph, root_graph, new_graph}
-use Rattle.graph_model.specs.RootGraph.{AllPlain}
-use Rattle.heap_words.specs.declared.Word.TheVariants as means
-use Rattle.heap_words.specs.Word.{IsFieldWord}
+use Rattle.graph_model.specs.declared.val.Val.TheVariants.{Null}
+use Rattle.graph_model.specs.Graph.{Graph, root}
+use Rattle.graph_model.specs.Graph as graph
 use Rattle.log_records.specs.declared.Record.{Record}
-use Rattle.log_records.specs.declared.Record.TheVariants.{Undo, Commit, End}
-use Rattle.log_records.specs.Record.{IsNumber, IsRecord}
+use Rattle.log_records.specs.declared.Record.TheVariants.{Commit}
+use Rattle.log_records.specs.Record.{IsRecord}
 use Rattle.log_machine.specs.declared.UndoEntry.{UndoEntry}
-use Rattle.log_machine.specs.Machine.{State, with_word, words, taken_back, commits, may_write, has_ended, is_same_write, without_newest, start, after, undo_in, committed_words, abort_records}
-use Rattle.log_machine.specs.MachineLaws.{AllByRecursion-append, after_all-append, words-append, commits-start}
+use Rattle.log_machine.specs.UndoEntry.{IsEntry}
+use Rattle.log_machine.specs.Machine.{start, after_all, with_word, words, taken_back, put_record, commits, undo_of, with_entries, is_number, turned, each_taken_back, losing_in, committed_words, abort_records}
+use Rattle.log_machine.specs.ListLaws.{AllByRecursion-append}
+use Rattle.log_machine.specs.MachineLaws.{after_all-append, after_all-append2, words-append, number_small, inside_from, after-Update, after-Commit}
+use Rattle.log_machine.specs.AbortLaws.{abort_reaches, abort_words, abort_good}
+use Rattle.log_machine.specs.StateLaws.{commits-start, can_roll_back, all_spelled}
+use Rattle.object_layout.specs.Layout.{IsSeen}
+use Rattle.object_layout.specs.RootLaws.{StandsAlone}
 use Rattle.heap_model.specs.Core.{update}
-use Rattle.heap_model.specs.CoreValid.{IsNumberVal, LeadsBack, LeadBack, IsTold}
-use Rattle.heap_model.specs.Image.{graph_of}
-use Rattle.heap_model.specs.ValueWord.{IsNumberWord, word_of, value_of}
+use Rattle.heap_model.specs.CoreLawsLone.{lone_with, lone_undo, lone_words}
+use Rattle.heap_model.specs.CoreLawsRoot.{word_of-IsFieldWord, stands_alone, root_in, seen_in, set_word}
+use Rattle.heap_model.specs.CoreValid.{at_first, lone, IsOwn, LeadsBack, LeadBack, Behind, IsTold}
+use Rattle.heap_model.specs.ListLaws.{AllByRecursion-set, AllByRecursion-at, set_back}
+use Rattle.heap_model.specs.ValueWord.{word_of, IsRootVal}
 
--- what holds of two lists together holds of the second
-pub AllByRecursion-behind : {X : Type 0} (P : X → Type 0) (xs ys : List X) → AllByRecursion P (xs ++ ys) → AllByRecursion P ys
-AllByRecursion-behind P [] ys h = h
-AllByRecursion-behind P (x ∷ xs) ys h = AllByRecursion-behind P xs ys h.1
+-- the words of a heap whose root has these fields
+abbrev pub words_with : List Val → List ℕ → List ℕ
+words_with vs rest = 17 ∷ 0 ∷ map (word_of at_first) vs ++ rest
 
--- it still does where one is written of which it holds
-pub AllByRecursion-set : {X : Type 0} (P : X → Type 0) (xs : List X) (i : ℕ) (x : X) → AllByRecursion P xs → P x → AllByRecursion P (slice_set xs i x)
-AllByRecursion-set P [] i x h p = tt
-AllByRecursion-set P (y ∷ xs) zero x h p = (p, h.1)
-AllByRecursion-set P (y ∷ xs) (suc i) x h p = (h.0, AllByRecursion-set P xs i x h.1 p)
-
-number_at : (vs : List Val) (i : ℕ) → AllByRecursion IsNumberVal vs → IsNumberVal (slice_index_or vs i Null)
-number_at [] i h = tt
-number_at (v ∷ vs) zero h = h.0
-number_at (v ∷ vs) (suc i) h = number_at vs i h.1
-
--- the word of null or of a number is a field's
-pub word_of-IsFieldWord : (v : Val) → IsNumberVal v → IsFieldWord (word_of v)
-word_of-IsFieldWord Null h = (means.Null, tt, refl)
-word_of-IsFieldWord (Int n) h = (means.Int n, h, refl)
-word_of-IsFieldWord (Ref id) h = absurd h
-
--- it is the word of null or of a number
-pub word_of-IsNumberWord : (v : Val) → IsNumberVal v → IsNumberWord (word_of v)
-word_of-IsNumberWord Null h = inl refl
-word_of-IsNumberWord (Int n) h = inr (n, h, refl)
-word_of-IsNumberWord (Ref id) h = absurd h
-
--- the same for each field
-pub map-word_of-IsNumberWord : (vs : List Val) → AllByRecursion IsNumberVal vs → AllByRecursion IsNumberWord (map word_of vs)
-map-word_of-IsNumberWord [] h = tt
-map-word_of-IsNumberWord (v ∷ vs) h = (word_of-IsNumberWord v h.0, map-word_of-IsNumberWord vs h.1)
-
--- nulls and numbers refer to nothing
-pub numbers-AllPlain : (vs : List Val) → AllByRecursion IsNumberVal vs → AllPlain vs
-numbers-AllPlain [] h = tt
-numbers-AllPlain (Null ∷ vs) h = (tt, numbers-AllPlain vs h.1)
-numbers-AllPlain (Int n ∷ vs) h = (tt, numbers-AllPlain vs h.1)
-numbers-AllPlain (Ref id ∷ vs) h = absurd h.0
-
-int_word : (n w : ℕ) → w ≡ 4 * n + 1 → value_of w ≡ Int n
-int_word n w e = ap (λ b. cond b (Int (w / 4)) Null) (eq-eqb (w % 4) 1 (omega arith)) ∙ ap Int (omega arith)
-
--- a value is read back from its word
-pub value_of-word_of : (v : Val) → IsNumberVal v → value_of (word_of v) ≡ v
-value_of-word_of Null h = refl
-value_of-word_of (Int n) h = int_word n (4 * n + 1) refl
-value_of-word_of (Ref id) h = absurd h
-
--- the same for each field
-pub map-value_of-word_of : (vs : List Val) → AllByRecursion IsNumberVal vs → map value_of (map word_of vs) ≡ vs
-map-value_of-word_of [] h = refl
-map-value_of-word_of (v ∷ vs) h = ap (λ u. u ∷ map value_of (map word_of vs)) (value_of-word_of v h.0) ∙ ap (λ us. v ∷ us) (map-value_of-word_of vs h.1)
-
--- the word of a value in a field of the root
-pub set_word : (vs : List Val) (object i : ℕ) (v : Val) → object ≡ 0 → with_word (17 ∷ 0 ∷ map word_of vs) object i (word_of v) ≡ 17 ∷ 0 ∷ map word_of (slice_set vs i v)
-set_word vs object i v at =
-    let place : object + 2 + i ≡ suc (suc i) = omega arith in
-    ap (λ n. slice_set (17 ∷ 0 ∷ map word_of vs) n (word_of v)) place
-    ∙ ap (λ (ws : List ℕ). 17 ∷ 0 ∷ ws) (sym (map-set word_of vs i v))
+-- Writes that lead back.
 
 -- a write taken back
-pub taken_one : (u : UndoEntry) (now before : List Val) → LeadsBack u now before → with_word (17 ∷ 0 ∷ map word_of now) u.object u.field u.was ≡ 17 ∷ 0 ∷ map word_of before
-taken_one u now before h =
-    ap (with_word (17 ∷ 0 ∷ map word_of now) u.object u.field) h.was
-    ∙ set_word now u.object u.field h.value h.object
-    ∙ ap (λ (vs : List Val). 17 ∷ 0 ∷ map word_of vs) (sym h.back)
+taken_one : (u : UndoEntry) (now before : List Val) (rest : List ℕ) → length now ≡ 4 → LeadsBack u now before
+    → with_word (words_with now rest) u.object u.field u.was ≡ words_with before rest
+taken_one u now before rest four back =
+    let field = back.field in
+    ap (with_word (words_with now rest) u.object u.field) back.was
+    ∙ set_word now rest u.object u.field back.value back.object (omega arith)
+    ∙ ap (λ (vs : List Val). words_with vs rest) (sym back.back)
+
+-- as many fields before a write as behind it
+length_before : (u : UndoEntry) (now before : List Val) → LeadsBack u now before → length before ≡ length now
+length_before u now before back = ap (λ (vs : List Val). length vs) back.back ∙ length-set now u.field back.value
 
 -- all of them taken back
-pub taken_all : (us : List UndoEntry) (now first : List Val) → LeadBack us now first → taken_back us (17 ∷ 0 ∷ map word_of now) ≡ 17 ∷ 0 ∷ map word_of first
-taken_all [] now first h = ap (λ (vs : List Val). 17 ∷ 0 ∷ map word_of vs) (sym h)
-taken_all (u ∷ us) now first h = ap (taken_back us) (taken_one u now h.0 h.1) ∙ taken_all us h.0 first h.2
+taken_all : (us : List UndoEntry) (now first : List Val) (rest : List ℕ) → length now ≡ 4 → LeadBack us now first → taken_back us (words_with now rest) ≡ words_with first rest
+taken_all [] now first rest four back = ap (λ (vs : List Val). words_with vs rest) (sym back)
+taken_all (u ∷ us) now first rest four back =
+    ap (taken_back us) (taken_one u now back.0 rest four back.1) ∙ taken_all us back.0 first rest (length_before u now back.0 back.1 ∙ four) back.2
 
--- the fields before a write are nulls and numbers
-pub numbers_before : (u : UndoEntry) (now before : List Val) → LeadsBack u now before → AllByRecursion IsNumberVal now → AllByRecursion IsNumberVal before
-numbers_before u now before h numbers = subst (AllByRecursion IsNumberVal) (sym h.back) (AllByRecursion-set IsNumberVal now u.field h.value numbers h.number)
+fit_before : (u : UndoEntry) (now before : List Val) → LeadsBack u now before → AllByRecursion IsRootVal now → AllByRecursion IsRootVal before
+fit_before u now before back fit = subst (λ vs. AllByRecursion IsRootVal vs) (sym back.back) (AllByRecursion-set IsRootVal now u.field back.value fit back.fits)
 
--- so are those before all writes
-pub numbers_first : (us : List UndoEntry) (now first : List Val) → LeadBack us now first → AllByRecursion IsNumberVal now → AllByRecursion IsNumberVal first
-numbers_first [] now first h numbers = subst (AllByRecursion IsNumberVal) (sym h) numbers
-numbers_first (u ∷ us) now first h numbers = numbers_first us h.0 first h.2 (numbers_before u now h.0 h.1 numbers)
+-- the fields before all writes fit as well
+fit_first : (us : List UndoEntry) (now first : List Val) → LeadBack us now first → AllByRecursion IsRootVal now → AllByRecursion IsRootVal first
+fit_first [] now first back fit = subst (λ vs. AllByRecursion IsRootVal vs) (sym back) fit
+fit_first (u ∷ us) now first back fit = fit_first us back.0 first back.2 (fit_before u now back.0 back.1 fit)
 
--- the number of commits that records tell
-pub told_commits : (g : Graph) (k : ℕ) (records : List Record) (state : State) (now : List Val) → IsTold g k records state now → commits records ≡ k
-told_commits g k records state now h = let all = commits-start state records h.reached in let k_is = h.count in omega arith
+length_first : (us : List UndoEntry) (now first : List Val) → LeadBack us now first → length first ≡ length now
+length_first [] now first back = ap (λ (vs : List Val). length vs) back
+length_first (u ∷ us) now first back = length_first us back.0 first back.2 ∙ length_before u now back.0 back.1
 
--- the words of the commits that they tell
-told_words : (g : Graph) (k : ℕ) (records : List Record) (state : State) (now : List Val) → (h : IsTold g k records state now) → committed_words records ≡ 17 ∷ 0 ∷ map word_of h.fields
-told_words g k records state now h =
-    ap (λ (us : List UndoEntry). taken_back us (words records)) (ap undo_in h.reached)
-    ∙ ap (taken_back state.undo) h.stored
-    ∙ taken_all state.undo now h.fields h.back
+-- What records tell.
 
--- the graph that they tell
-pub told_graph : (g : Graph) (k : ℕ) (records : List Record) (state : State) (now : List Val) → IsTold g k records state now → graph_of records ≡ g
-told_graph g k records state now h =
-    ap (λ ws. root_graph (map value_of (drop 2 ws))) (told_words g k records state now h)
-    ∙ ap root_graph (map-value_of-word_of h.fields (numbers_first state.undo now h.fields h.back h.numbers)) ∙ sym h.is
+module _ (pages first : ℕ) (g : Graph) (k : ℕ) (records : List Record) (b : Behind) (told : IsTold pages first g k records b) where
+  -- the number of commits
+  pub told_commits : commits records ≡ k
+  told_commits = let all = commits-start pages first b.state records told.reached in let count = told.count in omega arith
 
--- they leave nothing but numbers in the root's fields
-pub told_plain : (g : Graph) (k : ℕ) (records : List Record) (state : State) (now : List Val) → IsTold g k records state now → AllByRecursion IsNumberWord (drop 2 (committed_words records))
-told_plain g k records state now h =
-    subst (λ ws. AllByRecursion IsNumberWord (drop 2 ws)) (sym (told_words g k records state now h))
-    (map-word_of-IsNumberWord h.fields (numbers_first state.undo now h.fields h.back h.numbers))
+  -- the words of the commits
+  pub told_words : committed_words pages first records ≡ words_with told.fields told.rest
+  told_words =
+      ap (λ o. each_taken_back (losing_in o) (words pages records)) told.reached
+      ∙ lone_words b.state b.writer b.undo (words pages records) told.alone
+      ∙ ap (taken_back b.undo) told.stored
+      ∙ taken_all b.undo b.now told.fields told.rest told.four told.back
 
--- no records tell a new graph
-pub told_new : IsTold new_graph 0 [] start (Null ∷ Null ∷ Null ∷ Null ∷ [])
-told_new = record {
-  good = tt;
-  reached = refl;
-  count = refl;
-  fields = Null ∷ Null ∷ Null ∷ Null ∷ [];
-  is = refl;
-  four = refl;
-  numbers = (tt, (tt, (tt, (tt, tt))));
-  stored = refl;
-  back = refl;
-}
+  -- the fields of the root
+  pub told_four : length told.fields ≡ 4
+  told_four = length_first b.undo b.now told.fields told.back ∙ told.four
+
+  pub told_fit : AllByRecursion IsRootVal told.fields
+  told_fit = fit_first b.undo b.now told.fields told.back told.fit
+
+  -- the root stands in the words
+  pub told_alone : StandsAlone (committed_words pages first records) 0 told.fields
+  told_alone = subst (λ ws. StandsAlone ws 0 told.fields) (sym told_words) (stands_alone told.fields told.rest told_four told_fit)
+
+  -- and the graph is seen in them
+  pub told_seen : IsSeen (committed_words pages first records) 0 g
+  told_seen = seen_in (committed_words pages first records) 0 told.fields g told_alone (root_in g told.fields told_four told.is)
+
+  -- what a transaction wrote that may be taken back
+  pub told_undo : (t : ℕ) → IsOwn b.writer b.undo t → undo_of b.state t ≡ b.undo
+  told_undo t own = ap (λ m. undo_of (record b.state { undo = m }) t) told.alone ∙ lone_undo b.writer t b.undo own
+
+-- One record more.
 
 -- the state behind a commit
-abbrev pub committed : State → ℕ → State
-committed s t = record { writer = t; undo = []; commits = s.commits + 1; greatest = max s.greatest t }
-
--- a transaction commits: its writes are in the graph
-pub told_commit : (g seen : Graph) (k t : ℕ) (records : List Record) (state : State) (now : List Val) → IsNumber t → IsTold g k records state now
-    → may_write state.writer state.undo t ≡ true → seen ≡ root_graph now → IsTold seen (k + 1) (records ++ Commit t ∷ []) (committed state t) now
-told_commit g seen k t records state now number h own sees = record {
-  good = AllByRecursion-append IsRecord records (Commit t ∷ []) h.good (number, tt);
-  reached = after_all-append start state records (Commit t) h.reached ∙ ap (λ b. cond b (Some (committed state t)) None) own;
-  count = ap (λ n. n + 1) h.count;
-  fields = now;
-  is = sees;
-  four = h.four;
-  numbers = h.numbers;
-  stored = words-append records (Commit t ∷ []) ∙ h.stored;
-  back = refl;
-}
+abbrev pub committed : Behind → ℕ → Behind
+committed b t = record { state = turned b.state t (with_entries b.state.undo t []) 1; now = b.now; writer = t; undo = [] }
 
 -- the write that puts a field back as it is
 abbrev pub entry_at : List Val → ℕ → UndoEntry
-entry_at vs i = record { object = 0; field = i; was = word_of (slice_index_or vs i Null) }
+entry_at vs i = record { object = 0; field = i; was = word_of at_first (slice_index_or vs i Null) }
 
 -- the state behind a write
-abbrev pub written : State → ℕ → List Val → ℕ → State
-written s t vs i = record { writer = t; undo = entry_at vs i ∷ s.undo; commits = s.commits; greatest = max s.greatest t }
-
-set_back : (vs : List Val) (i : ℕ) (v : Val) → vs ≡ slice_set (slice_set vs i v) i (slice_index_or vs i Null)
-set_back [] i v = refl
-set_back (u ∷ vs) zero v = refl
-set_back (u ∷ vs) (suc i) v = ap (λ (ws : List Val). u ∷ ws) (set_back vs i v)
-
-may_put : (i t writer : ℕ) (undo : List UndoEntry) → i < 4 → may_write writer undo t ≡ true → (nat_lt (0 + 2 + i) 6 && may_write writer undo t) ≡ true
-may_put i t writer undo lt may = ap (λ b. b && may_write writer undo t) (lt-ltb (0 + 2 + i) 6 (omega arith)) ∙ may
-
--- a transaction writes a value into a field of the root
-pub told_write : (g : Graph) (k t : ℕ) (records : List Record) (state : State) (now : List Val) (i : ℕ) (v : Val) → IsNumber t → IsTold g k records state now
-    → may_write state.writer state.undo t ≡ true → i < 4 → IsNumberVal v → IsTold g k (records ++ update t now i v ∷ []) (written state t now i) (slice_set now i v)
-told_write g k t records state now i v number h own lt small = record {
-  good = AllByRecursion-append IsRecord records (update t now i v ∷ []) h.good (
+abbrev pub written : Behind → ℕ → ℕ → Val → Behind
+written b t i v =
     record {
-      number = number;
-      object_fits = omega arith;
-      field_fits = omega arith;
-      was_word = word_of-IsFieldWord (slice_index_or now i Null) (number_at now i h.numbers);
-      new_word = word_of-IsFieldWord v small;
-    },
-    tt,
-  );
-  reached = after_all-append start state records (update t now i v) h.reached
-      ∙ ap (λ b. cond b (Some (written state t now i)) None) (may_put i t state.writer state.undo lt own);
-  count = h.count;
-  fields = h.fields;
-  is = h.is;
-  four = length-set now i v ∙ h.four;
-  numbers = AllByRecursion-set IsNumberVal now i v h.numbers small;
-  stored = words-append records (update t now i v ∷ []) ∙ ap (λ ws. with_word ws 0 i (word_of v)) h.stored ∙ set_word now 0 i v refl;
-  back = (now, record { value = slice_index_or now i Null; number = number_at now i h.numbers; object = refl; field = lt; was = refl; back = set_back now i v }, h.back);
-}
+      state = turned b.state t (with_entries b.state.undo t (entry_at b.now i ∷ undo_of b.state t)) 0;
+      now = slice_set b.now i v;
+      writer = t;
+      undo = entry_at b.now i ∷ b.undo;
+    }
 
--- a transaction that has written may write again
-pub own_again : (t : ℕ) (undo : List UndoEntry) → may_write t undo t ≡ true
-own_again t [] = refl
-own_again t (u ∷ us) = eq-eqb t t refl
+-- the state behind the end of a transaction that is taken back
+abbrev pub taken : Behind → ℕ → List Val → Behind
+taken b t before = record { state = turned b.state t (with_entries b.state.undo t []) 0; now = before; writer = t; undo = [] }
 
--- the state behind a write that is taken back
-abbrev unwritten : State → ℕ → List UndoEntry → State
-unwritten s t rest = record { writer = t; undo = rest; commits = s.commits; greatest = max s.greatest t }
+module _ (pages first : ℕ) (g : Graph) (k : ℕ) (records : List Record) (b : Behind) (told : IsTold pages first g k records b) where
+  changed : (t : ℕ) (us : List UndoEntry) → IsOwn b.writer b.undo t → with_entries b.state.undo t us ≡ lone t us
+  changed t us own = ap (λ m. with_entries m t us) told.alone ∙ lone_with b.writer t b.undo us own
 
-same_write : (u : UndoEntry) → is_same_write u (record { object = u.object; field = u.field; was = u.was }) ≡ true
-same_write u = rw (eq-eqb u.object u.object refl, eq-eqb u.field u.field refl, eq-eqb u.was u.was refl) refl
-
-take_newest : (writer t : ℕ) (u : UndoEntry) (us : List UndoEntry) → may_write writer (u ∷ us) t ≡ true → without_newest writer (u ∷ us) t (record { object = u.object; field = u.field; was = u.was }) ≡ Some us
-take_newest writer t u us own = ap (λ b. cond (b && is_same_write u (record { object = u.object; field = u.field; was = u.was })) (Some us) None) own ∙ ap (λ b. cond b (Some us) None) (same_write u)
-
--- the newest write is taken back
-told_undo : (g : Graph) (k t : ℕ) (records : List Record) (state : State) (now : List Val) (u : UndoEntry) (us : List UndoEntry) → IsNumber t → IsTold g k records state now
-    → state.undo ≡ u ∷ us → may_write state.writer (u ∷ us) t ≡ true
-    → (before : List Val) × IsTold g k (records ++ Undo t u.object u.field u.was ∷ []) (unwritten state t us) before
-told_undo g k t records state now u us number h is own =
-    let back : LeadBack (u ∷ us) now h.fields = subst (λ (l : List UndoEntry). LeadBack l now h.fields) is h.back in
-    let one = back.1 in
-    let undo : Record = Undo t u.object u.field u.was in
-    let object = one.object in
-    let field = one.field in
-    let step : after state undo ≡ Some (unwritten state t us) =
-    ap (λ (l : List UndoEntry). option_and_then (λ rest. Some (unwritten state t rest)) (without_newest state.writer l t (record { object = u.object; field = u.field; was = u.was }))) is
-    ∙ ap (option_and_then (λ rest. Some (unwritten state t rest))) (take_newest state.writer t u us own) in (
-      back.0,
+  -- a transaction commits: its writes are in the graph
+  pub told_commit : (seen : Graph) (t : ℕ) → is_number t ≡ true → IsOwn b.writer b.undo t → graph.fields seen root ≡ b.now
+      → IsTold pages first seen (k + 1) (records ++ Commit t ∷ []) (committed b t)
+  told_commit seen t number own sees =
+      let small = number_small t number in
       record {
-        good = AllByRecursion-append IsRecord records (undo ∷ []) h.good (
+        good = AllByRecursion-append IsRecord records (Commit t ∷ []) told.good (omega arith, tt);
+        reached = after_all-append (start pages first) b.state records (Commit t) told.reached ∙ after-Commit b.state t number;
+        count = ap (λ n. n + 1) told.count;
+        base = told.base;
+        used = told.used;
+        alone = changed t [] own;
+        fields = b.now;
+        is = sees;
+        four = told.four;
+        fit = told.fit;
+        rest = told.rest;
+        stored = words-append pages records (Commit t ∷ []) ∙ told.stored;
+        back = refl;
+      }
+
+  -- a transaction writes a value into a field of the root
+  pub told_write : (t i : ℕ) (v : Val) → is_number t ≡ true → IsOwn b.writer b.undo t → i < 4 → IsRootVal v
+      → IsTold pages first g k (records ++ update at_first t root b.now i v ∷ []) (written b t i v)
+  told_write t i v number own within fits =
+      let small = number_small t number in
+      let four = told.four in
+      let base = told.base in
+      let used = told.used in
+      let old = slice_index_or b.now i Null in
+      let old_fits = AllByRecursion-at IsRootVal b.now i Null tt told.fit in
+      let write = update at_first t root b.now i v in
+      let inside = inside_from b.state (entry_at b.now i) (record { above = omega arith; below = omega arith }) in
+      record {
+        good = AllByRecursion-append IsRecord records (write ∷ []) told.good (
           record {
-            number = number;
+            t_fits = omega arith;
             object_fits = omega arith;
             field_fits = omega arith;
-            old_word = subst IsFieldWord (sym one.was) (word_of-IsFieldWord one.value one.number);
+            was_word = word_of-IsFieldWord old old_fits;
+            new_word = word_of-IsFieldWord v fits;
           },
           tt,
         );
-        reached = after_all-append start state records undo h.reached ∙ step;
-        count = h.count;
-        fields = h.fields;
-        is = h.is;
-        four = ap (λ (l : List Val). length l) one.back ∙ length-set now u.field one.value ∙ h.four;
-        numbers = numbers_before u now back.0 one h.numbers;
-        stored = words-append records (undo ∷ []) ∙ ap (λ ws. with_word ws u.object u.field u.was) h.stored ∙ taken_one u now back.0 one;
-        back = back.2;
-      },
-    )
+        reached = after_all-append (start pages first) b.state records write told.reached
+            ∙ after-Update b.state t 0 i (word_of at_first old) (word_of at_first v) number inside;
+        count = omega (arith, told.count);
+        base = told.base;
+        used = told.used;
+        alone = changed t (entry_at b.now i ∷ undo_of b.state t) own
+            ∙ ap (λ us. lone t (entry_at b.now i ∷ us)) (told_undo pages first g k records b told t own);
+        fields = told.fields;
+        is = told.is;
+        four = length-set b.now i v ∙ told.four;
+        fit = AllByRecursion-set IsRootVal b.now i v told.fit fits;
+        rest = told.rest;
+        stored = words-append pages records (write ∷ []) ∙ ap (λ ws. with_word ws 0 i (word_of at_first v)) told.stored ∙ set_word b.now told.rest 0 i v refl (omega arith);
+        back = (b.now, record { value = old; fits = old_fits; object = refl; field = within; was = refl; back = set_back b.now i v Null }, told.back);
+      }
 
--- the state behind the end of a transaction
-abbrev ended : State → ℕ → State
-ended s t = record { writer = s.writer; undo = s.undo; commits = s.commits; greatest = max s.greatest t }
-
-told_end : (g : Graph) (k t : ℕ) (records : List Record) (state : State) (now : List Val) → IsNumber t → IsTold g k records state now → state.undo ≡ []
-    → IsTold g k (records ++ End t ∷ []) (ended state t) now
-told_end g k t records state now number h none = record {
-  good = AllByRecursion-append IsRecord records (End t ∷ []) h.good (number, tt);
-  reached = after_all-append start state records (End t) h.reached ∙ ap (λ (l : List UndoEntry). cond (has_ended state.writer l t) (Some (ended state t)) None) none;
-  count = h.count;
-  fields = h.fields;
-  is = h.is;
-  four = h.four;
-  numbers = h.numbers;
-  stored = words-append records (End t ∷ []) ∙ h.stored;
-  back = h.back;
-}
-
--- A transaction ends and leaves nothing: the graph is what it was before, and no write may be taken back any more.
-pub told_abort : (g : Graph) (k t : ℕ) (us : List UndoEntry) (records : List Record) (state : State) (now : List Val) → IsNumber t → IsTold g k records state now
-    → state.undo ≡ us → may_write state.writer us t ≡ true
-    → (last : State) × (first : List Val) × (last.undo ≡ []) × IsTold g k (records ++ abort_records t us) last first
-told_abort g k t [] records state now number h is own = (ended state t, now, is, told_end g k t records state now number h is)
-told_abort g k t (u ∷ us) records state now number h is own =
-    let one = told_undo g k t records state now u us number h is own in
-    let rest = told_abort g k t us (records ++ Undo t u.object u.field u.was ∷ []) (unwritten state t us) one.0 number one.1 refl (own_again t us) in
-    (rest.0, rest.1, rest.2, subst (λ (l : List Record). IsTold g k l rest.0 rest.1) (append_assoc records (Undo t u.object u.field u.was ∷ []) (abort_records t us)) rest.3)
+  -- A transaction is taken back and leaves nothing: the graph is what it was before.
+  pub told_abort : (t : ℕ) (us : List UndoEntry) → is_number t ≡ true → IsOwn b.writer b.undo t → us ≡ b.undo
+      → IsTold pages first g k (records ++ abort_records t us) (taken b t told.fields)
+  told_abort t us number own is =
+      let small = number_small t number in
+      let can = can_roll_back pages first b.state records told.good told.reached in
+      let mine = told_undo pages first g k records b told t own in
+      let same : us ≡ undo_of b.state t = is ∙ sym mine in
+      let undo = abort_records t us in
+      let entries = subst (λ l. AllByRecursion IsEntry l) (sym same) (all_spelled b.state.undo t can.entries) in
+      record {
+        good = AllByRecursion-append IsRecord records undo told.good (abort_good t us (omega arith) entries);
+        reached = after_all-append2 (start pages first) b.state records undo told.reached
+            ∙ ap (λ l. after_all b.state (abort_records t l)) same
+            ∙ abort_reaches b.state t number can.sound;
+        count = omega (arith, told.count);
+        base = told.base;
+        used = told.used;
+        alone = changed t [] own;
+        fields = told.fields;
+        is = told.is;
+        four = told_four pages first g k records b told;
+        fit = told_fit pages first g k records b told;
+        rest = told.rest;
+        stored = words-append pages records undo
+            ∙ ap (λ ws. fold put_record ws undo) told.stored
+            ∙ abort_words t us (words_with b.now told.rest)
+            ∙ ap (λ l. taken_back l (words_with b.now told.rest)) is
+            ∙ taken_all b.undo b.now told.fields told.rest told.four told.back;
+        back = refl;
+      }

@@ -1,21 +1,21 @@
 -- Laws of the log's room: what records take, and when the log has room for an event.
-use Rattle.std.proofs.Common.{◌≡◌, ℕ, ◌+◌, ◌*◌, ◌≤◌, Bool, true, false, cond, List, [], ◌∷◌, ◌++◌, length, Some, None, refl, ap, ◌∙◌, arith, length-append}
-use Rattle.std.specs.Prelude.{nat_lt, count_by}
+use Rattle.std.proofs.Common.{◌≡◌, ◌≢◌, ℕ, ◌+◌, ◌≤◌, Bool, true, false, cond, List, [], ◌∷◌, ◌++◌, length, Some, None, refl, ap, ◌∙◌, arith, length-append}
+use Rattle.std.specs.Prelude.{nat_lt}
 use Rattle.std.specs.Int.{w32, to_le_bytes}
 use Rattle.std.proofs.lemmas.Bool.{le-ltb, ltb-false}
 use Rattle.std.proofs.lemmas.List.{append-nil}
-use Rattle.std.proofs.lemmas.List.Sums.{sum_by-append}
 use Rattle.std.proofs.lemmas.Grind.{flat_map-append}
-use Rattle.graph_model.specs.declared.event.Event.{Event}
+use Rattle.graph_model.specs.History.{Account}
 use Rattle.graph_model.specs.declared.reply.Refusal.{Refusal}
 use Rattle.graph_model.specs.declared.reply.Refusal.TheVariants.{LogFull}
 use Rattle.log_records.specs.declared.Record.{Record}
 use Rattle.log_machine.specs.declared.UndoEntry.{UndoEntry}
-use Rattle.log_machine.specs.Machine.{abort_records}
-use Rattle.log_machine.specs.MachineLaws.{abort_length}
+use Rattle.log_machine.specs.Machine.{abort_records, undo_bytes}
+use Rattle.log_machine.specs.AbortLaws.{abort_length}
 use Rattle.log_records.specs.Record.{spelling, spellings}
 use Rattle.gated_log.specs.Log.{framed, batch, batches_bytes, records_of, hand}
-use Rattle.heap_model.specs.Core.{need, is_write, reserved, full_log}
+use Rattle.heap_model.specs.ListLaws.{sum-first}
+use Rattle.heap_model.specs.Core.{need, sessions, kept_for, reserved, full_log}
 
 -- the records of batches with one more
 pub records_of-append : (bs : List (List Record)) (b : List Record) → records_of (bs ++ b ∷ []) ≡ records_of bs ++ b
@@ -69,17 +69,13 @@ no_room false why e = refl
 pub full_log-room : (room used more kept : ℕ) → full_log room used more kept ≡ None → used + more + kept ≤ room
 full_log-room room used more kept e = ltb-false room (used + more + kept) (no_room (nat_lt room (used + more + kept)) (LogFull used more kept) e)
 
--- how often a transaction wrote, with one call more
-pub writes-append : (calls : List Event) (event : Event) → count_by is_write (calls ++ event ∷ []) ≡ count_by is_write calls + cond (is_write event) 1 0
-writes-append calls event = let more = sum_by-append (λ e. cond (is_write e) 1 0) calls (event ∷ []) in omega arith
-
--- what is kept for a transaction with one call more
-pub reserved-call : (number : ℕ) (calls : List Event) (event : Event)
-    → reserved (Some (record { number = number; calls = calls ++ event ∷ [] })) ≡ reserved (Some (record { number = number; calls = calls })) + 19 * cond (is_write event) 1 0
-reserved-call number calls event = let more = writes-append calls event in omega arith
+-- what is kept is kept for the one session that has a transaction
+pub reserved-one : (undo : ℕ → List UndoEntry) (a : Account) → ((s : ℕ) → s ≢ 1 → a.active s ≡ None) → reserved undo a ≡ kept_for undo (a.active 1)
+unfolding sessions
+reserved-one undo a idle = sum-first (λ s. kept_for undo (a.active s)) 1 31 (λ s other. ap (kept_for undo) (idle s other))
 
 -- what the records take that take writes back and end their transaction, with a batch's gate and length where none waits
-pub need-abort_records : (pending : List Record) (t : ℕ) (us : List UndoEntry) → need pending (abort_records t us) ≤ 10 + 19 * length us
+pub need-abort_records : (pending : List Record) (t : ℕ) (us : List UndoEntry) → need pending (abort_records t us) ≤ undo_bytes us
 need-abort_records [] t [] = omega (arith, abort_length t [])
 need-abort_records [] t (u ∷ us) = omega (arith, abort_length t (u ∷ us))
 need-abort_records (p ∷ ps) t [] = omega (arith, abort_length t [])

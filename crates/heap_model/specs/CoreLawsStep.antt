@@ -1,8 +1,9 @@
 -- Each step of a valid core leaves a valid core, or one at which the disk stopped or failed.
-use Rattle.std.proofs.Common.{◌≡◌, ℕ, ◌+◌, ◌^◌, ◌<◌, ◌≤◌, Bool, true, false, cond, List, [], ◌∷◌, ◌++◌, length, Option, Some, None, is_some, refl, sym, ap, ◌∙◌, subst, arith}
+use Rattle.std.proofs.Common.{◌≡◌, ℕ, ◌+◌, ◌^◌, ◌<◌, Bool, true, false, cond, List, [], ◌∷◌, ◌++◌, length, Option, Some, None, is_some, refl, sym, ap, ◌∙◌, subst, arith}
 use Rattle.std.specs.Prelude.{◌==◌, nat_le}
 use Rattle.std.specs.List.{AllByRecursion}
 use Rattle.std.proofs.lemmas.Bool.{eqb-false, leb-false}
+use Rattle.std.proofs.lemmas.List.{append-nil}
 use Rattle.graph_model.specs.declared.id.Id.{Id}
 use Rattle.graph_model.specs.declared.val.Val.{Val}
 use Rattle.graph_model.specs.declared.val.Val.TheVariants.{Null, Int}
@@ -12,59 +13,34 @@ use Rattle.graph_model.specs.declared.reply.Entry.{Entry}
 use Rattle.graph_model.specs.declared.reply.Refusal.{Refusal}
 use Rattle.graph_model.specs.declared.reply.Refusal.TheVariants.{AlreadyActive, NumbersSpent, Range, LogFull}
 use Rattle.graph_model.specs.declared.reply.Reply.{Reply}
-use Rattle.graph_model.specs.declared.reply.Reply.TheVariants.{Refused}
+use Rattle.graph_model.specs.declared.reply.Reply.TheVariants.{Begun, Sealed, Aborted, Durable, Refused}
 use Rattle.graph_model.specs.Graph.{Graph}
 use Rattle.graph_model.specs.SlowHeap.{IsSingleSession}
 use Rattle.graph_model.specs.Transaction.{View, Transaction, IsCall, held, put_value, call}
 use Rattle.graph_model.specs.History.{Account, account, account_after, session_of, makes_call, with_call}
 use Rattle.graph_model.specs.HistoryLaws.{IsCallReply, account-append, account_after-call}
 use Rattle.graph_model.specs.Plain.{view, no_number, no_int, field_refusal, put_refusal, call_refusal, event_refusal, refusal_of, granted, reply_of}
+use Rattle.graph_model.specs.Plain
 use Rattle.graph_model.specs.PlainLaws.{IsNoFault, IsSoundReply, HasNoFault, plain_reply-IsSoundReply, call_reply-IsCallReply, event_refusal-call, granted-call, account_after-refused}
 use Rattle.log_records.specs.declared.Record.{Record}
 use Rattle.log_records.specs.Record.{IsRecord}
 use Rattle.gated_log.specs.Log.{records_of}
-use Rattle.log_machine.specs.Machine.{start, undo_of}
-use Rattle.heap_model.specs.Core.{Core, fresh, all_records, next_number, view_records, call_records, event_records, is_write, used, need, reserved, reserved_after, log_refusal, first_of_two, core_refusal, with_entry, forced, done, after_refusal, after}
-use Rattle.heap_model.specs.CoreValid.{IsNumberVal, Agrees, IsValid}
-use Rattle.heap_model.specs.CoreLawsRecords.{AllByRecursion-behind, told_new}
-use Rattle.heap_model.specs.CoreLawsRoom.{full_log-none, full_log-room}
-use Rattle.heap_model.specs.CoreLawsGranted.{undo-told, called, reserved_call, commit_fits, abort_fits, agrees_history, agrees_entry, begin_agrees, quiet_agrees, write_agrees, seal_agrees, abort_agrees, force_agrees}
-
--- a new heap that has just been opened is valid
-pub valid_fresh : (room first : ℕ) → 64 ≤ room → 1 ≤ first → first ≤ no_number → IsValid (fresh room first)
-valid_fresh room first large some small = record {
-  new = refl;
-  unfailed = refl;
-  certain = refl;
-  some_first = some;
-  next_fits = omega arith;
-  numbered = tt;
-  durable = 0;
-  sealed_first = omega arith;
-  acknowledged_last = omega arith;
-  disk_state = start;
-  disk_now = Null ∷ Null ∷ Null ∷ Null ∷ [];
-  on_disk = told_new;
-  disk_room = omega arith;
-  state = start;
-  now = Null ∷ Null ∷ Null ∷ Null ∷ [];
-  told = told_new;
-  writer = refl;
-  room = omega arith;
-}
-
-need_nothing : (pending : List Record) → need pending [] ≡ 0
-need_nothing [] = refl
-need_nothing (p ∷ ps) = refl
+use Rattle.log_machine.specs.declared.UndoEntry.{UndoEntry}
+use Rattle.heap_model.specs.Core.{Core, all_records, next_number, undo_behind, place, view_records, call_records, event_records, used, need, kept_for, reserved, reserved_after, log_refusal, first_of_two, core_refusal, with_entry, forced, done, after_refusal, after}
+use Rattle.heap_model.specs.CoreValid.{kept_behind, Agrees, IsValid}
+use Rattle.heap_model.specs.ValueWord.{IsRootVal}
+use Rattle.heap_model.specs.ListLaws.{AllByRecursion-behind}
+use Rattle.heap_model.specs.CoreLawsRoom.{full_log-none, full_log-room, reserved-one}
+use Rattle.heap_model.specs.CoreLawsGranted.{called, idle_with, kept_active, need_nothing, commit_fits, abort_fits, agrees_history, agrees_entry, begin_agrees, quiet_agrees, write_agrees, seal_agrees, abort_agrees, force_agrees}
 
 -- What an event leaves that isn't refused agrees with its entry.
-abbrev Goes : Core → Event → Type 0
+abbrev pub Goes : Core → Event → Type 0
 Goes c event =
     let a = account c.history in
     Agrees (account_after a (record { event = event; reply = granted (next_number c) c.g0 a event })) (done c event)
 
 -- What is left where an event isn't refused.
-abbrev IsGranted : Core → Event → Type 0
+abbrev pub IsGranted : Core → Event → Type 0
 IsGranted c event = (event_refusal (next_number c) c.g0 (account c.history) event ≡ None) × (log_refusal c event ≡ None)
 
 -- a call that isn't refused is one more of its transaction
@@ -76,8 +52,22 @@ call_account next g0 a event is one =
     ∙ ap (λ (s : ℕ). record (makes_call a s event) { entries = a.entries + 1 }) one
 
 -- so what is kept behind it is what is kept for its transaction
-call_reserved : (c : Core) (event : Event) → IsCall event → session_of event ≡ 1 → reserved_after c event ≡ reserved (with_call ((account c.history).active 1) event)
-call_reserved c event is one = ap (λ (a : Account). reserved (a.active 1)) (call_account (next_number c) c.g0 (account c.history) event is one)
+call_reserved : (c : Core) (event : Event) → IsValid c → IsCall event → session_of event ≡ 1
+    → reserved_after c event ≡ kept_for (undo_behind c (all_records c ++ event_records c event)) (with_call ((account c.history).active 1) event)
+call_reserved c event valid is one =
+    let a = account c.history in
+    let undo = undo_behind c (all_records c ++ event_records c event) in
+    ap (reserved undo) (call_account (next_number c) c.g0 a event is one) ∙ reserved-one undo (called a event) (idle_with a.active _ valid.idle)
+
+kept_with_call : (undo : ℕ → List UndoEntry) (o : Option Transaction) (event : Event) → kept_for undo (with_call o event) ≡ kept_for undo o
+kept_with_call undo None event = refl
+kept_with_call undo (Some t) event = refl
+
+-- the calls that write
+abbrev pub is_write : Event → Bool
+is_write (Put s h i v) = true
+is_write (Clear s h i) = true
+is_write event = false
 
 -- a call that writes nothing appends no record
 pub quiet_records : (c : Core) (event : Event) → IsCall event → is_write event ≡ false → event_records c event ≡ []
@@ -125,42 +115,63 @@ no_call (Get s h i h2) is e = cc
 no_call (Same s h h2) is e = cc
 no_call (Len s h) is e = cc
 
+-- what is kept where no record is appended
+kept_still : (c : Core) (more : List Record) → (valid : IsValid c) → more ≡ [] → kept_for (undo_behind c (all_records c ++ more)) ((account c.history).active 1) ≡ kept_behind valid.behind ((account c.history).active 1)
+kept_still c more valid none =
+    let a = account c.history in
+    ap (λ (rs : List Record). kept_for (undo_behind c (all_records c ++ rs)) (a.active 1)) none
+    ∙ ap (λ (rs : List Record). kept_for (undo_behind c rs) (a.active 1)) (append-nil (all_records c))
+    ∙ kept_active a c valid
+
 -- the log has room for a call that writes nothing
 pub log_quiet : (c : Core) (event : Event) → IsValid c → IsCall event → session_of event ≡ 1 → is_write event ≡ false → log_refusal c event ≡ None
 log_quiet c event valid is one quiet =
     let a = account c.history in
-    let none : ◌≡◌ {A = ℕ} (cond (is_write event) 1 0) 0 = ap (λ (b : Bool). cond b 1 0) quiet in
-    let kept = reserved_call (a.active 1) event in
-    let after_it = call_reserved c event is one in
-    let nothing : need c.pending (event_records c event) ≡ 0 = ap (need c.pending) (quiet_records c event is quiet) ∙ need_nothing c.pending in
+    let more = event_records c event in
+    let none = quiet_records c event is quiet in
+    let kept = kept_with_call (undo_behind c (all_records c ++ more)) (a.active 1) event in
+    let same = kept_still c more valid none in
+    let after_it = call_reserved c event valid is one in
+    let nothing : need c.pending more ≡ 0 = ap (need c.pending) none ∙ need_nothing c.pending in
     let room = valid.room in
-    full_log-none c.room (used c) (need c.pending (event_records c event)) (reserved_after c event) (omega arith)
+    full_log-none c.room (used c) (need c.pending more) (reserved_after c event) (omega arith)
 
 -- the log has room for a seal
 pub log_seal : (c : Core) → IsValid c → log_refusal c (Seal 1) ≡ None
 log_seal c valid =
     let a = account c.history in
-    let undo = undo_of (all_records c) in
-    let fits = commit_fits c.g0 a c.pending undo (a.active 1) in
+    let undo = undo_behind c (all_records c) in
+    let more = call_records (place c) c.g0 a undo (a.active 1) (Seal 1) in
+    let fits = commit_fits c.g0 a c.pending undo valid.behind (a.active 1) in
+    let b = account_after a (record { event = Seal 1; reply = Sealed (length a.sealed + 1) }) in
+    let kept = reserved-one (undo_behind c (all_records c ++ more)) b (idle_with a.active None valid.idle) in
     let room = valid.room in
-    full_log-none c.room (used c) (need c.pending (call_records c.g0 a undo (a.active 1) (Seal 1))) 0 (omega arith)
+    full_log-none c.room (used c) (need c.pending more) (reserved_after c (Seal 1)) (omega arith)
 
 -- the log has room for an abort
 pub log_abort : (c : Core) → IsValid c → log_refusal c (Abort 1) ≡ None
 log_abort c valid =
     let a = account c.history in
-    let undo = undo_of (all_records c) in
-    let fits = abort_fits c.g0 a c.pending (a.active 1) valid.state valid.now undo valid.writer (undo-told a c valid) in
+    let undo = undo_behind c (all_records c) in
+    let more = call_records (place c) c.g0 a undo (a.active 1) (Abort 1) in
+    let fits = abort_fits c.g0 a c.pending (a.active 1) undo in
+    let own = kept_active a c valid in
+    let b = account_after a (record { event = Abort 1; reply = Aborted }) in
+    let kept = reserved-one (undo_behind c (all_records c ++ more)) b (idle_with a.active None valid.idle) in
     let room = valid.room in
-    full_log-none c.room (used c) (need c.pending (call_records c.g0 a undo (a.active 1) (Abort 1))) 0 (omega arith)
+    full_log-none c.room (used c) (need c.pending more) (reserved_after c (Abort 1)) (omega arith)
 
 -- the log has room for a force
 pub log_force : (c : Core) → IsValid c → log_refusal c Force ≡ None
 log_force c valid =
     let a = account c.history in
+    let undo = undo_behind c (all_records c ++ []) in
+    let b = account_after a (record { event = Force; reply = Durable (length a.sealed) }) in
+    let kept = reserved-one undo b valid.idle in
+    let same = kept_still c [] valid refl in
     let room = valid.room in
     let nothing = need_nothing c.pending in
-    full_log-none c.room (used c) (need c.pending []) (reserved (a.active 1)) (omega arith)
+    full_log-none c.room (used c) (need c.pending []) (reserved_after c Force) (omega arith)
 
 two_tests : (b d : Bool) (x y : Refusal) → cond b (Some x) (cond d (Some y) None) ≡ None → (b ≡ false) × (d ≡ false)
 two_tests true d x y e = cc
@@ -190,29 +201,32 @@ begin_goes : (c : Core) → IsValid c → IsGranted c (Begin 1) → Goes c (Begi
 begin_goes c valid may =
     let a = account c.history in
     let tests = two_tests (is_some (a.active 1)) (next_number c == no_number) AlreadyActive NumbersSpent may.0 in
-    let room = full_log-room c.room (used c) (need c.pending []) 10 may.1 in
+    let undo = undo_behind c (all_records c ++ []) in
+    let b = account_after a (record { event = Begin 1; reply = Begun (next_number c) }) in
+    let kept = reserved-one undo b (idle_with a.active _ valid.idle) in
+    let room = full_log-room c.room (used c) (need c.pending []) (reserved_after c (Begin 1)) may.1 in
     begin_agrees a c valid (not_active (a.active 1) tests.0) (eqb-false (next_number c) no_number tests.1) (omega arith)
 
 quiet_goes : (c : Core) (event : Event) → IsValid c → IsCall event → session_of event ≡ 1 → is_write event ≡ false → IsGranted c event → Goes c event
 quiet_goes c event valid is one quiet may =
     let a = account c.history in
     let t = call_transaction c event is one may.0 in
-    let go = quiet_agrees a c t.0 event valid t.1 quiet (quiet_graph (view c.g0 a t.0) t.0.number event quiet) in
+    let go = quiet_agrees a c t.0 event valid t.1 (quiet_graph (view c.g0 a t.0) t.0.number event quiet) in
     let left : done c event ≡ record c { pending = c.pending ++ [] } =
     done_records c event (no_call event is) ∙ ap (λ (more : List Record). record c { pending = c.pending ++ more }) (quiet_records c event is quiet) in
     let there = subst (λ (d : Core). Agrees (called a event) d) (sym left) go in
     subst (λ (b : Account). Agrees b (done c event)) (sym (call_account (next_number c) c.g0 a event is one)) there
 
 -- a call that writes a value into a field
-write_goes : (c : Core) (t : Transaction) (event : Event) (hd i : ℕ) (v : Val) → IsValid c → IsCall event → session_of event ≡ 1 → is_write event ≡ true → (account c.history).active 1 ≡ Some t
-    → (call (view c.g0 (account c.history) t) t.number event).view.graph ≡ put_value (view c.g0 (account c.history) t).graph (held (view c.g0 (account c.history) t).registers hd) i v → IsNumberVal v
+write_goes : (c : Core) (t : Transaction) (event : Event) (hd i : ℕ) (v : Val) → IsValid c → IsCall event → session_of event ≡ 1 → (account c.history).active 1 ≡ Some t
+    → (call (view c.g0 (account c.history) t) t.number event).view.graph ≡ put_value (view c.g0 (account c.history) t).graph (held (view c.g0 (account c.history) t).registers hd) i v → IsRootVal v
     → field_refusal (view c.g0 (account c.history) t).graph (held (view c.g0 (account c.history) t).registers hd) i ≡ None
-    → event_records c event ≡ view_records t.number (view c.g0 (account c.history) t) hd i v → log_refusal c event ≡ None → Goes c event
-write_goes c t event hd i v valid is one wrote e graph small within records room =
+    → event_records c event ≡ view_records (place c) t.number (view c.g0 (account c.history) t) hd i v → log_refusal c event ≡ None → Goes c event
+write_goes c t event hd i v valid is one e graph small within records room =
     let a = account c.history in
     let fits = full_log-room c.room (used c) (need c.pending (event_records c event)) (reserved_after c event) room in
-    let kept = call_reserved c event is one in
-    let go = write_agrees a c t event hd i v (event_records c event) valid e wrote graph small within records (omega arith) in
+    let kept = call_reserved c event valid is one in
+    let go = write_agrees a c t event hd i v (event_records c event) valid e graph small within records (omega arith) in
     let there = subst (λ (d : Core). Agrees (called a event) d) (sym (done_records c event (no_call event is))) go in
     subst (λ (b : Account). Agrees b (done c event)) (sym (call_account (next_number c) c.g0 a event is one)) there
 
@@ -233,29 +247,29 @@ put_goes c h i v valid may =
     let event : Event = Put 1 h i v in
     let t = call_transaction c event tt refl may.0 in
     let bounds = put_bounds (view c.g0 a t.0).graph (held (view c.g0 a t.0).registers h) i v t.2 in
-    write_goes c t.0 event h i (Int v) valid tt refl refl t.1 refl bounds.0 bounds.1 (ap (λ (o : Option Transaction). call_records c.g0 a (undo_of (all_records c)) o event) t.1) may.1
+    write_goes c t.0 event h i (Int v) valid tt refl t.1 refl bounds.0 bounds.1 (ap (λ (o : Option Transaction). call_records (place c) c.g0 a (undo_behind c (all_records c)) o event) t.1) may.1
 
 clear_goes : (c : Core) (h i : ℕ) → IsValid c → IsGranted c (Clear 1 h i) → Goes c (Clear 1 h i)
 clear_goes c h i valid may =
     let a = account c.history in
     let event : Event = Clear 1 h i in
     let t = call_transaction c event tt refl may.0 in
-    write_goes c t.0 event h i Null valid tt refl refl t.1 refl tt t.2 (ap (λ (o : Option Transaction). call_records c.g0 a (undo_of (all_records c)) o event) t.1) may.1
+    write_goes c t.0 event h i Null valid tt refl t.1 refl tt t.2 (ap (λ (o : Option Transaction). call_records (place c) c.g0 a (undo_behind c (all_records c)) o event) t.1) may.1
 
 seal_goes : (c : Core) → IsValid c → IsGranted c (Seal 1) → Goes c (Seal 1)
 seal_goes c valid may =
     let a = account c.history in
     let t = has_transaction c.g0 a (a.active 1) (Seal 1) may.0 in
-    seal_agrees a c t.0 (length a.sealed + 1) (undo_of (all_records c)) valid t.1
+    seal_agrees a c t.0 (length a.sealed + 1) (undo_behind c (all_records c)) valid t.1
 
 abort_goes : (c : Core) → IsValid c → IsGranted c (Abort 1) → Goes c (Abort 1)
 abort_goes c valid may =
     let a = account c.history in
     let t = has_transaction c.g0 a (a.active 1) (Abort 1) may.0 in
-    abort_agrees a c t.0 (undo_of (all_records c)) valid t.1 (undo-told a c valid)
+    abort_agrees a c t.0 valid t.1
 
 -- an event of session 1 that isn't refused, by its form
-goes : (c : Core) (event : Event) → IsValid c → IsSingleSession event → IsGranted c event → Goes c event
+pub goes : (c : Core) (event : Event) → IsValid c → IsSingleSession event → IsGranted c event → Goes c event
 goes c (Begin s) valid one may = let P : ℕ → Type 0 = λ n. IsGranted c (Begin n) → Goes c (Begin n) in subst P (sym one) (begin_goes c valid) may
 goes c (Root s h) valid one may = quiet_goes c (Root s h) valid tt one refl may
 goes c (Put s h i v) valid one may = let P : ℕ → Type 0 = λ n. IsGranted c (Put n h i v) → Goes c (Put n h i v) in subst P (sym one) (put_goes c h i v valid) may
@@ -277,7 +291,7 @@ pub unfailed_refusal : (c : Core) (event : Event) → (account c.history).failed
     → core_refusal c event ≡ first_of_two (event_refusal (next_number c) c.g0 (account c.history) event) (log_refusal c event)
 unfailed_refusal c event e = ap (λ (o : Option ℕ). refusal_of o (first_of_two (event_refusal (next_number c) c.g0 (account c.history) event) (log_refusal c event))) e
 
-may_go : (c : Core) (event : Event) → IsValid c → core_refusal c event ≡ None → IsGranted c event
+pub may_go : (c : Core) (event : Event) → IsValid c → core_refusal c event ≡ None → IsGranted c event
 may_go c event valid e = both_none (event_refusal (next_number c) c.g0 (account c.history) event) (log_refusal c event) (sym (unfailed_refusal c event valid.unfailed) ∙ e)
 
 full_no_fault : (b : Bool) (used more kept : ℕ) → HasNoFault (cond b (Some (LogFull used more kept)) None)
@@ -320,7 +334,7 @@ valid_entry c d event reply same h =
 pub refused_agrees : (a : Account) (c : Core) (event : Event) (why : Refusal) → IsNoFault why → Agrees a c → Agrees (account_after a (record { event = event; reply = Refused why })) c
 refused_agrees a c event why sound h =
     let P : Account → Type 0 = λ b. Agrees b c in
-    subst P (sym (account_after-refused a event why sound)) (agrees_entry a c (a.entries + 1) h)
+    subst P (sym (account_after-refused a event why sound)) (subst (λ (f : Option ℕ). Agrees (record a { failed = f; entries = a.entries + 1 }) c) (sym h.unfailed) (agrees_entry a c (a.entries + 1) h))
 
 forced_history : (c : Core) (p : List Record) → (forced c p).history ≡ c.history
 forced_history c [] = refl
@@ -340,7 +354,9 @@ either_way c event (Some why) valid sound go = valid_entry c c event (Refused wh
 pub valid_after : (c : Core) (event : Event) → IsValid c → IsSingleSession event → IsValid (after c event)
 valid_after c event valid one = either_way c event (core_refusal c event) valid (core_refusal-HasNoFault c event) (λ e. goes c event valid one (may_go c event valid e))
 
-appended : (c : Core) (event : Event) → (event ≡ Force → ⊥) → Goes c event → AllByRecursion IsRecord (event_records c event)
-appended c event other h =
-    let left = subst (λ (d : Core). Agrees (account_after (account c.history) (record { event = event; reply = granted (next_number c) c.g0 (account c.history) event })) d) (done_records c event other) h in
+-- the records that a granted event appends have spellings
+pub event_records_good : (c : Core) (event : Event) → IsValid c → IsSingleSession event → core_refusal c event ≡ None → (event ≡ Force → ⊥) → AllByRecursion IsRecord (event_records c event)
+event_records_good c event valid one granted other =
+    let a = account c.history in
+    let left = subst (λ (d : Core). Agrees (account_after a (record { event = event; reply = Plain.granted (next_number c) c.g0 a event })) d) (done_records c event other) (goes c event valid one (may_go c event valid granted)) in
     AllByRecursion-behind IsRecord c.pending _ (AllByRecursion-behind IsRecord (records_of c.batches) _ left.told.good)

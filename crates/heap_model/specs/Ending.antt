@@ -1,25 +1,27 @@
 -- The events that end a run: what is active is aborted, and then what waits is forced.
 use Rattle.std.specs.Prelude.{ℕ, List, [], ◌∷◌, ◌++◌, Option, None, Some}
+use Rattle.std.specs.List.{flat_map}
 use Rattle.graph_model.specs.declared.event.Event.{Event}
 use Rattle.graph_model.specs.declared.event.Event.TheVariants.{Abort, Force}
 use Rattle.graph_model.specs.Transaction.{Transaction}
 use Rattle.graph_model.specs.History.{account}
 use Rattle.log_records.specs.declared.Record.{Record}
-use Rattle.heap_model.specs.Core.{Core}
+use Rattle.heap_model.specs.Core.{Core, sessions}
 use Rattle.heap_model.specs.CoreRuns.{after_events}
 
--- the abort of session 1's transaction, if it has one
-abbrev pub abort_of : Option Transaction → List Event
-abort_of None = []
-abort_of (Some t) = Abort 1 ∷ []
+-- the abort of a session's transaction, if it has one
+abbrev pub abort_of : ℕ → Option Transaction → List Event
+abort_of s None = []
+abort_of s (Some t) = Abort s ∷ []
 
 -- the force of records that wait, if some do
 abbrev pub force_of : List Record → List Event
 force_of [] = []
 force_of (r ∷ rs) = Force ∷ []
 
+-- each active session aborts, ascending
 abbrev pub aborting : Core → List Event
-aborting c = abort_of ((account c.history).active 1)
+aborting c = flat_map (λ s. abort_of s ((account c.history).active s)) sessions
 
 abbrev pub forcing : Core → List Event
 forcing c = force_of c.pending

@@ -1,28 +1,54 @@
--- What an opening of an image does: it takes back the writes of a transaction that has not ended, in one batch more.
-use Rattle.std.specs.Prelude.{ℕ, List, [], Option, None, Some}
+-- What an opening of a legal image does: it takes back the writes of transactions that have not ended, in one batch more.
+use Rattle.std.specs.Prelude.{ℕ, ◌+◌, List, [], Option, None, Some, fold, max}
+use Rattle.graph_model.specs.Graph.{Graph}
 use Rattle.image_plan.specs.declared.superblock.Super.{Super}
 use Rattle.log_records.specs.declared.Record.{Record}
 use Rattle.gated_log.specs.Log.{records_of, with_batch}
-use Rattle.log_machine.specs.Machine.{State, start, after_all, rollback}
+use Rattle.log_machine.specs.Machine.{State, start, after_all, number_of, commits, rollback}
 use Rattle.heap_model.specs.Core.{Core, force_calls}
-use Rattle.heap_model.specs.Image.{graph_of}
+
+-- what the records of these batches say
+abbrev pub state_of : Super → List (List Record) → Option State
+state_of s batches = after_all (start s.pages s.first) (records_of batches)
 
 abbrev pub rollback_in : Option State → List Record
 rollback_in None = []
-rollback_in (Some s) = rollback s.writer s.undo
+rollback_in (Some state) = rollback state
 
--- the records that take back what these batches leave of a transaction that has not ended
-abbrev pub rollback_of : List (List Record) → List Record
-rollback_of batches = rollback_in (after_all start (records_of batches))
+-- the records that take back what these batches leave of transactions that have not ended
+abbrev pub rollback_of : Super → List (List Record) → List Record
+rollback_of s batches = rollback_in (state_of s batches)
 
 -- the batches behind an opening
-abbrev pub rolled_back : List (List Record) → List (List Record)
-rolled_back batches = with_batch batches (rollback_of batches)
+abbrev pub rolled_back : Super → List (List Record) → List (List Record)
+rolled_back s batches = with_batch batches (rollback_of s batches)
 
 -- the writes and syncs of an opening
-abbrev pub opening_calls : List (List Record) → ℕ
-opening_calls batches = force_calls (rollback_of batches)
+abbrev pub opening_calls : Super → List (List Record) → ℕ
+opening_calls s batches = force_calls (rollback_of s batches)
 
--- the core of a heap that has just been opened and holds these batches, whose next transaction has this number
-abbrev pub opened : Super → List (List Record) → ℕ → Core
-opened s batches next = record { room = s.log_bytes; first = next; g0 = graph_of (records_of batches); history = []; batches = batches; pending = [] }
+abbrev pub next_in : Option State → ℕ
+next_in None = 0
+next_in (Some state) = state.next
+
+-- the number of the first transaction behind an opening
+abbrev pub next_of : Super → List (List Record) → ℕ
+next_of s batches = next_in (state_of s batches)
+
+-- the greater of a heap's first number and one more than the greatest among these records
+abbrev pub next_behind : ℕ → List Record → ℕ
+next_behind first records = fold (λ n rec. max n (number_of rec + 1)) first records
+
+-- The core of a heap just opened, where the log held these batches and this graph was seen.
+abbrev pub opened : Super → List (List Record) → Graph → Core
+opened s batches g =
+    record {
+      pages = s.pages;
+      room = s.log_bytes;
+      first = next_of s batches;
+      g0 = g;
+      before = commits (records_of batches);
+      history = [];
+      batches = rolled_back s batches;
+      pending = [];
+    }

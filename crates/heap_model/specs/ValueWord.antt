@@ -1,18 +1,36 @@
 -- The word of a value, and the value of a word.
-use Rattle.std.specs.Prelude.{◌≡◌, ◌⊎◌, ℕ, ◌+◌, ◌*◌, ◌/◌, ◌%◌, ◌^◌, ◌<◌, ◌==◌, if◌then◌else◌}
+use Rattle.std.specs.Prelude.{◌≡◌, ℕ, ◌^◌, ◌<◌, List, map, Option, Some}
+use Rattle.heap_words.specs.declared.Word.{Word}
+use Rattle.heap_words.specs.declared.Word.TheVariants.{Null, Int, Stable}
+use Rattle.heap_words.specs.Word.{bits, meaning}
+use Rattle.graph_model.specs.declared.id.Id.{Id}
 use Rattle.graph_model.specs.declared.val.Val as val
 use Rattle.graph_model.specs.declared.val.Val.TheVariants as vals
+use Rattle.graph_model.specs.Graph.{root}
+use Rattle.object_layout.specs.Layout.{field_words}
 
--- the word of a value: the root object, the only one that there is, stands at address 0
-abbrev pub word_of : val.Val → ℕ
-word_of vals.Null = 0
-word_of (vals.Int n) = 4 * n + 1
-word_of (vals.Ref id) = 2
+-- the word of a value, where objects stand at these addresses
+abbrev pub word_of : (Id → ℕ) → val.Val → ℕ
+word_of place vals.Null = bits Null
+word_of place (vals.Int n) = bits (Int n)
+word_of place (vals.Ref id) = bits (Stable (place id))
 
--- the value of a word that is null or a number
+-- the value of what a word means where the root is the only object
+abbrev pub value_meant : Option Word → val.Val
+value_meant (Some (Int n)) = vals.Int n
+value_meant (Some (Stable address)) = vals.Ref root
+value_meant meant = vals.Null
+
+-- the value of a word where the root is the only object
 abbrev pub value_of : ℕ → val.Val
-value_of w = if w % 4 == 1 then vals.Int (w / 4) else vals.Null
+value_of w = value_meant (meaning w)
 
--- the word is null or a number
-abbrev pub IsNumberWord : ℕ → Type 0
-IsNumberWord w = (w ≡ 0) ⊎ ((n : ℕ) × (n < 2 ^ 62) × (w ≡ 4 * n + 1))
+-- the values of the root's fields where it stands at an address and is the only object
+abbrev pub root_values : List ℕ → ℕ → List val.Val
+root_values words base = map value_of (field_words words base)
+
+-- null, a number that a field can hold, or a reference to the root
+abbrev pub IsRootVal : val.Val → Type 0
+IsRootVal vals.Null = Unit {0}
+IsRootVal (vals.Int n) = n < 2 ^ 62
+IsRootVal (vals.Ref id) = id ≡ root

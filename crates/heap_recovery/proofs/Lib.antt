@@ -1,2 +1,2 @@
+mod LegalLog
 mod Opening
-mod Replay

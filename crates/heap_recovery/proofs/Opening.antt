@@ -1,86 +1,85 @@
--- What an opening finds in a legal image, and what it leaves.
-use Rattle.std.proofs.Common.{◌≡◌, ◌≢◌, ◌⊎◌, ⊎_elim, ℕ, ◌+◌, ◌≤◌, true, cond, List, [], ◌∷◌, length, get_or, Some, Result, Ok, Err, refl, sym, ap, ◌∙◌, subst, arith, max}
-use Rattle.std.specs.Prelude.{nat_lt, IsOk, IfOk, IfErr}
-use Rattle.std.specs.List.{AllByRecursion}
-use Rattle.std.proofs.lemmas.Bool.{lt-ltb}
+-- What an opening reads of a log, and what it leaves.
+use Rattle.std.proofs.Common.{◌≡◌, ◌≢◌, ◌⊎◌, ⊎_elim, ℕ, ◌+◌, ◌≤◌, List, [], ◌∷◌, ◌++◌, length, take, drop, take-append-drop, Option, None, Some, Result, Ok, Err, refl, sym, ap, ◌∙◌, subst, arith}
+use Rattle.std.specs.Prelude.{option_and_then, IfOk, IsOk}
+use Rattle.std.proofs.lemmas.Option.{option_and_then_some}
+use Rattle.std.proofs.lemmas.Bool.Decides.{nat_tests}
 use Rattle.disk_model.specs.Disk.{part, Only, Narrows, SameOutside}
 use Rattle.disk_model.specs.Moments.{LeavesOnly, joined, weaker}
 use Rattle.gate_slot.specs.Passing.{Passes}
 use Rattle.gated_log.specs.declared.Log.{Log}
 use Rattle.gated_log.specs.declared.LogError.{LogError}
 use Rattle.gated_log.specs.declared.LogError.TheVariants as logging
-use Rattle.gated_log.specs.Log.{records_of, with_batch, HoldsBatches}
+use Rattle.gated_log.specs.Log.{records_of, with_batch, HoldsBatches, batches_bytes}
+use Rattle.gated_log.specs.LogLaws.{hand_size-Keeps}
 use Rattle.gated_log.specs.LogRoom.{used_bytes}
-use Rattle.gated_log.specs.LogState.{log_place, log_room, log_tail, log_hand, log_used, log_used_with, IsHandEmpty, IsPlaced, Keeps}
+use Rattle.gated_log.specs.LogState.{log_place, log_room, log_tail, hand_size, log_used, log_used_with, IsHandEmpty, IsSameLog, Keeps}
 use Rattle.graph_model.specs.Graph.{Graph}
 use Rattle.image_plan.specs.declared.superblock.Super.{Super}
 use Rattle.image_plan.specs.Plan.{log_offset}
 use Rattle.log_records.specs.declared.Record.{Record}
 use Rattle.log_records.specs.Record.{spellings}
-use Rattle.log_machine.specs.declared.UndoEntry.{UndoEntry}
-use Rattle.log_machine.specs.Machine.{State, start, after_all, words, taken_back, undo_in, undo_reserve, rollback, abort_records}
-use Rattle.log_machine.specs.MachineLaws.{abort_length, commits-start, committed_words_at}
-use Rattle.heap_model.specs.CoreLawsOpening.{rolled_words, rolled_legal, still_stands, rolled_stands}
-use Rattle.heap_model.specs.Image.{IsLegal, StandsFor}
-use Rattle.heap_model.specs.Opening.{rollback_in, rollback_of, rolled_back}
-use Rattle.heap_recovery.specs.declared.recovery.OpenError.{OpenError}
-use Rattle.heap_recovery.specs.declared.recovery.OpenError.TheVariants.{NoMemory, NotHeap, Damaged, Disk}
-use Rattle.heap_recovery.specs.declared.recovery.Reading.{Reading}
+use Rattle.log_machine.specs.declared.replaying.ReplayError.{ReplayError}
+use Rattle.log_machine.specs.declared.replaying.ReplayError.TheVariants as replaying
+use Rattle.log_machine.specs.Replay.{IsFirstUnshaped}
+use Rattle.log_machine.specs.Machine.{State, Loser, after, after_all, losing, words, all_taken_back, rollback, abort_each, reserve}
+use Rattle.log_machine.specs.MachineLaws.{words-append}
+use Rattle.log_machine.specs.StateLaws.{commits-start}
+use Rattle.log_machine.specs.AbortLaws.{rollback_fits, rollback_words}
+use Rattle.log_machine.specs.CommittedLaws.{committed_words_at}
+use Rattle.object_layout.specs.Walk.{IsWalked}
+use Rattle.heap_model.specs.CoreLawsCrash.{records_of-with_batch}
+use Rattle.heap_model.specs.CoreLawsHeld.{held_with, still_stands, rolled_stands}
+use Rattle.heap_model.specs.Image.{words_of, IsLegalLog, Holds, IsLegal, Says, StandsFor}
+use Rattle.heap_model.specs.Opening.{rollback_in, rollback_of, rolled_back, next_in, next_of}
+use Rattle.heap_recovery.specs.declared.error.RecoverError.{RecoverError}
+use Rattle.heap_recovery.specs.declared.error.RecoverError.TheVariants.{NoMemory, NotHeap, Damaged, Disk}
+use Rattle.heap_recovery.specs.declared.reading.Reading.{Reading}
 use Rattle.heap_recovery.specs.declared.recovery.Recovered.{Recovered}
-use Rattle.heap_recovery.specs.Recovered.{rollback_after, IsRead, IsRecovered, IsFromOutside, IsFromImage, ErrorPasses, OpenPasses, open_error}
+use Rattle.heap_recovery.specs.Recovered.{IsRead, IsRecovered, IsFromOutside, ErrorPasses, OpenPasses, log_error, replay_error}
+use Rattle.heap_recovery.proofs.LegalLog.{legal_log}
 
 -- a log that is not damaged fails by the outside
-pub outside_of : (e : LogError) → ((offset : ℕ) → e ≢ logging.BadBatch offset) → IsFromOutside (open_error e)
+pub outside_of : (e : LogError) → ((offset : ℕ) → e ≢ logging.BadBatch offset) → IsFromOutside (log_error e)
 outside_of logging.NoMemory sound = tt
 outside_of (logging.BadBatch at) sound = absurd (sound at refl)
 outside_of (logging.Disk e) sound = tt
 
--- so does an opening that finds no fault with the image
-pub outside_unless : (e : OpenError) → (IsFromImage e → ⊥) → IsFromOutside e
-outside_unless NoMemory sound = tt
-outside_unless NotHeap sound = absurd (sound tt)
-outside_unless (Damaged at) sound = absurd (sound tt)
-outside_unless (Disk e) sound = tt
+-- so do records of which all follow one another
+some_front : (s m : State) (rs more : List Record) → after_all s (rs ++ more) ≡ Some m → (n : State) × (after_all s rs ≡ Some n)
+some_front s m [] more e = (s, refl)
+some_front s m (r ∷ rs) more e = option_and_then_some (λ next. after_all next (rs ++ more)) (after s r) m e (λ next is rest.
+    let front = some_front next m rs more rest in
+    (front.0, ap (λ (o : Option State). option_and_then (λ (x : State). after_all x rs) o) is ∙ front.1))
 
--- what holds of each of four words holds of all
-pub four_hold : (P : ℕ → Type 0) (l : List ℕ) (d : ℕ) → length l ≡ 4 → P (get_or l 0 d) → P (get_or l 1 d) → P (get_or l 2 d) → P (get_or l 3 d) → AllByRecursion P l
-four_hold P [] d four pa pb pc pd = absurd (omega arith)
-four_hold P (a ∷ []) d four pa pb pc pd = absurd (omega arith)
-four_hold P (a ∷ b ∷ []) d four pa pb pc pd = absurd (omega arith)
-four_hold P (a ∷ b ∷ c ∷ []) d four pa pb pc pd = absurd (omega arith)
-four_hold P (a ∷ b ∷ c ∷ e ∷ []) d four pa pb pc pd = (pa, (pb, (pc, (pd, tt))))
-four_hold P (a ∷ b ∷ c ∷ e ∷ f ∷ l) d four pa pb pc pd = absurd (omega arith)
+pub shaped_outside : (s m : State) (rs : List Record) (e : ReplayError) → after_all s rs ≡ Some m → ((lsn : ℕ) → e ≡ replaying.Unshaped lsn → IsFirstUnshaped s rs lsn) → IsFromOutside (replay_error e)
+shaped_outside s m rs replaying.NoMemory reached fault = tt
+shaped_outside s m rs (replaying.Unshaped lsn) reached fault =
+    let front = some_front s m (take lsn rs) (drop lsn rs) (ap (λ (l : List Record). after_all s l) (take-append-drop lsn rs) ∙ reached) in
+    let never : None ≡ Some front.0 = sym (fault lsn refl).stuck ∙ front.1 in
+    cc never
 
-fits_with : (tail writer room : ℕ) (undo : List UndoEntry) → used_bytes tail 4 + undo_reserve undo ≤ room → used_bytes tail (4 + length (spellings (rollback writer undo))) ≤ room
-fits_with tail writer room [] le = omega arith
-fits_with tail writer room (u ∷ us) le =
-    let n = length (spellings (abort_records writer (u ∷ us))) in
-    let size = abort_length writer (u ∷ us) in
-    let waits : nat_lt 4 (4 + n) ≡ true = lt-ltb 4 (4 + n) (omega (arith, size)) in
-    subst (λ b. cond b (tail + 2 + (4 + n)) (tail + 1) ≤ room) (sym waits) (omega (arith, size, le))
+-- a log in which no record waits is known to be so
+pub none_waits : (log : Log) (batches : List (List Record)) → Keeps log batches [] → IsHandEmpty log
+none_waits log batches keeps = hand_size-Keeps log batches [] keeps
 
--- a log that keeps room to take writes back has room for the records that do
-pub roll_fits : (log : Log) (s : State) (records : List Record) → IsHandEmpty log → log_used log + undo_reserve s.undo ≤ log_room log → records ≡ rollback s.writer s.undo
-    → log_used_with log (length (spellings records)) ≤ log_room log
-roll_fits log s records empty le is =
-    let room = log_room log in
-    let tail = log_tail log in
-    let four = subst (λ (h : ℕ). used_bytes tail h + undo_reserve s.undo ≤ room) empty le in
-    let fits = subst (λ (rs : List Record). used_bytes tail (4 + length (spellings rs)) ≤ room) (sym is) (fits_with tail s.writer room s.undo four) in
-    subst (λ (h : ℕ). used_bytes tail (h + length (spellings records)) ≤ room) (sym empty) fits
+-- the bytes that it uses
+pub used_of : (log : Log) (batches : List (List Record)) → Keeps log batches [] → log_used log ≡ length (batches_bytes batches) + 1
+used_of log batches keeps = ap (used_bytes (log_tail log)) (none_waits log batches keeps) ∙ ap (λ (n : ℕ). n + 1) keeps.tail
 
--- the log of a legal image keeps that room
-pub reserve_holds : (s : Super) (batches : List (List Record)) (image : List ℕ) (log : Log) (state : State) → IsLegal s batches image → Keeps log batches [] → IsHandEmpty log → log_room log ≡ s.log_bytes
-    → after_all start (records_of batches) ≡ Some state → log_used log + undo_reserve state.undo ≤ log_room log
-reserve_holds s batches image log state legal keeps empty room reached =
-    let same : Some legal.state ≡ Some state = sym legal.reached ∙ reached in
-    let undo = ap (λ o. undo_reserve (undo_in o)) same in
-    let used : log_used log ≡ log_tail log + 1 = ap (used_bytes (log_tail log)) empty in
-    omega (arith, used, undo, keeps.tail, room, legal.reserve)
+used_more : (tail hand k : ℕ) → used_bytes tail (hand + k) ≤ used_bytes tail hand + (k + 5)
+used_more tail hand k = grind (arith, nat_tests)
 
--- a log that only took memory keeps what it did
-pub keeps_placed : (old new : Log) (batches : List (List Record)) (pending : List Record) → IsPlaced old new → log_hand new ≡ log_hand old → Keeps old batches pending → Keeps new batches pending
-keeps_placed old new batches pending placed hand keeps = record { tail = placed.tail ∙ keeps.tail; head = keeps.head; four = keeps.four; items = hand ∙ keeps.items }
+fits_with : (log : Log) (s : State) (es : List Loser) → losing s ≡ es → log_used log + reserve s ≤ log_room log → log_used_with log (length (spellings (rollback s))) ≤ log_room log
+fits_with log s [] none le =
+    subst (λ (rs : List Record). log_used_with log (length (spellings rs)) ≤ log_room log) (sym (ap abort_each none)) (omega (arith, le))
+fits_with log s (e ∷ es) some le =
+    let size = rollback_fits s (λ none. (let never : e ∷ es ≡ [] = sym some ∙ none in cc never)) in
+    let more = used_more (log_tail log) (hand_size log) (length (spellings (rollback s))) in
+    omega arith
+
+-- a log that keeps room for a rollback has room for its records
+pub roll_fits : (log : Log) (s : State) (records : List Record) → log_used log + reserve s ≤ log_room log → records ≡ rollback s → log_used_with log (length (spellings records)) ≤ log_room log
+roll_fits log s records le is = subst (λ (rs : List Record). log_used_with log (length (spellings rs)) ≤ log_room log) (sym is) (fits_with log s (losing s) refl le)
 
 -- what is said of a log that lies where another does is said of that one
 pub placed_there : (old new : Log) (P : ℕ → ℕ → Type 0) → log_place new ≡ log_place old → log_room new ≡ log_room old → P (log_place new) (log_room new) → P (log_place old) (log_room old)
@@ -91,7 +90,7 @@ pub only_still : (image now : List ℕ) (before may_leave : List ℕ → Type 0)
 only_still image now before may_leave only is narrows c left = only c (narrows c left) ∙ sym is
 
 -- an opening that fails before its first call
-pub error_passes : (n before now : ℕ) (e : OpenError) → now ≡ before → IsFromOutside e → ErrorPasses n before now e
+pub error_passes : (n before now : ℕ) (e : RecoverError) → now ≡ before → IsFromOutside e → ErrorPasses n before now e
 error_passes n before now NoMemory same outside = same
 error_passes n before now NotHeap same outside = absurd outside
 error_passes n before now (Damaged at) same outside = absurd outside
@@ -101,78 +100,111 @@ error_passes n before now (Disk e) same outside = record {
   stopped = λ told any. (0, any, same);
 }
 
--- a result that is legal
-pub ok_outside : (r : Result Recovered OpenError) → IsOk r → IfErr r IsFromOutside
-ok_outside (Ok found) ok = tt
-ok_outside (Err e) ok = cc ok
-
--- the calls of an opening that ended well
-pub ok_passes : (r : Result Recovered OpenError) (n before now : ℕ) → IsOk r → Passes n before now (Ok tt) → OpenPasses n before now r
-ok_passes (Ok found) n before now ok passes = passes
-ok_passes (Err e) n before now ok passes = cc ok
-
--- what holds whatever was found
-pub if_ok : (r : Result Recovered OpenError) (P : Type 0) → P → IfOk r (λ found. P)
-if_ok (Ok found) P h = h
-if_ok (Err e) P h = tt
-
-module _ (s : Super) (batches : List (List Record)) (image : List ℕ) (legal : IsLegal s batches image) (read : Reading) (is : IsRead s batches read) where
-  -- the records that take writes back are those of what was read
-  pub same_rollback : rollback_of batches ≡ rollback_after read.state
+module _ (s : Super) (batches : List (List Record)) (read : Reading) (is : IsRead s batches read) where
+  -- the records that roll back are those of what was read
+  pub same_rollback : rollback_of s batches ≡ rollback read.state
   same_rollback = ap rollback_in is.state
 
-  in_log : (P : ℕ → ℕ → Type 0) → P (log_place read.log) (log_room read.log) → P log_offset s.log_bytes
+  pub in_log : (P : ℕ → ℕ → Type 0) → P (log_place read.log) (log_room read.log) → P log_offset s.log_bytes
   in_log P h = subst (P log_offset) is.room (let Q : ℕ → Type 0 = λ n. P n (log_room read.log) in subst Q is.place h)
 
   to_log : (P : ℕ → ℕ → Type 0) → P log_offset s.log_bytes → P (log_place read.log) (log_room read.log)
   to_log P h = let Q : ℕ → Type 0 = λ n. P n (log_room read.log) in subst Q (sym is.place) (subst (P log_offset) (sym is.room) h)
 
   -- the batches stand where the log was read
-  pub held : (now : List ℕ) → now ≡ image → HoldsBatches (part now (log_place read.log) (log_room read.log)) batches
-  held now same = to_log (λ n m. HoldsBatches (part now n m) batches) (subst (λ (l : List ℕ). HoldsBatches (part l log_offset s.log_bytes) batches) (sym same) legal.log)
+  pub held : (image now : List ℕ) → Holds s batches image → now ≡ image → HoldsBatches (part now (log_place read.log) (log_room read.log)) batches
+  held image now holds same = to_log (λ n m. HoldsBatches (part now n m) batches) (subst (λ (l : List ℕ). HoldsBatches (part l log_offset s.log_bytes) batches) (sym same) holds.log)
 
-  outside_log : (now new : List ℕ) → now ≡ image → SameOutside (log_place read.log) (log_place read.log + log_room read.log) now new → SameOutside log_offset (log_offset + s.log_bytes) image new
-  outside_log now new same outside = subst (λ (l : List ℕ). SameOutside log_offset (log_offset + s.log_bytes) l new) same (in_log (λ n m. SameOutside n (n + m) now new) outside)
+  pub outside_log : (image now new : List ℕ) → now ≡ image → SameOutside (log_place read.log) (log_place read.log + log_room read.log) now new → SameOutside log_offset (log_offset + s.log_bytes) image new
+  outside_log image now new same outside = subst (λ (l : List ℕ). SameOutside log_offset (log_offset + s.log_bytes) l new) same (in_log (λ n m. SameOutside n (n + m) now new) outside)
 
-  rolled_held : (new : List ℕ) → HoldsBatches (part new (log_place read.log) (log_room read.log)) (with_batch batches (rollback_after read.state)) → HoldsBatches (part new log_offset s.log_bytes) (rolled_back batches)
-  rolled_held new holds = subst (λ (l : List Record). HoldsBatches (part new log_offset s.log_bytes) (with_batch batches l)) (sym same_rollback) (in_log (λ n m. HoldsBatches (part new n m) (with_batch batches (rollback_after read.state))) holds)
+  pub rolled_held : (new : List ℕ) → HoldsBatches (part new (log_place read.log) (log_room read.log)) (with_batch batches (rollback read.state)) → HoldsBatches (part new log_offset s.log_bytes) (rolled_back s batches)
+  rolled_held new holds =
+      subst (λ (l : List Record). HoldsBatches (part new log_offset s.log_bytes) (with_batch batches l)) (sym same_rollback)
+      (in_log (λ n m. HoldsBatches (part new n m) (with_batch batches (rollback read.state))) holds)
 
-  -- the image with the batch that takes the writes back
-  pub rolled_image : (now new : List ℕ) → now ≡ image → SameOutside (log_place read.log) (log_place read.log + log_room read.log) now new
-      → HoldsBatches (part new (log_place read.log) (log_room read.log)) (with_batch batches (rollback_after read.state)) → IsLegal s (rolled_back batches) new
-  rolled_image now new same outside holds = rolled_legal s batches image legal new (outside_log now new same outside) (rolled_held new holds)
+  -- the words without what is rolled back
+  pub committed : all_taken_back read.state read.words ≡ words_of s batches
+  committed = ap (all_taken_back read.state) is.words ∙ sym (committed_words_at read.state s.pages s.first (records_of batches) is.state)
 
-  -- the words behind it
-  pub rolled_back_words : (new : List ℕ) → new ≡ taken_back read.state.undo read.words → new ≡ words (records_of (rolled_back batches))
-  rolled_back_words new taken = taken ∙ ap (taken_back read.state.undo) is.words ∙ sym (committed_words_at read.state (records_of batches) is.state) ∙ sym (rolled_words s batches image legal)
+  -- they are the words of all records, with those that roll back
+  pub rolled_words : all_taken_back read.state read.words ≡ words s.pages (records_of (rolled_back s batches))
+  rolled_words =
+      ap (all_taken_back read.state) is.words
+      ∙ sym (rollback_words read.state (words s.pages (records_of batches)))
+      ∙ sym (words-append s.pages (records_of batches) (rollback read.state))
+      ∙ ap (λ (rs : List Record). words s.pages (records_of batches ++ rs)) (sym same_rollback)
+      ∙ ap (words s.pages) (sym (records_of-with_batch batches (rollback_of s batches)))
+
+  -- what was read is a legal log, if the walk of its words passes
+  pub read_legal : (used : log_used read.log + reserve read.state ≤ log_room read.log) (now : List ℕ) → now ≡ all_taken_back read.state read.words → IsWalked now read.state.base read.state.used → IsLegalLog s batches
+  read_legal room now rolled walked =
+      legal_log s batches read.state is.limits is.good is.state (omega (arith, room, used_of read.log batches is.log, is.room))
+      (subst (λ (l : List ℕ). IsWalked l read.state.base read.state.used) (rolled ∙ committed) walked)
+
+  -- a legal log has the room for its rollback, and its walk passes
+  pub legal_walk : (legal : IsLegalLog s batches) (state : State) → state ≡ read.state → (now : List ℕ) → now ≡ all_taken_back read.state read.words → IsWalked now state.base state.used
+  legal_walk legal state same now rolled =
+      let one : legal.state ≡ state = (let both : Some legal.state ≡ Some read.state = sym legal.reached ∙ is.state in cc) in
+      subst (λ (x : State). IsWalked now x.base x.used) one (subst (λ (l : List ℕ). IsWalked l legal.state.base legal.state.used) (sym (rolled ∙ committed)) legal.walked)
 
   -- what is opened
-  pub recovered : (r : Result Recovered OpenError) (behind : Reading) → behind.state ≡ read.state → behind.first ≡ read.first → log_place behind.log ≡ log_place read.log → log_room behind.log ≡ log_room read.log
-      → behind.words ≡ taken_back read.state.undo read.words → Keeps behind.log (with_batch batches (rollback_after read.state)) []
-      → IfOk r (λ found. found.log ≡ behind.log) → IfOk r (λ found. found.words ≡ behind.words) → IfOk r (λ found. found.commits ≡ behind.state.commits) → IfOk r (λ found. found.next ≡ max behind.first (behind.state.greatest + 1))
-      → IfOk r (IsRecovered s batches)
-  recovered (Err e) behind state first at room taken keeps same_log same_words same_commits next = tt
-  recovered (Ok found) behind state first at room taken keeps same_log same_words same_commits next = record {
-    log = subst (λ (log : Log). Keeps log (rolled_back batches) []) (sym same_log) (subst (λ (l : List Record). Keeps behind.log (with_batch batches l) []) (sym same_rollback) keeps);
+  pub recovered : (r : Result Recovered RecoverError) (behind : Reading) → behind.state ≡ read.state → behind.of ≡ read.of → log_place behind.log ≡ log_place read.log → log_room behind.log ≡ log_room read.log
+      → behind.words ≡ all_taken_back read.state read.words → Keeps behind.log (with_batch batches (rollback read.state)) []
+      → IfOk r (λ found. found.log ≡ behind.log) → IfOk r (λ found. found.words ≡ behind.words) → IfOk r (λ found. found.pages ≡ behind.of.pages)
+      → IfOk r (λ found. found.commits ≡ behind.state.commits) → IfOk r (λ found. found.next ≡ behind.state.next) → IfOk r (IsRecovered s batches)
+  recovered (Err e) behind state of at room taken keeps same_log same_words same_pages same_commits next = tt
+  recovered (Ok found) behind state of at room taken keeps same_log same_words same_pages same_commits next = record {
+    log = subst (λ (log : Log). Keeps log (rolled_back s batches) []) (sym same_log) (subst (λ (l : List Record). Keeps behind.log (with_batch batches l) []) (sym same_rollback) keeps);
     place = ap log_place same_log ∙ at ∙ is.place;
     room = ap log_room same_log ∙ room ∙ is.room;
-    words = same_words ∙ rolled_back_words behind.words taken;
-    commits = same_commits ∙ ap (λ (x : State). x.commits) state ∙ commits-start read.state (records_of batches) is.state;
-    state = read.state;
-    reached = is.state;
-    next = next ∙ ap (λ (x : State). max behind.first (x.greatest + 1)) state ∙ ap (λ (n : ℕ). max n (read.state.greatest + 1)) (first ∙ is.first);
+    words = same_words ∙ taken ∙ rolled_words;
+    pages = same_pages ∙ ap (λ (x : Super). x.pages) (of ∙ is.of);
+    commits = same_commits ∙ ap (λ (x : State). x.commits) state ∙ commits-start s.pages s.first read.state (records_of batches) is.state;
+    next = next ∙ ap (λ (x : State). x.next) state ∙ sym (ap next_in is.state);
   }
+
+-- what is opened is a legal log
+pub opened_legal : (s : Super) (batches : List (List Record)) (read : Reading) (is : IsRead s batches read) (r : Result Recovered RecoverError) (behind : Reading)
+    → log_used read.log + reserve read.state ≤ log_room read.log → behind.state ≡ read.state → behind.words ≡ all_taken_back read.state read.words
+    → IfOk r (λ found. IsWalked behind.words behind.state.base behind.state.used) → IfOk r (IsRecovered s batches)
+    → IfOk r (λ found. (t : Super) × (bs : List (List Record)) × IsLegalLog t bs × IsRecovered t bs found)
+opened_legal s batches read is (Err e) behind room state taken walked found = tt
+opened_legal s batches read is (Ok f) behind room state taken walked found =
+    let passes = subst (λ (x : State). IsWalked behind.words x.base x.used) state walked in
+    (s, batches, read_legal s batches read is room behind.words taken passes, found)
+
+-- what is found in any case
+pub if_ok : (r : Result Recovered RecoverError) (P : Type 0) → P → IfOk r (λ found. P)
+if_ok (Ok found) P h = h
+if_ok (Err e) P h = tt
+
+-- the calls of an opening that ends well
+pub ok_passes : (r : Result Recovered RecoverError) (n before now : ℕ) → IsOk r → Passes n before now (Ok tt) → OpenPasses n before now r
+ok_passes (Ok found) n before now ok passes = passes
+ok_passes (Err e) n before now ok passes = cc ok
+
+-- a log that only took memory keeps what it did
+pub keeps_same : (old new : Log) (batches : List (List Record)) (pending : List Record) → IsSameLog old new → Keeps old batches pending → Keeps new batches pending
+keeps_same old new batches pending same keeps = record {
+  tail = same.place.tail ∙ keeps.tail;
+  head = keeps.head;
+  four = keeps.four;
+  items = same.hand ∙ keeps.items;
+  forced = same.place.forced ∙ keeps.forced;
+  count = same.count ∙ keeps.count;
+}
 
 -- A crash at any moment of an opening leaves what stands for the same graph and commits.
 pub opening_moments : {D : Type 0} (moment : D → ℕ) (left_since : D → ℕ → List ℕ → Type 0) (old mid new : D) (may_leave : List ℕ → Type 0) (now image : List ℕ) (g : Graph) (k : ℕ) (stands : StandsFor g k image) (read : Reading)
     → IsRead stands.super stands.batches read → Only image may_leave → now ≡ image → LeavesOnly moment left_since old mid may_leave
-    → LeavesOnly moment left_since mid new (λ c. SameOutside (log_place read.log) (log_place read.log + log_room read.log) now c × (HoldsBatches (part c (log_place read.log) (log_room read.log)) stands.batches ⊎ HoldsBatches (part c (log_place read.log) (log_room read.log)) (with_batch stands.batches (rollback_after read.state))))
+    → LeavesOnly moment left_since mid new (λ c. SameOutside (log_place read.log) (log_place read.log + log_room read.log) now c × (HoldsBatches (part c (log_place read.log) (log_room read.log)) stands.batches ⊎ HoldsBatches (part c (log_place read.log) (log_room read.log)) (with_batch stands.batches (rollback read.state))))
     → LeavesOnly moment left_since old new (StandsFor g k)
 opening_moments moment left_since old mid new may_leave now image g k stands read is only same first second =
     let s = stands.super in
     let batches = stands.batches in
-    let outside = outside_log s batches image stands.legal read is now in
+    let outside = outside_log s batches read is image now in
     weaker moment left_since old new _ (StandsFor g k) (joined moment left_since old mid new _ _ first second)
     (λ c. ⊎_elim (λ left. subst (StandsFor g k) (sym (only c left)) stands)
-    (λ found. ⊎_elim (λ holds. still_stands g k image c stands (outside c same found.0) (in_log s batches image stands.legal read is (λ n m. HoldsBatches (part c n m) batches) holds))
-    (λ holds. rolled_stands g k image c stands (outside c same found.0) (rolled_held s batches image stands.legal read is c holds)) found.1))
+    (λ found. ⊎_elim (λ holds. still_stands g k image c stands (outside c same found.0) (in_log s batches read is (λ n m. HoldsBatches (part c n m) batches) holds))
+    (λ holds. rolled_stands g k image c stands (outside c same found.0) (rolled_held s batches read is c holds)) found.1))

@@ -2,7 +2,10 @@
 #![tactic(auto)]
 
 mod at;
+mod error;
+mod reading;
 mod recovery;
 
 pub use at::At;
-pub use recovery::{END_BYTES, OpenError, Recovered, UNDO_BYTES, recover, root_values};
+pub use error::RecoverError;
+pub use recovery::{Recovered, recover};

@@ -1,1 +1,4 @@
+pub mod Header
+pub mod HeaderLaws
 pub mod Word
+pub mod WordLaws

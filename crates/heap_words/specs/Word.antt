@@ -1,5 +1,5 @@
 -- What a field's word means.
-use Rattle.std.specs.Prelude.{◌≡◌, ℕ, ◌+◌, ◌*◌, ◌^◌, ◌<◌}
+use Rattle.std.specs.Prelude.{◌≡◌, ℕ, ◌+◌, ◌*◌, ◌/◌, ◌%◌, ◌^◌, ◌<◌, ◌==◌, nat_lt, Option, None, Some, if◌then◌else◌}
 use Rattle.heap_words.specs.declared.Word.{Word}
 use Rattle.heap_words.specs.declared.Word.TheVariants.{Null, Int, Stable, Volatile}
 
@@ -20,3 +20,11 @@ IsWord (Volatile index) = index < 4096
 -- a word that a field may have
 abbrev pub IsFieldWord : ℕ → Type 0
 IsFieldWord w = (word : Word) × IsWord word × (w ≡ bits word)
+
+-- what a word means, if it is a field's word
+unfoldable pub meaning : ℕ → Option Word
+meaning w =
+    if w == 0 then Some Null
+    else (if w % 4 == 1 then (if nat_lt (w / 4) (2 ^ 62) then Some (Int (w / 4)) else None)
+    else (if w % 4 == 2 then (if nat_lt (w / 4) 2097152 then Some (Stable (w / 4)) else None)
+    else (if w % 4 == 3 then (if nat_lt (w / 4) 4096 then Some (Volatile (w / 4)) else None) else None)))

@@ -1,9 +1,10 @@
-//! The 64-bit words of an object's fields, and what they mean.
+//! The 64-bit words of objects, and what they mean: an object is a header, the word of its birth and its fields.
 #![tactic(auto)]
 
 ghost use Rattle.std.specs.Prelude.{◌≡◌, Some, IfSome};
+ghost use Rattle.heap_words.specs.Header.{header, birth_bits};
 ghost use Rattle.heap_words.specs.declared.Word.{Word};
-ghost use Rattle.heap_words.specs.Word.{bits, IsWord};
+ghost use Rattle.heap_words.specs.Word.{bits, IsWord, meaning};
 
 /// The stable words of the largest heap.
 pub const STABLE_WORDS: u32 = 2_097_152;
@@ -13,6 +14,9 @@ pub const VOLATILE_WORDS: u32 = 4_096;
 
 /// The first whole number that is too large for a word.
 pub const NO_INT: u64 = 4_611_686_018_427_387_904;
+
+/// The most fields that an object has.
+pub const MOST_FIELDS: u32 = 510;
 
 /// What a field's word means.
 #[derive(Clone, Copy, Debug, PartialEq, Eq)]
@@ -41,9 +45,11 @@ pub fn encode(word: Word) -> u64
 }
 
 /// What the word means, if it is a field's word.
+#[tactic(auto, unfolding(crate::specs::Word::meaning))]
 pub fn decode(w: u64) -> Option<Word>
     ensures found { IfSome result (λ word. IsWord word × (w ≡ bits word)) }
     ensures only { (word : Word) → IsWord word → w ≡ bits word → result ≡ Some word }
+    ensures read { result ≡ meaning w }
 {
     let rest = w / 4;
     match w % 4 {
@@ -53,4 +59,33 @@ pub fn decode(w: u64) -> Option<Word>
         _ if w == 0 => Some(Word::Null),
         _ => None,
     }
+}
+
+/// What stands in front of an object.
+#[derive(Clone, Copy, Debug, PartialEq, Eq)]
+pub enum Header {
+    /// The object has that many fields, at most 510.
+    Length(u32),
+    /// The object was moved to that word address, below 2,097,152.
+    Forward(u32),
+}
+
+/// What the word says as a header, if it is one.
+#[tactic(auto, unfolding(crate::specs::Header::header))]
+pub fn header_of(w: u64) -> Option<Header>
+    ensures { result ≡ header w }
+{
+    let rest = w / 4;
+    match w % 4 {
+        1 if rest <= u64::from(MOST_FIELDS) => Some(Header::Length(rest as u32)),
+        2 if rest < u64::from(STABLE_WORDS) => Some(Header::Forward(rest as u32)),
+        _ => None,
+    }
+}
+
+/// The birth word of the `k`th object that transaction `t` made.
+pub fn birth(t: u32, k: u32) -> u64
+    ensures { result ≡ birth_bits t k }
+{
+    u64::from(t) << 32 | u64::from(k)
 }

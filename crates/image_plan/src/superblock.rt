@@ -1,9 +1,9 @@
 //! The superblock at the front of an image, and its bytes.
-ghost use Rattle.std.specs.Prelude.{◌≡◌, ◌≤◌, ◌↔◌, drop, Some, IfSome, IsTrue};
-ghost use Rattle.std.specs.Int.{w32, from_le_bytes};
+ghost use Rattle.std.specs.Prelude.{◌≡◌, ◌↔◌, Some, IfSome, IsTrue};
 ghost use Rattle.image_plan.specs.Super.{IsSuper, superblock};
 
 use crate::plan::{LEAST_LOG, MOST_LOG, MOST_PAGES, Plan, SUPER_BYTES};
+use byteorder::{ByteOrder, LittleEndian};
 
 /// The first byte of a heap's image, its gate, where it is open.
 const OPEN_GATE: u8 = 1;
@@ -50,18 +50,11 @@ pub fn write_super(of: &Super) -> [u8; SUPER_BYTES]
     let mut bytes = [0u8; SUPER_BYTES];
     bytes[0] = OPEN_GATE;
     bytes[1..8].copy_from_slice(&MAGIC);
-    bytes[8..12].copy_from_slice(&FORMAT.to_le_bytes());
-    bytes[12..16].copy_from_slice(&of.pages.to_le_bytes());
-    bytes[16..20].copy_from_slice(&of.log_bytes.to_le_bytes());
-    bytes[20..24].copy_from_slice(&of.first.to_le_bytes());
+    LittleEndian::write_u32(&mut bytes[8..], FORMAT);
+    LittleEndian::write_u32(&mut bytes[12..], of.pages);
+    LittleEndian::write_u32(&mut bytes[16..], of.log_bytes);
+    LittleEndian::write_u32(&mut bytes[20..], of.first);
     bytes
-}
-
-fn u32_at(bytes: &[u8; SUPER_BYTES], at: usize) -> u32
-    requires { at ≤ 60 }
-    ensures { result ≡ from_le_bytes w32 (drop at bytes.now) }
-{
-    u32::from_le_bytes([bytes[at], bytes[at + 1], bytes[at + 2], bytes[at + 3]])
 }
 
 /// What the superblock says, if the bytes are one with its gate open.
@@ -70,9 +63,9 @@ pub fn read_super(bytes: &[u8; SUPER_BYTES]) -> Option<Super>
     ensures only { (s : Super) → IsSuper s → bytes.now ≡ superblock s → result ≡ Some s }
 {
     let found = Super {
-        pages: u32_at(bytes, 12),
-        log_bytes: u32_at(bytes, 16),
-        first: u32_at(bytes, 20),
+        pages: LittleEndian::read_u32(&bytes[12..]),
+        log_bytes: LittleEndian::read_u32(&bytes[16..]),
+        first: LittleEndian::read_u32(&bytes[20..]),
     };
     if found.is_within_limits() && write_super(&found).as_slice() == bytes.as_slice() {
         Some(found)

@@ -1,1 +1,3 @@
-pub mod Inside
+pub mod Seen
+pub mod Lists
+pub mod Consistent

@@ -1,14 +1,17 @@
--- Whose record it is, and where it writes.
-use Rattle.std.specs.Prelude.{ℕ, ◌+◌, ◌<◌}
+-- Where a record writes, and what it asks of memory.
+use Rattle.std.specs.Prelude.{ℕ, ◌<◌, List}
+use Rattle.std.specs.List.{AllByRecursion}
 use Rattle.log_records.specs.declared.Record.{Record}
 use Rattle.log_records.specs.declared.Record.TheVariants.{Update, Undo, Commit, End}
+use Rattle.log_machine.specs.Machine.{effect}
 
--- a record writes within the used words, those of the root object
-abbrev pub IsInside : Record → Type 0
-IsInside (Update t object field was word) = object + 2 + field < 6
-IsInside (Undo t object field word) = object + 2 + field < 6
-IsInside (Commit t) = Unit {0}
-IsInside (End t) = Unit {0}
+-- a record writes only words below an address
+abbrev pub WritesBelow : ℕ → Record → Type 0
+WritesBelow end rec = AllByRecursion (λ w. w.0 < end) (effect rec)
+
+-- so do these
+abbrev pub EachWritesBelow : ℕ → List Record → Type 0
+EachWritesBelow end records = AllByRecursion (WritesBelow end) records
 
 -- a record adds a write that may be taken back
 abbrev pub AddsEntry : Record → Type 0
@@ -16,10 +19,3 @@ AddsEntry (Update t object field was word) = Unit {0}
 AddsEntry (Undo t object field word) = ⊥
 AddsEntry (Commit t) = ⊥
 AddsEntry (End t) = ⊥
-
--- the transaction of a record
-abbrev pub number_of : Record → ℕ
-number_of (Update t object field was word) = t
-number_of (Undo t object field word) = t
-number_of (Commit t) = t
-number_of (End t) = t

@@ -1,31 +1,114 @@
 -- What a list of records says: the words that they leave, which writes may still be taken back, and which records can follow.
-use Rattle.std.specs.Prelude.{ℕ, ◌+◌, ◌*◌, ◌==◌, nat_lt, List, [], ◌∷◌, length, Bool, true, false, not, ◌&&◌, Option, None, Some, fold, max, slice_set, count_by, option_and_then, if◌then◌else◌}
+use Rattle.std.specs.Prelude.{ℕ, ◌+◌, ◌*◌, ◌==◌, nat_lt, nat_le, List, [], ◌∷◌, length, replicate, Bool, true, false, ◌&&◌, Option, None, Some, fold, max, slice_set, count_by, sum_by, unwrap_or, option_and_then, if◌then◌else◌}
+use Rattle.std.specs.List.{flat_map}
+use Rattle.std.specs.Ordering.{nat_cmp}
+use Rattle.std.specs.FinMap.{FinMap}
+use Rattle.std.specs.FinMap as map
 use Rattle.log_records.specs.declared.Record.{Record}
 use Rattle.log_records.specs.declared.Record.TheVariants.{Update, Undo, Commit, End}
 use Rattle.log_machine.specs.declared.UndoEntry.{UndoEntry}
 
--- the first contents of the used words: the root object's header, its birth and its four null fields
-abbrev pub first_contents : List ℕ
-first_contents = 17 ∷ 0 ∷ 0 ∷ 0 ∷ 0 ∷ 0 ∷ []
+-- The words.
+
+-- how many words the pages of both spaces have
+abbrev pub words_in : ℕ → ℕ
+words_in pages = 128 * pages
+
+-- the first contents of the words: the root object's header at address 0 and zero everywhere else, its birth and its null fields too
+abbrev pub first_contents : ℕ → List ℕ
+first_contents pages = slice_set (replicate (words_in pages) 0) 0 17
+
+-- the address of a field of the object at an address
+abbrev pub field_at : ℕ → ℕ → ℕ
+field_at object field = object + 2 + field
+
+-- a record's effect: the addresses that it writes, each with its word
+abbrev pub effect : Record → List (ℕ × ℕ)
+effect (Update t object field was word) = (field_at object field, word) ∷ []
+effect (Undo t object field word) = (field_at object field, word) ∷ []
+effect (Commit t) = []
+effect (End t) = []
+
+-- the words with these written at their addresses
+abbrev pub put_all : List ℕ → List (ℕ × ℕ) → List ℕ
+put_all words writes = fold (λ now w. slice_set now w.0 w.1) words writes
 
 -- the words in which one stands in a field of the object at an address
 abbrev pub with_word : List ℕ → ℕ → ℕ → ℕ → List ℕ
-with_word words object field word = slice_set words (object + 2 + field) word
+with_word words object field word = slice_set words (field_at object field) word
 
--- a record's effect on the words
+-- the words with a record's effect
 abbrev pub put_record : List ℕ → Record → List ℕ
-put_record words (Update t object field was word) = with_word words object field word
-put_record words (Undo t object field word) = with_word words object field word
-put_record words rec = words
+put_record words rec = put_all words (effect rec)
 
--- the words after these records
-abbrev pub words : List Record → List ℕ
-words records = fold put_record first_contents records
+-- the words of a heap of so many pages after these records
+abbrev pub words : ℕ → List Record → List ℕ
+words pages records = fold put_record (first_contents pages) records
 
 -- the words when these writes are taken back, the newest first
 abbrev pub taken_back : List UndoEntry → List ℕ → List ℕ
 taken_back [] words = words
 taken_back (u ∷ us) words = taken_back us (with_word words u.object u.field u.was)
+
+-- The state.
+
+-- What the records so far say.
+pub record State : Type 0 where
+  pub pages : ℕ  -- how many pages each of the two spaces has
+  pub base : ℕ  -- the address of the current space's first word
+  pub used : ℕ  -- how many words of the current space its objects take
+  pub undo : FinMap nat_cmp (List UndoEntry)  -- of each transaction whose writes may be taken back, what they replaced, the newest first
+  pub commits : ℕ  -- how many transactions are committed
+  pub next : ℕ  -- the number of the next transaction
+
+-- before the first record, in a heap whose first transaction has this number
+abbrev pub start : ℕ → ℕ → State
+start pages first = record { pages = pages; base = 0; used = 6; undo = map.empty; commits = 0; next = first }
+
+-- the writes of a transaction that may be taken back, the newest first
+abbrev pub undo_in : FinMap nat_cmp (List UndoEntry) → ℕ → List UndoEntry
+undo_in undo t = unwrap_or (map.get undo t) []
+
+abbrev pub undo_of : State → ℕ → List UndoEntry
+undo_of s t = undo_in s.undo t
+
+-- the transactions whose writes may be taken back, ascending
+abbrev pub losers : State → List ℕ
+losers s = map.keys s.undo
+
+-- with these as the writes of a transaction that may be taken back
+abbrev pub with_entries : FinMap nat_cmp (List UndoEntry) → ℕ → List UndoEntry → FinMap nat_cmp (List UndoEntry)
+with_entries undo t [] = map.remove undo t
+with_entries undo t (u ∷ us) = map.insert undo t (u ∷ us)
+
+-- The records.
+
+-- the transaction of a record
+abbrev pub number_of : Record → ℕ
+number_of (Update t object field was word) = t
+number_of (Undo t object field word) = t
+number_of (Commit t) = t
+number_of (End t) = t
+
+-- a number that a transaction can have
+abbrev pub is_number : ℕ → Bool
+is_number t = nat_le 1 t && nat_le t 4294967294
+
+-- the field lies in the used words of the current space
+abbrev pub lies_inside : State → ℕ → ℕ → Bool
+lies_inside s object field = nat_le s.base object && nat_lt (field_at object field) (s.base + s.used)
+
+abbrev pub is_same_write : UndoEntry → UndoEntry → Bool
+is_same_write u v = u.object == v.object && u.field == v.field && u.was == v.was
+
+-- the writes without the newest, if that is this one
+abbrev pub without_newest : List UndoEntry → UndoEntry → Option (List UndoEntry)
+without_newest [] write = None
+without_newest (u ∷ us) write = if is_same_write u write then Some us else None
+
+abbrev pub has_none : List UndoEntry → Bool
+has_none [] = true
+has_none (u ∷ us) = false
 
 abbrev pub is_commit : Record → Bool
 is_commit (Commit t) = true
@@ -35,77 +118,76 @@ is_commit rec = false
 abbrev pub commits : List Record → ℕ
 commits records = count_by is_commit records
 
--- What the records so far say.
-pub record State : Type 0 where
-  pub writer : ℕ  -- the transaction whose writes may still be taken back, if there are any
-  pub undo : List UndoEntry  -- what these writes replaced, the newest first
-  pub commits : ℕ  -- how many transactions are committed
-  pub greatest : ℕ  -- the greatest number of a transaction
+-- the state after a record of a transaction that leaves these writes to be taken back
+abbrev pub turned : State → ℕ → FinMap nat_cmp (List UndoEntry) → ℕ → State
+turned s t undo more = record { pages = s.pages; base = s.base; used = s.used; undo = undo; commits = s.commits + more; next = max s.next (t + 1) }
 
-abbrev pub start : State
-start = record { writer = 0; undo = []; commits = 0; greatest = 0 }
-
--- a transaction writes or commits while no other's writes may be taken back
-abbrev pub may_write : ℕ → List UndoEntry → ℕ → Bool
-may_write writer [] t = true
-may_write writer (u ∷ us) t = writer == t
-
--- the transaction has no writes that may be taken back
-abbrev pub has_ended : ℕ → List UndoEntry → ℕ → Bool
-has_ended writer [] t = true
-has_ended writer (u ∷ us) t = not (writer == t)
-
-abbrev pub is_same_write : UndoEntry → UndoEntry → Bool
-is_same_write u v = u.object == v.object && u.field == v.field && u.was == v.was
-
--- The writes without the newest, if that is one of the transaction's and this one.
-abbrev pub without_newest : ℕ → List UndoEntry → ℕ → UndoEntry → Option (List UndoEntry)
-without_newest writer [] t write = None
-without_newest writer (u ∷ us) t write = if writer == t && is_same_write u write then Some us else None
+-- the state after one record more of a transaction whose number is one, if the record can follow
+abbrev pub row_after : State → Record → Option State
+row_after s (Update t object field was word) =
+    if lies_inside s object field
+    then Some (turned s t (map.insert s.undo t (record { object = object; field = field; was = was } ∷ undo_of s t)) 0) else None
+row_after s (Undo t object field word) =
+    option_and_then (λ rest. Some (turned s t (with_entries s.undo t rest) 0))
+    (without_newest (undo_of s t) (record { object = object; field = field; was = word }))
+row_after s (Commit t) = Some (turned s t (map.remove s.undo t) 1)
+row_after s (End t) = if has_none (undo_of s t) then Some (turned s t s.undo 0) else None
 
 -- the state after one record more, if it can follow
 abbrev pub after : State → Record → Option State
-after s (Update t object field was word) =
-    if nat_lt (object + 2 + field) 6 && may_write s.writer s.undo t
-    then Some (record { writer = t; undo = record { object = object; field = field; was = was } ∷ s.undo; commits = s.commits; greatest = max s.greatest t }) else None
-after s (Undo t object field word) =
-    option_and_then (λ rest. Some (record { writer = t; undo = rest; commits = s.commits; greatest = max s.greatest t }))
-    (without_newest s.writer s.undo t (record { object = object; field = field; was = word }))
-after s (Commit t) =
-    if may_write s.writer s.undo t
-    then Some (record { writer = t; undo = []; commits = s.commits + 1; greatest = max s.greatest t }) else None
-after s (End t) =
-    if has_ended s.writer s.undo t
-    then Some (record { writer = s.writer; undo = s.undo; commits = s.commits; greatest = max s.greatest t }) else None
+after s rec = if is_number (number_of rec) then row_after s rec else None
 
 -- the state after these records, if each of them can follow
 abbrev pub after_all : State → List Record → Option State
 after_all s [] = Some s
 after_all s (r ∷ rs) = option_and_then (λ next. after_all next rs) (after s r)
 
-abbrev pub undo_in : Option State → List UndoEntry
-undo_in None = []
-undo_in (Some s) = s.undo
+-- What is taken back.
 
--- the writes that may be taken back after these records
-abbrev pub undo_of : List Record → List UndoEntry
-undo_of records = undo_in (after_all start records)
+-- a transaction's number, and its writes that may be taken back
+abbrev pub Loser : Type 0
+Loser = ℕ × List UndoEntry
 
--- the words after these records, without the writes of a transaction that has not ended
-abbrev pub committed_words : List Record → List ℕ
-committed_words records = taken_back (undo_of records) (words records)
+-- the transactions whose writes may be taken back, ascending, each with these
+abbrev pub losing : State → List Loser
+losing s = map.entries s.undo
+
+-- the words when all these writes are taken back, of one transaction after another
+abbrev pub each_taken_back : List Loser → List ℕ → List ℕ
+each_taken_back entries words = fold (λ now e. taken_back e.1 now) words entries
+
+-- the words without the writes of transactions that have not ended
+abbrev pub all_taken_back : State → List ℕ → List ℕ
+all_taken_back s words = each_taken_back (losing s) words
+
+abbrev pub losing_in : Option State → List Loser
+losing_in None = []
+losing_in (Some s) = losing s
+
+-- the words after these records, without the writes of transactions that have not ended
+abbrev pub committed_words : ℕ → ℕ → List Record → List ℕ
+committed_words pages first records = each_taken_back (losing_in (after_all (start pages first) records)) (words pages records)
 
 -- the records that take a transaction's writes back, the newest first, and end it
 abbrev pub abort_records : ℕ → List UndoEntry → List Record
 abort_records t [] = End t ∷ []
 abort_records t (u ∷ us) = Undo t u.object u.field u.was ∷ abort_records t us
 
--- the records that an opening appends: where writes may be taken back, it takes them back
-abbrev pub rollback : ℕ → List UndoEntry → List Record
-rollback writer [] = []
-rollback writer (u ∷ us) = abort_records writer (u ∷ us)
+abbrev pub abort_each : List Loser → List Record
+abort_each entries = flat_map (λ e. abort_records e.0 e.1) entries
 
--- the log's bytes that are kept to take these writes back: a record and a batch, and a record for each write
-abbrev pub undo_reserve : List UndoEntry → ℕ
-undo_reserve [] = 0
-undo_reserve (u ∷ us) = 10 + 19 * length (u ∷ us)
+-- the records that an opening appends: they take back the writes of each transaction that has not ended, ascending
+abbrev pub rollback : State → List Record
+rollback s = abort_each (losing s)
+
+-- the log's bytes that are kept to take so many writes of a transaction back: a batch, an End, and an Undo for each write
+abbrev pub end_bytes : ℕ → ℕ
+end_bytes writes = 10 + 19 * writes
+
+-- those for a transaction's writes
+abbrev pub undo_bytes : List UndoEntry → ℕ
+undo_bytes entries = end_bytes (length entries)
+
+-- the log's bytes that are kept to take all of them back
+abbrev pub reserve : State → ℕ
+reserve s = sum_by (λ e. undo_bytes e.1) (losing s)

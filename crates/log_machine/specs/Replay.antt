@@ -1,57 +1,76 @@
--- How the state and the words follow records, one after another from the first.
-use Rattle.std.proofs.Common.{◌≡◌, ℕ, zero, suc, ◌+◌, ◌<◌, ◌≤◌, List, [], ◌∷◌, ◌++◌, length, get_or, take, drop, None, Some, sym, ◌∙◌, ap, subst, arith, take-append-drop}
-use Rattle.std.specs.List.{AllByRecursion}
-use Rattle.std.proofs.lemmas.List.{take_more, drop_more}
-use Rattle.std.proofs.lemmas.Option.{option_and_then_some}
+-- How the state and the words follow records, one after another from the first, and the first that can't follow.
+use Rattle.std.proofs.Common.{◌≡◌, ℕ, ◌+◌, ◌-◌, ◌*◌, ◌<◌, ◌≤◌, true, List, [], ◌∷◌, ◌++◌, length, get_or, take, drop, Option, None, Some, is_some, refl, sym, ◌∙◌, ap, subst, arith, take-append-drop}
+use Rattle.std.specs.Prelude.{option_and_then}
+use Rattle.std.proofs.lemmas.List.{take_more}
 use Rattle.log_records.specs.declared.Record.{Record}
-use Rattle.log_records.specs.declared.Record.TheVariants.{Update, Undo, Commit, End}
-use Rattle.log_records.specs.Record.{IsRecord}
-use Rattle.log_machine.specs.Machine.{State, start, after, after_all, put_record, words}
-use Rattle.log_machine.specs.MachineLaws.{after_all-append, after_all_none, words-append, told_if, with_rest}
+use Rattle.log_machine.specs.Machine.{State, start, after, after_all, put_record, words, words_in, reserve}
+use Rattle.log_machine.specs.MachineLaws.{after_all-append, after_all-append2, after_all_none, words-append}
+use Rattle.log_machine.specs.Effect.{WritesBelow}
+use Rattle.log_machine.specs.Sound.{IsSound}
+use Rattle.log_machine.specs.WordsLaws.{length-words}
+use Rattle.log_machine.specs.StateLaws.{sound_start, sound_after, leads_after, commits_few}
+use Rattle.log_machine.specs.ReserveLaws.{reserve-start, reserve-after}
 
--- The state behind i records has at most i commits, and the greatest number is a transaction's or 0.
-pub record Bounds (i : ℕ) (s : State) : Type 0 where
+-- The record with an LSN is the first that can't follow those before it.
+pub record IsFirstUnshaped (s : State) (records : List Record) (lsn : ℕ) : Type 0 where
+  pub before : is_some (after_all s (take (lsn - 1) records)) ≡ true
+  pub stuck : after_all s (take lsn records) ≡ None
+
+-- What holds of the state behind i records.
+pub record Bounds (pages i : ℕ) (s : State) : Type 0 where
+  pub sound : IsSound s
+  pub same_pages : s.pages ≡ pages
   pub few : s.commits ≤ i
-  pub small : s.greatest ≤ 4294967294
+  pub room : reserve s ≤ 29 * i
 
 -- before the first record
-pub bounds_start : Bounds 0 start
-bounds_start = record { few = omega arith; small = omega arith }
+pub bounds_start : (pages first : ℕ) → Bounds pages 0 (start pages first)
+bounds_start pages first =
+    let none = reserve-start pages first in
+    record { sound = sound_start pages first; same_pages = refl; few = omega arith; room = omega arith }
 
--- one record more adds at most one commit, and its number may be the greatest
-pub bounds_on : (i : ℕ) (r : Record) (s n : State) → IsRecord r → Bounds i s → after s r ≡ Some n → Bounds (i + 1) n
-bounds_on i (Update t object field was word) s n good b is =
-    subst (λ (x : State). Bounds (i + 1) x) (told_if _ _ _ is).1 (record { few = omega (arith, b.few); small = omega (arith, b.small, good.number.small) })
-bounds_on i (Undo t object field word) s n good b is = option_and_then_some (λ rest. Some (with_rest s t rest)) _ n is (λ rest newest taken.
-    let same : with_rest s t rest ≡ n = cc taken in
-    subst (λ (x : State). Bounds (i + 1) x) same (record { few = omega (arith, b.few); small = omega (arith, b.small, good.number.small) }))
-bounds_on i (Commit t) s n good b is =
-    subst (λ (x : State). Bounds (i + 1) x) (told_if _ _ _ is).1 (record { few = omega (arith, b.few); small = omega (arith, b.small, good.small) })
-bounds_on i (End t) s n good b is =
-    subst (λ (x : State). Bounds (i + 1) x) (told_if _ _ _ is).1 (record { few = omega (arith, b.few); small = omega (arith, b.small, good.small) })
-
--- the record at a place is as good as all
-pub good_at : (rs : List Record) (i : ℕ) (d : Record) → i < length rs → AllByRecursion IsRecord rs → IsRecord (get_or rs i d)
-good_at [] i d lt good = absurd (omega arith)
-good_at (r ∷ rs) zero d lt good = good.0
-good_at (r ∷ rs) (suc i) d lt good = good_at rs i d (omega arith) good.1
+-- and with one more
+pub bounds_on : (pages i : ℕ) (r : Record) (s n : State) → Bounds pages i s → after s r ≡ Some n → Bounds pages (i + 1) n
+bounds_on pages i r s n b is =
+    let leads = leads_after s n r is in
+    let counted = commits_few s n r is in
+    let kept = reserve-after s n r b.sound is in
+    record { sound = sound_after s n r b.sound is; same_pages = leads.pages ∙ b.same_pages; few = omega (arith, b.few); room = omega (arith, b.room) }
 
 -- the records up to a place, and with that one
 front : (rs : List Record) (i : ℕ) (d : Record) → i < length rs → take (i + 1) rs ≡ take i rs ++ get_or rs i d ∷ []
 front rs i d lt = take_more rs i d lt
 
--- the records before a place, that one, and those behind it
-parts : (rs : List Record) (i : ℕ) (d : Record) → i < length rs → rs ≡ take i rs ++ get_or rs i d ∷ drop (i + 1) rs
-parts rs i d lt = sym (take-append-drop i rs) ∙ ap (λ (l : List Record). take i rs ++ l) (drop_more rs i d lt)
-
 -- the state with the record at a place
-pub state_on : (rs : List Record) (i : ℕ) (d : Record) (m n : State) → i < length rs → after_all start (take i rs) ≡ Some m → after m (get_or rs i d) ≡ Some n → after_all start (take (i + 1) rs) ≡ Some n
-state_on rs i d m n lt so_far is = ap (λ (l : List Record). after_all start l) (front rs i d lt) ∙ after_all-append start m (take i rs) (get_or rs i d) so_far ∙ is
+pub state_on : (s : State) (rs : List Record) (i : ℕ) (d : Record) (m n : State) → i < length rs → after_all s (take i rs) ≡ Some m → after m (get_or rs i d) ≡ Some n → after_all s (take (i + 1) rs) ≡ Some n
+state_on s rs i d m n lt so_far is = ap (λ (l : List Record). after_all s l) (front rs i d lt) ∙ after_all-append s m (take i rs) (get_or rs i d) so_far ∙ is
 
 -- the words with the record at a place
-pub words_on : (rs : List Record) (i : ℕ) (d : Record) (old new : List ℕ) → i < length rs → old ≡ words (take i rs) → new ≡ put_record old (get_or rs i d) → new ≡ words (take (i + 1) rs)
-words_on rs i d old new lt so_far is = is ∙ ap (λ (l : List ℕ). put_record l (get_or rs i d)) so_far ∙ sym (words-append (take i rs) (get_or rs i d ∷ [])) ∙ ap words (sym (front rs i d lt))
+pub words_on : (pages : ℕ) (rs : List Record) (i : ℕ) (d : Record) (old new : List ℕ) → i < length rs → old ≡ words pages (take i rs) → new ≡ put_record old (get_or rs i d) → new ≡ words pages (take (i + 1) rs)
+words_on pages rs i d old new lt so_far is =
+    is ∙ ap (λ (l : List ℕ). put_record l (get_or rs i d)) so_far ∙ sym (words-append pages (take i rs) (get_or rs i d ∷ [])) ∙ ap (words pages) (sym (front rs i d lt))
 
--- the records can't all follow one another, where one at a place can't
-pub none_on : (rs : List Record) (i : ℕ) (d : Record) (m : State) → i < length rs → after_all start (take i rs) ≡ Some m → after m (get_or rs i d) ≡ None → after_all start rs ≡ None
-none_on rs i d m lt so_far stuck = ap (λ (l : List Record). after_all start l) (parts rs i d lt) ∙ after_all_none start m (take i rs) (get_or rs i d) (drop (i + 1) rs) so_far stuck
+-- the record at a place is the first that can't follow, where those before it do
+pub unshaped_at : (s : State) (rs : List Record) (i : ℕ) (d : Record) (m : State) → i < length rs → after_all s (take i rs) ≡ Some m → after m (get_or rs i d) ≡ None → IsFirstUnshaped s rs (i + 1)
+unshaped_at s rs i d m lt so_far stuck = record {
+  before = ap (λ n. is_some (after_all s (take n rs))) (omega arith) ∙ ap is_some so_far;
+  stuck = ap (λ (l : List Record). after_all s l) (front rs i d lt) ∙ after_all-append s m (take i rs) (get_or rs i d) so_far ∙ stuck;
+}
+
+-- records behind one that can't follow
+stuck_in : (o : Option State) (rs rest : List Record) → ((n : State) → after_all n rs ≡ None → after_all n (rs ++ rest) ≡ None)
+    → option_and_then (λ n. after_all n rs) o ≡ None → option_and_then (λ n. after_all n (rs ++ rest)) o ≡ None
+stuck_in None rs rest step stuck = refl
+stuck_in (Some n) rs rest step stuck = step n stuck
+
+stuck_behind : (s : State) (rs rest : List Record) → after_all s rs ≡ None → after_all s (rs ++ rest) ≡ None
+stuck_behind s [] rest stuck = absurd (cc stuck)
+stuck_behind s (r ∷ rs) rest stuck = stuck_in (after s r) rs rest (λ n. stuck_behind n rs rest) stuck
+
+-- and then the records can't all follow one another
+pub none_follow : (s : State) (rs : List Record) (lsn : ℕ) → IsFirstUnshaped s rs lsn → after_all s rs ≡ None
+none_follow s rs lsn first = ap (λ (l : List Record). after_all s l) (sym (take-append-drop lsn rs)) ∙ stuck_behind s (take lsn rs) (drop lsn rs) first.stuck
+
+-- what the state lets a record write lies within the words
+pub within_words : (pages : ℕ) (rs : List Record) (now : List ℕ) (s : State) (r : Record) → now ≡ words pages rs → s.pages ≡ pages → WritesBelow (words_in s.pages) r → WritesBelow (length now) r
+within_words pages rs now s r is same below = subst (λ n. WritesBelow n r) (sym (ap length is ∙ length-words pages rs ∙ ap words_in (sym same))) below

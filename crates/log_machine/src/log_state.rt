@@ -1,16 +1,21 @@
 //! The state of the heap after a list of records.
-ghost use Rattle.std.specs.Prelude.{◌≡◌, ◌+◌, ◌<◌, ◌^◌, ◌↔◌, ◌∷◌, None, Some, IfOk, OnOk, OnErr, is_some, nat_lt, reverse};
+ghost use Rattle.std.specs.Prelude.{◌≡◌, ◌+◌, ◌<◌, ◌≤◌, ◌^◌, ◌↔◌, ◌∷◌, [], None, Some, IfOk, OnOk, OnErr, IsTrue, is_some, true, drop, reverse, nat_lt};
 ghost use Rattle.std.specs.List.{AllByRecursion};
+ghost use Rattle.std.specs.FinMap as map;
 ghost use Rattle.log_records.specs.declared.Record.TheVariants.{Update, Undo, Commit, End};
-ghost use Rattle.log_machine.specs.Machine.{start, may_write, has_ended, without_newest, after, rollback};
-ghost use Rattle.log_machine.specs.Effect.{IsInside, AddsEntry, number_of};
+ghost use Rattle.log_machine.specs.Machine.{start, undo_of, losers, with_entries, words_in, field_at, number_of, is_number, lies_inside, without_newest, has_none, turned, row_after, after, reserve, rollback};
+ghost use Rattle.log_machine.specs.Effect.{WritesBelow, EachWritesBelow, AddsEntry};
 ghost use Rattle.log_machine.specs.UndoEntry.{LiesInside};
 
+use crate::{LAST_NUMBER, UndoEntry};
 use crate::page_words::{FIELDS_AT, ROOT_WORDS};
-use crate::{UndoEntry, abort_records};
+use crate::undo_lists::UndoLists;
 use log_records::Record;
 use std::alloc::{AllocError, Global};
 use std::marker::Model;
+
+/// The greatest number of a transaction.
+pub const LAST_NUMBER: u32 = 4_294_967_294;
 
 /// Why a record was not taken.
 #[derive(Clone, Copy, Debug, PartialEq, Eq)]
@@ -32,55 +37,62 @@ impl From<AllocError> for AfterError {
     }
 }
 
-/// What the records so far say: which writes may be taken back, how many transactions are committed, and the greatest number.
+/// What the records so far say: which writes may be taken back, how many transactions are committed, and the number of the
+/// next one.
 #[derive(Debug, Drop)]
 pub struct LogState {
-    writer: u32,
-    /// The newest stands last.
-    undo: Vec<UndoEntry>,
+    pages: u32,
+    base: u32,
+    used: u32,
+    undo: UndoLists,
     commits: u64,
-    greatest: u32,
+    next: u32,
 }
 
 impl Model for LogState {
-    ghost use Rattle.std.specs.Prelude.{reverse};
-    ghost use Rattle.std.specs.List.{AllByRecursion};
     ghost use Rattle.log_machine.specs.Machine.{State};
-    ghost use Rattle.log_machine.specs.UndoEntry.{LiesInside};
+    ghost use Rattle.log_machine.specs.Sound.{IsConsistent};
+    ghost use Rattle.log_machine.specs.StateCode.{state_code};
 
     ghost Value = { State };
 
-    ghost view = { λ s. record { writer = s.writer; undo = reverse s.undo.items; commits = s.commits; greatest = s.greatest } };
+    ghost coded = { state_code };
 
-    ghost invariant = { λ s. AllByRecursion LiesInside s.undo.items };
+    ghost view = { λ s. record { pages = s.pages; base = s.base; used = s.used; undo = s.undo; commits = s.commits; next = s.next } };
+
+    ghost invariant = { λ s. IsConsistent (record { pages = s.pages; base = s.base; used = s.used; undo = s.undo; commits = s.commits; next = s.next }) };
 }
 
 impl LogState {
-    /// Before the first record. It takes no memory.
-    pub fn start(alloc: Global) -> LogState
-        ensures { result ≡ start }
+    /// Before the first record, in a heap of two spaces of so many pages whose first transaction has the number `first`. It takes
+    /// no memory.
+    pub fn start(alloc: Global, pages: u32, first: u32) -> LogState
+        requires { 1 ≤ pages }
+        ensures { result ≡ start pages first }
     {
         LogState {
-            writer: 0,
-            undo: Vec::new(alloc),
+            pages,
+            base: 0,
+            used: ROOT_WORDS,
+            undo: UndoLists::new(alloc),
             commits: 0,
-            greatest: 0,
+            next: first,
         }
     }
 
-    /// The number of the transaction whose writes may still be taken back, if there are any; 0 before the first record.
-    pub fn writer(&self) -> u32
-        ensures { result ≡ self.now.writer }
+    /// What the writes of transaction `t` replaced that may be taken back. The newest stands last.
+    pub fn undo_list(&self, t: u32) -> &[UndoEntry]
+        ensures entries { reverse result.now ≡ undo_of self.now t }
+        ensures inside { AllByRecursion (LiesInside self.now.base self.now.used) result.now }
     {
-        self.writer
+        self.undo.of(t)
     }
 
-    /// What these writes replaced. The newest stands last.
-    pub fn undo(&self) -> &[UndoEntry]
-        ensures entries { reverse result.now ≡ self.now.undo }
-        ensures inside { AllByRecursion LiesInside result.now }
+    /// The transactions whose writes may be taken back, ascending.
+    pub fn losers(&self) -> Result<Vec<u32>, AllocError>
+        ensures { IfOk result (λ found. found.items ≡ losers self.now) }
     {
-        &self.undo
+        self.undo.losers()
     }
 
     /// How many transactions are committed.
@@ -90,29 +102,49 @@ impl LogState {
         self.commits
     }
 
-    /// The greatest number of a transaction, 0 before the first.
-    pub fn greatest(&self) -> u32
-        ensures { result ≡ self.now.greatest }
+    /// The address of the current space's first word.
+    pub fn base(&self) -> u32
+        ensures { result ≡ self.now.base }
     {
-        self.greatest
+        self.base
     }
 
-    /// The records that an opening appends: where writes may be taken back, it takes them back.
-    pub fn rollback(&self, alloc: Global) -> Result<Vec<Record>, AllocError>
-        ensures { IfOk result (λ records. records.items ≡ rollback self.now.writer self.now.undo) }
+    /// How many words of the current space its objects take.
+    pub fn used(&self) -> u32
+        ensures { result ≡ self.now.used }
     {
-        if self.undo.is_empty() {
-            return Ok(Vec::new(alloc));
-        }
-        abort_records(alloc, self.writer, &self.undo)
+        self.used
+    }
+
+    /// The number of the next transaction.
+    pub fn next(&self) -> u32
+        ensures { result ≡ self.now.next }
+    {
+        self.next
+    }
+
+    /// The log's bytes that are kept to take writes back: a batch, an `End`, and an `Undo` for each write, for each transaction.
+    pub fn reserve(&self) -> u64
+        ensures { result ≡ reserve self.now }
+    {
+        self.undo.reserve()
+    }
+
+    /// The records that an opening appends: they take back the writes of each transaction that has not ended, ascending.
+    pub fn rollback(&self) -> Result<Vec<Record>, AllocError>
+        ensures records { IfOk result (λ records. records.items ≡ rollback self.now) }
+        ensures inside { IfOk result (λ records. EachWritesBelow (words_in self.now.pages) records.items) }
+    {
+        self.undo.abort_records()
     }
 
     /// Takes one record more, or tells that it can't follow. After any error the state is as before. Only an `Update` may
     /// lack memory.
     pub fn after(&mut self, rec: &Record) -> Result<(), AfterError>
-        requires { self.old.commits + 1 < 2 ^ 64 }
+        requires commits { self.old.commits + 1 < 2 ^ 64 }
+        requires room { reserve self.old + 29 < 2 ^ 64 }
         ensures ok { OnOk result (after self.old rec.now ≡ Some self.new) }
-        ensures inside { OnOk result (IsInside rec.now) }
+        ensures inside { OnOk result (WritesBelow (words_in self.old.pages) rec.now) }
         ensures unshaped { (result ≡ Err AfterError.Unshaped) ↔ (after self.old rec.now ≡ None) }
         ensures no_memory { result ≡ Err AfterError.NoMemory → AddsEntry rec.now }
         ensures err { OnErr result (self.new ≡ self.old) }
@@ -127,79 +159,106 @@ impl LogState {
                 field,
                 was,
                 ..
-            } => {
-                self.add(*t, entry(*object, *field, *was))?;
-            }
-            Record::Undo { t, .. } => {
-                self.undo.pop();
-                self.writer = *t;
-            }
-            Record::Commit { t } => {
-                self.undo.clear();
-                self.writer = *t;
-                self.commits += 1;
-            }
-            Record::End { .. } => {}
+            } => self.add(*t, entry(*object, *field, *was))?,
+            Record::Undo { t, .. } => self.take_off(*t),
+            Record::Commit { t } => self.commit(*t),
+            Record::End { t } => self.end(*t),
         }
-        self.greatest = self.greatest.max(number(rec));
         Ok(())
     }
 
     // Adds a write of transaction `t` that may be taken back.
     fn add(&mut self, t: u32, write: UndoEntry) -> Result<(), AllocError>
-        requires { LiesInside write }
-        ensures ok { OnOk result (self.new ≡ record self.old { writer = t; undo = write ∷ self.old.undo }) }
+        requires number { is_number t ≡ true }
+        requires inside { lies_inside self.old write.object write.field ≡ true }
+        requires room { reserve self.old + 29 < 2 ^ 64 }
+        ensures ok { OnOk result (self.new ≡ turned self.old t (with_entries self.old.undo t (write ∷ undo_of self.old t)) 0) }
         ensures err { OnErr result (self.new ≡ self.old) }
     {
-        self.undo.push(write)?;
-        self.writer = t;
+        self.undo.push(t, write)?;
+        self.next = self.next.max(t + 1);
         Ok(())
+    }
+
+    // Takes the newest write of transaction `t` off.
+    fn take_off(&mut self, t: u32)
+        requires { is_number t ≡ true }
+        ensures { self.new ≡ turned self.old t (with_entries self.old.undo t (drop 1 (undo_of self.old t))) 0 }
+    {
+        self.undo.pop(t);
+        self.next = self.next.max(t + 1);
+    }
+
+    // Drops the writes of transaction `t`, which is committed.
+    fn commit(&mut self, t: u32)
+        requires number { is_number t ≡ true }
+        requires few { self.old.commits + 1 < 2 ^ 64 }
+        ensures { self.new ≡ turned self.old t (with_entries self.old.undo t []) 1 }
+    {
+        self.undo.remove(t);
+        self.commits += 1;
+        self.next = self.next.max(t + 1);
+    }
+
+    // Transaction `t` has ended.
+    fn end(&mut self, t: u32)
+        requires { is_number t ≡ true }
+        ensures { self.new ≡ turned self.old t self.old.undo 0 }
+    {
+        self.next = self.next.max(t + 1);
     }
 
     // The record can follow those before it.
     fn can_follow(&self, rec: &Record) -> bool
-        ensures { result ≡ is_some (after self.now rec.now) }
+        ensures follows { result ≡ is_some (after self.now rec.now) }
+        ensures inside { result ≡ true → WritesBelow (words_in self.now.pages) rec.now }
+    {
+        is_number(number(rec)) && self.passes(rec)
+    }
+
+    // The record of a transaction whose number is one can follow those before it.
+    fn passes(&self, rec: &Record) -> bool
+        ensures follows { result ≡ is_some (row_after self.now rec.now) }
+        ensures inside { result ≡ true → WritesBelow (words_in self.now.pages) rec.now }
     {
         match rec {
-            Record::Update {
-                t,
-                object,
-                field,
-                ..
-            } => is_inside(*object, *field) && self.may_write(*t),
+            Record::Update { object, field, .. } => self.lies_inside(*object, *field),
             Record::Undo {
                 t,
                 object,
                 field,
                 word,
             } => self.is_newest(*t, entry(*object, *field, *word)),
-            Record::Commit { t } => self.may_write(*t),
-            Record::End { t } => self.has_ended(*t),
+            Record::Commit { .. } => true,
+            Record::End { t } => self.undo.of(*t).is_empty(),
         }
     }
 
-    // No other transaction's writes may be taken back.
-    fn may_write(&self, t: u32) -> bool
-        ensures { result ≡ may_write self.now.writer self.now.undo t }
+    // The field lies in the used words of the current space.
+    fn lies_inside(&self, object: u32, field: u16) -> bool
+        ensures answer { result ≡ lies_inside self.now object field }
+        ensures inside { result ≡ true → field_at object field < words_in self.now.pages }
     {
-        self.undo.is_empty() || self.writer == t
+        let address = u64::from(object) + u64::from(FIELDS_AT) + u64::from(field);
+        object >= self.base && address < u64::from(self.base) + u64::from(self.used)
     }
 
-    // The transaction has no writes that may be taken back.
-    fn has_ended(&self, t: u32) -> bool
-        ensures { result ≡ has_ended self.now.writer self.now.undo t }
-    {
-        self.undo.is_empty() || self.writer != t
-    }
-
-    // This is the newest write that may be taken back, and the transaction's.
+    // This is the newest write of transaction `t` that may be taken back.
     fn is_newest(&self, t: u32, write: UndoEntry) -> bool
-        ensures { result ≡ is_some (without_newest self.now.writer self.now.undo t write) }
+        ensures answer { result ≡ is_some (without_newest (undo_of self.now t) write) }
+        ensures inside { result ≡ true → field_at write.object write.field < words_in self.now.pages }
     {
-        match self.undo.last() {
-            Some(newest) => self.writer == t && *newest == write,
-            None => false,
-        }
+        ends_with(self.undo.of(t), write)
+    }
+}
+
+// This is the newest write, which stands last.
+fn ends_with(list: &[UndoEntry], write: UndoEntry) -> bool
+    ensures { result ≡ is_some (without_newest (reverse list.now) write) }
+{
+    match list.last() {
+        Some(newest) => *newest == write,
+        None => false,
     }
 }
 
@@ -208,6 +267,13 @@ fn entry(object: u32, field: u16, was: u64) -> UndoEntry
     ensures { result ≡ record { object = object; field = field; was = was } }
 {
     UndoEntry { object, field, was }
+}
+
+// A transaction can have this number.
+fn is_number(t: u32) -> bool
+    ensures { result ≡ is_number t }
+{
+    1 <= t && t <= LAST_NUMBER
 }
 
 // The number of the record's transaction.
@@ -220,12 +286,4 @@ fn number(rec: &Record) -> u32
         | Record::Commit { t }
         | Record::End { t } => *t,
     }
-}
-
-// The field is one of the used words.
-fn is_inside(object: u32, field: u16) -> bool
-    ensures { result ≡ nat_lt (object + 2 + field) 6 }
-{
-    let address = u64::from(object) + u64::from(FIELDS_AT) + u64::from(field);
-    address < ROOT_WORDS as u64
 }

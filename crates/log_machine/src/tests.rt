@@ -1,27 +1,119 @@
-//! Records one after another: what each of them leaves, which can't follow, and which take writes back.
+//! Records of several transactions one after another: what each of them leaves, which can't follow, and which take writes back.
 use super::*;
+use log_records::Record;
 use std::test::Fail;
 
-/// A record, whether it can follow those before it, and what stands behind it: the writer, how many writes may be taken
-/// back, the commits, the greatest number, and the root's fields.
-type Step = (Record, bool, u32, usize, u64, u32, [u64; ROOT_FIELDS]);
+/// The greatest number that a transaction can have.
+const LAST: u32 = 4_294_967_294;
 
-fn steps() -> [Step; 14] {
+/// A record, whether it can follow those before it, and what stands behind it: how many writes of transactions 2 and 3 may be
+/// taken back, the commits, the next transaction's number, the bytes that are kept, and the root's fields.
+type Step = (
+    Record,
+    bool,
+    usize,
+    usize,
+    u64,
+    u32,
+    u64,
+    [u64; ROOT_FIELDS],
+);
+
+fn steps() -> [Step; 18] {
     [
-        (update(2, 0, 0, 29), true, 2, 1, 0, 2, [29, 0, 0, 0]),
-        (update(2, 0, 29, 33), true, 2, 2, 0, 2, [33, 0, 0, 0]),
-        (update(2, 4, 0, 33), false, 2, 2, 0, 2, [33, 0, 0, 0]),
-        (update(3, 1, 0, 37), false, 2, 2, 0, 2, [33, 0, 0, 0]),
-        (Record::Commit { t: 3 }, false, 2, 2, 0, 2, [33, 0, 0, 0]),
-        (Record::End { t: 2 }, false, 2, 2, 0, 2, [33, 0, 0, 0]),
-        (Record::End { t: 1 }, true, 2, 2, 0, 2, [33, 0, 0, 0]),
-        (undo(2, 0, 0), false, 2, 2, 0, 2, [33, 0, 0, 0]),
-        (undo(2, 0, 29), true, 2, 1, 0, 2, [29, 0, 0, 0]),
-        (undo(3, 0, 0), false, 2, 1, 0, 2, [29, 0, 0, 0]),
-        (Record::Commit { t: 2 }, true, 2, 0, 1, 2, [29, 0, 0, 0]),
-        (undo(2, 0, 0), false, 2, 0, 1, 2, [29, 0, 0, 0]),
-        (update(5, 3, 0, 41), true, 5, 1, 1, 5, [29, 0, 0, 41]),
-        (update(5, 0, 29, 45), true, 5, 2, 1, 5, [45, 0, 0, 41]),
+        (update(2, 0, 0, 29), true, 1, 0, 0, 3, 29, [29, 0, 0, 0]),
+        (update(3, 1, 0, 37), true, 1, 1, 0, 4, 58, [29, 37, 0, 0]),
+        (update(2, 0, 29, 33), true, 2, 1, 0, 4, 77, [33, 37, 0, 0]),
+        (update(2, 4, 0, 33), false, 2, 1, 0, 4, 77, [33, 37, 0, 0]),
+        (update(0, 2, 0, 33), false, 2, 1, 0, 4, 77, [33, 37, 0, 0]),
+        (
+            Record::Commit { t: LAST + 1 },
+            false,
+            2,
+            1,
+            0,
+            4,
+            77,
+            [33, 37, 0, 0],
+        ),
+        (
+            Record::Commit { t: 0 },
+            false,
+            2,
+            1,
+            0,
+            4,
+            77,
+            [33, 37, 0, 0],
+        ),
+        (
+            Record::End { t: LAST + 1 },
+            false,
+            2,
+            1,
+            0,
+            4,
+            77,
+            [33, 37, 0, 0],
+        ),
+        (Record::End { t: 2 }, false, 2, 1, 0, 4, 77, [33, 37, 0, 0]),
+        (undo(3, 0, 29), false, 2, 1, 0, 4, 77, [33, 37, 0, 0]),
+        (undo(2, 0, 0), false, 2, 1, 0, 4, 77, [33, 37, 0, 0]),
+        (undo(2, 0, 29), true, 1, 1, 0, 4, 58, [29, 37, 0, 0]),
+        (
+            Record::Commit { t: 3 },
+            true,
+            1,
+            0,
+            1,
+            4,
+            29,
+            [29, 37, 0, 0],
+        ),
+        (undo(3, 1, 0), false, 1, 0, 1, 4, 29, [29, 37, 0, 0]),
+        (Record::End { t: 7 }, true, 1, 0, 1, 8, 29, [29, 37, 0, 0]),
+        (
+            update(LAST, 2, 0, 41),
+            true,
+            1,
+            0,
+            1,
+            LAST + 1,
+            58,
+            [29, 37, 41, 0],
+        ),
+        (
+            update(9, 3, 0, 45),
+            true,
+            1,
+            0,
+            1,
+            LAST + 1,
+            87,
+            [29, 37, 41, 45],
+        ),
+        (
+            update(9, 3, 45, 49),
+            true,
+            1,
+            0,
+            1,
+            LAST + 1,
+            106,
+            [29, 37, 41, 49],
+        ),
+    ]
+}
+
+fn rolled_back() -> [Record; 7] {
+    [
+        undo(2, 0, 0),
+        Record::End { t: 2 },
+        undo(9, 3, 45),
+        undo(9, 3, 0),
+        Record::End { t: 9 },
+        undo(LAST, 2, 0),
+        Record::End { t: LAST },
     ]
 }
 
@@ -44,30 +136,86 @@ fn undo(t: u32, field: u16, word: u64) -> Record {
     }
 }
 
+fn fields(words: &PageWords) -> Option<[u64; ROOT_FIELDS]> {
+    if words.len() < 6 {
+        return None;
+    }
+    Some([words.word(2), words.word(3), words.word(4), words.word(5)])
+}
+
 #[test]
 fn record_by_record(rt: HostRuntime) -> Result<(), Fail> {
-    let mut state = LogState::start(rt.alloc());
-    let mut pages = PageWords::first_contents();
-    assert!(rt; state.rollback(rt.alloc())?.is_empty());
-    for (record, follows, writer, writes, commits, greatest, fields) in steps() {
-        assert!(rt; state.commits() < 9);
-        let taken = state.after(&record);
-        assert_eq!(rt; taken.is_ok(), follows, "{record:?}");
-        if taken.is_ok() {
-            pages.apply(&record);
+    let mut state = LogState::start(rt.alloc(), 1, 1);
+    let mut followed = Vec::new(rt.alloc());
+    assert!(rt; state.rollback()?.is_empty());
+    for (record, follows, of_2, of_3, commits, next, kept, words) in steps() {
+        assert!(rt; state.commits() < 99 && state.reserve() < 999);
+        assert_eq!(rt; state.after(&record).is_ok(), follows, "{record:?}");
+        if follows {
+            followed.push(record)?;
         }
-        assert_eq!(rt; state.writer(), writer, "{record:?}");
-        assert_eq!(rt; state.undo().len(), writes, "{record:?}");
+        assert_eq!(rt; state.undo_list(2).len(), of_2, "{record:?}");
+        assert_eq!(rt; state.undo_list(3).len(), of_3, "{record:?}");
         assert_eq!(rt; state.commits(), commits, "{record:?}");
-        assert_eq!(rt; state.greatest(), greatest, "{record:?}");
-        assert_eq!(rt; pages.root_fields(), fields, "{record:?}");
+        assert_eq!(rt; state.next(), next, "{record:?}");
+        assert_eq!(rt; state.reserve(), kept, "{record:?}");
+        assert!(rt; followed.len() < 99);
+        let (_, now) = replay(rt.alloc(), 1, 1, &followed)?;
+        assert_eq!(rt; fields(&now), Some(words), "{record:?}");
     }
-    let rollback = state.rollback(rt.alloc())?;
+    assert_eq!(rt; state.losers()?.as_slice(), [2, 9, LAST].as_slice());
+    assert_eq!(rt; state.rollback()?.as_slice(), rolled_back().as_slice());
+    assert_eq!(rt; end_bytes(2), 48);
+    Ok(())
+}
+
+#[test]
+fn read_again(rt: HostRuntime) -> Result<(), Fail> {
+    let mut records = Vec::new(rt.alloc());
+    for (record, follows, ..) in steps() {
+        if follows {
+            records.push(record)?;
+        }
+    }
+    assert!(rt; records.len() < 99);
+    let (state, mut words) = replay(rt.alloc(), 1, 1, &records)?;
+    assert_eq!(rt; state.commits(), 1);
+    assert_eq!(rt; words.len(), 128);
+    let rollback = state.rollback()?;
+    let mut all = Vec::new(rt.alloc());
+    for rec in &rollback {
+        effect(rec, &mut all)?;
+    }
     assert_eq!(rt;
-        rollback.as_slice(),
-        [undo(5, 0, 29), undo(5, 3, 0), Record::End { t: 5 }].as_slice()
+        all.as_slice(),
+        [(2, 0), (5, 45), (5, 0), (4, 0)].as_slice()
     );
-    pages.take_back(state.undo());
-    assert_eq!(rt; pages.root_fields(), [29, 0, 0, 0]);
+    words.apply_all(&rollback);
+    assert_eq!(rt; fields(&words), Some([0, 37, 0, 0]));
+    assert!(rt; words.len() > 127);
+    assert_eq!(rt; [words.word(0), words.word(1), words.word(127)], [17, 0, 0]);
+    words.take_back(&[
+        UndoEntry {
+            object: 0,
+            field: 1,
+            was: 53,
+        },
+        UndoEntry {
+            object: 0,
+            field: 1,
+            was: 57,
+        },
+    ]);
+    assert_eq!(rt; fields(&words), Some([0, 53, 0, 0]));
+    records.push(Record::End { t: 9 })?;
+    records.push(Record::End { t: 0 })?;
+    assert!(rt; records.len() < 99);
+    let again = replay(rt.alloc(), 1, 1, &records).map(|_| ());
+    assert_eq!(rt;
+        again,
+        Err(ReplayError::Unshaped {
+            lsn: records.len() as u64 - 1
+        })
+    );
     Ok(())
 }

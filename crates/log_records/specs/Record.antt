@@ -1,6 +1,5 @@
 -- The records of the log, and how they are spelled.
-use Rattle.std.specs.Prelude.{◌≡◌, ℕ, ◌^◌, ◌<◌, ◌≤◌, List, ◌∷◌, ◌++◌, Option, MatchOption}
-use Rattle.std.specs.Borrow.{Bor}
+use Rattle.std.specs.Prelude.{◌≡◌, ℕ, ◌^◌, ◌<◌, List, ◌∷◌, ◌++◌}
 use Rattle.std.specs.List.{flat_map}
 use Rattle.std.specs.Int.{w16, w32, w64, to_le_bytes}
 use Rattle.heap_words.specs.Word.{IsFieldWord}
@@ -22,18 +21,9 @@ spellings records = flat_map spelling records
 abbrev pub Begins : List ℕ → Record → Type 0
 Begins bytes rec = (rest : List ℕ) × (bytes ≡ spelling rec ++ rest)
 
--- a number was read from the front of bytes, and this is the rest of them
-abbrev pub Reads : Option (ℕ × Bor (List ℕ)) → ℕ → List ℕ → Type 0
-Reads result n rest = MatchOption result ⊥ (λ x. (x.0 ≡ n) × (x.1.now ≡ rest))
-
--- a transaction's number
-pub record IsNumber (t : ℕ) : Type 0 where
-  pub some : 1 ≤ t
-  pub small : t ≤ 4294967294
-
 -- an update that has a spelling
 pub record IsUpdate (t object field was word : ℕ) : Type 0 where
-  pub number : IsNumber t
+  pub t_fits : t < 2 ^ 32
   pub object_fits : object < 2 ^ 32
   pub field_fits : field < 2 ^ 16
   pub was_word : IsFieldWord was
@@ -41,7 +31,7 @@ pub record IsUpdate (t object field was word : ℕ) : Type 0 where
 
 -- an undo that has a spelling
 pub record IsUndo (t object field word : ℕ) : Type 0 where
-  pub number : IsNumber t
+  pub t_fits : t < 2 ^ 32
   pub object_fits : object < 2 ^ 32
   pub field_fits : field < 2 ^ 16
   pub old_word : IsFieldWord word
@@ -50,5 +40,5 @@ pub record IsUndo (t object field word : ℕ) : Type 0 where
 abbrev pub IsRecord : Record → Type 0
 IsRecord (Update t object field was word) = IsUpdate t object field was word
 IsRecord (Undo t object field word) = IsUndo t object field word
-IsRecord (Commit t) = IsNumber t
-IsRecord (End t) = IsNumber t
+IsRecord (Commit t) = t < 2 ^ 32
+IsRecord (End t) = t < 2 ^ 32

@@ -1,13 +1,13 @@
 //! The records of the log, and how they are spelled: a byte of its kind, then its fields, lowest bytes first.
 #![tactic(auto)]
 
-ghost use Rattle.std.specs.Prelude.{◌≡◌, ◌^◌, ◌<◌, ◌∷◌, ◌++◌, List, ℕ, length, take, Some, IfSome, OnOk, OnErr};
-ghost use Rattle.std.specs.Int.{w16, w32, w64, to_le_bytes};
-ghost use Rattle.heap_words.specs.Word.{IsFieldWord};
+ghost use Rattle.std.specs.Prelude.{◌≡◌, ◌+◌, ◌^◌, ◌<◌, ◌≤◌, ◌∷◌, ◌++◌, List, ℕ, length, take, vec_len, vec_capacity, Some, IfSome, IsOk, OnOk, OnErr};
+ghost use Rattle.std.specs.Int.{w32, to_le_bytes};
 ghost use Rattle.log_records.specs.declared.Record.{Record};
 ghost use Rattle.log_records.specs.declared.Record.TheVariants.{Update, Undo, Commit, End};
-ghost use Rattle.log_records.specs.Record.{spelling, Begins, Reads, IsNumber, IsRecord};
+ghost use Rattle.log_records.specs.Record.{spelling, Begins, IsRecord};
 
+use byteorder::{ByteOrder, LittleEndian};
 use heap_words::decode as decode_word;
 use std::alloc::AllocError;
 
@@ -31,10 +31,7 @@ pub const COMMIT_BYTES: usize = 5;
 /// The bytes of an `End` record.
 pub const END_BYTES: usize = 5;
 
-/// The greatest number of a transaction.
-pub const LAST_NUMBER: u32 = 4_294_967_294;
-
-/// A record of the log. Its bytes are read again only where `t` is from 1 to 4,294,967,294 and each word is one of a field.
+/// A record of the log. Its bytes are read again only where each of its words is one of a field.
 #[derive(Clone, Copy, Debug, PartialEq, Eq)]
 pub enum Record {
     /// Transaction `t` wrote `word` into a field of the object at word address `object`, where `was` stood.
@@ -75,10 +72,12 @@ pub fn length(rec: &Record) -> u64
     }
 }
 
-/// Spells the record behind what is there. An `Err` changes nothing.
+/// Spells the record behind what is there. An `Err` changes nothing, and comes only where memory has to be taken.
 pub fn encode(rec: &Record, into: &mut Vec<u8>) -> Result<(), AllocError>
     ensures ok { OnOk result (into.new.items ≡ into.old.items ++ spelling rec.now) }
     ensures err { OnErr result (into.new.items ≡ into.old.items) }
+    ensures in_room { vec_len into.old + length (spelling rec.now) ≤ vec_capacity into.old → IsOk result }
+    ensures capacity { vec_capacity into.old ≤ vec_capacity into.new }
 {
     match rec {
         Record::Update {
@@ -104,11 +103,11 @@ fn update_bytes(t: u32, object: u32, field: u16, was: u64, word: u64) -> [u8; UP
 {
     let mut bytes = [0u8; UPDATE_BYTES];
     bytes[0] = UPDATE;
-    bytes[1..5].copy_from_slice(&t.to_le_bytes());
-    bytes[5..9].copy_from_slice(&object.to_le_bytes());
-    bytes[9..11].copy_from_slice(&field.to_le_bytes());
-    bytes[11..19].copy_from_slice(&was.to_le_bytes());
-    bytes[19..27].copy_from_slice(&word.to_le_bytes());
+    LittleEndian::write_u32(&mut bytes[1..], t);
+    LittleEndian::write_u32(&mut bytes[5..], object);
+    LittleEndian::write_u16(&mut bytes[9..], field);
+    LittleEndian::write_u64(&mut bytes[11..], was);
+    LittleEndian::write_u64(&mut bytes[19..], word);
     bytes
 }
 
@@ -117,119 +116,79 @@ fn undo_bytes(t: u32, object: u32, field: u16, word: u64) -> [u8; UNDO_BYTES]
 {
     let mut bytes = [0u8; UNDO_BYTES];
     bytes[0] = UNDO;
-    bytes[1..5].copy_from_slice(&t.to_le_bytes());
-    bytes[5..9].copy_from_slice(&object.to_le_bytes());
-    bytes[9..11].copy_from_slice(&field.to_le_bytes());
-    bytes[11..19].copy_from_slice(&word.to_le_bytes());
+    LittleEndian::write_u32(&mut bytes[1..], t);
+    LittleEndian::write_u32(&mut bytes[5..], object);
+    LittleEndian::write_u16(&mut bytes[9..], field);
+    LittleEndian::write_u64(&mut bytes[11..], word);
     bytes
 }
 
 fn commit_bytes(t: u32) -> [u8; COMMIT_BYTES]
     ensures { result ≡ spelling (Commit t) }
 {
-    let [a, b, c, d] = t.to_le_bytes();
-    [COMMIT, a, b, c, d]
+    let mut bytes = [0u8; COMMIT_BYTES];
+    bytes[0] = COMMIT;
+    LittleEndian::write_u32(&mut bytes[1..], t);
+    bytes
 }
 
 fn end_bytes(t: u32) -> [u8; END_BYTES]
     ensures { result ≡ spelling (End t) }
 {
-    let [a, b, c, d] = t.to_le_bytes();
-    [END, a, b, c, d]
+    let mut bytes = [0u8; END_BYTES];
+    bytes[0] = END;
+    LittleEndian::write_u32(&mut bytes[1..], t);
+    bytes
 }
 
-fn u16_at(bytes: &[u8]) -> Option<(u16, &[u8])>
-    ensures found { IfSome result (λ x. (x.0 < 2 ^ 16) × (bytes.now ≡ to_le_bytes w16 x.0 ++ x.1.now)) }
-    ensures only { (n : ℕ) (rest : List ℕ) → n < 2 ^ 16 → bytes.now ≡ to_le_bytes w16 n ++ rest → Reads result n rest }
-{
-    let (front, rest) = bytes.split_first_chunk::<2>()?;
-    Some((u16::from_le_bytes(*front), rest))
-}
-
-fn u32_at(bytes: &[u8]) -> Option<(u32, &[u8])>
-    ensures found { IfSome result (λ x. (x.0 < 2 ^ 32) × (bytes.now ≡ to_le_bytes w32 x.0 ++ x.1.now)) }
-    ensures only { (n : ℕ) (rest : List ℕ) → n < 2 ^ 32 → bytes.now ≡ to_le_bytes w32 n ++ rest → Reads result n rest }
-{
-    let (front, rest) = bytes.split_first_chunk::<4>()?;
-    Some((u32::from_le_bytes(*front), rest))
-}
-
-fn u64_at(bytes: &[u8]) -> Option<(u64, &[u8])>
-    ensures found { IfSome result (λ x. bytes.now ≡ to_le_bytes w64 x.0 ++ x.1.now) }
-    ensures only { (n : ℕ) (rest : List ℕ) → n < 2 ^ 64 → bytes.now ≡ to_le_bytes w64 n ++ rest → Reads result n rest }
-{
-    let (front, rest) = bytes.split_first_chunk::<8>()?;
-    Some((u64::from_le_bytes(*front), rest))
-}
-
-fn number_at(bytes: &[u8]) -> Option<(u32, &[u8])>
-    ensures found { IfSome result (λ x. IsNumber x.0 × (bytes.now ≡ to_le_bytes w32 x.0 ++ x.1.now)) }
-    ensures only { (t : ℕ) (rest : List ℕ) → IsNumber t → bytes.now ≡ to_le_bytes w32 t ++ rest → Reads result t rest }
-{
-    let (t, rest) = u32_at(bytes)?;
-    if t == 0 || t > LAST_NUMBER {
-        return None;
-    }
-    Some((t, rest))
-}
-
-fn field_word_at(bytes: &[u8]) -> Option<(u64, &[u8])>
-    ensures found { IfSome result (λ x. IsFieldWord x.0 × (bytes.now ≡ to_le_bytes w64 x.0 ++ x.1.now)) }
-    ensures only { (w : ℕ) (rest : List ℕ) → IsFieldWord w → bytes.now ≡ to_le_bytes w64 w ++ rest → Reads result w rest }
-{
-    let (word, rest) = u64_at(bytes)?;
-    decode_word(word)?;
-    Some((word, rest))
-}
-
+/// The `Update` whose fields, behind its kind, the bytes begin with.
 fn update_at(bytes: &[u8]) -> Option<Record>
     ensures found { IfSome result (λ rec. IsRecord rec × Begins (1 ∷ bytes.now) rec) }
     ensures only { (rec : Record) → IsRecord rec → Begins (1 ∷ bytes.now) rec → result ≡ Some rec }
 {
-    let (t, rest) = number_at(bytes)?;
-    let (object, rest) = u32_at(rest)?;
-    let (field, rest) = u16_at(rest)?;
-    let (was, rest) = field_word_at(rest)?;
-    let (word, _) = field_word_at(rest)?;
+    if bytes.len() < UPDATE_BYTES - 1 {
+        return None;
+    }
+    let was = LittleEndian::read_u64(&bytes[10..]);
+    let word = LittleEndian::read_u64(&bytes[18..]);
+    decode_word(was)?;
+    decode_word(word)?;
     Some(Record::Update {
-        t,
-        object,
-        field,
+        t: LittleEndian::read_u32(bytes),
+        object: LittleEndian::read_u32(&bytes[4..]),
+        field: LittleEndian::read_u16(&bytes[8..]),
         was,
         word,
     })
 }
 
+/// The `Undo` whose fields, behind its kind, the bytes begin with.
 fn undo_at(bytes: &[u8]) -> Option<Record>
     ensures found { IfSome result (λ rec. IsRecord rec × Begins (4 ∷ bytes.now) rec) }
     ensures only { (rec : Record) → IsRecord rec → Begins (4 ∷ bytes.now) rec → result ≡ Some rec }
 {
-    let (t, rest) = number_at(bytes)?;
-    let (object, rest) = u32_at(rest)?;
-    let (field, rest) = u16_at(rest)?;
-    let (word, _) = field_word_at(rest)?;
+    if bytes.len() < UNDO_BYTES - 1 {
+        return None;
+    }
+    let word = LittleEndian::read_u64(&bytes[10..]);
+    decode_word(word)?;
     Some(Record::Undo {
-        t,
-        object,
-        field,
+        t: LittleEndian::read_u32(bytes),
+        object: LittleEndian::read_u32(&bytes[4..]),
+        field: LittleEndian::read_u16(&bytes[8..]),
         word,
     })
 }
 
-fn commit_at(bytes: &[u8]) -> Option<Record>
-    ensures found { IfSome result (λ rec. IsRecord rec × Begins (5 ∷ bytes.now) rec) }
-    ensures only { (rec : Record) → IsRecord rec → Begins (5 ∷ bytes.now) rec → result ≡ Some rec }
+/// The transaction number, all that is in a `Commit` or an `End` behind its kind.
+fn number_at(bytes: &[u8]) -> Option<u32>
+    ensures found { IfSome result (λ t. (t < 2 ^ 32) × ((rest : List ℕ) × (bytes.now ≡ to_le_bytes w32 t ++ rest))) }
+    ensures only { (t : ℕ) (rest : List ℕ) → t < 2 ^ 32 → bytes.now ≡ to_le_bytes w32 t ++ rest → result ≡ Some t }
 {
-    let (t, _) = number_at(bytes)?;
-    Some(Record::Commit { t })
-}
-
-fn end_at(bytes: &[u8]) -> Option<Record>
-    ensures found { IfSome result (λ rec. IsRecord rec × Begins (6 ∷ bytes.now) rec) }
-    ensures only { (rec : Record) → IsRecord rec → Begins (6 ∷ bytes.now) rec → result ≡ Some rec }
-{
-    let (t, _) = number_at(bytes)?;
-    Some(Record::End { t })
+    if bytes.len() < 4 {
+        return None;
+    }
+    Some(LittleEndian::read_u32(bytes))
 }
 
 /// The record whose spelling the bytes begin with, and how many bytes that is.
@@ -240,8 +199,14 @@ pub fn decode(bytes: &[u8]) -> Option<(Record, usize)>
     match bytes {
         [UPDATE, rest @ ..] => Some((update_at(rest)?, UPDATE_BYTES)),
         [UNDO, rest @ ..] => Some((undo_at(rest)?, UNDO_BYTES)),
-        [COMMIT, rest @ ..] => Some((commit_at(rest)?, COMMIT_BYTES)),
-        [END, rest @ ..] => Some((end_at(rest)?, END_BYTES)),
+        [COMMIT, rest @ ..] => {
+            let t = number_at(rest)?;
+            Some((Record::Commit { t }, COMMIT_BYTES))
+        }
+        [END, rest @ ..] => {
+            let t = number_at(rest)?;
+            Some((Record::End { t }, END_BYTES))
+        }
         _ => None,
     }
 }

@@ -3,8 +3,8 @@ use super::*;
 use std::test::Fail;
 
 /// A record of each kind: transaction 1 writes the number 7 where null stood; the number is put back into field 2; and
-/// transaction 1 is committed, and has ended.
-const RECORDS: [Record; 4] = [
+/// transaction 1 is committed, and has ended. The last two are of numbers that no transaction has.
+const RECORDS: [Record; 6] = [
     Record::Update {
         t: 1,
         object: 0,
@@ -20,36 +20,28 @@ const RECORDS: [Record; 4] = [
     },
     Record::Commit { t: 1 },
     Record::End { t: 1 },
+    Record::Commit { t: 0 },
+    Record::End { t: u32::MAX },
 ];
 
 /// Their bytes. Those of the `Update` and the `Commit` stand in `docs/FORMATS.md` too.
-const SPELLINGS: [&[u8]; 4] = [
+const SPELLINGS: [&[u8]; 6] = [
     &[
         1, 1, 0, 0, 0, 0, 0, 0, 0, 0, 0, 0, 0, 0, 0, 0, 0, 0, 0, 29, 0, 0, 0, 0, 0, 0, 0,
     ],
     &[4, 1, 0, 0, 0, 0, 0, 0, 0, 2, 0, 29, 0, 0, 0, 0, 0, 0, 0],
     &[5, 1, 0, 0, 0],
     &[6, 1, 0, 0, 0],
+    &[5, 0, 0, 0, 0],
+    &[6, 255, 255, 255, 255],
 ];
 
-/// Bytes that begin with no record: a kind that is none; the numbers 0 and 4,294,967,295; and the word 3 * 2^60, which no
-/// field has, at each word of an `Update` and at that of an `Undo`.
-const NO_RECORDS: [&[u8]; 12] = [
+/// Bytes that begin with no record: kinds that are none; and the word 3 * 2^60, which no field has, at each word of an
+/// `Update` and at that of an `Undo`.
+const NO_RECORDS: [&[u8]; 6] = [
+    &[],
+    &[0, 1, 0, 0, 0],
     &[7, 1, 0, 0, 0],
-    &[
-        1, 0, 0, 0, 0, 0, 0, 0, 0, 0, 0, 0, 0, 0, 0, 0, 0, 0, 0, 29, 0, 0, 0, 0, 0, 0, 0,
-    ],
-    &[4, 0, 0, 0, 0, 0, 0, 0, 0, 2, 0, 29, 0, 0, 0, 0, 0, 0, 0],
-    &[5, 0, 0, 0, 0],
-    &[6, 0, 0, 0, 0],
-    &[
-        1, 255, 255, 255, 255, 0, 0, 0, 0, 0, 0, 0, 0, 0, 0, 0, 0, 0, 0, 29, 0, 0, 0, 0, 0, 0, 0,
-    ],
-    &[
-        4, 255, 255, 255, 255, 0, 0, 0, 0, 2, 0, 29, 0, 0, 0, 0, 0, 0, 0,
-    ],
-    &[5, 255, 255, 255, 255],
-    &[6, 255, 255, 255, 255],
     &[
         1, 1, 0, 0, 0, 0, 0, 0, 0, 0, 0, 0, 0, 0, 0, 0, 0, 0, 48, 29, 0, 0, 0, 0, 0, 0, 0,
     ],

@@ -1,32 +1,27 @@
-use Rattle.log_records.proofs.Spelled.{has_undo, whole_undo}
+use Rattle.std.proofs.Common.{◌∙◌, arith}
+use Rattle.log_records.proofs.Spelled.{is_word, found_undo, has_undo}
 use Rattle.log_records.proofs.undo_at.Goals as goal
 
-pub returns-in_err-field-clause-only : goal.returns-in_err-field-clause-only
-returns-in_err-field-clause-only c rec good begins =
+pub returns-in_err-decode-clause-only : goal.returns-in_err-decode-clause-only
+returns-in_err-decode-clause-only c rec good begins =
     let u = has_undo rec c.args.bytes.now good begins in
-    let a = c.in_ok-t.ensures.only u.t _ u.good.number u.spelled in
-    let b = c.in_ok-object.ensures.only u.object _ u.good.object_fits a.1 in
-    absurd (c.in_err-field.ensures.only u.field _ u.good.field_fits b.1)
-
-pub returns-in_err-word-clause-only : goal.returns-in_err-word-clause-only
-returns-in_err-word-clause-only c rec good begins =
-    let u = has_undo rec c.args.bytes.now good begins in
-    let a = c.in_ok-t.ensures.only u.t _ u.good.number u.spelled in
-    let b = c.in_ok-object.ensures.only u.object _ u.good.object_fits a.1 in
-    let d = c.in_ok-field.ensures.only u.field _ u.good.field_fits b.1 in
-    absurd (c.in_err-word.ensures.only u.word _ u.good.old_word d.1)
+    let w = is_word _ _ (c.read_u64-word.ensures ∙ u.word_read) u.good.old_word in
+    absurd (cc (c.in_err-decode.was, c.decode.ensures.only w.0 w.1 w.2))
 
 pub returns-clause-found : goal.returns-clause-found
 returns-clause-found c = (
-  record { number = c.in_ok-t.ensures.found.0; object_fits = c.in_ok-object.ensures.found.0; field_fits = c.in_ok-field.ensures.found.0; old_word = c.in_ok-word.ensures.found.0 },
-  whole_undo c.args.bytes.now c.in_ok-t.rest.now c.in_ok-object.rest.now c.in_ok-field.rest.now _ c.in_ok-t.t c.in_ok-object.object c.in_ok-field.field c.in_ok-word.word c.in_ok-t.ensures.found.1 c.in_ok-object.ensures.found.1 c.in_ok-field.ensures.found.1 c.in_ok-word.ensures.found.1,
+  record {
+    t_fits = c.read_u32.type_inv;
+    object_fits = c.read_u32-2.type_inv;
+    field_fits = c.read_u16.type_inv;
+    old_word = (c.in_ok-decode.field-0, c.in_ok-decode.ensures.found.0, c.in_ok-decode.ensures.found.1);
+  },
+  found_undo c.args.bytes.now c.read_u32.result c.read_u32-2.result c.read_u16.result
+      (record { fits = λ i. omega (arith, c.type_inv.bytes i); t_read = c.read_u32.ensures; object_read = c.read_u32-2.ensures; field_read = c.read_u16.ensures })
+      c.read_u64-word.result (omega (arith, c.if-bytes.false)) c.read_u64-word.ensures,
 )
 
 pub returns-clause-only : goal.returns-clause-only
 returns-clause-only c rec good begins =
     let u = has_undo rec c.args.bytes.now good begins in
-    let a = c.in_ok-t.ensures.only u.t _ u.good.number u.spelled in
-    let b = c.in_ok-object.ensures.only u.object _ u.good.object_fits a.1 in
-    let d = c.in_ok-field.ensures.only u.field _ u.good.field_fits b.1 in
-    let e = c.in_ok-word.ensures.only u.word _ u.good.old_word d.1 in
-    cc (a.0, b.0, d.0, e.0, u.is)
+    cc (c.read_u32.ensures ∙ u.t_read, c.read_u32-2.ensures ∙ u.object_read, c.read_u16.ensures ∙ u.field_read, c.read_u64-word.ensures ∙ u.word_read, u.is)

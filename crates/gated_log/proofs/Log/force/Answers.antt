@@ -1,7 +1,8 @@
-use Rattle.std.proofs.Common.{◌≡◌, ◌++◌, ◌∷◌, [], sym, ◌∙◌, ap, drop, take, length, nat_lt, true, ℕ, ◌-◌, ◌+◌, ◌≤◌, List, vec_len, arith, rules}
+use Rattle.std.proofs.Common.{◌≡◌, refl, ◌++◌, ◌∷◌, [], sym, ◌∙◌, ap, drop, take, length, nat_lt, true, ℕ, ◌-◌, ◌+◌, ◌≤◌, List, vec_len, arith, rules}
+use Rattle.std.proofs.lemmas.Bool.Decides.{nat_tests}
 use Rattle.std.specs.Int.{w32, to_le_bytes}
 use Rattle.gated_log.proofs.LogBytes.{forced_outside}
-use Rattle.gated_log.proofs.LogForce.{used_waiting, keeps_forced, forced, moments}
+use Rattle.gated_log.proofs.LogForce.{few_records, used_waiting, keeps_forced, forced, moments}
 use Rattle.gated_log.proofs.Log.force.Goals as goal
 
 pub returns-clause-kept : goal.returns-clause-kept
@@ -11,7 +12,9 @@ returns-clause-kept g c batches pending keeps =
     let closes : c.deref.result.now ≡ to_le_bytes w32 (vec_len log.hand - 4) ++ drop 4 log.hand.items ++ 0 ∷ [] = c.deref.ensures.value ∙ c.close_batch.ensures.items in
     let size : c.len-size.result ≡ length c.deref.result.now = omega (arith, c.deref.ensures.len, c.len-size.ensures) in
     let items : c.truncate.new.self.items ≡ take 4 c.deref.result.now = c.truncate.ensures.items ∙ ap (λ (l : List ℕ). take 4 l) (sym c.deref.ensures.value) in
-    keeps_forced log (g.D.Disk.bytes c.args.disk.now) c.deref.result.now batches pending waits closes keeps _ (ap (λ (k : ℕ). log.tail + k) size) items
+    let forced_all : log.forced + log.waiting ≡ log.forced + log.waiting = refl in
+    let none : ◌≡◌ {A = ℕ} 0 0 = refl in
+    keeps_forced log (g.D.Disk.bytes c.args.disk.now) c.deref.result.now batches pending waits closes keeps _ (ap (λ (k : ℕ). log.tail + k) size) items forced_all none
 
 pub returns-clause-held : goal.returns-clause-held
 returns-clause-held g c told batches pending keeps holds =
@@ -22,8 +25,10 @@ returns-clause-held g c told batches pending keeps holds =
     let inside : log.at + log.room ≤ length image = omega (arith, g.met.D.Disk.same_size told c.args.disk.now image (g.met.D.Disk.reads_an_image told c.args.disk.now), c.requires.inside) in
     let size : c.len-size.result ≡ length c.deref.result.now = omega (arith, c.deref.ensures.len, c.len-size.ensures) in
     let items : c.truncate.new.self.items ≡ take 4 c.deref.result.now = c.truncate.ensures.items ∙ ap (λ (l : List ℕ). take 4 l) (sym c.deref.ensures.value) in
+    let forced_all : log.forced + log.waiting ≡ log.forced + log.waiting = refl in
+    let none : ◌≡◌ {A = ℕ} 0 0 = refl in
     let new = forced log image c.deref.result.now batches pending waits closes keeps c.from.result c.from.ensures inside holds in (
-      keeps_forced log image c.deref.result.now batches pending waits closes keeps _ (ap (λ (k : ℕ). log.tail + k) size) items,
+      keeps_forced log image c.deref.result.now batches pending waits closes keeps _ (ap (λ (k : ℕ). log.tail + k) size) items forced_all none,
       rw (c.in_ok-written.ensures.filled told) new,
     )
 
@@ -53,3 +58,11 @@ returns-in_err-written-clause-moments g c told only batches pending keeps holds 
     let closes : c.deref.result.now ≡ to_le_bytes w32 (vec_len log.hand - 4) ++ drop 4 log.hand.items ++ 0 ∷ [] = c.deref.ensures.value ∙ c.close_batch.ensures.items in
     let inside : log.at + log.room ≤ length image = omega (arith, g.met.D.Disk.same_size told c.args.disk.now image (g.met.D.Disk.reads_an_image told c.args.disk.now), c.requires.inside) in
     moments log image c.deref.result.now batches pending waits closes keeps c.from.result c.from.ensures inside holds g.D.Disk.moment g.D.Disk.left_since _ _ _ only (c.fill_and_open-written.ensures.moments told)
+
+pub returns-then-not-pending-clause-forced : goal.returns-then-not-pending-clause-forced
+returns-then-not-pending-clause-forced g c =
+    let log = c.args.self.now in
+    grind (arith, nat_tests, log.few_waiting, log.has_head)
+
+pub overflow_add-self-2 : goal.overflow_add-self-2
+overflow_add-self-2 g c = omega (arith, few_records c.args.self.now)

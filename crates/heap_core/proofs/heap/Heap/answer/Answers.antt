@@ -36,8 +36,8 @@ returns-in-Drop-clause-core g c core heap none reached one =
 
 pub returns-in-Get-clause-core : goal.returns-in-Get-clause-core
 returns-in-Get-clause-core g c core heap none reached one =
-    get_steps core c.args.self.now.working _ heap.memory none reached c.args.event c.in-Get.s c.in-Get.h c.in-Get.i c.in-Get.h2 c.get.result c.in-Get.is one
-    c.get.ensures
+    get_steps core c.args.self.now.working _ heap.memory none reached c.args.event c.in-Get.s c.in-Get.h c.in-Get.i c.in-Get.h2 c.get.new.self c.get.result c.in-Get.is one
+    c.get.ensures.reply c.get.ensures.got c.get.ensures.refused
 
 pub returns-in-Same-clause-core : goal.returns-in-Same-clause-core
 returns-in-Same-clause-core g c core heap none reached one =
@@ -113,107 +113,107 @@ pub returns-in-Begin-clause-moments : goal.returns-in-Begin-clause-moments
 returns-in-Begin-clause-moments g c tells s core heap none reached =
     let d = g.D.Disk in
     let disk = c.args.self.now.disk in
-    stays d.moment d.left_since disk (d.may_leave disk) (KeepsCommits core) (g.met.D.Disk.only_now tells disk) (heap_keeps s core _ _ heap.disk reached)
+    stays d.moment d.left_since disk (d.may_leave disk) (KeepsCommits core) (g.met.D.Disk.only_now tells disk) (heap_keeps s core _ _ heap.disk reached.sound)
 
 pub returns-in-Begin-clause-passes : goal.returns-in-Begin-clause-passes
-returns-in-Begin-clause-passes g c tells core heap none =
+returns-in-Begin-clause-passes g c tells core heap reached none =
     quiet_passes core c.args.event (g.D.Disk.passed c.args.self.now.disk) c.begin.result (λ force. let never = sym force ∙ c.in-Begin.is in cc)
 
 pub returns-in-Root-clause-moments : goal.returns-in-Root-clause-moments
 returns-in-Root-clause-moments g c tells s core heap none reached =
     let d = g.D.Disk in
     let disk = c.args.self.now.disk in
-    stays d.moment d.left_since disk (d.may_leave disk) (KeepsCommits core) (g.met.D.Disk.only_now tells disk) (heap_keeps s core _ _ heap.disk reached)
+    stays d.moment d.left_since disk (d.may_leave disk) (KeepsCommits core) (g.met.D.Disk.only_now tells disk) (heap_keeps s core _ _ heap.disk reached.sound)
 
 pub returns-in-Root-clause-passes : goal.returns-in-Root-clause-passes
-returns-in-Root-clause-passes g c tells core heap none =
+returns-in-Root-clause-passes g c tells core heap reached none =
     quiet_passes core c.args.event (g.D.Disk.passed c.args.self.now.disk) c.root.result (λ force. let never = sym force ∙ c.in-Root.is in cc)
 
 pub returns-in-Put-clause-moments : goal.returns-in-Put-clause-moments
 returns-in-Put-clause-moments g c tells s core heap none reached =
     let d = g.D.Disk in
     let disk = c.args.self.now.disk in
-    stays d.moment d.left_since disk (d.may_leave disk) (KeepsCommits core) (g.met.D.Disk.only_now tells disk) (heap_keeps s core _ _ heap.disk reached)
+    stays d.moment d.left_since disk (d.may_leave disk) (KeepsCommits core) (g.met.D.Disk.only_now tells disk) (heap_keeps s core _ _ heap.disk reached.sound)
 
 pub returns-in-Put-clause-passes : goal.returns-in-Put-clause-passes
-returns-in-Put-clause-passes g c tells core heap none =
+returns-in-Put-clause-passes g c tells core heap reached none =
     quiet_passes_result core c.args.event (g.D.Disk.passed c.args.self.now.disk) c.put.result (λ force. let never = sym force ∙ c.in-Put.is in cc)
 
 pub returns-in-Clear-clause-moments : goal.returns-in-Clear-clause-moments
 returns-in-Clear-clause-moments g c tells s core heap none reached =
     let d = g.D.Disk in
     let disk = c.args.self.now.disk in
-    stays d.moment d.left_since disk (d.may_leave disk) (KeepsCommits core) (g.met.D.Disk.only_now tells disk) (heap_keeps s core _ _ heap.disk reached)
+    stays d.moment d.left_since disk (d.may_leave disk) (KeepsCommits core) (g.met.D.Disk.only_now tells disk) (heap_keeps s core _ _ heap.disk reached.sound)
 
 pub returns-in-Clear-clause-passes : goal.returns-in-Clear-clause-passes
-returns-in-Clear-clause-passes g c tells core heap none =
+returns-in-Clear-clause-passes g c tells core heap reached none =
     quiet_passes_result core c.args.event (g.D.Disk.passed c.args.self.now.disk) c.clear.result (λ force. let never = sym force ∙ c.in-Clear.is in cc)
 
 pub returns-in-Drop-clause-moments : goal.returns-in-Drop-clause-moments
 returns-in-Drop-clause-moments g c tells s core heap none reached =
     let d = g.D.Disk in
     let disk = c.args.self.now.disk in
-    stays d.moment d.left_since disk (d.may_leave disk) (KeepsCommits core) (g.met.D.Disk.only_now tells disk) (heap_keeps s core _ _ heap.disk reached)
+    stays d.moment d.left_since disk (d.may_leave disk) (KeepsCommits core) (g.met.D.Disk.only_now tells disk) (heap_keeps s core _ _ heap.disk reached.sound)
 
 pub returns-in-Drop-clause-passes : goal.returns-in-Drop-clause-passes
-returns-in-Drop-clause-passes g c tells core heap none =
+returns-in-Drop-clause-passes g c tells core heap reached none =
     quiet_passes core c.args.event (g.D.Disk.passed c.args.self.now.disk) c.drop_handle.result (λ force. let never = sym force ∙ c.in-Drop.is in cc)
 
 pub returns-in-Get-clause-moments : goal.returns-in-Get-clause-moments
 returns-in-Get-clause-moments g c tells s core heap none reached =
     let d = g.D.Disk in
     let disk = c.args.self.now.disk in
-    stays d.moment d.left_since disk (d.may_leave disk) (KeepsCommits core) (g.met.D.Disk.only_now tells disk) (heap_keeps s core _ _ heap.disk reached)
+    stays d.moment d.left_since disk (d.may_leave disk) (KeepsCommits core) (g.met.D.Disk.only_now tells disk) (heap_keeps s core _ _ heap.disk reached.sound)
 
 pub returns-in-Get-clause-passes : goal.returns-in-Get-clause-passes
-returns-in-Get-clause-passes g c tells core heap none =
+returns-in-Get-clause-passes g c tells core heap reached none =
     quiet_passes core c.args.event (g.D.Disk.passed c.args.self.now.disk) c.get.result (λ force. let never = sym force ∙ c.in-Get.is in cc)
 
 pub returns-in-Same-clause-moments : goal.returns-in-Same-clause-moments
 returns-in-Same-clause-moments g c tells s core heap none reached =
     let d = g.D.Disk in
     let disk = c.args.self.now.disk in
-    stays d.moment d.left_since disk (d.may_leave disk) (KeepsCommits core) (g.met.D.Disk.only_now tells disk) (heap_keeps s core _ _ heap.disk reached)
+    stays d.moment d.left_since disk (d.may_leave disk) (KeepsCommits core) (g.met.D.Disk.only_now tells disk) (heap_keeps s core _ _ heap.disk reached.sound)
 
 pub returns-in-Same-clause-passes : goal.returns-in-Same-clause-passes
-returns-in-Same-clause-passes g c tells core heap none =
+returns-in-Same-clause-passes g c tells core heap reached none =
     quiet_passes core c.args.event (g.D.Disk.passed c.args.self.now.disk) c.same.result (λ force. let never = sym force ∙ c.in-Same.is in cc)
 
 pub returns-in-Len-clause-moments : goal.returns-in-Len-clause-moments
 returns-in-Len-clause-moments g c tells s core heap none reached =
     let d = g.D.Disk in
     let disk = c.args.self.now.disk in
-    stays d.moment d.left_since disk (d.may_leave disk) (KeepsCommits core) (g.met.D.Disk.only_now tells disk) (heap_keeps s core _ _ heap.disk reached)
+    stays d.moment d.left_since disk (d.may_leave disk) (KeepsCommits core) (g.met.D.Disk.only_now tells disk) (heap_keeps s core _ _ heap.disk reached.sound)
 
 pub returns-in-Len-clause-passes : goal.returns-in-Len-clause-passes
-returns-in-Len-clause-passes g c tells core heap none =
+returns-in-Len-clause-passes g c tells core heap reached none =
     quiet_passes core c.args.event (g.D.Disk.passed c.args.self.now.disk) c.len.result (λ force. let never = sym force ∙ c.in-Len.is in cc)
 
 pub returns-in-Seal-clause-moments : goal.returns-in-Seal-clause-moments
 returns-in-Seal-clause-moments g c tells s core heap none reached =
     let d = g.D.Disk in
     let disk = c.args.self.now.disk in
-    stays d.moment d.left_since disk (d.may_leave disk) (KeepsCommits core) (g.met.D.Disk.only_now tells disk) (heap_keeps s core _ _ heap.disk reached)
+    stays d.moment d.left_since disk (d.may_leave disk) (KeepsCommits core) (g.met.D.Disk.only_now tells disk) (heap_keeps s core _ _ heap.disk reached.sound)
 
 pub returns-in-Seal-clause-passes : goal.returns-in-Seal-clause-passes
-returns-in-Seal-clause-passes g c tells core heap none =
+returns-in-Seal-clause-passes g c tells core heap reached none =
     quiet_passes_result core c.args.event (g.D.Disk.passed c.args.self.now.disk) c.seal.result (λ force. let never = sym force ∙ c.in-Seal.is in cc)
 
 pub returns-in-Abort-clause-moments : goal.returns-in-Abort-clause-moments
 returns-in-Abort-clause-moments g c tells s core heap none reached =
     let d = g.D.Disk in
     let disk = c.args.self.now.disk in
-    stays d.moment d.left_since disk (d.may_leave disk) (KeepsCommits core) (g.met.D.Disk.only_now tells disk) (heap_keeps s core _ _ heap.disk reached)
+    stays d.moment d.left_since disk (d.may_leave disk) (KeepsCommits core) (g.met.D.Disk.only_now tells disk) (heap_keeps s core _ _ heap.disk reached.sound)
 
 pub returns-in-Abort-clause-passes : goal.returns-in-Abort-clause-passes
-returns-in-Abort-clause-passes g c tells core heap none =
+returns-in-Abort-clause-passes g c tells core heap reached none =
     quiet_passes_result core c.args.event (g.D.Disk.passed c.args.self.now.disk) c.abort.result (λ force. let never = sym force ∙ c.in-Abort.is in cc)
 
 pub returns-in-Force-clause-moments : goal.returns-in-Force-clause-moments
 returns-in-Force-clause-moments g c tells s core heap none reached = c.force.ensures.moments tells s core heap none reached
 
 pub returns-in-Force-clause-passes : goal.returns-in-Force-clause-passes
-returns-in-Force-clause-passes g c tells core heap none =
+returns-in-Force-clause-passes g c tells core heap reached none =
     let passed = g.D.Disk.passed in
     let P : Event → Type 0 = λ e. IfOk c.force.result (λ reply. Passes (calls core e) (passed c.args.self.now.disk) (passed c.force.new.self.disk) (reply_device reply)) in
-    subst P (sym c.in-Force.is) (c.force.ensures.passes tells core heap none)
+    subst P (sym c.in-Force.is) (c.force.ensures.passes tells core heap reached none)

@@ -13,15 +13,15 @@ pub returns-in_err-reserve-clause-moments : goal.returns-in_err-reserve-clause-m
 returns-in_err-reserve-clause-moments g c tells s core heap none reached =
     let d = g.D.Disk in
     let disk = c.args.self.now.disk in
-    stays d.moment d.left_since disk (d.may_leave disk) (KeepsCommits core) (g.met.D.Disk.only_now tells disk) (heap_keeps s core _ _ heap.disk reached)
+    stays d.moment d.left_since disk (d.may_leave disk) (KeepsCommits core) (g.met.D.Disk.only_now tells disk) (heap_keeps s core _ _ heap.disk reached.sound)
 
 pub returns-in-Ok-clause-core : goal.returns-in-Ok-clause-core
 returns-in-Ok-clause-core g c core heap none reached =
     let w = c.args.self.now.working in
     let log = c.reserve.new.self in
     let works = heap.memory.works none in
-    let kept = c.in-Ok.ensures.kept core.batches core.pending (keeps core w log works c.reserve.ensures.place c.reserve.ensures.hand) in
-    ok_steps core w log works c.reserve.ensures.place c.reserve.ensures.hand _ _ _ (unfailed_valid core _ heap.memory.failure none reached) none kept
+    let kept = c.in-Ok.ensures.kept core.batches core.pending (keeps core w log works c.reserve.ensures.same) in
+    ok_steps core w log works c.reserve.ensures.same _ _ _ (unfailed_valid core _ heap.memory.failure none reached) none kept
     c.in-Ok.ensures.at c.in-Ok.ensures.same_room refl refl refl refl refl
 
 pub returns-in-Ok-clause-holds : goal.returns-in-Ok-clause-holds
@@ -31,8 +31,8 @@ returns-in-Ok-clause-holds g c tells s core heap none reached =
     let works = heap.core.memory.works none in
     let valid = unfailed_valid core _ heap.core.memory.failure none reached in
     let disk = heap.disk.unfailed valid.unfailed in
-    let both = c.in-Ok.ensures.held tells core.batches core.pending (keeps core w log works c.reserve.ensures.place c.reserve.ensures.hand) (holds core w log works c.reserve.ensures.place c.reserve.ensures.hand s _ _ disk) in
-    ok_on core w log works c.reserve.ensures.place c.reserve.ensures.hand s _ _ disk _ _ _ _ _ valid none both.0 both.1 (c.in-Ok.ensures.outside tells) (c.in-Ok.ensures.durable tells disk.only)
+    let both = c.in-Ok.ensures.held tells core.batches core.pending (keeps core w log works c.reserve.ensures.same) (holds core w log works c.reserve.ensures.same s _ _ disk) in
+    ok_on core w log works c.reserve.ensures.same s _ _ disk _ _ _ _ _ valid none both.0 both.1 (c.in-Ok.ensures.outside tells) (c.in-Ok.ensures.durable tells disk.only)
     c.in-Ok.ensures.at c.in-Ok.ensures.same_room refl refl refl refl refl
 
 pub returns-in-Ok-clause-moments : goal.returns-in-Ok-clause-moments
@@ -43,21 +43,21 @@ returns-in-Ok-clause-moments g c tells s core heap none reached =
     let works = heap.core.memory.works none in
     let valid = unfailed_valid core _ heap.core.memory.failure none reached in
     let disk = heap.disk.unfailed valid.unfailed in
-    let kept = keeps core w log works c.reserve.ensures.place c.reserve.ensures.hand in
-    let held = holds core w log works c.reserve.ensures.place c.reserve.ensures.hand s _ _ disk in
+    let kept = keeps core w log works c.reserve.ensures.same in
+    let held = holds core w log works c.reserve.ensures.same s _ _ disk in
     weaker d.moment d.left_since c.args.self.now.disk c.force.new.disk _ (KeepsCommits core) (c.force.ensures.moments tells disk.only core.batches core.pending kept held)
-    (λ image. force_keeps core w log works c.reserve.ensures.place c.reserve.ensures.hand s _ _ disk image reached)
+    (λ image. force_keeps core w log works c.reserve.ensures.same s _ _ disk image reached.sound)
 
 pub returns-in-Ok-clause-passes : goal.returns-in-Ok-clause-passes
-returns-in-Ok-clause-passes g c tells core heap none =
-    let kept = keeps core c.args.self.now.working c.reserve.new.self (heap.memory.works none) c.reserve.ensures.place c.reserve.ensures.hand in
-    force_passes core c.reserve.new.self _ _ _ (sym heap.memory.failure ∙ none) kept (c.in-Ok.ensures.passes tells)
+returns-in-Ok-clause-passes g c tells core heap reached none =
+    let kept = keeps core c.args.self.now.working c.reserve.new.self (heap.memory.works none) c.reserve.ensures.same in
+    force_passes core c.reserve.new.self _ _ _ (unfailed_valid core _ heap.memory.failure none reached) kept (c.in-Ok.ensures.passes tells)
 
 pub returns-in-Err-clause-core : goal.returns-in-Err-clause-core
 returns-in-Err-clause-core g c core heap none reached =
     let w = c.args.self.now.working in
-    err_steps core w c.reserve.new.self (heap.memory.works none) c.reserve.ensures.place c.reserve.ensures.hand _ _ c.len.result c.force.result c.in-Err.e _ (unfailed_valid core _ heap.memory.failure none reached)
-    (λ four. (c.force.ensures.idle four).0) c.in-Err.is c.reserve.ensures.len c.cut_short.ensures.told
+    err_steps core w c.reserve.new.self (heap.memory.works none) c.reserve.ensures.same _ _ c.len.result c.force.result c.in-Err.e _ (unfailed_valid core _ heap.memory.failure none reached)
+    (λ four. (c.force.ensures.idle four).0) c.in-Err.is c.cut_short.ensures.told
     (c.len.ensures ∙ (c.args.self.now.history.entries.ok.0 ∙ ap length heap.history)) refl refl refl
 
 pub returns-in-Err-clause-moments : goal.returns-in-Err-clause-moments
@@ -68,24 +68,24 @@ returns-in-Err-clause-moments g c tells s core heap none reached =
     let works = heap.core.memory.works none in
     let valid = unfailed_valid core _ heap.core.memory.failure none reached in
     let disk = heap.disk.unfailed valid.unfailed in
-    let kept = keeps core w log works c.reserve.ensures.place c.reserve.ensures.hand in
-    let held = holds core w log works c.reserve.ensures.place c.reserve.ensures.hand s _ _ disk in
+    let kept = keeps core w log works c.reserve.ensures.same in
+    let held = holds core w log works c.reserve.ensures.same s _ _ disk in
     weaker d.moment d.left_since c.args.self.now.disk c.force.new.disk _ (KeepsCommits core) (c.force.ensures.moments tells disk.only core.batches core.pending kept held)
-    (λ image. force_keeps core w log works c.reserve.ensures.place c.reserve.ensures.hand s _ _ disk image reached)
+    (λ image. force_keeps core w log works c.reserve.ensures.same s _ _ disk image reached.sound)
 
 pub returns-in-Err-clause-holds : goal.returns-in-Err-clause-holds
 returns-in-Err-clause-holds g c tells s core heap none reached =
     let run = returns-in-Err-clause-moments g c tells s core heap none reached in
     let w = c.args.self.now.working in
     let valid = unfailed_valid core _ heap.core.memory.failure none reached in
-    err_on core w c.reserve.new.self (heap.core.memory.works none) c.reserve.ensures.place c.reserve.ensures.hand s _ _ (heap.disk.unfailed valid.unfailed) _ _ _ _ c.len.result c.force.result c.in-Err.e _ valid
-    (λ four. (c.force.ensures.idle four).0) c.in-Err.is c.reserve.ensures.len c.cut_short.ensures.told
+    err_on core w c.reserve.new.self (heap.core.memory.works none) c.reserve.ensures.same s _ _ (heap.disk.unfailed valid.unfailed) _ _ _ _ c.len.result c.force.result c.in-Err.e _ valid
+    (λ four. (c.force.ensures.idle four).0) c.in-Err.is c.cut_short.ensures.told
     (c.len.ensures ∙ (c.args.self.now.history.entries.ok.0 ∙ ap length heap.core.history)) refl refl refl
     (λ image left. run.each image (g.met.D.Disk.counts_now tells c.force.new.disk _ image run.later left))
 
 pub returns-in-Err-clause-passes : goal.returns-in-Err-clause-passes
-returns-in-Err-clause-passes g c tells core heap none =
-    let kept = keeps core c.args.self.now.working c.reserve.new.self (heap.memory.works none) c.reserve.ensures.place c.reserve.ensures.hand in
+returns-in-Err-clause-passes g c tells core heap reached none =
+    let kept = keeps core c.args.self.now.working c.reserve.new.self (heap.memory.works none) c.reserve.ensures.same in
     let passed = g.D.Disk.passed in
     let P : Result (Unit {0}) DiskError → Type 0 = λ r. Passes (calls core Force) (passed c.args.self.now.disk) (passed c.force.new.disk) r in
-    subst P (sym c.cut_short.ensures.device) (force_passes core c.reserve.new.self _ _ _ (sym heap.memory.failure ∙ none) kept (c.in-Err.ensures.passes tells))
+    subst P (sym c.cut_short.ensures.device) (force_passes core c.reserve.new.self _ _ _ (unfailed_valid core _ heap.memory.failure none reached) kept (c.in-Err.ensures.passes tells))

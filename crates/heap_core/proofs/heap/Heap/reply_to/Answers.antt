@@ -20,10 +20,10 @@ pub returns-in-Some-clause-moments : goal.returns-in-Some-clause-moments
 returns-in-Some-clause-moments g c tells s core heap reached =
     let d = g.D.Disk in
     let disk = c.args.self.now.disk in
-    stays d.moment d.left_since disk (d.may_leave disk) (KeepsCommits core) (g.met.D.Disk.only_now tells disk) (heap_keeps s core _ _ heap.disk reached)
+    stays d.moment d.left_since disk (d.may_leave disk) (KeepsCommits core) (g.met.D.Disk.only_now tells disk) (heap_keeps s core _ _ heap.disk reached.sound)
 
 pub returns-in-Some-clause-passes : goal.returns-in-Some-clause-passes
-returns-in-Some-clause-passes g c tells core heap =
+returns-in-Some-clause-passes g c tells core heap reached =
     failed_passes core c.args.event c.in-Some.entry (g.D.Disk.passed c.args.self.now.disk) c.refused.result (sym heap.memory.failure ∙ c.in-Some.is)
 
 pub returns-in-None-clause-core : goal.returns-in-None-clause-core
@@ -36,4 +36,4 @@ pub returns-in-None-clause-moments : goal.returns-in-None-clause-moments
 returns-in-None-clause-moments g c tells s core heap reached = c.answer.ensures.moments tells s core heap c.in-None.is reached
 
 pub returns-in-None-clause-passes : goal.returns-in-None-clause-passes
-returns-in-None-clause-passes g c tells core heap = c.answer.ensures.passes tells core heap c.in-None.is
+returns-in-None-clause-passes g c tells core heap reached = c.answer.ensures.passes tells core heap reached c.in-None.is

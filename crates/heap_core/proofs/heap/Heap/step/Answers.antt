@@ -1,6 +1,7 @@
-use Rattle.std.proofs.Common.{List, ◌++◌, ◌∷◌, [], ap, ◌∙◌}
+use Rattle.std.proofs.Common.{List, ◌++◌, ◌∷◌, [], sym, ap, ◌∙◌}
 use Rattle.graph_model.specs.declared.reply.Entry.{Entry}
 use Rattle.heap_core.specs.declared.history.History.{History}
+use Rattle.heap_model.specs.CoreLawsRun.{same_step}
 use Rattle.heap_model.specs.CoreCrash.{KeepsCommits}
 use Rattle.heap_core.proofs.MeansLeft.{heap_keeps, stays}
 use Rattle.heap_core.proofs.MeansForce.{with_history}
@@ -8,20 +9,21 @@ use Rattle.heap_core.proofs.heap.Heap.step.Goals as goal
 
 pub returns-clause-core : goal.returns-clause-core
 returns-clause-core g c core heap reached one =
-    let steps = c.in_ok-reply.ensures.core core (record { history = c.reserve.ensures.same ∙ heap.history; memory = heap.memory }) reached one in
+    let steps = c.in_ok-reply.ensures.core core (record { history = c.reserve.ensures.same ∙ heap.history; before = heap.before; memory = heap.memory }) reached one in
     let entry : Entry = record { event = c.args.event; reply = c.in_ok-reply.reply } in (
       steps.next,
       steps.step,
       record {
         history = with_history core c.args.event c.in_ok-reply.reply _ _ c.args.self.now.history.entries.items _ heap.history
             (c.push.ensures ∙ ap (λ (l : List Entry). l ++ entry ∷ []) (ap (λ (h : History). h.entries.items) c.in_ok-reply.ensures.history ∙ c.reserve.ensures.same)) steps;
+        before = c.in_ok-reply.ensures.before ∙ heap.before ∙ sym (same_step core steps.next c.args.event c.in_ok-reply.reply steps.step).before;
         memory = steps.memory;
       },
     )
 
 pub returns-clause-holds : goal.returns-clause-holds
 returns-clause-holds g c tells s core heap reached one =
-    let on = c.in_ok-reply.ensures.holds tells s core (record { core = record { history = c.reserve.ensures.same ∙ heap.core.history; memory = heap.core.memory }; disk = heap.disk }) reached one in
+    let on = c.in_ok-reply.ensures.holds tells s core (record { core = record { history = c.reserve.ensures.same ∙ heap.core.history; before = heap.core.before; memory = heap.core.memory }; disk = heap.disk }) reached one in
     let steps = on.steps in
     let entry : Entry = record { event = c.args.event; reply = c.in_ok-reply.reply } in (
       steps.next,
@@ -30,6 +32,7 @@ returns-clause-holds g c tells s core heap reached one =
         core = record {
           history = with_history core c.args.event c.in_ok-reply.reply _ _ c.args.self.now.history.entries.items _ heap.core.history
               (c.push.ensures ∙ ap (λ (l : List Entry). l ++ entry ∷ []) (ap (λ (h : History). h.entries.items) c.in_ok-reply.ensures.history ∙ c.reserve.ensures.same)) steps;
+          before = c.in_ok-reply.ensures.before ∙ heap.core.before ∙ sym (same_step core steps.next c.args.event c.in_ok-reply.reply steps.step).before;
           memory = steps.memory;
         };
         disk = on.disk;
@@ -40,16 +43,16 @@ pub returns-in_err-reserve-clause-moments : goal.returns-in_err-reserve-clause-m
 returns-in_err-reserve-clause-moments g c tells s core heap reached =
     let d = g.D.Disk in
     let disk = c.args.self.now.disk in
-    stays d.moment d.left_since disk (d.may_leave disk) (KeepsCommits core) (g.met.D.Disk.only_now tells disk) (heap_keeps s core _ _ heap.disk reached)
+    stays d.moment d.left_since disk (d.may_leave disk) (KeepsCommits core) (g.met.D.Disk.only_now tells disk) (heap_keeps s core _ _ heap.disk reached.sound)
 
 pub returns-in_err-reply-clause-moments : goal.returns-in_err-reply-clause-moments
 returns-in_err-reply-clause-moments g c tells s core heap reached =
-    c.reply_to.ensures.moments tells s core (record { core = record { history = c.reserve.ensures.same ∙ heap.core.history; memory = heap.core.memory }; disk = heap.disk }) reached
+    c.reply_to.ensures.moments tells s core (record { core = record { history = c.reserve.ensures.same ∙ heap.core.history; before = heap.core.before; memory = heap.core.memory }; disk = heap.disk }) reached
 
 pub returns-clause-moments : goal.returns-clause-moments
 returns-clause-moments g c tells s core heap reached =
-    c.reply_to.ensures.moments tells s core (record { core = record { history = c.reserve.ensures.same ∙ heap.core.history; memory = heap.core.memory }; disk = heap.disk }) reached
+    c.reply_to.ensures.moments tells s core (record { core = record { history = c.reserve.ensures.same ∙ heap.core.history; before = heap.core.before; memory = heap.core.memory }; disk = heap.disk }) reached
 
 pub returns-clause-passes : goal.returns-clause-passes
-returns-clause-passes g c tells core heap =
-    c.in_ok-reply.ensures.passes tells core (record { history = c.reserve.ensures.same ∙ heap.history; memory = heap.memory })
+returns-clause-passes g c tells core heap reached =
+    c.in_ok-reply.ensures.passes tells core (record { history = c.reserve.ensures.same ∙ heap.history; before = heap.before; memory = heap.memory }) reached

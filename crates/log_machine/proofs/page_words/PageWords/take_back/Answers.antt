@@ -1,13 +1,14 @@
-use Rattle.std.proofs.Common.{List, subst, arith}
+use Rattle.std.proofs.Common.{◌≡◌, ◌<◌, List, length, subst, sym, ap, ◌∙◌, arith, length-set}
 use Rattle.std.specs.List.{AllByRecursion}
 use Rattle.std.proofs.lemmas.Grind.{common_steps}
 use Rattle.log_machine.specs.declared.UndoEntry.{UndoEntry}
-use Rattle.log_machine.specs.UndoEntry.{LiesInside}
-use Rattle.log_machine.proofs.Inside.{AllByRecursion-front}
+use Rattle.log_machine.specs.Machine.{field_at}
+use Rattle.log_machine.specs.ListLaws.{AllByRecursion-front}
 use Rattle.log_machine.proofs.page_words.PageWords.take_back.Goals as goal
 
 pub loop-entry-preserved : goal.loop-entry-preserved
 loop-entry-preserved c = record {
-  inside = AllByRecursion-front LiesInside _ _ (subst (λ (l : List UndoEntry). AllByRecursion LiesInside l) c.in-Some.ensures.steps c.loop-entry.invariant.inside);
+  size = ap length c.put.ensures ∙ length-set c.loop-entry.self _ _ ∙ c.loop-entry.invariant.size;
+  inside = AllByRecursion-front _ _ _ (subst (λ (l : List UndoEntry). AllByRecursion (λ (u : UndoEntry). field_at u.object u.field < length c.args.self.now) l) c.in-Some.ensures.steps c.loop-entry.invariant.inside);
   so_far = grind (arith, common_steps);
 }

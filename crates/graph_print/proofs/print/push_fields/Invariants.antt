@@ -1,0 +1,12 @@
+use Rattle.std.proofs.Common.{take}
+use Rattle.std.specs.Prelude.{IsTrue, None, string_bytes}
+use Rattle.object_layout.specs.Read.{IsRead}
+use Rattle.graph_print.specs.Printed.{AreFieldsPrinted}
+use Rattle.graph_print.proofs.print.push_fields.Given as goal
+
+abbrev pub invariant-loop-word : goal.invariant-loop-word
+invariant-loop-word g l = record {
+  read : IsRead g.W.Words.tells g.W.Words.extent g.W.Words.content g.W.Words.keeps g.W.Words.faults g.W.Words.stops l.initial.words l.words None;
+  printed : IsTrue g.W.Words.tells
+      → AreFieldsPrinted (g.W.Words.content l.initial.words) l.initial.order l.order (string_bytes l.initial.text) (string_bytes l.text) (take l.word-index l.fields);
+}

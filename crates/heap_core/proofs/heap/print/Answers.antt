@@ -1,0 +1,19 @@
+use Rattle.std.proofs.Common.{◌≡◌, ◌≢◌, ℕ, List, Err, refl, sym, ap, ◌∙◌, subst, rules}
+use Rattle.object_layout.specs.Layout.{IsSeen}
+use Rattle.heap_core.specs.Causes.{graph_error}
+use Rattle.heap_core.proofs.OpenErrors.{only_memory}
+use Rattle.heap_core.proofs.heap.print.Goals as goal
+
+pub returns-clause-text : goal.returns-clause-text
+returns-clause-text c gr seen =
+    let is = c.of-words.ensures ∙ c.as_slice.ensures in
+    c.in_ok-canon_text.ensures.text refl _ gr (subst (λ (ws : List ℕ). IsSeen ws 0 gr) (sym is) seen)
+
+pub returns-in_err-canon_text-clause-error : goal.returns-in_err-canon_text-clause-error
+returns-in_err-canon_text-clause-error c gr seen =
+    let is = c.of-words.ensures ∙ c.as_slice.ensures in
+    let e = c.in_err-canon_text.field-0.0 in
+    let err : c.from_residual.result ≡ Err (graph_error e) = search rules in
+    let there = subst (λ (ws : List ℕ). IsSeen ws 0 gr) (sym is) seen in
+    rw err (only_memory e (λ at bad. c.canon_text.ensures.seen refl _ gr there at (c.in_err-canon_text.was ∙ ap (λ x. Err x) bad))
+    (λ d bad. c.canon_text.ensures.no_disk d (c.in_err-canon_text.was ∙ ap (λ x. Err x) bad)))

@@ -1,0 +1,59 @@
+//! Why an image can't be opened.
+use crate::at::At;
+use disk_model::DiskError;
+use gated_log::LogError;
+use log_machine::ReplayError;
+use std::alloc::AllocError;
+
+/// Why an image can't be opened.
+#[derive(Clone, Copy, Debug, PartialEq, Eq)]
+pub enum RecoverError {
+    /// Memory was refused.
+    NoMemory,
+    /// The disk holds no heap: no good superblock, or fewer bytes than its plan.
+    NotHeap,
+    /// The disk holds a heap that is damaged there.
+    Damaged { at: At },
+    /// The disk failed or stopped.
+    Disk(DiskError),
+}
+
+impl From<AllocError> for RecoverError {
+    ghost use Rattle.std.specs.Prelude.{◌≡◌};
+    ghost use Rattle.heap_recovery.specs.declared.error.RecoverError.TheVariants.{NoMemory};
+
+    ghost from_gives = { λ _ error. error ≡ NoMemory };
+
+    fn from(_: AllocError) -> Self {
+        RecoverError::NoMemory
+    }
+}
+
+impl From<LogError> for RecoverError {
+    ghost use Rattle.std.specs.Prelude.{◌≡◌};
+    ghost use Rattle.heap_recovery.specs.Recovered.{log_error};
+
+    ghost from_gives = { λ e error. error ≡ log_error e };
+
+    fn from(e: LogError) -> Self {
+        match e {
+            LogError::NoMemory => RecoverError::NoMemory,
+            LogError::BadBatch { at } => RecoverError::Damaged { at: At::Batch(at) },
+            LogError::Disk(e) => RecoverError::Disk(e),
+        }
+    }
+}
+
+impl From<ReplayError> for RecoverError {
+    ghost use Rattle.std.specs.Prelude.{◌≡◌};
+    ghost use Rattle.heap_recovery.specs.Recovered.{replay_error};
+
+    ghost from_gives = { λ e error. error ≡ replay_error e };
+
+    fn from(e: ReplayError) -> Self {
+        match e {
+            ReplayError::NoMemory => RecoverError::NoMemory,
+            ReplayError::Unshaped { lsn } => RecoverError::Damaged { at: At::Rec(lsn) },
+        }
+    }
+}

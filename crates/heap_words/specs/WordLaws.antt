@@ -1,0 +1,21 @@
+-- Field words are read as they are written, and no word is read as two.
+use Rattle.std.proofs.Common.{◌≡◌, ℕ, Some, refl, arith}
+use Rattle.heap_words.specs.declared.Word.{Word}
+use Rattle.heap_words.specs.declared.Word.TheVariants.{Null, Int, Stable, Volatile}
+use Rattle.heap_words.specs.Word.{bits, IsWord, meaning}
+
+-- a meaning's word is read as that meaning
+pub meaning-bits : (word : Word) → IsWord word → meaning (bits word) ≡ Some word
+unfolding meaning
+meaning-bits Null within = refl
+meaning-bits (Int n) within = grind arith
+meaning-bits (Stable address) within = grind arith
+meaning-bits (Volatile index) within = grind arith
+
+-- a word that is read as a meaning is that meaning's word
+pub bits-meaning : (w : ℕ) (word : Word) → meaning w ≡ Some word → IsWord word × (w ≡ bits word)
+unfolding meaning
+bits-meaning w Null is = (tt, grind arith)
+bits-meaning w (Int n) is = (grind arith, grind arith)
+bits-meaning w (Stable address) is = (grind arith, grind arith)
+bits-meaning w (Volatile index) is = (grind arith, grind arith)

@@ -1,0 +1,105 @@
+-- The state in memory stays consistent, and its records write within the pages.
+use Rattle.std.proofs.Common.{◌≡◌, ℕ, ◌+◌, ◌<◌, ◌≤◌, max, Bool, true, false, cond, List, [], ◌∷◌, ◌++◌, length, reverse, drop, Option, None, Some, is_some, refl, sym, ap, ◌∙◌, subst, arith, Result, Ok, Err}
+use Rattle.std.specs.Prelude.{IfOk}
+use Rattle.std.specs.List.{AllByRecursion}
+use Rattle.std.specs.Ordering.{nat_cmp}
+use Rattle.std.specs.FinMap.{FinMap, empty, get, remove, entries}
+use Rattle.std.specs.Global.{Vec}
+use Rattle.std.proofs.lemmas.List.{reverse-reverse}
+use Rattle.log_records.specs.declared.Record.{Record}
+use Rattle.log_records.specs.declared.Record.TheVariants.{Update, Undo, Commit, End}
+use Rattle.log_machine.specs.declared.UndoEntry.{UndoEntry}
+use Rattle.log_machine.specs.UndoEntry.{LiesInside}
+use Rattle.log_machine.specs.Machine.{State, Loser, start, undo_in, undo_of, with_entries, words_in, field_at, is_number, lies_inside, is_same_write, without_newest, losing, abort_records, abort_each, rollback}
+use Rattle.log_machine.specs.ListLaws.{AllByRecursion-append, AllByRecursion-reverse}
+use Rattle.log_machine.specs.MapLaws.{EachEntry, each_empty, each_remove, get_first, remove_first}
+use Rattle.log_machine.specs.MachineLaws.{inside_told, newest_told}
+use Rattle.log_machine.specs.Sound.{IsLoser, IsSound, IsConsistent}
+use Rattle.log_machine.specs.StateLaws.{all_inside, sound_with, grown}
+use Rattle.log_machine.specs.Effect.{WritesBelow, EachWritesBelow}
+
+-- before the first record
+pub consistent_start : (pages first : ℕ) (undo : FinMap nat_cmp (List UndoEntry)) → 1 ≤ pages → undo ≡ empty → IsConsistent (record { pages = pages; base = 0; used = 6; undo = undo; commits = 0; next = first })
+consistent_start pages first undo some none =
+    subst (λ u. IsConsistent (record { pages = pages; base = 0; used = 6; undo = u; commits = 0; next = first })) (sym none)
+    (record { sound = each_empty (IsLoser (start pages first)); fits = omega arith })
+
+-- with other writes of one transaction
+pub consistent_with : (s : State) (t : ℕ) (us : List UndoEntry) (undo : FinMap nat_cmp (List UndoEntry)) (commits next : ℕ) → is_number t ≡ true → AllByRecursion (LiesInside s.base s.used) us → IsConsistent s
+    → undo ≡ with_entries s.undo t us → next ≡ max s.next (t + 1) → IsConsistent (record { pages = s.pages; base = s.base; used = s.used; undo = undo; commits = commits; next = next })
+consistent_with s t us undo commits next number inside is with_them later =
+    let sound = sound_with s t us 0 number inside is.sound in
+    let whole : IsConsistent (record { pages = s.pages; base = s.base; used = s.used; undo = with_entries s.undo t us; commits = commits; next = max s.next (t + 1) }) =
+    record { sound = λ q w some. let loser = sound q w some in record { some = loser.some; number = loser.number; known = loser.known; inside = loser.inside }; fits = is.fits } in
+    subst (λ u. IsConsistent (record { pages = s.pages; base = s.base; used = s.used; undo = u; commits = commits; next = next })) (sym with_them)
+    (subst (λ n. IsConsistent (record { pages = s.pages; base = s.base; used = s.used; undo = with_entries s.undo t us; commits = commits; next = n })) (sym later) whole)
+
+-- at the end of one
+pub consistent_end : (s : State) (t next : ℕ) → IsConsistent s → next ≡ max s.next (t + 1) → IsConsistent (record { pages = s.pages; base = s.base; used = s.used; undo = s.undo; commits = s.commits; next = next })
+consistent_end s t next is later =
+    record { sound = λ q w some. let loser = is.sound q w some in record { some = loser.some; number = loser.number; known = omega (arith, loser.known); inside = loser.inside }; fits = is.fits }
+
+-- one write more
+pub inside_more : (s : State) (now : State) (t : ℕ) (write : UndoEntry) → IsConsistent s → s ≡ now → lies_inside now write.object write.field ≡ true → AllByRecursion (LiesInside s.base s.used) (write ∷ undo_of s t)
+inside_more s now t write is same inside =
+    (inside_told s write.object write.field write.was (ap (λ (x : State). lies_inside x write.object write.field) same ∙ inside), all_inside s t is.sound)
+
+-- one less
+inside_less_of : (s : State) (us : List UndoEntry) → AllByRecursion (LiesInside s.base s.used) us → AllByRecursion (LiesInside s.base s.used) (drop 1 us)
+inside_less_of s [] all = tt
+inside_less_of s (u ∷ us) all = all.1
+
+pub inside_less : (s : State) (t : ℕ) → IsConsistent s → AllByRecursion (LiesInside s.base s.used) (drop 1 (undo_of s t))
+inside_less s t is = inside_less_of s (undo_of s t) (all_inside s t is.sound)
+
+-- the writes in the other order
+pub inside_reversed : (s now : State) (t : ℕ) (us : List UndoEntry) → IsConsistent s → s ≡ now → reverse us ≡ undo_of s t → AllByRecursion (LiesInside now.base now.used) us
+inside_reversed s now t us is same e =
+    subst (λ (x : State). AllByRecursion (LiesInside x.base x.used) us) same
+    (subst (λ l. AllByRecursion (LiesInside s.base s.used) l) (ap reverse (sym e) ∙ reverse-reverse us) (AllByRecursion-reverse (LiesInside s.base s.used) (undo_of s t) (all_inside s t is.sound)))
+
+-- The words that are written.
+
+-- a field inside is one of the pages' words
+pub below_pages : (s : State) (u : UndoEntry) → IsConsistent s → LiesInside s.base s.used u → field_at u.object u.field < words_in s.pages
+below_pages s u is inside = let fits = is.fits in let below = inside.below in omega arith
+
+pub field_below : (s now : State) (object field : ℕ) → IsConsistent s → s ≡ now → lies_inside now object field ≡ true → field_at object field < words_in now.pages
+field_below s now object field is same inside =
+    let here = ap (λ (x : State). lies_inside x object field) same ∙ inside in
+    subst (λ (x : State). field_at object field < words_in x.pages) same (below_pages s (record { object = object; field = field; was = 0 }) is (inside_told s object field 0 here))
+
+chosen : {X : Type 0} (b : Bool) (x : X) → is_some (cond b (Some x) None) ≡ true → cond b (Some x) None ≡ Some x
+chosen true x e = refl
+chosen false x e = absurd (cc e)
+
+newest_of : (s : State) (us : List UndoEntry) (write : UndoEntry) → AllByRecursion (LiesInside s.base s.used) us → is_some (without_newest us write) ≡ true → LiesInside s.base s.used write
+newest_of s [] write all e = absurd (cc e)
+newest_of s (u ∷ us) write all e = let told = newest_told (u ∷ us) write us (chosen (is_same_write u write) us e) in (subst (λ l. AllByRecursion (LiesInside s.base s.used) l) told all).0
+
+-- the newest write's field too
+pub newest_below : (s now : State) (t : ℕ) (write : UndoEntry) → IsConsistent s → s ≡ now → is_some (without_newest (undo_of now t) write) ≡ true → field_at write.object write.field < words_in now.pages
+newest_below s now t write is same e =
+    let here = ap (λ (x : State). is_some (without_newest (undo_of x t) write)) same ∙ e in
+    subst (λ (x : State). field_at write.object write.field < words_in x.pages) same (below_pages s write is (newest_of s (undo_of s t) write (all_inside s t is.sound) here))
+
+abort_below : (s : State) (t : ℕ) (us : List UndoEntry) → IsConsistent s → AllByRecursion (LiesInside s.base s.used) us → EachWritesBelow (words_in s.pages) (abort_records t us)
+abort_below s t [] is all = (tt, tt)
+abort_below s t (u ∷ us) is all = ((below_pages s u is all.0, tt), abort_below s t us is all.1)
+
+each_below : (es : List Loser) (s : State) (undo : FinMap nat_cmp (List UndoEntry)) → IsConsistent s → EachEntry (IsLoser s) undo → entries undo ≡ es → EachWritesBelow (words_in s.pages) (abort_each es)
+each_below [] s undo is each e = tt
+each_below (l ∷ ls) s undo is each e =
+    let found = get_first undo l.0 l.1 ls e in
+    AllByRecursion-append (WritesBelow (words_in s.pages)) (abort_records l.0 l.1) (abort_each ls)
+    (abort_below s l.0 l.1 is (each l.0 l.1 found).inside)
+    (each_below ls s (remove undo l.0) is (each_remove (IsLoser s) undo l.0 each) (remove_first undo l.0 l.1 ls e))
+
+-- so do the records that an opening appends
+pub rollback_below : (s now : State) → IsConsistent s → s ≡ now → EachWritesBelow (words_in now.pages) (rollback now)
+rollback_below s now is same = subst (λ (x : State). EachWritesBelow (words_in x.pages) (rollback x)) same (each_below (losing s) s s.undo is is.sound refl)
+
+pub told_below : {E : Type 0} (now : State) (r : Result (Vec Record) E) → EachWritesBelow (words_in now.pages) (rollback now) → IfOk r (λ records. records.items ≡ rollback now)
+    → IfOk r (λ records. EachWritesBelow (words_in now.pages) records.items)
+told_below now (Ok records) below is = subst (λ l. EachWritesBelow (words_in now.pages) l) (sym is) below
+told_below now (Err e) below is = tt

@@ -1,0 +1,23 @@
+-- How a state is stored, so that it can be what contracts see of a struct.
+use Rattle.std.specs.Prelude.{ℕ, List}
+use Rattle.std.specs.Coded.{Coded, code_by, coded×, coded_ℕ, coded_list}
+use Rattle.std.specs.Ordering.{nat_cmp}
+use Rattle.std.specs.FinMap.{FinMap}
+use Rattle.std.specs.FinMap as map
+use Rattle.std.proofs.Common.{refl}
+use Rattle.log_machine.specs.declared.UndoEntry.{UndoEntry}
+use Rattle.log_machine.specs.Machine.{State}
+
+abbrev pub entry_code : Coded UndoEntry
+entry_code =
+    code_by (ℕ × (ℕ × ℕ)) (coded× coded_ℕ (coded× coded_ℕ coded_ℕ)) (λ u. (u.object, (u.field, u.was))) (λ p. record { object = p.0; field = p.1.0; was = p.1.1 }) (λ _. refl)
+
+abbrev pub undo_code : Coded (FinMap nat_cmp (List UndoEntry))
+undo_code = map.code coded_ℕ (coded_list entry_code)
+
+abbrev pub state_code : Coded State
+state_code =
+    code_by (ℕ × (ℕ × (ℕ × (FinMap nat_cmp (List UndoEntry) × (ℕ × ℕ))))) (coded× coded_ℕ (coded× coded_ℕ (coded× coded_ℕ (coded× undo_code (coded× coded_ℕ coded_ℕ)))))
+    (λ s. (s.pages, (s.base, (s.used, (s.undo, (s.commits, s.next))))))
+    (λ p. record { pages = p.0; base = p.1.0; used = p.1.1.0; undo = p.1.1.1.0; commits = p.1.1.1.1.0; next = p.1.1.1.1.1 })
+    (λ _. refl)

@@ -1,0 +1,32 @@
+//! What a record writes.
+ghost use Rattle.std.specs.Prelude.{◌≡◌, ◌++◌, OnOk, OnErr};
+ghost use Rattle.log_machine.specs.Machine.{effect};
+ghost use Rattle.log_machine.specs.Effect.{WritesBelow};
+
+use crate::page_words::field_at;
+use log_records::Record;
+use std::alloc::AllocError;
+
+/// Adds the record's effect: the addresses that it writes, each with its word. An `Err` changes nothing.
+pub fn effect(rec: &Record, into: &mut Vec<(u32, u64)>) -> Result<(), AllocError>
+    requires { WritesBelow 2097152 rec.now }
+    ensures ok { OnOk result (into.new.items ≡ into.old.items ++ effect rec.now) }
+    ensures err { OnErr result (into.new.items ≡ into.old.items) }
+{
+    match rec {
+        Record::Update {
+            object,
+            field,
+            word,
+            ..
+        }
+        | Record::Undo {
+            object,
+            field,
+            word,
+            ..
+        } => into.push((field_at(*object, *field), *word))?,
+        Record::Commit { .. } | Record::End { .. } => {}
+    }
+    Ok(())
+}

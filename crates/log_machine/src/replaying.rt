@@ -1,0 +1,59 @@
+//! The state and the words after all records of a log.
+ghost use Rattle.std.specs.Prelude.{◌≡◌, ◌*◌, ◌<◌, ◌≤◌, ◌^◌, ℕ, Some, IfOk, IfErr, length};
+ghost use Rattle.log_machine.specs.declared.replaying.ReplayError.TheVariants.{Unshaped};
+ghost use Rattle.log_machine.specs.Machine.{start, after_all, words, reserve};
+ghost use Rattle.log_machine.specs.Replay.{IsFirstUnshaped};
+
+use crate::{AfterError, LogState, PageWords};
+use log_records::Record;
+use std::alloc::{AllocError, Global};
+
+/// Why the records were not all taken.
+#[derive(Clone, Copy, Debug, PartialEq, Eq)]
+pub enum ReplayError {
+    /// Memory was refused.
+    NoMemory,
+    /// The record with this LSN is the first that can't follow those before it.
+    Unshaped { lsn: u64 },
+}
+
+impl From<AllocError> for ReplayError {
+    ghost use Rattle.std.specs.Prelude.{◌≡◌};
+    ghost use Rattle.log_machine.specs.declared.replaying.ReplayError.TheVariants.{NoMemory};
+
+    ghost from_gives = { λ _ error. error ≡ NoMemory };
+
+    fn from(_: AllocError) -> ReplayError {
+        ReplayError::NoMemory
+    }
+}
+
+/// The state and the words after these records of a heap with two spaces of so many pages, whose first transaction has the
+/// number `first`.
+pub fn replay(
+    alloc: Global,
+    pages: u32,
+    first: u32,
+    records: &[Record],
+) -> Result<(LogState, PageWords), ReplayError>
+    requires some { 1 ≤ pages }
+    requires few { length records.now < 2 ^ 32 }
+    ensures state { IfOk result (λ found. after_all (start pages first) records.now ≡ Some found.0) }
+    ensures words { IfOk result (λ found. found.1 ≡ words pages records.now) }
+    ensures few_writes { IfOk result (λ found. reserve found.0 ≤ 29 * length records.now) }
+    // The record that is told is the first that can't follow.
+    ensures unshaped { IfErr result (λ e. (lsn : ℕ) → e ≡ Unshaped lsn → IsFirstUnshaped (start pages first) records.now lsn) }
+{
+    let mut state = LogState::start(alloc, pages, first);
+    let mut words = PageWords::first_contents(alloc, pages)?;
+    for (i, record) in records.iter().enumerate() {
+        match state.after(record) {
+            Ok(()) => words.apply(record),
+            Err(AfterError::NoMemory) => return Err(ReplayError::NoMemory),
+            Err(AfterError::Unshaped) => {
+                return Err(ReplayError::Unshaped { lsn: i as u64 + 1 });
+            }
+        }
+    }
+    Ok((state, words))
+}

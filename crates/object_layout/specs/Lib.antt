@@ -1,0 +1,12 @@
+pub mod CanonMatch
+pub mod Layout
+pub mod LayoutLaws
+pub mod Read
+pub mod ReadFailure
+pub mod ReadLaws
+pub mod RootLaws
+pub mod SeenLaws
+pub mod Walk
+pub mod WalkFailure
+pub mod WalkLaws
+pub mod WalkedLaws

@@ -1,0 +1,45 @@
+//! The heap's words as those who only read them see them.
+ghost use Rattle.std.specs.Prelude.{◌≡◌, ℕ, ◌<◌, Bool, List, length, slice_index, IsTrue, IfOk};
+ghost use Rattle.object_layout.specs.Read.{IsRead, disk_failure};
+
+use disk_model::DiskError;
+
+/// Words by address, which are read one at a time from what may fail as a disk does.
+pub trait Words {
+    /// Whether it tells its words, and reads give just these.
+    ghost tells: { Bool };
+
+    /// How many words there are.
+    ghost extent: { Self → ℕ };
+
+    /// The words, by address.
+    ghost content: { Self → List ℕ };
+
+    /// How often a call failed.
+    ghost faults: { Self → ℕ };
+
+    /// How often a call found the disk stopped.
+    ghost stops: { Self → ℕ };
+
+    /// What reads keep besides, as words of this kind say it: by it code that knows nothing but this trait says that all else is kept.
+    ghost keeps: { Self → Self → Type 0 };
+
+    /// The number of words, which never changes.
+    fn size(&self) -> u32
+        ensures { result ≡ extent self.now };
+
+    /// The word at an address.
+    fn word(&mut self, at: u32) -> Result<u64, DiskError>
+        requires { at < extent self.old }
+        ensures word { IsTrue tells → IfOk result (λ w. w ≡ slice_index (content self.old) at) }
+        ensures read { IsRead tells extent content keeps faults stops self.old self.new (disk_failure result) };
+
+    /// There are as many words as it has.
+    ghost same_size: { IsTrue tells → (words : Self) → length (content words) ≡ extent words };
+
+    /// What is not read keeps all.
+    ghost keeps_itself: { (words : Self) → keeps words words };
+
+    /// Read after read keeps it.
+    ghost keeps_on: { (old mid new : Self) → keeps old mid → keeps mid new → keeps old new };
+}

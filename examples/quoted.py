@@ -1,0 +1,16 @@
+#!/usr/bin/env python3
+"""Tells whether a page quotes a file: whether all its lines stand in the page one after another, indented by four blanks.
+
+    examples/quoted.py PAGE FILE [--notes]
+
+With --notes a line of the page may end in a note, which two or more blanks part from the quoted line.
+"""
+import re
+import sys
+
+page, file = (open(name, encoding="utf-8").read().splitlines() for name in sys.argv[1:3])
+wanted = ["    " + line if line else "" for line in file]
+if "--notes" in sys.argv:
+    page = [re.sub(r"(?<=\S) {2,}.*", "", line) for line in page]
+found = any(page[at : at + len(wanted)] == wanted for at in range(len(page)))
+sys.exit(not found)
