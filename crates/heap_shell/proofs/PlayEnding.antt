@@ -1,5 +1,5 @@
 -- The events that end a run, by what the heap says of itself.
-use Rattle.std.proofs.Common.{◌≡◌, ◌≢◌, Bool, true, false, List, [], ◌∷◌, Option, Some, None, refl}
+use Rattle.std.proofs.Common.{◌≡◌, ◌≢◌, ℕ, Bool, true, false, List, [], ◌∷◌, Option, Some, None, refl}
 use Rattle.std.specs.Prelude.{◌↔◌, is_some, IsTrue}
 use Rattle.graph_model.specs.declared.event.Event.TheVariants.{Abort, Force}
 use Rattle.graph_model.specs.Transaction.{Transaction}
@@ -7,14 +7,14 @@ use Rattle.log_records.specs.declared.Record.{Record}
 use Rattle.heap_model.specs.Ending.{abort_of, force_of}
 
 -- no transaction is active
-pub abort_of-none : (o : Option Transaction) → is_some o ≡ false → abort_of o ≡ []
-abort_of-none None is = refl
-abort_of-none (Some t) is = cc
+pub abort_of-none : (s : ℕ) (o : Option Transaction) → is_some o ≡ false → abort_of s o ≡ []
+abort_of-none s None is = refl
+abort_of-none s (Some t) is = cc
 
 -- one is
-pub abort_of-some : (o : Option Transaction) → is_some o ≡ true → abort_of o ≡ Abort 1 ∷ []
-abort_of-some None is = cc
-abort_of-some (Some t) is = refl
+pub abort_of-some : (s : ℕ) (o : Option Transaction) → is_some o ≡ true → abort_of s o ≡ Abort s ∷ []
+abort_of-some s None is = cc
+abort_of-some s (Some t) is = refl
 
 -- nothing waits
 pub force_of-none : (waiting : List Record) (b : Bool) → (IsTrue b ↔ (waiting ≢ [])) → b ≡ false → force_of waiting ≡ []

@@ -29,18 +29,16 @@ use Rattle.heap_model.specs.CoreCrash.{KeepsCommits}
 use Rattle.heap_model.specs.CoreLawsCalls.{total_calls-append}
 use Rattle.heap_model.specs.CoreLawsCrash.{commits-sealed}
 use Rattle.heap_model.specs.CoreLawsEnding.{total_few}
-use Rattle.heap_core.specs.CoreLawsGraph.{valid_graph}
 use Rattle.heap_shell.specs.CoreLawsPlay.{ready_behind, ready_front, makes_run}
-use Rattle.heap_model.specs.CoreLawsReplies.{run_answers, replies_law}
+use Rattle.heap_model.specs.CoreLawsReplies.{replies_law}
 use Rattle.heap_model.specs.CoreLawsRun.{reached_agrees}
-use Rattle.heap_model.specs.CoreReplies.{AnswersSerially, call_replies_of}
+use Rattle.heap_model.specs.CoreReplies.{call_replies_of}
 use Rattle.heap_model.specs.CoreRuns.{after_events, total_calls}
-use Rattle.heap_model.specs.CoreValid.{IsValid, IsReached}
+use Rattle.heap_model.specs.CoreValid.{IsReached}
 use Rattle.heap_shell.specs.Headline.{graph_text, end_text, let_through, IsWhole, IsCutBy, HasMade, StopsLast, IsExact, IsEndOfPlay, MakesEvents, Unharmed, KeepsThroughout, IsFollowed, StartsAgain, Prints, IsPlayed, Writes}
 use Rattle.heap_shell.specs.Playable.{IsPlayable}
 use Rattle.heap_shell.specs.Output.{WroteText, Recovers, WroteRecovered, WroteNothing, status_after}
-use Rattle.heap_core.specs.CoreGraph.{HasGraph}
-use Rattle.heap_shell.specs.Play.{AreReady, MakesAll, MakesShort, Makes, Ends, Plays, Wrote, lines_text, WroteFront, WroteLines}
+use Rattle.heap_shell.specs.Play.{IsRunning, AreReady, MakesAll, MakesShort, Makes, Ends, Plays, Wrote, lines_text, WroteFront, WroteLines}
 use Rattle.heap_shell.specs.StatusOf.{halt_status}
 use Rattle.heap_shell.specs.StepsLaws.{heap_steps}
 use Rattle.heap_shell.proofs.Causes.{disk_rose}
@@ -50,7 +48,7 @@ use Rattle.heap_shell.proofs.PlayLaws.{ends_makes}
 use Rattle.heap_shell.proofs.Statuses.{written_end, written_no_fault, wrote_all}
 use Rattle.heap_shell.proofs.Written.{front_more, then_front, whole_front, wrote_some}
 
-module _ {D : Type 0} {g : Ghosts D} (s : Super) (c : Core) (valid : IsValid c) (answers : AnswersSerially c) (new_history : c.history ≡ []) (events : List Event) (playable : IsPlayable events)
+module _ {D : Type 0} {g : Ghosts D} (s : Super) (c : Core) (running : IsRunning c) (new_history : c.history ≡ []) (events : List Event) (playable : IsPlayable events)
     (old new : Heap D g) (told : Bool) (before after : List ℕ) (result : Result (Unit {0}) Halt) (plays : Plays s c events old new told before after result) where
   abbrev core : Core
   core = plays.core
@@ -59,7 +57,7 @@ module _ {D : Type 0} {g : Ghosts D} (s : Super) (c : Core) (valid : IsValid c) 
   made = plays.made
 
   ready : AreReady c (made ++ plays.behind)
-  ready = subst (AreReady c) plays.parts (valid, playable.single)
+  ready = subst (AreReady c) plays.parts (record { running = running; single = playable.single })
 
   makes : Makes c made core old new
   makes = ends_makes c made plays.behind core old new result plays.ends
@@ -69,10 +67,10 @@ module _ {D : Type 0} {g : Ghosts D} (s : Super) (c : Core) (valid : IsValid c) 
   run_reached = makes_run c made plays.behind core old new ready makes
 
   made_single : AllByRecursion IsSingleSession made
-  made_single = (ready_front c made plays.behind ready).1
+  made_single = (ready_front c made plays.behind ready).single
 
   replies : call_replies_of core.history ≡ serial_replies core.g0 (commits core.history)
-  replies = replies_law core run_reached.1 (run_answers c core made answers made_single run_reached.0)
+  replies = replies_law core run_reached.1
 
   -- what a crash leaves now
   pub kept : (image : List ℕ) → g.may_leave new.disk image → KeepsCommits core image
@@ -85,16 +83,12 @@ module _ {D : Type 0} {g : Ghosts D} (s : Super) (c : Core) (valid : IsValid c) 
   least = let agrees = reached_agrees core run_reached.1 in let low = agrees.acknowledged_last in let high = agrees.sealed_first in omega arith
 
   most : all ≤ length (commits core.history)
-  most = let same : length (commits core.history) ≡ all = ap (λ (ts : List Transaction). length ts) (commits-sealed core run_reached.1) in omega arith
-
-  -- where the disk did what it was asked, the heap's graph is that of all commits
-  pub whole_graph : IsWhole c made core → HasGraph core (serial core.g0 (sealed core.history))
-  whole_graph whole = valid_graph core (subst IsValid (sym whole) (ready_behind c made plays.behind ready).0)
+  most = let same : length (commits core.history) ≡ all = ap (λ (ts : List Transaction). length ts) (commits-sealed core run_reached.1.sound) in omega arith
 
   -- the graph of all commits
   all_graph : graph_text (serial core.g0 (sealed core.history)) ≡ graph_text (serial core.g0 (take all (commits core.history)))
   all_graph =
-      let first : take all (commits core.history) ≡ sealed core.history = ap (take all) (commits-sealed core run_reached.1) ∙ take_all all (sealed core.history) (omega arith) in
+      let first : take all (commits core.history) ≡ sealed core.history = ap (take all) (commits-sealed core run_reached.1.sound) ∙ take_all all (sealed core.history) (omega arith) in
       ap (λ (ts : List Transaction). graph_text (serial core.g0 ts)) (sym first)
 
   nothing_yet : before ≡ before ++ lines_text c.history

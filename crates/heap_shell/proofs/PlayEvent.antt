@@ -24,9 +24,10 @@ use Rattle.heap_shell.specs.declared.play.Halt.{Halt}
 use Rattle.heap_shell.specs.declared.play.Halt.TheVariants as halt
 use Rattle.heap_shell.specs.declared.output.WriteError.{WriteError}
 use Rattle.heap_core.specs.Causes.{reply_device}
-use Rattle.heap_model.specs.Core.{Core, next_number, answer, with_entry, after, IsCutShort, IsStep, force_calls, calls_if, calls}
+use Rattle.heap_model.specs.Core.{Core, next_number, answer, with_entry, after, IsCutShort, IsStep, calls}
 use Rattle.heap_model.specs.CoreCrash.{KeepsCommits}
-use Rattle.heap_model.specs.CoreLawsRun.{step_history, valid_step}
+use Rattle.heap_model.specs.CoreLawsReplies.{step_reached}
+use Rattle.heap_model.specs.CoreLawsRun.{step_history}
 use Rattle.heap_model.specs.CoreLawsStep.{core_refusal-HasNoFault}
 use Rattle.heap_model.specs.CoreValid.{IsReached}
 use Rattle.heap_core.specs.Means.{DiskHolds, IsCore, IsHeap}
@@ -41,17 +42,6 @@ sound_device : (reply : Reply) → IsSoundReply reply → (reply_device reply �
 sound_device (Refused DiskFault) sound = absurd sound
 sound_device (Refused Stopped) sound = absurd sound
 sound_device reply sound = (refl, refl)
-
-forces_some : (p : List Record) → p ≢ [] → 0 < force_calls p
-forces_some [] some = absurd (some refl)
-forces_some (r ∷ rs) some = omega arith
-
--- a force that was cut short had calls to make
-cut_calls : (c : Core) (event : Event) (reply : Reply) → IsCutShort c event reply → 0 < calls c event
-cut_calls c event reply cut =
-    let made : calls c event ≡ force_calls c.pending = ap (λ (e : Event). calls c e) cut.force ∙ ap (λ (o : Option ℕ). calls_if o c Force) cut.first in
-    let some = forces_some c.pending cut.waits in
-    omega (arith, made, some)
 
 answer_sound : (c : Core) (event : Event) → IsSoundReply (answer c event)
 answer_sound c event = sound_either _ _ (core_refusal-HasNoFault c event) (granted_sound (next_number c) c.g0 (account c.history) event)
@@ -91,7 +81,7 @@ module _ {D : Type 0} {g : Ghosts D} (s : Super) (c d : Core) (event : Event) (r
     reached = reached;
     cause = keeps.cause;
     passes = λ stopped.
-        let short = passes.stopped (ap reply_device stopped) (cut_calls c event reply cut) in
+        let short = passes.stopped (ap reply_device stopped) cut.some in
         let same : short.0 ≡ 0 + short.0 = omega arith in (short.0, short.1, short.2 ∙ ap (λ (i : ℕ). counted i (g.passed old.disk)) same);
   }
 
@@ -123,7 +113,7 @@ module _ {D : Type 0} {g : Ghosts D} (s : Super) (c d : Core) (event : Event) (r
   -- it is a step on the heap's disk
   pub one_steps : AreSteps (HeapStep g) c old.disk one d new.disk
   one_steps =
-      let next = valid_step c d event reply ready.running.reached ready.single.0 step in
+      let next = step_reached c d event reply ready.running.reached ready.single.0 step in
       let made : Step g (Unit {0}) c old.disk event d new.disk =
       record { reply = reply; step = step; moments = moments; kept = heap_leaves s d new heap next; passes = λ u. passes } in
       (d, new.disk, record { made = made; disk = keeps }, (refl, refl))

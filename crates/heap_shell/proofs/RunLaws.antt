@@ -4,7 +4,7 @@ use Rattle.std.specs.Prelude.{IsTrue, IsErrAnd}
 use Rattle.std.specs.List.{AllByRecursion}
 use Rattle.std.proofs.lemmas.Bool.{cases_lt}
 use Rattle.disk_model.specs.declared.disk.Disk.{Ghosts}
-use Rattle.disk_model.specs.declared.disk.DiskError.{DiskError}
+use Rattle.disk_model.specs.declared.disk.DiskError.TheVariants as device
 use Rattle.disk_model.specs.Keeps.{KeepsDisk}
 use Rattle.disk_model.specs.Moments.{LeavesOnly, joined, weaker}
 use Rattle.gate_slot.specs.Passing.{Passes}
@@ -12,19 +12,20 @@ use Rattle.graph_model.specs.declared.event.Event.{Event}
 use Rattle.graph_model.specs.History.{acknowledged}
 use Rattle.graph_model.specs.SlowHeap.{IsSingleSession}
 use Rattle.heap_model.specs.Core.{Core}
-use Rattle.heap_model.specs.CoreCrash.{KeepsCommits}
+use Rattle.heap_model.specs.CoreCrash.{KeepsCommits, HasAtLeast}
+use Rattle.heap_model.specs.CoreLawsGrow.{has_at_least_on, keeps_at_least, has_fewer}
 use Rattle.heap_model.specs.CoreLawsEnding.{single_front}
-use Rattle.heap_model.specs.CoreLawsRun.{valid_run}
+use Rattle.heap_model.specs.CoreLawsReplies.{run_reached}
 use Rattle.heap_model.specs.CoreValid.{IsReached}
 use Rattle.heap_shell.specs.CrashSafe.{IsCrashSafe}
-use Rattle.heap_shell.specs.Steps.{Step, AreSteps, HasAtLeast}
-use Rattle.heap_shell.specs.StepsLaws.{steps_run, steps_last, prefix_lasts, run_acknowledges, at_least_on, at_least_keeps, at_least_less}
+use Rattle.heap_shell.specs.Steps.{Step, AreSteps}
+use Rattle.heap_shell.specs.StepsLaws.{steps_run, steps_last, prefix_lasts, run_acknowledges}
 use Rattle.image_plan.specs.declared.superblock.Super.{Super}
 use Rattle.image_plan.specs.Plan.{image_size}
-use Rattle.heap_core.specs.declared.formatting.FormatError.{FormatError}
-use Rattle.heap_core.specs.declared.formatting.FormatError.TheVariants as format
+use Rattle.heap_core.specs.declared.errors.FormatError.{FormatError}
+use Rattle.heap_core.specs.declared.errors.FormatError.TheVariants as format
 use Rattle.heap_core.specs.Format.{IsFormatting, format_calls}
-use Rattle.heap_core.specs.GivenBack.{device_error, FailsByDisk}
+use Rattle.heap_core.specs.GivenBack.{format_device, IsFromDisk}
 use Rattle.heap_shell.specs.declared.status.Status.{Status}
 use Rattle.heap_shell.specs.declared.status.Status.TheVariants as status
 use Rattle.heap_shell.specs.Headline.{IsEndOfPlay, IsSound, FailsFormat, IsUnmade, IsNotMade, Unharmed, IsPlayed}
@@ -65,27 +66,21 @@ module _ {D : Type 0} (g : Ghosts D) (s : Super) (old new : D) where
   abbrev need : ℕ
   need = image_size s.pages s.log_bytes
 
-  unmade : (e : FormatError) → (g.extent old < need → (e ≡ format.TooSmall (g.extent old) need) × (new ≡ old)) → (need ≤ g.extent old → (error : DiskError) × (e ≡ format.Disk error)) → KeepsDisk g old new (device_error e)
-      → (need ≤ g.extent old → Passes (format_calls need (g.bytes old)) (g.passed old) (g.passed new) (device_error e)) → IsUnmade g s old new (format_status e)
+  fits : (e : FormatError) → (g.extent old < need → (e ≡ format.TooSmall (g.extent old) need) × (new ≡ old)) → ((size full : ℕ) → e ≡ format.TooSmall size full → ⊥) → need ≤ g.extent old
+  fits e small other = ⊎_elim (λ (less : g.extent old < need). absurd (other (g.extent old) need (small less).0)) (λ (large : need ≤ g.extent old). large) (cases_lt (g.extent old) need)
+
+  unmade : (e : FormatError) → (g.extent old < need → (e ≡ format.TooSmall (g.extent old) need) × (new ≡ old)) → (need ≤ g.extent old → IsFromDisk e) → KeepsDisk g old new (format_device e)
+      → (need ≤ g.extent old → Passes (format_calls need (g.bytes old)) (g.passed old) (g.passed new) (format_device e)) → IsUnmade g s old new (format_status e)
   unmade (format.TooSmall size full) small large keeps passes = ⊎_elim
       (λ (less : g.extent old < need). (small less).1)
-      (λ (fits : need ≤ g.extent old). absurd (other size full (large fits)))
+      (λ (fits : need ≤ g.extent old). absurd (large fits))
       (cases_lt (g.extent old) need)
-    where
-      other : (size full : ℕ) → ((error : DiskError) × (format.TooSmall size full ≡ format.Disk error)) → ⊥
-      other size full is = cc (is.1)
-  unmade (format.Disk error) small large keeps passes = record {
-    error = error;
-    cause = keeps.cause;
-    passes = passes (⊎_elim (λ (less : g.extent old < need). absurd (other error (small less).0)) (λ (fits : need ≤ g.extent old). fits) (cases_lt (g.extent old) need));
-  }
-    where
-      other : (error : DiskError) → format.Disk error ≡ format.TooSmall (g.extent old) need → ⊥
-      other error is = cc
+  unmade format.DiskFault small large keeps passes = record { error = device.Failed; cause = keeps.cause; passes = passes (fits format.DiskFault small (λ size full is. cc)) }
+  unmade format.Stopped small large keeps passes = record { error = device.Stopped; cause = keeps.cause; passes = passes (fits format.Stopped small (λ size full is. cc)) }
 
   pub not_made : (e : FormatError) (by : Status) (told : Bool) (before : List ℕ) → by ≡ format_status e
-      → (g.extent old < need → (e ≡ format.TooSmall (g.extent old) need) × (new ≡ old)) → (need ≤ g.extent old → (error : DiskError) × (e ≡ format.Disk error)) → KeepsDisk g old new (device_error e)
-      → (need ≤ g.extent old → Passes (format_calls need (g.bytes old)) (g.passed old) (g.passed new) (device_error e)) → LeavesOnly g.moment g.left_since old new (IsFormatting s (g.bytes old))
+      → (g.extent old < need → (e ≡ format.TooSmall (g.extent old) need) × (new ≡ old)) → (need ≤ g.extent old → IsFromDisk e) → KeepsDisk g old new (format_device e)
+      → (need ≤ g.extent old → Passes (format_calls need (g.bytes old)) (g.passed old) (g.passed new) (format_device e)) → LeavesOnly g.moment g.left_since old new (IsFormatting s (g.bytes old))
       → IsNotMade g s old new by told before before
   not_made e by told before is small large keeps passes moments = record {
     reason = subst (IsUnmade g s old new) (sym is) (unmade e small large keeps passes);
@@ -103,7 +98,7 @@ module _ {D : Type 0} (g : Ghosts D) (now : (disk : D) (image : List ℕ) → g.
       let disk = played.disk in
       let one = single_front made played.run.behind (subst (AllByRecursion IsSingleSession) played.run.parts single) in
       let run = steps_run g (Unharmed g start final) c core disk.opened disk.stopped made disk.steps in
-      let at_end = valid_run c core made reached one run in
+      let at_end = run_reached c core made reached one run in
       let least = acknowledged c.history in
       let prefix = λ (front rest : List Event) (is : made ≡ front ++ rest). prefix_lasts g now (Unharmed g start final) c core disk.opened disk.stopped final front rest reached (subst (AllByRecursion IsSingleSession) is one) disk.here
       (subst (λ (l : List Event). AreSteps (Step g (Unharmed g start final)) c disk.opened l core disk.stopped) is disk.steps) disk.rest in
@@ -113,13 +108,13 @@ module _ {D : Type 0} (g : Ghosts D) (now : (disk : D) (image : List ℕ) → g.
         made = made;
         core = core;
         opened = disk.opened;
-        each = weaker g.moment g.left_since start final _ (HasAtLeast least core)
-            (joined g.moment g.left_since start disk.opened final (KeepsCommits c) _ disk.opening (joined g.moment g.left_since disk.opened disk.stopped final (HasAtLeast least core) (KeepsCommits core) since disk.rest))
+        each = weaker g.moment g.left_since start final _ (HasAtLeast core least)
+            (joined g.moment g.left_since start disk.opened final (KeepsCommits c) _ disk.opening (joined g.moment g.left_since disk.opened disk.stopped final (HasAtLeast core least) (KeepsCommits core) since disk.rest))
             (λ image either. ⊎_elim
-            (λ (kept : KeepsCommits c image). at_least_on least c core made image reached at_end run (at_least_keeps c image kept))
-            (λ (later : HasAtLeast least core image ⊎ KeepsCommits core image). ⊎_elim
-            (λ (has : HasAtLeast least core image). has)
-            (λ (kept : KeepsCommits core image). at_least_less least (acknowledged core.history) core image low (at_least_keeps core image kept))
+            (λ (kept : KeepsCommits c image). has_at_least_on c core made least image reached.sound at_end.sound run (keeps_at_least c image kept))
+            (λ (later : HasAtLeast core least image ⊎ KeepsCommits core image). ⊎_elim
+            (λ (has : HasAtLeast core least image). has)
+            (λ (kept : KeepsCommits core image). has_fewer core (acknowledged core.history) least image low (keeps_at_least core image kept))
             later)
             either);
         lasting = prefix;

@@ -9,9 +9,9 @@ use Rattle.heap_shell.specs.declared.status.Status.{Status}
 use Rattle.heap_shell.specs.declared.status.Status.TheVariants.{Done, DiskFault}
 use Rattle.disk_model.specs.declared.disk.DiskError.TheVariants as device
 use Rattle.heap_shell.specs.Causes.{played_device}
-use Rattle.heap_recovery.specs.declared.recovery.OpenError.{OpenError}
-use Rattle.heap_recovery.specs.declared.recovery.OpenError.TheVariants as opening
-use Rattle.heap_recovery.specs.Recovered.{IsFromOutside}
+use Rattle.heap_core.specs.Causes.{IsFromOutside}
+use Rattle.heap_core.specs.declared.errors.OpenError.{OpenError}
+use Rattle.heap_core.specs.declared.errors.OpenError.TheVariants as opening
 use Rattle.heap_shell.specs.Headline.{IsEndOfPlay}
 use Rattle.heap_shell.specs.Output.{WroteText, early_end, status_after}
 use Rattle.heap_shell.specs.StatusOf.{open_status, write_status, halt_status}
@@ -84,14 +84,16 @@ pub open_end : (e : OpenError) → IsFromOutside e → IsEndOfPlay (open_status 
 open_end opening.NoMemory outside = tt
 open_end opening.NotHeap outside = absurd outside
 open_end (opening.Damaged at) outside = absurd outside
-open_end (opening.Disk e) outside = tt
+open_end opening.DiskFault outside = tt
+open_end opening.Stopped outside = tt
 
 -- and isn't done
 pub open_not_done : (e : OpenError) → open_status e ≡ Done → ⊥
 open_not_done opening.NoMemory is = cc
 open_not_done opening.NotHeap is = cc
 open_not_done (opening.Damaged at) is = cc
-open_not_done (opening.Disk e) is = cc
+open_not_done opening.DiskFault is = cc
+open_not_done opening.Stopped is = cc
 
 -- a disk that has not stopped has not answered so
 pub no_stop : (s s' : ℕ) → s ≡ 0 → s' ≡ 0 → Rose s s' → ⊥

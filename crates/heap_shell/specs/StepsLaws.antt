@@ -1,8 +1,6 @@
 -- Laws of steps on a disk: they are a run of the core, and no moment of them loses what had been acknowledged.
 use Rattle.std.proofs.Common.{◌≡◌, ℕ, ◌≤◌, ⊎_elim, inl, inr, List, [], ◌∷◌, ◌++◌, length, take, refl, sym, ap, ◌∙◌, subst, arith, length-append}
-use Rattle.std.specs.Prelude.{max}
 use Rattle.std.specs.List.{AllByRecursion}
-use Rattle.std.proofs.lemmas.List.{take-append-le}
 use Rattle.disk_model.specs.declared.disk.Disk.{Ghosts}
 use Rattle.disk_model.specs.Moments.{LeavesOnly, begins, joined, weaker}
 use Rattle.graph_model.specs.declared.event.Event.{Event}
@@ -11,21 +9,18 @@ use Rattle.graph_model.specs.declared.reply.Entry.{Entry}
 use Rattle.graph_model.specs.declared.reply.Refusal.TheVariants.{DiskFault, Stopped}
 use Rattle.graph_model.specs.declared.reply.Reply.{Reply}
 use Rattle.graph_model.specs.declared.reply.Reply.TheVariants.{Begun, Sealed, Aborted, Durable, Refused}
-use Rattle.graph_model.specs.Graph.{Graph}
-use Rattle.graph_model.specs.History.{Account, account, session_of, done, cut_short, answered, acknowledged, commits, sealed}
+use Rattle.graph_model.specs.History.{Account, account, session_of, done, cut_short, answered, acknowledged}
 use Rattle.graph_model.specs.HistoryLaws.{account-append}
 use Rattle.graph_model.specs.SlowHeap.{IsSingleSession}
-use Rattle.graph_model.specs.Transaction.{Transaction, serial}
 use Rattle.heap_model.specs.Core.{Core, IsStep, IsRun}
-use Rattle.heap_model.specs.CoreCrash.{KeepsCommits, HasCommits}
-use Rattle.heap_model.specs.CoreLawsCrash.{commits-sealed}
+use Rattle.heap_model.specs.CoreCrash.{KeepsCommits, HasAtLeast}
 use Rattle.heap_model.specs.CoreLawsEnding.{single_front}
-use Rattle.heap_model.specs.CoreLawsGrow.{grows}
-use Rattle.heap_model.specs.CoreLawsRecords.{AllByRecursion-behind}
-use Rattle.heap_model.specs.CoreLawsRun.{step_history, valid_run}
+use Rattle.heap_model.specs.CoreLawsGrow.{has_at_least_on, keeps_at_least, has_fewer}
+use Rattle.heap_model.specs.ListLaws.{AllByRecursion-behind}
+use Rattle.heap_model.specs.CoreLawsRun.{step_history}
+use Rattle.heap_model.specs.CoreLawsReplies.{run_reached}
 use Rattle.heap_model.specs.CoreValid.{IsReached}
-use Rattle.heap_model.specs.Image.{StandsFor}
-use Rattle.heap_shell.specs.Steps.{Step, HeapStep, AreSteps, HasAtLeast}
+use Rattle.heap_shell.specs.Steps.{Step, HeapStep, AreSteps}
 
 done_acknowledges : (a : Account) (event : Event) (reply : Reply) → a.acknowledged ≤ (done a event reply).acknowledged
 done_acknowledges a event (Begun n) = omega arith
@@ -59,30 +54,6 @@ run_acknowledges c d (event ∷ events) run =
     let first = step_acknowledges c run.1 event run.0 run.2 in
     let rest = run_acknowledges run.1 d events run.3 in
     omega (arith, first, rest)
-
--- An image of at least so many commits of a core is one of at least so many of what a run leads to.
-pub at_least_on : (least : ℕ) (c d : Core) (events : List Event) (image : List ℕ) → IsReached c → IsReached d → IsRun c events d → HasAtLeast least c image → HasAtLeast least d image
-at_least_on least c d events image from to run has =
-    let k = has.commits.count in
-    let more = grows c d events run in
-    let all : commits d.history ≡ commits c.history ++ more.0 = commits-sealed d to ∙ more.1 ∙ ap (λ (l : List Transaction). l ++ more.0) (sym (commits-sealed c from)) in
-    let first : take k (commits d.history) ≡ take k (commits c.history) = ap (take k) all ∙ take-append-le k (commits c.history) more.0 has.commits.some in
-    let graph : serial d.g0 (take k (commits d.history)) ≡ serial c.g0 (take k (commits c.history)) =
-    ap (λ (g : Graph). serial g (take k (commits d.history))) more.2 ∙ ap (serial c.g0) first in
-    let commits : HasCommits d image = record {
-      count = k;
-      stands = subst (λ (g : Graph). StandsFor g k image) (sym graph) has.commits.stands;
-      some = omega (arith, has.commits.some, ap length all, length-append (commits c.history) more.0);
-    } in
-    record { commits = commits; enough = has.enough }
-
--- A crash keeps what was acknowledged: the least number is that one.
-pub at_least_keeps : (c : Core) (image : List ℕ) → KeepsCommits c image → HasAtLeast (acknowledged c.history) c image
-at_least_keeps c image keeps = record { commits = record { count = keeps.0; stands = keeps.1.stands; some = keeps.1.some }; enough = keeps.1.kept }
-
--- at least so many are at least fewer
-pub at_least_less : (less least : ℕ) (c : Core) (image : List ℕ) → less ≤ least → HasAtLeast least c image → HasAtLeast less c image
-at_least_less less least c image below has = record { commits = has.commits; enough = omega (arith, has.enough) }
 
 -- Steps behind steps.
 pub steps_append : {D : Type 0} (step : Core → D → Event → Core → D → Type 0) (c mid d : Core) (old between new : D) (before behind : List Event) → AreSteps step c old before mid between → AreSteps step mid between behind d new
@@ -119,50 +90,50 @@ module _ {D : Type 0} (g : Ghosts D) where
   module _ (only_now : (disk : D) (c : List ℕ) → g.left_since disk (g.moment disk) c → g.may_leave disk c) (unharmed : Type 0) where
     -- From the moment of the first disk on each image holds at least the commits that were acknowledged by then.
     pub steps_last : (c d : Core) (old new : D) (events : List Event) → IsReached c → AllByRecursion IsSingleSession events → ((image : List ℕ) → g.may_leave old image → KeepsCommits c image)
-        → AreSteps (Step g unharmed) c old events d new → LeavesOnly g.moment g.left_since old new (HasAtLeast (acknowledged c.history) d)
+        → AreSteps (Step g unharmed) c old events d new → LeavesOnly g.moment g.left_since old new (HasAtLeast d (acknowledged c.history))
     steps_last c d old new [] reached single here steps =
-        let P : Core → D → Type 0 = λ x disk. LeavesOnly g.moment g.left_since old disk (HasAtLeast (acknowledged c.history) x) in
+        let P : Core → D → Type 0 = λ x disk. LeavesOnly g.moment g.left_since old disk (HasAtLeast x (acknowledged c.history)) in
         subst (λ (x : Core). P x new) (sym steps.0) (subst (λ disk. P c disk) (sym steps.1)
-        (begins g.moment g.left_since old (HasAtLeast (acknowledged c.history) c) (λ image left. at_least_keeps c image (here image (only_now old image left)))))
+        (begins g.moment g.left_since old (HasAtLeast c (acknowledged c.history)) (λ image left. keeps_at_least c image (here image (only_now old image left)))))
     steps_last c d old new (event ∷ events) reached single here steps =
         let mid = steps.0 in
         let between = steps.1 in
         let step = steps.2 in
         let run = steps_run unharmed c d old new (event ∷ events) steps in
         let one : IsRun c (event ∷ []) mid = (step.reply, mid, step.step, refl) in
-        let at_mid = valid_run c mid (event ∷ []) reached (single.0, tt) one in
-        let at_end = valid_run c d (event ∷ events) reached single run in
+        let at_mid = run_reached c mid (event ∷ []) reached (single.0, tt) one in
+        let at_end = run_reached c d (event ∷ events) reached single run in
         let more = run_acknowledges c mid (event ∷ []) one in
         let rest = steps_last mid d between new events at_mid single.1 step.kept steps.3 in
         let least = acknowledged c.history in
-        weaker g.moment g.left_since old new _ (HasAtLeast least d)
-        (joined g.moment g.left_since old between new (KeepsCommits c) (HasAtLeast (acknowledged mid.history) d) step.moments rest)
+        weaker g.moment g.left_since old new _ (HasAtLeast d least)
+        (joined g.moment g.left_since old between new (KeepsCommits c) (HasAtLeast d (acknowledged mid.history)) step.moments rest)
         (λ image either. ⊎_elim
-        (λ (kept : KeepsCommits c image). at_least_on least c d (event ∷ events) image reached at_end run (at_least_keeps c image kept))
-        (λ (has : HasAtLeast (acknowledged mid.history) d image). at_least_less least (acknowledged mid.history) d image more has)
+        (λ (kept : KeepsCommits c image). has_at_least_on c d (event ∷ events) least image reached.sound at_end.sound run (keeps_at_least c image kept))
+        (λ (has : HasAtLeast d (acknowledged mid.history) image). has_fewer d (acknowledged mid.history) least image more has)
         either)
 
     -- For each first part of the events: from the moment at which the last of them was answered each image holds at least the commits
     -- that were acknowledged by then, up to a later moment until which a crash keeps all commits that were acknowledged at the end.
     pub prefix_lasts : (c d : Core) (old new final : D) (before behind : List Event) → IsReached c → AllByRecursion IsSingleSession (before ++ behind) → ((image : List ℕ) → g.may_leave old image → KeepsCommits c image)
         → AreSteps (Step g unharmed) c old (before ++ behind) d new → LeavesOnly g.moment g.left_since new final (KeepsCommits d)
-        → (mid : Core) × (between : D) × AreSteps (Step g unharmed) c old before mid between × LeavesOnly g.moment g.left_since between final (HasAtLeast (acknowledged mid.history) d)
+        → (mid : Core) × (between : D) × AreSteps (Step g unharmed) c old before mid between × LeavesOnly g.moment g.left_since between final (HasAtLeast d (acknowledged mid.history))
     prefix_lasts c d old new final before behind reached single here steps rest =
         let parts = steps_split (Step g unharmed) c d old new before behind steps in
         let mid = parts.0 in
         let between = parts.1 in
         let first = steps_run unharmed c mid old between before parts.2 in
         let second = steps_run unharmed mid d between new behind parts.3 in
-        let at_mid = valid_run c mid before reached (single_front before behind single) first in
+        let at_mid = run_reached c mid before reached (single_front before behind single) first in
         let kept = kept_at c mid old between before here parts.2 in
         let more = run_acknowledges mid d behind second in
         let least = acknowledged mid.history in
         let last = steps_last mid d between new behind at_mid (AllByRecursion-behind IsSingleSession before behind single) kept parts.3 in
-        (mid, between, parts.2, weaker g.moment g.left_since between final _ (HasAtLeast least d)
-        (joined g.moment g.left_since between new final (HasAtLeast least d) (KeepsCommits d) last rest)
+        (mid, between, parts.2, weaker g.moment g.left_since between final _ (HasAtLeast d least)
+        (joined g.moment g.left_since between new final (HasAtLeast d least) (KeepsCommits d) last rest)
         (λ image either. ⊎_elim
-        (λ (has : HasAtLeast least d image). has)
-        (λ (keeps : KeepsCommits d image). at_least_less least (acknowledged d.history) d image more (at_least_keeps d image keeps))
+        (λ (has : HasAtLeast d least image). has)
+        (λ (keeps : KeepsCommits d image). has_fewer d (acknowledged d.history) least image more (keeps_at_least d image keeps))
         either))
       where
         kept_at : (c d : Core) (old new : D) (events : List Event) → ((image : List ℕ) → g.may_leave old image → KeepsCommits c image) → AreSteps (Step g unharmed) c old events d new

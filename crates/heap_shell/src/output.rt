@@ -1,9 +1,10 @@
 //! What is printed: lines, how many commits came back, and the graph.
-ghost use Rattle.std.specs.Prelude.{◌≡◌, ◌-◌, ◌++◌, None, Err, IsTrue};
+ghost use Rattle.std.specs.Prelude.{◌≡◌, ◌+◌, ◌-◌, ◌++◌, length, min, None, Err, IsTrue};
+ghost use Rattle.counts.specs.Count.{greatest};
 ghost use Rattle.graph_model.specs.History.{sealed};
 ghost use Rattle.graph_model.specs.Text.{line};
 ghost use Rattle.graph_model.specs.Transaction.{serial};
-ghost use Rattle.heap_core.specs.HeapState.{commits_of, failed_at};
+ghost use Rattle.heap_core.specs.HeapState.{failed_at};
 ghost use Rattle.heap_core.specs.Means.{IsCore};
 ghost use Rattle.heap_model.specs.Core.{Core};
 ghost use Rattle.heap_model.specs.CoreValid.{IsReached};
@@ -63,8 +64,9 @@ pub fn write_graph<D: Disk, K: Sink>(
     ensures sink { StreamCause (K.faults sink.old) (K.faults sink.new) (result ≡ Err SinkFailed) }
     ensures wrote { IsTrue K.tells → (c : Core) → IsCore c heap.now → IsReached c → WroteText result (K.written sink.old) (graph_text (serial c.g0 (sealed c.history))) (K.written sink.new) }
 {
-    let text = heap.graph(alloc)?;
-    Ok(put_all(sink, text.as_bytes())?)
+    // Of an open heap this fails only for want of memory.
+    let text = heap.graph(alloc).map_err(|_| WriteError::NoMemory)?;
+    Ok(put_all(sink, &text)?)
 }
 
 /// Writes how many commits the heap's log holds more than `before`, and the graph.
@@ -76,7 +78,7 @@ pub fn write_recovered<D: Disk, K: Sink>(
 ) -> Result<(), WriteError>
     requires unfailed { failed_at heap.now ≡ None }
     ensures sink { StreamCause (K.faults sink.old) (K.faults sink.new) (result ≡ Err SinkFailed) }
-    ensures wrote { IsTrue K.tells → (c : Core) → IsCore c heap.now → IsReached c → WroteText result (K.written sink.old) (recovered_line (commits_of heap.now - before) ++ graph_text (serial c.g0 (sealed c.history))) (K.written sink.new) }
+    ensures wrote { IsTrue K.tells → (c : Core) → IsCore c heap.now → IsReached c → WroteText result (K.written sink.old) (recovered_line (min (c.before + length (sealed c.history)) greatest - before) ++ graph_text (serial c.g0 (sealed c.history))) (K.written sink.new) }
 {
     let commits = heap.commits().saturating_sub(before);
     let line = format!(in alloc; "recovered {commits}\n")?;

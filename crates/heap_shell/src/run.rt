@@ -27,10 +27,9 @@ use crate::command::read_words;
 use crate::output::{WriteError, write_graph, write_recovered};
 use crate::play::{Halt, play_all, play_lines};
 use crate::status::Status;
-use disk_model::{Disk, DiskError, FuseDisk};
-use heap_core::{Heap, OpenError, format};
+use disk_model::{Disk, FuseDisk};
+use heap_core::{Heap, OpenError};
 use heap_io::{Sink, Source, take_all};
-use image_plan::Super;
 use script_text::{Line, MOST_BYTES, read_script};
 use std::alloc::Global;
 
@@ -91,12 +90,7 @@ pub fn run<D: Disk, S: Source, K: Sink>(
         Ok(script) => script,
         Err(status) => return (status, disk),
     };
-    let of = Super {
-        pages: play.pages,
-        log_bytes: LOG_BYTES,
-        first: FIRST,
-    };
-    let disk = match format(disk, &of) {
+    let disk = match Heap::format(disk, play.pages, LOG_BYTES, FIRST) {
         Ok(disk) => disk,
         Err((e, disk)) => return (Status::from(e), disk),
     };
@@ -129,8 +123,8 @@ fn play_whole<D: Disk, K: Sink>(
     ensures disk { RunsDisk D.Disk disk result.1 (result.0 ≡ Status.DiskFault) }
     ensures sink { StreamCause (K.faults sink.old) (K.faults sink.new) (result.0 ≡ Status.WriteFault) }
     ensures restarts { IsTrue D.tells → D.restarts result.1 ≡ D.restarts disk }
-    ensures played { IsTrue D.tells → (pages : ℕ) → IsLegal (made_super pages) [] (D.bytes disk) → Only (D.bytes disk) (D.may_leave disk) → IsPlayable (all_events None made_core (events script.now))
-        → IsPlayed D.Disk None made_core (all_events None made_core (events script.now)) disk result.1 result.0 K.tells (K.written sink.old) (K.written sink.new) }
+    ensures played { IsTrue D.tells → (pages : ℕ) → IsLegal (made_super pages) [] (D.bytes disk) → Only (D.bytes disk) (D.may_leave disk) → IsPlayable (all_events None (made_core pages) (events script.now))
+        → IsPlayed D.Disk None (made_core pages) (all_events None (made_core pages) (events script.now)) disk result.1 result.0 K.tells (K.written sink.old) (K.written sink.new) }
 {
     let mut heap = match Heap::open(alloc, disk) {
         Ok(heap) => heap,
@@ -158,13 +152,13 @@ fn play_stopped<D: Disk, K: Sink>(
     ensures sink { StreamCause (K.faults sink.old) (K.faults sink.new) (result.0 ≡ Status.WriteFault) }
     ensures restarts { IsTrue D.tells → result.0 ≡ Status.Done → D.restarts result.1 ≡ raised (D.restarts disk) }
     ensures played { IsTrue D.tells → (pages : ℕ) → IsLegal (made_super pages) [] (D.bytes disk) → Only (D.bytes disk) (D.may_leave disk) → IsPlayable (events script.now)
-        → IsPlayed D.Disk (Some calls) made_core (events script.now) disk result.1 result.0 K.tells (K.written sink.old) (K.written sink.new) }
+        → IsPlayed D.Disk (Some calls) (made_core pages) (events script.now) disk result.1 result.0 K.tells (K.written sink.old) (K.written sink.new) }
 {
     let mut heap = match Heap::open(alloc, FuseDisk::new(disk, calls)) {
         Ok(heap) => heap,
         Err((e, fuse)) => {
             // The opening of a new heap writes nothing, so only a disk that didn't keep what was written can stop here.
-            if e == OpenError::Disk(DiskError::Stopped) {
+            if e == OpenError::Stopped {
                 return start_again(alloc, fuse, 0, sink);
             }
             return (Status::from(e), fuse.into_inner());
@@ -200,7 +194,7 @@ fn start_again<D: Disk, K: Sink>(
     ensures sink { StreamCause (K.faults sink.old) (K.faults sink.new) (result.0 ≡ Status.WriteFault) }
     ensures restarts { IsTrue D.tells → D.restarts result.1 ≡ raised (D.restarts (fuse_inner fuse)) }
     ensures moments { IsTrue D.tells → (c : Core) → ((image : List ℕ) → D.may_leave (fuse_inner fuse) image → KeepsCommits c image) → LeavesOnly D.moment D.left_since (fuse_inner fuse) result.1 (KeepsCommits c) }
-    ensures recovers { IsTrue D.tells → (c : Core) → ((image : List ℕ) → D.may_leave (fuse_inner fuse) image → KeepsCommits c image) → before ≡ 0
+    ensures recovers { IsTrue D.tells → (c : Core) → ((image : List ℕ) → D.may_leave (fuse_inner fuse) image → KeepsCommits c image) → before ≡ min c.before greatest
         → Recovers c (λ k. StartsAgain D.Disk c k (fuse_inner fuse) result.1) (D.may_leave result.1) result.0 K.tells (K.written sink.old) (K.written sink.new) }
 {
     let mut disk = fuse.into_inner();
@@ -230,7 +224,7 @@ fn print_recovered<D: Disk, K: Sink>(
     ensures sink { StreamCause (K.faults sink.old) (K.faults sink.new) (result.0 ≡ Status.WriteFault) }
     ensures restarts { IsTrue D.tells → D.restarts result.1 ≡ D.restarts disk }
     ensures moments { IsTrue D.tells → (c : Core) → KeepsCommits c (D.bytes disk) → Only (D.bytes disk) (D.may_leave disk) → LeavesOnly D.moment D.left_since disk result.1 (KeepsCommits c) }
-    ensures recovers { IsTrue D.tells → (c : Core) → KeepsCommits c (D.bytes disk) → Only (D.bytes disk) (D.may_leave disk) → before ≡ 0
+    ensures recovers { IsTrue D.tells → (c : Core) → KeepsCommits c (D.bytes disk) → Only (D.bytes disk) (D.may_leave disk) → before ≡ min c.before greatest
         → Recovers c (λ k. Reopens D.Disk c k disk result.1) (D.may_leave result.1) result.0 K.tells (K.written sink.old) (K.written sink.new) }
 {
     let heap = match Heap::open(alloc, disk) {

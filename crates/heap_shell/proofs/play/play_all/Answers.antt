@@ -26,7 +26,7 @@ returns-clause-plays g c tells of core heap ready =
     let between = k.written c.play_lines.new.sink in
     let after = k.written c.play_ending.new.sink in
     let first = c.in_ok-play_lines.ensures.plays tells of core heap ready in
-    plays_then of core (events c.args.lines.now) (ending (after_events core (events c.args.lines.now))) old mid new k.tells (k.written c.args.sink.now) between after c.play_ending.result (record { running = ready.running; single = all_single None core (events c.args.lines.now) ready.single }) first
+    plays_then of core (events c.args.lines.now) (ending (after_events core (events c.args.lines.now))) old mid new k.tells (k.written c.args.sink.now) between after c.play_ending.result (record { running = ready.running; single = all_single None core (events c.args.lines.now) ready.running.reached ready.single }) first
     (λ d reached is_heap is_ready. subst (λ (x : Core). Plays of d (ending x) mid new k.tells between after c.play_ending.result) reached (c.play_ending.ensures.plays tells of d is_heap is_ready.running))
     c.play_lines.ensures.disk.cause.faults_kept c.play_lines.ensures.disk.cause.stops_kept
 
@@ -45,5 +45,5 @@ returns-clause-core g c core is ready =
     let between = k.written c.play_lines.new.sink in
     let after = k.written c.play_ending.new.sink in
     core_then core (events c.args.lines.now) (ending (after_events core (events c.args.lines.now))) c.play_lines.new.heap new k.tells (k.written c.args.sink.now) between after c.play_ending.result
-    (record { running = ready.running; single = all_single None core (events c.args.lines.now) ready.single }) (c.in_ok-play_lines.ensures.core core is ready)
+    (record { running = ready.running; single = all_single None core (events c.args.lines.now) ready.running.reached ready.single }) (c.in_ok-play_lines.ensures.core core is ready)
     (λ d reached is_core is_ready. subst (λ (x : Core). PlaysCore d (ending x) new k.tells between after c.play_ending.result) reached (c.play_ending.ensures.core d is_core is_ready.running))

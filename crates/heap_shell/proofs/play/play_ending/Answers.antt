@@ -25,7 +25,7 @@ returns-clause-plays g c tells of core heap valid =
     let between = k.written c.play_abort.new.sink in
     let after = k.written c.play_force.new.sink in
     let first = c.in_ok-play_abort.ensures.plays tells of core heap valid in
-    plays_then of core (aborting core) (forcing (after_events core (aborting core))) old mid new k.tells (k.written c.args.sink.now) between after c.play_force.result (record { running = valid; single = ending_single core }) first
+    plays_then of core (aborting core) (forcing (after_events core (aborting core))) old mid new k.tells (k.written c.args.sink.now) between after c.play_force.result (record { running = valid; single = ending_single core valid.reached.sound }) first
     (λ d reached is_heap is_ready. subst (λ (x : Core). Plays of d (forcing x) mid new k.tells between after c.play_force.result) reached (c.play_force.ensures.plays tells of d is_heap is_ready.running))
     c.play_abort.ensures.disk.cause.faults_kept c.play_abort.ensures.disk.cause.stops_kept
 
@@ -43,6 +43,6 @@ returns-clause-core g c core is running =
     let new = c.play_force.new.heap in
     let between = k.written c.play_abort.new.sink in
     let after = k.written c.play_force.new.sink in
-    core_then core (aborting core) (forcing (after_events core (aborting core))) c.play_abort.new.heap new k.tells (k.written c.args.sink.now) between after c.play_force.result (record { running = running; single = ending_single core })
+    core_then core (aborting core) (forcing (after_events core (aborting core))) c.play_abort.new.heap new k.tells (k.written c.args.sink.now) between after c.play_force.result (record { running = running; single = ending_single core running.reached.sound })
     (c.in_ok-play_abort.ensures.core core is running)
     (λ d reached is_core is_ready. subst (λ (x : Core). PlaysCore d (forcing x) new k.tells between after c.play_force.result) reached (c.play_force.ensures.core d is_core is_ready.running))

@@ -7,13 +7,14 @@ use Rattle.disk_model.specs.KeepsLaws.{rose_until}
 use Rattle.disk_model.specs.Moments.{LeavesOnly, begins}
 use Rattle.heap_shell.specs.declared.status.Status.{Status}
 use Rattle.heap_shell.specs.declared.status.Status.TheVariants as status
-use Rattle.heap_recovery.specs.declared.recovery.OpenError.TheVariants as opening
+use Rattle.heap_core.specs.declared.errors.OpenError.TheVariants as opening
 use Rattle.heap_shell.specs.Causes.{DiskRose, RunsDisk}
-use Rattle.heap_recovery.specs.Causes.{error_device}
+use Rattle.heap_core.specs.Causes.{error_device}
 use Rattle.heap_model.specs.CoreCrash.{KeepsCommits}
-use Rattle.heap_model.specs.CoreLawsReplies.{answers_fresh}
 use Rattle.heap_model.specs.CoreRuns.{total_calls}
-use Rattle.heap_shell.specs.CoreLawsPlay.{made_valid}
+use Rattle.heap_shell.specs.CoreLawsPlay.{made_running}
+use Rattle.graph_model.specs.Graph.{new_graph}
+use Rattle.heap_model.specs.CoreLawsNew.{new_shows}
 use Rattle.heap_shell.specs.Headline.{made_super, made_core, IsExact, IsPlayed, KeepsThroughout, StartsAgain, Unharmed}
 use Rattle.heap_shell.specs.Output.{Recovers}
 use Rattle.heap_model.specs.Image.{IsLegal}
@@ -21,7 +22,7 @@ use Rattle.script_text.specs.Line.{events}
 use Rattle.heap_shell.proofs.Causes.{rose_within}
 use Rattle.heap_shell.proofs.PlayEnds.{kept, halt_part, halt_lines, stopped_lines, ends_early, ends_recovered, ends_made, exact_some, passes_some}
 use Rattle.heap_shell.proofs.PlayFuse.{same_disk, same_limit, fuse_since, fuse_passes, IsFuse, fuse_steps_of}
-use Rattle.heap_shell.proofs.PlayOpen.{new_stands, opened_commits, opening_keeps, ends_unopened}
+use Rattle.heap_shell.proofs.PlayOpen.{empty_image, new_stands, opened_commits, opening_keeps, ends_unopened}
 use Rattle.heap_shell.proofs.Statuses.{no_stop, early_none, early_some, halt_device, halt_end, halt_not_done}
 use Rattle.heap_shell.proofs.run.play_stopped.Goals as goal
 
@@ -29,13 +30,14 @@ pub returns-in-Err-clause-played : goal.returns-in-Err-clause-played
 returns-in-Err-clause-played g c tells pages legal only playable =
     let d = g.D.Disk in
     let s = made_super pages in
+    let limits = legal.log.limits in
     let inner = c.new.ensures.inner in
     let bytes = d.bytes (fuse_inner c.new.result) in
     let legal_f = subst (λ x. IsLegal s [] (d.bytes x)) (sym inner) legal in
     let only_f = subst (λ x. Only (d.bytes x) (d.may_leave x)) (sym inner) only in
     let stands = new_stands pages bytes legal_f in
     let opened = fuse_since c.new.result c.in-Err.fuse _ (c.in-Err.ensures.moments tells only_f _ _ stands) in
-    rw (c.into_inner.ensures, sym inner) (ends_unopened d (Some c.args.calls) (events c.args.script.now) c.in-Err.e c.from.result (fuse_inner c.new.result) (fuse_inner c.in-Err.fuse)
+    rw (c.into_inner.ensures, sym inner) (ends_unopened d pages (Some c.args.calls) (events c.args.script.now) c.in-Err.e c.from.result (fuse_inner c.new.result) (fuse_inner c.in-Err.fuse)
     g.K.Sink.tells (g.K.Sink.written c.args.sink.now) c.from.ensures (c.in-Err.ensures.legal tells s [] legal_f)
     (opening_keeps d.moment d.left_since (fuse_inner c.new.result) (fuse_inner c.in-Err.fuse) pages bytes legal_f opened)
     (λ image left. opened_commits pages bytes legal_f image (c.in-Err.ensures.crash tells only_f _ _ stands image left))
@@ -46,8 +48,8 @@ pub returns-then-eq-clause-played : goal.returns-then-eq-clause-played
 returns-then-eq-clause-played g c tells pages legal only playable =
     let legal_f = subst (λ x. IsLegal (made_super pages) [] (g.D.Disk.bytes x)) (sym c.new.ensures.inner) legal in
     let still = c.in-Err.ensures.no_first_stop tells (made_super pages) [] legal_f refl c.new.ensures.stops in
-    let is : c.in-Err.e ≡ opening.Disk device.Stopped = search rules in
-    absurd (no_stop c.new.result.stops c.in-Err.fuse.stops c.new.ensures.stops still (c.in-Err.ensures.cause.stopped (ap error_device is)))
+    let is : c.in-Err.e ≡ opening.Stopped = search rules in
+    absurd (no_stop c.new.result.stops c.in-Err.fuse.stops c.new.ensures.stops still (c.in-Err.ensures.disk.cause.stopped (ap error_device is)))
 
 -- the heap is opened again
 pub returns-in-None-clause-played : goal.returns-in-None-clause-played
@@ -55,6 +57,7 @@ returns-in-None-clause-played g c tells pages legal only playable =
     let d = g.D.Disk in
     let k = g.K.Sink in
     let s = made_super pages in
+    let limits = legal.log.limits in
     let es = events c.args.script.now in
     let before = k.written c.args.sink.now in
     let after = k.written c.play_lines-played.new.sink in
@@ -68,35 +71,36 @@ returns-in-None-clause-played g c tells pages legal only playable =
     let legal_f = subst (λ x. IsLegal s [] (d.bytes x)) (sym inner) legal in
     let only_f = subst (λ x. Only (d.bytes x) (d.may_leave x)) (sym inner) only in
     let stands = new_stands pages bytes legal_f in
-    let plays = c.play_lines-played.ensures.plays tells s made_core (c.in-Ok.ensures.fresh tells s legal_f only_f) (made_valid, playable.single) in
-    let keep = kept s made_core made_valid (answers_fresh 1048576 1) refl es playable old new k.tells before after c.play_lines-played.result plays in
+    let plays = c.play_lines-played.ensures.plays tells s (made_core pages) (c.in-Ok.ensures.holds tells s [] (empty_image pages bytes legal_f) only_f new_graph (new_shows s limits)) (record { running = made_running pages limits; single = playable.single }) in
+    let heap = c.in-Ok.ensures.holds tells s [] (empty_image pages bytes legal_f) only_f new_graph (new_shows s limits) in
+    let keep = kept s (made_core pages) (made_running pages limits) refl es playable old new k.tells before after c.play_lines-played.result plays in
     let ended = early_none c.play_lines-played.result (sym c.early_end.ensures ∙ c.in-None.is) in
-    let origin = c.play_lines-played.ensures.disk.origin ∙ c.in-Ok.ensures.origin ∙ c.new.ensures.origin in
+    let origin = c.play_lines-played.ensures.disk.origin ∙ c.in-Ok.ensures.disk.origin ∙ c.new.ensures.origin in
     let limit = same_limit _ _ origin in
     let within = subst (λ n. fuse_passed new.disk ≤ n) limit new.disk.within in
-    let first = c.in-Ok.ensures.cause.faults_kept in
+    let first = c.in-Ok.ensures.disk.cause.faults_kept in
     let then = c.play_lines-played.ensures.disk.cause.faults_kept in
     let closed = c.close.ensures in
     let kept_on = subst (λ x. d.faults (fuse_inner x) + d.stops (fuse_inner x) ≤ d.faults final + d.stops final) closed c.start_again-in-None.ensures.disk.kept in
     let unrisen = λ (unharmed : Unharmed d start final) (rose : Rose (d.faults (fuse_inner old.disk) + d.stops (fuse_inner old.disk)) (d.faults stopped + d.stops stopped)). unharmed (rose_within _ _ _ _ first then kept_on rose) in
     let passed = (c.in-Ok.ensures.passes tells s [] legal_f).ok ∙ c.new.ensures.passed in
     let still = c.in-Ok.ensures.no_first_stop tells s [] legal_f refl c.new.ensures.stops in
-    let exact : Unharmed d start final → IsExact (Some c.args.calls) made_core plays.made plays.core = λ u. exact_some s made_core made_valid (answers_fresh 1048576 1) refl es playable old new k.tells before after c.play_lines-played.result plays c.args.calls passed still within (λ blown. new.disk.blown blown ∙ limit) (unrisen u) in
-    let through = min c.args.calls (total_calls made_core plays.made) in
+    let exact : Unharmed d start final → IsExact (Some c.args.calls) (made_core pages) plays.made plays.core = λ u. exact_some s (made_core pages) (made_running pages limits) refl es playable old new k.tells before after c.play_lines-played.result plays c.args.calls passed still within (λ blown. new.disk.blown blown ∙ limit) (unrisen u) in
+    let through = min c.args.calls (total_calls (made_core pages) plays.made) in
     let inside : Unharmed d start final → d.passed stopped ≡ counted through (d.passed start) = λ u. fuse_passes new.disk start through tells (same_disk _ _ origin ∙ sym inner) (λ rose. u (rose_until _ _ _ kept_on rose))
-    (passes_some s made_core made_valid (answers_fresh 1048576 1) refl es playable old new k.tells before after c.play_lines-played.result plays c.args.calls passed still within (λ blown. new.disk.blown blown ∙ limit) (unrisen u)) in
+    (passes_some s (made_core pages) (made_running pages limits) refl es playable old new k.tells before after c.play_lines-played.result plays c.args.calls passed still within (λ blown. new.disk.blown blown ∙ limit) (unrisen u)) in
     let left : (image : List ℕ) → d.may_leave (fuse_inner c.close.result) image → KeepsCommits plays.core image = λ image l. keep image (subst (λ x. d.may_leave (fuse_inner x) image) closed l) in
     let rest = subst (λ x. LeavesOnly d.moment d.left_since (fuse_inner x) final (KeepsCommits plays.core)) closed (c.start_again-in-None.ensures.moments tells plays.core left) in
     let recovers = subst (λ x. Recovers plays.core (λ i. StartsAgain d plays.core i (fuse_inner x) final) (d.may_leave final) c.start_again-in-None.result.0 k.tells after (k.written c.start_again-in-None.new.sink)) closed
-    (c.start_again-in-None.ensures.recovers tells plays.core left (c.commits-before.ensures ∙ c.in-Ok.ensures.count tells s [] legal_f)) in
+    (c.start_again-in-None.ensures.recovers tells plays.core left (c.commits-before.ensures (made_core pages) heap.core)) in
     let steps = fuse_steps_of c.play_lines-played.ensures.disk (record {
       moments = λ core a b run. fuse_since a b (KeepsCommits core) run;
       images = λ fuse image may. may;
       origin = λ a b same. same;
       passed = λ fuse. refl;
       faults = λ fuse. refl;
-    }) (Unharmed d start final) start tells made_core plays.core old.disk new.disk plays.made (same_disk _ _ (c.in-Ok.ensures.origin ∙ c.new.ensures.origin) ∙ sym inner) (λ u rose. u (rose_until _ _ _ kept_on rose)) plays.steps in
-    let keeps : KeepsThroughout d (Unharmed d start final) made_core plays.made plays.core start final = record {
+    }) (Unharmed d start final) start tells (made_core pages) plays.core old.disk new.disk plays.made (same_disk _ _ (c.in-Ok.ensures.disk.origin ∙ c.new.ensures.origin) ∙ sym inner) (λ u rose. u (rose_until _ _ _ kept_on rose)) plays.steps in
+    let keeps : KeepsThroughout d (Unharmed d start final) (made_core pages) plays.made plays.core start final = record {
       opened = fuse_inner old.disk;
       opening = opening_keeps d.moment d.left_since start (fuse_inner old.disk) pages bytes legal_f (fuse_since c.new.result old.disk _ (c.in-Ok.ensures.moments tells only_f _ _ stands));
       here = λ image may. opened_commits pages bytes legal_f image (c.in-Ok.ensures.crash tells only_f _ _ stands image may);
@@ -105,9 +109,9 @@ returns-in-None-clause-played g c tells pages legal only playable =
       rest = rest;
       kept = recovers.kept;
     } in
-    rw (sym inner) (ends_recovered s made_core made_valid (answers_fresh 1048576 1) refl es playable old new k.tells before after c.play_lines-played.result plays d start final keeps c.args.calls c.start_again-in-None.result.0 (k.written c.start_again-in-None.new.sink)
-    (ends_made s made_core made_valid (answers_fresh 1048576 1) refl es playable old new k.tells before after c.play_lines-played.result plays c.args.calls ended) exact
-    (stopped_lines s made_core made_valid (answers_fresh 1048576 1) refl es playable old new k.tells before after c.play_lines-played.result plays ended) recovers inside)
+    rw (sym inner) (ends_recovered s (made_core pages) (made_running pages limits) refl es playable old new k.tells before after c.play_lines-played.result plays d start final keeps c.args.calls c.start_again-in-None.result.0 (k.written c.start_again-in-None.new.sink)
+    (ends_made s (made_core pages) (made_running pages limits) refl es playable old new k.tells before after c.play_lines-played.result plays c.args.calls ended) exact
+    (stopped_lines s (made_core pages) (made_running pages limits) refl es playable old new k.tells before after c.play_lines-played.result plays ended) recovers inside)
 
 -- it ended before
 pub returns-in-Some-clause-played : goal.returns-in-Some-clause-played
@@ -115,6 +119,7 @@ returns-in-Some-clause-played g c tells pages legal only playable =
     let d = g.D.Disk in
     let k = g.K.Sink in
     let s = made_super pages in
+    let limits = legal.log.limits in
     let es = events c.args.script.now in
     let before = k.written c.args.sink.now in
     let after = k.written c.play_lines-played.new.sink in
@@ -127,25 +132,26 @@ returns-in-Some-clause-played g c tells pages legal only playable =
     let legal_f = subst (λ x. IsLegal s [] (d.bytes x)) (sym inner) legal in
     let only_f = subst (λ x. Only (d.bytes x) (d.may_leave x)) (sym inner) only in
     let stands = new_stands pages bytes legal_f in
-    let plays = c.play_lines-played.ensures.plays tells s made_core (c.in-Ok.ensures.fresh tells s legal_f only_f) (made_valid, playable.single) in
-    let keep = kept s made_core made_valid (answers_fresh 1048576 1) refl es playable old new k.tells before after c.play_lines-played.result plays in
+    let plays = c.play_lines-played.ensures.plays tells s (made_core pages) (c.in-Ok.ensures.holds tells s [] (empty_image pages bytes legal_f) only_f new_graph (new_shows s limits)) (record { running = made_running pages limits; single = playable.single }) in
+    let heap = c.in-Ok.ensures.holds tells s [] (empty_image pages bytes legal_f) only_f new_graph (new_shows s limits) in
+    let keep = kept s (made_core pages) (made_running pages limits) refl es playable old new k.tells before after c.play_lines-played.result plays in
     let halted = early_some c.play_lines-played.result c.in-Some.status (sym c.early_end.ensures ∙ c.in-Some.is) in
-    let origin = c.play_lines-played.ensures.disk.origin ∙ c.in-Ok.ensures.origin ∙ c.new.ensures.origin in
+    let origin = c.play_lines-played.ensures.disk.origin ∙ c.in-Ok.ensures.disk.origin ∙ c.new.ensures.origin in
     let limit = same_limit _ _ origin in
     let within = subst (λ n. fuse_passed new.disk ≤ n) limit new.disk.within in
-    let first = c.in-Ok.ensures.cause.faults_kept in
+    let first = c.in-Ok.ensures.disk.cause.faults_kept in
     let unrisen = λ (unharmed : Unharmed d start final) (rose : Rose (d.faults (fuse_inner old.disk) + d.stops (fuse_inner old.disk)) (d.faults final + d.stops final)). unharmed (rose_within _ _ _ _ first c.play_lines-played.ensures.disk.cause.faults_kept (omega arith) rose) in
     let passed = (c.in-Ok.ensures.passes tells s [] legal_f).ok ∙ c.new.ensures.passed in
     let still = c.in-Ok.ensures.no_first_stop tells s [] legal_f refl c.new.ensures.stops in
-    let exact : Unharmed d start final → IsExact (Some c.args.calls) made_core plays.made plays.core = λ u. exact_some s made_core made_valid (answers_fresh 1048576 1) refl es playable old new k.tells before after c.play_lines-played.result plays c.args.calls passed still within (λ blown. new.disk.blown blown ∙ limit) (unrisen u) in
+    let exact : Unharmed d start final → IsExact (Some c.args.calls) (made_core pages) plays.made plays.core = λ u. exact_some s (made_core pages) (made_running pages limits) refl es playable old new k.tells before after c.play_lines-played.result plays c.args.calls passed still within (λ blown. new.disk.blown blown ∙ limit) (unrisen u) in
     let steps = fuse_steps_of c.play_lines-played.ensures.disk (record {
       moments = λ core a b run. fuse_since a b (KeepsCommits core) run;
       images = λ fuse image may. may;
       origin = λ a b same. same;
       passed = λ fuse. refl;
       faults = λ fuse. refl;
-    }) (Unharmed d start final) start tells made_core plays.core old.disk new.disk plays.made (same_disk _ _ (c.in-Ok.ensures.origin ∙ c.new.ensures.origin) ∙ sym inner) (λ u rose. u rose) plays.steps in
-    let keeps : KeepsThroughout d (Unharmed d start final) made_core plays.made plays.core start final = record {
+    }) (Unharmed d start final) start tells (made_core pages) plays.core old.disk new.disk plays.made (same_disk _ _ (c.in-Ok.ensures.disk.origin ∙ c.new.ensures.origin) ∙ sym inner) (λ u rose. u rose) plays.steps in
+    let keeps : KeepsThroughout d (Unharmed d start final) (made_core pages) plays.made plays.core start final = record {
       opened = fuse_inner old.disk;
       opening = opening_keeps d.moment d.left_since start (fuse_inner old.disk) pages bytes legal_f (fuse_since c.new.result old.disk _ (c.in-Ok.ensures.moments tells only_f _ _ stands));
       here = λ image may. opened_commits pages bytes legal_f image (c.in-Ok.ensures.crash tells only_f _ _ stands image may);
@@ -154,9 +160,9 @@ returns-in-Some-clause-played g c tells pages legal only playable =
       rest = begins d.moment d.left_since final (KeepsCommits plays.core) (λ image since. keep image (g.met.D.Disk.only_now tells final image since));
       kept = keep;
     } in
-    let part = halt_part s made_core made_valid (answers_fresh 1048576 1) refl es playable old new k.tells before after c.play_lines-played.result plays halted.0 halted.1 in
+    let part = halt_part s (made_core pages) (made_running pages limits) refl es playable old new k.tells before after c.play_lines-played.result plays halted.0 halted.1 in
     let closed = c.into_inner-in-Some.ensures ∙ ap fuse_inner c.close-in-Some.ensures in
-    rw (closed, halted.3, sym inner) (ends_early s made_core made_valid (answers_fresh 1048576 1) refl es playable old new k.tells before after c.play_lines-played.result plays d start final keeps
+    rw (closed, halted.3, sym inner) (ends_early s (made_core pages) (made_running pages limits) refl es playable old new k.tells before after c.play_lines-played.result plays d start final keeps
     (Some c.args.calls) _ (halt_end halted.0) (halt_not_done halted.0) part
-    (halt_lines s made_core made_valid (answers_fresh 1048576 1) refl es playable old new k.tells before after c.play_lines-played.result plays halted.0 halted.1) exact
+    (halt_lines s (made_core pages) (made_running pages limits) refl es playable old new k.tells before after c.play_lines-played.result plays halted.0 halted.1) exact
     (inr (halt_not_done halted.0, λ t. (part t).0)))

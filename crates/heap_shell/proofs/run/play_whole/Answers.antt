@@ -4,15 +4,16 @@ use Rattle.graph_model.specs.History.{sealed}
 use Rattle.graph_model.specs.Transaction.{serial}
 use Rattle.heap_shell.specs.declared.play.Halt.{Halt}
 use Rattle.heap_shell.specs.declared.status.Status.TheVariants as status
-use Rattle.heap_model.specs.CoreLawsReplies.{answers_fresh}
 use Rattle.heap_model.specs.CoreRuns.{total_calls}
 use Rattle.heap_model.specs.Ending.{all_events}
-use Rattle.heap_shell.specs.CoreLawsPlay.{made_valid}
+use Rattle.heap_shell.specs.CoreLawsPlay.{made_running}
+use Rattle.graph_model.specs.Graph.{new_graph}
+use Rattle.heap_model.specs.CoreLawsNew.{new_shows}
 use Rattle.heap_shell.specs.Headline.{made_super, made_core}
 use Rattle.script_text.specs.Line.{events}
 use Rattle.heap_shell.proofs.Causes.{disk_rose_since}
-use Rattle.heap_shell.proofs.PlayEnds.{whole_graph, lines_wrote, halt_part, halt_lines, keeps_own, ends_early, ends_whole, exact_none}
-use Rattle.heap_shell.proofs.PlayOpen.{new_stands, opened_commits, opening_keeps, ends_unopened, script_ready}
+use Rattle.heap_shell.proofs.PlayEnds.{run_reached, lines_wrote, halt_part, halt_lines, keeps_own, ends_early, ends_whole, exact_none}
+use Rattle.heap_shell.proofs.PlayOpen.{empty_image, new_stands, opened_commits, opening_keeps, ends_unopened, script_ready}
 use Rattle.heap_shell.proofs.Statuses.{halt_end, halt_not_done}
 use Rattle.heap_shell.proofs.run.play_whole.Goals as goal
 
@@ -21,7 +22,7 @@ returns-in-Err-clause-played g c tells pages legal only playable =
     let d = g.D.Disk in
     let bytes = d.bytes c.args.disk in
     let stands = new_stands pages bytes legal in
-    ends_unopened d None (all_events None made_core (events c.args.script.now)) c.in-Err.e c.from.result c.args.disk c.in-Err.disk g.K.Sink.tells (g.K.Sink.written c.args.sink.now) c.from.ensures (c.in-Err.ensures.legal tells (made_super pages) [] legal)
+    ends_unopened d pages None (all_events None (made_core pages) (events c.args.script.now)) c.in-Err.e c.from.result c.args.disk c.in-Err.disk g.K.Sink.tells (g.K.Sink.written c.args.sink.now) c.from.ensures (c.in-Err.ensures.legal tells (made_super pages) [] legal)
     (opening_keeps d.moment d.left_since c.args.disk c.in-Err.disk pages bytes legal (c.in-Err.ensures.moments tells only _ _ stands))
     (λ image left. opened_commits pages bytes legal image (c.in-Err.ensures.crash tells only _ _ stands image left))
     (λ image since. g.met.D.Disk.only_now tells c.in-Err.disk image since)
@@ -31,30 +32,31 @@ returns-in-Ok-play_all-clause-played g c tells pages legal only playable =
     let d = g.D.Disk in
     let k = g.K.Sink in
     let s = made_super pages in
-    let es = all_events None made_core (events c.args.script.now) in
+    let limits = legal.log.limits in
+    let es = all_events None (made_core pages) (events c.args.script.now) in
     let old = c.in-Ok.heap in
     let new = c.play_all.new.heap in
     let before = k.written c.args.sink.now in
     let after = k.written c.play_all.new.sink in
     let bytes = d.bytes c.args.disk in
     let stands = new_stands pages bytes legal in
-    let plays = c.in-Ok-play_all.ensures.plays tells s made_core (c.in-Ok.ensures.fresh tells s legal only) (script_ready (events c.args.script.now) playable) in
+    let plays = c.in-Ok-play_all.ensures.plays tells s (made_core pages) (c.in-Ok.ensures.holds tells s [] (empty_image pages bytes legal) only new_graph (new_shows s limits)) (script_ready pages (events c.args.script.now) limits playable) in
     let whole = plays.ends in
-    let has = whole_graph s made_core made_valid (answers_fresh 1048576 1) refl es playable old new k.tells before after (Ok tt) plays whole.1.reached in
-    let keeps = keeps_own s made_core made_valid (answers_fresh 1048576 1) refl es playable old new k.tells before after (Ok tt) plays c.args.disk (λ disk image since. g.met.D.Disk.only_now tells disk image since)
+    let keeps = keeps_own s (made_core pages) (made_running pages limits) refl es playable old new k.tells before after (Ok tt) plays c.args.disk (λ disk image since. g.met.D.Disk.only_now tells disk image since)
     (opening_keeps d.moment d.left_since c.args.disk old.disk pages bytes legal (c.in-Ok.ensures.moments tells only _ _ stands)) (λ image left. opened_commits pages bytes legal image (c.in-Ok.ensures.crash tells only _ _ stands image left)) in
-    rw (c.close.ensures, c.status_after-status.ensures) (ends_whole s made_core made_valid (answers_fresh 1048576 1) refl es playable old new k.tells before after (Ok tt) plays d c.args.disk new.disk keeps
+    rw (c.close.ensures, c.status_after-status.ensures) (ends_whole s (made_core pages) (made_running pages limits) refl es playable old new k.tells before after (Ok tt) plays d c.args.disk new.disk keeps
     c.write_graph.result (k.written c.write_graph.new.sink) whole.0 whole.1.reached
-    (lines_wrote s made_core made_valid (answers_fresh 1048576 1) refl es playable old new k.tells before after (Ok tt) plays (Ok tt) refl)
-    (λ t. c.write_graph.ensures.wrote t s plays.core (serial plays.core.g0 (sealed plays.core.history)) plays.heap has) refl
-    (whole.1.passes ∙ ap (counted (total_calls made_core plays.made)) (c.in-Ok.ensures.passes tells s [] legal).ok))
+    (lines_wrote s (made_core pages) (made_running pages limits) refl es playable old new k.tells before after (Ok tt) plays (Ok tt) refl)
+    (λ t. c.write_graph.ensures.wrote t plays.core plays.heap.core (run_reached s (made_core pages) (made_running pages limits) refl es playable old new k.tells before after (Ok tt) plays).1) refl
+    (whole.1.passes ∙ ap (counted (total_calls (made_core pages) plays.made)) (c.in-Ok.ensures.passes tells s [] legal).ok))
 
 pub returns-in-Err-play_all-clause-played : goal.returns-in-Err-play_all-clause-played
 returns-in-Err-play_all-clause-played g c tells pages legal only playable =
     let d = g.D.Disk in
     let k = g.K.Sink in
     let s = made_super pages in
-    let es = all_events None made_core (events c.args.script.now) in
+    let limits = legal.log.limits in
+    let es = all_events None (made_core pages) (events c.args.script.now) in
     let old = c.in-Ok.heap in
     let new = c.play_all.new.heap in
     let before = k.written c.args.sink.now in
@@ -62,13 +64,13 @@ returns-in-Err-play_all-clause-played g c tells pages legal only playable =
     let bytes = d.bytes c.args.disk in
     let stands = new_stands pages bytes legal in
     let h : Halt = c.in-Err-play_all.halt in
-    let plays = c.in-Err-play_all.ensures.plays tells s made_core (c.in-Ok.ensures.fresh tells s legal only) (script_ready (events c.args.script.now) playable) in
-    let keeps = keeps_own s made_core made_valid (answers_fresh 1048576 1) refl es playable old new k.tells before after (Err h) plays c.args.disk (λ disk image since. g.met.D.Disk.only_now tells disk image since)
+    let plays = c.in-Err-play_all.ensures.plays tells s (made_core pages) (c.in-Ok.ensures.holds tells s [] (empty_image pages bytes legal) only new_graph (new_shows s limits)) (script_ready pages (events c.args.script.now) limits playable) in
+    let keeps = keeps_own s (made_core pages) (made_running pages limits) refl es playable old new k.tells before after (Err h) plays c.args.disk (λ disk image since. g.met.D.Disk.only_now tells disk image since)
     (opening_keeps d.moment d.left_since c.args.disk old.disk pages bytes legal (c.in-Ok.ensures.moments tells only _ _ stands)) (λ image left. opened_commits pages bytes legal image (c.in-Ok.ensures.crash tells only _ _ stands image left)) in
-    rw (c.close-in-Err-play_all.ensures, c.from-in-Err-play_all.ensures) (ends_early s made_core made_valid (answers_fresh 1048576 1) refl es playable old new k.tells before after (Err h) plays d c.args.disk new.disk keeps
+    rw (c.close-in-Err-play_all.ensures, c.from-in-Err-play_all.ensures) (ends_early s (made_core pages) (made_running pages limits) refl es playable old new k.tells before after (Err h) plays d c.args.disk new.disk keeps
     None _ (halt_end h) (halt_not_done h)
-    (halt_part s made_core made_valid (answers_fresh 1048576 1) refl es playable old new k.tells before after (Err h) plays h refl)
-    (halt_lines s made_core made_valid (answers_fresh 1048576 1) refl es playable old new k.tells before after (Err h) plays h refl)
-    (λ unharmed. exact_none s made_core made_valid (answers_fresh 1048576 1) refl es playable old new k.tells before after (Err h) plays
-    (λ rose. unharmed (disk_rose_since _ _ _ _ _ _ c.in-Ok.ensures.cause.faults_kept c.in-Ok.ensures.cause.stops_kept c.play_all.ensures.disk.cause.faults_kept c.play_all.ensures.disk.cause.stops_kept rose)))
+    (halt_part s (made_core pages) (made_running pages limits) refl es playable old new k.tells before after (Err h) plays h refl)
+    (halt_lines s (made_core pages) (made_running pages limits) refl es playable old new k.tells before after (Err h) plays h refl)
+    (λ unharmed. exact_none s (made_core pages) (made_running pages limits) refl es playable old new k.tells before after (Err h) plays
+    (λ rose. unharmed (disk_rose_since _ _ _ _ _ _ c.in-Ok.ensures.disk.cause.faults_kept c.in-Ok.ensures.disk.cause.stops_kept c.play_all.ensures.disk.cause.faults_kept c.play_all.ensures.disk.cause.stops_kept rose)))
     refl)
