@@ -146,7 +146,7 @@ def row(crate, function, clause):
         path = f"{TOP}/crates/{crate}/{law[1]}"
         if not os.path.isfile(path):
             return [f"no file {law[1]}"]
-        has = lambda name: re.search(rf"^(?:abbrev )?(?:pub )?{re.escape(name)} :", text_of(path), re.M)
+        has = lambda name: re.search(rf"^ *(?:abbrev )?(?:pub )?{re.escape(name)} :", text_of(path), re.M)
         return [f"no law {it} in {law[1]}" for it in TICKED.findall(clause) if not has(it)]
     groups, said = function.split(";"), clause.split(";")
     if len(groups) != len(said):

@@ -1,5 +1,5 @@
 -- What every call keeps of a disk, and what a call that only reads keeps besides.
-use Rattle.std.specs.Prelude.{◌≡◌, List, IsTrue, Result}
+use Rattle.std.specs.Prelude.{◌≡◌, IsTrue, Result}
 use Rattle.disk_model.specs.Disk.{Narrows, HasCause}
 use Rattle.disk_model.specs.Moments.{LeavesOnly}
 use Rattle.disk_model.specs.declared.disk.Disk.{Ghosts}

@@ -1,14 +1,13 @@
 -- Laws of what calls keep of a disk: calls one after another, and the parts of a clause of one call.
-use Rattle.std.specs.Prelude.{◌≡◌, ℕ, ◌<◌, ◌≤◌, List, IsTrue, Result, Ok, Err, refl}
-use Rattle.std.proofs.Common.{◌∙◌, ap, subst, sym, inl, inr, arith}
+use Rattle.std.specs.Prelude.{◌≡◌, ℕ, ◌≤◌, List, IsTrue, Result, Ok, refl}
+use Rattle.std.proofs.Common.{◌∙◌, inl, inr, arith}
 use Rattle.std.proofs.lemmas.Bool.{cases_lt}
 use Rattle.counts.specs.Count.{Rose}
 use Rattle.disk_model.specs.Disk.{Narrows, Elapses, HasCause}
-use Rattle.disk_model.specs.Moments.{LeavesOnly, begins, goes_on, weaker, joined}
+use Rattle.disk_model.specs.Moments.{begins, goes_on, weaker, joined}
 use Rattle.disk_model.specs.Keeps.{KeepsDisk, SameContents, OnlyReads}
 use Rattle.disk_model.specs.declared.disk.Disk.{Ghosts}
 use Rattle.disk_model.specs.declared.disk.DiskError.{DiskError}
-use Rattle.disk_model.specs.declared.disk.DiskError.TheVariants.{Failed, Stopped}
 
 -- what rose after a moment rose since an earlier one
 pub rose_since : (a b c : ℕ) → a ≤ b → b ≤ c → Rose b c → Rose a c

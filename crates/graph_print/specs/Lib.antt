@@ -1,3 +1,4 @@
+pub mod DamageLaws
 pub mod FromRead
 pub mod NumberLaws
 pub mod Numbering

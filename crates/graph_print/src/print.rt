@@ -23,6 +23,7 @@ use std::alloc::Global;
 pub fn canon_text<W: Words>(alloc: Global, words: &mut W, root: u32) -> Result<Vec<u8>, PrintError>
     ensures text { IsTrue W.tells → IfOk result (λ text. (name : ℕ → Id) (g : Graph) → IsSeenAs name (W.content words.old) root g → text.items ≡ text_of (canon g)) }
     ensures damage { IsTrue W.tells → (at : ℕ) → result ≡ Err (PrintError.Damaged at) → IsDamage (W.content words.old) root at }
+    ensures undamaged { IsTrue W.tells → OnOk result ((at : ℕ) → IsDamage (W.content words.old) root at → ⊥) }
     ensures read { IsRead W.tells W.extent W.content W.keeps W.faults W.stops words.old words.new (print_failure result) }
 {
     match stand(words, root)? {
@@ -35,6 +36,7 @@ pub fn canon_text<W: Words>(alloc: Global, words: &mut W, root: u32) -> Result<V
 fn print_from<W: Words>(alloc: Global, words: &mut W, first: u32) -> Result<Vec<u8>, PrintError>
     ensures text { IsTrue W.tells → (root : ℕ) → standing_at (W.content words.old) root ≡ Some first → IfOk result (λ text. (name : ℕ → Id) (g : Graph) → IsSeenAs name (W.content words.old) root g → text.items ≡ text_of (canon g)) }
     ensures damage { IsTrue W.tells → (root : ℕ) → standing_at (W.content words.old) root ≡ Some first → (at : ℕ) → result ≡ Err (PrintError.Damaged at) → IsDamage (W.content words.old) root at }
+    ensures undamaged { IsTrue W.tells → (root : ℕ) → standing_at (W.content words.old) root ≡ Some first → OnOk result ((at : ℕ) → IsDamage (W.content words.old) root at → ⊥) }
     ensures read { IsRead W.tells W.extent W.content W.keeps W.faults W.stops words.old words.new (print_failure result) }
 {
     let mut order = Order::of(alloc, first)?;

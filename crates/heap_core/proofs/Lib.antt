@@ -9,4 +9,5 @@ mod MeansRefusal
 mod MeansStep
 mod OpenErrors
 mod Room
+mod Undamaged
 mod Zeros

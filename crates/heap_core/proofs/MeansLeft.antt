@@ -67,17 +67,6 @@ keeps_cut c reply image (inl told) kept =
 keeps_cut c reply image (inr told) kept =
     subst (λ (r : Reply). KeepsCommits (with_entry c Force r) image) (sym told) (keeps_entry c Force (Refused Stopped) _ image refl refl refl refl kept)
 
-module _ (s : Super) (c : Core) (image : List ℕ) (may_leave : List ℕ → Type 0) (holds : DiskHolds s c image may_leave) (sound : IsSound c) where
-  keeps_as : (o : Option ℕ) → (account c.history).failed ≡ o → (d : List ℕ) → may_leave d → KeepsCommits c d
-  keeps_as None is d left =
-      let disk = holds.unfailed is in
-      crash_law c s c.batches sound (inl refl) disk.of d (subst (λ (x : List ℕ). Holds s c.batches x) (sym (disk.only d left)) disk.held)
-  keeps_as (Some entry) is d left = holds.failed (λ none. let never : None ≡ Some entry = sym none ∙ is in cc) d left
-
-  -- a crash leaves the heap's first commits
-  pub heap_keeps : (d : List ℕ) → may_leave d → KeepsCommits c d
-  heap_keeps d left = keeps_as (account c.history).failed refl d left
-
 -- an event that asks nothing of the disk
 pub stays : {D : Type 0} (moment : D → ℕ) (left_since : D → ℕ → List ℕ → Type 0) (disk : D) (may_leave P : List ℕ → Type 0)
     → ((d : List ℕ) → left_since disk (moment disk) d → may_leave d) → ((d : List ℕ) → may_leave d → P d) → LeavesOnly moment left_since disk disk P

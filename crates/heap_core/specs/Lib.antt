@@ -1,7 +1,9 @@
 pub mod Causes
+pub mod CrashLaws
 pub mod Format
 pub mod GivenBack
 pub mod HeapState
 pub mod Means
 pub mod Reserve
+pub mod Rounds
 pub mod Working

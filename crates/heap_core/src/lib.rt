@@ -15,4 +15,6 @@ pub use heap_recovery::At;
 pub use history::History;
 
 #[cfg(test)]
+mod library;
+#[cfg(test)]
 mod openings;

@@ -12,7 +12,9 @@ use crate::log_room::log_refusal;
 use gated_log::Log;
 use graph_model::{Id, Refusal, Reply, Val};
 use heap_words::{NO_INT, Word, decode, encode};
-use log_machine::{FIELDS_AT, LAST_NUMBER, PageWords, ROOT_FIELDS, UndoEntry, abort_records, end_bytes};
+use log_machine::{
+    FIELDS_AT, LAST_NUMBER, PageWords, ROOT_FIELDS, UndoEntry, abort_records, end_bytes,
+};
 use log_records::Record;
 use std::alloc::{AllocError, Global};
 

@@ -1,6 +1,6 @@
 -- What an opening reads of a log, and what it leaves.
 use Rattle.std.proofs.Common.{◌≡◌, ◌≢◌, ◌⊎◌, ⊎_elim, ℕ, ◌+◌, ◌≤◌, List, [], ◌∷◌, ◌++◌, length, take, drop, take-append-drop, Option, None, Some, Result, Ok, Err, refl, sym, ap, ◌∙◌, subst, arith}
-use Rattle.std.specs.Prelude.{option_and_then, IfOk, IsOk}
+use Rattle.std.specs.Prelude.{option_and_then, IfOk, IfErr, IsOk}
 use Rattle.std.proofs.lemmas.Option.{option_and_then_some}
 use Rattle.std.proofs.lemmas.Bool.Decides.{nat_tests}
 use Rattle.disk_model.specs.Disk.{part, Only, Narrows, SameOutside}
@@ -26,7 +26,8 @@ use Rattle.log_machine.specs.MachineLaws.{words-append}
 use Rattle.log_machine.specs.StateLaws.{commits-start}
 use Rattle.log_machine.specs.AbortLaws.{rollback_fits, rollback_words}
 use Rattle.log_machine.specs.CommittedLaws.{committed_words_at}
-use Rattle.object_layout.specs.Walk.{IsWalked}
+use Rattle.object_layout.specs.Walk.{IsWalked, IsWalkFault}
+use Rattle.object_layout.specs.WalkLaws.{walked_fault}
 use Rattle.heap_model.specs.CoreLawsCrash.{records_of-with_batch}
 use Rattle.heap_model.specs.CoreLawsHeld.{held_with, still_stands, rolled_stands}
 use Rattle.heap_model.specs.Image.{words_of, IsLegalLog, Holds, IsLegal, Says, StandsFor}
@@ -71,7 +72,10 @@ used_more tail hand k = grind (arith, nat_tests)
 
 fits_with : (log : Log) (s : State) (es : List Loser) → losing s ≡ es → log_used log + reserve s ≤ log_room log → log_used_with log (length (spellings (rollback s))) ≤ log_room log
 fits_with log s [] none le =
-    subst (λ (rs : List Record). log_used_with log (length (spellings rs)) ≤ log_room log) (sym (ap abort_each none)) (omega (arith, le))
+    let nothing : rollback s ≡ [] = ap abort_each none in
+    let same : hand_size log ≡ hand_size log + 0 = omega arith in
+    subst (λ (rs : List Record). log_used_with log (length (spellings rs)) ≤ log_room log) (sym nothing)
+    (subst (λ (h : ℕ). used_bytes (log_tail log) h ≤ log_room log) same (omega (arith, le)))
 fits_with log s (e ∷ es) some le =
     let size = rollback_fits s (λ none. (let never : e ∷ es ≡ [] = sym some ∙ none in cc never)) in
     let more = used_more (log_tail log) (hand_size log) (length (spellings (rollback s))) in
@@ -149,30 +153,40 @@ module _ (s : Super) (batches : List (List Record)) (read : Reading) (is : IsRea
       subst (λ (x : State). IsWalked now x.base x.used) one (subst (λ (l : List ℕ). IsWalked l legal.state.base legal.state.used) (sym (rolled ∙ committed)) legal.walked)
 
   -- what is opened
-  pub recovered : (r : Result Recovered RecoverError) (behind : Reading) → behind.state ≡ read.state → behind.of ≡ read.of → log_place behind.log ≡ log_place read.log → log_room behind.log ≡ log_room read.log
-      → behind.words ≡ all_taken_back read.state read.words → Keeps behind.log (with_batch batches (rollback read.state)) []
-      → IfOk r (λ found. found.log ≡ behind.log) → IfOk r (λ found. found.words ≡ behind.words) → IfOk r (λ found. found.pages ≡ behind.of.pages)
-      → IfOk r (λ found. found.commits ≡ behind.state.commits) → IfOk r (λ found. found.next ≡ behind.state.next) → IfOk r (IsRecovered s batches)
-  recovered (Err e) behind state of at room taken keeps same_log same_words same_pages same_commits next = tt
-  recovered (Ok found) behind state of at room taken keeps same_log same_words same_pages same_commits next = record {
-    log = subst (λ (log : Log). Keeps log (rolled_back s batches) []) (sym same_log) (subst (λ (l : List Record). Keeps behind.log (with_batch batches l) []) (sym same_rollback) keeps);
+  pub recovered : (r : Result Recovered RecoverError) (log : Log) (now : List ℕ) (of : Super) (state : State) → state ≡ read.state → of ≡ read.of → log_place log ≡ log_place read.log → log_room log ≡ log_room read.log
+      → now ≡ all_taken_back read.state read.words → Keeps log (with_batch batches (rollback read.state)) []
+      → IfOk r (λ found. found.log ≡ log) → IfOk r (λ found. found.words ≡ now) → IfOk r (λ found. found.pages ≡ of.pages)
+      → IfOk r (λ found. found.commits ≡ state.commits) → IfOk r (λ found. found.next ≡ state.next) → IfOk r (IsRecovered s batches)
+  recovered (Err e) log now of state same_state same_of at room taken keeps same_log same_words same_pages same_commits next = tt
+  recovered (Ok found) log now of state same_state same_of at room taken keeps same_log same_words same_pages same_commits next = record {
+    log = subst (λ (x : Log). Keeps x (rolled_back s batches) []) (sym same_log) (subst (λ (l : List Record). Keeps log (with_batch batches l) []) (sym same_rollback) keeps);
     place = ap log_place same_log ∙ at ∙ is.place;
     room = ap log_room same_log ∙ room ∙ is.room;
     words = same_words ∙ taken ∙ rolled_words;
-    pages = same_pages ∙ ap (λ (x : Super). x.pages) (of ∙ is.of);
-    commits = same_commits ∙ ap (λ (x : State). x.commits) state ∙ commits-start s.pages s.first read.state (records_of batches) is.state;
-    next = next ∙ ap (λ (x : State). x.next) state ∙ sym (ap next_in is.state);
+    pages = same_pages ∙ ap (λ (x : Super). x.pages) (same_of ∙ is.of);
+    commits = same_commits ∙ ap (λ (x : State). x.commits) same_state ∙ commits-start s.pages s.first read.state (records_of batches) is.state;
+    next = next ∙ ap (λ (x : State). x.next) same_state ∙ sym (ap next_in is.state);
   }
 
 -- what is opened is a legal log
-pub opened_legal : (s : Super) (batches : List (List Record)) (read : Reading) (is : IsRead s batches read) (r : Result Recovered RecoverError) (behind : Reading)
-    → log_used read.log + reserve read.state ≤ log_room read.log → behind.state ≡ read.state → behind.words ≡ all_taken_back read.state read.words
-    → IfOk r (λ found. IsWalked behind.words behind.state.base behind.state.used) → IfOk r (IsRecovered s batches)
+pub opened_legal : (s : Super) (batches : List (List Record)) (read : Reading) (is : IsRead s batches read) (r : Result Recovered RecoverError) (now : List ℕ) (state : State) (fault : Option ℕ)
+    → log_used read.log + reserve read.state ≤ log_room read.log → state ≡ read.state → now ≡ all_taken_back read.state read.words
+    → (fault ≡ None → IsWalked now state.base state.used) → IfOk r (λ found. fault ≡ None) → IfOk r (IsRecovered s batches)
     → IfOk r (λ found. (t : Super) × (bs : List (List Record)) × IsLegalLog t bs × IsRecovered t bs found)
-opened_legal s batches read is (Err e) behind room state taken walked found = tt
-opened_legal s batches read is (Ok f) behind room state taken walked found =
-    let passes = subst (λ (x : State). IsWalked behind.words x.base x.used) state walked in
-    (s, batches, read_legal s batches read is room behind.words taken passes, found)
+opened_legal s batches read is (Err e) now state fault room same taken passes none found = tt
+opened_legal s batches read is (Ok f) now state fault room same taken passes none found =
+    let walked = subst (λ (x : State). IsWalked now x.base x.used) same (passes none) in
+    (s, batches, read_legal s batches read is room now taken walked, found)
+
+-- a walk that passes finds no fault
+pub no_fault : (words : List ℕ) (base used : ℕ) (fault : Option ℕ) → IsWalked words base used → ((at : ℕ) → fault ≡ Some at → IsWalkFault words base used at) → fault ≡ None
+no_fault words base used None walked faults = refl
+no_fault words base used (Some at) walked faults = absurd (walked_fault words base used at walked (faults at refl))
+
+-- an opening that ended well
+pub ok_outside : (r : Result Recovered RecoverError) → IsOk r → IfErr r IsFromOutside
+ok_outside (Ok found) ok = tt
+ok_outside (Err e) ok = cc ok
 
 -- what is found in any case
 pub if_ok : (r : Result Recovered RecoverError) (P : Type 0) → P → IfOk r (λ found. P)

@@ -29,6 +29,17 @@ impl From<AllocError> for RecoverError {
     }
 }
 
+impl From<DiskError> for RecoverError {
+    ghost use Rattle.std.specs.Prelude.{◌≡◌};
+    ghost use Rattle.heap_recovery.specs.declared.error.RecoverError.TheVariants.{Disk};
+
+    ghost from_gives = { λ e error. error ≡ Disk e };
+
+    fn from(e: DiskError) -> Self {
+        RecoverError::Disk(e)
+    }
+}
+
 impl From<LogError> for RecoverError {
     ghost use Rattle.std.specs.Prelude.{◌≡◌};
     ghost use Rattle.heap_recovery.specs.Recovered.{log_error};

@@ -3,6 +3,7 @@
 
 mod at;
 mod error;
+mod read_image;
 mod reading;
 mod recovery;
 

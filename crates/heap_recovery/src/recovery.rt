@@ -18,7 +18,8 @@ ghost use Rattle.heap_recovery.specs.Recovered.{IsRecovered, IsFromOutside, Open
 
 use crate::at::At;
 use crate::error::RecoverError;
-use crate::reading::{Reading, read_image};
+use crate::read_image::read_image;
+use crate::reading::Reading;
 use disk_model::Disk;
 use gated_log::Log;
 use log_machine::PageWords;
@@ -64,7 +65,7 @@ pub fn recover<D: Disk>(alloc: Global, disk: &mut D) -> Result<Recovered, Recove
     read.roll_back()?;
     // The walk takes its memory before the disk is written; what it finds is told afterwards.
     let fault = read.walk_fault(alloc)?;
-    read.log.force(disk).map_err(RecoverError::Disk)?;
+    read.log.force(disk)?;
     read.finish(fault)
 }
 

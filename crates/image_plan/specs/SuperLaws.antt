@@ -1,5 +1,5 @@
 -- Bytes are the superblock of one heap.
-use Rattle.std.specs.Prelude.{◌≡◌, ℕ, ◌^◌, ◌<◌, List, drop, ◌++◌, replicate}
+use Rattle.std.specs.Prelude.{◌≡◌, ℕ, List, drop, ◌++◌, replicate}
 use Rattle.std.proofs.Common.{sym, ap, ◌∙◌, arith}
 use Rattle.std.specs.Int.{w32, to_le_bytes}
 use Rattle.byteorder.specs.Endian.{little_number}

@@ -1,21 +1,20 @@
 -- The state in memory stays consistent, and its records write within the pages.
-use Rattle.std.proofs.Common.{◌≡◌, ℕ, ◌+◌, ◌<◌, ◌≤◌, max, Bool, true, false, cond, List, [], ◌∷◌, ◌++◌, length, reverse, drop, Option, None, Some, is_some, refl, sym, ap, ◌∙◌, subst, arith, Result, Ok, Err}
+use Rattle.std.proofs.Common.{◌≡◌, ℕ, ◌+◌, ◌<◌, ◌≤◌, max, Bool, true, false, cond, List, [], ◌∷◌, reverse, drop, None, Some, is_some, refl, sym, ap, ◌∙◌, subst, arith, Result, Ok, Err}
 use Rattle.std.specs.Prelude.{IfOk}
 use Rattle.std.specs.List.{AllByRecursion}
 use Rattle.std.specs.Ordering.{nat_cmp}
-use Rattle.std.specs.FinMap.{FinMap, empty, get, remove, entries}
+use Rattle.std.specs.FinMap.{FinMap, empty, remove, entries}
 use Rattle.std.specs.Global.{Vec}
 use Rattle.std.proofs.lemmas.List.{reverse-reverse}
 use Rattle.log_records.specs.declared.Record.{Record}
-use Rattle.log_records.specs.declared.Record.TheVariants.{Update, Undo, Commit, End}
 use Rattle.log_machine.specs.declared.UndoEntry.{UndoEntry}
 use Rattle.log_machine.specs.UndoEntry.{LiesInside}
-use Rattle.log_machine.specs.Machine.{State, Loser, start, undo_in, undo_of, with_entries, words_in, field_at, is_number, lies_inside, is_same_write, without_newest, losing, abort_records, abort_each, rollback}
+use Rattle.log_machine.specs.Machine.{State, Loser, start, undo_of, with_entries, words_in, field_at, is_number, lies_inside, is_same_write, without_newest, losing, abort_records, abort_each, rollback}
 use Rattle.log_machine.specs.ListLaws.{AllByRecursion-append, AllByRecursion-reverse}
 use Rattle.log_machine.specs.MapLaws.{EachEntry, each_empty, each_remove, get_first, remove_first}
 use Rattle.log_machine.specs.MachineLaws.{inside_told, newest_told}
-use Rattle.log_machine.specs.Sound.{IsLoser, IsSound, IsConsistent}
-use Rattle.log_machine.specs.StateLaws.{all_inside, sound_with, grown}
+use Rattle.log_machine.specs.Sound.{IsLoser, IsConsistent}
+use Rattle.log_machine.specs.StateLaws.{all_inside, sound_with}
 use Rattle.log_machine.specs.Effect.{WritesBelow, EachWritesBelow}
 
 -- before the first record
@@ -103,3 +102,17 @@ pub told_below : {E : Type 0} (now : State) (r : Result (Vec Record) E) → Each
     → IfOk r (λ records. EachWritesBelow (words_in now.pages) records.items)
 told_below now (Ok records) below is = subst (λ l. EachWritesBelow (words_in now.pages) l) (sym is) below
 told_below now (Err e) below is = tt
+
+all_below : (s : State) (us : List UndoEntry) → IsConsistent s → AllByRecursion (LiesInside s.base s.used) us → AllByRecursion (λ u. field_at u.object u.field < words_in s.pages) us
+all_below s [] is all = tt
+all_below s (u ∷ us) is all = (below_pages s u is all.0, all_below s us is all.1)
+
+-- the writes in the other order write within the pages
+pub below_reversed : (s now : State) (t : ℕ) (us : List UndoEntry) → IsConsistent s → s ≡ now → reverse us ≡ undo_of s t → AllByRecursion (λ (u : UndoEntry). field_at u.object u.field < words_in now.pages) us
+below_reversed s now t us is same e =
+    subst (λ (x : State). AllByRecursion (λ (u : UndoEntry). field_at u.object u.field < words_in x.pages) us) same
+    (all_below s us is (inside_reversed s s t us is refl e))
+
+-- the used words are words of the pages
+pub fits_now : (s now : State) → IsConsistent s → s ≡ now → now.base + now.used ≤ words_in now.pages
+fits_now s now is same = subst (λ (x : State). x.base + x.used ≤ words_in x.pages) same is.fits

@@ -4,7 +4,7 @@ use Rattle.std.specs.Prelude.{option_and_then}
 use Rattle.std.proofs.lemmas.List.{take_more}
 use Rattle.log_records.specs.declared.Record.{Record}
 use Rattle.log_machine.specs.Machine.{State, start, after, after_all, put_record, words, words_in, reserve}
-use Rattle.log_machine.specs.MachineLaws.{after_all-append, after_all-append2, after_all_none, words-append}
+use Rattle.log_machine.specs.MachineLaws.{after_all-append, words-append}
 use Rattle.log_machine.specs.Effect.{WritesBelow}
 use Rattle.log_machine.specs.Sound.{IsSound}
 use Rattle.log_machine.specs.WordsLaws.{length-words}
@@ -71,6 +71,10 @@ stuck_behind s (r ∷ rs) rest stuck = stuck_in (after s r) rs rest (λ n. stuck
 pub none_follow : (s : State) (rs : List Record) (lsn : ℕ) → IsFirstUnshaped s rs lsn → after_all s rs ≡ None
 none_follow s rs lsn first = ap (λ (l : List Record). after_all s l) (sym (take-append-drop lsn rs)) ∙ stuck_behind s (take lsn rs) (drop lsn rs) first.stuck
 
+-- there are as many words as the state's pages have
+pub same_size : (pages : ℕ) (rs : List Record) (now : List ℕ) (s : State) → now ≡ words pages rs → s.pages ≡ pages → length now ≡ words_in s.pages
+same_size pages rs now s is same = ap length is ∙ length-words pages rs ∙ ap words_in (sym same)
+
 -- what the state lets a record write lies within the words
 pub within_words : (pages : ℕ) (rs : List Record) (now : List ℕ) (s : State) (r : Record) → now ≡ words pages rs → s.pages ≡ pages → WritesBelow (words_in s.pages) r → WritesBelow (length now) r
-within_words pages rs now s r is same below = subst (λ n. WritesBelow n r) (sym (ap length is ∙ length-words pages rs ∙ ap words_in (sym same))) below
+within_words pages rs now s r is same below = subst (λ n. WritesBelow n r) (sym (same_size pages rs now s is same)) below

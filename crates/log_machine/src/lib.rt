@@ -15,9 +15,6 @@ pub use page_words::{FIELDS_AT, PAGE_WORDS, PageWords, ROOT_FIELDS, ROOT_WORDS};
 pub use replaying::{ReplayError, replay};
 pub use undo_lists::end_bytes;
 
-/// The last number that a transaction can have. The first is 1.
-pub const LAST_NUMBER: u32 = 4_294_967_294;
-
 /// A write that may be taken back: the field of the object at a word address, and the word that stood there before.
 #[derive(Clone, Copy, Debug, PartialEq, Eq)]
 pub struct UndoEntry {

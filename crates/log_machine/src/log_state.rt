@@ -5,9 +5,10 @@ ghost use Rattle.std.specs.FinMap as map;
 ghost use Rattle.log_records.specs.declared.Record.TheVariants.{Update, Undo, Commit, End};
 ghost use Rattle.log_machine.specs.Machine.{start, undo_of, losers, with_entries, words_in, field_at, number_of, is_number, lies_inside, without_newest, has_none, turned, row_after, after, reserve, rollback};
 ghost use Rattle.log_machine.specs.Effect.{WritesBelow, EachWritesBelow, AddsEntry};
+ghost use Rattle.log_machine.specs.declared.UndoEntry.{UndoEntry};
 ghost use Rattle.log_machine.specs.UndoEntry.{LiesInside};
 
-use crate::{LAST_NUMBER, UndoEntry};
+use crate::UndoEntry;
 use crate::page_words::{FIELDS_AT, ROOT_WORDS};
 use crate::undo_lists::UndoLists;
 use log_records::Record;
@@ -84,6 +85,7 @@ impl LogState {
     pub fn undo_list(&self, t: u32) -> &[UndoEntry]
         ensures entries { reverse result.now ≡ undo_of self.now t }
         ensures inside { AllByRecursion (LiesInside self.now.base self.now.used) result.now }
+        ensures below { AllByRecursion (λ (u : UndoEntry). field_at u.object u.field < words_in self.now.pages) result.now }
     {
         self.undo.of(t)
     }
@@ -95,13 +97,6 @@ impl LogState {
         self.undo.losers()
     }
 
-    /// How many transactions are committed.
-    pub fn commits(&self) -> u64
-        ensures { result ≡ self.now.commits }
-    {
-        self.commits
-    }
-
     /// The address of the current space's first word.
     pub fn base(&self) -> u32
         ensures { result ≡ self.now.base }
@@ -111,9 +106,17 @@ impl LogState {
 
     /// How many words of the current space its objects take.
     pub fn used(&self) -> u32
-        ensures { result ≡ self.now.used }
+        ensures used { result ≡ self.now.used }
+        ensures fits { self.now.base + self.now.used ≤ words_in self.now.pages }
     {
         self.used
+    }
+
+    /// How many transactions are committed.
+    pub fn commits(&self) -> u64
+        ensures { result ≡ self.now.commits }
+    {
+        self.commits
     }
 
     /// The number of the next transaction.

@@ -1,7 +1,7 @@
 //! The state and the words after all records of a log.
 ghost use Rattle.std.specs.Prelude.{◌≡◌, ◌*◌, ◌<◌, ◌≤◌, ◌^◌, ℕ, Some, IfOk, IfErr, length};
 ghost use Rattle.log_machine.specs.declared.replaying.ReplayError.TheVariants.{Unshaped};
-ghost use Rattle.log_machine.specs.Machine.{start, after_all, words, reserve};
+ghost use Rattle.log_machine.specs.Machine.{start, after_all, words, words_in, reserve};
 ghost use Rattle.log_machine.specs.Replay.{IsFirstUnshaped};
 
 use crate::{AfterError, LogState, PageWords};
@@ -40,6 +40,7 @@ pub fn replay(
     requires few { length records.now < 2 ^ 32 }
     ensures state { IfOk result (λ found. after_all (start pages first) records.now ≡ Some found.0) }
     ensures words { IfOk result (λ found. found.1 ≡ words pages records.now) }
+    ensures size { IfOk result (λ found. length found.1 ≡ words_in found.0.pages) }
     ensures few_writes { IfOk result (λ found. reserve found.0 ≤ 29 * length records.now) }
     // The record that is told is the first that can't follow.
     ensures unshaped { IfErr result (λ e. (lsn : ℕ) → e ≡ Unshaped lsn → IsFirstUnshaped (start pages first) records.now lsn) }

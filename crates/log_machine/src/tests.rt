@@ -183,13 +183,17 @@ fn read_again(rt: HostRuntime) -> Result<(), Fail> {
     assert_eq!(rt; words.len(), 128);
     let rollback = state.rollback()?;
     let mut all = Vec::new(rt.alloc());
-    for rec in &rollback {
-        effect(rec, &mut all)?;
-    }
-    assert_eq!(rt;
-        all.as_slice(),
-        [(2, 0), (5, 45), (5, 0), (4, 0)].as_slice()
-    );
+    effect(
+        &Record::Undo {
+            t: 9,
+            object: 60,
+            field: 3,
+            word: 45,
+        },
+        &mut all,
+    )?;
+    effect(&Record::End { t: 9 }, &mut all)?;
+    assert_eq!(rt; all.as_slice(), [(65, 45)].as_slice());
     words.apply_all(&rollback);
     assert_eq!(rt; fields(&words), Some([0, 37, 0, 0]));
     assert!(rt; words.len() > 127);

@@ -1,4 +1,4 @@
-use Rattle.std.proofs.Common.{◌≡◌, Some, sym, ◌∙◌, arith}
+use Rattle.std.proofs.Common.{◌∙◌, arith}
 use Rattle.log_records.proofs.Spelled.{is_word, found_update, has_update}
 use Rattle.log_records.proofs.update_at.Goals as goal
 

@@ -1,4 +1,4 @@
-use Rattle.std.proofs.Common.{◌≡◌, ◌∙◌, ◌≤◌, ◌<◌, ◌^◌, ◌+◌, List, ℕ, length, vec_len, ap, arith}
+use Rattle.std.proofs.Common.{◌≡◌, ◌∙◌, ◌+◌, List, ℕ, length, vec_len, ap, arith}
 use Rattle.log_records.specs.Record.{spellings}
 use Rattle.gated_log.proofs.LogForce.{few_bytes}
 use Rattle.gated_log.proofs.LogReading.{fewer_records}

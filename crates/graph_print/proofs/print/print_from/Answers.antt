@@ -6,6 +6,7 @@ use Rattle.graph_model.specs.Text.{rows_text}
 use Rattle.object_layout.specs.Layout.{field_words, object_at, stand}
 use Rattle.object_layout.specs.ReadLaws.{not_read, read_on}
 use Rattle.graph_print.specs.Order.{AreWhole, IsOrder, rows, first, IsDamage, no_object}
+use Rattle.graph_print.specs.DamageLaws.{complete_damage}
 use Rattle.graph_print.specs.Printed.{AreFieldsPrinted}
 use Rattle.graph_print.proofs.Rows.{order_object, rows_more, rows_all, no_damage}
 use Rattle.graph_print.proofs.print.print_from.Goals as goal
@@ -63,3 +64,8 @@ returns-clause-text g c told root is name graph seen =
     let all = rows_all name words root graph c.rows.count c.rows.order (string_bytes c.rows.rows) seen (c.rows.invariant.order told root is) over (c.rows.invariant.text told root is) in
     let printed : string_bytes c.in_ok-text.text ≡ codes "graph " ++ decimal c.rows.count ++ 10 ∷ string_bytes c.rows.rows = c.in_ok-text.ensures.ok in
     ap (λ (v : Vec ℕ Global). v.items) c.into_bytes.ensures.value ∙ printed ∙ all
+
+pub returns-clause-undamaged : goal.returns-clause-undamaged
+returns-clause-undamaged g c told root is at damage =
+    let over : slice_get c.rows.order c.rows.count ≡ None = sym c.in_default.ensures.place in
+    complete_damage (g.W.Words.content c.args.words.now) root c.rows.count c.rows.order at (c.rows.invariant.order told root is) over damage

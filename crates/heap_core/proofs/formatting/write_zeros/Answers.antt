@@ -43,5 +43,5 @@ loop-at-preserved g c =
       crash = crash;
       moments = λ tells. goes_on d.moment d.left_since c.args.disk.now c.loop-at.disk c.write.new.self _ (d.may_leave c.write.new.self) (i.moments tells) (c.write.ensures.time tells) (crash tells);
       calls = λ tells. one_more _ _ _ _ _ _ (write_more c.loop-at.at c.if-left.piece c.args.end (omega arith) (omega arith)) (i.calls tells) (c.in_ok-write.ensures.passed tells);
-      disk = keeps_ok d c.args.disk.now c.write.new.self c.write.result (keeps_on d c.args.disk.now c.loop-at.disk c.write.new.self (Ok tt) c.write.result i.disk (record { extent = c.write.ensures.extent; origin = c.write.ensures.origin; cause = c.write.ensures.cause; restarts = c.write.ensures.restarts }));
+      disk = keeps_ok d c.args.disk.now c.write.new.self c.write.result tt (keeps_on d c.args.disk.now c.loop-at.disk c.write.new.self (Ok tt) c.write.result i.disk (record { extent = c.write.ensures.extent; origin = c.write.ensures.origin; cause = c.write.ensures.cause; restarts = c.write.ensures.restarts }));
     }

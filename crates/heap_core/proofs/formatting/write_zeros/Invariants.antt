@@ -19,7 +19,7 @@ invariant-loop-at g l =
       crash : IsTrue d.tells → Follows (SameOutside l.from l.end) (d.may_leave l.fn.disk) (d.may_leave l.disk);
       moments : IsTrue d.tells → LeavesOnly d.moment d.left_since l.fn.disk l.disk (λ c. (o : List ℕ) × d.may_leave l.fn.disk o × SameOutside l.from l.end o c);
       calls : IsTrue d.tells → SoFar (zero_writes (l.end - l.from)) (zero_writes (l.end - l.at)) (d.passed l.fn.disk) (d.passed l.disk);
-      disk : KeepsDisk d l.fn.disk l.disk (Ok tt);
+      disk : KeepsDisk {T = Unit {0}} d l.fn.disk l.disk (Ok tt);
     }
 
 abbrev pub decreases-loop-at : goal.decreases-loop-at

@@ -1,7 +1,9 @@
 use Rattle.std.proofs.Common.{◌≡◌, ◌≢◌, ℕ, List, Err, refl, sym, ap, ◌∙◌, subst, rules}
 use Rattle.object_layout.specs.Layout.{IsSeen}
 use Rattle.heap_core.specs.Causes.{graph_error}
+use Rattle.graph_print.specs.PrintFailure.{print_failure}
 use Rattle.heap_core.proofs.OpenErrors.{only_memory}
+use Rattle.heap_core.proofs.Undamaged.{undamaged, no_failure}
 use Rattle.heap_core.proofs.heap.print.Goals as goal
 
 pub returns-clause-text : goal.returns-clause-text
@@ -15,5 +17,5 @@ returns-in_err-canon_text-clause-error c gr seen =
     let e = c.in_err-canon_text.field-0.0 in
     let err : c.from_residual.result ≡ Err (graph_error e) = search rules in
     let there = subst (λ (ws : List ℕ). IsSeen ws 0 gr) (sym is) seen in
-    rw err (only_memory e (λ at bad. c.canon_text.ensures.seen refl _ gr there at (c.in_err-canon_text.was ∙ ap (λ x. Err x) bad))
-    (λ d bad. c.canon_text.ensures.no_disk d (c.in_err-canon_text.was ∙ ap (λ x. Err x) bad)))
+    rw err (only_memory e (λ at bad. undamaged _ _ 0 gr at there (c.canon_text.ensures.damage refl at (c.in_err-canon_text.was ∙ ap (λ x. Err x) bad)))
+    (λ d bad. no_failure (print_failure c.canon_text.result) c.canon_text.ensures.read.failed c.canon_text.ensures.read.stopped d (ap print_failure (c.in_err-canon_text.was ∙ ap (λ x. Err x) bad))))

@@ -1,7 +1,7 @@
-use Rattle.std.proofs.Common.{◌≡◌, ◌+◌, ℕ, Err, Some, take, get_or, ap, sym, ◌∙◌, subst}
+use Rattle.std.proofs.Common.{◌≡◌, ◌+◌, Err, Some, take, get_or, ap, sym, ◌∙◌, subst}
 use Rattle.log_records.specs.declared.Record.TheVariants.{Update}
 use Rattle.log_machine.specs.Machine.{start}
-use Rattle.log_machine.specs.Replay.{IsFirstUnshaped, Bounds, bounds_start, bounds_on, state_on, words_on, unshaped_at, within_words}
+use Rattle.log_machine.specs.Replay.{IsFirstUnshaped, Bounds, bounds_start, bounds_on, state_on, words_on, unshaped_at, same_size, within_words}
 use Rattle.log_machine.proofs.replaying.replay.Goals as goal
 
 pub loop-i-init : goal.loop-i-init
@@ -30,3 +30,6 @@ loop-i-preserved c =
       words = words_on c.args.pages rs c.loop-i.i (Update 0 0 0 0 0) c.loop-i.words c.apply.new.self c.loop-i-test.true i.words c.apply.ensures;
       bounds = bounds_on c.args.pages c.loop-i.i (get_or rs c.loop-i.i (Update 0 0 0 0 0)) c.loop-i.state c.after.new.self i.bounds c.in-Ok.ensures.ok;
     }
+
+pub returns-clause-size : goal.returns-clause-size
+returns-clause-size c = same_size c.args.pages (take c.loop-i.i c.args.records.now) c.loop-i.words c.loop-i.state c.loop-i.invariant.words c.loop-i.invariant.bounds.same_pages

@@ -5,7 +5,8 @@ use Rattle.graph_model.specs.declared.event.Event.{Event}
 use Rattle.heap_core.specs.Causes.{reply_device}
 use Rattle.heap_model.specs.Core.{calls}
 use Rattle.heap_model.specs.CoreCrash.{KeepsCommits}
-use Rattle.heap_core.proofs.MeansLeft.{heap_keeps, stays, quiet_passes, quiet_passes_result}
+use Rattle.heap_core.specs.CrashLaws.{heap_keeps}
+use Rattle.heap_core.proofs.MeansLeft.{stays, quiet_passes, quiet_passes_result}
 use Rattle.heap_core.proofs.MeansForce.{begin_steps, root_steps, drop_steps, get_steps, same_steps, len_steps, put_steps, clear_steps, seal_steps, abort_steps, unfailed_valid, quiet_on, quiet_result_on}
 use Rattle.heap_core.proofs.heap.Heap.answer.Goals as goal
 

@@ -5,7 +5,8 @@ use Rattle.gate_slot.specs.Passing.{Passes}
 use Rattle.graph_model.specs.declared.event.Event.TheVariants.{Force}
 use Rattle.heap_model.specs.Core.{calls}
 use Rattle.heap_model.specs.CoreCrash.{KeepsCommits}
-use Rattle.heap_core.proofs.MeansLeft.{heap_keeps, stays, force_passes}
+use Rattle.heap_core.specs.CrashLaws.{heap_keeps}
+use Rattle.heap_core.proofs.MeansLeft.{stays, force_passes}
 use Rattle.heap_core.proofs.MeansForce.{unfailed_valid, keeps, holds, force_keeps, ok_steps, ok_on, err_steps, err_on}
 use Rattle.heap_core.proofs.heap.Heap.force.Goals as goal
 

@@ -2,7 +2,8 @@ use Rattle.std.proofs.Common.{sym, ◌∙◌, subst}
 use Rattle.graph_model.specs.declared.reply.Reply.{Reply}
 use Rattle.heap_core.specs.Means.{Steps}
 use Rattle.heap_model.specs.CoreCrash.{KeepsCommits}
-use Rattle.heap_core.proofs.MeansLeft.{heap_keeps, stays, failed_passes}
+use Rattle.heap_core.specs.CrashLaws.{heap_keeps}
+use Rattle.heap_core.proofs.MeansLeft.{stays, failed_passes}
 use Rattle.heap_core.proofs.MeansForce.{failed_steps, failed_on}
 use Rattle.heap_core.proofs.heap.Heap.reply_to.Goals as goal
 

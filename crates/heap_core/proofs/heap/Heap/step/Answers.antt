@@ -3,7 +3,8 @@ use Rattle.graph_model.specs.declared.reply.Entry.{Entry}
 use Rattle.heap_core.specs.declared.history.History.{History}
 use Rattle.heap_model.specs.CoreLawsRun.{same_step}
 use Rattle.heap_model.specs.CoreCrash.{KeepsCommits}
-use Rattle.heap_core.proofs.MeansLeft.{heap_keeps, stays}
+use Rattle.heap_core.specs.CrashLaws.{heap_keeps}
+use Rattle.heap_core.proofs.MeansLeft.{stays}
 use Rattle.heap_core.proofs.MeansForce.{with_history}
 use Rattle.heap_core.proofs.heap.Heap.step.Goals as goal
 

@@ -1,4 +1,4 @@
-use Rattle.std.proofs.Common.{◌≡◌, is_some, ap, sym, ◌∙◌}
+use Rattle.std.proofs.Common.{is_some, ap, sym, ◌∙◌}
 use Rattle.log_machine.specs.Machine.{State, undo_of, without_newest}
 use Rattle.log_machine.proofs.Consistent.{newest_below}
 use Rattle.log_machine.proofs.log_state.LogState.is_newest.Goals as goal

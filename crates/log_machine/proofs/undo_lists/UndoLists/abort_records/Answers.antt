@@ -1,8 +1,7 @@
-use Rattle.std.proofs.Common.{◌≡◌, ap, sym, ◌∙◌, arith}
+use Rattle.std.proofs.Common.{ap, arith}
 use Rattle.std.specs.FinMap as map
 use Rattle.std.proofs.lemmas.Grind.{common_steps}
 use Rattle.log_machine.specs.Machine.{abort_each}
-use Rattle.log_machine.specs.Seen.{seen_loser}
 use Rattle.log_machine.proofs.Seen.{entries_seen}
 use Rattle.log_machine.proofs.undo_lists.UndoLists.abort_records.Goals as goal
 

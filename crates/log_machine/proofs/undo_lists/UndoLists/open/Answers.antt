@@ -1,4 +1,4 @@
-use Rattle.std.proofs.Common.{◌≡◌, [], ◌∷◌, ap, sym, ◌∙◌, arith, length}
+use Rattle.std.proofs.Common.{◌≡◌, [], ◌∷◌, ap, ◌∙◌, arith}
 use Rattle.log_machine.specs.Machine.{undo_in}
 use Rattle.log_machine.specs.ReserveLaws.{bytes_for}
 use Rattle.log_machine.proofs.Lists.{put_list, kept_put, added}

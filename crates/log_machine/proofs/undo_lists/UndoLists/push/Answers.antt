@@ -1,7 +1,6 @@
-use Rattle.std.proofs.Common.{◌≡◌, [], ◌∷◌, reverse, ap, sym, ◌∙◌, subst, arith, length}
+use Rattle.std.proofs.Common.{◌≡◌, [], ◌∷◌, ap, sym, ◌∙◌, subst, arith}
 use Rattle.std.specs.FinMap.{insert}
 use Rattle.log_machine.specs.Machine.{undo_in}
-use Rattle.log_machine.specs.ReserveLaws.{bytes_for}
 use Rattle.log_machine.specs.Kept.{IsKept}
 use Rattle.log_machine.specs.Seen.{seen_undo}
 use Rattle.log_machine.proofs.Lists.{is_found, put_list, kept_put, added, got, stands_at, stands_not, bytes_standing, same_list, on_ok, on_err}

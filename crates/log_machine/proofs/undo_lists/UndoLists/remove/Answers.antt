@@ -1,7 +1,5 @@
-use Rattle.std.proofs.Common.{◌≡◌, ap, sym, ◌∙◌, arith}
+use Rattle.std.proofs.Common.{ap, ◌∙◌, arith}
 use Rattle.std.specs.FinMap.{remove}
-use Rattle.log_machine.specs.Seen.{seen_undo}
-use Rattle.log_machine.specs.ReserveLaws.{bytes_over}
 use Rattle.log_machine.proofs.Lists.{bytes_taken, kept_drop}
 use Rattle.log_machine.proofs.Seen.{seen_remove}
 use Rattle.log_machine.proofs.undo_lists.UndoLists.remove.Goals as goal

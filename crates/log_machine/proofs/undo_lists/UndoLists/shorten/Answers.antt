@@ -1,5 +1,4 @@
-use Rattle.std.proofs.Common.{◌≡◌, [], ◌<◌, drop, length, ap, sym, ◌∙◌, subst, arith}
-use Rattle.std.specs.FinMap.{insert}
+use Rattle.std.proofs.Common.{◌≡◌, [], ◌<◌, drop, length, ap, sym, ◌∙◌, arith}
 use Rattle.log_machine.specs.Machine.{undo_in}
 use Rattle.log_machine.proofs.Lists.{is_found, put_list, stands_at, stands_not, kept_shorter, popped}
 use Rattle.log_machine.proofs.Seen.{seen}

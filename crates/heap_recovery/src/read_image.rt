@@ -1,0 +1,84 @@
+//! What an image says before anything is rolled back: its superblock, its log, and the words that the records leave.
+ghost use Rattle.std.specs.Prelude.{◌≡◌, ℕ, ◌+◌, ◌≤◌, List, take, IsTrue, IfOk, IfErr};
+ghost use Rattle.disk_model.specs.Disk.{part};
+ghost use Rattle.disk_model.specs.Keeps.{OnlyReads};
+ghost use Rattle.gated_log.specs.Log.{HoldsBatches};
+ghost use Rattle.gated_log.specs.LogState.{log_place, log_room, log_used};
+ghost use Rattle.image_plan.specs.declared.superblock.Super.{Super};
+ghost use Rattle.image_plan.specs.Plan.{log_offset, image_size};
+ghost use Rattle.image_plan.specs.Super.{IsSuper, superblock};
+ghost use Rattle.log_records.specs.declared.Record.{Record};
+ghost use Rattle.log_machine.specs.Machine.{reserve};
+ghost use Rattle.heap_model.specs.Image.{IsLegalLog, IsLegal};
+ghost use Rattle.heap_recovery.specs.Causes.{open_device};
+ghost use Rattle.heap_recovery.specs.Recovered.{IsRead, IsFromOutside};
+
+use crate::at::At;
+use crate::error::RecoverError;
+use crate::reading::Reading;
+use disk_model::Disk;
+use gated_log::Log;
+use image_plan::{SUPER_BYTES, Super, read_super};
+use log_machine::replay;
+use std::alloc::Global;
+
+/// Reads the image on the disk.
+pub fn read_image<D: Disk>(alloc: Global, disk: &mut D) -> Result<Reading, RecoverError>
+    // What was read are the batches of some log, whose records follow one another.
+    ensures read { IfOk result (λ read. (batches : List (List Record)) × IsRead read.of batches read) }
+    ensures inside { IfOk result (λ read. log_place read.log + log_room read.log ≤ D.extent disk.new) }
+    ensures room { IfOk result (λ read. log_used read.log + reserve read.state ≤ log_room read.log) }
+
+    // Of a legal image its own are read.
+    ensures found { IsTrue D.tells → (s : Super) (batches : List (List Record)) → IsLegal s batches (D.bytes disk.old) → IfOk result (IsRead s batches) }
+    ensures legal { IsTrue D.tells → (s : Super) (batches : List (List Record)) → IsLegal s batches (D.bytes disk.old) → IfErr result IsFromOutside }
+    ensures disk { OnlyReads D.Disk disk.old disk.new (open_device result) }
+{
+    let of = read_numbers(disk)?;
+    read_log(alloc, disk, of)
+}
+
+/// The numbers that the heap on the disk was made with, if the superblock is good and the disk has the bytes of its plan.
+fn read_numbers<D: Disk>(disk: &mut D) -> Result<Super, RecoverError>
+    ensures good { IfOk result IsSuper }
+    ensures fits { IfOk result (λ s. image_size s.pages s.log_bytes ≤ D.extent disk.new) }
+    ensures found { IsTrue D.tells → (s : Super) → IsSuper s → take 64 (D.bytes disk.old) ≡ superblock s → image_size s.pages s.log_bytes ≤ D.extent disk.old → IfOk result (λ found. found ≡ s) }
+    ensures legal { IsTrue D.tells → (s : Super) → IsSuper s → take 64 (D.bytes disk.old) ≡ superblock s → image_size s.pages s.log_bytes ≤ D.extent disk.old → IfErr result IsFromOutside }
+    ensures disk { OnlyReads D.Disk disk.old disk.new (open_device result) }
+{
+    if disk.size() < SUPER_BYTES as u64 {
+        return Err(RecoverError::NotHeap);
+    }
+    let mut bytes = [0u8; SUPER_BYTES];
+    disk.read(0, &mut bytes).map_err(RecoverError::Disk)?;
+    let found = read_super(&bytes).ok_or(RecoverError::NotHeap)?;
+    if disk.size() < found.plan().size() {
+        return Err(RecoverError::NotHeap);
+    }
+    Ok(found)
+}
+
+/// Reads the log of a heap with these numbers, and what its records leave.
+fn read_log<D: Disk>(alloc: Global, disk: &mut D, of: Super) -> Result<Reading, RecoverError>
+    requires good { IsSuper of }
+    requires fits { image_size of.pages of.log_bytes ≤ D.extent disk.old }
+
+    ensures read { IfOk result (λ read. (batches : List (List Record)) × IsRead of batches read) }
+    ensures inside { IfOk result (λ read. log_place read.log + log_room read.log ≤ D.extent disk.new) }
+    ensures room { IfOk result (λ read. log_used read.log + reserve read.state ≤ log_room read.log) }
+    ensures found { IsTrue D.tells → (batches : List (List Record)) → HoldsBatches (part (D.bytes disk.old) log_offset of.log_bytes) batches → IsLegalLog of batches → IfOk result (IsRead of batches) }
+    ensures legal { IsTrue D.tells → (batches : List (List Record)) → HoldsBatches (part (D.bytes disk.old) log_offset of.log_bytes) batches → IsLegalLog of batches → IfErr result IsFromOutside }
+    ensures disk { OnlyReads D.Disk disk.old disk.new (open_device result) }
+{
+    let (log, records) = Log::open(alloc, disk, of.plan().log_at(), of.log_bytes)?;
+    let (state, words) = replay(alloc, of.pages, of.first, &records)?;
+    if log.used() + state.reserve() > log.room() {
+        return Err(RecoverError::Damaged { at: At::Reserve });
+    }
+    Ok(Reading {
+        of,
+        log,
+        words,
+        state,
+    })
+}

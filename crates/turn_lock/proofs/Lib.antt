@@ -1,0 +1,5 @@
+pub mod Lists
+pub mod Counts
+pub mod Keeps
+pub mod Deals
+pub mod Merges

@@ -1,0 +1,17 @@
+//! A fair ticket lock round one value, whose turns are a history.
+#![tactic(auto)]
+
+mod law;
+pub mod ledger;
+mod lock;
+mod pass;
+mod turns;
+mod view;
+
+pub use lock::{Held, TurnLock};
+pub use pass::Pass;
+pub use turns::Turns;
+pub use view::{Stage, View};
+
+#[cfg(test)]
+mod tests;

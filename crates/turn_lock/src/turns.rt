@@ -1,0 +1,28 @@
+//! What a value under the lock tells of the turns that were made on it.
+ghost use Rattle.std.specs.Prelude.{ℕ, List};
+
+/// A value that keeps a history of the turns that were made on it.
+///
+/// A turn adds one entry at the end of the history, or one to the count of empty turns. The lock knows nothing else of the value.
+pub trait Turns {
+    /// One entry of the history.
+    type Entry;
+
+    /// The history, oldest entry first.
+    ghost entries: { Self → List Self.Entry };
+
+    /// How many entries stood in the history when the lock was made.
+    ghost stood: { Self → ℕ };
+
+    /// The number that an entry acknowledges, 0 where it acknowledges none. It is below 2^64.
+    ghost front: { Self.Entry → ℕ };
+
+    /// How many turns added no entry, by remainder of 2^64.
+    ghost empty_turns: { Self → ℕ };
+
+    /// What tells a value from another one.
+    ghost Origin: { Type 0 };
+
+    /// Which value this is. No turn changes it.
+    ghost origin: { Self → Origin };
+}

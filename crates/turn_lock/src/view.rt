@@ -1,0 +1,35 @@
+//! What a pass knows: plain data that exists in proofs alone.
+use std::collections::LinkedList;
+
+/// How far a pass is with its turn.
+pub enum Stage {
+    /// It has no ticket.
+    Resting,
+    /// It has a ticket that is not served yet.
+    Waiting,
+    /// Its ticket is served, and the value is out with it.
+    Turn,
+    /// The same, and the front is raised to what the value says that goes back.
+    Raised,
+}
+
+/// What a pass knows. No value of it is made.
+pub struct View<T, E> {
+    /// The value that was handed to the lock, as it was then. `None` in the view that a joined pass leaves behind.
+    pub first: Option<T>,
+    /// Its number and those of the passes that were joined into it.
+    pub numbers: LinkedList<u64>,
+    pub stage: Stage,
+    /// The whole number of its ticket, where it has one.
+    pub ticket: u64,
+    /// The history as far as it was seen.
+    pub seen: LinkedList<E>,
+    /// The empty turns of the value that is out with it.
+    pub empty: u64,
+    /// The entries of its own turns, each with its place in the history.
+    pub mine: LinkedList<(u64, E)>,
+    /// How many turns it has made.
+    pub turns: u64,
+    /// The greatest front that it knows.
+    pub front: u64,
+}
