@@ -28,3 +28,12 @@ disk_rose_since f s m n f' s' fm sn mf ns up = rose_since (f + s) (m + n) (f' + 
 -- what rose between two moments rose between an earlier and a later one
 pub rose_within : (a b c d : ℕ) → a ≤ b → b ≤ c → c ≤ d → Rose b c → Rose a d
 rose_within a b c d ab bc cd up = rose_until a c d cd (rose_since a b c ab bc up)
+
+-- an error's count rose since the first call, if it rose in the last one
+pub cause_on : {A B : Type 0} (faults mid faults' stops mids stops' : ℕ) (result : Result A DiskError) (last : Result B DiskError) → faults ≤ mid → stops ≤ mids → HasCause mid faults' mids stops' last → ((e : DiskError) → result ≡ Err e → last ≡ Err e) → HasCause faults faults' stops stops' result
+cause_on faults mid faults' stops mids stops' result last f s cause same_error = record {
+  faults_kept = omega (arith, cause.faults_kept);
+  stops_kept = omega (arith, cause.stops_kept);
+  failed = λ is. rose_since faults mid faults' f cause.faults_kept (cause.failed (same_error Failed is));
+  stopped = λ is. rose_since stops mids stops' s cause.stops_kept (cause.stopped (same_error Stopped is));
+}

@@ -35,7 +35,7 @@ use Rattle.heap_shell.specs.Play.{AreReady, MakesAll, MakesShort, Makes, Ends, P
 use Rattle.heap_shell.specs.StatusOf.{write_halt}
 use Rattle.heap_shell.specs.Steps.{Step, HeapStep, AreSteps}
 use Rattle.heap_shell.specs.declared.output.WriteError.TheVariants as writing
-use Rattle.heap_core.proofs.MeansLeft.{heap_keeps}
+use Rattle.heap_core.specs.CrashLaws.{heap_keeps}
 
 -- a reply that tells no fault of the disk
 sound_device : (reply : Reply) → IsSoundReply reply → (reply_device reply ≡ Ok tt) × (ended_by reply ≡ Ok tt)
@@ -55,7 +55,7 @@ one_call n m k e = let same : m ≡ m + 0 = omega arith in e ∙ ap (λ (i : ℕ
 
 -- what a crash leaves of a heap
 pub heap_leaves : {D : Type 0} {g : Ghosts D} (s : Super) (c : Core) (heap : Heap D g) → IsHeap s c heap → IsReached c → (image : List ℕ) → g.may_leave heap.disk image → KeepsCommits c image
-heap_leaves {g = g} s c heap is reached = heap_keeps s c (g.bytes heap.disk) (g.may_leave heap.disk) is.disk reached
+heap_leaves {g = g} s c heap is reached = heap_keeps s c (g.bytes heap.disk) (g.may_leave heap.disk) is.disk reached.sound
 
 module _ {D : Type 0} {g : Ghosts D} (s : Super) (c d : Core) (event : Event) (reply : Reply) (old new : Heap D g) (ready : AreReady c (event ∷ [])) (step : IsStep c event reply d)
     (keeps : KeepsDisk g old.disk new.disk (reply_device reply)) (passes : Passes (calls c event) (g.passed old.disk) (g.passed new.disk) (reply_device reply))

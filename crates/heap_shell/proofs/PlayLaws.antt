@@ -21,7 +21,7 @@ use Rattle.heap_core.specs.Means.{IsHeap}
 use Rattle.heap_shell.specs.Play.{AreReady, MakesAll, MakesShort, Makes, Ends, Plays}
 use Rattle.heap_shell.specs.Steps.{HeapStep, AreSteps}
 use Rattle.heap_shell.specs.StepsLaws.{steps_append}
-use Rattle.disk_model.specs.KeepsLaws.{rose_since}
+use Rattle.heap_shell.proofs.Causes.{cause_on}
 
 -- the passes of two runs, one after the other
 counted_then : (m n both before mid now : ℕ) → n + m ≡ both → mid ≡ counted n before → now ≡ counted m mid → now ≡ counted both before

@@ -21,7 +21,7 @@ returns-in_err-write_line-clause-plays g c tells of core heap ready =
     let err : c.from_residual-in_err-write_line.result ≡ Err (write_halt e) = search rules in
     let made = c.in_ok-reply.ensures in
     let stepped = made.holds tells of core heap ready.running.reached ready.single.0 in
-    rw err (plays_unwritten of core stepped.0 c.args.event c.in_ok-reply.reply c.args.heap.now c.step.new.self ready stepped.1 made.disk (made.passes tells core heap.core) (c.step.ensures.moments tells of core heap ready.running.reached) stepped.2
+    rw err (plays_unwritten of core stepped.0 c.args.event c.in_ok-reply.reply c.args.heap.now c.step.new.self ready stepped.1 made.disk (made.passes tells core heap.core ready.running.reached) (c.step.ensures.moments tells of core heap ready.running.reached) stepped.2
     k.tells (k.written c.args.sink.now) (k.written c.write_line.new.sink) e c.in_err-write_line.ensures.wrote)
 
 pub returns-clause-plays : goal.returns-clause-plays
@@ -30,7 +30,7 @@ returns-clause-plays g c tells of core heap ready =
     let made = c.in_ok-reply.ensures in
     let stepped = made.holds tells of core heap ready.running.reached ready.single.0 in
     let P : Result (Unit {0}) Halt → Type 0 = λ r. Plays of core (c.args.event ∷ []) c.args.heap.now c.step.new.self k.tells (k.written c.args.sink.now) (k.written c.write_line.new.sink) r in
-    subst P (sym c.ended_by.ensures) (plays_one of core stepped.0 c.args.event c.in_ok-reply.reply c.args.heap.now c.step.new.self ready stepped.1 made.disk (made.passes tells core heap.core) (c.step.ensures.moments tells of core heap ready.running.reached) stepped.2
+    subst P (sym c.ended_by.ensures) (plays_one of core stepped.0 c.args.event c.in_ok-reply.reply c.args.heap.now c.step.new.self ready stepped.1 made.disk (made.passes tells core heap.core ready.running.reached) (c.step.ensures.moments tells of core heap ready.running.reached) stepped.2
     k.tells (k.written c.args.sink.now) (k.written c.write_line.new.sink) c.in_ok-write_line.ensures.wrote)
 
 pub returns-in_err-reply-clause-core : goal.returns-in_err-reply-clause-core

@@ -12,7 +12,7 @@ use Rattle.heap_shell.proofs.play.play_lines.Goals as goal
 
 pub loop-line-init : goal.loop-line-init
 loop-line-init g c = record {
-  disk = keeps_none g.D.Disk (heap_disk c.args.heap.now);
+  disk = keeps_none g.D.Disk (heap_disk c.args.heap.now) tt;
   sink = omega arith;
   core = λ core is ready. core_none core c.args.heap.now g.K.Sink.tells (g.K.Sink.written c.args.sink.now) is;
   plays = λ tells of core is ready. plays_none of core c.args.heap.now g.K.Sink.tells (g.K.Sink.written c.args.sink.now) is;

@@ -1,5 +1,6 @@
 use Rattle.std.proofs.Common.{◌≡◌, ◌≤◌, take, Ok}
-use Rattle.std.specs.Prelude.{IsTrue}
+use Rattle.std.specs.Prelude.{IsTrue, Result}
+use Rattle.disk_model.specs.declared.disk.DiskError.{DiskError}
 use Rattle.disk_model.specs.Keeps.{KeepsDisk}
 use Rattle.image_plan.specs.declared.superblock.Super.{Super}
 use Rattle.heap_model.specs.Core.{Core}
@@ -13,8 +14,9 @@ use Rattle.heap_shell.proofs.play.play_lines.Given as goal
 abbrev pub invariant-loop-line : goal.invariant-loop-line
 invariant-loop-line g l =
     let k = g.K.Sink in
+    let well : Result (Unit {0}) DiskError = Ok tt in
     record {
-      disk : KeepsDisk g.D.Disk (heap_disk l.fn.heap) (heap_disk l.heap) (Ok tt);
+      disk : KeepsDisk g.D.Disk (heap_disk l.fn.heap) (heap_disk l.heap) well;
       sink : k.faults l.fn.sink ≤ k.faults l.sink;
       core : (c : Core) → IsCore c l.fn.heap → AreReady c (events l.lines) → PlaysCore c (events (take l.line-index l.lines)) l.heap k.tells (k.written l.fn.sink) (k.written l.sink) (Ok tt);
       plays : IsTrue g.D.Disk.tells → (of : Super) (c : Core) → IsHeap of c l.fn.heap → AreReady c (events l.lines) → Plays of c (events (take l.line-index l.lines)) l.fn.heap l.heap k.tells (k.written l.fn.sink) (k.written l.sink) (Ok tt);
