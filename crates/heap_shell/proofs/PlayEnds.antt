@@ -35,10 +35,10 @@ use Rattle.heap_model.specs.CoreLawsRun.{reached_agrees}
 use Rattle.heap_model.specs.CoreReplies.{call_replies_of}
 use Rattle.heap_model.specs.CoreRuns.{after_events, total_calls}
 use Rattle.heap_model.specs.CoreValid.{IsReached}
-use Rattle.heap_shell.specs.Headline.{graph_text, end_text, let_through, IsWhole, IsCutBy, HasMade, StopsLast, IsExact, IsEndOfPlay, MakesEvents, Unharmed, KeepsThroughout, IsFollowed, StartsAgain, Prints, IsPlayed, Writes}
+use Rattle.heap_shell.specs.Headline.{graph_text, end_text, let_through, HasMade, StopsLast, IsExact, IsEndOfPlay, MakesEvents, Unharmed, KeepsThroughout, IsFollowed, StartsAgain, Prints, IsPlayed, Writes}
 use Rattle.heap_shell.specs.Playable.{IsPlayable}
 use Rattle.heap_shell.specs.Output.{WroteText, Recovers, WroteRecovered, WroteNothing, status_after}
-use Rattle.heap_shell.specs.Play.{IsRunning, AreReady, MakesAll, MakesShort, Makes, Ends, Plays, Wrote, lines_text, WroteFront, WroteLines}
+use Rattle.heap_shell.specs.Play.{IsRunning, IsWhole, IsCutBy, AreReady, MakesAll, MakesShort, Makes, Ends, Plays, Wrote, lines_text, WroteFront, WroteLines}
 use Rattle.heap_shell.specs.StatusOf.{halt_status}
 use Rattle.heap_shell.specs.StepsLaws.{heap_steps}
 use Rattle.heap_shell.proofs.Causes.{disk_rose}

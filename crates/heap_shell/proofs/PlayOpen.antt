@@ -1,31 +1,44 @@
 -- A play opens the heap that was made for it.
-use Rattle.std.proofs.Common.{◌≡◌, inl, inr, ⊎_elim, ℕ, ◌+◌, Bool, List, [], ◌++◌, take, Option, Some, None, refl, sym, ◌∙◌, subst, arith}
+use Rattle.std.proofs.Common.{◌≡◌, inl, inr, ⊎_elim, ℕ, ◌+◌, Bool, List, [], ◌++◌, take, Option, Some, None, Ok, refl, sym, ap, ◌∙◌, subst, arith}
 use Rattle.std.specs.Prelude.{◌⊎◌, IsTrue}
 use Rattle.std.proofs.lemmas.List.{append-nil}
 use Rattle.disk_model.specs.declared.disk.Disk.{Ghosts}
 use Rattle.disk_model.specs.Moments.{LeavesOnly, begins, joined, weaker}
 use Rattle.graph_model.specs.declared.event.Event.{Event}
-use Rattle.graph_model.specs.Graph.{Graph, new_graph}
+use Rattle.graph_model.specs.Graph.{Graph, root_graph, new_graph}
 use Rattle.graph_model.specs.Transaction.{serial}
-use Rattle.graph_model.specs.History.{commits}
+use Rattle.graph_model.specs.History.{account, commits}
 use Rattle.heap_core.specs.Causes.{IsFromOutside}
 use Rattle.heap_core.specs.declared.errors.OpenError.{OpenError}
 use Rattle.heap_model.specs.Core.{Core}
-use Rattle.image_plan.specs.Super.{IsSuper}
 use Rattle.heap_shell.specs.declared.status.Status.{Status}
 use Rattle.heap_shell.specs.declared.status.Status.TheVariants.{Done}
 use Rattle.heap_model.specs.CoreCrash.{KeepsCommits}
-use Rattle.heap_model.specs.CoreLawsEnding.{single_front}
 use Rattle.heap_model.specs.CoreLawsGrow.{keeps_as}
 use Rattle.heap_model.specs.CoreLawsNew.{new_legal, new_shows}
-use Rattle.heap_model.specs.CoreLawsOpened.{opened_keeps}
-use Rattle.heap_shell.specs.CoreLawsPlay.{made_running}
+use Rattle.heap_model.specs.CoreLawsOpened.{opened_keeps, opened_reached}
+use Rattle.heap_shell.specs.CoreLawsPlay.{running_after, all_playable}
 use Rattle.heap_model.specs.CoreRuns.{after_events}
-use Rattle.heap_model.specs.Ending.{ending, all_events}
+use Rattle.heap_model.specs.Ending.{all_events}
 use Rattle.heap_shell.specs.Headline.{made_super, made_core, end_text, IsExact, IsEndOfPlay, IsFollowed, KeepsThroughout, Unharmed, IsPlayed}
-use Rattle.heap_shell.specs.Playable.{IsPlayable}
-use Rattle.heap_model.specs.Image.{IsLegal, StandsFor}
-use Rattle.heap_shell.specs.Play.{AreReady, WroteFront}
+use Rattle.heap_shell.specs.Playable.{IsScript}
+use Rattle.heap_model.specs.Image.{words_of, IsLegalLog, IsLegal, Shows, StandsFor}
+use Rattle.counts.specs.Count.{counted}
+use Rattle.log_machine.specs.MapLaws.{entries_empty}
+use Rattle.log_machine.specs.Machine.{abort_each}
+use Rattle.log_machine.specs.declared.UndoEntry.{UndoEntry}
+use Rattle.heap_model.specs.Core.{force_calls}
+use Rattle.heap_model.specs.Opening.{opened, opening_calls, rollback_of}
+use Rattle.heap_model.specs.ValueWord.{root_values}
+use Rattle.heap_model.specs.CoreLawsLegal.{root_shown}
+use Rattle.heap_core.specs.declared.heap.Heap.{Heap}
+use Rattle.heap_core.specs.HeapState.{failed_at}
+use Rattle.heap_core.specs.Means.{IsCore}
+use Rattle.log_records.specs.declared.Record.{Record}
+use Rattle.image_plan.specs.declared.superblock.Super.{Super}
+use Rattle.script_text.specs.declared.line.Line.{Line}
+use Rattle.script_text.specs.Line.{events}
+use Rattle.heap_shell.specs.Play.{IsRunning, PlaysCore, WroteFront}
 use Rattle.heap_shell.specs.StatusOf.{open_status}
 use Rattle.heap_shell.proofs.Statuses.{open_end, open_not_done}
 use Rattle.heap_shell.proofs.Written.{none_written}
@@ -44,8 +57,19 @@ abbrev pub new_count : (pages : ℕ) (image : List ℕ) → IsLegal (made_super 
 new_count pages image legal = (made_core pages).before + (new_image pages image legal).0
 
 -- the heap of such an image is that of an empty log
-pub empty_image : (pages : ℕ) (image : List ℕ) → IsLegal (made_super pages) [] image → IsLegal (made_super pages) [] image
+abbrev pub empty_image : (pages : ℕ) (image : List ℕ) → IsLegal (made_super pages) [] image → IsLegal (made_super pages) [] image
 empty_image pages image legal = record { log = new_legal (made_super pages) legal.log.limits; held = legal.held }
+
+-- in a new heap there is nothing to be taken back
+pub no_rollback : (s : Super) → rollback_of s [] ≡ []
+no_rollback s = ap abort_each (entries_empty (List UndoEntry))
+
+pub no_calls : (s : Super) → opening_calls s [] ≡ 0
+no_calls s = ap force_calls (no_rollback s)
+
+-- so its opening makes no write and no sync
+pub new_passes : (s : Super) (before now : ℕ) → now ≡ counted (opening_calls s []) before → now ≡ before
+new_passes s before now passed = passed ∙ ap (λ (n : ℕ). counted n before) (no_calls s)
 
 -- two runs, of which the second leaves what the first may leave too
 pub opening_then : {D : Type 0} (moment : D → ℕ) (left_since : D → ℕ → List ℕ → Type 0) (old mid new : D) (first all : List ℕ → Type 0) → LeavesOnly moment left_since old mid first → LeavesOnly moment left_since mid new all
@@ -103,6 +127,30 @@ pub opening_keeps : {D : Type 0} (moment : D → ℕ) (left_since : D → ℕ �
 opening_keeps moment left_since old new pages bytes legal opened =
     weaker moment left_since old new (StandsFor (new_first pages bytes legal) (new_count pages bytes legal)) (KeepsCommits (made_core pages)) opened (opened_commits pages bytes legal)
 
--- a new heap may be asked the events of a script, if it may be asked those that end a run too
-pub script_ready : (pages : ℕ) (events : List Event) → IsSuper (made_super pages) → IsPlayable (all_events None (made_core pages) events) → AreReady (made_core pages) events
-script_ready pages events limits playable = record { running = made_running pages limits; single = single_front events (ending (after_events (made_core pages) events)) playable.single }
+-- What is opened on any disk is a core that runs, whatever its graph.
+pub record IsNew (c : Core) : Type 0 where
+  pub running : IsRunning c
+  pub nothing : c.history ≡ []
+
+pub opened_core : {D : Type 0} {g : Ghosts D} (heap : Heap D g) → (s : Super) × (batches : List (List Record)) × (legal : IsLegalLog s batches) × ((graph : Graph) → Shows s batches legal graph → IsCore (opened s batches graph) heap)
+    → (c : Core) × IsNew c × IsCore c heap
+opened_core heap is =
+    let graph = root_graph (root_values (words_of is.0 is.1) 0) in
+    let shows = root_shown is.0 is.1 is.2 in
+    let c = opened is.0 is.1 graph in
+    let running : IsRunning c = record { reached = opened_reached is.0 is.1 is.2 graph shows; unfailed = refl } in
+    (c, record { running = running; nothing = refl }, is.3 graph shows)
+
+-- it has not failed
+pub opened_unfailed : {D : Type 0} {g : Ghosts D} (heap : Heap D g) (c : Core) → IsNew c → IsCore c heap → failed_at heap ≡ None
+opened_unfailed heap c new is = is.memory.failure ∙ new.running.unfailed
+
+-- nor has it behind a play that made all events
+pub played_unfailed : {D : Type 0} {g : Ghosts D} (c : Core) (lines : List Line) (heap : Heap D g) (told : Bool) (before after : List ℕ) → IsRunning c → IsScript lines
+    → PlaysCore c (all_events None c (events lines)) heap told before after (Ok tt) → failed_at heap ≡ None
+played_unfailed c lines heap told before after running is plays =
+    let es = all_events None c (events lines) in
+    let same : es ≡ plays.made = plays.parts ∙ ap (λ (l : List Event). plays.made ++ l) plays.ends.0 ∙ append-nil plays.made in
+    let whole : plays.core ≡ after_events c es = subst (λ (l : List Event). plays.core ≡ after_events c l) (sym same) plays.ends.1 in
+    let after_all = running_after c es (record { running = running; single = (all_playable None c lines running.reached is).single }) in
+    plays.is.memory.failure ∙ ap (λ (x : Core). (account x.history).failed) whole ∙ after_all.unfailed

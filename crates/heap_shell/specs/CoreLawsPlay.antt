@@ -23,7 +23,7 @@ use Rattle.heap_model.specs.CoreLawsRun.{sound_valid}
 use Rattle.heap_model.specs.Ending.{all_events}
 use Rattle.heap_shell.specs.Headline.{made_super, made_core}
 use Rattle.heap_shell.specs.Play.{IsRunning, AreReady, Makes}
-use Rattle.heap_shell.specs.Playable.{IsPlayable}
+use Rattle.heap_shell.specs.Playable.{IsScript, IsPlayable}
 
 -- the numbers of a new heap with so many pages are good
 pub made_limits : (pages : ℕ) → 1 ≤ pages → pages ≤ 16384 → IsSuper (made_super pages)
@@ -73,12 +73,17 @@ makes_run c made behind d old new ready (inr short) =
 pub made_running : (pages : ℕ) → IsSuper (made_super pages) → IsRunning (made_core pages)
 made_running pages limits = record { reached = made_reached pages limits; unfailed = refl }
 
--- The events of a script may be played on a new heap, with those that end a run.
-pub script_playable : (pages : ℕ) (bytes : List ℕ) (lines : List Line) (stop : Option ℕ) → IsSuper (made_super pages) → script bytes ≡ Ok lines → IsPlayable (all_events stop (made_core pages) (events lines))
-script_playable pages bytes lines stop limits is =
-    let reached = made_reached pages limits in
-    let single = script_single bytes lines is in
-    record {
-      single = all_single stop (made_core pages) (events lines) reached single;
-      few = omega (arith, script_few bytes lines is, all_few stop (made_core pages) (events lines) reached single);
-    }
+-- A script that was read is one.
+pub script_is : (bytes : List ℕ) (lines : List Line) → script bytes ≡ Ok lines → IsScript lines
+script_is bytes lines is = record { single = script_single bytes lines is; few = script_few bytes lines is }
+
+-- Its events may be played, with those that end a run.
+pub all_playable : (stop : Option ℕ) (c : Core) (lines : List Line) → IsReached c → IsScript lines → IsPlayable (all_events stop c (events lines))
+all_playable stop c lines reached is = record {
+  single = all_single stop c (events lines) reached is.single;
+  few = omega (arith, is.few, all_few stop c (events lines) reached is.single);
+}
+
+-- a heap that runs may be asked them
+pub script_ready : (c : Core) (lines : List Line) → IsRunning c → IsScript lines → AreReady c (events lines)
+script_ready c lines running is = record { running = running; single = is.single }

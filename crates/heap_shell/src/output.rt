@@ -15,7 +15,7 @@ ghost use Rattle.heap_shell.specs.Output.{WroteText};
 
 use disk_model::Disk;
 use graph_model::Entry;
-use heap_core::Heap;
+use heap_core::{GraphError, Heap};
 use heap_io::{Sink, put_all};
 use script_text::reply_line;
 use std::alloc::{AllocError, Global};
@@ -33,6 +33,15 @@ impl From<AllocError> for WriteError {
     ghost from_gives = { λ _ e. e ≡ NoMemory };
 
     fn from(_: AllocError) -> Self {
+        WriteError::NoMemory
+    }
+}
+
+/// The graph of an open heap fails only for want of memory.
+impl From<GraphError> for WriteError {
+    ghost from_gives = { λ _ e. e ≡ NoMemory };
+
+    fn from(_: GraphError) -> Self {
         WriteError::NoMemory
     }
 }
@@ -64,8 +73,7 @@ pub fn write_graph<D: Disk, K: Sink>(
     ensures sink { StreamCause (K.faults sink.old) (K.faults sink.new) (result ≡ Err SinkFailed) }
     ensures wrote { IsTrue K.tells → (c : Core) → IsCore c heap.now → IsReached c → WroteText result (K.written sink.old) (graph_text (serial c.g0 (sealed c.history))) (K.written sink.new) }
 {
-    // Of an open heap this fails only for want of memory.
-    let text = heap.graph(alloc).map_err(|_| WriteError::NoMemory)?;
+    let text = heap.graph(alloc)?;
     Ok(put_all(sink, &text)?)
 }
 

@@ -1,6 +1,6 @@
 //! The program's one call: from the words of its command line and a script to the printed graph.
-ghost use Rattle.std.specs.Prelude.{◌≡◌, ◌⊎◌, ℕ, ◌<◌, ◌≤◌, ◌↔◌, [], List, None, Some, Ok, Err, map, string_bytes, IfOk, IfErr, IsNone, IsTrue, OnOk};
-ghost use Rattle.counts.specs.Count.{Rose, raised};
+ghost use Rattle.std.specs.Prelude.{◌≡◌, ◌⊎◌, ℕ, ◌<◌, ◌≤◌, ◌↔◌, [], List, min, None, Some, Ok, Err, map, string_bytes, IfOk, IfErr, IsNone, IsTrue, OnOk};
+ghost use Rattle.counts.specs.Count.{Rose, greatest, raised};
 ghost use Rattle.disk_model.specs.Disk.{Only};
 ghost use Rattle.disk_model.specs.Fuse.{fuse_inner};
 ghost use Rattle.disk_model.specs.Keeps.{KeepsDisk};
@@ -16,7 +16,7 @@ ghost use Rattle.heap_model.specs.Core.{Core};
 ghost use Rattle.heap_model.specs.CoreCrash.{KeepsCommits};
 ghost use Rattle.heap_shell.specs.CrashSafe.{RunsSafely};
 ghost use Rattle.heap_shell.specs.Headline.{made_super, made_core, OfTold, IsPlayed, Reopens, StartsAgain, Runs, IsSound, IsUntouching, EndsUnread, EndsUnmade, restarts_of};
-ghost use Rattle.heap_shell.specs.Playable.{IsPlayable};
+ghost use Rattle.heap_shell.specs.Playable.{IsScript};
 ghost use Rattle.heap_model.specs.Ending.{all_events};
 ghost use Rattle.heap_model.specs.Image.{IsLegal};
 ghost use Rattle.heap_shell.specs.Output.{Recovers, early_end, status_after};
@@ -119,11 +119,13 @@ fn play_whole<D: Disk, K: Sink>(
     script: &[Line],
     sink: &mut K,
 ) -> (Status, D)
+    requires { IsScript script.now }
+
     ensures end { IsOpenedEnd result.0 }
     ensures disk { RunsDisk D.Disk disk result.1 (result.0 ≡ Status.DiskFault) }
     ensures sink { StreamCause (K.faults sink.old) (K.faults sink.new) (result.0 ≡ Status.WriteFault) }
     ensures restarts { IsTrue D.tells → D.restarts result.1 ≡ D.restarts disk }
-    ensures played { IsTrue D.tells → (pages : ℕ) → IsLegal (made_super pages) [] (D.bytes disk) → Only (D.bytes disk) (D.may_leave disk) → IsPlayable (all_events None (made_core pages) (events script.now))
+    ensures played { IsTrue D.tells → (pages : ℕ) → IsLegal (made_super pages) [] (D.bytes disk) → Only (D.bytes disk) (D.may_leave disk)
         → IsPlayed D.Disk None (made_core pages) (all_events None (made_core pages) (events script.now)) disk result.1 result.0 K.tells (K.written sink.old) (K.written sink.new) }
 {
     let mut heap = match Heap::open(alloc, disk) {
@@ -147,11 +149,13 @@ fn play_stopped<D: Disk, K: Sink>(
     script: &[Line],
     sink: &mut K,
 ) -> (Status, D)
+    requires { IsScript script.now }
+
     ensures end { IsOpenedEnd result.0 }
     ensures disk { RunsDisk D.Disk disk result.1 (result.0 ≡ Status.DiskFault) }
     ensures sink { StreamCause (K.faults sink.old) (K.faults sink.new) (result.0 ≡ Status.WriteFault) }
     ensures restarts { IsTrue D.tells → result.0 ≡ Status.Done → D.restarts result.1 ≡ raised (D.restarts disk) }
-    ensures played { IsTrue D.tells → (pages : ℕ) → IsLegal (made_super pages) [] (D.bytes disk) → Only (D.bytes disk) (D.may_leave disk) → IsPlayable (events script.now)
+    ensures played { IsTrue D.tells → (pages : ℕ) → IsLegal (made_super pages) [] (D.bytes disk) → Only (D.bytes disk) (D.may_leave disk)
         → IsPlayed D.Disk (Some calls) (made_core pages) (events script.now) disk result.1 result.0 K.tells (K.written sink.old) (K.written sink.new) }
 {
     let mut heap = match Heap::open(alloc, FuseDisk::new(disk, calls)) {

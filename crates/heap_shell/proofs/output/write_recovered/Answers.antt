@@ -13,7 +13,7 @@ returns-in_err-line-clause-wrote g c = λ tells core is reached. wrote_nothing _
 -- the line tells the commits since then
 pub returns-in_err-put_all-clause-wrote : goal.returns-in_err-put_all-clause-wrote
 returns-in_err-put_all-clause-wrote g c = λ tells core is reached.
-    let count : c.saturating_sub-commits.result ≡ min (core.before + length (sealed core.history)) greatest - c.args.before = c.saturating_sub-commits.ensures ∙ ap (λ (n : ℕ). n - c.args.before) c.commits.ensures in
+    let count : c.saturating_sub-commits.result ≡ min (core.before + length (sealed core.history)) greatest - c.args.before = c.saturating_sub-commits.ensures ∙ ap (λ (n : ℕ). n - c.args.before) (c.commits.ensures core is) in
     let text = subst (λ (n : ℕ). string_bytes c.in_ok-line.line ≡ recovered_line n) count c.in_ok-line.ensures.ok in
     let failed = c.from_residual-in_err-put_all.ensures.0 in
     wrote_less _ _ (recovered_line (min (core.before + length (sealed core.history)) greatest - c.args.before)) (graph_text (serial core.g0 (sealed core.history))) _ failed
@@ -22,7 +22,7 @@ returns-in_err-put_all-clause-wrote g c = λ tells core is reached.
 -- and the graph is written behind it
 pub returns-clause-wrote : goal.returns-clause-wrote
 returns-clause-wrote g c = λ tells core is reached.
-    let count : c.saturating_sub-commits.result ≡ min (core.before + length (sealed core.history)) greatest - c.args.before = c.saturating_sub-commits.ensures ∙ ap (λ (n : ℕ). n - c.args.before) c.commits.ensures in
+    let count : c.saturating_sub-commits.result ≡ min (core.before + length (sealed core.history)) greatest - c.args.before = c.saturating_sub-commits.ensures ∙ ap (λ (n : ℕ). n - c.args.before) (c.commits.ensures core is) in
     let text = subst (λ (n : ℕ). string_bytes c.in_ok-line.line ≡ recovered_line n) count c.in_ok-line.ensures.ok in
     let first = c.in_ok-put_all.ensures.all tells ∙ ap (λ (l : List ℕ). g.K.Sink.written c.args.sink.now ++ l) (c.as_bytes.ensures.value ∙ text) in
     wrote_then _ _ (recovered_line (min (core.before + length (sealed core.history)) greatest - c.args.before)) _ (graph_text (serial core.g0 (sealed core.history))) _ first (c.write_graph.ensures.wrote tells core is reached)

@@ -1,5 +1,5 @@
 use Rattle.std.proofs.Common.{◌≡◌, ◌≤◌, ◌+◌, ℕ, min, inr, List, [], Some, Ok, Err, rules, arith, refl, sym, ap, ◌∙◌, subst}
-use Rattle.counts.specs.Count.{Rose, raised, counted}
+use Rattle.counts.specs.Count.{Rose, greatest, raised, counted}
 use Rattle.disk_model.specs.declared.disk.DiskError.TheVariants as device
 use Rattle.disk_model.specs.Disk.{Only}
 use Rattle.disk_model.specs.Fuse.{fuse_inner, fuse_passed}
@@ -11,8 +11,9 @@ use Rattle.heap_core.specs.declared.errors.OpenError.TheVariants as opening
 use Rattle.heap_shell.specs.Causes.{DiskRose, RunsDisk}
 use Rattle.heap_core.specs.Causes.{error_device}
 use Rattle.heap_model.specs.CoreCrash.{KeepsCommits}
+use Rattle.heap_model.specs.CoreLawsRun.{same_run}
 use Rattle.heap_model.specs.CoreRuns.{total_calls}
-use Rattle.heap_shell.specs.CoreLawsPlay.{made_running}
+use Rattle.heap_shell.specs.CoreLawsPlay.{made_running, all_playable, script_ready}
 use Rattle.graph_model.specs.Graph.{new_graph}
 use Rattle.heap_model.specs.CoreLawsNew.{new_shows}
 use Rattle.heap_shell.specs.Headline.{made_super, made_core, IsExact, IsPlayed, KeepsThroughout, StartsAgain, Unharmed}
@@ -20,20 +21,22 @@ use Rattle.heap_shell.specs.Output.{Recovers}
 use Rattle.heap_model.specs.Image.{IsLegal}
 use Rattle.script_text.specs.Line.{events}
 use Rattle.heap_shell.proofs.Causes.{rose_within}
-use Rattle.heap_shell.proofs.PlayEnds.{kept, halt_part, halt_lines, stopped_lines, ends_early, ends_recovered, ends_made, exact_some, passes_some}
+use Rattle.heap_shell.proofs.PlayEnds.{run_reached, kept, halt_part, halt_lines, stopped_lines, ends_early, ends_recovered, ends_made, exact_some, passes_some}
 use Rattle.heap_shell.proofs.PlayFuse.{same_disk, same_limit, fuse_since, fuse_passes, IsFuse, fuse_steps_of}
-use Rattle.heap_shell.proofs.PlayOpen.{empty_image, new_stands, opened_commits, opening_keeps, ends_unopened}
+use Rattle.heap_shell.proofs.PlayOpen.{empty_image, new_stands, opened_commits, opening_keeps, ends_unopened, new_passes, no_rollback}
 use Rattle.heap_shell.proofs.Statuses.{no_stop, early_none, early_some, halt_device, halt_end, halt_not_done}
 use Rattle.heap_shell.proofs.run.play_stopped.Goals as goal
 
 pub returns-in-Err-clause-played : goal.returns-in-Err-clause-played
-returns-in-Err-clause-played g c tells pages legal only playable =
+returns-in-Err-clause-played g c tells pages legal only =
     let d = g.D.Disk in
     let s = made_super pages in
-    let limits = legal.log.limits in
     let inner = c.new.ensures.inner in
     let bytes = d.bytes (fuse_inner c.new.result) in
     let legal_f = subst (λ x. IsLegal s [] (d.bytes x)) (sym inner) legal in
+    let limits = legal_f.log.limits in
+    let running = made_running pages limits in
+    let playable = all_playable (Some c.args.calls) (made_core pages) c.args.script.now running.reached c.requires in
     let only_f = subst (λ x. Only (d.bytes x) (d.may_leave x)) (sym inner) only in
     let stands = new_stands pages bytes legal_f in
     let opened = fuse_since c.new.result c.in-Err.fuse _ (c.in-Err.ensures.moments tells only_f _ _ stands) in
@@ -45,19 +48,18 @@ returns-in-Err-clause-played g c tells pages legal only playable =
 
 -- the opening of a new heap writes nothing, so the fuse can't stop it
 pub returns-then-eq-clause-played : goal.returns-then-eq-clause-played
-returns-then-eq-clause-played g c tells pages legal only playable =
+returns-then-eq-clause-played g c tells pages legal only =
     let legal_f = subst (λ x. IsLegal (made_super pages) [] (g.D.Disk.bytes x)) (sym c.new.ensures.inner) legal in
-    let still = c.in-Err.ensures.no_first_stop tells (made_super pages) [] legal_f refl c.new.ensures.stops in
+    let still = c.in-Err.ensures.no_first_stop tells (made_super pages) [] legal_f (no_rollback (made_super pages)) c.new.ensures.stops in
     let is : c.in-Err.e ≡ opening.Stopped = search rules in
     absurd (no_stop c.new.result.stops c.in-Err.fuse.stops c.new.ensures.stops still (c.in-Err.ensures.disk.cause.stopped (ap error_device is)))
 
 -- the heap is opened again
 pub returns-in-None-clause-played : goal.returns-in-None-clause-played
-returns-in-None-clause-played g c tells pages legal only playable =
+returns-in-None-clause-played g c tells pages legal only =
     let d = g.D.Disk in
     let k = g.K.Sink in
     let s = made_super pages in
-    let limits = legal.log.limits in
     let es = events c.args.script.now in
     let before = k.written c.args.sink.now in
     let after = k.written c.play_lines-played.new.sink in
@@ -69,11 +71,15 @@ returns-in-None-clause-played g c tells pages legal only playable =
     let inner = c.new.ensures.inner in
     let bytes = d.bytes start in
     let legal_f = subst (λ x. IsLegal s [] (d.bytes x)) (sym inner) legal in
+    let limits = legal_f.log.limits in
+    let running = made_running pages limits in
+    let playable = all_playable (Some c.args.calls) (made_core pages) c.args.script.now running.reached c.requires in
     let only_f = subst (λ x. Only (d.bytes x) (d.may_leave x)) (sym inner) only in
     let stands = new_stands pages bytes legal_f in
-    let plays = c.play_lines-played.ensures.plays tells s (made_core pages) (c.in-Ok.ensures.holds tells s [] (empty_image pages bytes legal_f) only_f new_graph (new_shows s limits)) (record { running = made_running pages limits; single = playable.single }) in
+    let plays = c.play_lines-played.ensures.plays tells s (made_core pages) (c.in-Ok.ensures.holds tells s [] (empty_image pages bytes legal_f) only_f new_graph (new_shows s limits)) (script_ready (made_core pages) c.args.script.now running c.requires) in
     let heap = c.in-Ok.ensures.holds tells s [] (empty_image pages bytes legal_f) only_f new_graph (new_shows s limits) in
     let keep = kept s (made_core pages) (made_running pages limits) refl es playable old new k.tells before after c.play_lines-played.result plays in
+    let opening = same_run (made_core pages) plays.core plays.made (run_reached s (made_core pages) running refl es playable old new k.tells before after c.play_lines-played.result plays).0 in
     let ended = early_none c.play_lines-played.result (sym c.early_end.ensures ∙ c.in-None.is) in
     let origin = c.play_lines-played.ensures.disk.origin ∙ c.in-Ok.ensures.disk.origin ∙ c.new.ensures.origin in
     let limit = same_limit _ _ origin in
@@ -83,8 +89,8 @@ returns-in-None-clause-played g c tells pages legal only playable =
     let closed = c.close.ensures in
     let kept_on = subst (λ x. d.faults (fuse_inner x) + d.stops (fuse_inner x) ≤ d.faults final + d.stops final) closed c.start_again-in-None.ensures.disk.kept in
     let unrisen = λ (unharmed : Unharmed d start final) (rose : Rose (d.faults (fuse_inner old.disk) + d.stops (fuse_inner old.disk)) (d.faults stopped + d.stops stopped)). unharmed (rose_within _ _ _ _ first then kept_on rose) in
-    let passed = (c.in-Ok.ensures.passes tells s [] legal_f).ok ∙ c.new.ensures.passed in
-    let still = c.in-Ok.ensures.no_first_stop tells s [] legal_f refl c.new.ensures.stops in
+    let passed = new_passes s _ _ (c.in-Ok.ensures.passes tells s [] legal_f).ok ∙ c.new.ensures.passed in
+    let still = c.in-Ok.ensures.no_first_stop tells s [] legal_f (no_rollback (made_super pages)) c.new.ensures.stops in
     let exact : Unharmed d start final → IsExact (Some c.args.calls) (made_core pages) plays.made plays.core = λ u. exact_some s (made_core pages) (made_running pages limits) refl es playable old new k.tells before after c.play_lines-played.result plays c.args.calls passed still within (λ blown. new.disk.blown blown ∙ limit) (unrisen u) in
     let through = min c.args.calls (total_calls (made_core pages) plays.made) in
     let inside : Unharmed d start final → d.passed stopped ≡ counted through (d.passed start) = λ u. fuse_passes new.disk start through tells (same_disk _ _ origin ∙ sym inner) (λ rose. u (rose_until _ _ _ kept_on rose))
@@ -92,7 +98,7 @@ returns-in-None-clause-played g c tells pages legal only playable =
     let left : (image : List ℕ) → d.may_leave (fuse_inner c.close.result) image → KeepsCommits plays.core image = λ image l. keep image (subst (λ x. d.may_leave (fuse_inner x) image) closed l) in
     let rest = subst (λ x. LeavesOnly d.moment d.left_since (fuse_inner x) final (KeepsCommits plays.core)) closed (c.start_again-in-None.ensures.moments tells plays.core left) in
     let recovers = subst (λ x. Recovers plays.core (λ i. StartsAgain d plays.core i (fuse_inner x) final) (d.may_leave final) c.start_again-in-None.result.0 k.tells after (k.written c.start_again-in-None.new.sink)) closed
-    (c.start_again-in-None.ensures.recovers tells plays.core left (c.commits-before.ensures (made_core pages) heap.core)) in
+    (c.start_again-in-None.ensures.recovers tells plays.core left (c.commits-before.ensures (made_core pages) heap.core ∙ ap (λ (n : ℕ). min n greatest) (sym opening.before))) in
     let steps = fuse_steps_of c.play_lines-played.ensures.disk (record {
       moments = λ core a b run. fuse_since a b (KeepsCommits core) run;
       images = λ fuse image may. may;
@@ -115,11 +121,10 @@ returns-in-None-clause-played g c tells pages legal only playable =
 
 -- it ended before
 pub returns-in-Some-clause-played : goal.returns-in-Some-clause-played
-returns-in-Some-clause-played g c tells pages legal only playable =
+returns-in-Some-clause-played g c tells pages legal only =
     let d = g.D.Disk in
     let k = g.K.Sink in
     let s = made_super pages in
-    let limits = legal.log.limits in
     let es = events c.args.script.now in
     let before = k.written c.args.sink.now in
     let after = k.written c.play_lines-played.new.sink in
@@ -130,9 +135,12 @@ returns-in-Some-clause-played g c tells pages legal only playable =
     let inner = c.new.ensures.inner in
     let bytes = d.bytes start in
     let legal_f = subst (λ x. IsLegal s [] (d.bytes x)) (sym inner) legal in
+    let limits = legal_f.log.limits in
+    let running = made_running pages limits in
+    let playable = all_playable (Some c.args.calls) (made_core pages) c.args.script.now running.reached c.requires in
     let only_f = subst (λ x. Only (d.bytes x) (d.may_leave x)) (sym inner) only in
     let stands = new_stands pages bytes legal_f in
-    let plays = c.play_lines-played.ensures.plays tells s (made_core pages) (c.in-Ok.ensures.holds tells s [] (empty_image pages bytes legal_f) only_f new_graph (new_shows s limits)) (record { running = made_running pages limits; single = playable.single }) in
+    let plays = c.play_lines-played.ensures.plays tells s (made_core pages) (c.in-Ok.ensures.holds tells s [] (empty_image pages bytes legal_f) only_f new_graph (new_shows s limits)) (script_ready (made_core pages) c.args.script.now running c.requires) in
     let heap = c.in-Ok.ensures.holds tells s [] (empty_image pages bytes legal_f) only_f new_graph (new_shows s limits) in
     let keep = kept s (made_core pages) (made_running pages limits) refl es playable old new k.tells before after c.play_lines-played.result plays in
     let halted = early_some c.play_lines-played.result c.in-Some.status (sym c.early_end.ensures ∙ c.in-Some.is) in
@@ -141,8 +149,8 @@ returns-in-Some-clause-played g c tells pages legal only playable =
     let within = subst (λ n. fuse_passed new.disk ≤ n) limit new.disk.within in
     let first = c.in-Ok.ensures.disk.cause.faults_kept in
     let unrisen = λ (unharmed : Unharmed d start final) (rose : Rose (d.faults (fuse_inner old.disk) + d.stops (fuse_inner old.disk)) (d.faults final + d.stops final)). unharmed (rose_within _ _ _ _ first c.play_lines-played.ensures.disk.cause.faults_kept (omega arith) rose) in
-    let passed = (c.in-Ok.ensures.passes tells s [] legal_f).ok ∙ c.new.ensures.passed in
-    let still = c.in-Ok.ensures.no_first_stop tells s [] legal_f refl c.new.ensures.stops in
+    let passed = new_passes s _ _ (c.in-Ok.ensures.passes tells s [] legal_f).ok ∙ c.new.ensures.passed in
+    let still = c.in-Ok.ensures.no_first_stop tells s [] legal_f (no_rollback (made_super pages)) c.new.ensures.stops in
     let exact : Unharmed d start final → IsExact (Some c.args.calls) (made_core pages) plays.made plays.core = λ u. exact_some s (made_core pages) (made_running pages limits) refl es playable old new k.tells before after c.play_lines-played.result plays c.args.calls passed still within (λ blown. new.disk.blown blown ∙ limit) (unrisen u) in
     let steps = fuse_steps_of c.play_lines-played.ensures.disk (record {
       moments = λ core a b run. fuse_since a b (KeepsCommits core) run;

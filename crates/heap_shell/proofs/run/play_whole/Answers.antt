@@ -6,19 +6,19 @@ use Rattle.heap_shell.specs.declared.play.Halt.{Halt}
 use Rattle.heap_shell.specs.declared.status.Status.TheVariants as status
 use Rattle.heap_model.specs.CoreRuns.{total_calls}
 use Rattle.heap_model.specs.Ending.{all_events}
-use Rattle.heap_shell.specs.CoreLawsPlay.{made_running}
+use Rattle.heap_shell.specs.CoreLawsPlay.{made_running, all_playable, script_ready}
 use Rattle.graph_model.specs.Graph.{new_graph}
 use Rattle.heap_model.specs.CoreLawsNew.{new_shows}
 use Rattle.heap_shell.specs.Headline.{made_super, made_core}
 use Rattle.script_text.specs.Line.{events}
 use Rattle.heap_shell.proofs.Causes.{disk_rose_since}
 use Rattle.heap_shell.proofs.PlayEnds.{run_reached, lines_wrote, halt_part, halt_lines, keeps_own, ends_early, ends_whole, exact_none}
-use Rattle.heap_shell.proofs.PlayOpen.{empty_image, new_stands, opened_commits, opening_keeps, ends_unopened, script_ready}
+use Rattle.heap_shell.proofs.PlayOpen.{empty_image, new_stands, opened_commits, opening_keeps, ends_unopened, opened_core, played_unfailed, new_passes}
 use Rattle.heap_shell.proofs.Statuses.{halt_end, halt_not_done}
 use Rattle.heap_shell.proofs.run.play_whole.Goals as goal
 
 pub returns-in-Err-clause-played : goal.returns-in-Err-clause-played
-returns-in-Err-clause-played g c tells pages legal only playable =
+returns-in-Err-clause-played g c tells pages legal only =
     let d = g.D.Disk in
     let bytes = d.bytes c.args.disk in
     let stands = new_stands pages bytes legal in
@@ -28,11 +28,13 @@ returns-in-Err-clause-played g c tells pages legal only playable =
     (λ image since. g.met.D.Disk.only_now tells c.in-Err.disk image since)
 
 pub returns-in-Ok-play_all-clause-played : goal.returns-in-Ok-play_all-clause-played
-returns-in-Ok-play_all-clause-played g c tells pages legal only playable =
+returns-in-Ok-play_all-clause-played g c tells pages legal only =
     let d = g.D.Disk in
     let k = g.K.Sink in
     let s = made_super pages in
     let limits = legal.log.limits in
+    let running = made_running pages limits in
+    let playable = all_playable None (made_core pages) c.args.script.now running.reached c.requires in
     let es = all_events None (made_core pages) (events c.args.script.now) in
     let old = c.in-Ok.heap in
     let new = c.play_all.new.heap in
@@ -40,7 +42,7 @@ returns-in-Ok-play_all-clause-played g c tells pages legal only playable =
     let after = k.written c.play_all.new.sink in
     let bytes = d.bytes c.args.disk in
     let stands = new_stands pages bytes legal in
-    let plays = c.in-Ok-play_all.ensures.plays tells s (made_core pages) (c.in-Ok.ensures.holds tells s [] (empty_image pages bytes legal) only new_graph (new_shows s limits)) (script_ready pages (events c.args.script.now) limits playable) in
+    let plays = c.in-Ok-play_all.ensures.plays tells s (made_core pages) (c.in-Ok.ensures.holds tells s [] (empty_image pages bytes legal) only new_graph (new_shows s limits)) (script_ready (made_core pages) c.args.script.now running c.requires) in
     let whole = plays.ends in
     let keeps = keeps_own s (made_core pages) (made_running pages limits) refl es playable old new k.tells before after (Ok tt) plays c.args.disk (λ disk image since. g.met.D.Disk.only_now tells disk image since)
     (opening_keeps d.moment d.left_since c.args.disk old.disk pages bytes legal (c.in-Ok.ensures.moments tells only _ _ stands)) (λ image left. opened_commits pages bytes legal image (c.in-Ok.ensures.crash tells only _ _ stands image left)) in
@@ -48,14 +50,16 @@ returns-in-Ok-play_all-clause-played g c tells pages legal only playable =
     c.write_graph.result (k.written c.write_graph.new.sink) whole.0 whole.1.reached
     (lines_wrote s (made_core pages) (made_running pages limits) refl es playable old new k.tells before after (Ok tt) plays (Ok tt) refl)
     (λ t. c.write_graph.ensures.wrote t plays.core plays.heap.core (run_reached s (made_core pages) (made_running pages limits) refl es playable old new k.tells before after (Ok tt) plays).1) refl
-    (whole.1.passes ∙ ap (counted (total_calls (made_core pages) plays.made)) (c.in-Ok.ensures.passes tells s [] legal).ok))
+    (whole.1.passes ∙ ap (counted (total_calls (made_core pages) plays.made)) (new_passes s _ _ (c.in-Ok.ensures.passes tells s [] legal).ok)))
 
 pub returns-in-Err-play_all-clause-played : goal.returns-in-Err-play_all-clause-played
-returns-in-Err-play_all-clause-played g c tells pages legal only playable =
+returns-in-Err-play_all-clause-played g c tells pages legal only =
     let d = g.D.Disk in
     let k = g.K.Sink in
     let s = made_super pages in
     let limits = legal.log.limits in
+    let running = made_running pages limits in
+    let playable = all_playable None (made_core pages) c.args.script.now running.reached c.requires in
     let es = all_events None (made_core pages) (events c.args.script.now) in
     let old = c.in-Ok.heap in
     let new = c.play_all.new.heap in
@@ -64,7 +68,7 @@ returns-in-Err-play_all-clause-played g c tells pages legal only playable =
     let bytes = d.bytes c.args.disk in
     let stands = new_stands pages bytes legal in
     let h : Halt = c.in-Err-play_all.halt in
-    let plays = c.in-Err-play_all.ensures.plays tells s (made_core pages) (c.in-Ok.ensures.holds tells s [] (empty_image pages bytes legal) only new_graph (new_shows s limits)) (script_ready pages (events c.args.script.now) limits playable) in
+    let plays = c.in-Err-play_all.ensures.plays tells s (made_core pages) (c.in-Ok.ensures.holds tells s [] (empty_image pages bytes legal) only new_graph (new_shows s limits)) (script_ready (made_core pages) c.args.script.now running c.requires) in
     let keeps = keeps_own s (made_core pages) (made_running pages limits) refl es playable old new k.tells before after (Err h) plays c.args.disk (λ disk image since. g.met.D.Disk.only_now tells disk image since)
     (opening_keeps d.moment d.left_since c.args.disk old.disk pages bytes legal (c.in-Ok.ensures.moments tells only _ _ stands)) (λ image left. opened_commits pages bytes legal image (c.in-Ok.ensures.crash tells only _ _ stands image left)) in
     rw (c.close-in-Err-play_all.ensures, c.from-in-Err-play_all.ensures) (ends_early s (made_core pages) (made_running pages limits) refl es playable old new k.tells before after (Err h) plays d c.args.disk new.disk keeps
@@ -74,3 +78,11 @@ returns-in-Err-play_all-clause-played g c tells pages legal only playable =
     (λ unharmed. exact_none s (made_core pages) (made_running pages limits) refl es playable old new k.tells before after (Err h) plays
     (λ rose. unharmed (disk_rose_since _ _ _ _ _ _ c.in-Ok.ensures.disk.cause.faults_kept c.in-Ok.ensures.disk.cause.stops_kept c.play_all.ensures.disk.cause.faults_kept c.play_all.ensures.disk.cause.stops_kept rose)))
     refl)
+
+pub write_graph-requires : goal.write_graph-requires
+write_graph-requires g c =
+    let k = g.K.Sink in
+    let some = opened_core c.in-Ok.heap c.in-Ok.ensures.opens in
+    let running = some.1.running in
+    let plays = c.in-Ok-play_all.ensures.core some.0 some.2 (script_ready some.0 c.args.script.now running c.requires) in
+    record { unfailed = played_unfailed some.0 c.args.script.now c.play_all.new.heap k.tells (k.written c.args.sink.now) (k.written c.play_all.new.sink) running c.requires plays }

@@ -11,6 +11,7 @@ use Rattle.heap_model.specs.Image.{IsLegal, StandsFor}
 use Rattle.heap_model.specs.Opening.{opened, opening_calls}
 use Rattle.heap_shell.specs.Headline.{recovered_line, graph_text, Reopens}
 use Rattle.heap_shell.specs.Output.{WroteText}
+use Rattle.heap_shell.proofs.PlayOpen.{opened_core, opened_unfailed}
 use Rattle.heap_shell.proofs.PrintRecovered.{first, still, few_commits, recovers_nothing, recovers_first}
 use Rattle.heap_shell.proofs.run.print_recovered.Goals as goal
 
@@ -55,3 +56,8 @@ returns-clause-recovers g c = λ tells core keeps only same.
     recovers_first d core c.args.disk c.close.result keeps leaves c.write_recovered.result c.status_after-status.result _ _ _ c.status_after-status.ensures calls
     (λ told. subst (λ (t : List ℕ). WroteText c.write_recovered.result (k.written c.args.sink.now) (recovered_line keeps.0 ++ t) (k.written c.write_recovered.new.sink)) (ap canon_text says.graph)
     (subst (λ (n : ℕ). WroteText c.write_recovered.result (k.written c.args.sink.now) (recovered_line n ++ graph_text says.seen) (k.written c.write_recovered.new.sink)) since (wrote told)))
+
+pub write_recovered-requires : goal.write_recovered-requires
+write_recovered-requires g c =
+    let some = opened_core c.in-Ok.heap c.in-Ok.ensures.opens in
+    record { unfailed = opened_unfailed c.in-Ok.heap some.0 some.1 some.2 }

@@ -2,9 +2,9 @@ use Rattle.std.proofs.Common.{◌≡◌, ◌≢◌, inl, inr, List, Some, None, 
 use Rattle.script_text.specs.declared.line.Line.{Line}
 use Rattle.heap_core.specs.declared.errors.FormatError.{FormatError}
 use Rattle.heap_model.specs.Ending.{all_events}
-use Rattle.heap_shell.specs.CoreLawsPlay.{made_reached, script_playable}
+use Rattle.heap_shell.specs.CoreLawsPlay.{made_reached, script_is, all_playable}
 use Rattle.heap_shell.specs.Headline.{made_super, made_core}
-use Rattle.heap_shell.specs.Playable.{IsPlayable}
+use Rattle.heap_shell.specs.Playable.{IsScript}
 use Rattle.script_text.specs.Line.{events}
 use Rattle.script_text.specs.Script.{script}
 use Rattle.disk_model.specs.KeepsLaws.{rose_since}
@@ -25,8 +25,7 @@ returns-in-None-clause-headline g c tells only play is =
     let k = g.K.Sink in
     let read = c.in-Ok.ensures.script in
     let made = c.in-Ok-format.ensures.made tells in
-    let playable = subst (λ (ls : List Line). IsPlayable (all_events None (made_core c.in-Some.play.pages) (events ls))) (sym c.deref.ensures.value) (script_playable c.in-Some.play.pages read.0 c.in-Ok.script.items None made.0.log.limits read.1) in
-    let played = c.play_whole.ensures.played tells c.in-Some.play.pages made.0 made.1 playable in
+    let played = c.play_whole.ensures.played tells c.in-Some.play.pages made.0 made.1 in
     let same : play ≡ c.in-Some.play = cc (is, c.in-Some.is, c.read_words.ensures) in
     rw same (inr (record {
       lines = c.deref.result.now;
@@ -40,16 +39,14 @@ pub returns-in-None-clause-sound : goal.returns-in-None-clause-sound
 returns-in-None-clause-sound g c tells only =
     let read = c.in-Ok.ensures.script in
     let made = c.in-Ok-format.ensures.made tells in
-    let playable = subst (λ (ls : List Line). IsPlayable (all_events None (made_core c.in-Some.play.pages) (events ls))) (sym c.deref.ensures.value) (script_playable c.in-Some.play.pages read.0 c.in-Ok.script.items None made.0.log.limits read.1) in
-    let played = c.play_whole.ensures.played tells c.in-Some.play.pages made.0 made.1 playable in
+    let played = c.play_whole.ensures.played tells c.in-Some.play.pages made.0 made.1 in
     end_sound c.play_whole.result.0 played.end
 
 pub returns-in-None-clause-complete : goal.returns-in-None-clause-complete
 returns-in-None-clause-complete g c tells only play is large told lines good no_source no_sink no_disk =
     let read = c.in-Ok.ensures.script in
     let made = c.in-Ok-format.ensures.made tells in
-    let playable = subst (λ (ls : List Line). IsPlayable (all_events None (made_core c.in-Some.play.pages) (events ls))) (sym c.deref.ensures.value) (script_playable c.in-Some.play.pages read.0 c.in-Ok.script.items None made.0.log.limits read.1) in
-    let played = c.play_whole.ensures.played tells c.in-Some.play.pages made.0 made.1 playable in
+    let played = c.play_whole.ensures.played tells c.in-Some.play.pages made.0 made.1 in
     let harm = c.in-Ok-format.ensures.disk.cause in
     end_done _ _ c.play_whole.result.0 played.end c.play_whole.ensures.disk.cause c.play_whole.ensures.sink.cause (λ rose. no_disk (rose_since _ _ _ (omega (arith, harm.faults_kept, harm.stops_kept)) c.play_whole.ensures.disk.kept rose)) no_sink
 
@@ -59,8 +56,7 @@ returns-clause-headline g c tells only play is =
     let k = g.K.Sink in
     let read = c.in-Ok.ensures.script in
     let made = c.in-Ok-format.ensures.made tells in
-    let playable = subst (λ (ls : List Line). IsPlayable (all_events (Some c.in-Some-stop.calls) (made_core c.in-Some.play.pages) (events ls))) (sym c.deref-in-Some-stop.ensures.value) (script_playable c.in-Some.play.pages read.0 c.in-Ok.script.items (Some c.in-Some-stop.calls) made.0.log.limits read.1) in
-    let played = c.play_stopped.ensures.played tells c.in-Some.play.pages made.0 made.1 playable in
+    let played = c.play_stopped.ensures.played tells c.in-Some.play.pages made.0 made.1 in
     let same : play ≡ c.in-Some.play = cc (is, c.in-Some.is, c.read_words.ensures) in
     rw same (inr (record {
       lines = c.deref-in-Some-stop.result.now;
@@ -74,16 +70,14 @@ pub returns-clause-sound : goal.returns-clause-sound
 returns-clause-sound g c tells only =
     let read = c.in-Ok.ensures.script in
     let made = c.in-Ok-format.ensures.made tells in
-    let playable = subst (λ (ls : List Line). IsPlayable (all_events (Some c.in-Some-stop.calls) (made_core c.in-Some.play.pages) (events ls))) (sym c.deref-in-Some-stop.ensures.value) (script_playable c.in-Some.play.pages read.0 c.in-Ok.script.items (Some c.in-Some-stop.calls) made.0.log.limits read.1) in
-    let played = c.play_stopped.ensures.played tells c.in-Some.play.pages made.0 made.1 playable in
+    let played = c.play_stopped.ensures.played tells c.in-Some.play.pages made.0 made.1 in
     end_sound c.play_stopped.result.0 played.end
 
 pub returns-clause-complete : goal.returns-clause-complete
 returns-clause-complete g c tells only play is large told lines good no_source no_sink no_disk =
     let read = c.in-Ok.ensures.script in
     let made = c.in-Ok-format.ensures.made tells in
-    let playable = subst (λ (ls : List Line). IsPlayable (all_events (Some c.in-Some-stop.calls) (made_core c.in-Some.play.pages) (events ls))) (sym c.deref-in-Some-stop.ensures.value) (script_playable c.in-Some.play.pages read.0 c.in-Ok.script.items (Some c.in-Some-stop.calls) made.0.log.limits read.1) in
-    let played = c.play_stopped.ensures.played tells c.in-Some.play.pages made.0 made.1 playable in
+    let played = c.play_stopped.ensures.played tells c.in-Some.play.pages made.0 made.1 in
     let harm = c.in-Ok-format.ensures.disk.cause in
     end_done _ _ c.play_stopped.result.0 played.end c.play_stopped.ensures.disk.cause c.play_stopped.ensures.sink.cause (λ rose. no_disk (rose_since _ _ _ (omega (arith, harm.faults_kept, harm.stops_kept)) c.play_stopped.ensures.disk.kept rose)) no_sink
 
@@ -102,10 +96,9 @@ returns-in-None-clause-crash_safe g c tells only play is =
     let read = c.in-Ok.ensures.script in
     let made = c.in-Ok-format.ensures.made tells in
     let es = all_events None (made_core c.in-Some.play.pages) (events c.deref.result.now) in
-    let playable = subst (λ (ls : List Line). IsPlayable (all_events None (made_core c.in-Some.play.pages) (events ls))) (sym c.deref.ensures.value) (script_playable c.in-Some.play.pages read.0 c.in-Ok.script.items None made.0.log.limits read.1) in
-    let played = c.play_whole.ensures.played tells c.in-Some.play.pages made.0 made.1 playable in
+    let played = c.play_whole.ensures.played tells c.in-Some.play.pages made.0 made.1 in
     let same : play ≡ c.in-Some.play = cc (is, c.in-Some.is, c.read_words.ensures) in
-    let safe = crash_safe g.D.Disk (λ disk image since. g.met.D.Disk.only_now tells disk image since) c.in-Ok-format.disk c.play_whole.result.1 None (made_core c.in-Some.play.pages) es c.play_whole.result.0 k.tells (k.written c.args.sink.now) (k.written c.play_whole.new.sink) (made_reached c.in-Some.play.pages made.0.log.limits) playable.single played in
+    let safe = crash_safe g.D.Disk (λ disk image since. g.met.D.Disk.only_now tells disk image since) c.in-Ok-format.disk c.play_whole.result.1 None (made_core c.in-Some.play.pages) es c.play_whole.result.0 k.tells (k.written c.args.sink.now) (k.written c.play_whole.new.sink) (made_reached c.in-Some.play.pages made.0.log.limits) (all_playable None (made_core c.in-Some.play.pages) c.deref.result.now (made_reached c.in-Some.play.pages made.0.log.limits) (subst IsScript (sym c.deref.ensures.value) (script_is read.0 c.in-Ok.script.items read.1))).single played in
     rw (same, c.in-None.is) (inr (c.in-Ok-format.disk, safe))
 
 pub returns-clause-crash_safe : goal.returns-clause-crash_safe
@@ -114,8 +107,13 @@ returns-clause-crash_safe g c tells only play is =
     let read = c.in-Ok.ensures.script in
     let made = c.in-Ok-format.ensures.made tells in
     let es = events c.deref-in-Some-stop.result.now in
-    let playable = subst (λ (ls : List Line). IsPlayable (all_events (Some c.in-Some-stop.calls) (made_core c.in-Some.play.pages) (events ls))) (sym c.deref-in-Some-stop.ensures.value) (script_playable c.in-Some.play.pages read.0 c.in-Ok.script.items (Some c.in-Some-stop.calls) made.0.log.limits read.1) in
-    let played = c.play_stopped.ensures.played tells c.in-Some.play.pages made.0 made.1 playable in
+    let played = c.play_stopped.ensures.played tells c.in-Some.play.pages made.0 made.1 in
     let same : play ≡ c.in-Some.play = cc (is, c.in-Some.is, c.read_words.ensures) in
-    let safe = crash_safe g.D.Disk (λ disk image since. g.met.D.Disk.only_now tells disk image since) c.in-Ok-format.disk c.play_stopped.result.1 (Some c.in-Some-stop.calls) (made_core c.in-Some.play.pages) es c.play_stopped.result.0 k.tells (k.written c.args.sink.now) (k.written c.play_stopped.new.sink) (made_reached c.in-Some.play.pages made.0.log.limits) playable.single played in
+    let safe = crash_safe g.D.Disk (λ disk image since. g.met.D.Disk.only_now tells disk image since) c.in-Ok-format.disk c.play_stopped.result.1 (Some c.in-Some-stop.calls) (made_core c.in-Some.play.pages) es c.play_stopped.result.0 k.tells (k.written c.args.sink.now) (k.written c.play_stopped.new.sink) (made_reached c.in-Some.play.pages made.0.log.limits) (all_playable (Some c.in-Some-stop.calls) (made_core c.in-Some.play.pages) c.deref-in-Some-stop.result.now (made_reached c.in-Some.play.pages made.0.log.limits) (subst IsScript (sym c.deref-in-Some-stop.ensures.value) (script_is read.0 c.in-Ok.script.items read.1))).single played in
     rw (same, c.in-Some-stop.is) (inr (c.in-Ok-format.disk, safe))
+
+pub play_whole-requires : goal.play_whole-requires
+play_whole-requires g c = let read = c.in-Ok.ensures.script in subst IsScript (sym c.deref.ensures.value) (script_is read.0 c.in-Ok.script.items read.1)
+
+pub play_stopped-requires : goal.play_stopped-requires
+play_stopped-requires g c = let read = c.in-Ok.ensures.script in subst IsScript (sym c.deref-in-Some-stop.ensures.value) (script_is read.0 c.in-Ok.script.items read.1)
