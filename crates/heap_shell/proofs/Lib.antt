@@ -1,4 +1,6 @@
 mod Causes
+mod Counts
+mod PlayCore
 mod PlayEnding
 mod PlayEnds
 mod PlayEvent

@@ -1,29 +1,20 @@
 -- The events that end a run, by what the heap says of itself.
-use Rattle.std.proofs.Common.{◌≡◌, ◌≢◌, inl, ℕ, Bool, true, false, List, [], ◌∷◌, Option, Some, None, refl}
+use Rattle.std.proofs.Common.{◌≡◌, ◌≢◌, ℕ, Bool, true, false, List, [], ◌∷◌, Option, Some, None, refl}
 use Rattle.std.specs.Prelude.{◌↔◌, is_some, IsTrue}
-use Rattle.disk_model.specs.declared.disk.Disk.{Ghosts}
 use Rattle.graph_model.specs.declared.event.Event.TheVariants.{Abort, Force}
 use Rattle.graph_model.specs.Transaction.{Transaction}
-use Rattle.image_plan.specs.declared.superblock.Super.{Super}
 use Rattle.log_records.specs.declared.Record.{Record}
-use Rattle.heap_core.specs.declared.heap.Heap.{Heap}
-use Rattle.heap_model.specs.Core.{Core}
-use Rattle.heap_model.specs.CoreCrash.{HasCommits}
-use Rattle.heap_model.specs.CoreLawsGrow.{keeps_has}
-use Rattle.heap_model.specs.CoreValid.{IsValid}
 use Rattle.heap_model.specs.Ending.{abort_of, force_of}
-use Rattle.heap_core.specs.Means.{IsHeap}
-use Rattle.heap_shell.proofs.PlayEvent.{heap_leaves}
 
 -- no transaction is active
-pub abort_of-none : (o : Option Transaction) → is_some o ≡ false → abort_of o ≡ []
-abort_of-none None is = refl
-abort_of-none (Some t) is = cc
+pub abort_of-none : (s : ℕ) (o : Option Transaction) → is_some o ≡ false → abort_of s o ≡ []
+abort_of-none s None is = refl
+abort_of-none s (Some t) is = cc
 
 -- one is
-pub abort_of-some : (o : Option Transaction) → is_some o ≡ true → abort_of o ≡ Abort 1 ∷ []
-abort_of-some None is = cc
-abort_of-some (Some t) is = refl
+pub abort_of-some : (s : ℕ) (o : Option Transaction) → is_some o ≡ true → abort_of s o ≡ Abort s ∷ []
+abort_of-some s None is = cc
+abort_of-some s (Some t) is = refl
 
 -- nothing waits
 pub force_of-none : (waiting : List Record) (b : Bool) → (IsTrue b ↔ (waiting ≢ [])) → b ≡ false → force_of waiting ≡ []
@@ -34,7 +25,3 @@ force_of-none (r ∷ rs) b said is = let waits : b ≡ true = said.1 (λ e. cc) 
 pub force_of-some : (waiting : List Record) (b : Bool) → (IsTrue b ↔ (waiting ≢ [])) → b ≡ true → force_of waiting ≡ Force ∷ []
 force_of-some [] b said is = absurd (said.0 is refl)
 force_of-some (r ∷ rs) b said is = refl
-
--- a crash at the moment of a heap leaves its commits
-pub heap_has : {D : Type 0} {g : Ghosts D} (s : Super) (c : Core) (heap : Heap D g) → IsHeap s c heap → IsValid c → (image : List ℕ) → g.may_leave heap.disk image → HasCommits c image
-heap_has s c heap is valid image left = keeps_has c image (heap_leaves s c heap is (inl valid) image left)

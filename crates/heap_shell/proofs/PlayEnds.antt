@@ -1,91 +1,76 @@
 -- How a play tells what a run promises.
-use Rattle.std.proofs.Common.{◌≡◌, ◌≢◌, ◌⊎◌, inl, inr, ⊎_elim, ℕ, ◌+◌, ◌≤◌, min, zero, suc, Bool, List, [], ◌∷◌, ◌++◌, length, take, Option, Some, None, Result, Ok, Err, refl, sym, ap, ◌∙◌, subst, arith, append_assoc, length-append}
-use Rattle.std.specs.Prelude.{IsTrue, IfErr, if◌then◌else◌}
+use Rattle.std.proofs.Common.{◌≡◌, ◌≢◌, ◌⊎◌, inl, inr, ⊎_elim, ℕ, ◌+◌, ◌≤◌, min, Bool, List, [], ◌++◌, ◌∷◌, length, take, Option, Some, None, Result, Ok, Err, refl, sym, ap, ◌∙◌, subst, arith, append_assoc, length-append}
+use Rattle.std.specs.Prelude.{IsTrue}
 use Rattle.std.specs.List.{AllByRecursion}
-use Rattle.std.proofs.lemmas.Bool.{lt-ltb}
 use Rattle.std.proofs.lemmas.List.{append-nil, take_all}
-use Rattle.counts.specs.Count.{Rose, counted, raised, greatest}
+use Rattle.counts.specs.Count.{Rose, counted}
 use Rattle.disk_model.specs.declared.disk.Disk.{Ghosts}
 use Rattle.disk_model.specs.declared.disk.DiskError.TheVariants as device
+use Rattle.disk_model.specs.Moments.{LeavesOnly, begins}
 use Rattle.graph_model.specs.declared.event.Event.{Event}
+use Rattle.graph_model.specs.declared.reply.Entry.{Entry}
 use Rattle.graph_model.specs.declared.reply.Refusal.TheVariants.{DiskFault, Stopped}
 use Rattle.graph_model.specs.declared.reply.Reply.{Reply}
 use Rattle.graph_model.specs.declared.reply.Reply.TheVariants.{Refused}
-use Rattle.graph_model.specs.Graph.{Graph, new_graph}
 use Rattle.graph_model.specs.SlowHeap.{IsSingleSession}
 use Rattle.graph_model.specs.Transaction.{Transaction, serial, serial_replies}
 use Rattle.graph_model.specs.History.{sealed, commits, acknowledged}
 use Rattle.image_plan.specs.declared.superblock.Super.{Super}
 use Rattle.heap_core.specs.declared.heap.Heap.{Heap}
-use Rattle.heap_shell.specs.declared.play.Ended.{Ended}
-use Rattle.heap_shell.specs.declared.play.Ended.TheVariants as ended
+use Rattle.heap_shell.specs.declared.output.WriteError.{WriteError}
+use Rattle.heap_shell.specs.declared.play.Halt.{Halt}
+use Rattle.heap_shell.specs.declared.play.Halt.TheVariants as halt
 use Rattle.heap_shell.specs.declared.status.Status.{Status}
 use Rattle.heap_shell.specs.declared.status.Status.TheVariants as status
-use Rattle.heap_shell.specs.Causes.{DiskRose, IsOutputError}
+use Rattle.heap_shell.specs.Causes.{DiskRose}
 use Rattle.heap_core.specs.Causes.{reply_device}
 use Rattle.heap_model.specs.Core.{Core, with_entry, IsRun}
-use Rattle.heap_model.specs.CoreCrash.{KeepsCommits, HasCommits}
+use Rattle.heap_model.specs.CoreCrash.{KeepsCommits}
 use Rattle.heap_model.specs.CoreLawsCalls.{total_calls-append}
 use Rattle.heap_model.specs.CoreLawsCrash.{commits-sealed}
 use Rattle.heap_model.specs.CoreLawsEnding.{total_few}
-use Rattle.heap_model.specs.CoreLawsGrow.{grows}
-use Rattle.heap_core.specs.CoreLawsGraph.{valid_graph}
-use Rattle.heap_shell.specs.CoreLawsPlay.{made_valid, ready_behind, ready_front, makes_run}
-use Rattle.heap_model.specs.CoreLawsReplies.{answers_fresh, run_answers, replies_law}
+use Rattle.heap_shell.specs.CoreLawsPlay.{ready_behind, ready_front, makes_run}
+use Rattle.heap_model.specs.CoreLawsReplies.{replies_law}
 use Rattle.heap_model.specs.CoreLawsRun.{reached_agrees}
 use Rattle.heap_model.specs.CoreReplies.{call_replies_of}
 use Rattle.heap_model.specs.CoreRuns.{after_events, total_calls}
-use Rattle.heap_model.specs.CoreValid.{IsValid, IsReached}
-use Rattle.heap_shell.specs.Headline.{made_core, graph_text, recovered_text, recovered_line, IsWhole, IsCutBy, HasMade, StopsLast, IsExact, IsEndOfPlay, IsPlayed}
+use Rattle.heap_model.specs.CoreValid.{IsReached}
+use Rattle.heap_shell.specs.Headline.{graph_text, end_text, let_through, HasMade, StopsLast, IsExact, IsEndOfPlay, MakesEvents, Unharmed, KeepsThroughout, IsFollowed, StartsAgain, Prints, IsPlayed, Writes}
 use Rattle.heap_shell.specs.Playable.{IsPlayable}
-use Rattle.heap_shell.specs.Output.{WroteText, Recovers, status_after}
-use Rattle.heap_core.specs.CoreGraph.{HasGraph}
-use Rattle.heap_shell.specs.Play.{AreReady, MakesAll, MakesShort, Makes, Ends, Plays, Wrote, lines_text, WroteFront, WroteLines}
+use Rattle.heap_shell.specs.Output.{WroteText, Recovers, WroteRecovered, WroteNothing, status_after}
+use Rattle.heap_shell.specs.Play.{IsRunning, IsWhole, IsCutBy, AreReady, MakesAll, MakesShort, Makes, Ends, Plays, Wrote, lines_text, WroteFront, WroteLines}
+use Rattle.heap_shell.specs.StatusOf.{halt_status}
+use Rattle.heap_shell.specs.StepsLaws.{heap_steps}
 use Rattle.heap_shell.proofs.Causes.{disk_rose}
+use Rattle.heap_shell.proofs.Counts.{counted-sum}
 use Rattle.heap_shell.proofs.PlayEvent.{heap_leaves}
 use Rattle.heap_shell.proofs.PlayLaws.{ends_makes}
 use Rattle.heap_shell.proofs.Statuses.{written_end, written_no_fault, wrote_all}
-use Rattle.heap_shell.proofs.Written.{front_more, then_front, wrote_some}
+use Rattle.heap_shell.proofs.Written.{front_more, then_front, whole_front, wrote_some}
 
--- a count that stays below the greatest is the sum
-counted-sum : (m n : ℕ) → m + n ≤ greatest → counted m n ≡ m + n
-counted-sum zero n small = omega arith
-counted-sum (suc m) n small =
-    let rest = counted-sum m n (omega arith) in
-    ap raised rest ∙ ap (λ (b : Bool). if b then m + n + 1 else m + n) (lt-ltb (m + n) greatest (omega arith)) ∙ omega arith
-
-text_front : (written : Result (Unit {0}) Status) (old first text between new : List ℕ) → between ≡ old ++ first → WroteText written between text new → WroteFront old (first ++ text) new
-text_front written old first text between new lines wrote = then_front old first text between new lines (wrote_some written between text new wrote)
-
-module _ {D : Type 0} {g : Ghosts D} (s : Super) (events : List Event) (playable : IsPlayable events) (old new : Heap D g) (told : Bool) (before after : List ℕ) (result : Result Ended Status)
-    (plays : Plays s made_core events old new told before after result) where
+module _ {D : Type 0} {g : Ghosts D} (s : Super) (c : Core) (running : IsRunning c) (new_history : c.history ≡ []) (events : List Event) (playable : IsPlayable events)
+    (old new : Heap D g) (told : Bool) (before after : List ℕ) (result : Result (Unit {0}) Halt) (plays : Plays s c events old new told before after result) where
   abbrev core : Core
   core = plays.core
 
   abbrev made : List Event
   made = plays.made
 
-  ready : AreReady made_core (made ++ plays.behind)
-  ready = subst (AreReady made_core) plays.parts (made_valid, playable.single)
+  ready : AreReady c (made ++ plays.behind)
+  ready = subst (AreReady c) plays.parts (record { running = running; single = playable.single })
 
-  makes : Makes made_core made core old new
-  makes = ends_makes made_core made plays.behind core old new result plays.ends
+  makes : Makes c made core old new
+  makes = ends_makes c made plays.behind core old new result plays.ends
 
   -- the events that were made are a run, which reached this core
-  pub run_reached : IsRun made_core made core × IsReached core
-  run_reached = makes_run made_core made plays.behind core old new ready makes
+  pub run_reached : IsRun c made core × IsReached core
+  run_reached = makes_run c made plays.behind core old new ready makes
 
   made_single : AllByRecursion IsSingleSession made
-  made_single = (ready_front made_core made plays.behind ready).1
+  made_single = (ready_front c made plays.behind ready).single
 
-  -- the graph at the opening was new
-  g0 : core.g0 ≡ new_graph
-  g0 = (grows made_core core made run_reached.0).2
-
-  replies : call_replies_of core.history ≡ serial_replies new_graph (commits core.history)
-  replies =
-      replies_law core run_reached.1 (run_answers made_core core made (answers_fresh 1048576 1) made_single run_reached.0)
-      ∙ ap (λ (x : Graph). serial_replies x (commits core.history)) g0
+  replies : call_replies_of core.history ≡ serial_replies core.g0 (commits core.history)
+  replies = replies_law core run_reached.1
 
   -- what a crash leaves now
   pub kept : (image : List ℕ) → g.may_leave new.disk image → KeepsCommits core image
@@ -98,155 +83,191 @@ module _ {D : Type 0} {g : Ghosts D} (s : Super) (events : List Event) (playable
   least = let agrees = reached_agrees core run_reached.1 in let low = agrees.acknowledged_last in let high = agrees.sealed_first in omega arith
 
   most : all ≤ length (commits core.history)
-  most = let same : length (commits core.history) ≡ all = ap (λ (ts : List Transaction). length ts) (commits-sealed core run_reached.1) in omega arith
-
-  -- where the disk did what it was asked, the heap's graph is that of all commits
-  pub whole_graph : IsWhole made core → HasGraph core (serial core.g0 (sealed core.history))
-  whole_graph whole = valid_graph core (subst IsValid (sym whole) (ready_behind made_core made plays.behind ready).0)
+  most = let same : length (commits core.history) ≡ all = ap (λ (ts : List Transaction). length ts) (commits-sealed core run_reached.1.sound) in omega arith
 
   -- the graph of all commits
-  all_graph : graph_text (serial core.g0 (sealed core.history)) ≡ graph_text (serial new_graph (take all (commits core.history)))
+  all_graph : graph_text (serial core.g0 (sealed core.history)) ≡ graph_text (serial core.g0 (take all (commits core.history)))
   all_graph =
-      let first : take all (commits core.history) ≡ sealed core.history = ap (take all) (commits-sealed core run_reached.1) ∙ take_all all (sealed core.history) (omega arith) in
-      ap (λ (x : Graph). graph_text (serial x (sealed core.history))) g0 ∙ ap (λ (ts : List Transaction). graph_text (serial new_graph ts)) (sym first)
+      let first : take all (commits core.history) ≡ sealed core.history = ap (take all) (commits-sealed core run_reached.1.sound) ∙ take_all all (sealed core.history) (omega arith) in
+      ap (λ (ts : List Transaction). graph_text (serial core.g0 ts)) (sym first)
 
-  -- all lines of the events that were made were written
-  pub all_lines : {e : Ended} → result ≡ Ok e → IsTrue told → after ≡ before ++ lines_text core.history
-  all_lines {e} is t =
-      let P : Result Ended Status → Type 0 = λ r. Wrote r before core.history after in
-      subst P is (plays.written t before (sym (append-nil before)))
+  nothing_yet : before ≡ before ++ lines_text c.history
+  nothing_yet = sym (ap (λ (h : List Entry). before ++ lines_text h) new_history ∙ append-nil before)
 
-  -- a first part of them was written where that ended in an error
-  pub some_lines : {e : Status} → result ≡ Err e → IsTrue told → WroteFront before (lines_text core.history) after × WroteLines before core.history after
-  some_lines {e} is t =
-      let P : Result Ended Status → Type 0 = λ r. Wrote r before core.history after in
-      subst P is (plays.written t before (sym (append-nil before)))
+  -- what was written of the lines, by how the play ended
+  pub lines_wrote : (r : Result (Unit {0}) Halt) → result ≡ r → IsTrue told → Wrote r before core.history after
+  lines_wrote r is t =
+      let P : Result (Unit {0}) Halt → Type 0 = λ x. Wrote x before core.history after in
+      subst P is (plays.written t before nothing_yet)
 
   -- all lines, and what was written behind them
   pub lines_more : (after' rest : List ℕ) → after ≡ before ++ lines_text core.history → after' ≡ after ++ rest → WroteLines before core.history after'
   lines_more after' rest out more = (core.history, [], rest, sym (append-nil core.history), omega arith, more ∙ ap (λ (l : List ℕ). l ++ rest) out)
 
-  last_made : IsWhole made core ⊎ ((reply : Reply) × IsCutBy reply made core)
+  all_part : after ≡ before ++ lines_text core.history → WroteFront before (lines_text core.history) after × WroteLines before core.history after
+  all_part out = (whole_front before (lines_text core.history) after out, lines_more after [] out (sym (append-nil after)))
+
+  -- what was written of the lines by a play that halted
+  pub halt_part : (h : Halt) → result ≡ Err h → IsTrue told → WroteFront before (lines_text core.history) after × WroteLines before core.history after
+  halt_part halt.NoMemory is t = lines_wrote (Err halt.NoMemory) is t
+  halt_part halt.WriteFault is t = lines_wrote (Err halt.WriteFault) is t
+  halt_part halt.DiskFault is t = all_part (lines_wrote (Err halt.DiskFault) is t)
+  halt_part halt.Stopped is t = all_part (lines_wrote (Err halt.Stopped) is t)
+
+  -- all of them, if it was the disk
+  pub halt_lines : (h : Halt) → result ≡ Err h → IsTrue told → halt_status h ≡ status.DiskFault → after ≡ before ++ lines_text core.history
+  halt_lines halt.NoMemory is t fault = cc
+  halt_lines halt.WriteFault is t fault = cc
+  halt_lines halt.DiskFault is t fault = lines_wrote (Err halt.DiskFault) is t
+  halt_lines halt.Stopped is t fault = lines_wrote (Err halt.Stopped) is t
+
+  -- or if it went on
+  pub stopped_lines : (result ≡ Ok tt) ⊎ (result ≡ Err halt.Stopped) → IsTrue told → after ≡ before ++ lines_text core.history
+  stopped_lines (inl is) t = lines_wrote (Ok tt) is t
+  stopped_lines (inr is) t = lines_wrote (Err halt.Stopped) is t
+
+  pub last_made : IsWhole c made core ⊎ ((reply : Reply) × IsCutBy reply c made core)
   last_made = ⊎_elim
-      (λ (all : MakesAll made_core made core old new). inl all.reached)
-      (λ (some : (reply : Reply) × MakesShort made_core made core old new reply).
+      (λ (all : MakesAll c made core old new). inl all.reached)
+      (λ (some : (reply : Reply) × MakesShort c made core old new reply).
       let short = some.1 in
       inr (some.0, record { before = short.before; event = short.event; parts = short.parts; cut = short.cut; reached = short.reached }))
       makes
 
-  module _ (each : (List ℕ → Type 0) → Type 0) (may_leave : List ℕ → Type 0) (unharmed : Type 0) (passed : ℕ → Type 0) (moments : each (HasCommits core)) where
-    -- The play ended before the graph was to be written.
-    pub ends_early : (stop : Option ℕ) (by : Status) → IsEndOfPlay by → (by ≡ status.Done → ⊥)
-        → (IsTrue told → WroteFront before (lines_text core.history) after × WroteLines before core.history after) → (IsTrue told → by ≡ status.DiskFault → after ≡ before ++ lines_text core.history)
-        → (unharmed → IsExact stop made core) → ((image : List ℕ) → may_leave image → KeepsCommits core image)
-        → IsPlayed stop events by each may_leave unharmed passed told before after
-    ends_early stop by is_end not_done part out place left = record {
-      made = made;
-      behind = plays.behind;
-      parts = plays.parts;
-      core = core;
-      run = run_reached.0;
-      last = last_made;
-      end = is_end;
-      done = λ is. absurd (not_done is);
-      exact = place;
-      moments = moments;
-      kept = left;
-      replies = replies;
-      count = all;
-      least = least;
-      most = most;
-      all = λ none. refl;
+  -- What a crash leaves of the heap's own disk since it was opened.
+  abbrev pub keeps_own : (start : D) → ((disk : D) (image : List ℕ) → g.left_since disk (g.moment disk) image → g.may_leave disk image) → LeavesOnly g.moment g.left_since start old.disk (KeepsCommits c)
+      → ((image : List ℕ) → g.may_leave old.disk image → KeepsCommits c image) → KeepsThroughout g (Unharmed g start new.disk) c made core start new.disk
+  keeps_own start now opening here = record {
+    opened = old.disk;
+    opening = opening;
+    here = here;
+    stopped = new.disk;
+    steps = heap_steps g (Unharmed g start new.disk) c core old.disk new.disk made plays.steps;
+    rest = begins g.moment g.left_since new.disk (KeepsCommits core) (λ image since. kept image (now new.disk image since));
+    kept = kept;
+  }
+
+  -- the events that were made, as a run tells them
+  abbrev pub events_made : (stop : Option ℕ) (by : Status) (unharmed : Type 0) → (by ≡ status.Done → HasMade stop c made plays.behind core) → (unharmed → IsExact stop c made core) → MakesEvents stop c events by unharmed
+  events_made stop by unharmed done place = record { made = made; behind = plays.behind; parts = plays.parts; core = core; last = last_made; done = done; exact = place }
+
+  -- what was written of lines alone, as a first part of the output
+  some_writes : (by : Status) (text after' : List ℕ) → (by ≡ status.Done → ⊥) → WroteFront before (lines_text core.history) after' → WroteLines before core.history after' → (by ≡ status.DiskFault → after' ≡ before ++ lines_text core.history)
+      → Writes by core.history text before after'
+  some_writes by text after' not_done front lines whole = record {
+    front = front_more before (lines_text core.history) text after' front;
+    lines = lines;
+    fault = λ is. ([], whole is ∙ sym (append-nil (before ++ lines_text core.history)));
+    whole = λ is. absurd (not_done is);
+  }
+
+  -- all lines were written, and of the text behind them all or a first part
+  all_writes : (by : Status) (text after' : List ℕ) → after ≡ before ++ lines_text core.history → WroteFront after text after' → (by ≡ status.Done → after' ≡ after ++ text) → Writes by core.history text before after'
+  all_writes by text after' out front whole = record {
+    front = then_front before (lines_text core.history) text after after' out front;
+    lines = lines_more after' front.0 out front.3;
+    fault = λ is. (front.0, front.3 ∙ ap (λ (l : List ℕ). l ++ front.0) out);
+    whole = λ is. whole is ∙ ap (λ (l : List ℕ). l ++ text) out ∙ append_assoc before (lines_text core.history) text;
+  }
+
+  -- The disk that was handed in, at the start and at the end, and what a crash left of it.
+  module _ {B : Type 0} (h : Ghosts B) (start final : B) (keeps : KeepsThroughout h (Unharmed h start final) c made core start final) where
+    -- The play ended before more than lines were to be written.
+    pub ends_early : (stop : Option ℕ) (by : Status) → IsEndOfPlay by → (by ≡ status.Done → ⊥) → (IsTrue told → WroteFront before (lines_text core.history) after × WroteLines before core.history after)
+        → (IsTrue told → by ≡ status.DiskFault → after ≡ before ++ lines_text core.history)
+        → (Unharmed h start final → IsExact stop c made core) → IsFollowed h stop core all keeps.stopped final by (IsTrue told → WroteFront before (lines_text core.history) after)
+        → IsPlayed h stop c events start final by told before after
+    ends_early stop by is_end not_done part whole place follows = record {
+      run = events_made stop by (Unharmed h start final) (λ is. absurd (not_done is)) place;
+      disk = keeps;
       calls = λ u is. absurd (not_done is);
-      written = λ t. front_more before (lines_text core.history) (recovered_text stop all ++ graph_text (serial new_graph (take all (commits core.history)))) after (part t).0;
-      cut = λ t. (part t).1;
-      lines = λ t fault. ([], out t fault ∙ sym (append-nil (before ++ lines_text core.history)));
-      whole = λ t is. absurd (not_done is);
+      replies = replies;
+      prints = record {
+        count = all;
+        least = least;
+        most = most;
+        all = λ none. refl;
+        behind = follows;
+        written = λ t. some_writes by (end_text stop all (serial core.g0 (take all (commits core.history)))) after not_done (part t).0 (part t).1 (whole t);
+      };
+      end = is_end;
     }
 
     -- The graph of all commits was to be written.
-    pub ends_whole : (written : Result (Unit {0}) Status) (faults faults' : ℕ) (after' : List ℕ) → plays.behind ≡ [] → IsWhole made core → (IsTrue told → after ≡ before ++ lines_text core.history)
-        → IfErr written (IsOutputError faults faults') → (IsTrue told → WroteText written after (graph_text (serial core.g0 (sealed core.history))) after')
-        → ((image : List ℕ) → may_leave image → KeepsCommits core image)
-        → passed (total_calls made_core made) → IsPlayed None events (status_after written) each may_leave unharmed passed told before after'
-    ends_whole output_result faults faults' after' none reached out fails wrote left calls =
-        let P : List ℕ → Type 0 = λ text. WroteText output_result after text after' in
+    pub ends_whole : (output : Result (Unit {0}) WriteError) (after' : List ℕ) → plays.behind ≡ [] → IsWhole c made core → (IsTrue told → after ≡ before ++ lines_text core.history)
+        → (IsTrue told → WroteText output after (graph_text (serial core.g0 (sealed core.history))) after') → final ≡ keeps.stopped
+        → h.passed keeps.stopped ≡ counted (total_calls c made) (h.passed start) → IsPlayed h None c events start final (status_after output) told before after'
+    ends_whole output after' nothing reached out wrote same calls =
+        let P : List ℕ → Type 0 = λ text. WroteText output after text after' in
         let full = λ (t : IsTrue told). subst P all_graph (wrote t) in
-        let text = graph_text (serial new_graph (take all (commits core.history))) in
+        let text = graph_text (serial core.g0 (take all (commits core.history))) in
         record {
-          made = made;
-          behind = plays.behind;
-          parts = plays.parts;
-          core = core;
-          run = run_reached.0;
-          last = last_made;
-          end = written_end faults faults' output_result fails;
-          done = λ is. (none, reached);
-          exact = λ u. reached;
-          moments = moments;
-          kept = left;
-          replies = replies;
-          count = all;
-          least = least;
-          most = most;
-          all = λ n. refl;
+          run = events_made None (status_after output) (Unharmed h start final) (λ is. (nothing, reached)) (λ u. reached);
+          disk = keeps;
           calls = λ u is. calls;
-          written = λ t. text_front output_result before (lines_text core.history) text after after' (out t) (full t);
-          cut = λ t. let front = wrote_some output_result after text after' (full t) in lines_more after' front.0 (out t) front.3;
-          lines = λ t fault. absurd (written_no_fault faults faults' output_result fails fault);
-          whole = λ t is.
-              wrote_all faults faults' output_result after text after' fails is (full t)
-              ∙ ap (λ (l : List ℕ). l ++ text) (out t)
-              ∙ append_assoc before (lines_text core.history) text;
+          replies = replies;
+          prints = record {
+            count = all;
+            least = least;
+            most = most;
+            all = λ none. refl;
+            behind = same;
+            written = λ t. all_writes (status_after output) text after' (out t) (wrote_some output after text after' (full t)) (λ is. wrote_all output after text after' is (full t));
+          };
+          end = written_end output;
         }
 
     -- The heap was opened again, and what came back was to be written.
-    pub ends_recovered : (n : ℕ) (by : Status) (after' : List ℕ) (again : ℕ → Type 0) → HasMade (Some n) made plays.behind core → (unharmed → IsExact (Some n) made core)
-        → (IsTrue told → after ≡ before ++ lines_text core.history) → Recovers core by may_leave again told after after'
-        → (unharmed → (opening : ℕ) → again opening → passed (min n (total_calls made_core made) + opening)) → IsPlayed (Some n) events by each may_leave unharmed passed told before after'
-    ends_recovered n by after' again has place out recovers calls =
-        let text = λ (x : Graph). recovered_line recovers.count ++ graph_text (serial x (take recovers.count (commits core.history))) in
-        let front = λ (t : IsTrue told). subst (λ (x : Graph). WroteFront after (text x) after') g0 (recovers.written t) in
-        let full = λ (t : IsTrue told) (is : by ≡ status.Done). subst (λ (x : Graph). after' ≡ after ++ text x) g0 (recovers.whole t is) in
-        record {
-          made = made;
-          behind = plays.behind;
-          parts = plays.parts;
-          core = core;
-          run = run_reached.0;
-          last = last_made;
-          end = recovers.end;
-          done = λ is. has;
-          exact = place;
-          moments = moments;
-          kept = recovers.kept;
-          replies = replies;
-          count = recovers.count;
-          least = recovers.least;
-          most = recovers.most;
+    pub ends_recovered : (n : ℕ) (by : Status) (after' : List ℕ) → HasMade (Some n) c made plays.behind core → (Unharmed h start final → IsExact (Some n) c made core)
+        → (IsTrue told → after ≡ before ++ lines_text core.history) → Recovers core (λ k. StartsAgain h core k keeps.stopped final) (h.may_leave final) by told after after'
+        → (Unharmed h start final → h.passed keeps.stopped ≡ counted (min n (total_calls c made)) (h.passed start)) → IsPlayed h (Some n) c events start final by told before after'
+    ends_recovered n by after' has place out recovers calls = record {
+      run = events_made (Some n) by (Unharmed h start final) (λ is. has) place;
+      disk = keeps;
+      calls = λ u is. calls u;
+      replies = replies;
+      prints = ⊎_elim found_prints nothing_prints recovers.found;
+      end = recovers.end;
+    }
+      where
+        found_prints : WroteRecovered core (λ k. StartsAgain h core k keeps.stopped final) by told after after' → Prints h (Some n) core keeps.stopped final by told before after'
+        found_prints found = record {
+          count = found.count;
+          least = found.opened.opens.first.kept;
+          most = found.opened.opens.first.some;
           all = λ none. cc;
-          calls = λ u is. let opening = recovers.calls is in (opening.0, opening.1, calls u opening.0 opening.2);
-          written = λ t. then_front before (lines_text core.history) (text new_graph) after after' (out t) (front t);
-          cut = λ t. let f = front t in lines_more after' f.0 (out t) f.3;
-          lines = λ t fault. let f = front t in (f.0, f.3 ∙ ap (λ (l : List ℕ). l ++ f.0) (out t));
-          whole = λ t is. full t is ∙ ap (λ (l : List ℕ). l ++ text new_graph) (out t) ∙ append_assoc before (lines_text core.history) (text new_graph);
+          behind = inl found.opened;
+          written = λ t. all_writes by (end_text (Some n) found.count (serial core.g0 (take found.count (commits core.history)))) after' (out t) (found.written t) (found.whole t);
         }
 
-  few : total_calls made_core made ≤ 8388616
+        nothing_prints : WroteNothing by told after after' → Prints h (Some n) core keeps.stopped final by told before after'
+        nothing_prints nothing =
+            let lines = λ (t : IsTrue told). nothing.nothing t ∙ out t in
+            record {
+              count = all;
+              least = least;
+              most = most;
+              all = λ none. refl;
+              behind = inr (nothing.early, λ t. whole_front before (lines_text core.history) after' (lines t));
+              written = λ t. some_writes by (end_text (Some n) all (serial core.g0 (take all (commits core.history)))) after' nothing.early (whole_front before (lines_text core.history) after' (lines t))
+                  (lines_more after' [] (out t) (nothing.nothing t ∙ sym (append-nil after))) (λ is. lines t);
+            }
+
+  few : total_calls c made ≤ 8388616
   few =
       let all : length events ≡ length made + length plays.behind = ap (λ (l : List Event). length l) plays.parts ∙ length-append made plays.behind in
-      let each = total_few made_core made in
+      let each = total_few c made in
       let most = playable.few in
       omega arith
 
   -- Where the disk does what it is asked, all events were made.
-  pub exact_none : (DiskRose (g.faults old.disk) (g.stops old.disk) (g.faults new.disk) (g.stops new.disk) → ⊥) → IsExact None made core
+  pub exact_none : (DiskRose (g.faults old.disk) (g.stops old.disk) (g.faults new.disk) (g.stops new.disk) → ⊥) → IsExact None c made core
   exact_none unharmed = ⊎_elim
-      (λ (all : MakesAll made_core made core old new). all.reached)
-      (λ (some : (reply : Reply) × MakesShort made_core made core old new reply). absurd (unharmed (short_harm some.0 some.1)))
+      (λ (all : MakesAll c made core old new). all.reached)
+      (λ (some : (reply : Reply) × MakesShort c made core old new reply). absurd (unharmed (short_harm some.0 some.1)))
       makes
     where
-      short_harm : (reply : Reply) → MakesShort made_core made core old new reply → DiskRose (g.faults old.disk) (g.stops old.disk) (g.faults new.disk) (g.stops new.disk)
+      short_harm : (reply : Reply) → MakesShort c made core old new reply → DiskRose (g.faults old.disk) (g.stops old.disk) (g.faults new.disk) (g.stops new.disk)
       short_harm reply short = ⊎_elim
           (λ (is : reply ≡ Refused DiskFault). disk_rose _ _ _ _ (reply_device reply) device.Failed short.cause (ap reply_device is))
           (λ (is : reply ≡ Refused Stopped). disk_rose _ _ _ _ (reply_device reply) device.Stopped short.cause (ap reply_device is))
@@ -254,58 +275,56 @@ module _ {D : Type 0} {g : Ghosts D} (s : Super) (events : List Event) (playable
 
   -- The disk does what it is asked up to a limit.
   module _ (n : ℕ) (none : g.passed old.disk ≡ 0) (still : g.stops old.disk ≡ 0) (within : g.passed new.disk ≤ n) (at : g.stops new.disk ≢ 0 → g.passed new.disk ≡ n) (unharmed : Rose (g.faults old.disk) (g.faults new.disk) → ⊥) where
-    passes_all : MakesAll made_core made core old new → g.passed new.disk ≡ total_calls made_core made
+    passes_all : MakesAll c made core old new → g.passed new.disk ≡ total_calls c made
     passes_all all =
-        all.passes ∙ ap (counted (total_calls made_core made)) none ∙ counted-sum (total_calls made_core made) 0 (omega (arith, few)) ∙ omega arith
+        all.passes ∙ ap (counted (total_calls c made)) none ∙ counted-sum (total_calls c made) 0 (omega (arith, few)) ∙ omega arith
 
-    module _ (reply : Reply) (short : MakesShort made_core made core old new reply) where
+    module _ (reply : Reply) (short : MakesShort c made core old new reply) where
       is_stopped : reply ≡ Refused Stopped
       is_stopped = ⊎_elim (λ (is : reply ≡ Refused DiskFault). absurd (unharmed (short.cause.failed (ap reply_device is)))) (λ (is : reply ≡ Refused Stopped). is) short.cut.told
 
       has_stopped : g.stops new.disk ≢ 0
       has_stopped none_yet = elim (short.cause.stopped (ap reply_device is_stopped)) [ inl up ↦ omega arith | inr full ↦ omega arith ]
 
-      total : total_calls made_core made ≡ total_calls made_core short.before + total_calls (after_events made_core short.before) (short.event ∷ [])
-      total = ap (total_calls made_core) short.parts ∙ total_calls-append made_core short.before (short.event ∷ [])
+      total : total_calls c made ≡ total_calls c short.before + total_calls (after_events c short.before) (short.event ∷ [])
+      total = ap (total_calls c) short.parts ∙ total_calls-append c short.before (short.event ∷ [])
 
-      here : n ≡ total_calls made_core short.before + (short.passes is_stopped).0
+      here : n ≡ total_calls c short.before + (short.passes is_stopped).0
       here =
           let passes = short.passes is_stopped in
-          sym (at has_stopped) ∙ passes.2 ∙ ap (counted (total_calls made_core short.before + passes.0)) none
-          ∙ counted-sum (total_calls made_core short.before + passes.0) 0 (omega (arith, few, total, passes.1)) ∙ omega arith
+          sym (at has_stopped) ∙ passes.2 ∙ ap (counted (total_calls c short.before + passes.0)) none
+          ∙ counted-sum (total_calls c short.before + passes.0) 0 (omega (arith, few, total, passes.1)) ∙ omega arith
 
-      stopped_last : StopsLast n made core
+      stopped_last : StopsLast n c made core
       stopped_last =
           let below = (short.passes is_stopped).1 in
           let place = here in
           record {
             at = record { before = short.before; event = short.event; behind = []; parts = short.parts; made = omega arith; short = omega arith };
             last = refl;
-            reached = short.reached ∙ ap (λ (r : Reply). with_entry (after_events made_core short.before) short.event r) is_stopped;
+            reached = short.reached ∙ ap (λ (r : Reply). with_entry (after_events c short.before) short.event r) is_stopped;
           }
 
-      passes_few : g.passed new.disk ≡ min n (total_calls made_core made)
+      passes_few : g.passed new.disk ≡ min n (total_calls c made)
       passes_few = omega (arith, at has_stopped, here, total, (short.passes is_stopped).1)
 
     -- It stops in the event that has more calls than are left.
-    pub exact_some : IsExact (Some n) made core
+    pub exact_some : IsExact (Some n) c made core
     exact_some = ⊎_elim
-        (λ (all : MakesAll made_core made core old new). inl (all.reached, omega (arith, passes_all all)))
-        (λ (some : (reply : Reply) × MakesShort made_core made core old new reply). inr (stopped_last some.0 some.1))
+        (λ (all : MakesAll c made core old new). inl (all.reached, omega (arith, passes_all all)))
+        (λ (some : (reply : Reply) × MakesShort c made core old new reply). inr (stopped_last some.0 some.1))
         makes
 
     -- It lets through the calls of all events, or as many as it was to.
-    pub passes_some : g.passed new.disk ≡ min n (total_calls made_core made)
+    pub passes_some : g.passed new.disk ≡ min n (total_calls c made)
     passes_some = ⊎_elim
-        (λ (all : MakesAll made_core made core old new). omega (arith, passes_all all))
-        (λ (some : (reply : Reply) × MakesShort made_core made core old new reply). passes_few some.0 some.1)
+        (λ (all : MakesAll c made core old new). omega (arith, passes_all all))
+        (λ (some : (reply : Reply) × MakesShort c made core old new reply). passes_few some.0 some.1)
         makes
 
   -- A play that the disk's failing didn't end has made all events, or the disk has stopped.
-  pub ends_made : (n : ℕ) {e : Ended} → result ≡ Ok e → (e ≡ ended.DiskFault → ⊥) → HasMade (Some n) made plays.behind core
-  ends_made n {e} is well = made_by e (subst (Ends made_core made plays.behind core old new) is plays.ends) well
-    where
-      made_by : (by : Ended) → Ends made_core made plays.behind core old new (Ok by) → (by ≡ ended.DiskFault → ⊥) → HasMade (Some n) made plays.behind core
-      made_by ended.Whole ends good = inl (ends.0, ends.1.reached)
-      made_by ended.Stopped ends good = inr (record { before = ends.before; event = ends.event; parts = ends.parts; cut = ends.cut; reached = ends.reached })
-      made_by ended.DiskFault ends good = absurd (good refl)
+  pub ends_made : (n : ℕ) → (result ≡ Ok tt) ⊎ (result ≡ Err halt.Stopped) → HasMade (Some n) c made plays.behind core
+  ends_made n (inl is) = let ends = subst (Ends c made plays.behind core old new) is plays.ends in inl (ends.0, ends.1.reached)
+  ends_made n (inr is) =
+      let ends = subst (Ends c made plays.behind core old new) is plays.ends in
+      inr (record { before = ends.before; event = ends.event; parts = ends.parts; cut = ends.cut; reached = ends.reached })

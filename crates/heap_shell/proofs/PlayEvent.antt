@@ -5,8 +5,8 @@ use Rattle.std.proofs.lemmas.Grind.{flat_map-append}
 use Rattle.std.proofs.lemmas.List.{append-nil}
 use Rattle.counts.specs.Count.{counted}
 use Rattle.disk_model.specs.declared.disk.Disk.{Ghosts}
-use Rattle.disk_model.specs.Disk.{HasCause}
-use Rattle.disk_model.specs.Moments.{LeavesOnly, weaker}
+use Rattle.disk_model.specs.Keeps.{KeepsDisk}
+use Rattle.disk_model.specs.Moments.{LeavesOnly}
 use Rattle.gate_slot.specs.Passing.{Passes}
 use Rattle.graph_model.specs.declared.event.Event.{Event}
 use Rattle.graph_model.specs.declared.event.Event.TheVariants.{Force}
@@ -20,53 +20,53 @@ use Rattle.graph_model.specs.Text.{line}
 use Rattle.image_plan.specs.declared.superblock.Super.{Super}
 use Rattle.log_records.specs.declared.Record.{Record}
 use Rattle.heap_core.specs.declared.heap.Heap.{Heap}
-use Rattle.heap_shell.specs.declared.play.Ended.{Ended}
-use Rattle.heap_shell.specs.declared.play.Ended.TheVariants as ended
-use Rattle.heap_shell.specs.declared.status.Status.{Status}
+use Rattle.heap_shell.specs.declared.play.Halt.{Halt}
+use Rattle.heap_shell.specs.declared.play.Halt.TheVariants as halt
+use Rattle.heap_shell.specs.declared.output.WriteError.{WriteError}
 use Rattle.heap_core.specs.Causes.{reply_device}
-use Rattle.heap_model.specs.Core.{Core, next_number, answer, with_entry, after, IsCutShort, IsStep, force_calls, calls_if, calls}
-use Rattle.heap_model.specs.CoreCrash.{KeepsCommits, HasCommits}
-use Rattle.heap_model.specs.CoreLawsGrow.{has_commits_on, keeps_has}
-use Rattle.heap_model.specs.CoreLawsRun.{step_history, valid_step}
+use Rattle.heap_model.specs.Core.{Core, next_number, answer, with_entry, after, IsCutShort, IsStep, calls}
+use Rattle.heap_model.specs.CoreCrash.{KeepsCommits}
+use Rattle.heap_model.specs.CoreLawsReplies.{step_reached}
+use Rattle.heap_model.specs.CoreLawsRun.{step_history}
 use Rattle.heap_model.specs.CoreLawsStep.{core_refusal-HasNoFault}
 use Rattle.heap_model.specs.CoreValid.{IsReached}
-use Rattle.heap_core.specs.Means.{IsHeap}
-use Rattle.heap_shell.specs.Play.{AreReady, MakesAll, MakesShort, Makes, Ends, Plays, ended_by, lines_text, WroteFront, WroteLines}
-use Rattle.heap_core.proofs.MeansLeft.{heap_keeps}
+use Rattle.heap_core.specs.Means.{DiskHolds, IsCore, IsHeap}
+use Rattle.heap_shell.specs.Play.{AreReady, MakesAll, MakesShort, Makes, Ends, Plays, ended_by, lines_text, Wrote, WroteFront, WroteLines}
+use Rattle.heap_shell.specs.StatusOf.{write_halt}
+use Rattle.heap_shell.specs.Steps.{Step, HeapStep, AreSteps}
+use Rattle.heap_shell.specs.declared.output.WriteError.TheVariants as writing
+use Rattle.heap_core.specs.CrashLaws.{heap_keeps}
 
 -- a reply that tells no fault of the disk
-sound_device : (reply : Reply) → IsSoundReply reply → (reply_device reply ≡ Ok tt) × (ended_by reply ≡ ended.Whole)
+sound_device : (reply : Reply) → IsSoundReply reply → (reply_device reply ≡ Ok tt) × (ended_by reply ≡ Ok tt)
 sound_device (Refused DiskFault) sound = absurd sound
 sound_device (Refused Stopped) sound = absurd sound
 sound_device reply sound = (refl, refl)
 
-forces_some : (p : List Record) → p ≢ [] → 0 < force_calls p
-forces_some [] some = absurd (some refl)
-forces_some (r ∷ rs) some = omega arith
-
--- a force that was cut short had calls to make
-cut_calls : (c : Core) (event : Event) (reply : Reply) → IsCutShort c event reply → 0 < calls c event
-cut_calls c event reply cut =
-    let made : calls c event ≡ force_calls c.pending = ap (λ (e : Event). calls c e) cut.force ∙ ap (λ (o : Option ℕ). calls_if o c Force) cut.first in
-    let some = forces_some c.pending cut.waits in
-    omega (arith, made, some)
-
 answer_sound : (c : Core) (event : Event) → IsSoundReply (answer c event)
 answer_sound c event = sound_either _ _ (core_refusal-HasNoFault c event) (granted_sound (next_number c) c.g0 (account c.history) event)
+
+-- the reply of a disk that did what it was asked lets a play go on
+pub whole_reply : (c : Core) (event : Event) (reply : Reply) → reply ≡ answer c event → ended_by reply ≡ Ok tt
+whole_reply c event reply is = (sound_device reply (subst IsSoundReply (sym is) (answer_sound c event))).1
 
 one_call : (n m k : ℕ) → n ≡ counted m k → n ≡ counted (m + 0) k
 one_call n m k e = let same : m ≡ m + 0 = omega arith in e ∙ ap (λ (i : ℕ). counted i k) same
 
+-- what a crash leaves of a heap
+pub heap_leaves : {D : Type 0} {g : Ghosts D} (s : Super) (c : Core) (heap : Heap D g) → IsHeap s c heap → IsReached c → (image : List ℕ) → g.may_leave heap.disk image → KeepsCommits c image
+heap_leaves {g = g} s c heap is reached = heap_keeps s c (g.bytes heap.disk) (g.may_leave heap.disk) is.disk reached.sound
+
 module _ {D : Type 0} {g : Ghosts D} (s : Super) (c d : Core) (event : Event) (reply : Reply) (old new : Heap D g) (ready : AreReady c (event ∷ [])) (step : IsStep c event reply d)
-    (cause : HasCause (g.faults old.disk) (g.faults new.disk) (g.stops old.disk) (g.stops new.disk) (reply_device reply))
-    (passes : Passes (calls c event) (g.passed old.disk) (g.passed new.disk) (reply_device reply)) where
+    (keeps : KeepsDisk g old.disk new.disk (reply_device reply)) (passes : Passes (calls c event) (g.passed old.disk) (g.passed new.disk) (reply_device reply))
+    (moments : LeavesOnly g.moment g.left_since old.disk new.disk (KeepsCommits c)) (heap : IsHeap s d new) where
   abbrev one : List Event
   one = event ∷ []
 
   abbrev own : List ℕ
   own = line (record { event = event; reply = reply })
 
-  whole_ends : reply ≡ answer c event → d ≡ after c event → (ended_by reply ≡ ended.Whole) × MakesAll c one d old new
+  whole_ends : reply ≡ answer c event → d ≡ after c event → (ended_by reply ≡ Ok tt) × MakesAll c one d old new
   whole_ends replied reached =
       let sound = sound_device reply (subst IsSoundReply (sym replied) (answer_sound c event)) in
       let P : Result (Unit {0}) _ → Type 0 = λ r. Passes (calls c event) (g.passed old.disk) (g.passed new.disk) r in
@@ -79,28 +79,28 @@ module _ {D : Type 0} {g : Ghosts D} (s : Super) (c d : Core) (event : Event) (r
     parts = refl;
     cut = cut;
     reached = reached;
-    cause = cause;
+    cause = keeps.cause;
     passes = λ stopped.
-        let short = passes.stopped (ap reply_device stopped) (cut_calls c event reply cut) in
+        let short = passes.stopped (ap reply_device stopped) cut.some in
         let same : short.0 ≡ 0 + short.0 = omega arith in (short.0, short.1, short.2 ∙ ap (λ (i : ℕ). counted i (g.passed old.disk)) same);
   }
 
-  told_ends : IsCutShort c event reply → MakesShort c one d old new reply → Ends c one [] d old new (Ok (ended_by reply))
+  told_ends : IsCutShort c event reply → MakesShort c one d old new reply → Ends c one [] d old new (ended_by reply)
   told_ends cut short = ⊎_elim
       (λ (is : reply ≡ Refused DiskFault).
-      let P : Reply → Type 0 = λ r. MakesShort c one d old new r → Ends c one [] d old new (Ok (ended_by r)) in
+      let P : Reply → Type 0 = λ r. MakesShort c one d old new r → Ends c one [] d old new (ended_by r) in
       subst P (sym is) (λ m. m) short)
       (λ (is : reply ≡ Refused Stopped).
-      let P : Reply → Type 0 = λ r. MakesShort c one d old new r → Ends c one [] d old new (Ok (ended_by r)) in
+      let P : Reply → Type 0 = λ r. MakesShort c one d old new r → Ends c one [] d old new (ended_by r) in
       subst P (sym is) (λ m. m) short)
       cut.told
 
   -- the event's reply says how the play goes on
-  pub one_ends : Ends c one [] d old new (Ok (ended_by reply))
+  pub one_ends : Ends c one [] d old new (ended_by reply)
   one_ends = ⊎_elim
       (λ (whole : (reply ≡ answer c event) × (d ≡ after c event)).
       let is = whole_ends whole.0 whole.1 in
-      subst (λ (e : Ended). Ends c one [] d old new (Ok e)) (sym is.0) (refl, is.1))
+      subst (Ends c one [] d old new) (sym is.0) (refl, is.1))
       (λ (cut : IsCutShort c event reply × (d ≡ with_entry c event reply)). told_ends cut.0 (short_ends cut.0 cut.1))
       step
 
@@ -110,12 +110,13 @@ module _ {D : Type 0} {g : Ghosts D} (s : Super) (c d : Core) (event : Event) (r
       (λ (cut : IsCutShort c event reply × (d ≡ with_entry c event reply)). inr (reply, short_ends cut.0 cut.1))
       step
 
-  pub one_leaves : LeavesOnly g.moment g.left_since old.disk new.disk (KeepsCommits c) → LeavesOnly g.moment g.left_since old.disk new.disk (HasCommits d)
-  one_leaves moments =
-      let reached : IsReached c = inl ready.0 in
-      let next = valid_step c d event reply reached ready.1.0 step in
-      weaker g.moment g.left_since old.disk new.disk (KeepsCommits c) (HasCommits d) moments
-      (λ image kept. has_commits_on c d one image reached next (reply, d, step, refl) (keeps_has c image kept))
+  -- it is a step on the heap's disk
+  pub one_steps : AreSteps (HeapStep g) c old.disk one d new.disk
+  one_steps =
+      let next = step_reached c d event reply ready.running.reached ready.single.0 step in
+      let made : Step g (Unit {0}) c old.disk event d new.disk =
+      record { reply = reply; step = step; moments = moments; kept = heap_leaves s d new heap next; passes = λ u. passes } in
+      (d, new.disk, record { made = made; disk = keeps }, (refl, refl))
 
   -- the lines with that of the event
   pub one_line : lines_text d.history ≡ lines_text c.history ++ line (record { event = event; reply = reply })
@@ -125,31 +126,46 @@ module _ {D : Type 0} {g : Ghosts D} (s : Super) (c d : Core) (event : Event) (r
       ∙ flat_map-append line c.history (entry ∷ [])
       ∙ ap (λ (l : List ℕ). lines_text c.history ++ l) (append-nil (line entry))
 
+  whole_line : (told : Bool) (before after : List ℕ) → (IsTrue told → after ≡ before ++ own) → IsTrue told → (w : List ℕ) → before ≡ w ++ lines_text c.history → after ≡ w ++ lines_text d.history
+  whole_line told before after wrote t w is =
+      wrote t ∙ ap (λ (l : List ℕ). l ++ own) is ∙ append_assoc w (lines_text c.history) own ∙ ap (λ (l : List ℕ). w ++ l) (sym one_line)
+
+  wrote_whole : (r : Reply) (w after : List ℕ) → after ≡ w ++ lines_text d.history → Wrote (ended_by r) w d.history after
+  wrote_whole (Refused DiskFault) w after is = is
+  wrote_whole (Refused Stopped) w after is = is
+  wrote_whole r w after is = is
+
   -- the event was made and its line written
-  pub plays_one : (told : Bool) (before after : List ℕ) → IsHeap s d new → LeavesOnly g.moment g.left_since old.disk new.disk (KeepsCommits c)
-      → (IsTrue told → after ≡ before ++ own) → Plays s c one old new told before after (Ok (ended_by reply))
-  plays_one told before after heap moments wrote = record {
+  pub plays_one : (told : Bool) (before after : List ℕ) → (IsTrue told → after ≡ before ++ own) → Plays s c one old new told before after (ended_by reply)
+  plays_one told before after wrote = record {
     made = one;
     behind = [];
     parts = refl;
     core = d;
+    steps = one_steps;
     ends = one_ends;
     heap = heap;
-    moments = one_leaves moments;
-    written = λ t w is. wrote t ∙ ap (λ (l : List ℕ). l ++ own) is ∙ append_assoc w (lines_text c.history) own ∙ ap (λ (l : List ℕ). w ++ l) (sym one_line);
+    written = λ t w is. wrote_whole reply w after (whole_line told before after wrote t w is);
   }
 
+  unwritten_ends : (e : WriteError) → Ends c one [] d old new (Err (write_halt e))
+  unwritten_ends writing.NoMemory = one_makes
+  unwritten_ends writing.SinkFailed = one_makes
+
+  wrote_some : (e : WriteError) (w after : List ℕ) → WroteFront w (lines_text d.history) after × WroteLines w d.history after → Wrote (Err (write_halt e)) w d.history after
+  wrote_some writing.NoMemory w after some = some
+  wrote_some writing.SinkFailed w after some = some
+
   -- the event was made, and its line not wholly written
-  pub plays_unwritten : (told : Bool) (before after : List ℕ) (status : Status) → IsHeap s d new → LeavesOnly g.moment g.left_since old.disk new.disk (KeepsCommits c)
-      → (IsTrue told → WroteFront before own after) → Plays s c one old new told before after (Err status)
-  plays_unwritten told before after status heap moments wrote = record {
+  pub plays_unwritten : (told : Bool) (before after : List ℕ) (e : WriteError) → (IsTrue told → WroteFront before own after) → Plays s c one old new told before after (Err (write_halt e))
+  plays_unwritten told before after e wrote = record {
     made = one;
     behind = [];
     parts = refl;
     core = d;
-    ends = one_makes;
+    steps = one_steps;
+    ends = unwritten_ends e;
     heap = heap;
-    moments = one_leaves moments;
     written = λ t w is.
         let part = wrote t in
         let front : WroteFront w (lines_text d.history) after = (
@@ -159,26 +175,22 @@ module _ {D : Type 0} {g : Ghosts D} (s : Super) (c d : Core) (event : Event) (r
           part.3 ∙ ap (λ (l : List ℕ). l ++ part.0) is ∙ append_assoc w (lines_text c.history) part.0,
         ) in
         let lines : WroteLines w d.history after = (c.history, record { event = event; reply = reply } ∷ [], part.0, step_history c d event reply step, omega arith, part.3 ∙ ap (λ (l : List ℕ). l ++ part.0) is) in
-        (front, lines);
+        wrote_some e w after (front, lines);
   }
 
 -- memory was refused: nothing was made
-pub plays_nothing : {D : Type 0} {g : Ghosts D} (s : Super) (c : Core) (events : List Event) (old new : Heap D g) (told : Bool) (before : List ℕ) (status : Status) → IsHeap s c new → new.disk ≡ old.disk
-    → LeavesOnly g.moment g.left_since old.disk new.disk (KeepsCommits c) → Plays s c events old new told before before (Err status)
-plays_nothing {g = g} s c events old new told before status heap same moments = record {
+pub plays_nothing : {D : Type 0} {g : Ghosts D} (s : Super) (c : Core) (events : List Event) (old new : Heap D g) (told : Bool) (before : List ℕ) → IsHeap s c old → IsCore c new → new.disk ≡ old.disk
+    → Plays s c events old new told before before (Err halt.NoMemory)
+plays_nothing {g = g} s c events old new told before heap core same = record {
   made = [];
   behind = events;
   parts = refl;
   core = c;
+  steps = (refl, same);
   ends = inl (record { reached = refl; passes = ap g.passed same });
-  heap = heap;
-  moments = weaker g.moment g.left_since old.disk new.disk (KeepsCommits c) (HasCommits c) moments (λ image kept. keeps_has c image kept);
+  heap = record { core = core; disk = subst (λ x. DiskHolds s c (g.bytes x) (g.may_leave x)) (sym same) heap.disk };
   written = λ t w is.
       let front : WroteFront w (lines_text c.history) before = (lines_text c.history, [], sym (append-nil (lines_text c.history)), is) in
       let lines : WroteLines w c.history before = (c.history, [], [], sym (append-nil c.history), omega arith, is ∙ sym (append-nil (w ++ lines_text c.history))) in
       (front, lines);
 }
-
--- what a crash leaves of a heap
-pub heap_leaves : {D : Type 0} {g : Ghosts D} (s : Super) (c : Core) (heap : Heap D g) → IsHeap s c heap → IsReached c → (image : List ℕ) → g.may_leave heap.disk image → KeepsCommits c image
-heap_leaves s c heap means reached = heap_keeps s c heap.working heap.failed _ _ means.means reached

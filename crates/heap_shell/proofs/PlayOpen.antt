@@ -1,42 +1,75 @@
 -- A play opens the heap that was made for it.
-use Rattle.std.proofs.Common.{◌≡◌, ◌⊎◌, inl, ⊎_elim, ℕ, Bool, List, [], ◌++◌, take, Option, Some, None, Result, refl, sym, ◌∙◌, subst, arith}
+use Rattle.std.proofs.Common.{◌≡◌, inl, inr, ⊎_elim, ℕ, ◌+◌, Bool, List, [], ◌++◌, take, Option, Some, None, Ok, refl, sym, ap, ◌∙◌, subst, arith}
+use Rattle.std.specs.Prelude.{◌⊎◌, IsTrue}
 use Rattle.std.proofs.lemmas.List.{append-nil}
 use Rattle.disk_model.specs.declared.disk.Disk.{Ghosts}
-use Rattle.disk_model.specs.Moments.{LeavesOnly, joined, weaker}
-use Rattle.gated_log.specs.Log.{records_of}
+use Rattle.disk_model.specs.Moments.{LeavesOnly, begins, joined, weaker}
 use Rattle.graph_model.specs.declared.event.Event.{Event}
-use Rattle.graph_model.specs.Graph.{Graph}
+use Rattle.graph_model.specs.Graph.{Graph, root_graph, new_graph}
 use Rattle.graph_model.specs.Transaction.{serial}
-use Rattle.graph_model.specs.History.{commits}
-use Rattle.heap_core.specs.declared.heap.Heap.{Heap}
-use Rattle.heap_shell.specs.declared.play.Ended.{Ended}
-use Rattle.heap_recovery.specs.declared.recovery.OpenError.{OpenError}
+use Rattle.graph_model.specs.History.{account, commits}
+use Rattle.heap_core.specs.Causes.{IsFromOutside}
+use Rattle.heap_core.specs.declared.errors.OpenError.{OpenError}
+use Rattle.heap_model.specs.Core.{Core}
 use Rattle.heap_shell.specs.declared.status.Status.{Status}
-use Rattle.heap_model.specs.CoreCrash.{KeepsCommits, HasCommits}
-use Rattle.heap_model.specs.CoreLawsCrash.{crash_law}
-use Rattle.heap_model.specs.CoreLawsEnding.{single_front}
-use Rattle.heap_model.specs.CoreLawsGrow.{has_commits_on, keeps_has, keeps_as}
-use Rattle.heap_shell.specs.CoreLawsPlay.{made_valid}
+use Rattle.heap_shell.specs.declared.status.Status.TheVariants.{Done}
+use Rattle.heap_model.specs.CoreCrash.{KeepsCommits}
+use Rattle.heap_model.specs.CoreLawsGrow.{keeps_as}
+use Rattle.heap_model.specs.CoreLawsNew.{new_legal, new_shows}
+use Rattle.heap_model.specs.CoreLawsOpened.{opened_keeps, opened_reached}
+use Rattle.heap_shell.specs.CoreLawsPlay.{running_after, all_playable}
 use Rattle.heap_model.specs.CoreRuns.{after_events}
-use Rattle.heap_model.specs.Ending.{ending, all_events}
-use Rattle.heap_shell.specs.Headline.{made_super, made_core, output, IsExact, IsEndOfPlay, IsPlayed}
-use Rattle.heap_shell.specs.Playable.{IsPlayable}
-use Rattle.heap_model.specs.Image.{IsLegal, StandsFor}
-use Rattle.log_machine.specs.Machine as machine
-use Rattle.heap_shell.specs.Play.{AreReady, Plays}
-use Rattle.heap_recovery.specs.Recovered.{IsFromOutside}
+use Rattle.heap_model.specs.Ending.{all_events}
+use Rattle.heap_shell.specs.Headline.{made_super, made_core, end_text, IsExact, IsEndOfPlay, IsFollowed, KeepsThroughout, Unharmed, IsPlayed}
+use Rattle.heap_shell.specs.Playable.{IsScript}
+use Rattle.heap_model.specs.Image.{words_of, IsLegalLog, IsLegal, Shows, StandsFor}
+use Rattle.counts.specs.Count.{counted}
+use Rattle.log_machine.specs.MapLaws.{entries_empty}
+use Rattle.log_machine.specs.Machine.{abort_each}
+use Rattle.log_machine.specs.declared.UndoEntry.{UndoEntry}
+use Rattle.heap_model.specs.Core.{force_calls}
+use Rattle.heap_model.specs.Opening.{opened, opening_calls, rollback_of}
+use Rattle.heap_model.specs.ValueWord.{root_values}
+use Rattle.heap_model.specs.CoreLawsLegal.{root_shown}
+use Rattle.heap_core.specs.declared.heap.Heap.{Heap}
+use Rattle.heap_core.specs.HeapState.{failed_at}
+use Rattle.heap_core.specs.Means.{IsCore}
+use Rattle.log_records.specs.declared.Record.{Record}
+use Rattle.image_plan.specs.declared.superblock.Super.{Super}
+use Rattle.script_text.specs.declared.line.Line.{Line}
+use Rattle.script_text.specs.Line.{events}
+use Rattle.heap_shell.specs.Play.{IsRunning, PlaysCore, WroteFront}
 use Rattle.heap_shell.specs.StatusOf.{open_status}
-use Rattle.heap_shell.proofs.PlayEnds.{run_reached}
 use Rattle.heap_shell.proofs.Statuses.{open_end, open_not_done}
 use Rattle.heap_shell.proofs.Written.{none_written}
 
--- the image of a new heap has its commits, of which there are none
-pub new_image : (pages : ℕ) (image : List ℕ) → IsLegal (made_super pages) [] image → KeepsCommits made_core image
-new_image pages image legal = (machine.commits (records_of []), crash_law made_core (made_super pages) [] image (inl made_valid) (inl refl) legal)
+-- an image that holds a new heap has its commits, of which there are none
+pub new_image : (pages : ℕ) (image : List ℕ) → IsLegal (made_super pages) [] image → KeepsCommits (made_core pages) image
+new_image pages image legal =
+    let limits = legal.log.limits in
+    opened_keeps (made_super pages) [] (new_legal (made_super pages) limits) new_graph (new_shows (made_super pages) limits) image (inl legal.held)
 
--- the graph of its first commits
+-- the graph of its first commits, and their number
 abbrev pub new_first : (pages : ℕ) (image : List ℕ) → IsLegal (made_super pages) [] image → Graph
-new_first pages image legal = serial made_core.g0 (take (new_image pages image legal).0 (commits made_core.history))
+new_first pages image legal = serial (made_core pages).g0 (take (new_image pages image legal).0 (commits (made_core pages).history))
+
+abbrev pub new_count : (pages : ℕ) (image : List ℕ) → IsLegal (made_super pages) [] image → ℕ
+new_count pages image legal = (made_core pages).before + (new_image pages image legal).0
+
+-- the heap of such an image is that of an empty log
+abbrev pub empty_image : (pages : ℕ) (image : List ℕ) → IsLegal (made_super pages) [] image → IsLegal (made_super pages) [] image
+empty_image pages image legal = record { log = new_legal (made_super pages) legal.log.limits; held = legal.held }
+
+-- in a new heap there is nothing to be taken back
+pub no_rollback : (s : Super) → rollback_of s [] ≡ []
+no_rollback s = ap abort_each (entries_empty (List UndoEntry))
+
+pub no_calls : (s : Super) → opening_calls s [] ≡ 0
+no_calls s = ap force_calls (no_rollback s)
+
+-- so its opening makes no write and no sync
+pub new_passes : (s : Super) (before now : ℕ) → now ≡ counted (opening_calls s []) before → now ≡ before
+new_passes s before now passed = passed ∙ ap (λ (n : ℕ). counted n before) (no_calls s)
 
 -- two runs, of which the second leaves what the first may leave too
 pub opening_then : {D : Type 0} (moment : D → ℕ) (left_since : D → ℕ → List ℕ → Type 0) (old mid new : D) (first all : List ℕ → Type 0) → LeavesOnly moment left_since old mid first → LeavesOnly moment left_since mid new all
@@ -44,61 +77,80 @@ pub opening_then : {D : Type 0} (moment : D → ℕ) (left_since : D → ℕ →
 opening_then moment left_since old mid new first all before behind implies =
     weaker moment left_since old new (λ image. first image ⊎ all image) all (joined moment left_since old mid new first all before behind) (λ image either. ⊎_elim (implies image) (λ p. p) either)
 
-nothing_exact : (stop : Option ℕ) → IsExact stop [] made_core
-nothing_exact None = refl
-nothing_exact (Some n) = inl (refl, omega arith)
+nothing_exact : (stop : Option ℕ) (c : Core) → IsExact stop c [] c
+nothing_exact None c = refl
+nothing_exact (Some n) c = inl (refl, omega arith)
+
+nothing_follows : {D : Type 0} (g : Ghosts D) (stop : Option ℕ) (c : Core) (disk : D) (by : Status) (told : Bool) (before : List ℕ) → (by ≡ Done → ⊥) → IsFollowed g stop c 0 disk disk by (IsTrue told → WroteFront before [] before)
+nothing_follows g None c disk by told before early = refl
+nothing_follows g (Some n) c disk by told before early = inr (early, λ t. none_written before [])
 
 -- The heap was not opened: no event was made, and nothing was written.
-pub ends_unopened : (stop : Option ℕ) (events : List Event) (e : OpenError) (by : Status) (each : (List ℕ → Type 0) → Type 0) (may_leave : List ℕ → Type 0) (unharmed : Type 0) (passed : ℕ → Type 0) (told : Bool) (before : List ℕ) → by ≡ open_status e → IsFromOutside e
-    → each (HasCommits made_core) → ((image : List ℕ) → may_leave image → KeepsCommits made_core image) → IsPlayed stop events by each may_leave unharmed passed told before before
-ends_unopened stop events e by each may_leave unharmed passed told before is outside moments left = record {
-  made = [];
-  behind = events;
-  parts = refl;
-  core = made_core;
-  run = refl;
-  last = inl refl;
-  end = subst IsEndOfPlay (sym is) (open_end e outside);
-  done = λ done. absurd (open_not_done e (sym is ∙ done));
-  exact = λ u. nothing_exact stop;
-  calls = λ u done. absurd (open_not_done e (sym is ∙ done));
-  moments = moments;
-  kept = left;
-  replies = refl;
-  count = 0;
-  least = omega arith;
-  most = omega arith;
-  all = λ none. refl;
-  written = λ t. none_written before (output stop made_core 0);
-  cut = λ t. ([], [], [], refl, omega arith, sym (append-nil (before ++ []) ∙ append-nil before));
-  lines = λ t fault. ([], sym (append-nil (before ++ []) ∙ append-nil before));
-  whole = λ t done. absurd (open_not_done e (sym is ∙ done));
-}
+pub ends_unopened : {D : Type 0} (g : Ghosts D) (pages : ℕ) (stop : Option ℕ) (events : List Event) (e : OpenError) (by : Status) (start final : D) (told : Bool) (before : List ℕ) → by ≡ open_status e → IsFromOutside e
+    → LeavesOnly g.moment g.left_since start final (KeepsCommits (made_core pages)) → ((image : List ℕ) → g.may_leave final image → KeepsCommits (made_core pages) image)
+    → ((image : List ℕ) → g.left_since final (g.moment final) image → g.may_leave final image) → IsPlayed g stop (made_core pages) events start final by told before before
+ends_unopened g pages stop events e by start final told before is outside moments left now =
+    let early = λ (done : by ≡ Done). open_not_done e (sym is ∙ done) in
+    let nothing : before ≡ before ++ [] = sym (append-nil before) in
+    record {
+      run = record { made = []; behind = events; parts = refl; core = made_core pages; last = inl refl; done = λ done. absurd (early done); exact = λ u. nothing_exact stop (made_core pages) };
+      disk = record { opened = final; opening = moments; here = left; stopped = final; steps = (refl, refl); rest = begins g.moment g.left_since final (KeepsCommits (made_core pages)) (λ image since. left image (now image since)); kept = left };
+      calls = λ u done. absurd (early done);
+      replies = refl;
+      prints = record {
+        count = 0;
+        least = omega arith;
+        most = omega arith;
+        all = λ none. refl;
+        behind = nothing_follows g stop (made_core pages) final by told before early;
+        written = λ t. record {
+          front = none_written before (end_text stop 0 new_graph);
+          lines = ([], [], [], refl, omega arith, sym (append-nil (before ++ []) ∙ append-nil before));
+          fault = λ fault. ([], sym (append-nil (before ++ []) ∙ append-nil before));
+          whole = λ done. absurd (early done);
+        };
+      };
+      end = subst IsEndOfPlay (sym is) (open_end e outside);
+    }
 
 -- what a new heap's image stands for
-pub new_stands : (pages : ℕ) (bytes : List ℕ) (legal : IsLegal (made_super pages) [] bytes) → StandsFor (new_first pages bytes legal) (new_image pages bytes legal).0 bytes
+pub new_stands : (pages : ℕ) (bytes : List ℕ) (legal : IsLegal (made_super pages) [] bytes) → StandsFor (new_first pages bytes legal) (new_count pages bytes legal) bytes
 new_stands pages bytes legal = (new_image pages bytes legal).1.stands
 
 -- an opening leaves an image that stands for the same
-pub opened_commits : (pages : ℕ) (bytes : List ℕ) (legal : IsLegal (made_super pages) [] bytes) (image : List ℕ) → StandsFor (new_first pages bytes legal) (new_image pages bytes legal).0 image → KeepsCommits made_core image
-opened_commits pages bytes legal image stands = keeps_as made_core bytes (new_image pages bytes legal) image stands
+pub opened_commits : (pages : ℕ) (bytes : List ℕ) (legal : IsLegal (made_super pages) [] bytes) (image : List ℕ) → StandsFor (new_first pages bytes legal) (new_count pages bytes legal) image → KeepsCommits (made_core pages) image
+opened_commits pages bytes legal image stands = keeps_as (made_core pages) bytes (new_image pages bytes legal) image stands
 
 -- so it does at each moment
 pub opening_keeps : {D : Type 0} (moment : D → ℕ) (left_since : D → ℕ → List ℕ → Type 0) (old new : D) (pages : ℕ) (bytes : List ℕ) (legal : IsLegal (made_super pages) [] bytes)
-    → LeavesOnly moment left_since old new (StandsFor (new_first pages bytes legal) (new_image pages bytes legal).0) → LeavesOnly moment left_since old new (KeepsCommits made_core)
+    → LeavesOnly moment left_since old new (StandsFor (new_first pages bytes legal) (new_count pages bytes legal)) → LeavesOnly moment left_since old new (KeepsCommits (made_core pages))
 opening_keeps moment left_since old new pages bytes legal opened =
-    weaker moment left_since old new (StandsFor (new_first pages bytes legal) (new_image pages bytes legal).0) (KeepsCommits made_core) opened (opened_commits pages bytes legal)
+    weaker moment left_since old new (StandsFor (new_first pages bytes legal) (new_count pages bytes legal)) (KeepsCommits (made_core pages)) opened (opened_commits pages bytes legal)
 
--- a new heap may be asked the events of a script, if it may be asked those that end a run too
-pub script_ready : (events : List Event) → IsPlayable (all_events None made_core events) → AreReady made_core events
-script_ready events playable = (made_valid, single_front events (ending (after_events made_core events)) playable.single)
+-- What is opened on any disk is a core that runs, whatever its graph.
+pub record IsNew (c : Core) : Type 0 where
+  pub running : IsRunning c
+  pub nothing : c.history ≡ []
 
--- What a play leaves since the heap was made.
-module _ {D : Type 0} {g : Ghosts D} (pages : ℕ) (events : List Event) (playable : IsPlayable events) (disk : D) (old new : Heap D g) (told : Bool) (before after : List ℕ) (result : Result Ended Status)
-    (opened : LeavesOnly g.moment g.left_since disk old.disk (KeepsCommits made_core))
-    (plays : Plays (made_super pages) made_core events old new told before after result) where
-  pub since_made : LeavesOnly g.moment g.left_since disk new.disk (HasCommits plays.core)
-  since_made =
-      let run = run_reached (made_super pages) events playable old new told before after result plays in
-      opening_then g.moment g.left_since disk old.disk new.disk (KeepsCommits made_core) (HasCommits plays.core) opened plays.moments
-      (λ image keeps. has_commits_on made_core plays.core plays.made image (inl made_valid) run.1 run.0 (keeps_has made_core image keeps))
+pub opened_core : {D : Type 0} {g : Ghosts D} (heap : Heap D g) → (s : Super) × (batches : List (List Record)) × (legal : IsLegalLog s batches) × ((graph : Graph) → Shows s batches legal graph → IsCore (opened s batches graph) heap)
+    → (c : Core) × IsNew c × IsCore c heap
+opened_core heap is =
+    let graph = root_graph (root_values (words_of is.0 is.1) 0) in
+    let shows = root_shown is.0 is.1 is.2 in
+    let c = opened is.0 is.1 graph in
+    let running : IsRunning c = record { reached = opened_reached is.0 is.1 is.2 graph shows; unfailed = refl } in
+    (c, record { running = running; nothing = refl }, is.3 graph shows)
+
+-- it has not failed
+pub opened_unfailed : {D : Type 0} {g : Ghosts D} (heap : Heap D g) (c : Core) → IsNew c → IsCore c heap → failed_at heap ≡ None
+opened_unfailed heap c new is = is.memory.failure ∙ new.running.unfailed
+
+-- nor has it behind a play that made all events
+pub played_unfailed : {D : Type 0} {g : Ghosts D} (c : Core) (lines : List Line) (heap : Heap D g) (told : Bool) (before after : List ℕ) → IsRunning c → IsScript lines
+    → PlaysCore c (all_events None c (events lines)) heap told before after (Ok tt) → failed_at heap ≡ None
+played_unfailed c lines heap told before after running is plays =
+    let es = all_events None c (events lines) in
+    let same : es ≡ plays.made = plays.parts ∙ ap (λ (l : List Event). plays.made ++ l) plays.ends.0 ∙ append-nil plays.made in
+    let whole : plays.core ≡ after_events c es = subst (λ (l : List Event). plays.core ≡ after_events c l) (sym same) plays.ends.1 in
+    let after_all = running_after c es (record { running = running; single = (all_playable None c lines running.reached is).single }) in
+    plays.is.memory.failure ∙ ap (λ (x : Core). (account x.history).failed) whole ∙ after_all.unfailed

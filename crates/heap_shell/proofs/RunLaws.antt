@@ -1,67 +1,35 @@
 -- What a run promises, from what its parts promise.
-use Rattle.std.proofs.Common.{◌≡◌, ◌⊎◌, inl, inr, ℕ, ◌+◌, ◌≤◌, Bool, List, [], Option, Some, None, refl, ap, ◌∙◌}
-use Rattle.counts.specs.Count.{counted}
+use Rattle.std.proofs.Common.{◌≡◌, ◌⊎◌, inl, inr, ⊎_elim, ℕ, ◌<◌, ◌≤◌, Bool, List, ◌++◌, Option, Result, Ok, Err, refl, sym, ap, ◌∙◌, subst}
+use Rattle.std.specs.Prelude.{IsTrue, IsErrAnd}
+use Rattle.std.specs.List.{AllByRecursion}
+use Rattle.std.proofs.lemmas.Bool.{cases_lt}
 use Rattle.disk_model.specs.declared.disk.Disk.{Ghosts}
-use Rattle.disk_model.specs.Disk.{Only}
-use Rattle.disk_model.specs.Moments.{LeavesOnly}
-use Rattle.gate_slot.specs.Passing.{counted-add}
+use Rattle.disk_model.specs.declared.disk.DiskError.TheVariants as device
+use Rattle.disk_model.specs.Keeps.{KeepsDisk}
+use Rattle.disk_model.specs.Moments.{LeavesOnly, joined, weaker}
+use Rattle.gate_slot.specs.Passing.{Passes}
 use Rattle.graph_model.specs.declared.event.Event.{Event}
+use Rattle.graph_model.specs.History.{acknowledged}
+use Rattle.graph_model.specs.SlowHeap.{IsSingleSession}
+use Rattle.heap_model.specs.Core.{Core}
+use Rattle.heap_model.specs.CoreCrash.{KeepsCommits, HasAtLeast}
+use Rattle.heap_model.specs.CoreLawsGrow.{has_at_least_on, keeps_at_least, has_fewer}
+use Rattle.heap_model.specs.CoreLawsEnding.{single_front}
+use Rattle.heap_model.specs.CoreLawsReplies.{run_reached}
+use Rattle.heap_model.specs.CoreValid.{IsReached}
+use Rattle.heap_shell.specs.CrashSafe.{IsCrashSafe}
+use Rattle.heap_shell.specs.Steps.{Step, AreSteps}
+use Rattle.heap_shell.specs.StepsLaws.{steps_run, steps_last, prefix_lasts, run_acknowledges}
 use Rattle.image_plan.specs.declared.superblock.Super.{Super}
-use Rattle.heap_core.specs.declared.formatting.FormatError.TheVariants as format
+use Rattle.image_plan.specs.Plan.{image_size}
+use Rattle.heap_core.specs.declared.errors.FormatError.{FormatError}
+use Rattle.heap_core.specs.declared.errors.FormatError.TheVariants as format
+use Rattle.heap_core.specs.Format.{IsFormatting, format_calls}
+use Rattle.heap_core.specs.GivenBack.{format_device, IsFromDisk}
 use Rattle.heap_shell.specs.declared.status.Status.{Status}
 use Rattle.heap_shell.specs.declared.status.Status.TheVariants as status
-use Rattle.heap_shell.specs.Causes.{DiskRose, IsPlayStatus}
-use Rattle.heap_model.specs.Core.{Core}
-use Rattle.heap_model.specs.CoreCrash.{HasCommits}
-use Rattle.heap_model.specs.CoreRuns.{total_calls}
-use Rattle.heap_shell.specs.Headline.{made_core, let_through, HasPassed, IsEndOfPlay, IsSound, SinceMade, IsPlayed}
-use Rattle.heap_core.specs.Format.{IsFormatting}
-use Rattle.heap_model.specs.Image.{IsLegal}
-use Rattle.heap_core.proofs.Causes.{rose_since}
-
--- what passed, counted from an earlier moment on
-passed_more : (stop : Option ℕ) (c : Core) (k calls : ℕ) (passed passed' : ℕ → Type 0) → ((n : ℕ) → passed n → passed' n) → HasPassed stop c k calls passed → HasPassed stop c k calls passed'
-passed_more None c k calls passed passed' more is = more (let_through None calls) is
-passed_more (Some n) c k calls passed passed' more is = (is.0, is.1, more (let_through (Some n) calls + is.0) is.2)
-
--- a play as a part of a longer run
-pub played_within : (stop : Option ℕ) (events : List Event) (result : Status) (each each' : (List ℕ → Type 0) → Type 0) (may_leave : List ℕ → Type 0) (unharmed unharmed' : Type 0) (passed passed' : ℕ → Type 0) (told : Bool) (before after : List ℕ)
-    → ((P : List ℕ → Type 0) → each P → each' P) → (unharmed' → unharmed) → ((n : ℕ) → passed n → passed' n) → IsPlayed stop events result each may_leave unharmed passed told before after → IsPlayed stop events result each' may_leave unharmed' passed' told before after
-played_within stop events result each each' may_leave unharmed unharmed' passed passed' told before after wider same more played = record {
-  made = played.made;
-  behind = played.behind;
-  parts = played.parts;
-  core = played.core;
-  run = played.run;
-  last = played.last;
-  end = played.end;
-  done = played.done;
-  exact = λ u. played.exact (same u);
-  moments = wider (HasCommits played.core) played.moments;
-  kept = played.kept;
-  replies = played.replies;
-  count = played.count;
-  least = played.least;
-  most = played.most;
-  all = played.all;
-  calls = λ u is. passed_more stop played.core played.count (total_calls made_core played.made) passed passed' more (played.calls (same u) is);
-  written = played.written;
-  cut = played.cut;
-  lines = played.lines;
-  whole = played.whole;
-}
-
--- a play on the heap that was made, as a part of the run that made it
-pub made_played : {D : Type 0} (g : Ghosts D) (stop : Option ℕ) (events : List Event) (result : Status) (s : Super) (disk made final : D) (calls : ℕ) (may_leave : List ℕ → Type 0) (told : Bool) (before after : List ℕ)
-    → LeavesOnly g.moment g.left_since disk made (IsFormatting s (g.bytes disk)) → IsLegal s [] (g.bytes made) → Only (g.bytes made) (g.may_leave made)
-    → g.passed made ≡ counted calls (g.passed disk) → g.faults disk + g.stops disk ≤ g.faults made + g.stops made → g.faults made + g.stops made ≤ g.faults final + g.stops final
-    → IsPlayed stop events result (λ P. LeavesOnly g.moment g.left_since made final P) may_leave (DiskRose (g.faults made) (g.stops made) (g.faults final) (g.stops final) → ⊥) (λ n. g.passed final ≡ counted n (g.passed made)) told before after
-    → IsPlayed stop events result (λ P. SinceMade g.moment g.left_since g.bytes g.may_leave s disk final P) may_leave (DiskRose (g.faults disk) (g.stops disk) (g.faults final) (g.stops final) → ⊥) (λ n. g.passed final ≡ counted (calls + n) (g.passed disk)) told before after
-made_played g stop events result s disk made final calls may_leave told before after making empty only passed first last played =
-    played_within stop events result _ _ may_leave _ _ _ _ told before after
-    (λ P since. record { made = made; making = making; empty = empty; only = only; since = since })
-    (λ unharmed rose. unharmed (rose_since _ _ _ first last rose))
-    (λ n is. is ∙ ap (counted n) passed ∙ counted-add n calls (g.passed disk)) played
+use Rattle.heap_shell.specs.Headline.{IsEndOfPlay, IsSound, FailsFormat, IsUnmade, IsNotMade, Unharmed, IsPlayed}
+use Rattle.heap_shell.specs.StatusOf.{format_status}
 
 -- a play says nothing against the image
 pub end_sound : (result : Status) → IsEndOfPlay result → IsSound result
@@ -77,14 +45,80 @@ end_sound (status.Damaged at) h = absurd h
 end_sound (status.TooSmall size need) h = absurd h
 
 -- without a fault it is done, or memory was refused
-pub end_done : (disk sink : Type 0) (result : Status) → IsEndOfPlay result → IsPlayStatus disk sink result → (disk → ⊥) → (sink → ⊥) → (result ≡ status.Done) ⊎ (result ≡ status.NoMemory)
-end_done disk sink status.Done h cause no_disk no_sink = inl refl
-end_done disk sink status.NoMemory h cause no_disk no_sink = inr refl
-end_done disk sink status.Usage h cause no_disk no_sink = absurd h
-end_done disk sink (status.Script line) h cause no_disk no_sink = absurd h
-end_done disk sink status.ReadFault h cause no_disk no_sink = absurd h
-end_done disk sink status.WriteFault h cause no_disk no_sink = absurd (no_sink cause)
-end_done disk sink status.DiskFault h cause no_disk no_sink = absurd (no_disk cause)
-end_done disk sink status.NotHeap h cause no_disk no_sink = absurd h
-end_done disk sink (status.Damaged at) h cause no_disk no_sink = absurd h
-end_done disk sink (status.TooSmall size need) h cause no_disk no_sink = absurd h
+pub end_done : (disk sink : Type 0) (result : Status) → IsEndOfPlay result → (result ≡ status.DiskFault → disk) → (result ≡ status.WriteFault → sink) → (disk → ⊥) → (sink → ⊥) → (result ≡ status.Done) ⊎ (result ≡ status.NoMemory)
+end_done disk sink status.Done h by_disk by_sink no_disk no_sink = inl refl
+end_done disk sink status.NoMemory h by_disk by_sink no_disk no_sink = inr refl
+end_done disk sink status.Usage h by_disk by_sink no_disk no_sink = absurd h
+end_done disk sink (status.Script line) h by_disk by_sink no_disk no_sink = absurd h
+end_done disk sink status.ReadFault h by_disk by_sink no_disk no_sink = absurd h
+end_done disk sink status.WriteFault h by_disk by_sink no_disk no_sink = absurd (no_sink (by_sink refl))
+end_done disk sink status.DiskFault h by_disk by_sink no_disk no_sink = absurd (no_disk (by_disk refl))
+end_done disk sink status.NotHeap h by_disk by_sink no_disk no_sink = absurd h
+end_done disk sink (status.Damaged at) h by_disk by_sink no_disk no_sink = absurd h
+end_done disk sink (status.TooSmall size need) h by_disk by_sink no_disk no_sink = absurd h
+
+-- A disk on which a heap was made is large enough.
+pub large_made : (size need : ℕ) → (size < need → ⊥) → need ≤ size
+large_made size need small = ⊎_elim (λ (less : size < need). absurd (small less)) (λ (fits : need ≤ size). fits) (cases_lt size need)
+
+-- A format that failed made no heap.
+module _ {D : Type 0} (g : Ghosts D) (s : Super) (old new : D) where
+  abbrev need : ℕ
+  need = image_size s.pages s.log_bytes
+
+  fits : (e : FormatError) → (g.extent old < need → (e ≡ format.TooSmall (g.extent old) need) × (new ≡ old)) → ((size full : ℕ) → e ≡ format.TooSmall size full → ⊥) → need ≤ g.extent old
+  fits e small other = ⊎_elim (λ (less : g.extent old < need). absurd (other (g.extent old) need (small less).0)) (λ (large : need ≤ g.extent old). large) (cases_lt (g.extent old) need)
+
+  unmade : (e : FormatError) → (g.extent old < need → (e ≡ format.TooSmall (g.extent old) need) × (new ≡ old)) → (need ≤ g.extent old → IsFromDisk e) → KeepsDisk g old new (format_device e)
+      → (need ≤ g.extent old → Passes (format_calls need (g.bytes old)) (g.passed old) (g.passed new) (format_device e)) → IsUnmade g s old new (format_status e)
+  unmade (format.TooSmall size full) small large keeps passes = ⊎_elim
+      (λ (less : g.extent old < need). (small less).1)
+      (λ (fits : need ≤ g.extent old). absurd (large fits))
+      (cases_lt (g.extent old) need)
+  unmade format.DiskFault small large keeps passes = record { error = device.Failed; cause = keeps.cause; passes = passes (fits format.DiskFault small (λ size full is. cc)) }
+  unmade format.Stopped small large keeps passes = record { error = device.Stopped; cause = keeps.cause; passes = passes (fits format.Stopped small (λ size full is. cc)) }
+
+  pub not_made : (e : FormatError) (by : Status) (told : Bool) (before : List ℕ) → by ≡ format_status e
+      → (g.extent old < need → (e ≡ format.TooSmall (g.extent old) need) × (new ≡ old)) → (need ≤ g.extent old → IsFromDisk e) → KeepsDisk g old new (format_device e)
+      → (need ≤ g.extent old → Passes (format_calls need (g.bytes old)) (g.passed old) (g.passed new) (format_device e)) → LeavesOnly g.moment g.left_since old new (IsFormatting s (g.bytes old))
+      → IsNotMade g s old new by told before before
+  not_made e by told before is small large keeps passes moments = record {
+    reason = subst (IsUnmade g s old new) (sym is) (unmade e small large keeps passes);
+    nothing = λ t. refl;
+    moments = moments;
+  }
+
+-- What a run says of crashes in short.
+module _ {D : Type 0} (g : Ghosts D) (now : (disk : D) (image : List ℕ) → g.left_since disk (g.moment disk) image → g.may_leave disk image) (start final : D) where
+  pub crash_safe : (stop : Option ℕ) (c : Core) (events : List Event) (result : Status) (told : Bool) (before after : List ℕ) → IsReached c → AllByRecursion IsSingleSession events
+      → IsPlayed g stop c events start final result told before after → IsCrashSafe g stop c start final result told before after
+  crash_safe stop c events result told before after reached single played =
+      let made = played.run.made in
+      let core = played.run.core in
+      let disk = played.disk in
+      let one = single_front made played.run.behind (subst (AllByRecursion IsSingleSession) played.run.parts single) in
+      let run = steps_run g (Unharmed g start final) c core disk.opened disk.stopped made disk.steps in
+      let at_end = run_reached c core made reached one run in
+      let least = acknowledged c.history in
+      let prefix = λ (front rest : List Event) (is : made ≡ front ++ rest). prefix_lasts g now (Unharmed g start final) c core disk.opened disk.stopped final front rest reached (subst (AllByRecursion IsSingleSession) is one) disk.here
+      (subst (λ (l : List Event). AreSteps (Step g (Unharmed g start final)) c disk.opened l core disk.stopped) is disk.steps) disk.rest in
+      let since = steps_last g now (Unharmed g start final) c core disk.opened disk.stopped made reached one disk.here disk.steps in
+      let low = run_acknowledges c core made run in
+      record {
+        made = made;
+        core = core;
+        opened = disk.opened;
+        each = weaker g.moment g.left_since start final _ (HasAtLeast core least)
+            (joined g.moment g.left_since start disk.opened final (KeepsCommits c) _ disk.opening (joined g.moment g.left_since disk.opened disk.stopped final (HasAtLeast core least) (KeepsCommits core) since disk.rest))
+            (λ image either. ⊎_elim
+            (λ (kept : KeepsCommits c image). has_at_least_on c core made least image reached.sound at_end.sound run (keeps_at_least c image kept))
+            (λ (later : HasAtLeast core least image ⊎ KeepsCommits core image). ⊎_elim
+            (λ (has : HasAtLeast core least image). has)
+            (λ (kept : KeepsCommits core image). has_fewer core (acknowledged core.history) least image low (keeps_at_least core image kept))
+            later)
+            either);
+        lasting = prefix;
+        replies = played.replies;
+        printed = λ done t. (played.prints.count, played.prints.most, (played.prints.written t).whole done);
+      }
+

@@ -1,82 +1,101 @@
 -- How the ways in which a play may end go on.
-use Rattle.std.proofs.Common.{◌≡◌, inl, inr, ℕ, List, ◌++◌, Result, Ok, Err, arith, refl, ap, subst}
-use Rattle.std.specs.Prelude.{IfErr}
+use Rattle.std.proofs.Common.{◌≡◌, ◌≢◌, ◌⊎◌, inl, inr, ℕ, List, ◌++◌, Option, None, Some, Result, Ok, Err, arith, refl}
 use Rattle.counts.specs.Count.{Rose}
+use Rattle.heap_shell.specs.declared.output.WriteError.{WriteError}
+use Rattle.heap_shell.specs.declared.output.WriteError.TheVariants as writing
+use Rattle.heap_shell.specs.declared.play.Halt.{Halt}
+use Rattle.heap_shell.specs.declared.play.Halt.TheVariants as halt
 use Rattle.heap_shell.specs.declared.status.Status.{Status}
-use Rattle.heap_shell.specs.declared.status.Status.TheVariants.{Done, NoMemory, Usage, Script, ReadFault, WriteFault, DiskFault, NotHeap, Damaged, TooSmall}
-use Rattle.disk_model.specs.declared.disk.DiskError.{DiskError}
-use Rattle.disk_model.specs.declared.disk.DiskError.TheVariants.{Failed, Stopped}
-use Rattle.disk_model.specs.Disk.{HasCause}
-use Rattle.heap_recovery.specs.declared.recovery.OpenError.{OpenError}
-use Rattle.heap_recovery.specs.declared.recovery.OpenError.TheVariants as opening
-use Rattle.heap_shell.specs.Causes.{IsOutputError, IsPlayStatus}
-use Rattle.heap_recovery.specs.Causes.{error_device}
+use Rattle.heap_shell.specs.declared.status.Status.TheVariants.{Done, DiskFault}
+use Rattle.disk_model.specs.declared.disk.DiskError.TheVariants as device
+use Rattle.heap_shell.specs.Causes.{played_device}
+use Rattle.heap_core.specs.Causes.{IsFromOutside}
+use Rattle.heap_core.specs.declared.errors.OpenError.{OpenError}
+use Rattle.heap_core.specs.declared.errors.OpenError.TheVariants as opening
 use Rattle.heap_shell.specs.Headline.{IsEndOfPlay}
-use Rattle.heap_shell.specs.Output.{WroteText, status_after}
-use Rattle.heap_recovery.specs.Recovered.{IsFromOutside}
-use Rattle.heap_shell.specs.StatusOf.{open_status}
+use Rattle.heap_shell.specs.Output.{WroteText, early_end, status_after}
+use Rattle.heap_shell.specs.StatusOf.{open_status, write_status, halt_status}
 
 -- an output error ends a play
-pub output_end : (before now : ℕ) (s : Status) → IsOutputError before now s → IsEndOfPlay s
-output_end before now Done h = absurd h
-output_end before now NoMemory h = tt
-output_end before now Usage h = absurd h
-output_end before now (Script line) h = absurd h
-output_end before now ReadFault h = absurd h
-output_end before now WriteFault h = tt
-output_end before now DiskFault h = absurd h
-output_end before now NotHeap h = absurd h
-output_end before now (Damaged at) h = absurd h
-output_end before now (TooSmall size need) h = absurd h
+write_end : (e : WriteError) → IsEndOfPlay (write_status e)
+write_end writing.NoMemory = tt
+write_end writing.SinkFailed = tt
 
--- it isn't that all was done
-pub output_not_done : (before now : ℕ) (s : Status) → IsOutputError before now s → s ≡ Done → ⊥
-output_not_done before now s h is = subst (IsOutputError before now) is h
+write_not_done : (e : WriteError) → write_status e ≡ Done → ⊥
+write_not_done writing.NoMemory is = cc
+write_not_done writing.SinkFailed is = cc
 
--- nor that the disk failed
-pub output_no_fault : (before now : ℕ) (s : Status) → IsOutputError before now s → s ≡ DiskFault → ⊥
-output_no_fault before now s h is = subst (IsOutputError before now) is h
+write_no_fault : (e : WriteError) → write_status e ≡ DiskFault → ⊥
+write_no_fault writing.NoMemory is = cc
+write_no_fault writing.SinkFailed is = cc
 
 -- a play ends behind its output, whether it was written or not
-pub written_end : (before now : ℕ) (r : Result (Unit {0}) Status) → IfErr r (IsOutputError before now) → IsEndOfPlay (status_after r)
-written_end before now (Ok done) h = tt
-written_end before now (Err s) h = output_end before now s h
+pub written_end : (r : Result (Unit {0}) WriteError) → IsEndOfPlay (status_after r)
+written_end (Ok done) = tt
+written_end (Err e) = write_end e
 
-pub written_no_fault : (before now : ℕ) (r : Result (Unit {0}) Status) → IfErr r (IsOutputError before now) → status_after r ≡ DiskFault → ⊥
-written_no_fault before now (Ok done) h is = cc
-written_no_fault before now (Err s) h is = output_no_fault before now s h is
+pub written_no_fault : (r : Result (Unit {0}) WriteError) → status_after r ≡ DiskFault → ⊥
+written_no_fault (Ok done) is = cc
+written_no_fault (Err e) is = write_no_fault e is
 
 -- where all was done, all was written
-pub wrote_all : (faults faults' : ℕ) (r : Result (Unit {0}) Status) (before text after : List ℕ) → IfErr r (IsOutputError faults faults') → status_after r ≡ Done → WroteText r before text after → after ≡ before ++ text
-wrote_all faults faults' (Ok done) before text after h is wrote = wrote
-wrote_all faults faults' (Err s) before text after h is wrote = absurd (output_not_done faults faults' s h is)
+pub wrote_all : (r : Result (Unit {0}) WriteError) (before text after : List ℕ) → status_after r ≡ Done → WroteText r before text after → after ≡ before ++ text
+wrote_all (Ok done) before text after is wrote = wrote
+wrote_all (Err e) before text after is wrote = absurd (write_not_done e is)
+
+-- a play that halts ends so, and isn't done
+pub halt_end : (h : Halt) → IsEndOfPlay (halt_status h)
+halt_end halt.NoMemory = tt
+halt_end halt.WriteFault = tt
+halt_end halt.DiskFault = tt
+halt_end halt.Stopped = tt
+
+pub halt_not_done : (h : Halt) → halt_status h ≡ Done → ⊥
+halt_not_done halt.NoMemory is = cc
+halt_not_done halt.WriteFault is = cc
+halt_not_done halt.DiskFault is = cc
+halt_not_done halt.Stopped is = cc
+
+-- a run that is to stop goes on where all was played or the disk stopped
+pub early_none : (r : Result (Unit {0}) Halt) → early_end r ≡ None → (r ≡ Ok tt) ⊎ (r ≡ Err halt.Stopped)
+early_none (Ok done) is = inl refl
+early_none (Err halt.Stopped) is = inr refl
+early_none (Err halt.NoMemory) is = cc
+early_none (Err halt.WriteFault) is = cc
+early_none (Err halt.DiskFault) is = cc
+
+-- and ends where it halted otherwise
+pub early_some : (r : Result (Unit {0}) Halt) (s : Status) → early_end r ≡ Some s → (h : Halt) × (r ≡ Err h) × (h ≢ halt.Stopped) × (s ≡ halt_status h)
+early_some (Ok done) s is = cc
+early_some (Err halt.Stopped) s is = cc
+early_some (Err halt.NoMemory) s is = (halt.NoMemory, refl, (λ e. cc), cc)
+early_some (Err halt.WriteFault) s is = (halt.WriteFault, refl, (λ e. cc), cc)
+early_some (Err halt.DiskFault) s is = (halt.DiskFault, refl, (λ e. cc), cc)
+
+-- a halt by the disk that isn't a stop is its fault
+pub halt_device : (h : Halt) → h ≢ halt.Stopped → halt_status h ≡ DiskFault → played_device (Err h) ≡ Err device.Failed
+halt_device halt.NoMemory other is = cc
+halt_device halt.WriteFault other is = cc
+halt_device halt.DiskFault other is = refl
+halt_device halt.Stopped other is = absurd (other refl)
 
 -- an opening that the outside hinders ends a play
 pub open_end : (e : OpenError) → IsFromOutside e → IsEndOfPlay (open_status e)
 open_end opening.NoMemory outside = tt
 open_end opening.NotHeap outside = absurd outside
 open_end (opening.Damaged at) outside = absurd outside
-open_end (opening.Disk e) outside = tt
+open_end opening.DiskFault outside = tt
+open_end opening.Stopped outside = tt
 
 -- and isn't done
 pub open_not_done : (e : OpenError) → open_status e ≡ Done → ⊥
 open_not_done opening.NoMemory is = cc
 open_not_done opening.NotHeap is = cc
 open_not_done (opening.Damaged at) is = cc
-open_not_done (opening.Disk e) is = cc
+open_not_done opening.DiskFault is = cc
+open_not_done opening.Stopped is = cc
 
 -- a disk that has not stopped has not answered so
 pub no_stop : (s s' : ℕ) → s ≡ 0 → s' ≡ 0 → Rose s s' → ⊥
 no_stop s s' none still (inl up) = omega arith
 no_stop s s' none still (inr full) = omega arith
-
-failed_open : (Q : Type 0) (e : DiskError) (f f' s s' : ℕ) → (e ≡ Stopped → ⊥) → HasCause f f' s s' (error_device (opening.Disk e)) → IsPlayStatus (Rose f f') Q (open_status (opening.Disk e))
-failed_open Q Failed f f' s s' other cause = cause.failed refl
-failed_open Q Stopped f f' s s' other cause = absurd (other refl)
-
--- an opening that was not stopped ends a play by the disk's faults alone
-pub open_fault : (Q : Type 0) (e : OpenError) (f f' s s' : ℕ) → (e ≡ opening.Disk Stopped → ⊥) → HasCause f f' s s' (error_device e) → IsPlayStatus (Rose f f') Q (open_status e)
-open_fault Q opening.NoMemory f f' s s' other cause = tt
-open_fault Q opening.NotHeap f f' s s' other cause = tt
-open_fault Q (opening.Damaged at) f f' s s' other cause = tt
-open_fault Q (opening.Disk e) f f' s s' other cause = failed_open Q e f f' s s' (λ is. other (ap opening.Disk is)) cause

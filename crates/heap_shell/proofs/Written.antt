@@ -2,7 +2,7 @@
 use Rattle.std.proofs.Common.{◌≡◌, ℕ, ◌<◌, List, [], ◌++◌, length, take, drop, Result, Ok, Err, refl, sym, ap, ◌∙◌, append_assoc}
 use Rattle.std.specs.Result.{IsErr}
 use Rattle.std.proofs.lemmas.List.{append-nil, take-append-drop}
-use Rattle.heap_shell.specs.declared.status.Status.{Status}
+use Rattle.heap_shell.specs.declared.output.WriteError.{WriteError}
 use Rattle.heap_shell.specs.Output.{WroteText}
 use Rattle.heap_shell.specs.Play.{WroteFront}
 
@@ -32,27 +32,27 @@ pub whole_front : (before text after : List ℕ) → after ≡ before ++ text �
 whole_front before text after whole = (text, [], sym (append-nil text), whole)
 
 -- all of a text was written, or a first part of it
-pub wrote_some : (r : Result (Unit {0}) Status) (before text after : List ℕ) → WroteText r before text after → WroteFront before text after
+pub wrote_some : (r : Result (Unit {0}) WriteError) (before text after : List ℕ) → WroteText r before text after → WroteFront before text after
 wrote_some (Ok done) before text after wrote = whole_front before text after wrote
-wrote_some (Err s) before text after wrote = wrote
+wrote_some (Err e) before text after wrote = wrote
 
 -- an error came before the first byte
-pub wrote_nothing : (r : Result (Unit {0}) Status) (before text : List ℕ) → IsErr r → WroteText r before text before
+pub wrote_nothing : (r : Result (Unit {0}) WriteError) (before text : List ℕ) → IsErr r → WroteText r before text before
 wrote_nothing (Ok done) before text failed = cc
-wrote_nothing (Err status) before text failed = none_written before text
+wrote_nothing (Err e) before text failed = none_written before text
 
 -- it came when the sink had taken a first part
-pub wrote_front : (r : Result (Unit {0}) Status) (before bytes text after : List ℕ) → IsErr r → bytes ≡ text
+pub wrote_front : (r : Result (Unit {0}) WriteError) (before bytes text after : List ℕ) → IsErr r → bytes ≡ text
     → (k : ℕ) × (k < length bytes) × (after ≡ before ++ take k bytes) → WroteText r before text after
 wrote_front (Ok done) before bytes text after failed is front = cc
-wrote_front (Err status) before bytes text after failed is front = front_written before text bytes after is front
+wrote_front (Err e) before bytes text after failed is front = front_written before text bytes after is front
 
 -- more was to follow
-pub wrote_less : (r : Result (Unit {0}) Status) (before text more after : List ℕ) → IsErr r → WroteText r before text after → WroteText r before (text ++ more) after
+pub wrote_less : (r : Result (Unit {0}) WriteError) (before text more after : List ℕ) → IsErr r → WroteText r before text after → WroteText r before (text ++ more) after
 wrote_less (Ok done) before text more after failed wrote = cc
-wrote_less (Err status) before text more after failed wrote = front_more before text more after wrote
+wrote_less (Err e) before text more after failed wrote = front_more before text more after wrote
 
 -- more followed
-pub wrote_then : (r : Result (Unit {0}) Status) (before text between more after : List ℕ) → between ≡ before ++ text → WroteText r between more after → WroteText r before (text ++ more) after
+pub wrote_then : (r : Result (Unit {0}) WriteError) (before text between more after : List ℕ) → between ≡ before ++ text → WroteText r between more after → WroteText r before (text ++ more) after
 wrote_then (Ok done) before text between more after first wrote = wrote ∙ ap (λ (l : List ℕ). l ++ more) first ∙ append_assoc before text more
-wrote_then (Err status) before text between more after first wrote = then_front before text more between after first wrote
+wrote_then (Err e) before text between more after first wrote = then_front before text more between after first wrote

@@ -1,46 +1,65 @@
 -- Laws of the events of a play: what is asked of a valid core, and what was made of it.
-use Rattle.std.proofs.Common.{◌≡◌, inl, inr, ℕ, List, [], ◌∷◌, ◌++◌, Option, Ok, sym, subst, arith}
+use Rattle.std.proofs.Common.{◌≡◌, inl, inr, ℕ, ◌≤◌, List, [], ◌∷◌, ◌++◌, Option, Some, None, Ok, refl, sym, ◌∙◌, subst, arith}
 use Rattle.disk_model.specs.declared.disk.Disk.{Ghosts}
 use Rattle.graph_model.specs.declared.event.Event.{Event}
+use Rattle.graph_model.specs.Graph.{new_graph}
 use Rattle.graph_model.specs.SlowHeap.{IsSingleSession}
 use Rattle.script_text.specs.declared.line.Line.{Line}
 use Rattle.script_text.specs.Line.{events}
 use Rattle.script_text.specs.Script.{script}
 use Rattle.script_text.specs.ScriptLaws.{script_single, script_few}
+use Rattle.image_plan.specs.Super.{IsSuper}
 use Rattle.heap_core.specs.declared.heap.Heap.{Heap}
 use Rattle.heap_model.specs.Core.{Core, IsStep, IsRun}
 use Rattle.heap_model.specs.CoreRuns.{after_events}
 use Rattle.heap_model.specs.CoreValid.{IsValid, IsReached}
-use Rattle.heap_model.specs.CoreLawsCalls.{whole_run, run_step, valid_events}
+use Rattle.heap_model.specs.CoreLawsCalls.{whole_run, run_step, valid_events, reached_events}
+use Rattle.heap_model.specs.CoreLawsNew.{new_legal, new_shows}
+use Rattle.heap_model.specs.CoreLawsOpened.{opened_reached}
+use Rattle.heap_model.specs.CoreLawsReplies.{step_reached}
 use Rattle.heap_model.specs.CoreLawsEnding.{single_front, all_single, all_few}
-use Rattle.heap_model.specs.CoreLawsRecords.{AllByRecursion-behind}
-use Rattle.heap_model.specs.CoreLawsRun.{valid_step}
-use Rattle.heap_model.specs.CoreLawsStep.{valid_fresh}
+use Rattle.heap_model.specs.ListLaws.{AllByRecursion-behind}
+use Rattle.heap_model.specs.CoreLawsRun.{sound_valid}
 use Rattle.heap_model.specs.Ending.{all_events}
-use Rattle.heap_shell.specs.Headline.{made_core}
-use Rattle.heap_shell.specs.Play.{AreReady, Makes}
-use Rattle.heap_shell.specs.Playable.{IsPlayable}
+use Rattle.heap_shell.specs.Headline.{made_super, made_core}
+use Rattle.heap_shell.specs.Play.{IsRunning, AreReady, Makes}
+use Rattle.heap_shell.specs.Playable.{IsScript, IsPlayable}
 
--- a new heap is valid
-pub made_valid : IsValid made_core
-made_valid = valid_fresh 1048576 1 (omega arith) (omega arith) (omega arith)
+-- the numbers of a new heap with so many pages are good
+pub made_limits : (pages : ℕ) → 1 ≤ pages → pages ≤ 16384 → IsSuper (made_super pages)
+made_limits pages some few = record { some_pages = some; few_pages = few; some_log = omega arith; small_log = omega arith; some_first = omega arith; small_first = omega arith }
 
--- behind the first events the core may be asked the others
-pub ready_behind : (c : Core) (before behind : List Event) → AreReady c (before ++ behind) → AreReady (after_events c before) behind
-ready_behind c before behind ready = (
-  valid_events c before ready.0 (single_front before behind ready.1),
-  AllByRecursion-behind IsSingleSession before behind ready.1,
-)
+-- a new heap is reached
+pub made_reached : (pages : ℕ) → IsSuper (made_super pages) → IsReached (made_core pages)
+made_reached pages limits = opened_reached (made_super pages) [] (new_legal (made_super pages) limits) new_graph (new_shows (made_super pages) limits)
 
 -- a core may be asked the first of the events that it may be asked
 pub ready_front : (c : Core) (before behind : List Event) → AreReady c (before ++ behind) → AreReady c before
-ready_front c before behind ready = (ready.0, single_front before behind ready.1)
+ready_front c before behind ready = record { running = ready.running; single = single_front before behind ready.single }
+
+-- a running core is valid
+pub running_valid : (c : Core) → IsRunning c → IsValid c
+running_valid c running = sound_valid c running.reached.sound running.unfailed
+
+-- it runs on behind events that the disk did
+pub running_after : (c : Core) (events : List Event) → AreReady c events → IsRunning (after_events c events)
+running_after c events ready = record {
+  reached = reached_events c events ready.running.reached ready.single;
+  unfailed = (valid_events c events (running_valid c ready.running) ready.single).unfailed;
+}
+
+-- behind the first events the core may be asked the others
+pub ready_behind : (c : Core) (before behind : List Event) → AreReady c (before ++ behind) → AreReady (after_events c before) behind
+ready_behind c before behind ready = record {
+  running = running_after c before (ready_front c before behind ready);
+  single = AllByRecursion-behind IsSingleSession before behind ready.single;
+}
 
 -- The events that were made are a run, and what they left is reached.
 pub makes_run : {D : Type 0} {g : Ghosts D} (c : Core) (made behind : List Event) (d : Core) (old new : Heap D g) → AreReady c (made ++ behind) → Makes c made d old new → IsRun c made d × IsReached d
 makes_run c made behind d old new ready (inl all) = (
   subst (λ (x : Core). IsRun c made x) (sym all.reached) (whole_run c made),
-  subst IsReached (sym all.reached) (inl (ready_behind c made behind ready).0),
+  subst IsReached (sym all.reached) (ready_behind c made behind ready).running.reached,
 )
 makes_run c made behind d old new ready (inr short) =
     let cut = short.1 in
@@ -48,11 +67,23 @@ makes_run c made behind d old new ready (inr short) =
     let step : IsStep mid cut.event short.0 d = inr (cut.cut, cut.reached) in
     let run = run_step c mid d cut.before cut.event short.0 (whole_run c cut.before) step in
     let last = ready_behind c cut.before (cut.event ∷ []) (subst (AreReady c) cut.parts (ready_front c made behind ready)) in
-    (subst (λ (l : List Event). IsRun c l d) (sym cut.parts) run, valid_step mid d cut.event short.0 (inl last.0) last.1.0 step)
+    (subst (λ (l : List Event). IsRun c l d) (sym cut.parts) run, step_reached mid d cut.event short.0 last.running.reached last.single.0 step)
 
--- The events of a script may be played on a new heap, with those that end a run.
-pub script_playable : (bytes : List ℕ) (lines : List Line) (stop : Option ℕ) → script bytes ≡ Ok lines → IsPlayable (all_events stop made_core (events lines))
-script_playable bytes lines stop is = record {
-  single = all_single stop made_core (events lines) (script_single bytes lines is);
-  few = omega (arith, script_few bytes lines is, all_few stop made_core (events lines));
+-- a new heap runs
+pub made_running : (pages : ℕ) → IsSuper (made_super pages) → IsRunning (made_core pages)
+made_running pages limits = record { reached = made_reached pages limits; unfailed = refl }
+
+-- A script that was read is one.
+pub script_is : (bytes : List ℕ) (lines : List Line) → script bytes ≡ Ok lines → IsScript lines
+script_is bytes lines is = record { single = script_single bytes lines is; few = script_few bytes lines is }
+
+-- Its events may be played, with those that end a run.
+pub all_playable : (stop : Option ℕ) (c : Core) (lines : List Line) → IsReached c → IsScript lines → IsPlayable (all_events stop c (events lines))
+all_playable stop c lines reached is = record {
+  single = all_single stop c (events lines) reached is.single;
+  few = omega (arith, is.few, all_few stop c (events lines) reached is.single);
 }
+
+-- a heap that runs may be asked them
+pub script_ready : (c : Core) (lines : List Line) → IsRunning c → IsScript lines → AreReady c (events lines)
+script_ready c lines running is = record { running = running; single = is.single }

@@ -12,7 +12,7 @@ use Rattle.graph_model.specs.declared.reply.Entry.{Entry}
 use Rattle.graph_model.specs.declared.reply.Refusal.TheVariants.{Stopped}
 use Rattle.graph_model.specs.declared.reply.Reply.{Reply}
 use Rattle.graph_model.specs.declared.reply.Reply.TheVariants.{Refused}
-use Rattle.graph_model.specs.Graph.{Graph}
+use Rattle.graph_model.specs.Graph.{Graph, new_graph}
 use Rattle.graph_model.specs.Transaction.{serial, serial_replies}
 use Rattle.graph_model.specs.History.{sealed, commits, acknowledged}
 use Rattle.graph_model.specs.Canon.{canon}
@@ -20,20 +20,20 @@ use Rattle.graph_model.specs.Text.{canon_text}
 use Rattle.image_plan.specs.declared.superblock.Super.{Super}
 use Rattle.image_plan.specs.Plan.{image_size}
 use Rattle.heap_core.specs.Format.{IsFormatting, format_calls}
-use Rattle.heap_model.specs.Core.{Core, fresh, with_entry, IsCutShort}
+use Rattle.heap_model.specs.Core.{Core, with_entry}
 use Rattle.heap_model.specs.CoreCrash.{StandsForFirst, KeepsCommits}
 use Rattle.heap_model.specs.CoreReplies.{call_replies_of}
 use Rattle.heap_model.specs.CoreRuns.{after_events, total_calls, StopsAt}
 use Rattle.heap_model.specs.Ending.{all_events}
 use Rattle.heap_model.specs.Image.{IsLegal}
-use Rattle.heap_model.specs.Opening.{opening_calls}
+use Rattle.heap_model.specs.Opening.{opened, opening_calls}
 use Rattle.script_text.specs.declared.line.Line.{Line}
 use Rattle.script_text.specs.Line.{events}
 use Rattle.heap_shell.specs.Causes.{DiskRose}
 use Rattle.heap_shell.specs.declared.command.Play.{Play}
 use Rattle.heap_shell.specs.declared.status.Status.{Status}
 use Rattle.heap_shell.specs.declared.status.Status.TheVariants as status
-use Rattle.heap_shell.specs.Play.{lines_text, WroteFront, WroteLines}
+use Rattle.heap_shell.specs.Play.{lines_text, WroteFront, WroteLines, IsWhole, IsCutBy}
 use Rattle.heap_shell.specs.Steps.{Step, AreSteps}
 
 -- A claim of a disk that tells its bytes and keeps the disk model, and on which nothing waits.
@@ -45,8 +45,8 @@ abbrev pub made_super : ℕ → Super
 made_super pages = record { pages = pages; log_bytes = 1048576; first = 1 }
 
 -- that heap, when it has been opened
-abbrev pub made_core : Core
-made_core = fresh 1048576 1
+abbrev pub made_core : ℕ → Core
+made_core pages = opened (made_super pages) [] new_graph
 
 -- what is printed of a graph
 abbrev pub graph_text : Graph → List ℕ
@@ -73,18 +73,6 @@ pub record Writes (result : Status) (history : List Entry) (text before after : 
 abbrev pub let_through : Option ℕ → ℕ → ℕ
 let_through None calls = calls
 let_through (Some n) calls = min n calls
-
--- The disk did what it was asked in all of these events.
-abbrev pub IsWhole : Core → List Event → Core → Type 0
-IsWhole c made d = d ≡ after_events c made
-
--- The disk stopped or failed in the last of these events, as the reply says.
-pub record IsCutBy (reply : Reply) (c : Core) (made : List Event) (d : Core) : Type 0 where
-  pub before : List Event
-  pub event : Event
-  pub parts : made ≡ before ++ event ∷ []
-  pub cut : IsCutShort (after_events c before) event reply
-  pub reached : d ≡ with_entry (after_events c before) event reply
 
 -- A run that is done has made all events, or the disk was to stop and did.
 abbrev pub HasMade : Option ℕ → Core → List Event → List Event → Core → Type 0
@@ -141,7 +129,7 @@ module _ {D : Type 0} (g : Ghosts D) where
   pub record Reopens (c : Core) (k : ℕ) (old new : D) : Type 0 where
     pub first : StandsForFirst c k (g.bytes old)
     pub still : (image : List ℕ) → g.may_leave new image → StandsForFirst c k image
-    pub passed : g.passed new ≡ counted (opening_calls first.stands.batches) (g.passed old)
+    pub passed : g.passed new ≡ counted (opening_calls first.stands.super first.stands.batches) (g.passed old)
 
   -- The disk was started again, as one of the images that a crash could leave where it was stopped, and the heap was opened on it.
   pub record StartsAgain (c : Core) (k : ℕ) (stopped new : D) : Type 0 where
@@ -209,7 +197,7 @@ module _ {D : Type 0} (g : Ghosts D) where
     pub script : is_script lines
     pub made : D
     pub format : IsFormatted (made_super play.pages) old made
-    pub played : IsPlayed play.stop made_core (all_events play.stop made_core (events lines)) made new result told before after
+    pub played : IsPlayed play.stop (made_core play.pages) (all_events play.stop (made_core play.pages) (events lines)) made new result told before after
 
   -- Either no heap was made, or a script was played on a new one.
   abbrev pub Runs : Play → (List Line → Type 0) → D → D → Status → Bool → List ℕ → List ℕ → Type 0

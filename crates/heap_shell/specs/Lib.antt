@@ -1,6 +1,7 @@
 pub mod Causes
 pub mod Command
 pub mod CoreLawsPlay
+pub mod CrashSafe
 pub mod Headline
 pub mod Output
 pub mod Play
@@ -8,3 +9,4 @@ pub mod Playable
 pub mod Status
 pub mod StatusOf
 pub mod Steps
+pub mod StepsLaws

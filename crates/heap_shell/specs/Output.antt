@@ -1,15 +1,17 @@
 -- What is written of a text, and of a heap that is opened again.
-use Rattle.std.specs.Prelude.{◌≡◌, ◌≢◌, ◌⊎◌, ℕ, List, ◌++◌, take, Bool, IsTrue, Result, Ok, Err}
+use Rattle.std.specs.Prelude.{◌≡◌, ◌≢◌, ◌⊎◌, ℕ, List, ◌++◌, take, Bool, IsTrue, Option, None, Some, Result, Ok, Err}
 use Rattle.graph_model.specs.History.{commits}
 use Rattle.graph_model.specs.Transaction.{serial}
 use Rattle.heap_shell.specs.declared.output.WriteError.{WriteError}
+use Rattle.heap_shell.specs.declared.play.Halt.{Halt}
+use Rattle.heap_shell.specs.declared.play.Halt.TheVariants as halt
 use Rattle.heap_shell.specs.declared.status.Status.{Status}
 use Rattle.heap_shell.specs.declared.status.Status.TheVariants.{Done}
 use Rattle.heap_model.specs.Core.{Core}
 use Rattle.heap_model.specs.CoreCrash.{KeepsCommits}
 use Rattle.heap_shell.specs.Headline.{IsEndOfPlay, recovered_line, graph_text}
 use Rattle.heap_shell.specs.Play.{WroteFront}
-use Rattle.heap_shell.specs.StatusOf.{write_status}
+use Rattle.heap_shell.specs.StatusOf.{write_status, halt_status}
 
 -- All of a text was written, or a first part of it where that ended in an error.
 abbrev pub WroteText : Result (Unit {0}) WriteError → List ℕ → List ℕ → List ℕ → Type 0
@@ -20,6 +22,12 @@ WroteText (Err e) before text after = WroteFront before text after
 abbrev pub status_after : Result (Unit {0}) WriteError → Status
 status_after (Ok done) = Done
 status_after (Err e) = write_status e
+
+-- the status of a run that is to stop where it ends before the disk is started again
+abbrev pub early_end : Result (Unit {0}) Halt → Option Status
+early_end (Ok done) = None
+early_end (Err halt.Stopped) = None
+early_end (Err other) = Some (halt_status other)
 
 -- The heap was opened again as a core's first commits, and their number and their graph were written, or a first part of that.
 pub record WroteRecovered (c : Core) (opens : ℕ → Type 0) (result : Status) (told : Bool) (before after : List ℕ) : Type 0 where

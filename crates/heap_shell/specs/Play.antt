@@ -1,5 +1,5 @@
 -- What a play makes of the events of a script.
-use Rattle.std.specs.Prelude.{◌≡◌, ◌⊎◌, ℕ, ◌+◌, ◌<◌, ◌≤◌, List, [], ◌∷◌, ◌++◌, length, Bool, IsTrue, Result, Ok, Err}
+use Rattle.std.specs.Prelude.{◌≡◌, ◌⊎◌, ℕ, ◌+◌, ◌<◌, ◌≤◌, List, [], ◌∷◌, ◌++◌, length, Bool, IsTrue, None, Result, Ok, Err}
 use Rattle.std.specs.List.{AllByRecursion, flat_map}
 use Rattle.counts.specs.Count.{counted}
 use Rattle.disk_model.specs.declared.disk.Disk.{Ghosts}
@@ -9,6 +9,7 @@ use Rattle.graph_model.specs.declared.reply.Entry.{Entry}
 use Rattle.graph_model.specs.declared.reply.Refusal.TheVariants.{DiskFault, Stopped}
 use Rattle.graph_model.specs.declared.reply.Reply.{Reply}
 use Rattle.graph_model.specs.declared.reply.Reply.TheVariants.{Refused}
+use Rattle.graph_model.specs.History.{account}
 use Rattle.graph_model.specs.SlowHeap.{IsSingleSession}
 use Rattle.graph_model.specs.Text.{line}
 use Rattle.image_plan.specs.declared.superblock.Super.{Super}
@@ -16,19 +17,25 @@ use Rattle.heap_core.specs.declared.heap.Heap.{Heap}
 use Rattle.heap_shell.specs.declared.play.Halt.{Halt}
 use Rattle.heap_shell.specs.declared.play.Halt.TheVariants as halt
 use Rattle.heap_core.specs.Causes.{reply_device}
-use Rattle.heap_model.specs.Core.{Core, with_entry, IsCutShort, calls}
+use Rattle.heap_model.specs.Core.{Core, with_entry, IsCutShort, IsRun, calls}
 use Rattle.heap_model.specs.CoreRuns.{after_events, total_calls}
-use Rattle.heap_model.specs.CoreValid.{IsValid}
-use Rattle.heap_core.specs.Means.{IsHeap}
+use Rattle.heap_model.specs.CoreValid.{IsReached}
+use Rattle.heap_core.specs.Means.{IsCore, IsHeap}
 use Rattle.heap_shell.specs.Steps.{HeapStep, AreSteps}
 
 -- the lines of a history
 abbrev pub lines_text : List Entry → List ℕ
 lines_text history = flat_map line history
 
--- Events that a valid core may be asked one after another: they are session 1's.
-abbrev pub AreReady : Core → List Event → Type 0
-AreReady c events = IsValid c × AllByRecursion IsSingleSession events
+-- A core that steps have reached and whose disk has done what it was asked.
+pub record IsRunning (c : Core) : Type 0 where
+  pub reached : IsReached c
+  pub unfailed : (account c.history).failed ≡ None
+
+-- Events that a core may be asked one after another: they are session 1's.
+pub record AreReady (c : Core) (events : List Event) : Type 0 where
+  pub running : IsRunning c
+  pub single : AllByRecursion IsSingleSession events
 
 -- A first part of a text was written.
 abbrev pub WroteFront : List ℕ → List ℕ → List ℕ → Type 0
@@ -50,7 +57,38 @@ ended_by (Refused DiskFault) = Err halt.DiskFault
 ended_by (Refused Stopped) = Err halt.Stopped
 ended_by reply = Ok tt
 
+-- The disk did what it was asked in all of these events.
+abbrev pub IsWhole : Core → List Event → Core → Type 0
+IsWhole c made d = d ≡ after_events c made
+
+-- The disk stopped or failed in the last of these events, as the reply says.
+pub record IsCutBy (reply : Reply) (c : Core) (made : List Event) (d : Core) : Type 0 where
+  pub before : List Event
+  pub event : Event
+  pub parts : made ≡ before ++ event ∷ []
+  pub cut : IsCutShort (after_events c before) event reply
+  pub reached : d ≡ with_entry (after_events c before) event reply
+
+-- Of the events that a play was asked it made these, and how it ended says how the last one came out.
+abbrev pub EndsAs : Core → List Event → List Event → Core → Result (Unit {0}) Halt → Type 0
+EndsAs c made behind d (Ok done) = (behind ≡ []) × IsWhole c made d
+EndsAs c made behind d (Err halt.Stopped) = IsCutBy (Refused Stopped) c made d
+EndsAs c made behind d (Err halt.DiskFault) = IsCutBy (Refused DiskFault) c made d
+EndsAs c made behind d (Err other) = IsWhole c made d ⊎ ((reply : Reply) × IsCutBy reply c made d)
+
 module _ {D : Type 0} {g : Ghosts D} where
+  -- On every disk: events were played from a core on, as a run of it, and their lines written to a sink, which may tell what was
+  -- written before and after.
+  pub record PlaysCore (c : Core) (events : List Event) (new : Heap D g) (told : Bool) (before after : List ℕ) (result : Result (Unit {0}) Halt) : Type 0 where
+    pub made : List Event
+    pub behind : List Event
+    pub parts : events ≡ made ++ behind
+    pub core : Core
+    pub run : IsRun c made core
+    pub ends : EndsAs c made behind core result
+    pub is : IsCore core new
+    pub written : IsTrue told → (w : List ℕ) → before ≡ w ++ lines_text c.history → Wrote result w core.history after
+
   -- All of these events were made, and the disk did what it was asked.
   pub record MakesAll (c : Core) (made : List Event) (d : Core) (old new : Heap D g) : Type 0 where
     pub reached : d ≡ after_events c made
@@ -77,7 +115,7 @@ module _ {D : Type 0} {g : Ghosts D} where
   Ends c made behind d old new (Err halt.DiskFault) = MakesShort c made d old new (Refused DiskFault)
   Ends c made behind d old new (Err other) = Makes c made d old new
 
-  -- Events were played from a core on, and their lines written to a sink, which may tell what was written before and after.
+  -- On a disk that tells: likewise, and each step says what it left on the disk.
   pub record Plays (s : Super) (c : Core) (events : List Event) (old new : Heap D g) (told : Bool) (before after : List ℕ) (result : Result (Unit {0}) Halt) : Type 0 where
     pub made : List Event
     pub behind : List Event

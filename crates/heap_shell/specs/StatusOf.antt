@@ -1,10 +1,10 @@
 -- The status that an error ends a run with.
 use Rattle.heap_io.specs.declared.reading.TakeAllError.{TakeAllError}
 use Rattle.heap_io.specs.declared.reading.TakeAllError.TheVariants as taking
-use Rattle.heap_core.specs.declared.formatting.FormatError.{FormatError}
-use Rattle.heap_core.specs.declared.formatting.FormatError.TheVariants as format
-use Rattle.heap_recovery.specs.declared.recovery.OpenError.{OpenError}
-use Rattle.heap_recovery.specs.declared.recovery.OpenError.TheVariants as opening
+use Rattle.heap_core.specs.declared.errors.FormatError.{FormatError}
+use Rattle.heap_core.specs.declared.errors.FormatError.TheVariants as format
+use Rattle.heap_core.specs.declared.errors.OpenError.{OpenError}
+use Rattle.heap_core.specs.declared.errors.OpenError.TheVariants as opening
 use Rattle.script_text.specs.declared.script.ScriptError.{ScriptError}
 use Rattle.script_text.specs.declared.script.ScriptError.TheVariants as reading
 use Rattle.heap_shell.specs.declared.output.WriteError.{WriteError}
@@ -25,13 +25,15 @@ input_status taking.TooLong = Script 0
 
 abbrev pub format_status : FormatError → Status
 format_status (format.TooSmall size need) = TooSmall size need
-format_status (format.Disk e) = DiskFault
+format_status format.DiskFault = DiskFault
+format_status format.Stopped = DiskFault
 
 abbrev pub open_status : OpenError → Status
 open_status opening.NoMemory = NoMemory
 open_status opening.NotHeap = NotHeap
 open_status (opening.Damaged at) = Damaged at
-open_status (opening.Disk e) = DiskFault
+open_status opening.DiskFault = DiskFault
+open_status opening.Stopped = DiskFault
 
 abbrev pub write_status : WriteError → Status
 write_status writing.NoMemory = NoMemory

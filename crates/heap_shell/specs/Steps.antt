@@ -1,5 +1,5 @@
 -- A run of steps on a disk, each with the core and the disk before and after it.
-use Rattle.std.specs.Prelude.{◌≡◌, ℕ, ◌≤◌, List, [], ◌∷◌}
+use Rattle.std.specs.Prelude.{◌≡◌, ℕ, List, [], ◌∷◌}
 use Rattle.disk_model.specs.declared.disk.Disk.{Ghosts}
 use Rattle.disk_model.specs.Keeps.{KeepsDisk}
 use Rattle.disk_model.specs.Moments.{LeavesOnly}
@@ -8,7 +8,7 @@ use Rattle.graph_model.specs.declared.event.Event.{Event}
 use Rattle.graph_model.specs.declared.reply.Reply.{Reply}
 use Rattle.heap_core.specs.Causes.{reply_device}
 use Rattle.heap_model.specs.Core.{Core, IsStep, calls}
-use Rattle.heap_model.specs.CoreCrash.{KeepsCommits, HasCommits}
+use Rattle.heap_model.specs.CoreCrash.{KeepsCommits}
 
 -- An event was answered, which led from one core and disk to others.
 pub record Step {D : Type 0} (g : Ghosts D) (unharmed : Type 0) (c : Core) (before : D) (event : Event) (d : Core) (after : D) : Type 0 where
@@ -30,8 +30,3 @@ pub record HeapStep {D : Type 0} (g : Ghosts D) (c : Core) (before : D) (event :
 abbrev pub AreSteps : {D : Type 0} (step : Core → D → Event → Core → D → Type 0) → Core → D → List Event → Core → D → Type 0
 AreSteps step c old [] d new = (d ≡ c) × (new ≡ old)
 AreSteps {D} step c old (event ∷ events) d new = (mid : Core) × (between : D) × step c old event mid between × AreSteps step mid between events d new
-
--- An image stands for the first k commits of a core, of which there are at least so many.
-pub record HasAtLeast (least : ℕ) (c : Core) (image : List ℕ) : Type 0 where
-  pub commits : HasCommits c image
-  pub enough : least ≤ commits.count

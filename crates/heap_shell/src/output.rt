@@ -1,20 +1,21 @@
 //! What is printed: lines, how many commits came back, and the graph.
-ghost use Rattle.std.specs.Prelude.{◌≡◌, ◌-◌, ◌++◌, Err, IsTrue};
-ghost use Rattle.graph_model.specs.Graph.{Graph};
+ghost use Rattle.std.specs.Prelude.{◌≡◌, ◌+◌, ◌-◌, ◌++◌, length, min, None, Err, IsTrue};
+ghost use Rattle.counts.specs.Count.{greatest};
+ghost use Rattle.graph_model.specs.History.{sealed};
 ghost use Rattle.graph_model.specs.Text.{line};
-ghost use Rattle.heap_core.specs.CoreGraph.{HasGraph};
-ghost use Rattle.heap_core.specs.HeapState.{commits_of};
-ghost use Rattle.heap_core.specs.Means.{IsHeap};
+ghost use Rattle.graph_model.specs.Transaction.{serial};
+ghost use Rattle.heap_core.specs.HeapState.{failed_at};
+ghost use Rattle.heap_core.specs.Means.{IsCore};
 ghost use Rattle.heap_model.specs.Core.{Core};
+ghost use Rattle.heap_model.specs.CoreValid.{IsReached};
 ghost use Rattle.heap_shell.specs.declared.output.WriteError.TheVariants.{NoMemory, SinkFailed};
 ghost use Rattle.heap_shell.specs.Causes.{StreamCause};
 ghost use Rattle.heap_shell.specs.Headline.{graph_text, recovered_line};
 ghost use Rattle.heap_shell.specs.Output.{WroteText};
-ghost use Rattle.image_plan.specs.declared.superblock.Super.{Super};
 
 use disk_model::Disk;
 use graph_model::Entry;
-use heap_core::Heap;
+use heap_core::{GraphError, Heap};
 use heap_io::{Sink, put_all};
 use script_text::reply_line;
 use std::alloc::{AllocError, Global};
@@ -32,6 +33,15 @@ impl From<AllocError> for WriteError {
     ghost from_gives = { λ _ e. e ≡ NoMemory };
 
     fn from(_: AllocError) -> Self {
+        WriteError::NoMemory
+    }
+}
+
+/// The graph of an open heap fails only for want of memory.
+impl From<GraphError> for WriteError {
+    ghost from_gives = { λ _ e. e ≡ NoMemory };
+
+    fn from(_: GraphError) -> Self {
         WriteError::NoMemory
     }
 }
@@ -59,11 +69,12 @@ pub fn write_graph<D: Disk, K: Sink>(
     heap: &Heap<D>,
     sink: &mut K,
 ) -> Result<(), WriteError>
+    requires unfailed { failed_at heap.now ≡ None }
     ensures sink { StreamCause (K.faults sink.old) (K.faults sink.new) (result ≡ Err SinkFailed) }
-    ensures wrote { IsTrue K.tells → (s : Super) (c : Core) (g : Graph) → IsHeap s c heap.now → HasGraph c g → WroteText result (K.written sink.old) (graph_text g) (K.written sink.new) }
+    ensures wrote { IsTrue K.tells → (c : Core) → IsCore c heap.now → IsReached c → WroteText result (K.written sink.old) (graph_text (serial c.g0 (sealed c.history))) (K.written sink.new) }
 {
     let text = heap.graph(alloc)?;
-    Ok(put_all(sink, text.as_bytes())?)
+    Ok(put_all(sink, &text)?)
 }
 
 /// Writes how many commits the heap's log holds more than `before`, and the graph.
@@ -73,8 +84,9 @@ pub fn write_recovered<D: Disk, K: Sink>(
     before: u64,
     sink: &mut K,
 ) -> Result<(), WriteError>
+    requires unfailed { failed_at heap.now ≡ None }
     ensures sink { StreamCause (K.faults sink.old) (K.faults sink.new) (result ≡ Err SinkFailed) }
-    ensures wrote { IsTrue K.tells → (s : Super) (c : Core) (g : Graph) → IsHeap s c heap.now → HasGraph c g → WroteText result (K.written sink.old) (recovered_line (commits_of heap.now - before) ++ graph_text g) (K.written sink.new) }
+    ensures wrote { IsTrue K.tells → (c : Core) → IsCore c heap.now → IsReached c → WroteText result (K.written sink.old) (recovered_line (min (c.before + length (sealed c.history)) greatest - before) ++ graph_text (serial c.g0 (sealed c.history))) (K.written sink.new) }
 {
     let commits = heap.commits().saturating_sub(before);
     let line = format!(in alloc; "recovered {commits}\n")?;

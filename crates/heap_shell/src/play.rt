@@ -6,11 +6,10 @@ ghost use Rattle.image_plan.specs.declared.superblock.Super.{Super};
 ghost use Rattle.heap_shell.specs.Causes.{StreamCause, played_device};
 ghost use Rattle.heap_shell.specs.declared.play.Halt.TheVariants as halt;
 ghost use Rattle.heap_model.specs.Core.{Core};
-ghost use Rattle.heap_model.specs.CoreValid.{IsValid};
 ghost use Rattle.heap_model.specs.Ending.{aborting, forcing, ending, all_events};
 ghost use Rattle.heap_core.specs.HeapState.{heap_disk};
-ghost use Rattle.heap_core.specs.Means.{IsHeap};
-ghost use Rattle.heap_shell.specs.Play.{AreReady, Plays, ended_by};
+ghost use Rattle.heap_core.specs.Means.{IsCore, IsHeap};
+ghost use Rattle.heap_shell.specs.Play.{IsRunning, AreReady, PlaysCore, Plays, ended_by};
 ghost use Rattle.heap_shell.specs.StatusOf.{write_halt};
 ghost use Rattle.script_text.specs.Line.{line_events, events};
 
@@ -78,6 +77,7 @@ pub fn play_lines<D: Disk, K: Sink>(
 ) -> Result<(), Halt>
     ensures disk { KeepsDisk D.Disk (heap_disk heap.old) (heap_disk heap.new) (played_device result) }
     ensures sink { StreamCause (K.faults sink.old) (K.faults sink.new) (result ≡ Err Halt.WriteFault) }
+    ensures core { (c : Core) → IsCore c heap.old → AreReady c (events lines.now) → PlaysCore c (events lines.now) heap.new K.tells (K.written sink.old) (K.written sink.new) result }
     ensures plays { IsTrue D.tells → (of : Super) (c : Core) → IsHeap of c heap.old → AreReady c (events lines.now) → Plays of c (events lines.now) heap.old heap.new K.tells (K.written sink.old) (K.written sink.new) result }
 {
     for line in lines {
@@ -95,6 +95,7 @@ pub fn play_all<D: Disk, K: Sink>(
 ) -> Result<(), Halt>
     ensures disk { KeepsDisk D.Disk (heap_disk heap.old) (heap_disk heap.new) (played_device result) }
     ensures sink { StreamCause (K.faults sink.old) (K.faults sink.new) (result ≡ Err Halt.WriteFault) }
+    ensures core { (c : Core) → IsCore c heap.old → AreReady c (events lines.now) → PlaysCore c (all_events None c (events lines.now)) heap.new K.tells (K.written sink.old) (K.written sink.new) result }
     ensures plays { IsTrue D.tells → (of : Super) (c : Core) → IsHeap of c heap.old → AreReady c (events lines.now) → Plays of c (all_events None c (events lines.now)) heap.old heap.new K.tells (K.written sink.old) (K.written sink.new) result }
 {
     play_lines(alloc, heap, lines, sink)?;
@@ -109,7 +110,8 @@ fn play_ending<D: Disk, K: Sink>(
 ) -> Result<(), Halt>
     ensures disk { KeepsDisk D.Disk (heap_disk heap.old) (heap_disk heap.new) (played_device result) }
     ensures sink { StreamCause (K.faults sink.old) (K.faults sink.new) (result ≡ Err Halt.WriteFault) }
-    ensures plays { IsTrue D.tells → (of : Super) (c : Core) → IsHeap of c heap.old → IsValid c → Plays of c (ending c) heap.old heap.new K.tells (K.written sink.old) (K.written sink.new) result }
+    ensures core { (c : Core) → IsCore c heap.old → IsRunning c → PlaysCore c (ending c) heap.new K.tells (K.written sink.old) (K.written sink.new) result }
+    ensures plays { IsTrue D.tells → (of : Super) (c : Core) → IsHeap of c heap.old → IsRunning c → Plays of c (ending c) heap.old heap.new K.tells (K.written sink.old) (K.written sink.new) result }
 {
     play_abort(alloc, heap, sink)?;
     play_force(alloc, heap, sink)
@@ -122,7 +124,8 @@ fn play_abort<D: Disk, K: Sink>(
 ) -> Result<(), Halt>
     ensures disk { KeepsDisk D.Disk (heap_disk heap.old) (heap_disk heap.new) (played_device result) }
     ensures sink { StreamCause (K.faults sink.old) (K.faults sink.new) (result ≡ Err Halt.WriteFault) }
-    ensures plays { IsTrue D.tells → (of : Super) (c : Core) → IsHeap of c heap.old → IsValid c → Plays of c (aborting c) heap.old heap.new K.tells (K.written sink.old) (K.written sink.new) result }
+    ensures core { (c : Core) → IsCore c heap.old → IsRunning c → PlaysCore c (aborting c) heap.new K.tells (K.written sink.old) (K.written sink.new) result }
+    ensures plays { IsTrue D.tells → (of : Super) (c : Core) → IsHeap of c heap.old → IsRunning c → Plays of c (aborting c) heap.old heap.new K.tells (K.written sink.old) (K.written sink.new) result }
 {
     if !heap.active() {
         return Ok(());
@@ -137,7 +140,8 @@ fn play_force<D: Disk, K: Sink>(
 ) -> Result<(), Halt>
     ensures disk { KeepsDisk D.Disk (heap_disk heap.old) (heap_disk heap.new) (played_device result) }
     ensures sink { StreamCause (K.faults sink.old) (K.faults sink.new) (result ≡ Err Halt.WriteFault) }
-    ensures plays { IsTrue D.tells → (of : Super) (c : Core) → IsHeap of c heap.old → IsValid c → Plays of c (forcing c) heap.old heap.new K.tells (K.written sink.old) (K.written sink.new) result }
+    ensures core { (c : Core) → IsCore c heap.old → IsRunning c → PlaysCore c (forcing c) heap.new K.tells (K.written sink.old) (K.written sink.new) result }
+    ensures plays { IsTrue D.tells → (of : Super) (c : Core) → IsHeap of c heap.old → IsRunning c → Plays of c (forcing c) heap.old heap.new K.tells (K.written sink.old) (K.written sink.new) result }
 {
     if !heap.pending() {
         return Ok(());
@@ -153,6 +157,7 @@ fn play_line<D: Disk, K: Sink>(
 ) -> Result<(), Halt>
     ensures disk { KeepsDisk D.Disk (heap_disk heap.old) (heap_disk heap.new) (played_device result) }
     ensures sink { StreamCause (K.faults sink.old) (K.faults sink.new) (result ≡ Err Halt.WriteFault) }
+    ensures core { (c : Core) → IsCore c heap.old → AreReady c (line_events line) → PlaysCore c (line_events line) heap.new K.tells (K.written sink.old) (K.written sink.new) result }
     ensures plays { IsTrue D.tells → (of : Super) (c : Core) → IsHeap of c heap.old → AreReady c (line_events line) → Plays of c (line_events line) heap.old heap.new K.tells (K.written sink.old) (K.written sink.new) result }
 {
     match line {
@@ -169,6 +174,7 @@ fn play_commit<D: Disk, K: Sink>(
 ) -> Result<(), Halt>
     ensures disk { KeepsDisk D.Disk (heap_disk heap.old) (heap_disk heap.new) (played_device result) }
     ensures sink { StreamCause (K.faults sink.old) (K.faults sink.new) (result ≡ Err Halt.WriteFault) }
+    ensures core { (c : Core) → IsCore c heap.old → AreReady c (Seal s ∷ Force ∷ []) → PlaysCore c (Seal s ∷ Force ∷ []) heap.new K.tells (K.written sink.old) (K.written sink.new) result }
     ensures plays { IsTrue D.tells → (of : Super) (c : Core) → IsHeap of c heap.old → AreReady c (Seal s ∷ Force ∷ []) → Plays of c (Seal s ∷ Force ∷ []) heap.old heap.new K.tells (K.written sink.old) (K.written sink.new) result }
 {
     play_event(alloc, heap, Event::Seal { s }, sink)?;
@@ -184,6 +190,7 @@ fn play_event<D: Disk, K: Sink>(
 ) -> Result<(), Halt>
     ensures disk { KeepsDisk D.Disk (heap_disk heap.old) (heap_disk heap.new) (played_device result) }
     ensures sink { StreamCause (K.faults sink.old) (K.faults sink.new) (result ≡ Err Halt.WriteFault) }
+    ensures core { (c : Core) → IsCore c heap.old → AreReady c (event ∷ []) → PlaysCore c (event ∷ []) heap.new K.tells (K.written sink.old) (K.written sink.new) result }
     ensures plays { IsTrue D.tells → (of : Super) (c : Core) → IsHeap of c heap.old → AreReady c (event ∷ []) → Plays of c (event ∷ []) heap.old heap.new K.tells (K.written sink.old) (K.written sink.new) result }
 {
     let reply = heap.step(event)?;

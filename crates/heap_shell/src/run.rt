@@ -1,6 +1,6 @@
 //! The program's one call: from the words of its command line and a script to the printed graph.
-ghost use Rattle.std.specs.Prelude.{◌≡◌, ◌⊎◌, ℕ, ◌<◌, ◌≤◌, ◌↔◌, [], List, None, Some, Ok, Err, map, string_bytes, IfOk, IfErr, IsNone, IsTrue, OnOk};
-ghost use Rattle.counts.specs.Count.{Rose, raised};
+ghost use Rattle.std.specs.Prelude.{◌≡◌, ◌⊎◌, ℕ, ◌<◌, ◌≤◌, ◌↔◌, [], List, min, None, Some, Ok, Err, map, string_bytes, IfOk, IfErr, IsNone, IsTrue, OnOk};
+ghost use Rattle.counts.specs.Count.{Rose, greatest, raised};
 ghost use Rattle.disk_model.specs.Disk.{Only};
 ghost use Rattle.disk_model.specs.Fuse.{fuse_inner};
 ghost use Rattle.disk_model.specs.Keeps.{KeepsDisk};
@@ -14,11 +14,12 @@ ghost use Rattle.heap_shell.specs.Causes.{DiskRose, StreamCause, RunsDisk, IsInp
 ghost use Rattle.heap_shell.specs.Command.{command};
 ghost use Rattle.heap_model.specs.Core.{Core};
 ghost use Rattle.heap_model.specs.CoreCrash.{KeepsCommits};
+ghost use Rattle.heap_shell.specs.CrashSafe.{RunsSafely};
 ghost use Rattle.heap_shell.specs.Headline.{made_super, made_core, OfTold, IsPlayed, Reopens, StartsAgain, Runs, IsSound, IsUntouching, EndsUnread, EndsUnmade, restarts_of};
-ghost use Rattle.heap_shell.specs.Playable.{IsPlayable};
+ghost use Rattle.heap_shell.specs.Playable.{IsScript};
 ghost use Rattle.heap_model.specs.Ending.{all_events};
 ghost use Rattle.heap_model.specs.Image.{IsLegal};
-ghost use Rattle.heap_shell.specs.Output.{Recovers, status_after};
+ghost use Rattle.heap_shell.specs.Output.{Recovers, early_end, status_after};
 ghost use Rattle.script_text.specs.Line.{events};
 ghost use Rattle.script_text.specs.Script.{script};
 
@@ -26,10 +27,9 @@ use crate::command::read_words;
 use crate::output::{WriteError, write_graph, write_recovered};
 use crate::play::{Halt, play_all, play_lines};
 use crate::status::Status;
-use disk_model::{Disk, DiskError, FuseDisk};
-use heap_core::{Heap, OpenError, format};
+use disk_model::{Disk, FuseDisk};
+use heap_core::{Heap, OpenError};
 use heap_io::{Sink, Source, take_all};
-use image_plan::Super;
 use script_text::{Line, MOST_BYTES, read_script};
 use std::alloc::Global;
 
@@ -68,7 +68,10 @@ pub fn run<D: Disk, S: Source, K: Sink>(
     // One that is done has read its script to the end.
     ensures read_whole { IsTrue S.tells → result.0 ≡ Status.Done → S.left source.new ≡ [] }
 
-    // The sentence that the stable heap is for: either no heap was made, or the script was played on a new one.
+    // A crash at any moment keeps what was acknowledged by then.
+    ensures crash_safe { OfTold D.tells (D.bytes disk) (D.may_leave disk) ((play : Play) → command (map string_bytes words.now) ≡ Some play
+        → RunsSafely D.Disk play disk result.1 result.0 K.tells (K.written sink.old) (K.written sink.new)) }
+    // The sentence that the stable heap is for, whole: either no heap was made, or the script was played on a new one.
     ensures headline { OfTold D.tells (D.bytes disk) (D.may_leave disk) ((play : Play) → command (map string_bytes words.now) ≡ Some play
         → Runs D.Disk play (λ lines. IsTrue S.tells → script (S.left source.old) ≡ Ok lines) disk result.1 result.0 K.tells (K.written sink.old) (K.written sink.new)) }
 
@@ -87,12 +90,7 @@ pub fn run<D: Disk, S: Source, K: Sink>(
         Ok(script) => script,
         Err(status) => return (status, disk),
     };
-    let of = Super {
-        pages: play.pages,
-        log_bytes: LOG_BYTES,
-        first: FIRST,
-    };
-    let disk = match format(disk, &of) {
+    let disk = match Heap::format(disk, play.pages, LOG_BYTES, FIRST) {
         Ok(disk) => disk,
         Err((e, disk)) => return (Status::from(e), disk),
     };
@@ -121,12 +119,14 @@ fn play_whole<D: Disk, K: Sink>(
     script: &[Line],
     sink: &mut K,
 ) -> (Status, D)
+    requires { IsScript script.now }
+
     ensures end { IsOpenedEnd result.0 }
     ensures disk { RunsDisk D.Disk disk result.1 (result.0 ≡ Status.DiskFault) }
     ensures sink { StreamCause (K.faults sink.old) (K.faults sink.new) (result.0 ≡ Status.WriteFault) }
     ensures restarts { IsTrue D.tells → D.restarts result.1 ≡ D.restarts disk }
-    ensures played { IsTrue D.tells → (pages : ℕ) → IsLegal (made_super pages) [] (D.bytes disk) → Only (D.bytes disk) (D.may_leave disk) → IsPlayable (all_events None made_core (events script.now))
-        → IsPlayed D.Disk None made_core (all_events None made_core (events script.now)) disk result.1 result.0 K.tells (K.written sink.old) (K.written sink.new) }
+    ensures played { IsTrue D.tells → (pages : ℕ) → IsLegal (made_super pages) [] (D.bytes disk) → Only (D.bytes disk) (D.may_leave disk)
+        → IsPlayed D.Disk None (made_core pages) (all_events None (made_core pages) (events script.now)) disk result.1 result.0 K.tells (K.written sink.old) (K.written sink.new) }
 {
     let mut heap = match Heap::open(alloc, disk) {
         Ok(heap) => heap,
@@ -149,27 +149,40 @@ fn play_stopped<D: Disk, K: Sink>(
     script: &[Line],
     sink: &mut K,
 ) -> (Status, D)
+    requires { IsScript script.now }
+
     ensures end { IsOpenedEnd result.0 }
     ensures disk { RunsDisk D.Disk disk result.1 (result.0 ≡ Status.DiskFault) }
     ensures sink { StreamCause (K.faults sink.old) (K.faults sink.new) (result.0 ≡ Status.WriteFault) }
     ensures restarts { IsTrue D.tells → result.0 ≡ Status.Done → D.restarts result.1 ≡ raised (D.restarts disk) }
-    ensures played { IsTrue D.tells → (pages : ℕ) → IsLegal (made_super pages) [] (D.bytes disk) → Only (D.bytes disk) (D.may_leave disk) → IsPlayable (events script.now)
-        → IsPlayed D.Disk (Some calls) made_core (events script.now) disk result.1 result.0 K.tells (K.written sink.old) (K.written sink.new) }
+    ensures played { IsTrue D.tells → (pages : ℕ) → IsLegal (made_super pages) [] (D.bytes disk) → Only (D.bytes disk) (D.may_leave disk)
+        → IsPlayed D.Disk (Some calls) (made_core pages) (events script.now) disk result.1 result.0 K.tells (K.written sink.old) (K.written sink.new) }
 {
     let mut heap = match Heap::open(alloc, FuseDisk::new(disk, calls)) {
         Ok(heap) => heap,
         Err((e, fuse)) => {
             // The opening of a new heap writes nothing, so only a disk that didn't keep what was written can stop here.
-            if e == OpenError::Disk(DiskError::Stopped) {
+            if e == OpenError::Stopped {
                 return start_again(alloc, fuse, 0, sink);
             }
             return (Status::from(e), fuse.into_inner());
         }
     };
     let before = heap.commits();
-    match play_lines(alloc, &mut heap, script, sink) {
-        Ok(()) | Err(Halt::Stopped) => start_again(alloc, heap.close(), before, sink),
-        Err(halt) => (Status::from(halt), heap.close().into_inner()),
+    let played = play_lines(alloc, &mut heap, script, sink);
+    match early_end(played) {
+        None => start_again(alloc, heap.close(), before, sink),
+        Some(status) => (status, heap.close().into_inner()),
+    }
+}
+
+/// The status of a run that is to stop where it ends before the disk is started again.
+fn early_end(played: Result<(), Halt>) -> Option<Status>
+    ensures { result ≡ early_end played }
+{
+    match played {
+        Ok(()) | Err(Halt::Stopped) => None,
+        Err(halt) => Some(Status::from(halt)),
     }
 }
 
@@ -185,7 +198,7 @@ fn start_again<D: Disk, K: Sink>(
     ensures sink { StreamCause (K.faults sink.old) (K.faults sink.new) (result.0 ≡ Status.WriteFault) }
     ensures restarts { IsTrue D.tells → D.restarts result.1 ≡ raised (D.restarts (fuse_inner fuse)) }
     ensures moments { IsTrue D.tells → (c : Core) → ((image : List ℕ) → D.may_leave (fuse_inner fuse) image → KeepsCommits c image) → LeavesOnly D.moment D.left_since (fuse_inner fuse) result.1 (KeepsCommits c) }
-    ensures recovers { IsTrue D.tells → (c : Core) → ((image : List ℕ) → D.may_leave (fuse_inner fuse) image → KeepsCommits c image) → before ≡ 0
+    ensures recovers { IsTrue D.tells → (c : Core) → ((image : List ℕ) → D.may_leave (fuse_inner fuse) image → KeepsCommits c image) → before ≡ min c.before greatest
         → Recovers c (λ k. StartsAgain D.Disk c k (fuse_inner fuse) result.1) (D.may_leave result.1) result.0 K.tells (K.written sink.old) (K.written sink.new) }
 {
     let mut disk = fuse.into_inner();
@@ -215,7 +228,7 @@ fn print_recovered<D: Disk, K: Sink>(
     ensures sink { StreamCause (K.faults sink.old) (K.faults sink.new) (result.0 ≡ Status.WriteFault) }
     ensures restarts { IsTrue D.tells → D.restarts result.1 ≡ D.restarts disk }
     ensures moments { IsTrue D.tells → (c : Core) → KeepsCommits c (D.bytes disk) → Only (D.bytes disk) (D.may_leave disk) → LeavesOnly D.moment D.left_since disk result.1 (KeepsCommits c) }
-    ensures recovers { IsTrue D.tells → (c : Core) → KeepsCommits c (D.bytes disk) → Only (D.bytes disk) (D.may_leave disk) → before ≡ 0
+    ensures recovers { IsTrue D.tells → (c : Core) → KeepsCommits c (D.bytes disk) → Only (D.bytes disk) (D.may_leave disk) → before ≡ min c.before greatest
         → Recovers c (λ k. Reopens D.Disk c k disk result.1) (D.may_leave result.1) result.0 K.tells (K.written sink.old) (K.written sink.new) }
 {
     let heap = match Heap::open(alloc, disk) {

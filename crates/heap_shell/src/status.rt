@@ -105,7 +105,7 @@ impl From<FormatError> for Status {
     fn from(e: FormatError) -> Self {
         match e {
             FormatError::TooSmall { size, need } => Status::TooSmall { size, need },
-            FormatError::Disk(_) => Status::DiskFault,
+            FormatError::DiskFault | FormatError::Stopped => Status::DiskFault,
         }
     }
 }
@@ -118,7 +118,7 @@ impl From<OpenError> for Status {
             OpenError::NoMemory => Status::NoMemory,
             OpenError::NotHeap => Status::NotHeap,
             OpenError::Damaged { at } => Status::Damaged { at },
-            OpenError::Disk(_) => Status::DiskFault,
+            OpenError::DiskFault | OpenError::Stopped => Status::DiskFault,
         }
     }
 }

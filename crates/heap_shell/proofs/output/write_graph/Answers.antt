@@ -1,19 +1,16 @@
 use Rattle.std.proofs.Common.{ℕ, List, ◌++◌, ◌∙◌, ap}
-use Rattle.heap_shell.specs.Headline.{graph_text}
 use Rattle.heap_shell.proofs.Written.{wrote_nothing, wrote_front}
-use Rattle.heap_shell.proofs.run.write_graph.Goals as goal
+use Rattle.heap_shell.proofs.output.write_graph.Goals as goal
 
 pub returns-in_err-text-clause-wrote : goal.returns-in_err-text-clause-wrote
-returns-in_err-text-clause-wrote g c = λ tells s core gr is has. wrote_nothing _ _ _ c.from_residual.ensures.0
+returns-in_err-text-clause-wrote g c = λ tells core is reached. wrote_nothing _ _ _ c.from_residual.ensures.0
 
 -- the text is that of the core's graph
 pub returns-in_err-put_all-clause-wrote : goal.returns-in_err-put_all-clause-wrote
-returns-in_err-put_all-clause-wrote g c = λ tells s core gr is has.
-    let text = c.in_ok-text.ensures.text s core is (is.means.failure ∙ has.unfailed) has.plain ∙ ap graph_text has.is in
-    wrote_front _ _ c.as_bytes.result.now _ _ c.from_residual-in_err-put_all.ensures.0 (c.as_bytes.ensures.value ∙ text) (c.in_err-put_all.ensures.front tells)
+returns-in_err-put_all-clause-wrote g c = λ tells core is reached.
+    wrote_front _ _ c.deref.result.now _ _ c.from_residual-in_err-put_all.ensures.0 (c.deref.ensures.value ∙ c.in_ok-text.ensures.text core is reached) (c.in_err-put_all.ensures.front tells)
 
 -- and all of it was written
 pub returns-clause-wrote : goal.returns-clause-wrote
-returns-clause-wrote g c = λ tells s core gr is has.
-    let text = c.in_ok-text.ensures.text s core is (is.means.failure ∙ has.unfailed) has.plain ∙ ap graph_text has.is in
-    c.in_ok-put_all.ensures.all tells ∙ ap (λ (l : List ℕ). g.K.Sink.written c.args.sink.now ++ l) (c.as_bytes.ensures.value ∙ text)
+returns-clause-wrote g c = λ tells core is reached.
+    c.in_ok-put_all.ensures.all tells ∙ ap (λ (l : List ℕ). g.K.Sink.written c.args.sink.now ++ l) (c.deref.ensures.value ∙ c.in_ok-text.ensures.text core is reached)

@@ -4,26 +4,18 @@ use Rattle.heap_model.specs.CoreLawsEnding.{all_single}
 use Rattle.heap_model.specs.CoreRuns.{after_events}
 use Rattle.heap_model.specs.Ending.{ending}
 use Rattle.script_text.specs.Line.{events}
-use Rattle.heap_shell.specs.declared.play.Ended.{Ended}
-use Rattle.heap_shell.specs.declared.play.Ended.TheVariants as ended
-use Rattle.heap_shell.specs.Play.{Plays}
+use Rattle.heap_shell.specs.Play.{Plays, PlaysCore}
 use Rattle.heap_shell.proofs.PlayLaws.{plays_on, plays_then}
+use Rattle.heap_shell.proofs.PlayCore.{core_on, core_then}
 use Rattle.heap_shell.proofs.play.play_all.Goals as goal
 
-pub returns-in_err-ended-clause-plays : goal.returns-in_err-ended-clause-plays
-returns-in_err-ended-clause-plays g c tells of core heap ready =
+pub returns-in_err-play_lines-clause-plays : goal.returns-in_err-play_lines-clause-plays
+returns-in_err-play_lines-clause-plays g c tells of core heap ready =
     let k = g.K.Sink in
-    let e = c.in_err-ended.field-0.0 in
+    let e = c.in_err-play_lines.field-0.0 in
     let err : c.from_residual.result ≡ Err e = search rules in
-    let first = c.in_err-ended.ensures.plays tells of core heap ready in
+    let first = c.in_err-play_lines.ensures.plays tells of core heap ready in
     rw err (plays_on of core (events c.args.lines.now) (ending (after_events core (events c.args.lines.now))) c.args.heap.now c.play_lines.new.heap k.tells (k.written c.args.sink.now) (k.written c.play_lines.new.sink) (Err e) (λ never. cc) first)
-
-pub returns-then-ne-clause-plays : goal.returns-then-ne-clause-plays
-returns-then-ne-clause-plays g c tells of core heap ready =
-    let k = g.K.Sink in
-    let first = c.in_ok-ended.ensures.plays tells of core heap ready in
-    plays_on of core (events c.args.lines.now) (ending (after_events core (events c.args.lines.now))) c.args.heap.now c.play_lines.new.heap k.tells (k.written c.args.sink.now) (k.written c.play_lines.new.sink) (Ok c.in_ok-ended.ended)
-    (λ is. let same : c.in_ok-ended.ended ≡ ended.Whole = cc is in search rules) first
 
 pub returns-clause-plays : goal.returns-clause-plays
 returns-clause-plays g c tells of core heap ready =
@@ -33,9 +25,25 @@ returns-clause-plays g c tells of core heap ready =
     let new = c.play_ending.new.heap in
     let between = k.written c.play_lines.new.sink in
     let after = k.written c.play_ending.new.sink in
-    let whole : c.in_ok-ended.ended ≡ ended.Whole = search rules in
-    let P : Ended → Type 0 = λ e. Plays of core (events c.args.lines.now) old mid k.tells (k.written c.args.sink.now) between (Ok e) in
-    let first = subst P whole (c.in_ok-ended.ensures.plays tells of core heap ready) in
-    plays_then of core (events c.args.lines.now) (ending (after_events core (events c.args.lines.now))) old mid new k.tells (k.written c.args.sink.now) between after c.play_ending.result (ready.0, all_single None core (events c.args.lines.now) ready.1) first
-    (λ d reached is_heap is_ready. subst (λ (x : Core). Plays of d (ending x) mid new k.tells between after c.play_ending.result) reached (c.play_ending.ensures.plays tells of d is_heap is_ready.0))
-    c.play_lines.ensures.cause.faults_kept c.play_lines.ensures.cause.stops_kept
+    let first = c.in_ok-play_lines.ensures.plays tells of core heap ready in
+    plays_then of core (events c.args.lines.now) (ending (after_events core (events c.args.lines.now))) old mid new k.tells (k.written c.args.sink.now) between after c.play_ending.result (record { running = ready.running; single = all_single None core (events c.args.lines.now) ready.running.reached ready.single }) first
+    (λ d reached is_heap is_ready. subst (λ (x : Core). Plays of d (ending x) mid new k.tells between after c.play_ending.result) reached (c.play_ending.ensures.plays tells of d is_heap is_ready.running))
+    c.play_lines.ensures.disk.cause.faults_kept c.play_lines.ensures.disk.cause.stops_kept
+
+pub returns-in_err-play_lines-clause-core : goal.returns-in_err-play_lines-clause-core
+returns-in_err-play_lines-clause-core g c core is ready =
+    let k = g.K.Sink in
+    let e = c.in_err-play_lines.field-0.0 in
+    let err : c.from_residual.result ≡ Err e = search rules in
+    let first = c.in_err-play_lines.ensures.core core is ready in
+    rw err (core_on core (events c.args.lines.now) (ending (after_events core (events c.args.lines.now))) c.play_lines.new.heap k.tells (k.written c.args.sink.now) (k.written c.play_lines.new.sink) (Err e) (λ never. cc) first)
+
+pub returns-clause-core : goal.returns-clause-core
+returns-clause-core g c core is ready =
+    let k = g.K.Sink in
+    let new = c.play_ending.new.heap in
+    let between = k.written c.play_lines.new.sink in
+    let after = k.written c.play_ending.new.sink in
+    core_then core (events c.args.lines.now) (ending (after_events core (events c.args.lines.now))) c.play_lines.new.heap new k.tells (k.written c.args.sink.now) between after c.play_ending.result
+    (record { running = ready.running; single = all_single None core (events c.args.lines.now) ready.running.reached ready.single }) (c.in_ok-play_lines.ensures.core core is ready)
+    (λ d reached is_core is_ready. subst (λ (x : Core). PlaysCore d (ending x) new k.tells between after c.play_ending.result) reached (c.play_ending.ensures.core d is_core is_ready.running))

@@ -1,66 +1,63 @@
-use Rattle.std.proofs.Common.{◌≡◌, inl, ◌+◌, List, Ok, Err, rules, refl, ◌∙◌, subst, take, arith}
+use Rattle.std.proofs.Common.{◌≡◌, ◌+◌, List, Ok, Err, rules, subst, take, arith}
 use Rattle.std.proofs.lemmas.List.{take_all}
-use Rattle.heap_shell.specs.declared.play.Ended.{Ended}
-use Rattle.heap_shell.specs.declared.play.Ended.TheVariants as ended
+use Rattle.disk_model.specs.KeepsLaws.{keeps_none, keeps_on}
+use Rattle.heap_core.specs.HeapState.{heap_disk}
 use Rattle.script_text.specs.declared.line.Line.{Line}
-use Rattle.heap_model.specs.CoreLawsGrow.{keeps_has}
-use Rattle.heap_shell.specs.Play.{Plays}
+use Rattle.heap_shell.specs.Play.{Plays, PlaysCore}
 use Rattle.script_text.specs.Line.{events}
-use Rattle.heap_shell.proofs.PlayEvent.{heap_leaves}
 use Rattle.heap_shell.proofs.PlayLaws.{plays_none}
 use Rattle.heap_shell.proofs.PlayLoop.{line_more, line_last}
+use Rattle.heap_shell.proofs.PlayCore.{core_none, core_more, core_last}
 use Rattle.heap_shell.proofs.play.play_lines.Goals as goal
 
 pub loop-line-init : goal.loop-line-init
-loop-line-init g c =
-    let heap = c.args.heap.now in
-    record {
-      cause = search rules;
-      sink = omega arith;
-      extent = search rules;
-      origin = search rules;
-      restarts = λ tells. refl;
-      plays = λ tells of core is ready.
-          plays_none of core heap g.K.Sink.tells (g.K.Sink.written c.args.sink.now) is ready.0
-          (λ image left. keeps_has core image (heap_leaves of core heap is (inl ready.0) image (g.met.D.Disk.only_now tells heap.disk image left)));
-    }
+loop-line-init g c = record {
+  disk = keeps_none g.D.Disk (heap_disk c.args.heap.now) tt;
+  sink = omega arith;
+  core = λ core is ready. core_none core c.args.heap.now g.K.Sink.tells (g.K.Sink.written c.args.sink.now) is;
+  plays = λ tells of core is ready. plays_none of core c.args.heap.now g.K.Sink.tells (g.K.Sink.written c.args.sink.now) is;
+}
 
-pub returns-in_err-ended-clause-plays : goal.returns-in_err-ended-clause-plays
-returns-in_err-ended-clause-plays g c tells of core heap ready =
+pub returns-in_err-play_line-clause-plays : goal.returns-in_err-play_line-clause-plays
+returns-in_err-play_line-clause-plays g c tells of core heap ready =
     let k = g.K.Sink in
     let i = c.loop-line.invariant in
-    let e = c.in_err-ended.field-0.0 in
+    let e = c.in_err-play_line.field-0.0 in
     let err : c.from_residual.result ≡ Err e = search rules in
     rw err (line_last of core c.args.lines.now c.loop-line.line-index _ c.loop-line-test.true ready c.args.heap.now c.loop-line.heap c.play_line.new.heap k.tells (k.written c.args.sink.now) (k.written c.loop-line.sink) (k.written c.play_line.new.sink) (Err e)
-    (i.plays tells of core heap ready) (λ d is_heap is_ready. c.in_err-ended.ensures.plays tells of d is_heap is_ready) i.cause.faults_kept i.cause.stops_kept (λ never. cc))
-
-pub returns-then-ne-clause-plays : goal.returns-then-ne-clause-plays
-returns-then-ne-clause-plays g c tells of core heap ready =
-    let k = g.K.Sink in
-    let i = c.loop-line.invariant in
-    line_last of core c.args.lines.now c.loop-line.line-index _ c.loop-line-test.true ready c.args.heap.now c.loop-line.heap c.play_line.new.heap k.tells (k.written c.args.sink.now) (k.written c.loop-line.sink) (k.written c.play_line.new.sink) (Ok c.in_ok-ended.ended)
-    (i.plays tells of core heap ready) (λ d is_heap is_ready. c.in_ok-ended.ensures.plays tells of d is_heap is_ready) i.cause.faults_kept i.cause.stops_kept
-    (λ is. let same : c.in_ok-ended.ended ≡ ended.Whole = cc is in search rules)
+    (i.plays tells of core heap ready) (λ d is_heap is_ready. c.in_err-play_line.ensures.plays tells of d is_heap is_ready) i.disk.cause.faults_kept i.disk.cause.stops_kept (λ never. cc))
 
 pub loop-line-preserved : goal.loop-line-preserved
 loop-line-preserved g c =
     let k = g.K.Sink in
     let i = c.loop-line.invariant in
-    let whole : c.in_ok-ended.ended ≡ ended.Whole = search rules in
     record {
-      cause = search rules;
-      sink = search rules;
-      extent = search rules;
-      origin = search rules;
-      restarts = λ tells. c.play_line.ensures.restarts tells ∙ i.restarts tells;
+      disk = keeps_on g.D.Disk _ _ _ (Ok tt) (Ok tt) i.disk c.in_ok-play_line.ensures.disk;
+      sink = omega (arith, i.sink, c.in_ok-play_line.ensures.sink.kept);
+      core = λ core is ready. core_more core c.args.lines.now c.loop-line.line-index _ c.loop-line-test.true ready c.loop-line.heap c.play_line.new.heap k.tells (k.written c.args.sink.now) (k.written c.loop-line.sink) (k.written c.play_line.new.sink) (Ok tt)
+          (i.core core is ready) (λ d is_core is_ready. c.in_ok-play_line.ensures.core d is_core is_ready);
       plays = λ tells of core heap ready.
-          let P : Ended → Type 0 = λ e. Plays of core (events (take (c.loop-line.line-index + 1) c.args.lines.now)) c.args.heap.now c.play_line.new.heap k.tells (k.written c.args.sink.now) (k.written c.play_line.new.sink) (Ok e) in
-          subst P whole (line_more of core c.args.lines.now c.loop-line.line-index _ c.loop-line-test.true ready c.args.heap.now c.loop-line.heap c.play_line.new.heap k.tells (k.written c.args.sink.now) (k.written c.loop-line.sink) (k.written c.play_line.new.sink) (Ok c.in_ok-ended.ended)
-          (i.plays tells of core heap ready) (λ d is_heap is_ready. c.in_ok-ended.ensures.plays tells of d is_heap is_ready) i.cause.faults_kept i.cause.stops_kept);
+          line_more of core c.args.lines.now c.loop-line.line-index _ c.loop-line-test.true ready c.args.heap.now c.loop-line.heap c.play_line.new.heap k.tells (k.written c.args.sink.now) (k.written c.loop-line.sink) (k.written c.play_line.new.sink) (Ok tt)
+          (i.plays tells of core heap ready) (λ d is_heap is_ready. c.in_ok-play_line.ensures.plays tells of d is_heap is_ready) i.disk.cause.faults_kept i.disk.cause.stops_kept;
     }
 
 pub returns-clause-plays : goal.returns-clause-plays
 returns-clause-plays g c tells of core heap ready =
     let k = g.K.Sink in
     let all : take c.loop-line.line-index c.args.lines.now ≡ c.args.lines.now = take_all c.loop-line.line-index c.args.lines.now (search rules) in
-    subst (λ (l : List Line). Plays of core (events l) c.args.heap.now c.loop-line.heap k.tells (k.written c.args.sink.now) (k.written c.loop-line.sink) (Ok ended.Whole)) all (c.loop-line.invariant.plays tells of core heap ready)
+    subst (λ (l : List Line). Plays of core (events l) c.args.heap.now c.loop-line.heap k.tells (k.written c.args.sink.now) (k.written c.loop-line.sink) (Ok tt)) all (c.loop-line.invariant.plays tells of core heap ready)
+
+pub returns-in_err-play_line-clause-core : goal.returns-in_err-play_line-clause-core
+returns-in_err-play_line-clause-core g c core is ready =
+    let k = g.K.Sink in
+    let i = c.loop-line.invariant in
+    let e = c.in_err-play_line.field-0.0 in
+    let err : c.from_residual.result ≡ Err e = search rules in
+    rw err (core_last core c.args.lines.now c.loop-line.line-index _ c.loop-line-test.true ready c.loop-line.heap c.play_line.new.heap k.tells (k.written c.args.sink.now) (k.written c.loop-line.sink) (k.written c.play_line.new.sink) (Err e)
+    (i.core core is ready) (λ d is_core is_ready. c.in_err-play_line.ensures.core d is_core is_ready) (λ never. cc))
+
+pub returns-clause-core : goal.returns-clause-core
+returns-clause-core g c core is ready =
+    let k = g.K.Sink in
+    let all : take c.loop-line.line-index c.args.lines.now ≡ c.args.lines.now = take_all c.loop-line.line-index c.args.lines.now (search rules) in
+    subst (λ (l : List Line). PlaysCore core (events l) c.loop-line.heap k.tells (k.written c.args.sink.now) (k.written c.loop-line.sink) (Ok tt)) all (c.loop-line.invariant.core core is ready)

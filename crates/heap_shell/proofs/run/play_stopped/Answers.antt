@@ -1,167 +1,176 @@
-use Rattle.std.proofs.Common.{◌≡◌, ◌≤◌, ◌+◌, ℕ, min, List, [], Some, rules, arith, refl, sym, ap, ◌∙◌, subst}
-use Rattle.std.proofs.lemmas.List.{append-nil}
-use Rattle.counts.specs.Count.{Rose, raised, counted}
+use Rattle.std.proofs.Common.{◌≡◌, ◌≤◌, ◌+◌, ℕ, min, inr, List, [], Some, Ok, Err, rules, arith, refl, sym, ap, ◌∙◌, subst}
+use Rattle.counts.specs.Count.{Rose, greatest, raised, counted}
 use Rattle.disk_model.specs.declared.disk.DiskError.TheVariants as device
 use Rattle.disk_model.specs.Disk.{Only}
 use Rattle.disk_model.specs.Fuse.{fuse_inner, fuse_passed}
-use Rattle.disk_model.specs.Moments.{LeavesOnly, weaker}
-use Rattle.gate_slot.specs.Passing.{counted-add}
+use Rattle.disk_model.specs.KeepsLaws.{rose_until}
+use Rattle.disk_model.specs.Moments.{LeavesOnly, begins}
 use Rattle.heap_shell.specs.declared.status.Status.{Status}
 use Rattle.heap_shell.specs.declared.status.Status.TheVariants as status
-use Rattle.heap_recovery.specs.declared.recovery.OpenError.TheVariants as opening
-use Rattle.heap_shell.specs.Causes.{DiskRose, IsPlayStatus}
-use Rattle.heap_recovery.specs.Causes.{error_device}
-use Rattle.heap_model.specs.CoreCrash.{KeepsCommits, HasCommits}
-use Rattle.heap_model.specs.CoreLawsGrow.{keeps_has}
+use Rattle.heap_core.specs.declared.errors.OpenError.TheVariants as opening
+use Rattle.heap_shell.specs.Causes.{DiskRose, RunsDisk}
+use Rattle.heap_core.specs.Causes.{error_device}
+use Rattle.heap_model.specs.CoreCrash.{KeepsCommits}
+use Rattle.heap_model.specs.CoreLawsRun.{same_run}
 use Rattle.heap_model.specs.CoreRuns.{total_calls}
-use Rattle.heap_shell.specs.CoreLawsPlay.{made_valid}
-use Rattle.heap_shell.specs.Headline.{made_super, made_core, IsExact}
+use Rattle.heap_shell.specs.CoreLawsPlay.{made_running, all_playable, script_ready}
+use Rattle.graph_model.specs.Graph.{new_graph}
+use Rattle.heap_model.specs.CoreLawsNew.{new_shows}
+use Rattle.heap_shell.specs.Headline.{made_super, made_core, IsExact, IsPlayed, KeepsThroughout, StartsAgain, Unharmed}
+use Rattle.heap_shell.specs.Output.{Recovers}
 use Rattle.heap_model.specs.Image.{IsLegal}
 use Rattle.script_text.specs.Line.{events}
-use Rattle.heap_core.proofs.Causes.{rose_within, rose_until}
-use Rattle.heap_shell.proofs.PlayEnds.{kept, all_lines, some_lines, ends_early, ends_recovered, ends_made, exact_some, passes_some, lines_more}
-use Rattle.heap_shell.proofs.PlayFuse.{same_disk, same_limit, fuse_since, fuse_passes}
-use Rattle.heap_shell.proofs.PlayOpen.{new_stands, opened_commits, opening_keeps, opening_then, ends_unopened, since_made}
-use Rattle.heap_shell.proofs.Statuses.{no_stop, open_fault, output_end, output_not_done, output_no_fault}
-use Rattle.heap_shell.proofs.Written.{whole_front}
+use Rattle.heap_shell.proofs.Causes.{rose_within}
+use Rattle.heap_shell.proofs.PlayEnds.{run_reached, kept, halt_part, halt_lines, stopped_lines, ends_early, ends_recovered, ends_made, exact_some, passes_some}
+use Rattle.heap_shell.proofs.PlayFuse.{same_disk, same_limit, fuse_since, fuse_passes, IsFuse, fuse_steps_of}
+use Rattle.heap_shell.proofs.PlayOpen.{empty_image, new_stands, opened_commits, opening_keeps, ends_unopened, new_passes, no_rollback}
+use Rattle.heap_shell.proofs.Statuses.{no_stop, early_none, early_some, halt_device, halt_end, halt_not_done}
 use Rattle.heap_shell.proofs.run.play_stopped.Goals as goal
 
--- The fuse fails where its disk fails or stops.
-pub returns-in-Err-clause-status : goal.returns-in-Err-clause-status
-returns-in-Err-clause-status g c =
-    let d = g.D.Disk in
-    let k = g.K.Sink in
-    let Q = Rose (k.faults c.args.sink.now) (k.faults c.args.sink.now) in
-    let other : c.in-Err.e ≡ opening.Disk device.Stopped → ⊥ = λ is. search rules in
-    let h = open_fault Q c.in-Err.e (d.faults c.new.result.inner + d.stops c.new.result.inner) (d.faults c.in-Err.fuse.inner + d.stops c.in-Err.fuse.inner) c.new.result.stops c.in-Err.fuse.stops other c.in-Err.ensures.cause in
-    let told = subst (λ (s : Status). IsPlayStatus (DiskRose (d.faults c.new.result.inner) (d.stops c.new.result.inner) (d.faults c.in-Err.fuse.inner) (d.stops c.in-Err.fuse.inner)) Q s) (sym c.from.ensures) h in
-    let given = subst (λ x. IsPlayStatus (DiskRose (d.faults c.new.result.inner) (d.stops c.new.result.inner) (d.faults x) (d.stops x)) Q c.from.result) (sym c.into_inner.ensures) told in
-    subst (λ x. IsPlayStatus (DiskRose (d.faults x) (d.stops x) (d.faults c.into_inner.result) (d.stops c.into_inner.result)) Q c.from.result) c.new.ensures.inner given
-
 pub returns-in-Err-clause-played : goal.returns-in-Err-clause-played
-returns-in-Err-clause-played g c tells pages legal only playable =
+returns-in-Err-clause-played g c tells pages legal only =
     let d = g.D.Disk in
     let s = made_super pages in
     let inner = c.new.ensures.inner in
     let bytes = d.bytes (fuse_inner c.new.result) in
     let legal_f = subst (λ x. IsLegal s [] (d.bytes x)) (sym inner) legal in
+    let limits = legal_f.log.limits in
+    let running = made_running pages limits in
+    let playable = all_playable (Some c.args.calls) (made_core pages) c.args.script.now running.reached c.requires in
     let only_f = subst (λ x. Only (d.bytes x) (d.may_leave x)) (sym inner) only in
     let stands = new_stands pages bytes legal_f in
     let opened = fuse_since c.new.result c.in-Err.fuse _ (c.in-Err.ensures.moments tells only_f _ _ stands) in
-    let moments = weaker d.moment d.left_since (fuse_inner c.new.result) (fuse_inner c.in-Err.fuse) (KeepsCommits made_core) (HasCommits made_core)
-    (opening_keeps d.moment d.left_since (fuse_inner c.new.result) (fuse_inner c.in-Err.fuse) pages bytes legal_f opened) (λ image keeps. keeps_has made_core image keeps) in
-    rw (c.into_inner.ensures, sym inner) (ends_unopened (Some c.args.calls) (events c.args.script.now) c.in-Err.e c.from.result _ _ _ _
-    g.K.Sink.tells (g.K.Sink.written c.args.sink.now) c.from.ensures (c.in-Err.ensures.legal tells s [] legal_f) moments (λ image left. opened_commits pages bytes legal_f image (c.in-Err.ensures.crash tells only_f _ _ stands image left)))
+    rw (c.into_inner.ensures, sym inner) (ends_unopened d pages (Some c.args.calls) (events c.args.script.now) c.in-Err.e c.from.result (fuse_inner c.new.result) (fuse_inner c.in-Err.fuse)
+    g.K.Sink.tells (g.K.Sink.written c.args.sink.now) c.from.ensures (c.in-Err.ensures.legal tells s [] legal_f)
+    (opening_keeps d.moment d.left_since (fuse_inner c.new.result) (fuse_inner c.in-Err.fuse) pages bytes legal_f opened)
+    (λ image left. opened_commits pages bytes legal_f image (c.in-Err.ensures.crash tells only_f _ _ stands image left))
+    (λ image since. g.met.D.Disk.only_now tells (fuse_inner c.in-Err.fuse) image since))
 
 -- the opening of a new heap writes nothing, so the fuse can't stop it
 pub returns-then-eq-clause-played : goal.returns-then-eq-clause-played
-returns-then-eq-clause-played g c tells pages legal only playable =
+returns-then-eq-clause-played g c tells pages legal only =
     let legal_f = subst (λ x. IsLegal (made_super pages) [] (g.D.Disk.bytes x)) (sym c.new.ensures.inner) legal in
-    let still = c.in-Err.ensures.no_first_stop tells (made_super pages) [] legal_f refl c.new.ensures.stops in
-    let is : c.in-Err.e ≡ opening.Disk device.Stopped = search rules in
-    absurd (no_stop c.new.result.stops c.in-Err.fuse.stops c.new.ensures.stops still (c.in-Err.ensures.cause.stopped (ap error_device is)))
+    let still = c.in-Err.ensures.no_first_stop tells (made_super pages) [] legal_f (no_rollback (made_super pages)) c.new.ensures.stops in
+    let is : c.in-Err.e ≡ opening.Stopped = search rules in
+    absurd (no_stop c.new.result.stops c.in-Err.fuse.stops c.new.ensures.stops still (c.in-Err.ensures.disk.cause.stopped (ap error_device is)))
 
 -- the heap is opened again
-pub returns-in-Ok-Whole : goal.returns-in-Ok-Whole
-returns-in-Ok-Whole g c = record {
-  status = search rules;
-  kept = search rules;
-  sink = search rules;
-  extent = search rules;
-  played = λ tells pages legal only playable.
-      let d = g.D.Disk in
-      let k = g.K.Sink in
-      let s = made_super pages in
-      let es = events c.args.script.now in
-      let before = k.written c.args.sink.now in
-      let after = k.written c.play_lines.new.sink in
-      let old = c.in-Ok.heap in
-      let new = c.play_lines.new.heap in
-      let inner = c.new.ensures.inner in
-      let legal_f = subst (λ x. IsLegal s [] (d.bytes x)) (sym inner) legal in
-      let only_f = subst (λ x. Only (d.bytes x) (d.may_leave x)) (sym inner) only in
-      let plays = c.play_lines.ensures.plays tells s made_core (c.in-Ok.ensures.fresh tells s legal_f only_f) (made_valid, playable.single) in
-      let since = fuse_since c.new.result new.disk (HasCommits plays.core) (since_made pages es playable c.new.result old new k.tells before after c.play_lines.result (opening_keeps _ _ c.new.result old.disk pages (d.bytes (fuse_inner c.new.result)) legal_f (c.in-Ok.ensures.moments tells only_f _ _ (new_stands pages (d.bytes (fuse_inner c.new.result)) legal_f))) plays) in
-      let limit = same_limit _ _ (c.play_lines.ensures.origin ∙ c.in-Ok.ensures.origin ∙ c.new.ensures.origin) in
-      let within = subst (λ n. fuse_passed new.disk ≤ n) limit new.disk.within in
-      let exact : (Rose (d.faults (fuse_inner old.disk) + d.stops (fuse_inner old.disk)) (d.faults (fuse_inner new.disk) + d.stops (fuse_inner new.disk)) → ⊥) → IsExact (Some c.args.calls) plays.made plays.core = λ unrisen. exact_some s es playable old new k.tells before after c.play_lines.result plays c.args.calls ((c.in-Ok.ensures.passes tells s [] legal_f).ok ∙ c.new.ensures.passed) (c.in-Ok.ensures.no_first_stop tells s [] legal_f refl c.new.ensures.stops) within
-      (λ stopped. new.disk.blown stopped ∙ limit) unrisen in
-      let kept_on = subst (λ x. d.faults (fuse_inner x) + d.stops (fuse_inner x) ≤ d.faults c.start_again-in-Ok-Whole.result.1 + d.stops c.start_again-in-Ok-Whole.result.1) c.close.ensures c.start_again-in-Ok-Whole.ensures.kept in
-      let first = c.in-Ok.ensures.cause.faults_kept in
-      let then = c.play_lines.ensures.cause.faults_kept in
-      let passes = λ (unharmed : DiskRose (d.faults (fuse_inner c.new.result)) (d.stops (fuse_inner c.new.result)) (d.faults c.start_again-in-Ok-Whole.result.1) (d.stops c.start_again-in-Ok-Whole.result.1) → ⊥).
-      passes_some s es playable old new k.tells before after c.play_lines.result plays c.args.calls ((c.in-Ok.ensures.passes tells s [] legal_f).ok ∙ c.new.ensures.passed) (c.in-Ok.ensures.no_first_stop tells s [] legal_f refl c.new.ensures.stops) within
-      (λ stopped. new.disk.blown stopped ∙ limit) (λ rose. unharmed (rose_within _ _ _ _ first then kept_on rose)) in
-      let through = min c.args.calls (total_calls made_core plays.made) in
-      let inside = λ (unharmed : DiskRose (d.faults (fuse_inner c.new.result)) (d.stops (fuse_inner c.new.result)) (d.faults c.start_again-in-Ok-Whole.result.1) (d.stops c.start_again-in-Ok-Whole.result.1) → ⊥).
-      ap (λ x. d.passed (fuse_inner x)) c.close.ensures
-      ∙ fuse_passes new.disk (fuse_inner c.new.result) through tells (same_disk _ _ (c.play_lines.ensures.origin ∙ c.in-Ok.ensures.origin ∙ c.new.ensures.origin) ∙ sym inner)
-      (λ rose. unharmed (rose_until _ _ _ kept_on rose)) (passes unharmed) in
-      let calls = λ (unharmed : DiskRose (d.faults (fuse_inner c.new.result)) (d.stops (fuse_inner c.new.result)) (d.faults c.start_again-in-Ok-Whole.result.1) (d.stops c.start_again-in-Ok-Whole.result.1) → ⊥) (opening : ℕ) (again : d.passed c.start_again-in-Ok-Whole.result.1 ≡ counted opening (d.passed (fuse_inner c.close.result))).
-      again ∙ ap (counted opening) (inside unharmed) ∙ counted-add opening through (d.passed (fuse_inner c.new.result)) in
-      let left : (image : List ℕ) → d.may_leave (fuse_inner c.close.result) image → KeepsCommits plays.core image = λ image l. kept s es playable old new k.tells before after c.play_lines.result plays image (subst (λ x. d.may_leave (fuse_inner x) image) c.close.ensures l) in
-      let again = weaker d.moment d.left_since (fuse_inner c.close.result) c.start_again-in-Ok-Whole.result.1 (KeepsCommits plays.core) (HasCommits plays.core) (c.start_again-in-Ok-Whole.ensures.moments tells plays.core left) (λ image keeps. keeps_has plays.core image keeps) in
-      let first = subst (λ x. LeavesOnly d.moment d.left_since (fuse_inner c.new.result) (fuse_inner x) (HasCommits plays.core)) (sym c.close.ensures) since in
-      let moments = opening_then d.moment d.left_since (fuse_inner c.new.result) (fuse_inner c.close.result) c.start_again-in-Ok-Whole.result.1 (HasCommits plays.core) (HasCommits plays.core) first again (λ image has. has) in
-      rw (sym inner) (ends_recovered s es playable old new k.tells before after c.play_lines.result plays _ _ _ _ moments c.args.calls c.start_again-in-Ok-Whole.result.0 (k.written c.start_again-in-Ok-Whole.new.sink) _
-      (ends_made s es playable old new k.tells before after c.play_lines.result plays c.args.calls c.in-Ok-Whole.is (λ is. search rules))
-      (λ unharmed. exact (λ rose. unharmed (rose_within _ _ _ _ c.in-Ok.ensures.cause.faults_kept c.play_lines.ensures.cause.faults_kept kept_on rose)))
-      (all_lines s es playable old new k.tells before after c.play_lines.result plays c.in-Ok-Whole.is)
-      (c.start_again-in-Ok-Whole.ensures.recovers tells plays.core left (c.commits-before.ensures ∙ c.in-Ok.ensures.count tells s [] legal_f))
-      calls);
-  restarts = λ tells done. c.start_again-in-Ok-Whole.ensures.restarts tells
-      ∙ ap (λ x. raised (g.D.Disk.restarts (fuse_inner x))) c.close.ensures
-      ∙ ap raised (c.play_lines.ensures.restarts tells ∙ c.in-Ok.ensures.restarts tells ∙ ap g.D.Disk.restarts c.new.ensures.inner);
-}
-
-pub returns-in-Ok-DiskFault-clause-played : goal.returns-in-Ok-DiskFault-clause-played
-returns-in-Ok-DiskFault-clause-played g c tells pages legal only playable =
+pub returns-in-None-clause-played : goal.returns-in-None-clause-played
+returns-in-None-clause-played g c tells pages legal only =
     let d = g.D.Disk in
     let k = g.K.Sink in
     let s = made_super pages in
     let es = events c.args.script.now in
     let before = k.written c.args.sink.now in
-    let after = k.written c.play_lines.new.sink in
+    let after = k.written c.play_lines-played.new.sink in
     let old = c.in-Ok.heap in
-    let new = c.play_lines.new.heap in
+    let new = c.play_lines-played.new.heap in
+    let start = fuse_inner c.new.result in
+    let stopped = fuse_inner new.disk in
+    let final = c.start_again-in-None.result.1 in
     let inner = c.new.ensures.inner in
+    let bytes = d.bytes start in
     let legal_f = subst (λ x. IsLegal s [] (d.bytes x)) (sym inner) legal in
+    let limits = legal_f.log.limits in
+    let running = made_running pages limits in
+    let playable = all_playable (Some c.args.calls) (made_core pages) c.args.script.now running.reached c.requires in
     let only_f = subst (λ x. Only (d.bytes x) (d.may_leave x)) (sym inner) only in
-    let plays = c.play_lines.ensures.plays tells s made_core (c.in-Ok.ensures.fresh tells s legal_f only_f) (made_valid, playable.single) in
-    let since = fuse_since c.new.result new.disk (HasCommits plays.core) (since_made pages es playable c.new.result old new k.tells before after c.play_lines.result (opening_keeps _ _ c.new.result old.disk pages (d.bytes (fuse_inner c.new.result)) legal_f (c.in-Ok.ensures.moments tells only_f _ _ (new_stands pages (d.bytes (fuse_inner c.new.result)) legal_f))) plays) in
-    let limit = same_limit _ _ (c.play_lines.ensures.origin ∙ c.in-Ok.ensures.origin ∙ c.new.ensures.origin) in
+    let stands = new_stands pages bytes legal_f in
+    let plays = c.play_lines-played.ensures.plays tells s (made_core pages) (c.in-Ok.ensures.holds tells s [] (empty_image pages bytes legal_f) only_f new_graph (new_shows s limits)) (script_ready (made_core pages) c.args.script.now running c.requires) in
+    let heap = c.in-Ok.ensures.holds tells s [] (empty_image pages bytes legal_f) only_f new_graph (new_shows s limits) in
+    let keep = kept s (made_core pages) (made_running pages limits) refl es playable old new k.tells before after c.play_lines-played.result plays in
+    let opening = same_run (made_core pages) plays.core plays.made (run_reached s (made_core pages) running refl es playable old new k.tells before after c.play_lines-played.result plays).0 in
+    let ended = early_none c.play_lines-played.result (sym c.early_end.ensures ∙ c.in-None.is) in
+    let origin = c.play_lines-played.ensures.disk.origin ∙ c.in-Ok.ensures.disk.origin ∙ c.new.ensures.origin in
+    let limit = same_limit _ _ origin in
     let within = subst (λ n. fuse_passed new.disk ≤ n) limit new.disk.within in
-    let exact : (Rose (d.faults (fuse_inner old.disk) + d.stops (fuse_inner old.disk)) (d.faults (fuse_inner new.disk) + d.stops (fuse_inner new.disk)) → ⊥) → IsExact (Some c.args.calls) plays.made plays.core = λ unrisen. exact_some s es playable old new k.tells before after c.play_lines.result plays c.args.calls ((c.in-Ok.ensures.passes tells s [] legal_f).ok ∙ c.new.ensures.passed) (c.in-Ok.ensures.no_first_stop tells s [] legal_f refl c.new.ensures.stops) within
-    (λ stopped. new.disk.blown stopped ∙ limit) unrisen in
-    let left = kept s es playable old new k.tells before after c.play_lines.result plays in
-    let closed = c.into_inner-in-Ok-DiskFault.ensures ∙ ap fuse_inner c.close-in-Ok-DiskFault.ensures in
-    rw (closed, sym inner) (ends_early s es playable old new k.tells before after c.play_lines.result plays _ _ _ _ since (Some c.args.calls) status.DiskFault tt (λ is. cc)
-    (λ t. let lines = all_lines s es playable old new k.tells before after c.play_lines.result plays c.in-Ok-DiskFault.is t in (whole_front _ _ _ lines, lines_more s es playable old new k.tells before after c.play_lines.result plays after [] lines (sym (append-nil after))))
-    (λ t fault. all_lines s es playable old new k.tells before after c.play_lines.result plays c.in-Ok-DiskFault.is t)
-    (λ unharmed. exact (λ rose. unharmed (rose_within _ _ _ _ c.in-Ok.ensures.cause.faults_kept c.play_lines.ensures.cause.faults_kept (omega arith) rose))) left)
+    let first = c.in-Ok.ensures.disk.cause.faults_kept in
+    let then = c.play_lines-played.ensures.disk.cause.faults_kept in
+    let closed = c.close.ensures in
+    let kept_on = subst (λ x. d.faults (fuse_inner x) + d.stops (fuse_inner x) ≤ d.faults final + d.stops final) closed c.start_again-in-None.ensures.disk.kept in
+    let unrisen = λ (unharmed : Unharmed d start final) (rose : Rose (d.faults (fuse_inner old.disk) + d.stops (fuse_inner old.disk)) (d.faults stopped + d.stops stopped)). unharmed (rose_within _ _ _ _ first then kept_on rose) in
+    let passed = new_passes s _ _ (c.in-Ok.ensures.passes tells s [] legal_f).ok ∙ c.new.ensures.passed in
+    let still = c.in-Ok.ensures.no_first_stop tells s [] legal_f (no_rollback (made_super pages)) c.new.ensures.stops in
+    let exact : Unharmed d start final → IsExact (Some c.args.calls) (made_core pages) plays.made plays.core = λ u. exact_some s (made_core pages) (made_running pages limits) refl es playable old new k.tells before after c.play_lines-played.result plays c.args.calls passed still within (λ blown. new.disk.blown blown ∙ limit) (unrisen u) in
+    let through = min c.args.calls (total_calls (made_core pages) plays.made) in
+    let inside : Unharmed d start final → d.passed stopped ≡ counted through (d.passed start) = λ u. fuse_passes new.disk start through tells (same_disk _ _ origin ∙ sym inner) (λ rose. u (rose_until _ _ _ kept_on rose))
+    (passes_some s (made_core pages) (made_running pages limits) refl es playable old new k.tells before after c.play_lines-played.result plays c.args.calls passed still within (λ blown. new.disk.blown blown ∙ limit) (unrisen u)) in
+    let left : (image : List ℕ) → d.may_leave (fuse_inner c.close.result) image → KeepsCommits plays.core image = λ image l. keep image (subst (λ x. d.may_leave (fuse_inner x) image) closed l) in
+    let rest = subst (λ x. LeavesOnly d.moment d.left_since (fuse_inner x) final (KeepsCommits plays.core)) closed (c.start_again-in-None.ensures.moments tells plays.core left) in
+    let recovers = subst (λ x. Recovers plays.core (λ i. StartsAgain d plays.core i (fuse_inner x) final) (d.may_leave final) c.start_again-in-None.result.0 k.tells after (k.written c.start_again-in-None.new.sink)) closed
+    (c.start_again-in-None.ensures.recovers tells plays.core left (c.commits-before.ensures (made_core pages) heap.core ∙ ap (λ (n : ℕ). min n greatest) (sym opening.before))) in
+    let steps = fuse_steps_of c.play_lines-played.ensures.disk (record {
+      moments = λ core a b run. fuse_since a b (KeepsCommits core) run;
+      images = λ fuse image may. may;
+      origin = λ a b same. same;
+      passed = λ fuse. refl;
+      faults = λ fuse. refl;
+    }) (Unharmed d start final) start tells (made_core pages) plays.core old.disk new.disk plays.made (same_disk _ _ (c.in-Ok.ensures.disk.origin ∙ c.new.ensures.origin) ∙ sym inner) (λ u rose. u (rose_until _ _ _ kept_on rose)) plays.steps in
+    let keeps : KeepsThroughout d (Unharmed d start final) (made_core pages) plays.made plays.core start final = record {
+      opened = fuse_inner old.disk;
+      opening = opening_keeps d.moment d.left_since start (fuse_inner old.disk) pages bytes legal_f (fuse_since c.new.result old.disk _ (c.in-Ok.ensures.moments tells only_f _ _ stands));
+      here = λ image may. opened_commits pages bytes legal_f image (c.in-Ok.ensures.crash tells only_f _ _ stands image may);
+      stopped = stopped;
+      steps = steps;
+      rest = rest;
+      kept = recovers.kept;
+    } in
+    rw (sym inner) (ends_recovered s (made_core pages) (made_running pages limits) refl es playable old new k.tells before after c.play_lines-played.result plays d start final keeps c.args.calls c.start_again-in-None.result.0 (k.written c.start_again-in-None.new.sink)
+    (ends_made s (made_core pages) (made_running pages limits) refl es playable old new k.tells before after c.play_lines-played.result plays c.args.calls ended) exact
+    (stopped_lines s (made_core pages) (made_running pages limits) refl es playable old new k.tells before after c.play_lines-played.result plays ended) recovers inside)
 
-pub returns-in-Err-play_lines-clause-played : goal.returns-in-Err-play_lines-clause-played
-returns-in-Err-play_lines-clause-played g c tells pages legal only playable =
+-- it ended before
+pub returns-in-Some-clause-played : goal.returns-in-Some-clause-played
+returns-in-Some-clause-played g c tells pages legal only =
     let d = g.D.Disk in
     let k = g.K.Sink in
     let s = made_super pages in
     let es = events c.args.script.now in
     let before = k.written c.args.sink.now in
-    let after = k.written c.play_lines.new.sink in
+    let after = k.written c.play_lines-played.new.sink in
     let old = c.in-Ok.heap in
-    let new = c.play_lines.new.heap in
+    let new = c.play_lines-played.new.heap in
+    let start = fuse_inner c.new.result in
+    let final = fuse_inner new.disk in
     let inner = c.new.ensures.inner in
+    let bytes = d.bytes start in
     let legal_f = subst (λ x. IsLegal s [] (d.bytes x)) (sym inner) legal in
+    let limits = legal_f.log.limits in
+    let running = made_running pages limits in
+    let playable = all_playable (Some c.args.calls) (made_core pages) c.args.script.now running.reached c.requires in
     let only_f = subst (λ x. Only (d.bytes x) (d.may_leave x)) (sym inner) only in
-    let plays = c.play_lines.ensures.plays tells s made_core (c.in-Ok.ensures.fresh tells s legal_f only_f) (made_valid, playable.single) in
-    let since = fuse_since c.new.result new.disk (HasCommits plays.core) (since_made pages es playable c.new.result old new k.tells before after c.play_lines.result (opening_keeps _ _ c.new.result old.disk pages (d.bytes (fuse_inner c.new.result)) legal_f (c.in-Ok.ensures.moments tells only_f _ _ (new_stands pages (d.bytes (fuse_inner c.new.result)) legal_f))) plays) in
-    let limit = same_limit _ _ (c.play_lines.ensures.origin ∙ c.in-Ok.ensures.origin ∙ c.new.ensures.origin) in
+    let stands = new_stands pages bytes legal_f in
+    let plays = c.play_lines-played.ensures.plays tells s (made_core pages) (c.in-Ok.ensures.holds tells s [] (empty_image pages bytes legal_f) only_f new_graph (new_shows s limits)) (script_ready (made_core pages) c.args.script.now running c.requires) in
+    let heap = c.in-Ok.ensures.holds tells s [] (empty_image pages bytes legal_f) only_f new_graph (new_shows s limits) in
+    let keep = kept s (made_core pages) (made_running pages limits) refl es playable old new k.tells before after c.play_lines-played.result plays in
+    let halted = early_some c.play_lines-played.result c.in-Some.status (sym c.early_end.ensures ∙ c.in-Some.is) in
+    let origin = c.play_lines-played.ensures.disk.origin ∙ c.in-Ok.ensures.disk.origin ∙ c.new.ensures.origin in
+    let limit = same_limit _ _ origin in
     let within = subst (λ n. fuse_passed new.disk ≤ n) limit new.disk.within in
-    let exact : (Rose (d.faults (fuse_inner old.disk) + d.stops (fuse_inner old.disk)) (d.faults (fuse_inner new.disk) + d.stops (fuse_inner new.disk)) → ⊥) → IsExact (Some c.args.calls) plays.made plays.core = λ unrisen. exact_some s es playable old new k.tells before after c.play_lines.result plays c.args.calls ((c.in-Ok.ensures.passes tells s [] legal_f).ok ∙ c.new.ensures.passed) (c.in-Ok.ensures.no_first_stop tells s [] legal_f refl c.new.ensures.stops) within
-    (λ stopped. new.disk.blown stopped ∙ limit) unrisen in
-    let left = kept s es playable old new k.tells before after c.play_lines.result plays in
-    let closed = c.into_inner-in-Err-play_lines.ensures ∙ ap fuse_inner c.close-in-Err-play_lines.ensures in
-    rw (closed, sym inner) (ends_early s es playable old new k.tells before after c.play_lines.result plays _ _ _ _ since (Some c.args.calls) c.in-Err-play_lines.status (output_end _ _ c.in-Err-play_lines.status c.in-Err-play_lines.ensures.output) (output_not_done _ _ c.in-Err-play_lines.status c.in-Err-play_lines.ensures.output)
-    (some_lines s es playable old new k.tells before after c.play_lines.result plays c.in-Err-play_lines.is)
-    (λ t fault. absurd (output_no_fault _ _ c.in-Err-play_lines.status c.in-Err-play_lines.ensures.output fault))
-    (λ unharmed. exact (λ rose. unharmed (rose_within _ _ _ _ c.in-Ok.ensures.cause.faults_kept c.play_lines.ensures.cause.faults_kept (omega arith) rose))) left)
+    let first = c.in-Ok.ensures.disk.cause.faults_kept in
+    let unrisen = λ (unharmed : Unharmed d start final) (rose : Rose (d.faults (fuse_inner old.disk) + d.stops (fuse_inner old.disk)) (d.faults final + d.stops final)). unharmed (rose_within _ _ _ _ first c.play_lines-played.ensures.disk.cause.faults_kept (omega arith) rose) in
+    let passed = new_passes s _ _ (c.in-Ok.ensures.passes tells s [] legal_f).ok ∙ c.new.ensures.passed in
+    let still = c.in-Ok.ensures.no_first_stop tells s [] legal_f (no_rollback (made_super pages)) c.new.ensures.stops in
+    let exact : Unharmed d start final → IsExact (Some c.args.calls) (made_core pages) plays.made plays.core = λ u. exact_some s (made_core pages) (made_running pages limits) refl es playable old new k.tells before after c.play_lines-played.result plays c.args.calls passed still within (λ blown. new.disk.blown blown ∙ limit) (unrisen u) in
+    let steps = fuse_steps_of c.play_lines-played.ensures.disk (record {
+      moments = λ core a b run. fuse_since a b (KeepsCommits core) run;
+      images = λ fuse image may. may;
+      origin = λ a b same. same;
+      passed = λ fuse. refl;
+      faults = λ fuse. refl;
+    }) (Unharmed d start final) start tells (made_core pages) plays.core old.disk new.disk plays.made (same_disk _ _ (c.in-Ok.ensures.disk.origin ∙ c.new.ensures.origin) ∙ sym inner) (λ u rose. u rose) plays.steps in
+    let keeps : KeepsThroughout d (Unharmed d start final) (made_core pages) plays.made plays.core start final = record {
+      opened = fuse_inner old.disk;
+      opening = opening_keeps d.moment d.left_since start (fuse_inner old.disk) pages bytes legal_f (fuse_since c.new.result old.disk _ (c.in-Ok.ensures.moments tells only_f _ _ stands));
+      here = λ image may. opened_commits pages bytes legal_f image (c.in-Ok.ensures.crash tells only_f _ _ stands image may);
+      stopped = final;
+      steps = steps;
+      rest = begins d.moment d.left_since final (KeepsCommits plays.core) (λ image since. keep image (g.met.D.Disk.only_now tells final image since));
+      kept = keep;
+    } in
+    let part = halt_part s (made_core pages) (made_running pages limits) refl es playable old new k.tells before after c.play_lines-played.result plays halted.0 halted.1 in
+    let closed = c.into_inner-in-Some.ensures ∙ ap fuse_inner c.close-in-Some.ensures in
+    rw (closed, halted.3, sym inner) (ends_early s (made_core pages) (made_running pages limits) refl es playable old new k.tells before after c.play_lines-played.result plays d start final keeps
+    (Some c.args.calls) _ (halt_end halted.0) (halt_not_done halted.0) part
+    (halt_lines s (made_core pages) (made_running pages limits) refl es playable old new k.tells before after c.play_lines-played.result plays halted.0 halted.1) exact
+    (inr (halt_not_done halted.0, λ t. (part t).0)))

@@ -1,14 +1,23 @@
-use Rattle.std.proofs.Common.{◌≡◌, inr, ◌+◌, ◌≤◌, List, Some, None, Ok, arith, sym, ap, ◌∙◌, subst}
+use Rattle.std.proofs.Common.{◌≡◌, ◌≢◌, inl, inr, List, Some, None, Ok, Err, sym, ap, ◌∙◌, subst, refl, arith}
 use Rattle.script_text.specs.declared.line.Line.{Line}
+use Rattle.heap_core.specs.declared.errors.FormatError.{FormatError}
 use Rattle.heap_model.specs.Ending.{all_events}
-use Rattle.heap_shell.specs.CoreLawsPlay.{script_playable}
+use Rattle.heap_shell.specs.CoreLawsPlay.{made_reached, script_is, all_playable}
 use Rattle.heap_shell.specs.Headline.{made_super, made_core}
-use Rattle.heap_shell.specs.Playable.{IsPlayable}
+use Rattle.heap_shell.specs.Playable.{IsScript}
 use Rattle.script_text.specs.Line.{events}
 use Rattle.script_text.specs.Script.{script}
-use Rattle.heap_core.proofs.Causes.{rose_since}
-use Rattle.heap_shell.proofs.RunLaws.{made_played, end_sound, end_done}
+use Rattle.disk_model.specs.KeepsLaws.{rose_since}
+use Rattle.heap_shell.proofs.RunLaws.{large_made, not_made, end_sound, end_done, crash_safe}
 use Rattle.heap_shell.proofs.run.run.Goals as goal
+
+pub returns-in-Err-format-clause-headline : goal.returns-in-Err-format-clause-headline
+returns-in-Err-format-clause-headline g c tells only play is =
+    let d = g.D.Disk in
+    let k = g.K.Sink in
+    let made = c.in-Err-format.ensures in
+    let same : play ≡ c.in-Some.play = cc (is, c.in-Some.is, c.read_words.ensures) in
+    rw same (inl (not_made d (made_super c.in-Some.play.pages) c.args.disk c.in-Err-format.disk c.in-Err-format.e c.from.result k.tells (k.written c.args.sink.now) c.from.ensures (λ less. (ap (λ (p : FormatError × g.row.D.Denot). p.0) (made.small less), ap (λ (p : FormatError × g.row.D.Denot). p.1) (made.small less))) made.large made.disk (made.passes tells) (made.moments tells only)))
 
 pub returns-in-None-clause-headline : goal.returns-in-None-clause-headline
 returns-in-None-clause-headline g c tells only play is =
@@ -16,34 +25,30 @@ returns-in-None-clause-headline g c tells only play is =
     let k = g.K.Sink in
     let read = c.in-Ok.ensures.script in
     let made = c.in-Ok-format.ensures.made tells in
-    let playable = subst (λ (ls : List Line). IsPlayable (all_events None made_core (events ls))) (sym c.deref.ensures.value) (script_playable read.0 c.in-Ok.script.items None read.1) in
-    let played = c.play_whole.ensures.played tells c.in-Some.play.pages made.0 made.1 playable in
-    let first : d.faults c.args.disk + d.stops c.args.disk ≤ d.faults c.in-Ok-format.disk + d.stops c.in-Ok-format.disk = omega (arith, c.in-Ok-format.ensures.cause.faults_kept, c.in-Ok-format.ensures.cause.stops_kept) in
+    let played = c.play_whole.ensures.played tells c.in-Some.play.pages made.0 made.1 in
     let same : play ≡ c.in-Some.play = cc (is, c.in-Some.is, c.read_words.ensures) in
-    let all = made_played d None (all_events None made_core (events c.deref.result.now)) c.play_whole.result.0 (made_super c.in-Some.play.pages) c.args.disk c.in-Ok-format.disk c.play_whole.result.1 _ (d.may_leave c.play_whole.result.1) k.tells (k.written c.args.sink.now) (k.written c.play_whole.new.sink)
-    (c.in-Ok-format.ensures.moments tells only) made.0 made.1 (c.in-Ok-format.ensures.passed tells) first c.play_whole.ensures.kept played in
-    rw same (inr (c.deref.result.now, (λ t. ap script (sym (read.2 t)) ∙ read.1 ∙ ap (λ (ls : List Line). Ok ls) (sym c.deref.ensures.value)), rw c.in-None.is all))
+    rw same (inr (record {
+      lines = c.deref.result.now;
+      script = λ t. ap script (sym (read.2 t)) ∙ read.1 ∙ ap (λ (ls : List Line). Ok ls) (sym c.deref.ensures.value);
+      made = c.in-Ok-format.disk;
+      format = record { moments = c.in-Ok-format.ensures.moments tells only; empty = made.0; only = made.1; passed = (c.in-Ok-format.ensures.passes tells (large_made _ _ c.in-Ok-format.ensures.small)).ok };
+      played = rw c.in-None.is played;
+    }))
 
 pub returns-in-None-clause-sound : goal.returns-in-None-clause-sound
 returns-in-None-clause-sound g c tells only =
-    let d = g.D.Disk in
-    let k = g.K.Sink in
     let read = c.in-Ok.ensures.script in
     let made = c.in-Ok-format.ensures.made tells in
-    let playable = subst (λ (ls : List Line). IsPlayable (all_events None made_core (events ls))) (sym c.deref.ensures.value) (script_playable read.0 c.in-Ok.script.items None read.1) in
-    let played = c.play_whole.ensures.played tells c.in-Some.play.pages made.0 made.1 playable in
+    let played = c.play_whole.ensures.played tells c.in-Some.play.pages made.0 made.1 in
     end_sound c.play_whole.result.0 played.end
 
 pub returns-in-None-clause-complete : goal.returns-in-None-clause-complete
 returns-in-None-clause-complete g c tells only play is large told lines good no_source no_sink no_disk =
-    let d = g.D.Disk in
-    let k = g.K.Sink in
     let read = c.in-Ok.ensures.script in
     let made = c.in-Ok-format.ensures.made tells in
-    let playable = subst (λ (ls : List Line). IsPlayable (all_events None made_core (events ls))) (sym c.deref.ensures.value) (script_playable read.0 c.in-Ok.script.items None read.1) in
-    let played = c.play_whole.ensures.played tells c.in-Some.play.pages made.0 made.1 playable in
-    let first : d.faults c.args.disk + d.stops c.args.disk ≤ d.faults c.in-Ok-format.disk + d.stops c.in-Ok-format.disk = omega (arith, c.in-Ok-format.ensures.cause.faults_kept, c.in-Ok-format.ensures.cause.stops_kept) in
-    end_done _ _ c.play_whole.result.0 played.end c.play_whole.ensures.status (λ rose. no_disk (rose_since _ _ _ first c.play_whole.ensures.kept rose)) no_sink
+    let played = c.play_whole.ensures.played tells c.in-Some.play.pages made.0 made.1 in
+    let harm = c.in-Ok-format.ensures.disk.cause in
+    end_done _ _ c.play_whole.result.0 played.end c.play_whole.ensures.disk.cause c.play_whole.ensures.sink.cause (λ rose. no_disk (rose_since _ _ _ (omega (arith, harm.faults_kept, harm.stops_kept)) c.play_whole.ensures.disk.kept rose)) no_sink
 
 pub returns-clause-headline : goal.returns-clause-headline
 returns-clause-headline g c tells only play is =
@@ -51,31 +56,64 @@ returns-clause-headline g c tells only play is =
     let k = g.K.Sink in
     let read = c.in-Ok.ensures.script in
     let made = c.in-Ok-format.ensures.made tells in
-    let playable = subst (λ (ls : List Line). IsPlayable (all_events (Some c.in-Some-stop.calls) made_core (events ls))) (sym c.deref-in-Some-stop.ensures.value) (script_playable read.0 c.in-Ok.script.items (Some c.in-Some-stop.calls) read.1) in
-    let played = c.play_stopped.ensures.played tells c.in-Some.play.pages made.0 made.1 playable in
-    let first : d.faults c.args.disk + d.stops c.args.disk ≤ d.faults c.in-Ok-format.disk + d.stops c.in-Ok-format.disk = omega (arith, c.in-Ok-format.ensures.cause.faults_kept, c.in-Ok-format.ensures.cause.stops_kept) in
+    let played = c.play_stopped.ensures.played tells c.in-Some.play.pages made.0 made.1 in
     let same : play ≡ c.in-Some.play = cc (is, c.in-Some.is, c.read_words.ensures) in
-    let all = made_played d (Some c.in-Some-stop.calls) (events c.deref-in-Some-stop.result.now) c.play_stopped.result.0 (made_super c.in-Some.play.pages) c.args.disk c.in-Ok-format.disk c.play_stopped.result.1 _ (d.may_leave c.play_stopped.result.1) k.tells (k.written c.args.sink.now) (k.written c.play_stopped.new.sink)
-    (c.in-Ok-format.ensures.moments tells only) made.0 made.1 (c.in-Ok-format.ensures.passed tells) first c.play_stopped.ensures.kept played in
-    rw same (inr (c.deref-in-Some-stop.result.now, (λ t. ap script (sym (read.2 t)) ∙ read.1 ∙ ap (λ (ls : List Line). Ok ls) (sym c.deref-in-Some-stop.ensures.value)), rw c.in-Some-stop.is all))
+    rw same (inr (record {
+      lines = c.deref-in-Some-stop.result.now;
+      script = λ t. ap script (sym (read.2 t)) ∙ read.1 ∙ ap (λ (ls : List Line). Ok ls) (sym c.deref-in-Some-stop.ensures.value);
+      made = c.in-Ok-format.disk;
+      format = record { moments = c.in-Ok-format.ensures.moments tells only; empty = made.0; only = made.1; passed = (c.in-Ok-format.ensures.passes tells (large_made _ _ c.in-Ok-format.ensures.small)).ok };
+      played = rw c.in-Some-stop.is played;
+    }))
 
 pub returns-clause-sound : goal.returns-clause-sound
 returns-clause-sound g c tells only =
-    let d = g.D.Disk in
-    let k = g.K.Sink in
     let read = c.in-Ok.ensures.script in
     let made = c.in-Ok-format.ensures.made tells in
-    let playable = subst (λ (ls : List Line). IsPlayable (all_events (Some c.in-Some-stop.calls) made_core (events ls))) (sym c.deref-in-Some-stop.ensures.value) (script_playable read.0 c.in-Ok.script.items (Some c.in-Some-stop.calls) read.1) in
-    let played = c.play_stopped.ensures.played tells c.in-Some.play.pages made.0 made.1 playable in
+    let played = c.play_stopped.ensures.played tells c.in-Some.play.pages made.0 made.1 in
     end_sound c.play_stopped.result.0 played.end
 
 pub returns-clause-complete : goal.returns-clause-complete
 returns-clause-complete g c tells only play is large told lines good no_source no_sink no_disk =
+    let read = c.in-Ok.ensures.script in
+    let made = c.in-Ok-format.ensures.made tells in
+    let played = c.play_stopped.ensures.played tells c.in-Some.play.pages made.0 made.1 in
+    let harm = c.in-Ok-format.ensures.disk.cause in
+    end_done _ _ c.play_stopped.result.0 played.end c.play_stopped.ensures.disk.cause c.play_stopped.ensures.sink.cause (λ rose. no_disk (rose_since _ _ _ (omega (arith, harm.faults_kept, harm.stops_kept)) c.play_stopped.ensures.disk.kept rose)) no_sink
+
+pub returns-in-Err-format-clause-crash_safe : goal.returns-in-Err-format-clause-crash_safe
+returns-in-Err-format-clause-crash_safe g c tells only play is =
     let d = g.D.Disk in
+    let k = g.K.Sink in
+    let made = c.in-Err-format.ensures in
+    let same : play ≡ c.in-Some.play = cc (is, c.in-Some.is, c.read_words.ensures) in
+    rw same (inl (not_made d (made_super c.in-Some.play.pages) c.args.disk c.in-Err-format.disk c.in-Err-format.e c.from.result k.tells (k.written c.args.sink.now) c.from.ensures
+    (λ less. (ap (λ (p : FormatError × g.row.D.Denot). p.0) (made.small less), ap (λ (p : FormatError × g.row.D.Denot). p.1) (made.small less))) made.large made.disk (made.passes tells) (made.moments tells only)))
+
+pub returns-in-None-clause-crash_safe : goal.returns-in-None-clause-crash_safe
+returns-in-None-clause-crash_safe g c tells only play is =
     let k = g.K.Sink in
     let read = c.in-Ok.ensures.script in
     let made = c.in-Ok-format.ensures.made tells in
-    let playable = subst (λ (ls : List Line). IsPlayable (all_events (Some c.in-Some-stop.calls) made_core (events ls))) (sym c.deref-in-Some-stop.ensures.value) (script_playable read.0 c.in-Ok.script.items (Some c.in-Some-stop.calls) read.1) in
-    let played = c.play_stopped.ensures.played tells c.in-Some.play.pages made.0 made.1 playable in
-    let first : d.faults c.args.disk + d.stops c.args.disk ≤ d.faults c.in-Ok-format.disk + d.stops c.in-Ok-format.disk = omega (arith, c.in-Ok-format.ensures.cause.faults_kept, c.in-Ok-format.ensures.cause.stops_kept) in
-    end_done _ _ c.play_stopped.result.0 played.end c.play_stopped.ensures.status (λ rose. no_disk (rose_since _ _ _ first c.play_stopped.ensures.kept rose)) no_sink
+    let es = all_events None (made_core c.in-Some.play.pages) (events c.deref.result.now) in
+    let played = c.play_whole.ensures.played tells c.in-Some.play.pages made.0 made.1 in
+    let same : play ≡ c.in-Some.play = cc (is, c.in-Some.is, c.read_words.ensures) in
+    let safe = crash_safe g.D.Disk (λ disk image since. g.met.D.Disk.only_now tells disk image since) c.in-Ok-format.disk c.play_whole.result.1 None (made_core c.in-Some.play.pages) es c.play_whole.result.0 k.tells (k.written c.args.sink.now) (k.written c.play_whole.new.sink) (made_reached c.in-Some.play.pages made.0.log.limits) (all_playable None (made_core c.in-Some.play.pages) c.deref.result.now (made_reached c.in-Some.play.pages made.0.log.limits) (subst IsScript (sym c.deref.ensures.value) (script_is read.0 c.in-Ok.script.items read.1))).single played in
+    rw (same, c.in-None.is) (inr (c.in-Ok-format.disk, safe))
+
+pub returns-clause-crash_safe : goal.returns-clause-crash_safe
+returns-clause-crash_safe g c tells only play is =
+    let k = g.K.Sink in
+    let read = c.in-Ok.ensures.script in
+    let made = c.in-Ok-format.ensures.made tells in
+    let es = events c.deref-in-Some-stop.result.now in
+    let played = c.play_stopped.ensures.played tells c.in-Some.play.pages made.0 made.1 in
+    let same : play ≡ c.in-Some.play = cc (is, c.in-Some.is, c.read_words.ensures) in
+    let safe = crash_safe g.D.Disk (λ disk image since. g.met.D.Disk.only_now tells disk image since) c.in-Ok-format.disk c.play_stopped.result.1 (Some c.in-Some-stop.calls) (made_core c.in-Some.play.pages) es c.play_stopped.result.0 k.tells (k.written c.args.sink.now) (k.written c.play_stopped.new.sink) (made_reached c.in-Some.play.pages made.0.log.limits) (all_playable (Some c.in-Some-stop.calls) (made_core c.in-Some.play.pages) c.deref-in-Some-stop.result.now (made_reached c.in-Some.play.pages made.0.log.limits) (subst IsScript (sym c.deref-in-Some-stop.ensures.value) (script_is read.0 c.in-Ok.script.items read.1))).single played in
+    rw (same, c.in-Some-stop.is) (inr (c.in-Ok-format.disk, safe))
+
+pub play_whole-requires : goal.play_whole-requires
+play_whole-requires g c = let read = c.in-Ok.ensures.script in subst IsScript (sym c.deref.ensures.value) (script_is read.0 c.in-Ok.script.items read.1)
+
+pub play_stopped-requires : goal.play_stopped-requires
+play_stopped-requires g c = let read = c.in-Ok.ensures.script in subst IsScript (sym c.deref-in-Some-stop.ensures.value) (script_is read.0 c.in-Ok.script.items read.1)

@@ -1,10 +1,10 @@
 use Rattle.std.proofs.Common.{◌≡◌, ℕ, List, sym, ap, ◌∙◌, subst}
-use Rattle.counts.specs.Count.{counted}
+use Rattle.counts.specs.Count.{raised}
 use Rattle.disk_model.specs.Fuse.{fuse_inner}
 use Rattle.disk_model.specs.Moments.{LeavesOnly, begins, goes_on}
 use Rattle.heap_model.specs.CoreCrash.{KeepsCommits}
-use Rattle.heap_shell.specs.Output.{Recovers}
 use Rattle.heap_shell.proofs.PlayOpen.{opening_then}
+use Rattle.heap_shell.proofs.PrintRecovered.{recovers_again}
 use Rattle.heap_shell.proofs.run.start_again.Goals as goal
 
 -- a restart leaves one of the images that the crash could leave, and so does the opening behind it
@@ -26,8 +26,9 @@ pub returns-clause-recovers : goal.returns-clause-recovers
 returns-clause-recovers g c tells core leaves none =
     let d = g.D.Disk in
     let k = g.K.Sink in
-    let image = d.bytes c.restart.new.self in
-    let left = leaves image (subst (λ x. d.may_leave x image) c.into_inner-disk.ensures (c.restart.ensures.left tells)) in
-    let same : d.passed c.restart.new.self ≡ d.passed (fuse_inner c.args.fuse) = c.restart.ensures.passed tells ∙ ap d.passed c.into_inner-disk.ensures in
-    subst (λ (before : ℕ). Recovers core c.print_recovered.result.0 (d.may_leave c.print_recovered.result.1) (λ n. d.passed c.print_recovered.result.1 ≡ counted n before) k.tells (k.written c.args.sink.now) (k.written c.print_recovered.new.sink)) same
-    (c.print_recovered.ensures.recovers tells core left (c.restart.ensures.durable tells) none)
+    let again = c.restart.new.self in
+    let inner = c.into_inner-disk.ensures in
+    let may = subst (λ x. d.may_leave x (d.bytes again)) inner (c.restart.ensures.left tells) in
+    recovers_again d core (fuse_inner c.args.fuse) again c.print_recovered.result.1 c.print_recovered.result.0 k.tells (k.written c.args.sink.now) (k.written c.print_recovered.new.sink) may
+    (c.restart.ensures.restarts tells ∙ ap (λ x. raised (d.restarts x)) inner) (c.restart.ensures.passed tells ∙ ap d.passed inner)
+    (c.print_recovered.ensures.recovers tells core (leaves (d.bytes again) may) (c.restart.ensures.durable tells) none)

@@ -1,0 +1,37 @@
+-- What a run promises of crashes, in short: it follows from the headline.
+use Rattle.std.specs.Prelude.{◌≡◌, ◌⊎◌, ℕ, ◌≤◌, List, ◌++◌, length, take, Bool, IsTrue, Option}
+use Rattle.disk_model.specs.declared.disk.Disk.{Ghosts}
+use Rattle.disk_model.specs.Moments.{LeavesOnly}
+use Rattle.graph_model.specs.declared.event.Event.{Event}
+use Rattle.graph_model.specs.History.{commits, acknowledged}
+use Rattle.graph_model.specs.Transaction.{serial, serial_replies}
+use Rattle.heap_model.specs.Core.{Core}
+use Rattle.heap_model.specs.CoreReplies.{call_replies_of}
+use Rattle.heap_shell.specs.declared.command.Play.{Play}
+use Rattle.heap_shell.specs.declared.status.Status.{Status}
+use Rattle.heap_shell.specs.declared.status.Status.TheVariants as status
+use Rattle.heap_shell.specs.Headline.{made_super, made_core, end_text, Unharmed, IsNotMade}
+use Rattle.heap_shell.specs.Play.{lines_text}
+use Rattle.heap_shell.specs.Steps.{Step, AreSteps}
+use Rattle.heap_model.specs.CoreCrash.{HasAtLeast}
+
+module _ {D : Type 0} (g : Ghosts D) where
+  -- A heap was opened as the core c on a disk, and these events were made.
+  pub record IsCrashSafe (stop : Option ℕ) (c : Core) (start final : D) (result : Status) (told : Bool) (before after : List ℕ) : Type 0 where
+    pub made : List Event
+    pub core : Core
+    pub opened : D
+    -- At each moment an image is that of the first k commits.
+    pub each : LeavesOnly g.moment g.left_since start final (HasAtLeast core (acknowledged c.history))
+    -- Whichever of the events had been made: from the moment on at which the last of them was answered k is no less than what had been acknowledged by then.
+    pub lasting : (front rest : List Event) → made ≡ front ++ rest
+        → (mid : Core) × (then : D) × AreSteps (Step g (Unharmed g start final)) c opened front mid then × LeavesOnly g.moment g.left_since then final (HasAtLeast core (acknowledged mid.history))
+    -- Each commit had the replies that the commits have one after another.
+    pub replies : call_replies_of core.history ≡ serial_replies core.g0 (commits core.history)
+    -- What is printed of a run that is done is the graph of the first k commits, for the k that is printed.
+    pub printed : result ≡ status.Done → IsTrue told → (k : ℕ) × (k ≤ length (commits core.history)) × (after ≡ before ++ (lines_text core.history ++ end_text stop k (serial core.g0 (take k (commits core.history)))))
+
+  -- Either no heap was made, or it is crash safe from then on.
+  abbrev pub RunsSafely : Play → D → D → Status → Bool → List ℕ → List ℕ → Type 0
+  RunsSafely play old new result told before after =
+      IsNotMade g (made_super play.pages) old new result told before after ⊎ ((made : D) × IsCrashSafe play.stop (made_core play.pages) made new result told before after)
