@@ -121,4 +121,3 @@ module _ {D : Type 0} (g : Ghosts D) (now : (disk : D) (image : List ℕ) → g.
         replies = played.replies;
         printed = λ done t. (played.prints.count, played.prints.most, (played.prints.written t).whole done);
       }
-

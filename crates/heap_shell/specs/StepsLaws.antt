@@ -128,13 +128,17 @@ module _ {D : Type 0} (g : Ghosts D) where
         let kept = kept_at c mid old between before here parts.2 in
         let more = run_acknowledges mid d behind second in
         let least = acknowledged mid.history in
-        let last = steps_last mid d between new behind at_mid (AllByRecursion-behind IsSingleSession before behind single) kept parts.3 in
-        (mid, between, parts.2, weaker g.moment g.left_since between final _ (HasAtLeast d least)
-        (joined g.moment g.left_since between new final (HasAtLeast d least) (KeepsCommits d) last rest)
-        (λ image either. ⊎_elim
-        (λ (has : HasAtLeast d least image). has)
-        (λ (keeps : KeepsCommits d image). has_fewer d (acknowledged d.history) least image more (keeps_at_least d image keeps))
-        either))
+        let last = steps_last mid d between new behind at_mid (AllByRecursion-behind IsSingleSession before behind single) kept parts.3 in (
+          mid,
+          between,
+          parts.2,
+          weaker g.moment g.left_since between final _ (HasAtLeast d least)
+              (joined g.moment g.left_since between new final (HasAtLeast d least) (KeepsCommits d) last rest)
+              (λ image either. ⊎_elim
+              (λ (has : HasAtLeast d least image). has)
+              (λ (keeps : KeepsCommits d image). has_fewer d (acknowledged d.history) least image more (keeps_at_least d image keeps))
+              either),
+        )
       where
         kept_at : (c d : Core) (old new : D) (events : List Event) → ((image : List ℕ) → g.may_leave old image → KeepsCommits c image) → AreSteps (Step g unharmed) c old events d new
             → (image : List ℕ) → g.may_leave new image → KeepsCommits d image

@@ -117,11 +117,7 @@ fn play_ending<D: Disk, K: Sink>(
     play_force(alloc, heap, sink)
 }
 
-fn play_abort<D: Disk, K: Sink>(
-    alloc: Global,
-    heap: &mut Heap<D>,
-    sink: &mut K,
-) -> Result<(), Halt>
+fn play_abort<D: Disk, K: Sink>(alloc: Global, heap: &mut Heap<D>, sink: &mut K) -> Result<(), Halt>
     ensures disk { KeepsDisk D.Disk (heap_disk heap.old) (heap_disk heap.new) (played_device result) }
     ensures sink { StreamCause (K.faults sink.old) (K.faults sink.new) (result ≡ Err Halt.WriteFault) }
     ensures core { (c : Core) → IsCore c heap.old → IsRunning c → PlaysCore c (aborting c) heap.new K.tells (K.written sink.old) (K.written sink.new) result }
@@ -133,11 +129,7 @@ fn play_abort<D: Disk, K: Sink>(
     play_event(alloc, heap, Event::Abort { s: 1 }, sink)
 }
 
-fn play_force<D: Disk, K: Sink>(
-    alloc: Global,
-    heap: &mut Heap<D>,
-    sink: &mut K,
-) -> Result<(), Halt>
+fn play_force<D: Disk, K: Sink>(alloc: Global, heap: &mut Heap<D>, sink: &mut K) -> Result<(), Halt>
     ensures disk { KeepsDisk D.Disk (heap_disk heap.old) (heap_disk heap.new) (played_device result) }
     ensures sink { StreamCause (K.faults sink.old) (K.faults sink.new) (result ≡ Err Halt.WriteFault) }
     ensures core { (c : Core) → IsCore c heap.old → IsRunning c → PlaysCore c (forcing c) heap.new K.tells (K.written sink.old) (K.written sink.new) result }
