@@ -1,5 +1,5 @@
 -- How many device calls of a format passed.
-use Rattle.std.proofs.Common.{◌≡◌, ℕ, suc, ◌+◌, ◌<◌, ◌≤◌, Result, Ok, Err, refl, ◌∙◌, ap, arith}
+use Rattle.std.proofs.Common.{◌≡◌, ℕ, suc, ◌+◌, ◌<◌, Result, Ok, Err, refl, ◌∙◌, ap, arith}
 use Rattle.counts.specs.Count.{raised, counted}
 use Rattle.disk_model.specs.Disk.{passed_after}
 use Rattle.disk_model.specs.declared.disk.DiskError.{DiskError}

@@ -22,17 +22,14 @@ use Rattle.graph_model.specs.Transaction.{Transaction, serial}
 use Rattle.graph_model.specs.History.{Account, account, account_after, sealed, commits, acknowledged}
 use Rattle.graph_model.specs.HistoryLaws.{account-append}
 use Rattle.graph_model.specs.PlainLaws.{IsNoFault, account_after-refused}
-use Rattle.image_plan.specs.declared.superblock.Super.{Super}
 use Rattle.log_records.specs.declared.Record.{Record}
 use Rattle.log_records.specs.Record.{spellings}
 use Rattle.heap_core.specs.Causes.{reply_device}
 use Rattle.heap_model.specs.Core.{Core, core_refusal, with_entry, force_calls, calls_if, calls}
 use Rattle.heap_model.specs.CoreCrash.{KeepsCommits}
-use Rattle.heap_model.specs.CoreLawsCrash.{crash_law}
 use Rattle.heap_model.specs.CoreLawsRun.{failed_refusal, calls-forced}
-use Rattle.heap_model.specs.CoreValid.{IsValid, IsSound}
-use Rattle.heap_model.specs.Image.{StandsFor, Holds}
-use Rattle.heap_core.specs.Means.{DiskHolds}
+use Rattle.heap_model.specs.CoreValid.{IsValid}
+use Rattle.heap_model.specs.Image.{StandsFor}
 use Rattle.heap_core.proofs.MeansLog.{some_spellings}
 
 -- an entry that neither commits nor acknowledges anything

@@ -7,7 +7,7 @@ use Rattle.graph_model.specs.declared.reply.Refusal.TheVariants.{AlreadyActive, 
 use Rattle.graph_model.specs.declared.reply.Reply.{Reply}
 use Rattle.graph_model.specs.declared.reply.Reply.TheVariants.{Refused}
 use Rattle.graph_model.specs.declared.val.Val.{Val}
-use Rattle.graph_model.specs.declared.val.Val.TheVariants.{Null, Int, Ref}
+use Rattle.graph_model.specs.declared.val.Val.TheVariants.{Ref}
 use Rattle.graph_model.specs.Plain.{no_number, no_int}
 use Rattle.graph_model.specs.Transaction.{value_reply}
 use Rattle.log_records.specs.declared.Record.{Record}

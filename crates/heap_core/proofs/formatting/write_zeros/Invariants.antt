@@ -1,4 +1,4 @@
-use Rattle.std.proofs.Common.{◌≡◌, ℕ, ◌-◌, ◌≤◌, List, Ok}
+use Rattle.std.proofs.Common.{ℕ, ◌-◌, ◌≤◌, List, Ok}
 use Rattle.std.specs.Prelude.{IsTrue}
 use Rattle.disk_model.specs.Disk.{Follows, SameOutside}
 use Rattle.disk_model.specs.Keeps.{KeepsDisk}

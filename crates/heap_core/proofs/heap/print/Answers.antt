@@ -1,4 +1,4 @@
-use Rattle.std.proofs.Common.{◌≡◌, ◌≢◌, ℕ, List, Err, refl, sym, ap, ◌∙◌, subst, rules}
+use Rattle.std.proofs.Common.{◌≡◌, ℕ, List, Err, refl, sym, ap, ◌∙◌, subst, rules}
 use Rattle.object_layout.specs.Layout.{IsSeen}
 use Rattle.heap_core.specs.Causes.{graph_error}
 use Rattle.graph_print.specs.PrintFailure.{print_failure}

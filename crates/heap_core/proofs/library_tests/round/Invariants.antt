@@ -1,4 +1,4 @@
-use Rattle.std.proofs.Common.{ℕ, List, IsTrue, take}
+use Rattle.std.proofs.Common.{ℕ, IsTrue, take}
 use Rattle.disk_model.specs.Disk.{Only}
 use Rattle.graph_model.specs.Graph.{Graph}
 use Rattle.heap_model.specs.Image.{StandsFor}

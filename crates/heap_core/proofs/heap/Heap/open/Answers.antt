@@ -1,4 +1,4 @@
-use Rattle.std.proofs.Common.{sym, refl, subst, arith}
+use Rattle.std.proofs.Common.{sym, refl, subst}
 use Rattle.heap_model.specs.Opening.{opening_calls}
 use Rattle.heap_core.specs.Causes.{IsFromOutside, ErrorPasses}
 use Rattle.heap_core.proofs.MeansOpen.{opened_bounds, opened_memory, opened_disk_holds}

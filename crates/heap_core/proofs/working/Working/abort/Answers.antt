@@ -1,4 +1,4 @@
-use Rattle.std.proofs.Common.{◌≡◌, ℕ, List, ◌++◌, ◌<◌, length, refl, sym, ap, ◌∙◌, reverse, subst, arith}
+use Rattle.std.proofs.Common.{ℕ, List, ◌++◌, ◌<◌, length, refl, sym, ap, ◌∙◌, reverse, subst, arith}
 use Rattle.std.specs.List.{AllByRecursion}
 use Rattle.log_records.specs.declared.Record.{Record}
 use Rattle.gated_log.specs.LogState.{Keeps}
