@@ -29,13 +29,13 @@ use Rattle.heap_model.specs.CoreCrash.{KeepsCommits}
 use Rattle.heap_model.specs.CoreLawsCalls.{total_calls-append}
 use Rattle.heap_model.specs.CoreLawsCrash.{commits-sealed}
 use Rattle.heap_model.specs.CoreLawsEnding.{total_few}
-use Rattle.heap_shell.specs.CoreLawsPlay.{ready_behind, ready_front, makes_run}
+use Rattle.heap_shell.specs.CoreLawsPlay.{ready_front, makes_run}
 use Rattle.heap_model.specs.CoreLawsReplies.{replies_law}
 use Rattle.heap_model.specs.CoreLawsRun.{reached_agrees}
 use Rattle.heap_model.specs.CoreReplies.{call_replies_of}
 use Rattle.heap_model.specs.CoreRuns.{after_events, total_calls}
 use Rattle.heap_model.specs.CoreValid.{IsReached}
-use Rattle.heap_shell.specs.Headline.{graph_text, end_text, let_through, HasMade, StopsLast, IsExact, IsEndOfPlay, MakesEvents, Unharmed, KeepsThroughout, IsFollowed, StartsAgain, Prints, IsPlayed, Writes}
+use Rattle.heap_shell.specs.Headline.{graph_text, end_text, HasMade, StopsLast, IsExact, IsEndOfPlay, MakesEvents, Unharmed, KeepsThroughout, IsFollowed, StartsAgain, Prints, IsPlayed, Writes}
 use Rattle.heap_shell.specs.Playable.{IsPlayable}
 use Rattle.heap_shell.specs.Output.{WroteText, Recovers, WroteRecovered, WroteNothing, status_after}
 use Rattle.heap_shell.specs.Play.{IsRunning, IsWhole, IsCutBy, AreReady, MakesAll, MakesShort, Makes, Ends, Plays, Wrote, lines_text, WroteFront, WroteLines}
@@ -45,7 +45,7 @@ use Rattle.heap_shell.proofs.Causes.{disk_rose}
 use Rattle.heap_shell.proofs.Counts.{counted-sum}
 use Rattle.heap_shell.proofs.PlayEvent.{heap_leaves}
 use Rattle.heap_shell.proofs.PlayLaws.{ends_makes}
-use Rattle.heap_shell.proofs.Statuses.{written_end, written_no_fault, wrote_all}
+use Rattle.heap_shell.proofs.Statuses.{written_end, wrote_all}
 use Rattle.heap_shell.proofs.Written.{front_more, then_front, whole_front, wrote_some}
 
 module _ {D : Type 0} {g : Ghosts D} (s : Super) (c : Core) (running : IsRunning c) (new_history : c.history ≡ []) (events : List Event) (playable : IsPlayable events)

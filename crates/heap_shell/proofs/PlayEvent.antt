@@ -1,5 +1,5 @@
 -- One event of a play.
-use Rattle.std.proofs.Common.{◌≡◌, ◌≢◌, inl, inr, ⊎_elim, ℕ, ◌+◌, ◌<◌, Bool, List, [], ◌∷◌, ◌++◌, Option, Result, Ok, Err, refl, sym, ap, ◌∙◌, subst, arith, append_assoc}
+use Rattle.std.proofs.Common.{◌≡◌, inl, inr, ⊎_elim, ℕ, ◌+◌, Bool, List, [], ◌∷◌, ◌++◌, Result, Ok, Err, refl, sym, ap, ◌∙◌, subst, arith, append_assoc}
 use Rattle.std.specs.Prelude.{IsTrue}
 use Rattle.std.proofs.lemmas.Grind.{flat_map-append}
 use Rattle.std.proofs.lemmas.List.{append-nil}
@@ -9,7 +9,6 @@ use Rattle.disk_model.specs.Keeps.{KeepsDisk}
 use Rattle.disk_model.specs.Moments.{LeavesOnly}
 use Rattle.gate_slot.specs.Passing.{Passes}
 use Rattle.graph_model.specs.declared.event.Event.{Event}
-use Rattle.graph_model.specs.declared.event.Event.TheVariants.{Force}
 use Rattle.graph_model.specs.declared.reply.Entry.{Entry}
 use Rattle.graph_model.specs.declared.reply.Refusal.TheVariants.{DiskFault, Stopped}
 use Rattle.graph_model.specs.declared.reply.Reply.{Reply}
@@ -18,9 +17,7 @@ use Rattle.graph_model.specs.History.{account}
 use Rattle.graph_model.specs.PlainLaws.{IsSoundReply, granted_sound, sound_either}
 use Rattle.graph_model.specs.Text.{line}
 use Rattle.image_plan.specs.declared.superblock.Super.{Super}
-use Rattle.log_records.specs.declared.Record.{Record}
 use Rattle.heap_core.specs.declared.heap.Heap.{Heap}
-use Rattle.heap_shell.specs.declared.play.Halt.{Halt}
 use Rattle.heap_shell.specs.declared.play.Halt.TheVariants as halt
 use Rattle.heap_shell.specs.declared.output.WriteError.{WriteError}
 use Rattle.heap_core.specs.Causes.{reply_device}

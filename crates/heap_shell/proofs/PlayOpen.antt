@@ -20,7 +20,7 @@ use Rattle.heap_model.specs.CoreLawsOpened.{opened_keeps, opened_reached}
 use Rattle.heap_shell.specs.CoreLawsPlay.{running_after, all_playable}
 use Rattle.heap_model.specs.CoreRuns.{after_events}
 use Rattle.heap_model.specs.Ending.{all_events}
-use Rattle.heap_shell.specs.Headline.{made_super, made_core, end_text, IsExact, IsEndOfPlay, IsFollowed, KeepsThroughout, Unharmed, IsPlayed}
+use Rattle.heap_shell.specs.Headline.{made_super, made_core, end_text, IsExact, IsEndOfPlay, IsFollowed, IsPlayed}
 use Rattle.heap_shell.specs.Playable.{IsScript}
 use Rattle.heap_model.specs.Image.{words_of, IsLegalLog, IsLegal, Shows, StandsFor}
 use Rattle.counts.specs.Count.{counted}

@@ -1,6 +1,5 @@
 -- What a run promises, from what its parts promise.
-use Rattle.std.proofs.Common.{◌≡◌, ◌⊎◌, inl, inr, ⊎_elim, ℕ, ◌<◌, ◌≤◌, Bool, List, ◌++◌, Option, Result, Ok, Err, refl, sym, ap, ◌∙◌, subst}
-use Rattle.std.specs.Prelude.{IsTrue, IsErrAnd}
+use Rattle.std.proofs.Common.{◌≡◌, ◌⊎◌, inl, inr, ⊎_elim, ℕ, ◌<◌, ◌≤◌, Bool, List, ◌++◌, Option, refl, sym, subst}
 use Rattle.std.specs.List.{AllByRecursion}
 use Rattle.std.proofs.lemmas.Bool.{cases_lt}
 use Rattle.disk_model.specs.declared.disk.Disk.{Ghosts}
@@ -28,7 +27,7 @@ use Rattle.heap_core.specs.Format.{IsFormatting, format_calls}
 use Rattle.heap_core.specs.GivenBack.{format_device, IsFromDisk}
 use Rattle.heap_shell.specs.declared.status.Status.{Status}
 use Rattle.heap_shell.specs.declared.status.Status.TheVariants as status
-use Rattle.heap_shell.specs.Headline.{IsEndOfPlay, IsSound, FailsFormat, IsUnmade, IsNotMade, Unharmed, IsPlayed}
+use Rattle.heap_shell.specs.Headline.{IsEndOfPlay, IsSound, IsUnmade, IsNotMade, Unharmed, IsPlayed}
 use Rattle.heap_shell.specs.StatusOf.{format_status}
 
 -- a play says nothing against the image

@@ -1,5 +1,5 @@
 -- What a run of the program promises.
-use Rattle.std.specs.Prelude.{◌≡◌, ◌≢◌, ◌⊎◌, ℕ, ◌+◌, ◌≤◌, min, List, [], ◌∷◌, ◌++◌, length, take, codes, Bool, IsTrue, Option, None, Some, Err}
+use Rattle.std.specs.Prelude.{◌≡◌, ◌≢◌, ◌⊎◌, ℕ, ◌≤◌, min, List, [], ◌∷◌, ◌++◌, length, take, codes, Bool, IsTrue, Option, None, Some, Err}
 use Rattle.std.specs.Fmt.{decimal}
 use Rattle.counts.specs.Count.{raised, counted}
 use Rattle.disk_model.specs.declared.disk.Disk.{Ghosts}

@@ -1,5 +1,5 @@
 -- Laws of steps on a disk: they are a run of the core, and no moment of them loses what had been acknowledged.
-use Rattle.std.proofs.Common.{◌≡◌, ℕ, ◌≤◌, ⊎_elim, inl, inr, List, [], ◌∷◌, ◌++◌, length, take, refl, sym, ap, ◌∙◌, subst, arith, length-append}
+use Rattle.std.proofs.Common.{◌≡◌, ℕ, ◌≤◌, ⊎_elim, List, [], ◌∷◌, ◌++◌, refl, sym, ap, ◌∙◌, subst, arith}
 use Rattle.std.specs.List.{AllByRecursion}
 use Rattle.disk_model.specs.declared.disk.Disk.{Ghosts}
 use Rattle.disk_model.specs.Moments.{LeavesOnly, begins, joined, weaker}
@@ -9,7 +9,7 @@ use Rattle.graph_model.specs.declared.reply.Entry.{Entry}
 use Rattle.graph_model.specs.declared.reply.Refusal.TheVariants.{DiskFault, Stopped}
 use Rattle.graph_model.specs.declared.reply.Reply.{Reply}
 use Rattle.graph_model.specs.declared.reply.Reply.TheVariants.{Begun, Sealed, Aborted, Durable, Refused}
-use Rattle.graph_model.specs.History.{Account, account, session_of, done, cut_short, answered, acknowledged}
+use Rattle.graph_model.specs.History.{Account, account, done, cut_short, answered, acknowledged}
 use Rattle.graph_model.specs.HistoryLaws.{account-append}
 use Rattle.graph_model.specs.SlowHeap.{IsSingleSession}
 use Rattle.heap_model.specs.Core.{Core, IsStep, IsRun}

@@ -1,4 +1,4 @@
-use Rattle.std.proofs.Common.{◌≡◌, Ok, Err, rules, subst, None}
+use Rattle.std.proofs.Common.{◌≡◌, Err, rules, subst, None}
 use Rattle.heap_model.specs.Core.{Core}
 use Rattle.heap_model.specs.CoreLawsEnding.{all_single}
 use Rattle.heap_model.specs.CoreRuns.{after_events}

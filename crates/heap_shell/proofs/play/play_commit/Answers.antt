@@ -1,8 +1,5 @@
-use Rattle.std.proofs.Common.{◌≡◌, [], ◌∷◌, Ok, Err, rules, subst}
-use Rattle.std.specs.Prelude.{Result}
+use Rattle.std.proofs.Common.{◌≡◌, [], ◌∷◌, Err, rules}
 use Rattle.graph_model.specs.declared.event.Event.TheVariants.{Seal, Force}
-use Rattle.heap_shell.specs.declared.play.Halt.{Halt}
-use Rattle.heap_shell.specs.Play.{Plays}
 use Rattle.heap_shell.proofs.PlayLaws.{plays_on, plays_then}
 use Rattle.heap_shell.proofs.PlayCore.{core_on, core_then}
 use Rattle.heap_shell.proofs.play.play_commit.Goals as goal

@@ -1,4 +1,4 @@
-use Rattle.std.proofs.Common.{◌≡◌, Ok, Err, rules, subst}
+use Rattle.std.proofs.Common.{◌≡◌, Err, rules, subst}
 use Rattle.heap_model.specs.Core.{Core}
 use Rattle.heap_model.specs.CoreLawsEnding.{ending_single}
 use Rattle.heap_model.specs.CoreRuns.{after_events}

@@ -1,4 +1,4 @@
-use Rattle.std.proofs.Common.{◌≡◌, true, false, List, Ok, rules, sym, ◌∙◌, subst}
+use Rattle.std.proofs.Common.{◌≡◌, true, false, List, Ok, rules, sym, subst}
 use Rattle.graph_model.specs.declared.event.Event.{Event}
 use Rattle.heap_shell.specs.Play.{Plays, PlaysCore}
 use Rattle.heap_shell.proofs.PlayEnding.{force_of-none, force_of-some}

@@ -1,4 +1,4 @@
-use Rattle.std.proofs.Common.{◌≡◌, ◌+◌, List, Ok, Err, rules, subst, take, arith}
+use Rattle.std.proofs.Common.{◌≡◌, List, Ok, Err, rules, subst, take, arith}
 use Rattle.std.proofs.lemmas.List.{take_all}
 use Rattle.disk_model.specs.KeepsLaws.{keeps_none, keeps_on}
 use Rattle.heap_core.specs.HeapState.{heap_disk}

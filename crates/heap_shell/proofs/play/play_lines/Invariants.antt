@@ -1,4 +1,4 @@
-use Rattle.std.proofs.Common.{◌≡◌, ◌≤◌, take, Ok}
+use Rattle.std.proofs.Common.{◌≤◌, take, Ok}
 use Rattle.std.specs.Prelude.{IsTrue, Result}
 use Rattle.disk_model.specs.declared.disk.DiskError.{DiskError}
 use Rattle.disk_model.specs.Keeps.{KeepsDisk}

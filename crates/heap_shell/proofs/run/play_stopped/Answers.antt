@@ -1,14 +1,10 @@
-use Rattle.std.proofs.Common.{◌≡◌, ◌≤◌, ◌+◌, ℕ, min, inr, List, [], Some, Ok, Err, rules, arith, refl, sym, ap, ◌∙◌, subst}
-use Rattle.counts.specs.Count.{Rose, greatest, raised, counted}
-use Rattle.disk_model.specs.declared.disk.DiskError.TheVariants as device
+use Rattle.std.proofs.Common.{◌≡◌, ◌≤◌, ◌+◌, ℕ, min, inr, List, [], Some, rules, arith, refl, sym, ap, ◌∙◌, subst}
+use Rattle.counts.specs.Count.{Rose, greatest, counted}
 use Rattle.disk_model.specs.Disk.{Only}
 use Rattle.disk_model.specs.Fuse.{fuse_inner, fuse_passed}
 use Rattle.disk_model.specs.KeepsLaws.{rose_until}
 use Rattle.disk_model.specs.Moments.{LeavesOnly, begins}
-use Rattle.heap_shell.specs.declared.status.Status.{Status}
-use Rattle.heap_shell.specs.declared.status.Status.TheVariants as status
 use Rattle.heap_core.specs.declared.errors.OpenError.TheVariants as opening
-use Rattle.heap_shell.specs.Causes.{DiskRose, RunsDisk}
 use Rattle.heap_core.specs.Causes.{error_device}
 use Rattle.heap_model.specs.CoreCrash.{KeepsCommits}
 use Rattle.heap_model.specs.CoreLawsRun.{same_run}
@@ -16,15 +12,15 @@ use Rattle.heap_model.specs.CoreRuns.{total_calls}
 use Rattle.heap_shell.specs.CoreLawsPlay.{made_running, all_playable, script_ready}
 use Rattle.graph_model.specs.Graph.{new_graph}
 use Rattle.heap_model.specs.CoreLawsNew.{new_shows}
-use Rattle.heap_shell.specs.Headline.{made_super, made_core, IsExact, IsPlayed, KeepsThroughout, StartsAgain, Unharmed}
+use Rattle.heap_shell.specs.Headline.{made_super, made_core, IsExact, KeepsThroughout, StartsAgain, Unharmed}
 use Rattle.heap_shell.specs.Output.{Recovers}
 use Rattle.heap_model.specs.Image.{IsLegal}
 use Rattle.script_text.specs.Line.{events}
 use Rattle.heap_shell.proofs.Causes.{rose_within}
 use Rattle.heap_shell.proofs.PlayEnds.{run_reached, kept, halt_part, halt_lines, stopped_lines, ends_early, ends_recovered, ends_made, exact_some, passes_some}
-use Rattle.heap_shell.proofs.PlayFuse.{same_disk, same_limit, fuse_since, fuse_passes, IsFuse, fuse_steps_of}
+use Rattle.heap_shell.proofs.PlayFuse.{same_disk, same_limit, fuse_since, fuse_passes, fuse_steps_of}
 use Rattle.heap_shell.proofs.PlayOpen.{empty_image, new_stands, opened_commits, opening_keeps, ends_unopened, new_passes, no_rollback}
-use Rattle.heap_shell.proofs.Statuses.{no_stop, early_none, early_some, halt_device, halt_end, halt_not_done}
+use Rattle.heap_shell.proofs.Statuses.{no_stop, early_none, early_some, halt_end, halt_not_done}
 use Rattle.heap_shell.proofs.run.play_stopped.Goals as goal
 
 pub returns-in-Err-clause-played : goal.returns-in-Err-clause-played

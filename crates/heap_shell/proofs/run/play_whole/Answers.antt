@@ -1,9 +1,6 @@
-use Rattle.std.proofs.Common.{[], None, Ok, Err, rules, refl, sym, ap, ◌∙◌, subst}
+use Rattle.std.proofs.Common.{[], None, Ok, Err, refl, ap, ◌∙◌}
 use Rattle.counts.specs.Count.{counted}
-use Rattle.graph_model.specs.History.{sealed}
-use Rattle.graph_model.specs.Transaction.{serial}
 use Rattle.heap_shell.specs.declared.play.Halt.{Halt}
-use Rattle.heap_shell.specs.declared.status.Status.TheVariants as status
 use Rattle.heap_model.specs.CoreRuns.{total_calls}
 use Rattle.heap_model.specs.Ending.{all_events}
 use Rattle.heap_shell.specs.CoreLawsPlay.{made_running, all_playable, script_ready}

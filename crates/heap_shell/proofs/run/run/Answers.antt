@@ -1,4 +1,4 @@
-use Rattle.std.proofs.Common.{◌≡◌, ◌≢◌, inl, inr, List, Some, None, Ok, Err, sym, ap, ◌∙◌, subst, refl, arith}
+use Rattle.std.proofs.Common.{◌≡◌, inl, inr, List, Some, None, Ok, sym, ap, ◌∙◌, subst, arith}
 use Rattle.script_text.specs.declared.line.Line.{Line}
 use Rattle.heap_core.specs.declared.errors.FormatError.{FormatError}
 use Rattle.heap_model.specs.Ending.{all_events}

@@ -1,4 +1,4 @@
-use Rattle.std.proofs.Common.{◌≡◌, ℕ, List, sym, ap, ◌∙◌, subst}
+use Rattle.std.proofs.Common.{ℕ, List, sym, ap, ◌∙◌, subst}
 use Rattle.counts.specs.Count.{raised}
 use Rattle.disk_model.specs.Fuse.{fuse_inner}
 use Rattle.disk_model.specs.Moments.{LeavesOnly, begins, goes_on}
