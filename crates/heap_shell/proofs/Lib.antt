@@ -1,5 +1,6 @@
 mod Causes
 mod Counts
+mod Lines
 mod PlayCore
 mod PlayEnding
 mod PlayEnds
@@ -8,6 +9,7 @@ mod PlayFuse
 mod PlayLaws
 mod PlayLoop
 mod PlayOpen
+mod PlayPrints
 mod PrintRecovered
 mod RunLaws
 mod Statuses

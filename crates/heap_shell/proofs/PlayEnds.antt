@@ -44,6 +44,7 @@ use Rattle.heap_shell.specs.StepsLaws.{heap_steps}
 use Rattle.heap_shell.proofs.Causes.{disk_rose}
 use Rattle.heap_shell.proofs.Counts.{counted-sum}
 use Rattle.heap_shell.proofs.PlayEvent.{heap_leaves}
+use Rattle.heap_shell.proofs.Lines as lines
 use Rattle.heap_shell.proofs.PlayLaws.{ends_makes}
 use Rattle.heap_shell.proofs.Statuses.{written_end, wrote_all}
 use Rattle.heap_shell.proofs.Written.{front_more, then_front, whole_front, wrote_some}
@@ -100,31 +101,17 @@ module _ {D : Type 0} {g : Ghosts D} (s : Super) (c : Core) (running : IsRunning
       let P : Result (Unit {0}) Halt → Type 0 = λ x. Wrote x before core.history after in
       subst P is (plays.written t before nothing_yet)
 
-  -- all lines, and what was written behind them
-  pub lines_more : (after' rest : List ℕ) → after ≡ before ++ lines_text core.history → after' ≡ after ++ rest → WroteLines before core.history after'
-  lines_more after' rest out more = (core.history, [], rest, sym (append-nil core.history), omega arith, more ∙ ap (λ (l : List ℕ). l ++ rest) out)
-
-  all_part : after ≡ before ++ lines_text core.history → WroteFront before (lines_text core.history) after × WroteLines before core.history after
-  all_part out = (whole_front before (lines_text core.history) after out, lines_more after [] out (sym (append-nil after)))
-
   -- what was written of the lines by a play that halted
   pub halt_part : (h : Halt) → result ≡ Err h → IsTrue told → WroteFront before (lines_text core.history) after × WroteLines before core.history after
-  halt_part halt.NoMemory is t = lines_wrote (Err halt.NoMemory) is t
-  halt_part halt.WriteFault is t = lines_wrote (Err halt.WriteFault) is t
-  halt_part halt.DiskFault is t = all_part (lines_wrote (Err halt.DiskFault) is t)
-  halt_part halt.Stopped is t = all_part (lines_wrote (Err halt.Stopped) is t)
+  halt_part h is t = lines.halt_part core.history before after h (lines_wrote (Err h) is t)
 
   -- all of them, if it was the disk
   pub halt_lines : (h : Halt) → result ≡ Err h → IsTrue told → halt_status h ≡ status.DiskFault → after ≡ before ++ lines_text core.history
-  halt_lines halt.NoMemory is t fault = cc
-  halt_lines halt.WriteFault is t fault = cc
-  halt_lines halt.DiskFault is t fault = lines_wrote (Err halt.DiskFault) is t
-  halt_lines halt.Stopped is t fault = lines_wrote (Err halt.Stopped) is t
+  halt_lines h is t fault = lines.halt_lines core.history before after h (lines_wrote (Err h) is t) fault
 
   -- or if it went on
   pub stopped_lines : (result ≡ Ok tt) ⊎ (result ≡ Err halt.Stopped) → IsTrue told → after ≡ before ++ lines_text core.history
-  stopped_lines (inl is) t = lines_wrote (Ok tt) is t
-  stopped_lines (inr is) t = lines_wrote (Err halt.Stopped) is t
+  stopped_lines ended t = lines.stopped_lines core.history before after result ended (lines_wrote result refl t)
 
   pub last_made : IsWhole c made core ⊎ ((reply : Reply) × IsCutBy reply c made core)
   last_made = ⊎_elim
@@ -151,25 +138,6 @@ module _ {D : Type 0} {g : Ghosts D} (s : Super) (c : Core) (running : IsRunning
   abbrev pub events_made : (stop : Option ℕ) (by : Status) (unharmed : Type 0) → (by ≡ status.Done → HasMade stop c made plays.behind core) → (unharmed → IsExact stop c made core) → MakesEvents stop c events by unharmed
   events_made stop by unharmed done place = record { made = made; behind = plays.behind; parts = plays.parts; core = core; last = last_made; done = done; exact = place }
 
-  -- what was written of lines alone, as a first part of the output
-  some_writes : (by : Status) (text after' : List ℕ) → (by ≡ status.Done → ⊥) → WroteFront before (lines_text core.history) after' → WroteLines before core.history after' → (by ≡ status.DiskFault → after' ≡ before ++ lines_text core.history)
-      → Writes by core.history text before after'
-  some_writes by text after' not_done front lines whole = record {
-    front = front_more before (lines_text core.history) text after' front;
-    lines = lines;
-    fault = λ is. ([], whole is ∙ sym (append-nil (before ++ lines_text core.history)));
-    whole = λ is. absurd (not_done is);
-  }
-
-  -- all lines were written, and of the text behind them all or a first part
-  all_writes : (by : Status) (text after' : List ℕ) → after ≡ before ++ lines_text core.history → WroteFront after text after' → (by ≡ status.Done → after' ≡ after ++ text) → Writes by core.history text before after'
-  all_writes by text after' out front whole = record {
-    front = then_front before (lines_text core.history) text after after' out front;
-    lines = lines_more after' front.0 out front.3;
-    fault = λ is. (front.0, front.3 ∙ ap (λ (l : List ℕ). l ++ front.0) out);
-    whole = λ is. whole is ∙ ap (λ (l : List ℕ). l ++ text) out ∙ append_assoc before (lines_text core.history) text;
-  }
-
   -- The disk that was handed in, at the start and at the end, and what a crash left of it.
   module _ {B : Type 0} (h : Ghosts B) (start final : B) (keeps : KeepsThroughout h (Unharmed h start final) c made core start final) where
     -- The play ended before more than lines were to be written.
@@ -188,7 +156,7 @@ module _ {D : Type 0} {g : Ghosts D} (s : Super) (c : Core) (running : IsRunning
         most = most;
         all = λ none. refl;
         behind = follows;
-        written = λ t. some_writes by (end_text stop all (serial core.g0 (take all (commits core.history)))) after not_done (part t).0 (part t).1 (whole t);
+        written = λ t. lines.some_writes core.history before after by (end_text stop all (serial core.g0 (take all (commits core.history)))) after not_done (part t).0 (part t).1 (whole t);
       };
       end = is_end;
     }
@@ -212,7 +180,7 @@ module _ {D : Type 0} {g : Ghosts D} (s : Super) (c : Core) (running : IsRunning
             most = most;
             all = λ none. refl;
             behind = same;
-            written = λ t. all_writes (status_after output) text after' (out t) (wrote_some output after text after' (full t)) (λ is. wrote_all output after text after' is (full t));
+            written = λ t. lines.all_writes core.history before after (status_after output) text after' (out t) (wrote_some output after text after' (full t)) (λ is. wrote_all output after text after' is (full t));
           };
           end = written_end output;
         }
@@ -237,20 +205,20 @@ module _ {D : Type 0} {g : Ghosts D} (s : Super) (c : Core) (running : IsRunning
           most = found.opened.opens.first.some;
           all = λ none. cc;
           behind = inl found.opened;
-          written = λ t. all_writes by (end_text (Some n) found.count (serial core.g0 (take found.count (commits core.history)))) after' (out t) (found.written t) (found.whole t);
+          written = λ t. lines.all_writes core.history before after by (end_text (Some n) found.count (serial core.g0 (take found.count (commits core.history)))) after' (out t) (found.written t) (found.whole t);
         }
 
         nothing_prints : WroteNothing by told after after' → Prints h (Some n) core keeps.stopped final by told before after'
         nothing_prints nothing =
-            let lines = λ (t : IsTrue told). nothing.nothing t ∙ out t in
+            let out_after = λ (t : IsTrue told). nothing.nothing t ∙ out t in
             record {
               count = all;
               least = least;
               most = most;
               all = λ none. refl;
-              behind = inr (nothing.early, λ t. whole_front before (lines_text core.history) after' (lines t));
-              written = λ t. some_writes by (end_text (Some n) all (serial core.g0 (take all (commits core.history)))) after' nothing.early (whole_front before (lines_text core.history) after' (lines t))
-                  (lines_more after' [] (out t) (nothing.nothing t ∙ sym (append-nil after))) (λ is. lines t);
+              behind = inr (nothing.early, λ t. whole_front before (lines_text core.history) after' (out_after t));
+              written = λ t. lines.some_writes core.history before after by (end_text (Some n) all (serial core.g0 (take all (commits core.history)))) after' nothing.early (whole_front before (lines_text core.history) after' (out_after t))
+                  (lines.lines_more core.history before after after' [] (out t) (nothing.nothing t ∙ sym (append-nil after))) (λ is. out_after t);
             }
 
   few : total_calls c made ≤ 8388616

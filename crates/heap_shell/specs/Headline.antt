@@ -20,7 +20,8 @@ use Rattle.graph_model.specs.Text.{canon_text}
 use Rattle.image_plan.specs.declared.superblock.Super.{Super}
 use Rattle.image_plan.specs.Plan.{image_size}
 use Rattle.heap_core.specs.Format.{IsFormatting, format_calls}
-use Rattle.heap_model.specs.Core.{Core, with_entry}
+use Rattle.heap_model.specs.Core.{Core, with_entry, IsRun}
+use Rattle.heap_model.specs.CoreValid.{IsReached}
 use Rattle.heap_model.specs.CoreCrash.{StandsForFirst, KeepsCommits}
 use Rattle.heap_model.specs.CoreReplies.{call_replies_of}
 use Rattle.heap_model.specs.CoreRuns.{after_events, total_calls, StopsAt}
@@ -89,6 +90,29 @@ pub record StopsLast (n : ℕ) (c : Core) (made : List Event) (d : Core) : Type 
 abbrev pub IsExact : Option ℕ → Core → List Event → Core → Type 0
 IsExact None c made d = IsWhole c made d
 IsExact (Some n) c made d = (IsWhole c made d × (total_calls c made ≤ n)) ⊎ StopsLast n c made d
+
+-- On any disk: a heap was opened with some graph, the events that were made are a run of that core, and what was written is a first
+-- part of the lines of its history, of how many commits came back where a stop was asked, and of a graph. Of a run that is done it is
+-- all of that; and without a stop the graph is the core's.
+pub record PrintsRun (stop : Option ℕ) (lines : List Line) (result : Status) (before after : List ℕ) : Type 0 where
+  pub first : Core
+  pub reached : IsReached first
+  pub new : first.history ≡ []
+  pub made : List Event
+  pub behind : List Event
+  pub parts : all_events stop first (events lines) ≡ made ++ behind
+  pub core : Core
+  pub run : IsRun first made core
+  -- all events were made, or it stopped in one of them or in the opening
+  pub done : result ≡ status.Done → HasMade stop first made behind core ⊎ ((stop ≢ None) × (made ≡ []))
+  pub count : ℕ
+  pub graph : Graph
+  pub own : stop ≡ None → graph ≡ serial core.g0 (sealed core.history)
+  pub written : Writes result core.history (end_text stop count graph) before after
+
+-- A run that isn't done wrote nothing, or it wrote that.
+abbrev pub PrintsSome : Option ℕ → List Line → Status → List ℕ → List ℕ → Type 0
+PrintsSome stop lines result before after = ((result ≢ status.Done) × (after ≡ before)) ⊎ PrintsRun stop lines result before after
 
 -- The statuses with which a play ends.
 abbrev pub IsEndOfPlay : Status → Type 0

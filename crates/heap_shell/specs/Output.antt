@@ -1,5 +1,6 @@
 -- What is written of a text, and of a heap that is opened again.
 use Rattle.std.specs.Prelude.{◌≡◌, ◌≢◌, ◌⊎◌, ℕ, List, ◌++◌, take, Bool, IsTrue, Option, None, Some, Result, Ok, Err}
+use Rattle.graph_model.specs.Graph.{Graph}
 use Rattle.graph_model.specs.History.{commits}
 use Rattle.graph_model.specs.Transaction.{serial}
 use Rattle.heap_shell.specs.declared.output.WriteError.{WriteError}
@@ -46,3 +47,12 @@ pub record Recovers (c : Core) (opens : ℕ → Type 0) (may_leave : List ℕ �
   pub end : IsEndOfPlay result
   pub kept : (image : List ℕ) → may_leave image → KeepsCommits c image
   pub found : WroteRecovered c opens result told before after ⊎ WroteNothing result told before after
+
+-- How many commits came back and a graph were written, or a first part of that.
+pub record WroteGraph (k : ℕ) (g : Graph) (result : Status) (before after : List ℕ) : Type 0 where
+  pub front : WroteFront before (recovered_line k ++ graph_text g) after
+  pub whole : result ≡ Done → after ≡ before ++ (recovered_line k ++ graph_text g)
+
+-- On any disk: a heap was opened again and some number and graph were written, or nothing was.
+abbrev pub WroteAgain : Status → List ℕ → List ℕ → Type 0
+WroteAgain result before after = ((result ≢ Done) × (after ≡ before)) ⊎ ((k : ℕ) × (g : Graph) × WroteGraph k g result before after)

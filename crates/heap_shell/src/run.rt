@@ -1,5 +1,5 @@
 //! The program's one call: from the words of its command line and a script to the printed graph.
-ghost use Rattle.std.specs.Prelude.{◌≡◌, ◌⊎◌, ℕ, ◌<◌, ◌≤◌, ◌↔◌, [], List, min, None, Some, Ok, Err, map, string_bytes, IfOk, IfErr, IsNone, IsTrue, OnOk};
+ghost use Rattle.std.specs.Prelude.{◌≡◌, ◌≢◌, ◌⊎◌, ℕ, ◌<◌, ◌≤◌, ◌↔◌, [], List, min, None, Some, Ok, Err, map, string_bytes, IfOk, IfErr, IsNone, IsTrue, OnOk};
 ghost use Rattle.counts.specs.Count.{Rose, greatest, raised};
 ghost use Rattle.disk_model.specs.Disk.{Only};
 ghost use Rattle.disk_model.specs.Fuse.{fuse_inner};
@@ -15,11 +15,11 @@ ghost use Rattle.heap_shell.specs.Command.{command};
 ghost use Rattle.heap_model.specs.Core.{Core};
 ghost use Rattle.heap_model.specs.CoreCrash.{KeepsCommits};
 ghost use Rattle.heap_shell.specs.CrashSafe.{RunsSafely};
-ghost use Rattle.heap_shell.specs.Headline.{made_super, made_core, OfTold, IsPlayed, Reopens, StartsAgain, Runs, IsSound, IsUntouching, EndsUnread, EndsUnmade, restarts_of};
+ghost use Rattle.heap_shell.specs.Headline.{made_super, made_core, OfTold, IsPlayed, Reopens, StartsAgain, PrintsRun, PrintsSome, Runs, IsSound, IsUntouching, EndsUnread, EndsUnmade, restarts_of};
 ghost use Rattle.heap_shell.specs.Playable.{IsScript};
 ghost use Rattle.heap_model.specs.Ending.{all_events};
 ghost use Rattle.heap_model.specs.Image.{IsLegal};
-ghost use Rattle.heap_shell.specs.Output.{Recovers, early_end, status_after};
+ghost use Rattle.heap_shell.specs.Output.{Recovers, WroteAgain, early_end, status_after};
 ghost use Rattle.script_text.specs.Line.{events};
 ghost use Rattle.script_text.specs.Script.{script};
 
@@ -75,6 +75,10 @@ pub fn run<D: Disk, S: Source, K: Sink>(
     ensures headline { OfTold D.tells (D.bytes disk) (D.may_leave disk) ((play : Play) → command (map string_bytes words.now) ≡ Some play
         → Runs D.Disk play (λ lines. IsTrue S.tells → script (S.left source.old) ≡ Ok lines) disk result.1 result.0 K.tells (K.written sink.old) (K.written sink.new)) }
 
+    // On any disk, what was written are lines of one history, a number of commits and a graph.
+    ensures prints { IsTrue K.tells → (play : Play) → command (map string_bytes words.now) ≡ Some play
+        → ((result.0 ≢ Status.Done) × (K.written sink.new ≡ K.written sink.old)) ⊎ ((lines : List Line) × (IsTrue S.tells → script (S.left source.old) ≡ Ok lines) × PrintsRun play.stop lines result.0 (K.written sink.old) (K.written sink.new)) }
+
     // The heap that it made is never damaged, and without a fault it is done.
     ensures sound { OfTold D.tells (D.bytes disk) (D.may_leave disk) (IsSound result.0) }
     ensures complete { OfTold D.tells (D.bytes disk) (D.may_leave disk) ((play : Play) → command (map string_bytes words.now) ≡ Some play → image_size play.pages 1048576 ≤ D.extent disk
@@ -125,6 +129,7 @@ fn play_whole<D: Disk, K: Sink>(
     ensures disk { RunsDisk D.Disk disk result.1 (result.0 ≡ Status.DiskFault) }
     ensures sink { StreamCause (K.faults sink.old) (K.faults sink.new) (result.0 ≡ Status.WriteFault) }
     ensures restarts { IsTrue D.tells → D.restarts result.1 ≡ D.restarts disk }
+    ensures prints { IsTrue K.tells → PrintsSome None script.now result.0 (K.written sink.old) (K.written sink.new) }
     ensures played { IsTrue D.tells → (pages : ℕ) → IsLegal (made_super pages) [] (D.bytes disk) → Only (D.bytes disk) (D.may_leave disk)
         → IsPlayed D.Disk None (made_core pages) (all_events None (made_core pages) (events script.now)) disk result.1 result.0 K.tells (K.written sink.old) (K.written sink.new) }
 {
@@ -155,6 +160,7 @@ fn play_stopped<D: Disk, K: Sink>(
     ensures disk { RunsDisk D.Disk disk result.1 (result.0 ≡ Status.DiskFault) }
     ensures sink { StreamCause (K.faults sink.old) (K.faults sink.new) (result.0 ≡ Status.WriteFault) }
     ensures restarts { IsTrue D.tells → result.0 ≡ Status.Done → D.restarts result.1 ≡ raised (D.restarts disk) }
+    ensures prints { IsTrue K.tells → PrintsSome (Some calls) script.now result.0 (K.written sink.old) (K.written sink.new) }
     ensures played { IsTrue D.tells → (pages : ℕ) → IsLegal (made_super pages) [] (D.bytes disk) → Only (D.bytes disk) (D.may_leave disk)
         → IsPlayed D.Disk (Some calls) (made_core pages) (events script.now) disk result.1 result.0 K.tells (K.written sink.old) (K.written sink.new) }
 {
@@ -197,6 +203,7 @@ fn start_again<D: Disk, K: Sink>(
     ensures disk { RunsDisk D.Disk (fuse_inner fuse) result.1 (result.0 ≡ Status.DiskFault) }
     ensures sink { StreamCause (K.faults sink.old) (K.faults sink.new) (result.0 ≡ Status.WriteFault) }
     ensures restarts { IsTrue D.tells → D.restarts result.1 ≡ raised (D.restarts (fuse_inner fuse)) }
+    ensures again { IsTrue K.tells → WroteAgain result.0 (K.written sink.old) (K.written sink.new) }
     ensures moments { IsTrue D.tells → (c : Core) → ((image : List ℕ) → D.may_leave (fuse_inner fuse) image → KeepsCommits c image) → LeavesOnly D.moment D.left_since (fuse_inner fuse) result.1 (KeepsCommits c) }
     ensures recovers { IsTrue D.tells → (c : Core) → ((image : List ℕ) → D.may_leave (fuse_inner fuse) image → KeepsCommits c image) → before ≡ min c.before greatest
         → Recovers c (λ k. StartsAgain D.Disk c k (fuse_inner fuse) result.1) (D.may_leave result.1) result.0 K.tells (K.written sink.old) (K.written sink.new) }
@@ -227,6 +234,7 @@ fn print_recovered<D: Disk, K: Sink>(
     ensures disk { RunsDisk D.Disk disk result.1 (result.0 ≡ Status.DiskFault) }
     ensures sink { StreamCause (K.faults sink.old) (K.faults sink.new) (result.0 ≡ Status.WriteFault) }
     ensures restarts { IsTrue D.tells → D.restarts result.1 ≡ D.restarts disk }
+    ensures again { IsTrue K.tells → WroteAgain result.0 (K.written sink.old) (K.written sink.new) }
     ensures moments { IsTrue D.tells → (c : Core) → KeepsCommits c (D.bytes disk) → Only (D.bytes disk) (D.may_leave disk) → LeavesOnly D.moment D.left_since disk result.1 (KeepsCommits c) }
     ensures recovers { IsTrue D.tells → (c : Core) → KeepsCommits c (D.bytes disk) → Only (D.bytes disk) (D.may_leave disk) → before ≡ min c.before greatest
         → Recovers c (λ k. Reopens D.Disk c k disk result.1) (D.may_leave result.1) result.0 K.tells (K.written sink.old) (K.written sink.new) }

@@ -19,8 +19,10 @@ use Rattle.script_text.specs.Line.{events}
 use Rattle.heap_shell.proofs.Causes.{rose_within}
 use Rattle.heap_shell.proofs.PlayEnds.{run_reached, kept, halt_part, halt_lines, stopped_lines, ends_early, ends_recovered, ends_made, exact_some, passes_some}
 use Rattle.heap_shell.proofs.PlayFuse.{same_disk, same_limit, fuse_since, fuse_passes, fuse_steps_of}
-use Rattle.heap_shell.proofs.PlayOpen.{empty_image, new_stands, opened_commits, opening_keeps, ends_unopened, new_passes, no_rollback}
-use Rattle.heap_shell.proofs.Statuses.{no_stop, early_none, early_some, halt_end, halt_not_done}
+use Rattle.heap_shell.proofs.PlayOpen.{empty_image, new_stands, opened_commits, opening_keeps, ends_unopened, new_passes, no_rollback, opened_core}
+use Rattle.heap_shell.proofs.Statuses.{no_stop, early_none, early_some, halt_end, halt_not_done, open_not_done}
+use Rattle.heap_shell.proofs.PlayPrints.{prints_unplayed, prints_again, prints_early}
+use Rattle.std.proofs.Common.{inl}
 use Rattle.heap_shell.proofs.run.play_stopped.Goals as goal
 
 pub returns-in-Err-clause-played : goal.returns-in-Err-clause-played
@@ -170,3 +172,28 @@ returns-in-Some-clause-played g c tells pages legal only =
     (Some c.args.calls) _ (halt_end halted.0) (halt_not_done halted.0) part
     (halt_lines s (made_core pages) (made_running pages limits) refl es playable old new k.tells before after c.play_lines-played.result plays halted.0 halted.1) exact
     (inr (halt_not_done halted.0, λ t. (part t).0)))
+
+pub returns-in-Err-clause-prints : goal.returns-in-Err-clause-prints
+returns-in-Err-clause-prints g c tells = inl ((λ done. open_not_done c.in-Err.e (sym c.from.ensures ∙ done)), refl)
+
+pub returns-then-eq-clause-prints : goal.returns-then-eq-clause-prints
+returns-then-eq-clause-prints g c tells =
+    let k = g.K.Sink in
+    prints_unplayed c.args.calls c.args.script.now c.start_again.result.0 (k.written c.args.sink.now) (k.written c.start_again.new.sink) (c.start_again.ensures.again tells)
+
+pub returns-in-None-clause-prints : goal.returns-in-None-clause-prints
+returns-in-None-clause-prints g c tells =
+    let k = g.K.Sink in
+    let some = opened_core c.in-Ok.heap c.in-Ok.ensures.opens in
+    let plays = c.play_lines-played.ensures.core some.0 some.2 (script_ready some.0 c.args.script.now some.1.running c.requires) in
+    let ended = early_none c.play_lines-played.result (sym c.early_end.ensures ∙ c.in-None.is) in
+    prints_again c.args.calls some.0 some.1 c.args.script.now c.requires c.play_lines-played.new.heap k.tells (k.written c.args.sink.now) (k.written c.play_lines-played.new.sink) c.play_lines-played.result plays tells ended
+    c.start_again-in-None.result.0 (k.written c.start_again-in-None.new.sink) (c.start_again-in-None.ensures.again tells)
+
+pub returns-in-Some-clause-prints : goal.returns-in-Some-clause-prints
+returns-in-Some-clause-prints g c tells =
+    let k = g.K.Sink in
+    let some = opened_core c.in-Ok.heap c.in-Ok.ensures.opens in
+    let plays = c.play_lines-played.ensures.core some.0 some.2 (script_ready some.0 c.args.script.now some.1.running c.requires) in
+    let halted = early_some c.play_lines-played.result c.in-Some.status (sym c.early_end.ensures ∙ c.in-Some.is) in
+    rw halted.3 (prints_early (Some c.args.calls) some.0 some.1 c.args.script.now c.requires c.play_lines-played.new.heap k.tells (k.written c.args.sink.now) (k.written c.play_lines-played.new.sink) c.play_lines-played.result plays tells halted.0 halted.1)

@@ -11,7 +11,9 @@ use Rattle.script_text.specs.Line.{events}
 use Rattle.heap_shell.proofs.Causes.{disk_rose_since}
 use Rattle.heap_shell.proofs.PlayEnds.{run_reached, lines_wrote, halt_part, halt_lines, keeps_own, ends_early, ends_whole, exact_none}
 use Rattle.heap_shell.proofs.PlayOpen.{empty_image, new_stands, opened_commits, opening_keeps, ends_unopened, opened_core, played_unfailed, new_passes}
-use Rattle.heap_shell.proofs.Statuses.{halt_end, halt_not_done}
+use Rattle.heap_shell.proofs.Statuses.{halt_end, halt_not_done, open_not_done}
+use Rattle.heap_shell.proofs.PlayPrints.{reached, prints_early, prints_whole}
+use Rattle.std.proofs.Common.{inl, sym}
 use Rattle.heap_shell.proofs.run.play_whole.Goals as goal
 
 pub returns-in-Err-clause-played : goal.returns-in-Err-clause-played
@@ -83,3 +85,25 @@ write_graph-requires g c =
     let running = some.1.running in
     let plays = c.in-Ok-play_all.ensures.core some.0 some.2 (script_ready some.0 c.args.script.now running c.requires) in
     record { unfailed = played_unfailed some.0 c.args.script.now c.play_all.new.heap k.tells (k.written c.args.sink.now) (k.written c.play_all.new.sink) running c.requires plays }
+
+pub returns-in-Err-clause-prints : goal.returns-in-Err-clause-prints
+returns-in-Err-clause-prints g c tells = inl ((λ done. open_not_done c.in-Err.e (sym c.from.ensures ∙ done)), refl)
+
+pub returns-in-Ok-play_all-clause-prints : goal.returns-in-Ok-play_all-clause-prints
+returns-in-Ok-play_all-clause-prints g c tells =
+    let k = g.K.Sink in
+    let some = opened_core c.in-Ok.heap c.in-Ok.ensures.opens in
+    let before = k.written c.args.sink.now in
+    let after = k.written c.play_all.new.sink in
+    let new = c.play_all.new.heap in
+    let plays = c.in-Ok-play_all.ensures.core some.0 some.2 (script_ready some.0 c.args.script.now some.1.running c.requires) in
+    let at_end = reached None some.0 some.1 c.args.script.now c.requires new k.tells before after (Ok tt) plays tells in
+    rw c.status_after-status.ensures (prints_whole some.0 some.1 c.args.script.now c.requires new k.tells before after plays tells c.write_graph.result (k.written c.write_graph.new.sink) (c.write_graph.ensures.wrote tells plays.core plays.is at_end))
+
+pub returns-in-Err-play_all-clause-prints : goal.returns-in-Err-play_all-clause-prints
+returns-in-Err-play_all-clause-prints g c tells =
+    let k = g.K.Sink in
+    let some = opened_core c.in-Ok.heap c.in-Ok.ensures.opens in
+    let h : Halt = c.in-Err-play_all.halt in
+    let plays = c.in-Err-play_all.ensures.core some.0 some.2 (script_ready some.0 c.args.script.now some.1.running c.requires) in
+    rw c.from-in-Err-play_all.ensures (prints_early None some.0 some.1 c.args.script.now c.requires c.play_all.new.heap k.tells (k.written c.args.sink.now) (k.written c.play_all.new.sink) (Err h) plays tells h refl)

@@ -12,6 +12,9 @@ use Rattle.heap_model.specs.Opening.{opened, opening_calls}
 use Rattle.heap_shell.specs.Headline.{recovered_line, graph_text, Reopens}
 use Rattle.heap_shell.specs.Output.{WroteText}
 use Rattle.heap_shell.proofs.PlayOpen.{opened_core, opened_unfailed}
+use Rattle.heap_shell.proofs.PlayPrints.{wrote_again}
+use Rattle.heap_shell.proofs.Statuses.{open_not_done}
+use Rattle.std.proofs.Common.{inl, sym, refl}
 use Rattle.heap_shell.proofs.PrintRecovered.{first, still, few_commits, recovers_nothing, recovers_first}
 use Rattle.heap_shell.proofs.run.print_recovered.Goals as goal
 
@@ -61,3 +64,12 @@ pub write_recovered-requires : goal.write_recovered-requires
 write_recovered-requires g c =
     let some = opened_core c.in-Ok.heap c.in-Ok.ensures.opens in
     record { unfailed = opened_unfailed c.in-Ok.heap some.0 some.1 some.2 }
+
+pub returns-in-Err-clause-again : goal.returns-in-Err-clause-again
+returns-in-Err-clause-again g c tells = inl ((λ done. open_not_done c.in-Err.e (sym c.from.ensures ∙ done)), refl)
+
+pub returns-clause-again : goal.returns-clause-again
+returns-clause-again g c tells =
+    let k = g.K.Sink in
+    let some = opened_core c.in-Ok.heap c.in-Ok.ensures.opens in
+    wrote_again c.write_recovered.result _ _ c.status_after-status.result (k.written c.args.sink.now) (k.written c.write_recovered.new.sink) c.status_after-status.ensures (c.write_recovered.ensures.wrote tells some.0 some.2 some.1.running.reached)

@@ -8,6 +8,9 @@ use Rattle.heap_shell.specs.Playable.{IsScript}
 use Rattle.script_text.specs.Line.{events}
 use Rattle.script_text.specs.Script.{script}
 use Rattle.disk_model.specs.KeepsLaws.{rose_since}
+use Rattle.std.proofs.Common.{⊎_elim}
+use Rattle.std.specs.Prelude.{IsTrue}
+use Rattle.heap_shell.specs.Headline.{PrintsRun}
 use Rattle.heap_shell.proofs.RunLaws.{large_made, not_made, end_sound, end_done, crash_safe}
 use Rattle.heap_shell.proofs.run.run.Goals as goal
 
@@ -117,3 +120,18 @@ play_whole-requires g c = let read = c.in-Ok.ensures.script in subst IsScript (s
 
 pub play_stopped-requires : goal.play_stopped-requires
 play_stopped-requires g c = let read = c.in-Ok.ensures.script in subst IsScript (sym c.deref-in-Some-stop.ensures.value) (script_is read.0 c.in-Ok.script.items read.1)
+
+pub returns-in-None-clause-prints : goal.returns-in-None-clause-prints
+returns-in-None-clause-prints g c tells play is =
+    let read = c.in-Ok.ensures.script in
+    let same : play ≡ c.in-Some.play = cc (is, c.in-Some.is, c.read_words.ensures) in
+    let said = λ (t : IsTrue g.S.Source.tells). ap script (sym (read.2 t)) ∙ read.1 ∙ ap (λ (ls : List Line). Ok ls) (sym c.deref.ensures.value) in
+    rw (same, c.in-None.is) (⊎_elim inl (λ (run : PrintsRun None c.deref.result.now c.play_whole.result.0 (g.K.Sink.written c.args.sink.now) (g.K.Sink.written c.play_whole.new.sink)). inr (c.deref.result.now, said, run)) (c.play_whole.ensures.prints tells))
+
+pub returns-clause-prints : goal.returns-clause-prints
+returns-clause-prints g c tells play is =
+    let read = c.in-Ok.ensures.script in
+    let same : play ≡ c.in-Some.play = cc (is, c.in-Some.is, c.read_words.ensures) in
+    let said = λ (t : IsTrue g.S.Source.tells). ap script (sym (read.2 t)) ∙ read.1 ∙ ap (λ (ls : List Line). Ok ls) (sym c.deref-in-Some-stop.ensures.value) in
+    rw (same, c.in-Some-stop.is) (⊎_elim inl (λ (run : PrintsRun (Some c.in-Some-stop.calls) c.deref-in-Some-stop.result.now c.play_stopped.result.0 (g.K.Sink.written c.args.sink.now) (g.K.Sink.written c.play_stopped.new.sink)).
+    inr (c.deref-in-Some-stop.result.now, said, run)) (c.play_stopped.ensures.prints tells))

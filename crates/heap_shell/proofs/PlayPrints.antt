@@ -1,0 +1,138 @@
+-- What a run prints on any disk.
+use Rattle.std.proofs.Common.{◌≡◌, ◌≢◌, ◌⊎◌, inl, inr, ⊎_elim, ℕ, Bool, List, [], ◌++◌, Option, Some, None, Result, Ok, Err, refl, sym, ap, ◌∙◌, subst, arith}
+use Rattle.std.specs.Prelude.{IsTrue}
+use Rattle.std.specs.List.{AllByRecursion}
+use Rattle.std.proofs.lemmas.List.{append-nil}
+use Rattle.disk_model.specs.declared.disk.Disk.{Ghosts}
+use Rattle.graph_model.specs.declared.event.Event.{Event}
+use Rattle.graph_model.specs.declared.reply.Entry.{Entry}
+use Rattle.graph_model.specs.Graph.{Graph}
+use Rattle.graph_model.specs.History.{sealed}
+use Rattle.graph_model.specs.SlowHeap.{IsSingleSession}
+use Rattle.graph_model.specs.Transaction.{serial}
+use Rattle.heap_core.specs.declared.heap.Heap.{Heap}
+use Rattle.heap_model.specs.Core.{Core}
+use Rattle.heap_model.specs.CoreLawsEnding.{single_front}
+use Rattle.heap_model.specs.CoreLawsReplies.{run_reached}
+use Rattle.heap_model.specs.CoreValid.{IsReached}
+use Rattle.heap_model.specs.Ending.{all_events}
+use Rattle.heap_shell.specs.declared.output.WriteError.{WriteError}
+use Rattle.heap_shell.specs.declared.play.Halt.{Halt}
+use Rattle.heap_shell.specs.declared.play.Halt.TheVariants as halt
+use Rattle.heap_shell.specs.declared.status.Status.{Status}
+use Rattle.heap_shell.specs.declared.status.Status.TheVariants as status
+use Rattle.heap_shell.specs.CoreLawsPlay.{made_limits, made_reached, all_playable}
+use Rattle.heap_shell.specs.Headline.{made_core, graph_text, end_text, recovered_line, HasMade, PrintsRun, PrintsSome, Writes}
+use Rattle.heap_shell.specs.Output.{WroteText, WroteGraph, WroteAgain, status_after}
+use Rattle.heap_shell.specs.Play.{IsRunning, IsWhole, IsCutBy, EndsAs, PlaysCore, Wrote, WroteFront, WroteLines, lines_text}
+use Rattle.heap_shell.specs.Playable.{IsScript}
+use Rattle.heap_shell.specs.StatusOf.{halt_status}
+use Rattle.heap_shell.proofs.Lines.{halt_part, halt_lines, stopped_lines, some_writes, all_writes, lines_more}
+use Rattle.heap_shell.proofs.PlayOpen.{IsNew}
+use Rattle.heap_shell.proofs.Statuses.{halt_not_done, wrote_all}
+use Rattle.heap_shell.proofs.Written.{whole_front, wrote_some}
+use Rattle.script_text.specs.declared.line.Line.{Line}
+use Rattle.script_text.specs.Line.{events}
+
+-- Some number and graph were written, or nothing.
+pub wrote_again : (r : Result (Unit {0}) WriteError) (k : ℕ) (g : Graph) (by : Status) (before after : List ℕ) → by ≡ status_after r → WroteText r before (recovered_line k ++ graph_text g) after → WroteAgain by before after
+wrote_again r k g by before after is wrote = inr (k, g, record { front = wrote_some r before _ after wrote; whole = λ done. wrote_all r before _ after (sym is ∙ done) wrote })
+
+-- The opening was stopped: no event was made.
+pub prints_unplayed : (n : ℕ) (script : List Line) (by : Status) (before after : List ℕ) → WroteAgain by before after → PrintsSome (Some n) script by before after
+prints_unplayed n script by before after (inl nothing) = inl nothing
+prints_unplayed n script by before after (inr again) =
+    let c = made_core 1 in
+    let wrote = again.2 in
+    inr (record {
+      first = c;
+      reached = made_reached 1 (made_limits 1 (omega arith) (omega arith));
+      new = refl;
+      made = [];
+      behind = events script;
+      parts = refl;
+      core = c;
+      run = refl;
+      done = λ is. inr ((λ none. cc), refl);
+      count = again.0;
+      graph = again.1;
+      own = λ none. cc;
+      written = all_writes [] before before by (recovered_line again.0 ++ graph_text again.1) after (sym (append-nil before)) wrote.front wrote.whole;
+    })
+
+module _ {D : Type 0} {g : Ghosts D} (stop : Option ℕ) (c : Core) (new : IsNew c) (script : List Line) (is_script : IsScript script) (heap : Heap D g) (told : Bool) (before after : List ℕ) (result : Result (Unit {0}) Halt)
+    (plays : PlaysCore c (all_events stop c (events script)) heap told before after result) (tells : IsTrue told) where
+  abbrev core : Core
+  core = plays.core
+
+  -- the core that was reached
+  pub reached : IsReached core
+  reached =
+      let single = (all_playable stop c script new.running.reached is_script).single in
+      run_reached c core plays.made new.running.reached (single_front plays.made plays.behind (subst (AllByRecursion IsSingleSession) plays.parts single)) plays.run
+
+  wrote : Wrote result before core.history after
+  wrote = plays.written tells before (sym (ap (λ (h : List Entry). before ++ lines_text h) new.nothing ∙ append-nil before))
+
+  prints : (by : Status) (after' : List ℕ) (k : ℕ) (graph : Graph) → (by ≡ status.Done → HasMade stop c plays.made plays.behind core) → (stop ≡ None → graph ≡ serial core.g0 (sealed core.history))
+      → Writes by core.history (end_text stop k graph) before after' → PrintsSome stop script by before after'
+  prints by after' k graph done own written = inr (record {
+    first = c;
+    reached = new.running.reached;
+    new = new.nothing;
+    made = plays.made;
+    behind = plays.behind;
+    parts = plays.parts;
+    core = core;
+    run = plays.run;
+    done = λ is. inl (done is);
+    count = k;
+    graph = graph;
+    own = own;
+    written = written;
+  })
+
+  -- it ended before more than lines were to be written
+  pub prints_early : (h : Halt) → result ≡ Err h → PrintsSome stop script (halt_status h) before after
+  prints_early h is =
+      let some = subst (λ (r : Result (Unit {0}) Halt). Wrote r before core.history after) is wrote in
+      let graph = serial core.g0 (sealed core.history) in
+      let part = halt_part core.history before after h some in
+      prints (halt_status h) after 0 graph (λ done. absurd (halt_not_done h done)) (λ none. refl)
+      (some_writes core.history before after (halt_status h) (end_text stop 0 graph) after (halt_not_done h) part.0 part.1 (halt_lines core.history before after h some))
+
+-- It was not to stop, and its graph was to be written.
+pub prints_whole : {D : Type 0} {g : Ghosts D} (c : Core) (new : IsNew c) (script : List Line) (is_script : IsScript script) (heap : Heap D g) (told : Bool) (before after : List ℕ)
+    (plays : PlaysCore c (all_events None c (events script)) heap told before after (Ok tt)) (tells : IsTrue told) (r : Result (Unit {0}) WriteError) (after' : List ℕ)
+    → WroteText r after (graph_text (serial plays.core.g0 (sealed plays.core.history))) after' → PrintsSome None script (status_after r) before after'
+prints_whole c new script is_script heap told before after plays tells r after' text =
+    let graph = serial plays.core.g0 (sealed plays.core.history) in
+    prints None c new script is_script heap told before after (Ok tt) plays tells (status_after r) after' 0 graph (λ done. plays.ends) (λ none. refl)
+    (all_writes plays.core.history before after (status_after r) (graph_text graph) after' (wrote None c new script is_script heap told before after (Ok tt) plays tells) (wrote_some r after _ after' text) (λ done. wrote_all r after _ after' done text))
+
+-- It was to stop, and what came back was to be written.
+pub prints_again : {D : Type 0} {g : Ghosts D} (n : ℕ) (c : Core) (new : IsNew c) (script : List Line) (is_script : IsScript script) (heap : Heap D g) (told : Bool) (before after : List ℕ) (result : Result (Unit {0}) Halt)
+    (plays : PlaysCore c (events script) heap told before after result) (tells : IsTrue told) (ended : (result ≡ Ok tt) ⊎ (result ≡ Err halt.Stopped)) (by : Status) (after' : List ℕ) → WroteAgain by after after' → PrintsSome (Some n) script by before after'
+prints_again n c new script is_script heap told before after result plays tells ended by after' again = ⊎_elim nothing some again
+  where
+    made : HasMade (Some n) c plays.made plays.behind plays.core
+    made = ⊎_elim
+        (λ (is : result ≡ Ok tt). inl (subst (EndsAs c plays.made plays.behind plays.core) is plays.ends))
+        (λ (is : result ≡ Err halt.Stopped). inr (subst (EndsAs c plays.made plays.behind plays.core) is plays.ends))
+        ended
+
+    out : after ≡ before ++ lines_text plays.core.history
+    out = stopped_lines plays.core.history before after result ended (wrote (Some n) c new script is_script heap told before after result plays tells)
+
+    nothing : (by ≢ status.Done) × (after' ≡ after) → PrintsSome (Some n) script by before after'
+    nothing none =
+        let graph = serial plays.core.g0 (sealed plays.core.history) in
+        let lines = none.1 ∙ out in
+        prints (Some n) c new script is_script heap told before after result plays tells by after' 0 graph (λ done. made) (λ no. refl)
+        (some_writes plays.core.history before after by (end_text (Some n) 0 graph) after' none.0 (whole_front before (lines_text plays.core.history) after' lines) (lines_more plays.core.history before after after' [] out (none.1 ∙ sym (append-nil after))) (λ is. lines))
+
+    some : (k : ℕ) × (graph : Graph) × WroteGraph k graph by after after' → PrintsSome (Some n) script by before after'
+    some wrote_it =
+        let text = recovered_line wrote_it.0 ++ graph_text wrote_it.1 in
+        prints (Some n) c new script is_script heap told before after result plays tells by after' wrote_it.0 wrote_it.1 (λ done. made) (λ no. cc)
+        (all_writes plays.core.history before after by text after' out wrote_it.2.front wrote_it.2.whole)
