@@ -1,0 +1,22 @@
+//! Why no object was made.
+use std::alloc::AllocError;
+
+/// Why no object was made.
+#[derive(Clone, Copy, Debug, PartialEq, Eq)]
+pub enum AreaError {
+    /// So many words of the area are taken, and the rest is too few.
+    VolatileFull { used: u32 },
+    /// Memory was refused.
+    NoMemory,
+}
+
+impl From<AllocError> for AreaError {
+    ghost use Rattle.std.specs.Prelude.{◌≡◌};
+    ghost use Rattle.volatile_area.specs.declared.area_error.AreaError.TheVariants.{NoMemory};
+
+    ghost from_gives = { λ _ e. e ≡ NoMemory };
+
+    fn from(_refused: AllocError) -> AreaError {
+        AreaError::NoMemory
+    }
+}
