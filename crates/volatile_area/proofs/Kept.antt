@@ -1,5 +1,5 @@
 -- What the fields of an area say of what contracts see.
-use Rattle.std.proofs.Common.{◌≡◌, ℕ, suc, ◌+◌, ◌-◌, ◌*◌, ◌/◌, ◌<◌, ◌≤◌, ◌↔◌, List, [], ◌∷◌, ◌++◌, length, get_or, Result, Ok, Err, is_ok, Some, inl, inr, refl, sym, ap, ◌∙◌, subst, arith}
+use Rattle.std.proofs.Common.{◌≡◌, ℕ, suc, ◌+◌, ◌-◌, ◌/◌, ◌<◌, ◌≤◌, ◌↔◌, List, [], ◌∷◌, ◌++◌, length, get_or, Result, Ok, Err, is_ok, Some, inl, inr, refl, sym, ap, ◌∙◌, subst, arith}
 use Rattle.std.specs.Prelude.{slice_set, slice_index, replicate, Contains, IsTrue}
 use Rattle.std.specs.Ordering.{nat_cmp}
 use Rattle.std.specs.List.Sorted.{IsBinarySearchResult}
@@ -7,13 +7,13 @@ use Rattle.std.proofs.lemmas.Bool.{cases_lt}
 use Rattle.std.proofs.lemmas.Grind.{get_or_default_zero}
 use Rattle.std.proofs.lemmas.List.{set-append_right}
 use Rattle.std.proofs.lemmas.List.Sorted.{searched}
-use Rattle.std.proofs.lemmas.Map.Keys.{sorted_from_strictly_increasing, non_decreasing_from_sorted, below_from_sorted}
+use Rattle.std.proofs.lemmas.Map.Keys.{sorted_from_strictly_increasing, non_decreasing_from_sorted}
 use Rattle.heap_words.specs.declared.Header.TheVariants.{Length}
 use Rattle.heap_words.specs.Word.{IsFieldWord}
 use Rattle.heap_words.specs.HeaderLaws.{bits-header}
 use Rattle.object_layout.specs.Layout.{object_at}
 use Rattle.object_layout.specs.LayoutLaws.{object_header}
-use Rattle.volatile_area.specs.Area.{AreaState, starts_of, with_object, with_field, HasField, IsArea, IsKept}
+use Rattle.volatile_area.specs.Area.{AreaState, starts_of, with_object, with_field, HasField, IsKept}
 use Rattle.volatile_area.specs.AreaLaws.{starts_of_increase, area_object, starts_of-with_object, with_object_is, starts_of-with_field, with_field_is}
 
 -- the starts do not fall

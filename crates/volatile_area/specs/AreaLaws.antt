@@ -1,22 +1,21 @@
 -- Laws of volatile areas: where their objects stand, and what making one and writing into one changes.
-use Rattle.std.proofs.Common.{◌≡◌, ◌≢◌, ℕ, zero, suc, ◌+◌, ◌*◌, ◌^◌, ◌<◌, ◌≤◌, ◌⊎◌, inl, inr, List, [], ◌∷◌, ◌++◌, length, Some, refl, sym, ap, ◌∙◌, subst, arith}
+use Rattle.std.proofs.Common.{◌≡◌, ◌≢◌, ℕ, zero, suc, ◌+◌, ◌*◌, ◌<◌, ◌≤◌, ◌⊎◌, inl, inr, List, [], ◌∷◌, ◌++◌, length, Some, refl, sym, ap, ◌∙◌, subst, arith}
 use Rattle.std.specs.Prelude.{slice_get, slice_set, slice_index, replicate, Contains}
 use Rattle.std.specs.List.Sorted.{IsStrictlyIncreasing}
 use Rattle.std.proofs.lemmas.Bool.{cases_eq}
 use Rattle.std.proofs.lemmas.List.{length-append, length-replicate, length-set, length_push}
-use Rattle.std.proofs.lemmas.List.Elements.{Contains-push, Contains-push_cases, Contains-append_left}
+use Rattle.std.proofs.lemmas.List.Elements.{Contains-push_cases}
 use Rattle.std.proofs.lemmas.Option.{same_Some, slice_get_within, get_or_from_slice_get}
 use Rattle.heap_words.specs.declared.Word.TheVariants.{Null}
 use Rattle.heap_words.specs.Header.{birth_bits}
 use Rattle.heap_words.specs.HeaderLaws.{born_in-birth_bits, born_as-birth_bits}
 use Rattle.heap_words.specs.Word.{IsFieldWord}
-use Rattle.graph_model.specs.declared.id.Id.{Id}
 use Rattle.object_layout.specs.Layout.{object_at, field_words, birth_at, id_of, id_at}
-use Rattle.object_layout.specs.LayoutLaws.{object_header, length-field_words, object_small}
+use Rattle.object_layout.specs.LayoutLaws.{object_header, length-field_words}
 use Rattle.object_layout.specs.Walk.{AreEndToEnd}
 use Rattle.object_layout.specs.WalkedLaws.{end_to_end_object}
-use Rattle.volatile_area.specs.Area.{AreaState, new_area, length_at, starts_from, starts_of, new_words, with_object, with_field, HasField, IsArea, IsKept}
-use Rattle.volatile_area.specs.ObjectLaws.{field_words_at, object_append, field_words_append, birth_at_append, object_set, field_words_beside, field_words_set, birth_at_set, object_behind, field_words_behind, birth_at_behind, end_to_end_append, end_to_end_push, end_to_end_long, end_to_end_apart, end_to_end_set, length-starts_from, starts_from-end_to_end}
+use Rattle.volatile_area.specs.Area.{AreaState, new_area, length_at, starts_from, starts_of, new_words, with_object, with_field, HasField, IsArea}
+use Rattle.volatile_area.specs.ObjectLaws.{field_words_append, birth_at_append, field_words_beside, field_words_set, birth_at_set, object_behind, field_words_behind, birth_at_behind, end_to_end_append, end_to_end_push, end_to_end_long, end_to_end_apart, end_to_end_set, length-starts_from, starts_from-end_to_end}
 
 -- Starts.
 

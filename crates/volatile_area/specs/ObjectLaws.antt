@@ -1,7 +1,7 @@
 -- Objects that stand end to end, behind which more words are put, or of which a word is changed.
-use Rattle.std.proofs.Common.{◌≡◌, ◌≢◌, ℕ, zero, suc, ◌+◌, ◌-◌, ◌*◌, ◌<◌, ◌≤◌, ◌⊎◌, inl, inr, List, [], ◌∷◌, ◌++◌, length, take, drop, Some, Option, None, refl, sym, ap, ◌∙◌, subst, arith}
-use Rattle.std.specs.Prelude.{slice_get, slice_set, slice_index, replicate, Contains, if◌then◌else◌}
-use Rattle.std.proofs.lemmas.Bool.{le-leb, cases_lt}
+use Rattle.std.proofs.Common.{◌≡◌, ◌≢◌, ℕ, zero, suc, ◌+◌, ◌-◌, ◌*◌, ◌<◌, ◌≤◌, ◌⊎◌, inl, inr, List, [], ◌∷◌, ◌++◌, length, take, drop, Some, None, refl, sym, ap, ◌∙◌, arith}
+use Rattle.std.specs.Prelude.{slice_set, slice_index, replicate, Contains, if◌then◌else◌}
+use Rattle.std.proofs.lemmas.Bool.{le-leb}
 use Rattle.std.proofs.lemmas.List.{length-append, length-replicate, length-set, length-drop, get_or_append_left, get_or_at, get_or-set_other, drop-append-le, take-append-le, drop-set-lt, drop-set-add, take-set-le, get_or-append-add, drop-drop, drop_at, take_all}
 use Rattle.heap_words.specs.Header.{header}
 use Rattle.object_layout.specs.Layout.{whole_length, object_at, words_of, field_words, birth_at}

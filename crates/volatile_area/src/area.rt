@@ -4,7 +4,7 @@ ghost use Rattle.heap_words.specs.declared.Header.TheVariants.{Length};
 ghost use Rattle.heap_words.specs.Header.{header_bits};
 ghost use Rattle.heap_words.specs.Word.{IsFieldWord};
 ghost use Rattle.object_layout.specs.Layout.{object_at, field_words};
-ghost use Rattle.volatile_area.specs.Area.{new_area, starts_of, with_object, with_field, HasField, IsArea};
+ghost use Rattle.volatile_area.specs.Area.{new_area, length_at, starts_of, with_object, with_field, HasField, IsArea};
 
 use crate::area_error::AreaError;
 use heap_words::{VOLATILE_WORDS, birth};
@@ -107,7 +107,8 @@ impl Area {
     /// The number of an object's fields.
     pub fn length(&self, object: u32) -> u32
         requires { Contains (starts_of self.now) object }
-        ensures length { object_at self.now.words object ≡ Some result }
+        ensures length { result ≡ length_at self.now.words object }
+        ensures object { object_at self.now.words object ≡ Some result }
         ensures few { result ≤ 510 }
     {
         // A header is four times the length, and 1.

@@ -1,5 +1,5 @@
 -- The words grow by zeros, of which the first two are replaced.
-use Rattle.std.proofs.Common.{◌≡◌, ◌+◌, ◌-◌, ◌*◌, ◌++◌, take, length, ◌∙◌, ap, sym, arith}
+use Rattle.std.proofs.Common.{◌≡◌, ◌+◌, ◌-◌, ◌*◌, ◌++◌, length, ◌∙◌, ap, arith}
 use Rattle.std.specs.Prelude.{replicate, slice_set, vec_len}
 use Rattle.std.proofs.lemmas.List.{take_all}
 use Rattle.volatile_area.proofs.Kept.{object_put}

@@ -2,6 +2,7 @@
 use Rattle.std.proofs.Common.{◌≡◌, ◌/◌, Some, ◌∙◌, ap, sym, arith}
 use Rattle.std.specs.Prelude.{slice_index}
 use Rattle.std.proofs.lemmas.List.{get_or_read}
+use Rattle.object_layout.specs.LayoutLaws.{length-field_words}
 use Rattle.volatile_area.specs.Area.{area_of}
 use Rattle.volatile_area.proofs.Kept.{stands_at, StandsAt}
 use Rattle.volatile_area.proofs.area.Area.length.Goals.{After-self, After-index}
@@ -30,9 +31,15 @@ overflow_cast-result c =
     let small = (object (goal.at.overflow_cast-result c).After-self).small in
     omega (arith, header (goal.at.overflow_cast-result c).After-index)
 
+pub returns-clause-object : goal.returns-clause-object
+returns-clause-object c =
+    (object (goal.at.returns-clause-object c).After-self).object ∙ ap (λ w. Some (w / 4)) (sym (header (goal.at.returns-clause-object c).After-index))
+
 pub returns-clause-length : goal.returns-clause-length
 returns-clause-length c =
-    (object (goal.at.returns-clause-length c).After-self).object ∙ ap (λ w. Some (w / 4)) (sym (header (goal.at.returns-clause-length c).After-index))
+    let stands = (object (goal.at.returns-clause-length c).After-self).object in
+    ap (λ w. w / 4) (header (goal.at.returns-clause-length c).After-index)
+    ∙ sym (length-field_words c.args.self.now.words c.args.object _ stands)
 
 pub returns-clause-few : goal.returns-clause-few
 returns-clause-few c =

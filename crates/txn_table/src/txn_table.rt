@@ -1,0 +1,185 @@
+//! The transactions of the sessions.
+ghost use Rattle.std.specs.Prelude.{◌≡◌, ◌<◌, ◌≤◌, ◌+◌, ◌↔◌, ◌∷◌, drop, reverse, length, slice_get, slice_set, None, Some, Err, IsTrue, IsSome, IfSome, IsSomeAnd, IfOk, OnOk, OnErr};
+ghost use Rattle.heap_words.specs.Word.{IsFieldWord};
+ghost use Rattle.volatile_area.specs.Area.{with_object, with_field, HasField};
+ghost use Rattle.txn_table.specs.Table.{new_table, transaction_of, with_begun, with_ended, Changes};
+
+use crate::place::Place;
+use crate::transaction::Transaction;
+use log_machine::UndoEntry;
+use std::alloc::{AllocError, Global};
+use std::marker::Model;
+use volatile_area::{Area, AreaError};
+
+/// How many sessions there are: 1 to 32.
+pub const SESSIONS: u32 = 32;
+
+/// The transactions that have not ended, each with its session's number, and the number of the next.
+#[derive(Debug, Drop)]
+pub struct TxnTable {
+    alloc: Global,
+    next: u32,
+    /// The transaction of each session, the first session's first.
+    slots: Vec<Option<Transaction>>,
+}
+
+impl Model for TxnTable {
+    ghost use Rattle.std.specs.Prelude.{◌≡◌, length};
+    ghost use Rattle.txn_table.specs.Table.{TableState};
+    ghost use Rattle.txn_table.specs.TableCode.{table_code};
+
+    ghost Value = { TableState };
+
+    ghost coded = { table_code };
+
+    ghost use Rattle.txn_table.specs.Slots.{table_of};
+
+    ghost view = { λ t. table_of t.next t.slots.items };
+
+    ghost invariant = { λ t. length t.slots.items ≡ 32 };
+}
+
+impl TxnTable {
+    /// No session has a transaction, and the first will have this number.
+    pub fn new(alloc: Global, next: u32) -> Result<TxnTable, AllocError>
+        ensures { IfOk result (λ table. table ≡ new_table next) }
+    {
+        let mut slots = Vec::new(alloc);
+        for _ in 0..SESSIONS {
+            slots.push(None)?;
+        }
+        Ok(TxnTable { alloc, next, slots })
+    }
+
+    /// The number of the next transaction.
+    pub fn next(&self) -> u32
+        ensures { result ≡ self.now.next }
+    {
+        self.next
+    }
+
+    /// Whether the session has a transaction.
+    pub fn active(&self, s: u32) -> bool
+        ensures { IsTrue result ↔ IsSome (transaction_of self.now s) }
+    {
+        s > 0 && s <= SESSIONS && self.slots[(s - 1) as usize].is_some()
+    }
+
+    /// Begins a transaction of the session, and tells its number. It takes no memory.
+    pub fn begin(&mut self, s: u32) -> u32
+        requires first { 1 ≤ s }
+        requires last { s ≤ 32 }
+        requires idle { transaction_of self.old s ≡ None }
+        requires numbers { self.old.next < 4294967295 }
+        ensures number { result ≡ self.old.next }
+        ensures begun { self.new ≡ with_begun self.old s }
+    {
+        let number = self.next;
+        self.slots[(s - 1) as usize] = Some(Transaction::new(self.alloc, number));
+        self.next += 1;
+        number
+    }
+
+    /// The number of the session's transaction.
+    pub fn number(&self, s: u32) -> u32
+        requires { IsSome (transaction_of self.now s) }
+        ensures { IfSome (transaction_of self.now s) (λ t. result ≡ t.number) }
+    {
+        self.slots[(s - 1) as usize].as_ref().unwrap().number()
+    }
+
+    /// The place of the object that a handle of the session's transaction holds, if it holds one.
+    pub fn handle(&self, s: u32, h: u32) -> Option<Place>
+        requires active { IsSome (transaction_of self.now s) }
+        requires within { h < 64 }
+        ensures { IfSome (transaction_of self.now s) (λ t. slice_get t.handles h ≡ Some result) }
+    {
+        self.slots[(s - 1) as usize].as_ref().unwrap().handle(h)
+    }
+
+    /// Lets a handle of the session's transaction hold the object at a place, or nothing.
+    pub fn set_handle(&mut self, s: u32, h: u32, to: Option<Place>)
+        requires active { IsSome (transaction_of self.old s) }
+        requires within { h < 64 }
+        ensures { Changes self.old self.new s (λ t. record t { handles = slice_set t.handles h to }) }
+    {
+        if let Some(t) = &mut self.slots[(s - 1) as usize] {
+            t.set_handle(h, to);
+        }
+    }
+
+    /// What the writes of the session's transaction replaced. The newest stands last.
+    pub fn undo(&self, s: u32) -> &[UndoEntry]
+        requires { IsSome (transaction_of self.now s) }
+        ensures { IfSome (transaction_of self.now s) (λ t. reverse result.now ≡ t.undo) }
+    {
+        self.slots[(s - 1) as usize].as_ref().unwrap().undo()
+    }
+
+    /// Adds what a write of the session's transaction replaced. An error changes nothing.
+    pub fn push_undo(&mut self, s: u32, entry: UndoEntry) -> Result<(), AllocError>
+        requires { IsSome (transaction_of self.old s) }
+        ensures ok { OnOk result (Changes self.old self.new s (λ t. record t { undo = entry ∷ t.undo })) }
+        ensures err { OnErr result (self.new ≡ self.old) }
+    {
+        if let Some(t) = &mut self.slots[(s - 1) as usize] {
+            t.push_undo(entry)?;
+        }
+        Ok(())
+    }
+
+    /// Takes off what the newest write of the session's transaction replaced, if it has written.
+    pub fn pop_undo(&mut self, s: u32) -> Option<UndoEntry>
+        requires { IsSome (transaction_of self.old s) }
+        ensures newest { IfSome (transaction_of self.old s) (λ t. result ≡ slice_get t.undo 0) }
+        ensures others { Changes self.old self.new s (λ t. record t { undo = drop 1 t.undo }) }
+    {
+        match &mut self.slots[(s - 1) as usize] {
+            Some(t) => t.pop_undo(),
+            None => None,
+        }
+    }
+
+    /// The objects that the session's transaction has made.
+    pub fn area(&self, s: u32) -> &Area
+        requires { IsSome (transaction_of self.now s) }
+        ensures { IfSome (transaction_of self.now s) (λ t. result.now ≡ t.area) }
+    {
+        self.slots[(s - 1) as usize].as_ref().unwrap().area()
+    }
+
+    /// Makes an object of so many fields, at most 510, in the area of the session's transaction, and tells its index. An error changes
+    /// nothing.
+    pub fn new_object(&mut self, s: u32, fields: u32) -> Result<u32, AreaError>
+        requires active { IsSome (transaction_of self.old s) }
+        requires few { fields ≤ 510 }
+        ensures index { IfOk result (λ object. IfSome (transaction_of self.old s) (λ t. object ≡ length t.area.words)) }
+        ensures made { OnOk result (Changes self.old self.new s (λ t. record t { area = with_object t.area fields })) }
+        ensures full { (used : _) → (result ≡ Err (AreaError.VolatileFull used)) ↔ IsSomeAnd (transaction_of self.old s) (λ t. (used ≡ length t.area.words) × (4096 < used + 2 + fields)) }
+        ensures err { OnErr result (self.new ≡ self.old) }
+    {
+        match &mut self.slots[(s - 1) as usize] {
+            Some(t) => t.new_object(fields),
+            None => Err(AreaError::NoMemory),
+        }
+    }
+
+    /// Puts a field's word into a field of an object of that area.
+    pub fn set_field(&mut self, s: u32, object: u32, field: u32, word: u64)
+        requires there { IsSomeAnd (transaction_of self.old s) (λ t. HasField t.area object field) }
+        requires meant { IsFieldWord word }
+        ensures { Changes self.old self.new s (λ t. record t { area = with_field t.area object field word }) }
+    {
+        if let Some(t) = &mut self.slots[(s - 1) as usize] {
+            t.set_field(object, field, word);
+        }
+    }
+
+    /// Ends the session's transaction.
+    pub fn end(&mut self, s: u32)
+        requires { IsSome (transaction_of self.old s) }
+        ensures { self.new ≡ with_ended self.old s }
+    {
+        self.slots[(s - 1) as usize] = None;
+    }
+}
