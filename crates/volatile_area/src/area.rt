@@ -121,7 +121,8 @@ impl Area {
         ensures word { slice_get (field_words self.now.words object) field ≡ Some result }
         ensures meant { IsFieldWord result }
     {
-        self.words[(object + FIELDS_AT + field) as usize]
+        let words = self.words.as_slice();
+        words[(object + FIELDS_AT + field) as usize]
     }
 
     /// Puts a field's word into an object's field.
