@@ -1,6 +1,6 @@
 -- What the fields of an area say of what contracts see.
 use Rattle.std.proofs.Common.{◌≡◌, ℕ, suc, ◌+◌, ◌-◌, ◌/◌, ◌<◌, ◌≤◌, ◌↔◌, List, [], ◌∷◌, ◌++◌, length, get_or, Result, Ok, Err, is_ok, Some, inl, inr, refl, sym, ap, ◌∙◌, subst, arith}
-use Rattle.std.specs.Prelude.{slice_set, slice_index, replicate, Contains, IsTrue}
+use Rattle.std.specs.Prelude.{slice_set, slice_index, replicate, Contains, IsTrue, All}
 use Rattle.std.specs.Ordering.{nat_cmp}
 use Rattle.std.specs.List.Sorted.{IsBinarySearchResult}
 use Rattle.std.proofs.lemmas.Bool.{cases_lt}
@@ -8,12 +8,13 @@ use Rattle.std.proofs.lemmas.Grind.{get_or_default_zero}
 use Rattle.std.proofs.lemmas.List.{set-append_right}
 use Rattle.std.proofs.lemmas.List.Sorted.{searched}
 use Rattle.std.proofs.lemmas.Map.Keys.{sorted_from_strictly_increasing, non_decreasing_from_sorted}
+use Rattle.std.proofs.lemmas.Option.{slice_get-get_or}
 use Rattle.heap_words.specs.declared.Header.TheVariants.{Length}
 use Rattle.heap_words.specs.Word.{IsFieldWord}
 use Rattle.heap_words.specs.HeaderLaws.{bits-header}
-use Rattle.object_layout.specs.Layout.{object_at}
+use Rattle.object_layout.specs.Layout.{object_at, field_words}
 use Rattle.object_layout.specs.LayoutLaws.{object_header}
-use Rattle.volatile_area.specs.Area.{AreaState, starts_of, with_object, with_field, HasField, IsKept}
+use Rattle.volatile_area.specs.Area.{AreaState, starts_of, with_object, with_field, HasField, IsArea, IsKept}
 use Rattle.volatile_area.specs.AreaLaws.{starts_of_increase, area_object, starts_of-with_object, with_object_is, starts_of-with_field, with_field_is}
 
 -- the starts do not fall
@@ -67,6 +68,11 @@ stands_at kept inside now at is same has =
       small = omega arith;
       within = omega arith;
     }
+
+-- in each field of an object stands a field's word
+pub fields_meant : (kept : List ℕ) (inside now : AreaState) (at : ℕ) → IsKept kept inside → inside ≡ now → Contains (starts_of now) at → All IsFieldWord (field_words now.words at)
+fields_meant kept inside now at is same has k d within =
+    (subst IsArea same is.sound).fields at k (get_or (field_words now.words at) k d) has (slice_get-get_or (field_words now.words at) k d within)
 
 -- the fields after an object was made
 pub kept_with_object : (kept : List ℕ) (area : AreaState) (n : ℕ) → IsKept kept area → n ≤ 510 → length area.words + 2 + n ≤ 4096

@@ -1,5 +1,5 @@
 //! A transaction's volatile area.
-ghost use Rattle.std.specs.Prelude.{◌≡◌, ◌+◌, ◌≤◌, ◌<◌, ◌↔◌, length, slice_get, IsTrue, IfOk, OnErr, Err, Contains, Some, OnOk, ◌++◌, ◌∷◌, replicate, vec_len};
+ghost use Rattle.std.specs.Prelude.{◌≡◌, ◌+◌, ◌≤◌, ◌<◌, ◌↔◌, length, slice_get, IsTrue, IfOk, OnErr, Err, All, Contains, Some, OnOk, ◌++◌, ◌∷◌, replicate, vec_len};
 ghost use Rattle.heap_words.specs.declared.Header.TheVariants.{Length};
 ghost use Rattle.heap_words.specs.Header.{header_bits};
 ghost use Rattle.heap_words.specs.Word.{IsFieldWord};
@@ -115,14 +115,25 @@ impl Area {
         (self.words[object as usize] / 4) as u32
     }
 
+    /// The words of an object's fields, in order.
+    pub fn fields(&self, object: u32) -> &[u64]
+        requires { Contains (starts_of self.now) object }
+        ensures words { result.now ≡ field_words self.now.words object }
+        ensures meant { All IsFieldWord result.now }
+    {
+        let words = self.words.as_slice();
+        let from = (object + FIELDS_AT) as usize;
+        let to = from + self.length(object) as usize;
+        &words[from..to]
+    }
+
     /// The word of an object's field.
     pub fn get(&self, object: u32, field: u32) -> u64
         requires { HasField self.now object field }
         ensures word { slice_get (field_words self.now.words object) field ≡ Some result }
         ensures meant { IsFieldWord result }
     {
-        let words = self.words.as_slice();
-        words[(object + FIELDS_AT + field) as usize]
+        self.fields(object)[field as usize]
     }
 
     /// Puts a field's word into an object's field.

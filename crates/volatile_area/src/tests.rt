@@ -20,6 +20,7 @@ fn objects_stand_end_to_end(rt: HostRuntime) -> Result<(), Fail> {
     assert_eq!(rt; area.length(0), 2);
     area.set(0, 1, to_third);
     assert_eq!(rt; area.get(0, 1), 27);
+    assert_eq!(rt; area.fields(0), [0, 27].as_slice());
     let birth = 7 << 32;
     let want = [9, birth + 1, 0, 27, 1, birth + 2, 5, birth + 3, 0];
     assert_eq!(rt; area.words(), want.as_slice());

@@ -1,0 +1,2 @@
+//! Which of the objects that a transaction has made its seal promotes.
+#![tactic(auto)]
