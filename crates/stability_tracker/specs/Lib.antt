@@ -1,3 +1,4 @@
 pub mod ListLaws
 pub mod Promotion
 pub mod PromotionLaws
+pub mod Search

@@ -1,2 +1,10 @@
 //! Which of the objects that a transaction has made its seal promotes.
 #![tactic(auto)]
+
+mod search;
+mod tracker;
+
+pub use tracker::promotion;
+
+#[cfg(test)]
+mod tests;

@@ -1,0 +1,42 @@
+-- A search for what is reached: what it has found, and of that what it has still to follow.
+use Rattle.std.specs.Prelude.{◌≡◌, ℕ, ◌+◌, ◌⊎◌, List, length, slice_get, Some, Contains}
+use Rattle.std.specs.List.Sorted.{IsStrictlyIncreasing}
+use Rattle.heap_words.specs.declared.Word.TheVariants.{Volatile}
+use Rattle.heap_words.specs.Word.{meaning}
+use Rattle.object_layout.specs.Layout.{field_words}
+use Rattle.volatile_area.specs.Area.{AreaState, starts_of}
+use Rattle.stability_tracker.specs.Promotion.{IsReached}
+
+-- one of these words refers to an object of the area
+abbrev pub IsNamed : AreaState → List ℕ → ℕ → Type 0
+IsNamed area words at = (i : ℕ) × (w : ℕ) × (slice_get words i ≡ Some w) × (meaning w ≡ Some (Volatile at)) × Contains (starts_of area) at
+
+-- An object was met: it is found, and it waits if it was not found before.
+pub record Meets (at : ℕ) (found waiting new_found new_waiting : List ℕ) : Type 0 where
+  pub met : Contains new_found at
+  pub only : (b : ℕ) → Contains new_found b → Contains found b ⊎ (b ≡ at)
+  pub kept : (b : ℕ) → Contains found b → Contains new_found b
+  pub waits : (b : ℕ) → Contains new_found b → Contains found b ⊎ Contains new_waiting b
+  pub stays : (b : ℕ) → Contains waiting b → Contains new_waiting b
+  pub known : (b : ℕ) → Contains new_waiting b → Contains waiting b ⊎ (b ≡ at)
+  pub counted : length new_found + length waiting ≡ length found + length new_waiting
+  pub rises : IsStrictlyIncreasing found → IsStrictlyIncreasing new_found
+
+-- Words were followed: each object to which one of them refers was met, and no other.
+pub record Follows (area : AreaState) (words found waiting new_found new_waiting : List ℕ) : Type 0 where
+  pub met : (b : ℕ) → IsNamed area words b → Contains new_found b
+  pub only : (b : ℕ) → Contains new_found b → Contains found b ⊎ IsNamed area words b
+  pub kept : (b : ℕ) → Contains found b → Contains new_found b
+  pub waits : (b : ℕ) → Contains new_found b → Contains found b ⊎ Contains new_waiting b
+  pub stays : (b : ℕ) → Contains waiting b → Contains new_waiting b
+  pub known : (b : ℕ) → Contains new_waiting b → Contains waiting b ⊎ Contains new_found b
+  pub counted : length new_found + length waiting ≡ length found + length new_waiting
+  pub rises : IsStrictlyIncreasing found → IsStrictlyIncreasing new_found
+
+-- Where a search stands that began with the words that were written: what it found is reached, and what does not wait was followed.
+pub record IsSearching (area : AreaState) (written found waiting : List ℕ) : Type 0 where
+  pub begun : (b : ℕ) → IsNamed area written b → Contains found b
+  pub reached : (b : ℕ) → Contains found b → IsReached area written b
+  pub followed : (b : ℕ) → Contains found b → Contains waiting b ⊎ ((c : ℕ) → IsNamed area (field_words area.words b) c → Contains found c)
+  pub known : (b : ℕ) → Contains waiting b → Contains found b
+  pub rises : IsStrictlyIncreasing found
