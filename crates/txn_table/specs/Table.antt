@@ -1,5 +1,5 @@
 -- The transactions of the sessions.
-use Rattle.std.specs.Prelude.{◌≡◌, ℕ, ◌+◌, List, [], replicate, Option, None, Some, IfSome}
+use Rattle.std.specs.Prelude.{◌≡◌, ℕ, ◌+◌, List, [], replicate, Option, None, IfSome}
 use Rattle.std.specs.Ordering.{nat_cmp}
 use Rattle.std.specs.FinMap.{FinMap}
 use Rattle.std.specs.FinMap as map

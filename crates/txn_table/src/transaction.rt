@@ -24,12 +24,14 @@ pub(crate) struct Transaction {
 }
 
 impl Model for Transaction {
-    ghost use Rattle.std.specs.Prelude.{reverse};
+    ghost use Rattle.std.specs.Prelude.{◌≡◌, length, reverse};
     ghost use Rattle.txn_table.specs.Table.{TransactionState};
 
     ghost Value = { TransactionState };
 
     ghost view = { λ t. record { number = t.number; handles = t.handles; undo = reverse t.undo.items; area = t.area } };
+
+    ghost invariant = { λ t. length t.handles ≡ 64 };
 }
 
 impl Transaction {

@@ -1,5 +1,6 @@
 //! The transactions of the sessions.
 ghost use Rattle.std.specs.Prelude.{◌≡◌, ◌<◌, ◌≤◌, ◌+◌, ◌↔◌, ◌∷◌, drop, reverse, length, slice_get, slice_set, None, Some, Err, IsTrue, IsSome, IfSome, IsSomeAnd, IfOk, OnOk, OnErr};
+ghost use Rattle.std.specs.Option.{option_copied};
 ghost use Rattle.heap_words.specs.Word.{IsFieldWord};
 ghost use Rattle.volatile_area.specs.Area.{with_object, with_field, HasField};
 ghost use Rattle.txn_table.specs.Table.{new_table, transaction_of, with_begun, with_ended, Changes};
@@ -62,7 +63,37 @@ impl TxnTable {
     pub fn active(&self, s: u32) -> bool
         ensures { IsTrue result ↔ IsSome (transaction_of self.now s) }
     {
-        s > 0 && s <= SESSIONS && self.slots[(s - 1) as usize].is_some()
+        self.slot(s).is_some()
+    }
+
+    // The session's transaction, if it has one.
+    fn slot(&self, s: u32) -> Option<&Transaction>
+        ensures { option_copied result ≡ transaction_of self.now s }
+    {
+        let slots = self.slots.as_slice();
+        match s.checked_sub(1) {
+            Some(place) => slots.get(place as usize)?.as_ref(),
+            None => None,
+        }
+    }
+
+    // The session's place among the slots.
+    fn place(&self, s: u32) -> usize
+        requires { IsSome (transaction_of self.now s) }
+        ensures place { result + 1 ≡ s }
+        ensures within { result < 32 }
+    {
+        let sessions = self.slots.len();
+        prove!(s >= 1 && s as usize <= sessions);
+        (s - 1) as usize
+    }
+
+    // The session's transaction.
+    fn transaction(&self, s: u32) -> &Transaction
+        requires { IsSome (transaction_of self.now s) }
+        ensures { transaction_of self.now s ≡ Some result.now }
+    {
+        self.slot(s).unwrap()
     }
 
     /// Begins a transaction of the session, and tells its number. It takes no memory.
@@ -85,7 +116,7 @@ impl TxnTable {
         requires { IsSome (transaction_of self.now s) }
         ensures { IfSome (transaction_of self.now s) (λ t. result ≡ t.number) }
     {
-        self.slots[(s - 1) as usize].as_ref().unwrap().number()
+        self.transaction(s).number()
     }
 
     /// The place of the object that a handle of the session's transaction holds, if it holds one.
@@ -94,7 +125,7 @@ impl TxnTable {
         requires within { h < 64 }
         ensures { IfSome (transaction_of self.now s) (λ t. slice_get t.handles h ≡ Some result) }
     {
-        self.slots[(s - 1) as usize].as_ref().unwrap().handle(h)
+        self.transaction(s).handle(h)
     }
 
     /// Lets a handle of the session's transaction hold the object at a place, or nothing.
@@ -103,7 +134,8 @@ impl TxnTable {
         requires within { h < 64 }
         ensures { Changes self.old self.new s (λ t. record t { handles = slice_set t.handles h to }) }
     {
-        if let Some(t) = &mut self.slots[(s - 1) as usize] {
+        let place = self.place(s);
+        if let Some(t) = &mut self.slots[place] {
             t.set_handle(h, to);
         }
     }
@@ -113,7 +145,7 @@ impl TxnTable {
         requires { IsSome (transaction_of self.now s) }
         ensures { IfSome (transaction_of self.now s) (λ t. reverse result.now ≡ t.undo) }
     {
-        self.slots[(s - 1) as usize].as_ref().unwrap().undo()
+        self.transaction(s).undo()
     }
 
     /// Adds what a write of the session's transaction replaced. An error changes nothing.
@@ -122,7 +154,8 @@ impl TxnTable {
         ensures ok { OnOk result (Changes self.old self.new s (λ t. record t { undo = entry ∷ t.undo })) }
         ensures err { OnErr result (self.new ≡ self.old) }
     {
-        if let Some(t) = &mut self.slots[(s - 1) as usize] {
+        let place = self.place(s);
+        if let Some(t) = &mut self.slots[place] {
             t.push_undo(entry)?;
         }
         Ok(())
@@ -134,7 +167,8 @@ impl TxnTable {
         ensures newest { IfSome (transaction_of self.old s) (λ t. result ≡ slice_get t.undo 0) }
         ensures others { Changes self.old self.new s (λ t. record t { undo = drop 1 t.undo }) }
     {
-        match &mut self.slots[(s - 1) as usize] {
+        let place = self.place(s);
+        match &mut self.slots[place] {
             Some(t) => t.pop_undo(),
             None => None,
         }
@@ -145,7 +179,7 @@ impl TxnTable {
         requires { IsSome (transaction_of self.now s) }
         ensures { IfSome (transaction_of self.now s) (λ t. result.now ≡ t.area) }
     {
-        self.slots[(s - 1) as usize].as_ref().unwrap().area()
+        self.transaction(s).area()
     }
 
     /// Makes an object of so many fields, at most 510, in the area of the session's transaction, and tells its index. An error changes
@@ -158,7 +192,8 @@ impl TxnTable {
         ensures full { (used : _) → (result ≡ Err (AreaError.VolatileFull used)) ↔ IsSomeAnd (transaction_of self.old s) (λ t. (used ≡ length t.area.words) × (4096 < used + 2 + fields)) }
         ensures err { OnErr result (self.new ≡ self.old) }
     {
-        match &mut self.slots[(s - 1) as usize] {
+        let place = self.place(s);
+        match &mut self.slots[place] {
             Some(t) => t.new_object(fields),
             None => Err(AreaError::NoMemory),
         }
@@ -170,7 +205,8 @@ impl TxnTable {
         requires meant { IsFieldWord word }
         ensures { Changes self.old self.new s (λ t. record t { area = with_field t.area object field word }) }
     {
-        if let Some(t) = &mut self.slots[(s - 1) as usize] {
+        let place = self.place(s);
+        if let Some(t) = &mut self.slots[place] {
             t.set_field(object, field, word);
         }
     }
@@ -180,6 +216,7 @@ impl TxnTable {
         requires { IsSome (transaction_of self.old s) }
         ensures { self.new ≡ with_ended self.old s }
     {
-        self.slots[(s - 1) as usize] = None;
+        let place = self.place(s);
+        self.slots[place] = None;
     }
 }
