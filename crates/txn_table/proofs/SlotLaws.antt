@@ -170,8 +170,8 @@ pub changed : (next : ℕ) (slots : List (Option TransactionState)) (now : Table
 changed next slots now s i t u change same place within there is =
     of_transaction now s t (λ v. table_of next (slice_set slots i (Some u)) ≡ with_transaction now s (change v)) there
     (taken next slots now s i next u same place within
-      ∙ ap (λ n. let table : TableState = record { next = n; active = insert now.active s u } in table) (ap (λ (table : TableState). table.next) same)
-      ∙ ap (with_transaction now s) is)
+    ∙ ap (λ n. let table : TableState = record { next = n; active = insert now.active s u } in table) (ap (λ (table : TableState). table.next) same)
+    ∙ ap (with_transaction now s) is)
 
 -- Answers.
 

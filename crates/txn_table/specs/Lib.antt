@@ -1,3 +1,4 @@
-pub mod Table
 pub mod Slots
+pub mod Table
 pub mod TableCode
+pub mod TableLaws

@@ -1,0 +1,131 @@
+//! The words of the heap's current space: how many are free, and how many are kept for what a collection has still to copy.
+#![tactic(auto)]
+
+ghost use Rattle.std.specs.Prelude.{◌≡◌, ◌+◌, ◌*◌, ◌≤◌, ◌<◌, ◌⊎◌, ◌↔◌, IsErr, IfOk, IfErr, OnOk, OnErr};
+ghost use Rattle.heap_spaces.specs.Spaces.{IsSpaces, free_words, open_words, with_taken};
+
+use std::marker::Model;
+
+/// The words of a page.
+const PAGE_WORDS: u32 = 64;
+
+/// Fewer words may be taken than are needed.
+#[derive(Clone, Copy, Debug, PartialEq, Eq)]
+pub struct Exhausted {
+    /// How many words are needed.
+    pub need: u64,
+    /// How many words of the current space are not taken.
+    pub free: u64,
+    /// How many of these are kept for what a collection has still to copy.
+    pub owed: u64,
+}
+
+/// The current space of a heap of two spaces. Its objects take its first words, and what a collection has still to copy always has room
+/// behind them.
+#[derive(Debug, Drop)]
+pub struct Spaces {
+    pages: u32,
+    base: u32,
+    used: u32,
+    owed: u32,
+}
+
+impl Model for Spaces {
+    ghost use Rattle.heap_spaces.specs.Spaces.{SpacesState, IsSpaces};
+
+    ghost Value = { SpacesState };
+
+    ghost view = { λ s. record { pages = s.pages; base = s.base; used = s.used; owed = s.owed } };
+
+    ghost invariant = { λ s. IsSpaces (record { pages = s.pages; base = s.base; used = s.used; owed = s.owed }) };
+}
+
+impl Spaces {
+    /// Two spaces of so many pages, of which the current one begins at the word address `base`. So many of its words are taken, and so
+    /// many of the others owed to a collection.
+    pub fn new(pages: u32, base: u32, used: u32, owed: u32) -> Spaces
+        requires { IsSpaces (record { pages = pages; base = base; used = used; owed = owed }) }
+        ensures { result ≡ record { pages = pages; base = base; used = used; owed = owed } }
+    {
+        Spaces {
+            pages,
+            base,
+            used,
+            owed,
+        }
+    }
+
+    /// How many words of the current space are taken.
+    pub fn used(&self) -> u32
+        ensures used { result ≡ self.now.used }
+        ensures sound { IsSpaces self.now }
+    {
+        self.used
+    }
+
+    /// How many words of the current space are not taken.
+    pub fn free(&self) -> u32
+        ensures free { result ≡ free_words self.now }
+        ensures room { self.now.owed ≤ result }
+    {
+        PAGE_WORDS * self.pages - self.used
+    }
+
+    /// How many of its words are kept for what a collection has still to copy.
+    pub fn owed(&self) -> u32
+        ensures { result ≡ self.now.owed }
+    {
+        self.owed
+    }
+
+    /// Takes so many words, the next ones of the current space, and tells the address of the first. It is refused where fewer are free
+    /// and not owed, and then changes nothing.
+    pub fn take(&mut self, words: u64) -> Result<u32, Exhausted>
+        ensures address { IfOk result (λ address. address ≡ self.old.base + self.old.used) }
+        ensures taken { OnOk result (self.new ≡ with_taken self.old words) }
+        ensures exhausted { IsErr result ↔ (open_words self.old < words) }
+        ensures told { IfErr result (λ e. e ≡ record { need = words; free = free_words self.old; owed = self.old.owed }) }
+        ensures err { OnErr result (self.new ≡ self.old) }
+    {
+        let free = self.free();
+        if words > u64::from(free - self.owed) {
+            return Err(Exhausted {
+                need: words,
+                free: u64::from(free),
+                owed: u64::from(self.owed),
+            });
+        }
+        let address = self.base + self.used;
+        self.used += words as u32;
+        Ok(address)
+    }
+}
+
+#[cfg(test)]
+mod tests {
+    use super::*;
+    use std::test::Fail;
+
+    #[test]
+    fn words_are_taken_while_a_copy_has_room(rt: HostRuntime) -> Result<(), Fail> {
+        let mut new = Spaces::new(1, 0, 6, 0);
+        let too_many = new.take(59);
+        let (need, free, owed) = (59, 58, 0);
+        assert_eq!(rt; too_many, Err(Exhausted { need, free, owed }));
+        assert_eq!(rt; new.take(58), Ok(6));
+        assert_eq!(rt; new.take(0), Ok(64));
+        let (need, free) = (1 << 63, 0);
+        assert_eq!(rt; new.take(need), Err(Exhausted { need, free, owed }));
+
+        // Of the second space six words are taken, and 52 wait to be copied.
+        let mut copying = Spaces::new(1, 64, 6, 52);
+        let (need, free, owed) = (58, 58, 52);
+        assert_eq!(rt; copying.take(need), Err(Exhausted { need, free, owed }));
+        assert_eq!(rt; copying.take(4), Ok(70));
+        assert_eq!(rt;
+            (copying.used(), copying.free(), copying.owed()),
+            (10, 54, 52)
+        );
+        Ok(())
+    }
+}
