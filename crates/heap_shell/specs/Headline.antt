@@ -30,7 +30,7 @@ use Rattle.heap_model.specs.Image.{IsLegal}
 use Rattle.heap_model.specs.Opening.{opened, opening_calls}
 use Rattle.script_text.specs.declared.line.Line.{Line}
 use Rattle.script_text.specs.Line.{events}
-use Rattle.heap_shell.specs.Causes.{DiskRose}
+use Rattle.heap_shell.specs.Causes.{DiskRose, Unharmed}
 use Rattle.heap_shell.specs.declared.command.Play.{Play}
 use Rattle.heap_shell.specs.declared.status.Status.{Status}
 use Rattle.heap_shell.specs.declared.status.Status.TheVariants as status
@@ -133,20 +133,25 @@ pub record MakesEvents (stop : Option ℕ) (c : Core) (events : List Event) (res
   pub exact : unharmed → IsExact stop c made core
 
 module _ {D : Type 0} (g : Ghosts D) where
-  -- no call of the disk failed or found it stopped
-  abbrev pub Unharmed : D → D → Type 0
-  Unharmed old new = ¬ DiskRose (g.faults old) (g.stops old) (g.faults new) (g.stops new)
-
   -- At each moment a crash left first commits: while the heap was opened as the core c, in each step, and from then on until the
-  -- end, also while it was opened again. Always they held all that had been acknowledged.
-  pub record KeepsThroughout (unharmed : Type 0) (c : Core) (made : List Event) (d : Core) (start final : D) : Type 0 where
+  -- end, also while it was opened again. Always they held all that had been acknowledged. The opening of a new heap makes no write and no sync.
+  pub record KeepsThroughout (stop : Option ℕ) (c : Core) (made : List Event) (d : Core) (start final : D) : Type 0 where
     pub opened : D
     pub opening : LeavesOnly g.moment g.left_since start opened (KeepsCommits c)
     pub here : (image : List ℕ) → g.may_leave opened image → KeepsCommits c image
+    pub passed : Unharmed g start final → g.passed opened ≡ g.passed start
+    pub restarts : g.restarts opened ≡ g.restarts start
     pub stopped : D
-    pub steps : AreSteps (Step g unharmed) c opened made d stopped
+    pub steps : AreSteps (Step g stop start final) c opened made d stopped
     pub rest : LeavesOnly g.moment g.left_since stopped final (KeepsCommits d)
     pub kept : (image : List ℕ) → g.may_leave final image → KeepsCommits d image
+
+  -- The disk was started again, as one of the images that a crash could leave.
+  pub record Restarts (old new : D) : Type 0 where
+    pub left : g.may_leave old (g.bytes new)
+    pub only : Only (g.bytes new) (g.may_leave new)
+    pub restarts : g.restarts new ≡ raised (g.restarts old)
+    pub passed : g.passed new ≡ g.passed old
 
   -- A heap was opened on a disk that had just been started: it read as an image of the core's first k commits, and so does each that a
   -- crash may leave now. The opening made four writes and syncs where that image held writes of a transaction that had not ended, and else none.
@@ -154,20 +159,30 @@ module _ {D : Type 0} (g : Ghosts D) where
     pub first : StandsForFirst c k (g.bytes old)
     pub still : (image : List ℕ) → g.may_leave new image → StandsForFirst c k image
     pub passed : g.passed new ≡ counted (opening_calls first.stands.super first.stands.batches) (g.passed old)
+    pub restarts : g.restarts new ≡ g.restarts old
 
-  -- The disk was started again, as one of the images that a crash could leave where it was stopped, and the heap was opened on it.
-  pub record StartsAgain (c : Core) (k : ℕ) (stopped new : D) : Type 0 where
+  -- No heap could be opened on such a disk, since memory was refused or the disk failed: it read as an image of the core's first k commits,
+  -- and so does each that a crash may leave now. The opening made no more writes and syncs than one that succeeds, and none without memory.
+  pub record FailsToOpen (c : Core) (k : ℕ) (result : Status) (old new : D) : Type 0 where
+    pub reason : (result ≡ status.NoMemory) ⊎ ((result ≡ status.DiskFault) × DiskRose (g.faults old) (g.stops old) (g.faults new) (g.stops new))
+    pub first : StandsForFirst c k (g.bytes old)
+    pub still : (image : List ℕ) → g.may_leave new image → StandsForFirst c k image
+    pub most : (calls : ℕ) × (calls ≤ opening_calls first.stands.super first.stands.batches) × (g.passed new ≡ counted calls (g.passed old))
+    pub none : result ≡ status.NoMemory → g.passed new ≡ g.passed old
+    pub restarts : g.restarts new ≡ g.restarts old
+
+  -- The disk was started again, and what came of the opening behind that.
+  pub record StartsAgain (opening : D → D → Type 0) (stopped new : D) : Type 0 where
     pub again : D
-    pub left : g.may_leave stopped (g.bytes again)
-    pub restarts : g.restarts again ≡ raised (g.restarts stopped)
-    pub passed : g.passed again ≡ g.passed stopped
-    pub opens : Reopens c k again new
+    pub started : Restarts stopped again
+    pub outcome : opening again new
 
-  -- What came behind the last event: nothing, where no stop was asked; else the disk was started again, or the run ended before and
-  -- wrote no more than lines.
+  -- What came behind the last event: nothing, where no stop was asked. Else the disk was started again and the heap opened on it; or the
+  -- run, which wrote no more than lines, ended in that opening, or before the disk was started again.
   abbrev pub IsFollowed : Option ℕ → Core → ℕ → D → D → Status → Type 0 → Type 0
   IsFollowed None c k stopped new result only_lines = new ≡ stopped
-  IsFollowed (Some n) c k stopped new result only_lines = StartsAgain c k stopped new ⊎ ((result ≢ status.Done) × only_lines)
+  IsFollowed (Some n) c k stopped new result only_lines =
+      StartsAgain (Reopens c k) stopped new ⊎ (((new ≡ stopped) ⊎ StartsAgain (FailsToOpen c k result) stopped new) × (result ≢ status.Done) × only_lines)
 
   -- The lines of a core's history were printed, how many commits came back where a stop was asked, and their graph.
   pub record Prints (stop : Option ℕ) (c : Core) (stopped final : D) (result : Status) (told : Bool) (before after : List ℕ) : Type 0 where
@@ -180,9 +195,11 @@ module _ {D : Type 0} (g : Ghosts D) where
 
   -- Events were played on a disk whose heap was opened as the core c.
   pub record IsPlayed (stop : Option ℕ) (c : Core) (events : List Event) (start final : D) (result : Status) (told : Bool) (before after : List ℕ) : Type 0 where
-    pub run : MakesEvents stop c events result (Unharmed start final)
-    pub disk : KeepsThroughout (Unharmed start final) c run.made run.core start final
-    pub calls : Unharmed start final → result ≡ status.Done → g.passed disk.stopped ≡ counted (let_through stop (total_calls c run.made)) (g.passed start)
+    pub run : MakesEvents stop c events result (Unharmed g start final)
+    pub disk : KeepsThroughout stop c run.made run.core start final
+    -- the disk behind the last event has counted the writes and syncs of these events, or no more than those
+    pub calls : Unharmed g start final → g.passed disk.stopped ≡ counted (let_through stop (total_calls c run.made)) (g.passed start)
+    pub most : g.passed disk.stopped ≤ counted (let_through stop (total_calls c run.made)) (g.passed start)
     pub replies : call_replies_of run.core.history ≡ serial_replies run.core.g0 (commits run.core.history)
     pub prints : Prints stop run.core disk.stopped final result told before after
     pub end : IsEndOfPlay result
@@ -193,6 +210,7 @@ module _ {D : Type 0} (g : Ghosts D) where
     pub empty : IsLegal s [] (g.bytes made)
     pub only : Only (g.bytes made) (g.may_leave made)
     pub passed : g.passed made ≡ counted (format_calls (image_size s.pages s.log_bytes) (g.bytes old)) (g.passed old)
+    pub restarts : g.restarts made ≡ g.restarts old
 
   -- The disk failed or stopped in one of the writes and syncs that make the heap.
   pub record FailsFormat (s : Super) (old new : D) : Type 0 where
@@ -214,6 +232,7 @@ module _ {D : Type 0} (g : Ghosts D) where
     pub reason : IsUnmade s old new result
     pub nothing : IsTrue told → after ≡ before
     pub moments : LeavesOnly g.moment g.left_since old new (IsFormatting s (g.bytes old))
+    pub restarts : g.restarts new ≡ g.restarts old
 
   -- A heap was made, and a script was played on it, with the events that end a run.
   pub record PlaysOnNew (play : Play) (is_script : List Line → Type 0) (old new : D) (result : Status) (told : Bool) (before after : List ℕ) : Type 0 where
@@ -256,7 +275,14 @@ EndsUnmade expected status.ReadFault = Unit {0}
 EndsUnmade expected status.NoMemory = Unit {0}
 EndsUnmade expected result = result ≡ expected
 
--- how often the disk has been started again after a run that is done, where it was to stop or not
-abbrev pub restarts_of : Option ℕ → ℕ → ℕ
-restarts_of None before = before
-restarts_of (Some n) before = raised before
+-- how often the disk is started again by a run, where it is to stop or not
+abbrev pub restarts_asked : Option ℕ → ℕ
+restarts_asked None = 0
+restarts_asked (Some n) = 1
+
+-- The disk was started again no more often than that, and so often where the run is done.
+pub record RestartsDisk (asked : ℕ) (result : Status) (before now : ℕ) : Type 0 where
+  pub times : ℕ
+  pub most : times ≤ asked
+  pub all : result ≡ status.Done → times ≡ asked
+  pub told : now ≡ counted times before

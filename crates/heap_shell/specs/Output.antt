@@ -37,16 +37,18 @@ pub record WroteRecovered (c : Core) (opens : ℕ → Type 0) (result : Status) 
   pub written : IsTrue told → WroteFront before (recovered_line count ++ graph_text (serial c.g0 (take count (commits c.history)))) after
   pub whole : IsTrue told → result ≡ Done → after ≡ before ++ (recovered_line count ++ graph_text (serial c.g0 (take count (commits c.history))))
 
--- It could not be opened, and nothing was written.
-pub record WroteNothing (result : Status) (told : Bool) (before after : List ℕ) : Type 0 where
+-- It could not be opened as a core's first commits, and nothing was written.
+pub record WroteNothing (fails : ℕ → Type 0) (result : Status) (told : Bool) (before after : List ℕ) : Type 0 where
+  pub count : ℕ
+  pub failed : fails count
   pub early : result ≢ Done
   pub nothing : IsTrue told → after ≡ before
 
 -- A heap was opened again on a disk that keeps a core's commits, and what came back was written. A crash still leaves them.
-pub record Recovers (c : Core) (opens : ℕ → Type 0) (may_leave : List ℕ → Type 0) (result : Status) (told : Bool) (before after : List ℕ) : Type 0 where
+pub record Recovers (c : Core) (opens fails : ℕ → Type 0) (may_leave : List ℕ → Type 0) (result : Status) (told : Bool) (before after : List ℕ) : Type 0 where
   pub end : IsEndOfPlay result
   pub kept : (image : List ℕ) → may_leave image → KeepsCommits c image
-  pub found : WroteRecovered c opens result told before after ⊎ WroteNothing result told before after
+  pub found : WroteRecovered c opens result told before after ⊎ WroteNothing fails result told before after
 
 -- How many commits came back and a graph were written, or a first part of that.
 pub record WroteGraph (k : ℕ) (g : Graph) (result : Status) (before after : List ℕ) : Type 0 where

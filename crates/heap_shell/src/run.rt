@@ -15,7 +15,7 @@ ghost use Rattle.heap_shell.specs.Command.{command};
 ghost use Rattle.heap_model.specs.Core.{Core};
 ghost use Rattle.heap_model.specs.CoreCrash.{KeepsCommits};
 ghost use Rattle.heap_shell.specs.CrashSafe.{RunsSafely};
-ghost use Rattle.heap_shell.specs.Headline.{made_super, made_core, OfTold, IsPlayed, Reopens, StartsAgain, PrintsRun, PrintsSome, Runs, IsSound, IsUntouching, EndsUnread, EndsUnmade, restarts_of};
+ghost use Rattle.heap_shell.specs.Headline.{made_super, made_core, OfTold, IsPlayed, Reopens, StartsAgain, FailsToOpen, PrintsRun, PrintsSome, Runs, IsSound, IsUntouching, EndsUnread, EndsUnmade, RestartsDisk, restarts_asked};
 ghost use Rattle.heap_shell.specs.Playable.{IsScript};
 ghost use Rattle.heap_model.specs.Ending.{all_events};
 ghost use Rattle.heap_model.specs.Image.{IsLegal};
@@ -85,7 +85,8 @@ pub fn run<D: Disk, S: Source, K: Sink>(
         → IsTrue S.tells → (lines : List Line) → script (S.left source.old) ≡ Ok lines
         → ¬ Rose (S.faults source.old) (S.faults source.new) → ¬ Rose (K.faults sink.old) (K.faults sink.new) → ¬ DiskRose (D.faults disk) (D.stops disk) (D.faults result.1) (D.stops result.1)
         → (result.0 ≡ Status.Done) ⊎ (result.0 ≡ NoMemory)) }
-    ensures restarts { IsTrue D.tells → result.0 ≡ Status.Done → (play : Play) → command (map string_bytes words.now) ≡ Some play → D.restarts result.1 ≡ restarts_of play.stop (D.restarts disk) }
+    // How often the disk was started again, however it ends.
+    ensures restarts { IsTrue D.tells → (play : Play) → command (map string_bytes words.now) ≡ Some play → RestartsDisk (restarts_asked play.stop) result.0 (D.restarts disk) (D.restarts result.1) }
 {
     let Some(play) = read_words(words) else {
         return (Status::Usage, disk);
@@ -159,7 +160,7 @@ fn play_stopped<D: Disk, K: Sink>(
     ensures end { IsOpenedEnd result.0 }
     ensures disk { RunsDisk D.Disk disk result.1 (result.0 ≡ Status.DiskFault) }
     ensures sink { StreamCause (K.faults sink.old) (K.faults sink.new) (result.0 ≡ Status.WriteFault) }
-    ensures restarts { IsTrue D.tells → result.0 ≡ Status.Done → D.restarts result.1 ≡ raised (D.restarts disk) }
+    ensures restarts { IsTrue D.tells → RestartsDisk 1 result.0 (D.restarts disk) (D.restarts result.1) }
     ensures prints { IsTrue K.tells → PrintsSome (Some calls) script.now result.0 (K.written sink.old) (K.written sink.new) }
     ensures played { IsTrue D.tells → (pages : ℕ) → IsLegal (made_super pages) [] (D.bytes disk) → Only (D.bytes disk) (D.may_leave disk)
         → IsPlayed D.Disk (Some calls) (made_core pages) (events script.now) disk result.1 result.0 K.tells (K.written sink.old) (K.written sink.new) }
@@ -206,7 +207,7 @@ fn start_again<D: Disk, K: Sink>(
     ensures again { IsTrue K.tells → WroteAgain result.0 (K.written sink.old) (K.written sink.new) }
     ensures moments { IsTrue D.tells → (c : Core) → ((image : List ℕ) → D.may_leave (fuse_inner fuse) image → KeepsCommits c image) → LeavesOnly D.moment D.left_since (fuse_inner fuse) result.1 (KeepsCommits c) }
     ensures recovers { IsTrue D.tells → (c : Core) → ((image : List ℕ) → D.may_leave (fuse_inner fuse) image → KeepsCommits c image) → before ≡ min c.before greatest
-        → Recovers c (λ k. StartsAgain D.Disk c k (fuse_inner fuse) result.1) (D.may_leave result.1) result.0 K.tells (K.written sink.old) (K.written sink.new) }
+        → Recovers c (λ k. StartsAgain D.Disk (Reopens D.Disk c k) (fuse_inner fuse) result.1) (λ k. StartsAgain D.Disk (FailsToOpen D.Disk c k result.0) (fuse_inner fuse) result.1) (D.may_leave result.1) result.0 K.tells (K.written sink.old) (K.written sink.new) }
 {
     let mut disk = fuse.into_inner();
     disk.restart();
@@ -237,7 +238,7 @@ fn print_recovered<D: Disk, K: Sink>(
     ensures again { IsTrue K.tells → WroteAgain result.0 (K.written sink.old) (K.written sink.new) }
     ensures moments { IsTrue D.tells → (c : Core) → KeepsCommits c (D.bytes disk) → Only (D.bytes disk) (D.may_leave disk) → LeavesOnly D.moment D.left_since disk result.1 (KeepsCommits c) }
     ensures recovers { IsTrue D.tells → (c : Core) → KeepsCommits c (D.bytes disk) → Only (D.bytes disk) (D.may_leave disk) → before ≡ min c.before greatest
-        → Recovers c (λ k. Reopens D.Disk c k disk result.1) (D.may_leave result.1) result.0 K.tells (K.written sink.old) (K.written sink.new) }
+        → Recovers c (λ k. Reopens D.Disk c k disk result.1) (λ k. FailsToOpen D.Disk c k result.0 disk result.1) (D.may_leave result.1) result.0 K.tells (K.written sink.old) (K.written sink.new) }
 {
     let heap = match Heap::open(alloc, disk) {
         Ok(heap) => heap,

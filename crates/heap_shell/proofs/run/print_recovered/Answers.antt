@@ -9,7 +9,7 @@ use Rattle.heap_model.specs.CoreCrash.{KeepsCommits}
 use Rattle.heap_model.specs.CoreLawsOpened.{opened_reached}
 use Rattle.heap_model.specs.Image.{IsLegal, StandsFor}
 use Rattle.heap_model.specs.Opening.{opened, opening_calls}
-use Rattle.heap_shell.specs.Headline.{recovered_line, graph_text, Reopens}
+use Rattle.heap_shell.specs.Headline.{recovered_line, graph_text, Reopens, FailsToOpen}
 use Rattle.heap_shell.specs.Output.{WroteText}
 use Rattle.heap_shell.proofs.PlayOpen.{opened_core, opened_unfailed}
 use Rattle.heap_shell.proofs.PlayPrints.{wrote_again}
@@ -31,7 +31,9 @@ returns-in-Err-clause-recovers g c = λ tells core keeps only none.
     let d = g.D.Disk in
     let stands = keeps.1.stands in
     let outside = c.in-Err.ensures.legal tells stands.super stands.batches (record { log = stands.says.legal; held = stands.held }) in
-    recovers_nothing d core c.args.disk c.in-Err.disk keeps (c.in-Err.ensures.crash tells only _ _ stands) (λ k. Reopens d core k c.args.disk c.in-Err.disk) c.in-Err.e c.from.result _ _ outside c.from.ensures
+    let legal : IsLegal stands.super stands.batches (d.bytes c.args.disk) = record { log = stands.says.legal; held = stands.held } in
+    recovers_nothing d core c.args.disk c.in-Err.disk keeps (c.in-Err.ensures.crash tells only _ _ stands) (c.in-Err.ensures.disk.restarts tells) (λ k. Reopens d core k c.args.disk c.in-Err.disk) c.in-Err.e c.from.result _ _ outside c.from.ensures
+    c.in-Err.ensures.disk.cause (c.in-Err.ensures.passes tells stands.super stands.batches legal)
 
 pub returns-clause-moments : goal.returns-clause-moments
 returns-clause-moments g c tells core keeps only =
@@ -56,7 +58,8 @@ returns-clause-recovers g c = λ tells core keeps only same.
     let calls : d.passed c.close.result ≡ counted (opening_calls stands.super stands.batches) (d.passed c.args.disk) =
     ap d.passed c.close.ensures ∙ (c.in-Ok.ensures.passes tells stands.super stands.batches legal).ok in
     let wrote = λ (told : IsTrue k.tells). c.write_recovered.ensures.wrote told (opened stands.super stands.batches says.seen) heap.core reached in
-    recovers_first d core c.args.disk c.close.result keeps leaves c.write_recovered.result c.status_after-status.result _ _ _ c.status_after-status.ensures calls
+    let restarts = ap d.restarts c.close.ensures ∙ c.in-Ok.ensures.disk.restarts tells in
+    recovers_first d core c.args.disk c.close.result keeps leaves restarts (λ n. FailsToOpen d core n c.status_after-status.result c.args.disk c.close.result) c.write_recovered.result c.status_after-status.result _ _ _ c.status_after-status.ensures calls
     (λ told. subst (λ (t : List ℕ). WroteText c.write_recovered.result (k.written c.args.sink.now) (recovered_line keeps.0 ++ t) (k.written c.write_recovered.new.sink)) (ap canon_text says.graph)
     (subst (λ (n : ℕ). WroteText c.write_recovered.result (k.written c.args.sink.now) (recovered_line n ++ graph_text says.seen) (k.written c.write_recovered.new.sink)) since (wrote told)))
 

@@ -3,6 +3,7 @@ use Rattle.counts.specs.Count.{raised}
 use Rattle.disk_model.specs.Fuse.{fuse_inner}
 use Rattle.disk_model.specs.Moments.{LeavesOnly, begins, goes_on}
 use Rattle.heap_model.specs.CoreCrash.{KeepsCommits}
+use Rattle.heap_shell.specs.Headline.{Restarts}
 use Rattle.heap_shell.proofs.PlayOpen.{opening_then}
 use Rattle.heap_shell.proofs.PrintRecovered.{recovers_again}
 use Rattle.heap_shell.proofs.run.start_again.Goals as goal
@@ -29,6 +30,11 @@ returns-clause-recovers g c tells core leaves none =
     let again = c.restart.new.self in
     let inner = c.into_inner-disk.ensures in
     let may = subst (λ x. d.may_leave x (d.bytes again)) inner (c.restart.ensures.left tells) in
-    recovers_again d core (fuse_inner c.args.fuse) again c.print_recovered.result.1 c.print_recovered.result.0 k.tells (k.written c.args.sink.now) (k.written c.print_recovered.new.sink) may
-    (c.restart.ensures.restarts tells ∙ ap (λ x. raised (d.restarts x)) inner) (c.restart.ensures.passed tells ∙ ap d.passed inner)
+    let started : Restarts d (fuse_inner c.args.fuse) again = record {
+      left = may;
+      only = c.restart.ensures.durable tells;
+      restarts = c.restart.ensures.restarts tells ∙ ap (λ x. raised (d.restarts x)) inner;
+      passed = c.restart.ensures.passed tells ∙ ap d.passed inner;
+    } in
+    recovers_again d core (fuse_inner c.args.fuse) again c.print_recovered.result.1 c.print_recovered.result.0 k.tells (k.written c.args.sink.now) (k.written c.print_recovered.new.sink) started
     (c.print_recovered.ensures.recovers tells core (leaves (d.bytes again) may) (c.restart.ensures.durable tells) none)
