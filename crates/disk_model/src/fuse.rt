@@ -24,7 +24,8 @@ pub struct FuseDisk<D: Disk> {
     pub ghost stops_kept: { D.stops began.value ≤ D.stops inner },
     // Unless its disk itself stops, both count the same calls.
     pub ghost tied: { IsTrue D.tells → ¬ Rose (D.stops began.value) (D.stops inner) → D.passed inner ≡ counted passed (D.passed began.value) },
-    // And else its disk has counted no more.
+    // And else its disk has counted no more of them.
+    pub ghost passed_kept: { IsTrue D.tells → D.passed began.value ≤ D.passed inner },
     pub ghost few: { IsTrue D.tells → D.passed inner ≤ counted passed (D.passed began.value) },
 }
 

@@ -35,7 +35,8 @@ use Rattle.heap_model.specs.CoreLawsRun.{reached_agrees}
 use Rattle.heap_model.specs.CoreReplies.{call_replies_of}
 use Rattle.heap_model.specs.CoreRuns.{after_events, total_calls}
 use Rattle.heap_model.specs.CoreValid.{IsReached}
-use Rattle.heap_shell.specs.Headline.{graph_text, end_text, let_through, HasMade, StopsLast, IsExact, IsEndOfPlay, MakesEvents, KeepsThroughout, IsFollowed, Reopens, FailsToOpen, StartsAgain, Prints, IsPlayed, Writes}
+use Rattle.heap_shell.specs.declared.command.Stop.{Stop}
+use Rattle.heap_shell.specs.Headline.{graph_text, end_text, stop_after, let_through, HasMade, StopsLast, IsExact, IsEndOfPlay, MakesEvents, KeepsThroughout, IsFollowed, Reopens, StartsAgain, EndsUnopened, Prints, IsPlayed}
 use Rattle.heap_shell.specs.Playable.{IsPlayable}
 use Rattle.heap_shell.specs.Output.{WroteText, Recovers, WroteRecovered, WroteNothing, status_after}
 use Rattle.heap_shell.specs.Play.{IsRunning, IsWhole, IsCutBy, AreReady, MakesAll, MakesShort, Makes, Ends, Plays, Wrote, lines_text, WroteFront, WroteLines}
@@ -128,7 +129,7 @@ module _ {D : Type 0} {g : Ghosts D} (s : Super) (c : Core) (running : IsRunning
     opened = old.disk;
     opening = opening;
     here = here;
-    passed = λ u. passed;
+    passed = passed;
     restarts = restarts;
     stopped = new.disk;
     steps = own_steps g start new.disk tells c core old.disk new.disk made plays.steps;
@@ -141,15 +142,15 @@ module _ {D : Type 0} {g : Ghosts D} (s : Super) (c : Core) (running : IsRunning
   events_made stop by unharmed done place = record { made = made; behind = plays.behind; parts = plays.parts; core = core; last = last_made; done = done; exact = place }
 
   -- The disk that was handed in, at the start and at the end, what a crash left of it, and how many calls it has let through.
-  module _ {B : Type 0} (h : Ghosts B) (start final : B) (stop : Option ℕ) (keeps : KeepsThroughout h stop c made core start final)
-      (calls : Unharmed h start final → h.passed keeps.stopped ≡ counted (let_through stop (total_calls c made)) (h.passed start)) (few_calls : h.passed keeps.stopped ≤ counted (let_through stop (total_calls c made)) (h.passed start)) where
+  module _ {B : Type 0} (h : Ghosts B) (start final : B) (stop : Option Stop) (keeps : KeepsThroughout h (stop_after stop) c made core start final)
+      (calls : Unharmed h start final → h.passed keeps.stopped ≡ counted (let_through (stop_after stop) (total_calls c made)) (h.passed start)) (few_calls : h.passed keeps.stopped ≤ counted (let_through (stop_after stop) (total_calls c made)) (h.passed start)) where
     -- The play ended before more than lines were to be written.
     pub ends_early : (by : Status) → IsEndOfPlay by → (by ≡ status.Done → ⊥) → (IsTrue told → WroteFront before (lines_text core.history) after × WroteLines before core.history after)
         → (IsTrue told → by ≡ status.DiskFault → after ≡ before ++ lines_text core.history)
-        → (Unharmed h start final → IsExact stop c made core) → IsFollowed h stop core all keeps.stopped final by (IsTrue told → WroteFront before (lines_text core.history) after)
+        → (Unharmed h start final → IsExact (stop_after stop) c made core) → IsFollowed h stop core all keeps.stopped final by (IsTrue told → WroteFront before (lines_text core.history) after)
         → IsPlayed h stop c events start final by told before after
     ends_early by is_end not_done part whole place follows = record {
-      run = events_made stop by (Unharmed h start final) (λ is. absurd (not_done is)) place;
+      run = events_made (stop_after stop) by (Unharmed h start final) (λ is. absurd (not_done is)) place;
       disk = keeps;
       calls = calls;
       most = few_calls;
@@ -160,85 +161,79 @@ module _ {D : Type 0} {g : Ghosts D} (s : Super) (c : Core) (running : IsRunning
         most = most;
         all = λ none. refl;
         behind = follows;
-        written = λ t. lines.some_writes core.history before after by (end_text stop all (serial core.g0 (take all (commits core.history)))) after not_done (part t).0 (part t).1 (whole t);
+        written = λ t. lines.some_writes core.history before after by (end_text (stop_after stop) all (serial core.g0 (take all (commits core.history)))) after not_done (part t).0 (part t).1 (whole t);
       };
       end = is_end;
     }
 
-    -- The graph of all commits was to be written.
-    pub ends_whole : (output : Result (Unit {0}) WriteError) (after' : List ℕ) → stop ≡ None → plays.behind ≡ [] → IsWhole c made core → (IsTrue told → after ≡ before ++ lines_text core.history)
-        → (IsTrue told → WroteText output after (graph_text (serial core.g0 (sealed core.history))) after') → final ≡ keeps.stopped
-        → IsPlayed h stop c events start final (status_after output) told before after'
-    ends_whole output after' unstopped nothing reached out wrote same =
-        let P : List ℕ → Type 0 = λ text. WroteText output after text after' in
-        let full = λ (t : IsTrue told). subst P all_graph (wrote t) in
-        let graph = serial core.g0 (take all (commits core.history)) in
-        let text = graph_text graph in
-        let by = status_after output in
-        let follows = λ (lines : Type 0). subst (λ (o : Option ℕ). IsFollowed h o core all keeps.stopped final by lines) (sym unstopped) same in
-        let writes = λ (t : IsTrue told). lines.all_writes core.history before after by text after' (out t) (wrote_some output after text after' (full t)) (λ is. wrote_all output after text after' is (full t)) in
-        record {
-          run = events_made stop by (Unharmed h start final) (λ is. subst (λ (o : Option ℕ). HasMade o c made plays.behind core) (sym unstopped) (nothing, reached)) (λ u. subst (λ (o : Option ℕ). IsExact o c made core) (sym unstopped) reached);
-          disk = keeps;
-          calls = calls;
-          most = few_calls;
-          replies = replies;
-          prints = record {
-            count = all;
-            least = least;
-            most = most;
-            all = λ none. refl;
-            behind = follows (IsTrue told → WroteFront before (lines_text core.history) after');
-            written = λ t. subst (λ (o : Option ℕ). Writes by core.history (end_text o all graph) before after') (sym unstopped) (writes t);
-          };
-          end = written_end output;
-        }
+  -- The graph of all commits was to be written.
+  pub ends_whole : {B : Type 0} (h : Ghosts B) (start final : B) (keeps : KeepsThroughout h None c made core start final) (output : Result (Unit {0}) WriteError) (after' : List ℕ) → plays.behind ≡ [] → IsWhole c made core
+      → (IsTrue told → after ≡ before ++ lines_text core.history) → (IsTrue told → WroteText output after (graph_text (serial core.g0 (sealed core.history))) after') → final ≡ keeps.stopped
+      → h.passed keeps.stopped ≡ counted (total_calls c made) (h.passed start) → IsPlayed h None c events start final (status_after output) told before after'
+  ends_whole h start final keeps output after' nothing reached out wrote same calls =
+      let P : List ℕ → Type 0 = λ text. WroteText output after text after' in
+      let full = λ (t : IsTrue told). subst P all_graph (wrote t) in
+      let text = graph_text (serial core.g0 (take all (commits core.history))) in
+      record {
+        run = events_made None (status_after output) (Unharmed h start final) (λ is. (nothing, reached)) (λ u. reached);
+        disk = keeps;
+        calls = λ u. calls;
+        most = omega (arith, calls);
+        replies = replies;
+        prints = record {
+          count = all;
+          least = least;
+          most = most;
+          all = λ none. refl;
+          behind = same;
+          written = λ t. lines.all_writes core.history before after (status_after output) text after' (out t) (wrote_some output after text after' (full t)) (λ is. wrote_all output after text after' is (full t));
+        };
+        end = written_end output;
+      }
 
-  -- The heap was opened again, or could not be, and what came back was to be written.
-  module _ {B : Type 0} (h : Ghosts B) (start final : B) (n : ℕ) (keeps : KeepsThroughout h (Some n) c made core start final)
-      (calls : Unharmed h start final → h.passed keeps.stopped ≡ counted (min n (total_calls c made)) (h.passed start)) (few_calls : h.passed keeps.stopped ≤ counted (min n (total_calls c made)) (h.passed start)) where
-    abbrev opens : Status → ℕ → Type 0
-    opens by k = StartsAgain h (Reopens h core k) keeps.stopped final
+  -- The heap was to be opened again, and what came back to be written.
+  module _ {B : Type 0} (h : Ghosts B) (start final : B) (stop : Stop) (keeps : KeepsThroughout h (Some stop.after) c made core start final)
+      (calls : Unharmed h start final → h.passed keeps.stopped ≡ counted (min stop.after (total_calls c made)) (h.passed start)) (few_calls : h.passed keeps.stopped ≤ counted (min stop.after (total_calls c made)) (h.passed start)) where
+    abbrev opens : ℕ → Type 0
+    opens k = StartsAgain h stop.again core k (Reopens h core k) keeps.stopped final
 
-    abbrev fails : Status → ℕ → Type 0
-    fails by k = StartsAgain h (FailsToOpen h core k by) keeps.stopped final
+    abbrev fails : ℕ → Status → Type 0
+    fails k by = EndsUnopened h stop.again core k keeps.stopped final by
 
-    found_prints : (by : Status) (after' : List ℕ) → (IsTrue told → after ≡ before ++ lines_text core.history) → WroteRecovered core (opens by) by told after after' → Prints h (Some n) core keeps.stopped final by told before after'
-    found_prints by after' out found = record {
-      count = found.count;
-      least = found.opened.outcome.first.kept;
-      most = found.opened.outcome.first.some;
-      all = λ none. cc;
-      behind = inl found.opened;
-      written = λ t. lines.all_writes core.history before after by (end_text (Some n) found.count (serial core.g0 (take found.count (commits core.history)))) after' (out t) (found.written t) (found.whole t);
-    }
+    module _ (k : ℕ) (by : Status) (after' : List ℕ) (out : IsTrue told → after ≡ before ++ lines_text core.history) (recovers : Recovers core k (opens k) (fails k by) (h.may_leave final) by told after after') where
+      found_prints : WroteRecovered core k (opens k) by told after after' → Prints h (Some stop) core keeps.stopped final by told before after'
+      found_prints found = record {
+        count = k;
+        least = recovers.least;
+        most = recovers.most;
+        all = λ none. cc;
+        behind = inl found.opened;
+        written = λ t. lines.all_writes core.history before after by (end_text (Some stop.after) k (serial core.g0 (take k (commits core.history)))) after' (out t) (found.written t) (found.whole t);
+      }
 
-    nothing_prints : (by : Status) (after' : List ℕ) → (IsTrue told → after ≡ before ++ lines_text core.history) → WroteNothing (fails by) by told after after' → Prints h (Some n) core keeps.stopped final by told before after'
-    nothing_prints by after' out nothing =
-        let out_after = λ (t : IsTrue told). nothing.nothing t ∙ out t in
-        let k = nothing.count in
-        record {
-          count = k;
-          least = nothing.failed.outcome.first.kept;
-          most = nothing.failed.outcome.first.some;
-          all = λ none. cc;
-          behind = inr (inr nothing.failed, nothing.early, λ t. whole_front before (lines_text core.history) after' (out_after t));
-          written = λ t. lines.some_writes core.history before after by (end_text (Some n) k (serial core.g0 (take k (commits core.history)))) after' nothing.early (whole_front before (lines_text core.history) after' (out_after t))
-              (lines.lines_more core.history before after after' [] (out t) (nothing.nothing t ∙ sym (append-nil after))) (λ is. out_after t);
-        }
+      nothing_prints : WroteNothing (fails k by) by told after after' → Prints h (Some stop) core keeps.stopped final by told before after'
+      nothing_prints nothing =
+          let out_after = λ (t : IsTrue told). nothing.nothing t ∙ out t in
+          record {
+            count = k;
+            least = recovers.least;
+            most = recovers.most;
+            all = λ none. cc;
+            behind = inr (nothing.failed, nothing.early, λ t. whole_front before (lines_text core.history) after' (out_after t));
+            written = λ t. lines.some_writes core.history before after by (end_text (Some stop.after) k (serial core.g0 (take k (commits core.history)))) after' nothing.early (whole_front before (lines_text core.history) after' (out_after t))
+                (lines.lines_more core.history before after after' [] (out t) (nothing.nothing t ∙ sym (append-nil after))) (λ is. out_after t);
+          }
 
-    pub ends_recovered : (by : Status) (after' : List ℕ) → HasMade (Some n) c made plays.behind core → (Unharmed h start final → IsExact (Some n) c made core)
-        → (IsTrue told → after ≡ before ++ lines_text core.history) → Recovers core (opens by) (fails by) (h.may_leave final) by told after after'
-        → IsPlayed h (Some n) c events start final by told before after'
-    ends_recovered by after' has place out recovers = record {
-      run = events_made (Some n) by (Unharmed h start final) (λ is. has) place;
-      disk = keeps;
-      calls = calls;
-      most = few_calls;
-      replies = replies;
-      prints = ⊎_elim (found_prints by after' out) (nothing_prints by after' out) recovers.found;
-      end = recovers.end;
-    }
+      pub ends_recovered : HasMade (Some stop.after) c made plays.behind core → (Unharmed h start final → IsExact (Some stop.after) c made core) → IsPlayed h (Some stop) c events start final by told before after'
+      ends_recovered has place = record {
+        run = events_made (Some stop.after) by (Unharmed h start final) (λ is. has) place;
+        disk = keeps;
+        calls = calls;
+        most = few_calls;
+        replies = replies;
+        prints = ⊎_elim found_prints nothing_prints recovers.found;
+        end = recovers.end;
+      }
 
   few : total_calls c made ≤ 8388616
   few =

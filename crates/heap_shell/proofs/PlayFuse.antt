@@ -32,7 +32,7 @@ pub same_limit : {D O : Type 0} (a b : FuseOrigin D O) → a ≡ b → a.limit �
 same_limit {D} {O} a b same = ap (λ (o : FuseOrigin D O). o.limit) same
 
 -- a count that rose isn't 0
-rose_some : (a b : ℕ) → a ≤ b → Rose a b → b ≢ 0
+pub rose_some : (a b : ℕ) → a ≤ b → Rose a b → b ≢ 0
 rose_some a b kept (inl up) none = omega arith
 rose_some a b kept (inr full) none = omega arith
 
@@ -62,13 +62,19 @@ module _ {D : Type 0} {g : Ghosts D} where
       ∙ ap (λ x. counted (fuse_passed fuse) (g.passed x)) is
       ∙ ap (λ (k : ℕ). counted k (g.passed old)) some
 
-  -- it has let through no more than the fuse
-  pub fuse_few : (fuse : FuseDisk D g) (old : D) (n : ℕ) → IsTrue g.tells → (fuse_origin fuse).disk ≡ old → fuse_passed fuse ≡ n → g.passed (fuse_inner fuse) ≤ counted n (g.passed old)
-  fuse_few fuse old n tells is some = subst (λ x. g.passed (fuse_inner fuse) ≤ counted n (g.passed x)) is (subst (λ (k : ℕ). g.passed (fuse_inner fuse) ≤ counted k (g.passed (fuse_origin fuse).disk)) some (fuse.few tells))
+  -- it has let through none where the fuse has not
+  pub fuse_none : (fuse : FuseDisk D g) (old : D) → IsTrue g.tells → (fuse_origin fuse).disk ≡ old → fuse_passed fuse ≡ 0 → g.passed (fuse_inner fuse) ≡ g.passed old
+  fuse_none fuse old tells is none =
+      let began = (fuse_origin fuse).disk in
+      let kept = fuse.passed_kept tells in
+      let few = subst (λ (k : ℕ). g.passed (fuse_inner fuse) ≤ counted k (g.passed began)) none (fuse.few tells) in
+      let same : g.passed (fuse_inner fuse) ≡ g.passed began = omega (arith, kept, few) in
+      same ∙ ap g.passed is
 
+  -- and never more than the fuse
   pub fuse_most : (fuse : FuseDisk D g) (old : D) (n : ℕ) → IsTrue g.tells → (fuse_origin fuse).disk ≡ old → fuse_passed fuse ≤ n → g.passed (fuse_inner fuse) ≤ counted n (g.passed old)
   fuse_most fuse old n tells is within =
-      let few = fuse_few fuse old (fuse_passed fuse) tells is refl in
+      let few = subst (λ x. g.passed (fuse_inner fuse) ≤ counted (fuse_passed fuse) (g.passed x)) is (fuse.few tells) in
       let more = counted_mono (fuse_passed fuse) n (g.passed old) within in
       omega (arith, few, more)
 

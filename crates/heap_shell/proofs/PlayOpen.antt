@@ -23,8 +23,8 @@ use Rattle.heap_model.specs.CoreLawsOpened.{opened_keeps, opened_reached}
 use Rattle.heap_shell.specs.CoreLawsPlay.{running_after, all_playable}
 use Rattle.heap_model.specs.CoreRuns.{after_events}
 use Rattle.heap_model.specs.Ending.{all_events}
-use Rattle.heap_shell.specs.Causes.{Unharmed}
-use Rattle.heap_shell.specs.Headline.{made_super, made_core, end_text, let_through, IsExact, IsEndOfPlay, IsFollowed, IsPlayed}
+use Rattle.heap_shell.specs.declared.command.Stop.{Stop}
+use Rattle.heap_shell.specs.Headline.{made_super, made_core, end_text, stop_after, let_through, IsExact, IsEndOfPlay, EndsUnopened, IsFollowed, IsPlayed}
 use Rattle.heap_shell.specs.Playable.{IsScript}
 use Rattle.heap_model.specs.Image.{words_of, IsLegalLog, IsLegal, Shows, StandsFor}
 use Rattle.counts.specs.Count.{counted}
@@ -91,9 +91,14 @@ nothing_exact : (stop : Option ℕ) (c : Core) → IsExact stop c [] c
 nothing_exact None c = refl
 nothing_exact (Some n) c = inl (refl, omega arith)
 
-nothing_follows : {D : Type 0} (g : Ghosts D) (stop : Option ℕ) (c : Core) (disk : D) (by : Status) (told : Bool) (before : List ℕ) → (by ≡ Done → ⊥) → IsFollowed g stop c 0 disk disk by (IsTrue told → WroteFront before [] before)
+-- the disk was not started again
+pub unstarted : {D : Type 0} (g : Ghosts D) (again : Option ℕ) (c : Core) (k : ℕ) (disk : D) (by : Status) → EndsUnopened g again c k disk disk by
+unstarted g None c k disk by = inl refl
+unstarted g (Some m) c k disk by = inl refl
+
+nothing_follows : {D : Type 0} (g : Ghosts D) (stop : Option Stop) (c : Core) (disk : D) (by : Status) (told : Bool) (before : List ℕ) → (by ≡ Done → ⊥) → IsFollowed g stop c 0 disk disk by (IsTrue told → WroteFront before [] before)
 nothing_follows g None c disk by told before early = refl
-nothing_follows g (Some n) c disk by told before early = inr (inl refl, early, λ t. none_written before [])
+nothing_follows g (Some stop) c disk by told before early = inr (unstarted g stop.again c 0 disk by, early, λ t. none_written before [])
 
 -- an opening that writes nothing makes no call that passes, whatever its error
 pub error_passes : (n before now : ℕ) (e : OpenError) → n ≡ 0 → ErrorPasses n before now e → now ≡ before
@@ -109,16 +114,16 @@ none_through None = refl
 none_through (Some n) = omega arith
 
 -- The heap was not opened: no event was made, and nothing was written.
-pub ends_unopened : {D : Type 0} (g : Ghosts D) (pages : ℕ) (stop : Option ℕ) (events : List Event) (e : OpenError) (by : Status) (start final : D) (told : Bool) (before : List ℕ) → by ≡ open_status e → IsFromOutside e
+pub ends_unopened : {D : Type 0} (g : Ghosts D) (pages : ℕ) (stop : Option Stop) (events : List Event) (e : OpenError) (by : Status) (start final : D) (told : Bool) (before : List ℕ) → by ≡ open_status e → IsFromOutside e
     → LeavesOnly g.moment g.left_since start final (KeepsCommits (made_core pages)) → ((image : List ℕ) → g.may_leave final image → KeepsCommits (made_core pages) image)
-    → ((image : List ℕ) → g.left_since final (g.moment final) image → g.may_leave final image) → (Unharmed g start final → g.passed final ≡ g.passed start) → g.passed final ≤ g.passed start → g.restarts final ≡ g.restarts start
+    → ((image : List ℕ) → g.left_since final (g.moment final) image → g.may_leave final image) → g.passed final ≡ g.passed start → g.restarts final ≡ g.restarts start
     → IsPlayed g stop (made_core pages) events start final by told before before
-ends_unopened g pages stop events e by start final told before is outside moments left now still few restarts =
+ends_unopened g pages stop events e by start final told before is outside moments left now still restarts =
     let early = λ (done : by ≡ Done). open_not_done e (sym is ∙ done) in
     let nothing : before ≡ before ++ [] = sym (append-nil before) in
-    let none : g.passed start ≡ counted (let_through stop 0) (g.passed start) = ap (λ (n : ℕ). counted n (g.passed start)) (sym (none_through stop)) in
+    let none : g.passed final ≡ counted (let_through (stop_after stop) 0) (g.passed start) = still ∙ ap (λ (n : ℕ). counted n (g.passed start)) (sym (none_through (stop_after stop))) in
     record {
-      run = record { made = []; behind = events; parts = refl; core = made_core pages; last = inl refl; done = λ done. absurd (early done); exact = λ u. nothing_exact stop (made_core pages) };
+      run = record { made = []; behind = events; parts = refl; core = made_core pages; last = inl refl; done = λ done. absurd (early done); exact = λ u. nothing_exact (stop_after stop) (made_core pages) };
       disk = record {
         opened = final;
         opening = moments;
@@ -130,8 +135,8 @@ ends_unopened g pages stop events e by start final told before is outside moment
         rest = begins g.moment g.left_since final (KeepsCommits (made_core pages)) (λ image since. left image (now image since));
         kept = left;
       };
-      calls = λ u. still u ∙ none;
-      most = subst (λ (n : ℕ). g.passed final ≤ n) none few;
+      calls = λ u. none;
+      most = omega (arith, none);
       replies = refl;
       prints = record {
         count = 0;
@@ -140,7 +145,7 @@ ends_unopened g pages stop events e by start final told before is outside moment
         all = λ none. refl;
         behind = nothing_follows g stop (made_core pages) final by told before early;
         written = λ t. record {
-          front = none_written before (end_text stop 0 new_graph);
+          front = none_written before (end_text (stop_after stop) 0 new_graph);
           lines = ([], [], [], refl, omega arith, sym (append-nil (before ++ []) ∙ append-nil before));
           fault = λ fault. ([], sym (append-nil (before ++ []) ∙ append-nil before));
           whole = λ done. absurd (early done);

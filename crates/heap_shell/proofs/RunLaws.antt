@@ -28,7 +28,8 @@ use Rattle.heap_core.specs.Format.{IsFormatting, format_calls}
 use Rattle.heap_core.specs.GivenBack.{format_device, IsFromDisk}
 use Rattle.heap_shell.specs.declared.status.Status.{Status}
 use Rattle.heap_shell.specs.declared.status.Status.TheVariants as status
-use Rattle.heap_shell.specs.Headline.{IsEndOfPlay, IsSound, IsUnmade, IsNotMade, IsPlayed, RestartsDisk}
+use Rattle.heap_shell.specs.declared.command.Stop.{Stop}
+use Rattle.heap_shell.specs.Headline.{IsEndOfPlay, IsSound, IsUnmade, IsNotMade, IsPlayed, RestartsDisk, stop_after}
 use Rattle.heap_shell.specs.StatusOf.{format_status}
 
 -- a play says nothing against the image
@@ -97,17 +98,17 @@ module _ {D : Type 0} (g : Ghosts D) (s : Super) (old new : D) where
 
 -- What a run says of crashes in short.
 module _ {D : Type 0} (g : Ghosts D) (now : (disk : D) (image : List ℕ) → g.left_since disk (g.moment disk) image → g.may_leave disk image) (start final : D) where
-  pub crash_safe : (stop : Option ℕ) (c : Core) (events : List Event) (result : Status) (told : Bool) (before after : List ℕ) → IsReached c → AllByRecursion IsSingleSession events
-      → IsPlayed g stop c events start final result told before after → IsCrashSafe g stop c start final result told before after
+  pub crash_safe : (stop : Option Stop) (c : Core) (events : List Event) (result : Status) (told : Bool) (before after : List ℕ) → IsReached c → AllByRecursion IsSingleSession events
+      → IsPlayed g stop c events start final result told before after → IsCrashSafe g (stop_after stop) c start final result told before after
   crash_safe stop c events result told before after reached single played =
       let made = played.run.made in
       let core = played.run.core in
       let disk = played.disk in
       let one = single_front made played.run.behind (subst (AllByRecursion IsSingleSession) played.run.parts single) in
-      let run = steps_run g stop start final c core disk.opened disk.stopped made disk.steps in
+      let run = steps_run g (stop_after stop) start final c core disk.opened disk.stopped made disk.steps in
       let at_end = run_reached c core made reached one run in
       let least = acknowledged c.history in
-      let since = last_until g stop start final now c core disk.opened disk.stopped made reached one disk.here disk.steps disk.rest in
+      let since = last_until g (stop_after stop) start final now c core disk.opened disk.stopped made reached one disk.here disk.steps disk.rest in
       record {
         made = made;
         core = core;
@@ -119,7 +120,7 @@ module _ {D : Type 0} (g : Ghosts D) (now : (disk : D) (image : List ℕ) → g.
             either);
         opened = disk.opened;
         stopped = disk.stopped;
-        steps = lasting_steps g stop start final now c core disk.opened disk.stopped made reached one disk.steps disk.rest;
+        steps = lasting_steps g (stop_after stop) start final now c core disk.opened disk.stopped made reached one disk.steps disk.rest;
         replies = played.replies;
         printed = λ done t. (played.prints.count, played.prints.most, (played.prints.written t).whole done);
       }

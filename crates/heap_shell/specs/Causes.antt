@@ -59,3 +59,8 @@ IsOpenedEnd s = ⊥
 abbrev pub FailsByScript : List ℕ → Status → Type 0
 FailsByScript bytes (status.Script line) = script bytes ≡ Err (Fault line)
 FailsByScript bytes s = Unit {0}
+
+-- the disk that a call gives back either way
+abbrev pub either_disk : {D : Type 0} → Result D D → D
+either_disk (Ok disk) = disk
+either_disk (Err disk) = disk

@@ -10,7 +10,7 @@ use Rattle.heap_model.specs.CoreReplies.{call_replies_of}
 use Rattle.heap_shell.specs.declared.command.Play.{Play}
 use Rattle.heap_shell.specs.declared.status.Status.{Status}
 use Rattle.heap_shell.specs.declared.status.Status.TheVariants as status
-use Rattle.heap_shell.specs.Headline.{made_super, made_core, end_text, IsNotMade}
+use Rattle.heap_shell.specs.Headline.{made_super, made_core, end_text, stop_after, IsNotMade}
 use Rattle.heap_shell.specs.Play.{lines_text}
 use Rattle.heap_shell.specs.Steps.{Step, AreSteps}
 use Rattle.heap_model.specs.CoreCrash.{HasAtLeast}
@@ -39,4 +39,4 @@ module _ {D : Type 0} (g : Ghosts D) where
   -- Either no heap was made, or it is crash safe from then on.
   abbrev pub RunsSafely : Play → D → D → Status → Bool → List ℕ → List ℕ → Type 0
   RunsSafely play old new result told before after =
-      IsNotMade g (made_super play.pages) old new result told before after ⊎ ((made : D) × IsCrashSafe play.stop (made_core play.pages) made new result told before after)
+      IsNotMade g (made_super play.pages) old new result told before after ⊎ ((made : D) × IsCrashSafe (stop_after play.stop) (made_core play.pages) made new result told before after)

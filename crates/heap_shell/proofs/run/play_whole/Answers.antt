@@ -27,7 +27,7 @@ returns-in-Err-clause-played g c tells pages legal only =
     (opening_keeps d.moment d.left_since c.args.disk c.in-Err.disk pages bytes legal (c.in-Err.ensures.moments tells only _ _ stands))
     (λ image left. opened_commits pages bytes legal image (c.in-Err.ensures.crash tells only _ _ stands image left))
     (λ image since. g.met.D.Disk.only_now tells c.in-Err.disk image since)
-    (λ u. same) (omega (arith, same)) (c.in-Err.ensures.disk.restarts tells)
+    same (c.in-Err.ensures.disk.restarts tells)
 
 pub returns-in-Ok-play_all-clause-played : goal.returns-in-Ok-play_all-clause-played
 returns-in-Ok-play_all-clause-played g c tells pages legal only =
@@ -50,10 +50,10 @@ returns-in-Ok-play_all-clause-played g c tells pages legal only =
     let keeps = keeps_own s (made_core pages) (made_running pages limits) refl es playable old new k.tells before after (Ok tt) plays tells c.args.disk (λ disk image since. g.met.D.Disk.only_now tells disk image since)
     (opening_keeps d.moment d.left_since c.args.disk old.disk pages bytes legal (c.in-Ok.ensures.moments tells only _ _ stands)) (λ image left. opened_commits pages bytes legal image (c.in-Ok.ensures.crash tells only _ _ stands image left)) nothing (c.in-Ok.ensures.disk.restarts tells) in
     let calls : d.passed new.disk ≡ counted (total_calls (made_core pages) plays.made) (d.passed c.args.disk) = whole.1.passes ∙ ap (counted (total_calls (made_core pages) plays.made)) nothing in
-    rw (c.close.ensures, c.status_after-status.ensures) (ends_whole s (made_core pages) (made_running pages limits) refl es playable old new k.tells before after (Ok tt) plays d c.args.disk new.disk None keeps (λ u. calls) (omega (arith, calls))
-    c.write_graph.result (k.written c.write_graph.new.sink) refl whole.0 whole.1.reached
+    rw (c.close.ensures, c.status_after-status.ensures) (ends_whole s (made_core pages) (made_running pages limits) refl es playable old new k.tells before after (Ok tt) plays d c.args.disk new.disk keeps
+    c.write_graph.result (k.written c.write_graph.new.sink) whole.0 whole.1.reached
     (lines_wrote s (made_core pages) (made_running pages limits) refl es playable old new k.tells before after (Ok tt) plays (Ok tt) refl)
-    (λ t. c.write_graph.ensures.wrote t plays.core plays.heap.core (run_reached s (made_core pages) (made_running pages limits) refl es playable old new k.tells before after (Ok tt) plays).1) refl)
+    (λ t. c.write_graph.ensures.wrote t plays.core plays.heap.core (run_reached s (made_core pages) (made_running pages limits) refl es playable old new k.tells before after (Ok tt) plays).1) refl calls)
 
 pub returns-in-Err-play_all-clause-played : goal.returns-in-Err-play_all-clause-played
 returns-in-Err-play_all-clause-played g c tells pages legal only =
