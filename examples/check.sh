@@ -81,6 +81,7 @@ example abort.out abort.script
 example refusals.out refusals.script
 example force_inside.out force_inside.script
 example rolled_back.out force_inside.script --stop 8
+example stopped_twice.out unended.script --stop 7 --again 2
 made every_stop.out examples/every_stop.sh
 made refused.out examples/refused.sh
 
@@ -104,6 +105,7 @@ made references.dot tools/graph_to_dot <examples/references.graph
 quotes README.md first.out --notes
 quotes README.md every_stop.out
 quotes examples/README.md transfer.script
+quotes examples/README.md stopped_twice.out
 quotes examples/README.md refused.out
 quotes examples/README.md transfer.dot
 

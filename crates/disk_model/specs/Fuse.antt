@@ -4,9 +4,10 @@ use Rattle.counts.specs.Count.{raised}
 use Rattle.disk_model.specs.declared.disk.Disk.{Ghosts}
 use Rattle.disk_model.specs.declared.fuse.FuseDisk.{FuseDisk}
 
--- What a fuse is made of: a disk, as it was then, and how many writes and syncs are let through to it.
-pub record FuseOrigin (D : Type 0) : Type 0 where
+-- What a fuse is made of: a disk, as it was then, what that was made of, and how many writes and syncs are let through to it.
+pub record FuseOrigin (D Inside : Type 0) : Type 0 where
   pub disk : D
+  pub inside : Inside
   pub limit : ℕ
 
 module _ {D : Type 0} {g : Ghosts D} where
@@ -15,8 +16,8 @@ module _ {D : Type 0} {g : Ghosts D} where
   fuse_inner fuse = fuse.inner
 
   -- what it was made of
-  abbrev pub fuse_origin : FuseDisk D g → FuseOrigin D
-  fuse_origin fuse = record { disk = fuse.began.value; limit = fuse.limit }
+  abbrev pub fuse_origin : FuseDisk D g → FuseOrigin D g.Origin
+  fuse_origin fuse = record { disk = fuse.began.value; inside = g.origin fuse.inner; limit = fuse.limit }
 
   -- how many writes and syncs it lets through
   abbrev pub fuse_limit : FuseDisk D g → ℕ

@@ -24,6 +24,9 @@ pub struct FuseDisk<D: Disk> {
     pub ghost stops_kept: { D.stops began.value ≤ D.stops inner },
     // Unless its disk itself stops, both count the same calls.
     pub ghost tied: { IsTrue D.tells → ¬ Rose (D.stops began.value) (D.stops inner) → D.passed inner ≡ counted passed (D.passed began.value) },
+    // And else its disk has counted no more of them.
+    pub ghost passed_kept: { IsTrue D.tells → D.passed began.value ≤ D.passed inner },
+    pub ghost few: { IsTrue D.tells → D.passed inner ≤ counted passed (D.passed began.value) },
 }
 
 impl<D: Disk> FuseDisk<D> {
@@ -32,7 +35,7 @@ impl<D: Disk> FuseDisk<D> {
     /// A fuse for `limit` writes and syncs, none of which has passed yet.
     pub fn new(disk: D, limit: u64) -> FuseDisk<D>
         ensures inner { fuse_inner result ≡ disk }
-        ensures origin { fuse_origin result ≡ record { disk = disk; limit = limit } }
+        ensures origin { fuse_origin result ≡ record { disk = disk; inside = D.origin disk; limit = limit } }
         ensures passed { fuse_passed result ≡ 0 }
         ensures stops { fuse_stops result ≡ 0 }
     {
@@ -109,7 +112,7 @@ impl<D: Disk> Disk for FuseDisk<D> {
 
     ghost restarts = { λ fuse. D.restarts (fuse_inner fuse) };
 
-    ghost Origin = { FuseOrigin D };
+    ghost Origin = { FuseOrigin D D.Origin };
 
     ghost origin = { fuse_origin };
 

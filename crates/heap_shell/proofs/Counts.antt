@@ -1,5 +1,5 @@
 -- Sums of counts of a 64-bit type.
-use Rattle.std.proofs.Common.{◌≡◌, ⊎_elim, ℕ, ◌+◌, ◌≤◌, ◌<◌, min, zero, suc, Bool, refl, sym, ap, ◌∙◌, arith}
+use Rattle.std.proofs.Common.{◌≡◌, ⊎_elim, ℕ, ◌+◌, ◌-◌, ◌≤◌, ◌<◌, min, zero, suc, Bool, refl, sym, ap, ◌∙◌, subst, arith}
 use Rattle.std.specs.Prelude.{if◌then◌else◌}
 use Rattle.std.proofs.lemmas.Bool.{cases_lt, lt-ltb, le-ltb}
 use Rattle.counts.specs.Count.{counted, raised, greatest}
@@ -42,3 +42,24 @@ counted-counted (suc k) p n =
     let over : greatest ≤ counted q n = omega arith in
     ap (λ (i : ℕ). counted i n) (raised_full q full) ∙ sym (raised_full (counted q n) over) ∙ ap raised rest)
     (cases_lt q greatest)
+
+raised_more : (n : ℕ) → n ≤ raised n
+raised_more n = ⊎_elim
+    (λ (below : n < greatest). let up = raised_below n below in omega arith)
+    (λ (full : greatest ≤ n). let still = raised_full n full in omega arith)
+    (cases_lt n greatest)
+
+counted_more : (d m n : ℕ) → counted m n ≤ counted (d + m) n
+counted_more zero m n = let same : m ≡ 0 + m = omega arith in let more = ap (λ (i : ℕ). counted i n) same in omega arith
+counted_more (suc d) m n =
+    let rest = counted_more d m n in
+    let up = raised_more (counted (d + m) n) in
+    let same : suc (d + m) ≡ suc d + m = omega arith in
+    let more : raised (counted (d + m) n) ≡ counted (suc d + m) n = ap (λ (i : ℕ). counted i n) same in
+    omega arith
+
+-- who counts more has a greater count
+pub counted_mono : (m k n : ℕ) → m ≤ k → counted m n ≤ counted k n
+counted_mono m k n less =
+    let same : (k - m) + m ≡ k = omega arith in
+    subst (λ (i : ℕ). counted m n ≤ counted i n) same (counted_more (k - m) m n)

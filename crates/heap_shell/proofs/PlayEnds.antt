@@ -22,7 +22,7 @@ use Rattle.heap_shell.specs.declared.play.Halt.{Halt}
 use Rattle.heap_shell.specs.declared.play.Halt.TheVariants as halt
 use Rattle.heap_shell.specs.declared.status.Status.{Status}
 use Rattle.heap_shell.specs.declared.status.Status.TheVariants as status
-use Rattle.heap_shell.specs.Causes.{DiskRose}
+use Rattle.heap_shell.specs.Causes.{DiskRose, Unharmed}
 use Rattle.heap_core.specs.Causes.{reply_device}
 use Rattle.heap_model.specs.Core.{Core, with_entry, IsRun}
 use Rattle.heap_model.specs.CoreCrash.{KeepsCommits}
@@ -35,16 +35,17 @@ use Rattle.heap_model.specs.CoreLawsRun.{reached_agrees}
 use Rattle.heap_model.specs.CoreReplies.{call_replies_of}
 use Rattle.heap_model.specs.CoreRuns.{after_events, total_calls}
 use Rattle.heap_model.specs.CoreValid.{IsReached}
-use Rattle.heap_shell.specs.Headline.{graph_text, end_text, HasMade, StopsLast, IsExact, IsEndOfPlay, MakesEvents, Unharmed, KeepsThroughout, IsFollowed, StartsAgain, Prints, IsPlayed, Writes}
+use Rattle.heap_shell.specs.declared.command.Stop.{Stop}
+use Rattle.heap_shell.specs.Headline.{graph_text, end_text, stop_after, let_through, HasMade, StopsLast, IsExact, IsEndOfPlay, MakesEvents, KeepsThroughout, IsFollowed, Reopens, StartsAgain, EndsUnopened, Prints, IsPlayed}
 use Rattle.heap_shell.specs.Playable.{IsPlayable}
 use Rattle.heap_shell.specs.Output.{WroteText, Recovers, WroteRecovered, WroteNothing, status_after}
 use Rattle.heap_shell.specs.Play.{IsRunning, IsWhole, IsCutBy, AreReady, MakesAll, MakesShort, Makes, Ends, Plays, Wrote, lines_text, WroteFront, WroteLines}
 use Rattle.heap_shell.specs.StatusOf.{halt_status}
-use Rattle.heap_shell.specs.StepsLaws.{heap_steps}
 use Rattle.heap_shell.proofs.Causes.{disk_rose}
-use Rattle.heap_shell.proofs.Counts.{counted-sum}
+use Rattle.heap_shell.proofs.Counts.{counted-sum, counted_mono}
 use Rattle.heap_shell.proofs.PlayEvent.{heap_leaves}
 use Rattle.heap_shell.proofs.Lines as lines
+use Rattle.heap_shell.proofs.PlayFuse.{own_steps}
 use Rattle.heap_shell.proofs.PlayLaws.{ends_makes}
 use Rattle.heap_shell.proofs.Statuses.{written_end, wrote_all}
 use Rattle.heap_shell.proofs.Written.{front_more, then_front, whole_front, wrote_some}
@@ -122,14 +123,16 @@ module _ {D : Type 0} {g : Ghosts D} (s : Super) (c : Core) (running : IsRunning
       makes
 
   -- What a crash leaves of the heap's own disk since it was opened.
-  abbrev pub keeps_own : (start : D) → ((disk : D) (image : List ℕ) → g.left_since disk (g.moment disk) image → g.may_leave disk image) → LeavesOnly g.moment g.left_since start old.disk (KeepsCommits c)
-      → ((image : List ℕ) → g.may_leave old.disk image → KeepsCommits c image) → KeepsThroughout g (Unharmed g start new.disk) c made core start new.disk
-  keeps_own start now opening here = record {
+  abbrev pub keeps_own : IsTrue g.tells → (start : D) → ((disk : D) (image : List ℕ) → g.left_since disk (g.moment disk) image → g.may_leave disk image) → LeavesOnly g.moment g.left_since start old.disk (KeepsCommits c)
+      → ((image : List ℕ) → g.may_leave old.disk image → KeepsCommits c image) → g.passed old.disk ≡ g.passed start → g.restarts old.disk ≡ g.restarts start → KeepsThroughout g None c made core start new.disk
+  keeps_own tells start now opening here passed restarts = record {
     opened = old.disk;
     opening = opening;
     here = here;
+    passed = passed;
+    restarts = restarts;
     stopped = new.disk;
-    steps = heap_steps g (Unharmed g start new.disk) c core old.disk new.disk made plays.steps;
+    steps = own_steps g start new.disk tells c core old.disk new.disk made plays.steps;
     rest = begins g.moment g.left_since new.disk (KeepsCommits core) (λ image since. kept image (now new.disk image since));
     kept = kept;
   }
@@ -138,17 +141,19 @@ module _ {D : Type 0} {g : Ghosts D} (s : Super) (c : Core) (running : IsRunning
   abbrev pub events_made : (stop : Option ℕ) (by : Status) (unharmed : Type 0) → (by ≡ status.Done → HasMade stop c made plays.behind core) → (unharmed → IsExact stop c made core) → MakesEvents stop c events by unharmed
   events_made stop by unharmed done place = record { made = made; behind = plays.behind; parts = plays.parts; core = core; last = last_made; done = done; exact = place }
 
-  -- The disk that was handed in, at the start and at the end, and what a crash left of it.
-  module _ {B : Type 0} (h : Ghosts B) (start final : B) (keeps : KeepsThroughout h (Unharmed h start final) c made core start final) where
+  -- The disk that was handed in, at the start and at the end, what a crash left of it, and how many calls it has let through.
+  module _ {B : Type 0} (h : Ghosts B) (start final : B) (stop : Option Stop) (keeps : KeepsThroughout h (stop_after stop) c made core start final)
+      (calls : Unharmed h start final → h.passed keeps.stopped ≡ counted (let_through (stop_after stop) (total_calls c made)) (h.passed start)) (few_calls : h.passed keeps.stopped ≤ counted (let_through (stop_after stop) (total_calls c made)) (h.passed start)) where
     -- The play ended before more than lines were to be written.
-    pub ends_early : (stop : Option ℕ) (by : Status) → IsEndOfPlay by → (by ≡ status.Done → ⊥) → (IsTrue told → WroteFront before (lines_text core.history) after × WroteLines before core.history after)
+    pub ends_early : (by : Status) → IsEndOfPlay by → (by ≡ status.Done → ⊥) → (IsTrue told → WroteFront before (lines_text core.history) after × WroteLines before core.history after)
         → (IsTrue told → by ≡ status.DiskFault → after ≡ before ++ lines_text core.history)
-        → (Unharmed h start final → IsExact stop c made core) → IsFollowed h stop core all keeps.stopped final by (IsTrue told → WroteFront before (lines_text core.history) after)
+        → (Unharmed h start final → IsExact (stop_after stop) c made core) → IsFollowed h stop core all keeps.stopped final by (IsTrue told → WroteFront before (lines_text core.history) after)
         → IsPlayed h stop c events start final by told before after
-    ends_early stop by is_end not_done part whole place follows = record {
-      run = events_made stop by (Unharmed h start final) (λ is. absurd (not_done is)) place;
+    ends_early by is_end not_done part whole place follows = record {
+      run = events_made (stop_after stop) by (Unharmed h start final) (λ is. absurd (not_done is)) place;
       disk = keeps;
-      calls = λ u is. absurd (not_done is);
+      calls = calls;
+      most = few_calls;
       replies = replies;
       prints = record {
         count = all;
@@ -156,70 +161,79 @@ module _ {D : Type 0} {g : Ghosts D} (s : Super) (c : Core) (running : IsRunning
         most = most;
         all = λ none. refl;
         behind = follows;
-        written = λ t. lines.some_writes core.history before after by (end_text stop all (serial core.g0 (take all (commits core.history)))) after not_done (part t).0 (part t).1 (whole t);
+        written = λ t. lines.some_writes core.history before after by (end_text (stop_after stop) all (serial core.g0 (take all (commits core.history)))) after not_done (part t).0 (part t).1 (whole t);
       };
       end = is_end;
     }
 
-    -- The graph of all commits was to be written.
-    pub ends_whole : (output : Result (Unit {0}) WriteError) (after' : List ℕ) → plays.behind ≡ [] → IsWhole c made core → (IsTrue told → after ≡ before ++ lines_text core.history)
-        → (IsTrue told → WroteText output after (graph_text (serial core.g0 (sealed core.history))) after') → final ≡ keeps.stopped
-        → h.passed keeps.stopped ≡ counted (total_calls c made) (h.passed start) → IsPlayed h None c events start final (status_after output) told before after'
-    ends_whole output after' nothing reached out wrote same calls =
-        let P : List ℕ → Type 0 = λ text. WroteText output after text after' in
-        let full = λ (t : IsTrue told). subst P all_graph (wrote t) in
-        let text = graph_text (serial core.g0 (take all (commits core.history))) in
-        record {
-          run = events_made None (status_after output) (Unharmed h start final) (λ is. (nothing, reached)) (λ u. reached);
-          disk = keeps;
-          calls = λ u is. calls;
-          replies = replies;
-          prints = record {
-            count = all;
-            least = least;
-            most = most;
-            all = λ none. refl;
-            behind = same;
-            written = λ t. lines.all_writes core.history before after (status_after output) text after' (out t) (wrote_some output after text after' (full t)) (λ is. wrote_all output after text after' is (full t));
-          };
-          end = written_end output;
-        }
+  -- The graph of all commits was to be written.
+  pub ends_whole : {B : Type 0} (h : Ghosts B) (start final : B) (keeps : KeepsThroughout h None c made core start final) (output : Result (Unit {0}) WriteError) (after' : List ℕ) → plays.behind ≡ [] → IsWhole c made core
+      → (IsTrue told → after ≡ before ++ lines_text core.history) → (IsTrue told → WroteText output after (graph_text (serial core.g0 (sealed core.history))) after') → final ≡ keeps.stopped
+      → h.passed keeps.stopped ≡ counted (total_calls c made) (h.passed start) → IsPlayed h None c events start final (status_after output) told before after'
+  ends_whole h start final keeps output after' nothing reached out wrote same calls =
+      let P : List ℕ → Type 0 = λ text. WroteText output after text after' in
+      let full = λ (t : IsTrue told). subst P all_graph (wrote t) in
+      let text = graph_text (serial core.g0 (take all (commits core.history))) in
+      record {
+        run = events_made None (status_after output) (Unharmed h start final) (λ is. (nothing, reached)) (λ u. reached);
+        disk = keeps;
+        calls = λ u. calls;
+        most = omega (arith, calls);
+        replies = replies;
+        prints = record {
+          count = all;
+          least = least;
+          most = most;
+          all = λ none. refl;
+          behind = same;
+          written = λ t. lines.all_writes core.history before after (status_after output) text after' (out t) (wrote_some output after text after' (full t)) (λ is. wrote_all output after text after' is (full t));
+        };
+        end = written_end output;
+      }
 
-    -- The heap was opened again, and what came back was to be written.
-    pub ends_recovered : (n : ℕ) (by : Status) (after' : List ℕ) → HasMade (Some n) c made plays.behind core → (Unharmed h start final → IsExact (Some n) c made core)
-        → (IsTrue told → after ≡ before ++ lines_text core.history) → Recovers core (λ k. StartsAgain h core k keeps.stopped final) (h.may_leave final) by told after after'
-        → (Unharmed h start final → h.passed keeps.stopped ≡ counted (min n (total_calls c made)) (h.passed start)) → IsPlayed h (Some n) c events start final by told before after'
-    ends_recovered n by after' has place out recovers calls = record {
-      run = events_made (Some n) by (Unharmed h start final) (λ is. has) place;
-      disk = keeps;
-      calls = λ u is. calls u;
-      replies = replies;
-      prints = ⊎_elim found_prints nothing_prints recovers.found;
-      end = recovers.end;
-    }
-      where
-        found_prints : WroteRecovered core (λ k. StartsAgain h core k keeps.stopped final) by told after after' → Prints h (Some n) core keeps.stopped final by told before after'
-        found_prints found = record {
-          count = found.count;
-          least = found.opened.opens.first.kept;
-          most = found.opened.opens.first.some;
-          all = λ none. cc;
-          behind = inl found.opened;
-          written = λ t. lines.all_writes core.history before after by (end_text (Some n) found.count (serial core.g0 (take found.count (commits core.history)))) after' (out t) (found.written t) (found.whole t);
-        }
+  -- The heap was to be opened again, and what came back to be written.
+  module _ {B : Type 0} (h : Ghosts B) (start final : B) (stop : Stop) (keeps : KeepsThroughout h (Some stop.after) c made core start final)
+      (calls : Unharmed h start final → h.passed keeps.stopped ≡ counted (min stop.after (total_calls c made)) (h.passed start)) (few_calls : h.passed keeps.stopped ≤ counted (min stop.after (total_calls c made)) (h.passed start)) where
+    abbrev opens : ℕ → Type 0
+    opens k = StartsAgain h stop.again core k (Reopens h core k) keeps.stopped final
 
-        nothing_prints : WroteNothing by told after after' → Prints h (Some n) core keeps.stopped final by told before after'
-        nothing_prints nothing =
-            let out_after = λ (t : IsTrue told). nothing.nothing t ∙ out t in
-            record {
-              count = all;
-              least = least;
-              most = most;
-              all = λ none. refl;
-              behind = inr (nothing.early, λ t. whole_front before (lines_text core.history) after' (out_after t));
-              written = λ t. lines.some_writes core.history before after by (end_text (Some n) all (serial core.g0 (take all (commits core.history)))) after' nothing.early (whole_front before (lines_text core.history) after' (out_after t))
-                  (lines.lines_more core.history before after after' [] (out t) (nothing.nothing t ∙ sym (append-nil after))) (λ is. out_after t);
-            }
+    abbrev fails : ℕ → Status → Type 0
+    fails k by = EndsUnopened h stop.again core k keeps.stopped final by
+
+    module _ (k : ℕ) (by : Status) (after' : List ℕ) (out : IsTrue told → after ≡ before ++ lines_text core.history) (recovers : Recovers core k (opens k) (fails k by) (h.may_leave final) by told after after') where
+      found_prints : WroteRecovered core k (opens k) by told after after' → Prints h (Some stop) core keeps.stopped final by told before after'
+      found_prints found = record {
+        count = k;
+        least = recovers.least;
+        most = recovers.most;
+        all = λ none. cc;
+        behind = inl found.opened;
+        written = λ t. lines.all_writes core.history before after by (end_text (Some stop.after) k (serial core.g0 (take k (commits core.history)))) after' (out t) (found.written t) (found.whole t);
+      }
+
+      nothing_prints : WroteNothing (fails k by) by told after after' → Prints h (Some stop) core keeps.stopped final by told before after'
+      nothing_prints nothing =
+          let out_after = λ (t : IsTrue told). nothing.nothing t ∙ out t in
+          record {
+            count = k;
+            least = recovers.least;
+            most = recovers.most;
+            all = λ none. cc;
+            behind = inr (nothing.failed, nothing.early, λ t. whole_front before (lines_text core.history) after' (out_after t));
+            written = λ t. lines.some_writes core.history before after by (end_text (Some stop.after) k (serial core.g0 (take k (commits core.history)))) after' nothing.early (whole_front before (lines_text core.history) after' (out_after t))
+                (lines.lines_more core.history before after after' [] (out t) (nothing.nothing t ∙ sym (append-nil after))) (λ is. out_after t);
+          }
+
+      pub ends_recovered : HasMade (Some stop.after) c made plays.behind core → (Unharmed h start final → IsExact (Some stop.after) c made core) → IsPlayed h (Some stop) c events start final by told before after'
+      ends_recovered has place = record {
+        run = events_made (Some stop.after) by (Unharmed h start final) (λ is. has) place;
+        disk = keeps;
+        calls = calls;
+        most = few_calls;
+        replies = replies;
+        prints = ⊎_elim found_prints nothing_prints recovers.found;
+        end = recovers.end;
+      }
 
   few : total_calls c made ≤ 8388616
   few =
@@ -228,18 +242,50 @@ module _ {D : Type 0} {g : Ghosts D} (s : Super) (c : Core) (running : IsRunning
       let most = playable.few in
       omega arith
 
-  -- Where the disk does what it is asked, all events were made.
-  pub exact_none : (DiskRose (g.faults old.disk) (g.stops old.disk) (g.faults new.disk) (g.stops new.disk) → ⊥) → IsExact None c made core
-  exact_none unharmed = ⊎_elim
-      (λ (all : MakesAll c made core old new). all.reached)
-      (λ (some : (reply : Reply) × MakesShort c made core old new reply). absurd (unharmed (short_harm some.0 some.1)))
+  total_of : (reply : Reply) (short : MakesShort c made core old new reply) → total_calls c made ≡ total_calls c short.before + total_calls (after_events c short.before) (short.event ∷ [])
+  total_of reply short = ap (total_calls c) short.parts ∙ total_calls-append c short.before (short.event ∷ [])
+
+  -- It let through no more than the calls of all events, whether or not the disk failed.
+  pub passes_most : g.passed new.disk ≤ counted (total_calls c made) (g.passed old.disk)
+  passes_most = ⊎_elim
+      (λ (all : MakesAll c made core old new). omega (arith, all.passes))
+      (λ (some : (reply : Reply) × MakesShort c made core old new reply). short_most some.0 some.1)
       makes
     where
-      short_harm : (reply : Reply) → MakesShort c made core old new reply → DiskRose (g.faults old.disk) (g.stops old.disk) (g.faults new.disk) (g.stops new.disk)
-      short_harm reply short = ⊎_elim
-          (λ (is : reply ≡ Refused DiskFault). disk_rose _ _ _ _ (reply_device reply) device.Failed short.cause (ap reply_device is))
-          (λ (is : reply ≡ Refused Stopped). disk_rose _ _ _ _ (reply_device reply) device.Stopped short.cause (ap reply_device is))
-          short.cut.told
+      short_most : (reply : Reply) → MakesShort c made core old new reply → g.passed new.disk ≤ counted (total_calls c made) (g.passed old.disk)
+      short_most reply short =
+          let few = short.most in
+          let total = total_of reply short in
+          let more = counted_mono (total_calls c short.before + few.0) (total_calls c made) (g.passed old.disk) (omega (arith, few.1, total)) in
+          omega (arith, few.2, more)
+
+  -- Where the disk does what it is asked, all events were made.
+  module _ (unharmed : DiskRose (g.faults old.disk) (g.stops old.disk) (g.faults new.disk) (g.stops new.disk) → ⊥) where
+    short_harm : (reply : Reply) → MakesShort c made core old new reply → DiskRose (g.faults old.disk) (g.stops old.disk) (g.faults new.disk) (g.stops new.disk)
+    short_harm reply short = ⊎_elim
+        (λ (is : reply ≡ Refused DiskFault). disk_rose _ _ _ _ (reply_device reply) device.Failed short.cause (ap reply_device is))
+        (λ (is : reply ≡ Refused Stopped). disk_rose _ _ _ _ (reply_device reply) device.Stopped short.cause (ap reply_device is))
+        short.cut.told
+
+    pub exact_none : IsExact None c made core
+    exact_none = ⊎_elim
+        (λ (all : MakesAll c made core old new). all.reached)
+        (λ (some : (reply : Reply) × MakesShort c made core old new reply). absurd (unharmed (short_harm some.0 some.1)))
+        makes
+
+    -- with all their calls
+    pub exact_passes : g.passed new.disk ≡ counted (total_calls c made) (g.passed old.disk)
+    exact_passes = ⊎_elim
+        (λ (all : MakesAll c made core old new). all.passes)
+        (λ (some : (reply : Reply) × MakesShort c made core old new reply). absurd (unharmed (short_harm some.0 some.1)))
+        makes
+
+  -- So it was where no more than a limit was to be let through.
+  pub passes_within : (n : ℕ) → g.passed old.disk ≡ 0 → g.passed new.disk ≤ n → g.passed new.disk ≤ min n (total_calls c made)
+  passes_within n none within =
+      let all = subst (λ (k : ℕ). g.passed new.disk ≤ counted (total_calls c made) k) none passes_most in
+      let sum = counted-sum (total_calls c made) 0 (omega (arith, few)) in
+      omega (arith, all, sum, within)
 
   -- The disk does what it is asked up to a limit.
   module _ (n : ℕ) (none : g.passed old.disk ≡ 0) (still : g.stops old.disk ≡ 0) (within : g.passed new.disk ≤ n) (at : g.stops new.disk ≢ 0 → g.passed new.disk ≡ n) (unharmed : Rose (g.faults old.disk) (g.faults new.disk) → ⊥) where
@@ -255,7 +301,7 @@ module _ {D : Type 0} {g : Ghosts D} (s : Super) (c : Core) (running : IsRunning
       has_stopped none_yet = elim (short.cause.stopped (ap reply_device is_stopped)) [ inl up ↦ omega arith | inr full ↦ omega arith ]
 
       total : total_calls c made ≡ total_calls c short.before + total_calls (after_events c short.before) (short.event ∷ [])
-      total = ap (total_calls c) short.parts ∙ total_calls-append c short.before (short.event ∷ [])
+      total = total_of reply short
 
       here : n ≡ total_calls c short.before + (short.passes is_stopped).0
       here =

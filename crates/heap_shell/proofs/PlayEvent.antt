@@ -30,7 +30,7 @@ use Rattle.heap_model.specs.CoreValid.{IsReached}
 use Rattle.heap_core.specs.Means.{DiskHolds, IsCore, IsHeap}
 use Rattle.heap_shell.specs.Play.{AreReady, MakesAll, MakesShort, Makes, Ends, Plays, ended_by, lines_text, Wrote, WroteFront, WroteLines}
 use Rattle.heap_shell.specs.StatusOf.{write_halt}
-use Rattle.heap_shell.specs.Steps.{Step, HeapStep, AreSteps}
+use Rattle.heap_shell.specs.Steps.{HeapStep, AreSteps}
 use Rattle.heap_shell.specs.declared.output.WriteError.TheVariants as writing
 use Rattle.heap_core.specs.CrashLaws.{heap_keeps}
 
@@ -80,6 +80,7 @@ module _ {D : Type 0} {g : Ghosts D} (s : Super) (c d : Core) (event : Event) (r
     passes = λ stopped.
         let short = passes.stopped (ap reply_device stopped) cut.some in
         let same : short.0 ≡ 0 + short.0 = omega arith in (short.0, short.1, short.2 ∙ ap (λ (i : ℕ). counted i (g.passed old.disk)) same);
+    most = let some = passes.some in let same : some.0 ≡ 0 + some.0 = omega arith in (some.0, some.1, some.2 ∙ ap (λ (i : ℕ). counted i (g.passed old.disk)) same);
   }
 
   told_ends : IsCutShort c event reply → MakesShort c one d old new reply → Ends c one [] d old new (ended_by reply)
@@ -111,9 +112,9 @@ module _ {D : Type 0} {g : Ghosts D} (s : Super) (c d : Core) (event : Event) (r
   pub one_steps : AreSteps (HeapStep g) c old.disk one d new.disk
   one_steps =
       let next = step_reached c d event reply ready.running.reached ready.single.0 step in
-      let made : Step g (Unit {0}) c old.disk event d new.disk =
-      record { reply = reply; step = step; moments = moments; kept = heap_leaves s d new heap next; passes = λ u. passes } in
-      (d, new.disk, record { made = made; disk = keeps }, (refl, refl))
+      let made : HeapStep g c old.disk event d new.disk =
+      record { reply = reply; step = step; moments = moments; kept = heap_leaves s d new heap next; passes = passes; disk = keeps } in
+      (d, new.disk, made, (refl, refl))
 
   -- the lines with that of the event
   pub one_line : lines_text d.history ≡ lines_text c.history ++ line (record { event = event; reply = reply })

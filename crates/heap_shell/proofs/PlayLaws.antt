@@ -84,6 +84,11 @@ module _ {D : Type 0} {g : Ghosts D} where
           subst (λ (x : Core). short.0 < calls x second.event) (sym (same_core second.before)) short.1,
           counted_then (total_calls m second.before + short.0) (total_calls c events) (total_calls c (events ++ second.before) + short.0) (g.passed old.disk) (g.passed mid.disk) (g.passed new.disk) (omega arith) first.passes short.2,
         );
+        most = let some = second.most in let sum = same_calls second.before in (
+          some.0,
+          subst (λ (x : Core). some.0 ≤ calls x second.event) (sym (same_core second.before)) some.1,
+          counted_then (total_calls m second.before + some.0) (total_calls c events) (total_calls c (events ++ second.before) + some.0) (g.passed old.disk) (g.passed mid.disk) (g.passed new.disk) (omega arith) first.passes some.2,
+        );
       }
 
       makes_then : (made : List Event) (d : Core) → Makes m made d mid new → Makes c (events ++ made) d old new

@@ -1,15 +1,18 @@
 -- A play opens the heap that was made for it.
-use Rattle.std.proofs.Common.{◌≡◌, inl, inr, ⊎_elim, ℕ, ◌+◌, Bool, List, [], ◌++◌, take, Option, Some, None, Ok, refl, sym, ap, ◌∙◌, subst, arith}
+use Rattle.std.proofs.Common.{◌≡◌, inl, inr, ⊎_elim, ℕ, ◌+◌, ◌≤◌, Bool, List, [], ◌++◌, take, Option, Some, None, Result, Ok, refl, sym, ap, ◌∙◌, subst, arith}
 use Rattle.std.specs.Prelude.{◌⊎◌, IsTrue}
 use Rattle.std.proofs.lemmas.List.{append-nil}
 use Rattle.disk_model.specs.declared.disk.Disk.{Ghosts}
+use Rattle.disk_model.specs.declared.disk.DiskError.{DiskError}
 use Rattle.disk_model.specs.Moments.{LeavesOnly, begins, joined, weaker}
+use Rattle.gate_slot.specs.Passing.{Passes}
 use Rattle.graph_model.specs.declared.event.Event.{Event}
 use Rattle.graph_model.specs.Graph.{Graph, root_graph, new_graph}
 use Rattle.graph_model.specs.Transaction.{serial}
 use Rattle.graph_model.specs.History.{account, commits}
-use Rattle.heap_core.specs.Causes.{IsFromOutside}
+use Rattle.heap_core.specs.Causes.{IsFromOutside, ErrorPasses, error_device}
 use Rattle.heap_core.specs.declared.errors.OpenError.{OpenError}
+use Rattle.heap_core.specs.declared.errors.OpenError.TheVariants as opening
 use Rattle.heap_model.specs.Core.{Core}
 use Rattle.heap_shell.specs.declared.status.Status.{Status}
 use Rattle.heap_shell.specs.declared.status.Status.TheVariants.{Done}
@@ -20,7 +23,8 @@ use Rattle.heap_model.specs.CoreLawsOpened.{opened_keeps, opened_reached}
 use Rattle.heap_shell.specs.CoreLawsPlay.{running_after, all_playable}
 use Rattle.heap_model.specs.CoreRuns.{after_events}
 use Rattle.heap_model.specs.Ending.{all_events}
-use Rattle.heap_shell.specs.Headline.{made_super, made_core, end_text, IsExact, IsEndOfPlay, IsFollowed, IsPlayed}
+use Rattle.heap_shell.specs.declared.command.Stop.{Stop}
+use Rattle.heap_shell.specs.Headline.{made_super, made_core, end_text, stop_after, let_through, IsExact, IsEndOfPlay, EndsUnopened, IsFollowed, IsPlayed}
 use Rattle.heap_shell.specs.Playable.{IsScript}
 use Rattle.heap_model.specs.Image.{words_of, IsLegalLog, IsLegal, Shows, StandsFor}
 use Rattle.counts.specs.Count.{counted}
@@ -77,25 +81,62 @@ pub opening_then : {D : Type 0} (moment : D → ℕ) (left_since : D → ℕ →
 opening_then moment left_since old mid new first all before behind implies =
     weaker moment left_since old new (λ image. first image ⊎ all image) all (joined moment left_since old mid new first all before behind) (λ image either. ⊎_elim (implies image) (λ p. p) either)
 
+no_passes : (n before now : ℕ) (answer : Result (Unit {0}) DiskError) → n ≡ 0 → Passes n before now answer → now ≡ before
+no_passes n before now answer none passes =
+    let some = passes.some in
+    let zero_calls : some.0 ≡ 0 = omega (arith, none, some.1) in
+    some.2 ∙ ap (λ (k : ℕ). counted k before) zero_calls
+
 nothing_exact : (stop : Option ℕ) (c : Core) → IsExact stop c [] c
 nothing_exact None c = refl
 nothing_exact (Some n) c = inl (refl, omega arith)
 
-nothing_follows : {D : Type 0} (g : Ghosts D) (stop : Option ℕ) (c : Core) (disk : D) (by : Status) (told : Bool) (before : List ℕ) → (by ≡ Done → ⊥) → IsFollowed g stop c 0 disk disk by (IsTrue told → WroteFront before [] before)
+-- the disk was not started again
+pub unstarted : {D : Type 0} (g : Ghosts D) (again : Option ℕ) (c : Core) (k : ℕ) (disk : D) (by : Status) → EndsUnopened g again c k disk disk by
+unstarted g None c k disk by = inl refl
+unstarted g (Some m) c k disk by = inl refl
+
+nothing_follows : {D : Type 0} (g : Ghosts D) (stop : Option Stop) (c : Core) (disk : D) (by : Status) (told : Bool) (before : List ℕ) → (by ≡ Done → ⊥) → IsFollowed g stop c 0 disk disk by (IsTrue told → WroteFront before [] before)
 nothing_follows g None c disk by told before early = refl
-nothing_follows g (Some n) c disk by told before early = inr (early, λ t. none_written before [])
+nothing_follows g (Some stop) c disk by told before early = inr (unstarted g stop.again c 0 disk by, early, λ t. none_written before [])
+
+-- an opening that writes nothing makes no call that passes, whatever its error
+pub error_passes : (n before now : ℕ) (e : OpenError) → n ≡ 0 → ErrorPasses n before now e → now ≡ before
+error_passes n before now opening.NoMemory none passes = passes
+error_passes n before now opening.NotHeap none passes = no_passes n before now (error_device opening.NotHeap) none passes
+error_passes n before now (opening.Damaged at) none passes = no_passes n before now (error_device (opening.Damaged at)) none passes
+error_passes n before now opening.DiskFault none passes = no_passes n before now (error_device opening.DiskFault) none passes
+error_passes n before now opening.Stopped none passes = no_passes n before now (error_device opening.Stopped) none passes
+
+-- the calls of no events are none
+none_through : (stop : Option ℕ) → let_through stop 0 ≡ 0
+none_through None = refl
+none_through (Some n) = omega arith
 
 -- The heap was not opened: no event was made, and nothing was written.
-pub ends_unopened : {D : Type 0} (g : Ghosts D) (pages : ℕ) (stop : Option ℕ) (events : List Event) (e : OpenError) (by : Status) (start final : D) (told : Bool) (before : List ℕ) → by ≡ open_status e → IsFromOutside e
+pub ends_unopened : {D : Type 0} (g : Ghosts D) (pages : ℕ) (stop : Option Stop) (events : List Event) (e : OpenError) (by : Status) (start final : D) (told : Bool) (before : List ℕ) → by ≡ open_status e → IsFromOutside e
     → LeavesOnly g.moment g.left_since start final (KeepsCommits (made_core pages)) → ((image : List ℕ) → g.may_leave final image → KeepsCommits (made_core pages) image)
-    → ((image : List ℕ) → g.left_since final (g.moment final) image → g.may_leave final image) → IsPlayed g stop (made_core pages) events start final by told before before
-ends_unopened g pages stop events e by start final told before is outside moments left now =
+    → ((image : List ℕ) → g.left_since final (g.moment final) image → g.may_leave final image) → g.passed final ≡ g.passed start → g.restarts final ≡ g.restarts start
+    → IsPlayed g stop (made_core pages) events start final by told before before
+ends_unopened g pages stop events e by start final told before is outside moments left now still restarts =
     let early = λ (done : by ≡ Done). open_not_done e (sym is ∙ done) in
     let nothing : before ≡ before ++ [] = sym (append-nil before) in
+    let none : g.passed final ≡ counted (let_through (stop_after stop) 0) (g.passed start) = still ∙ ap (λ (n : ℕ). counted n (g.passed start)) (sym (none_through (stop_after stop))) in
     record {
-      run = record { made = []; behind = events; parts = refl; core = made_core pages; last = inl refl; done = λ done. absurd (early done); exact = λ u. nothing_exact stop (made_core pages) };
-      disk = record { opened = final; opening = moments; here = left; stopped = final; steps = (refl, refl); rest = begins g.moment g.left_since final (KeepsCommits (made_core pages)) (λ image since. left image (now image since)); kept = left };
-      calls = λ u done. absurd (early done);
+      run = record { made = []; behind = events; parts = refl; core = made_core pages; last = inl refl; done = λ done. absurd (early done); exact = λ u. nothing_exact (stop_after stop) (made_core pages) };
+      disk = record {
+        opened = final;
+        opening = moments;
+        here = left;
+        passed = still;
+        restarts = restarts;
+        stopped = final;
+        steps = (refl, refl);
+        rest = begins g.moment g.left_since final (KeepsCommits (made_core pages)) (λ image since. left image (now image since));
+        kept = left;
+      };
+      calls = λ u. none;
+      most = omega (arith, none);
       replies = refl;
       prints = record {
         count = 0;
@@ -104,7 +145,7 @@ ends_unopened g pages stop events e by start final told before is outside moment
         all = λ none. refl;
         behind = nothing_follows g stop (made_core pages) final by told before early;
         written = λ t. record {
-          front = none_written before (end_text stop 0 new_graph);
+          front = none_written before (end_text (stop_after stop) 0 new_graph);
           lines = ([], [], [], refl, omega arith, sym (append-nil (before ++ []) ∙ append-nil before));
           fault = λ fault. ([], sym (append-nil (before ++ []) ∙ append-nil before));
           whole = λ done. absurd (early done);

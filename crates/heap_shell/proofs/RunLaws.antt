@@ -1,7 +1,9 @@
 -- What a run promises, from what its parts promise.
-use Rattle.std.proofs.Common.{◌≡◌, ◌⊎◌, inl, inr, ⊎_elim, ℕ, ◌<◌, ◌≤◌, Bool, List, ◌++◌, Option, refl, sym, subst}
+use Rattle.std.proofs.Common.{◌≡◌, ◌⊎◌, inl, inr, ⊎_elim, ℕ, ◌<◌, ◌≤◌, Bool, List, Option, refl, sym, subst, arith}
+use Rattle.std.specs.Prelude.{IsTrue}
 use Rattle.std.specs.List.{AllByRecursion}
 use Rattle.std.proofs.lemmas.Bool.{cases_lt}
+use Rattle.counts.specs.Count.{counted}
 use Rattle.disk_model.specs.declared.disk.Disk.{Ghosts}
 use Rattle.disk_model.specs.declared.disk.DiskError.TheVariants as device
 use Rattle.disk_model.specs.Keeps.{KeepsDisk}
@@ -12,13 +14,12 @@ use Rattle.graph_model.specs.History.{acknowledged}
 use Rattle.graph_model.specs.SlowHeap.{IsSingleSession}
 use Rattle.heap_model.specs.Core.{Core}
 use Rattle.heap_model.specs.CoreCrash.{KeepsCommits, HasAtLeast}
-use Rattle.heap_model.specs.CoreLawsGrow.{has_at_least_on, keeps_at_least, has_fewer}
+use Rattle.heap_model.specs.CoreLawsGrow.{has_at_least_on, keeps_at_least}
 use Rattle.heap_model.specs.CoreLawsEnding.{single_front}
 use Rattle.heap_model.specs.CoreLawsReplies.{run_reached}
 use Rattle.heap_model.specs.CoreValid.{IsReached}
 use Rattle.heap_shell.specs.CrashSafe.{IsCrashSafe}
-use Rattle.heap_shell.specs.Steps.{Step, AreSteps}
-use Rattle.heap_shell.specs.StepsLaws.{steps_run, steps_last, prefix_lasts, run_acknowledges}
+use Rattle.heap_shell.specs.StepsLaws.{steps_run, last_until, lasting_steps}
 use Rattle.image_plan.specs.declared.superblock.Super.{Super}
 use Rattle.image_plan.specs.Plan.{image_size}
 use Rattle.heap_core.specs.declared.errors.FormatError.{FormatError}
@@ -27,7 +28,8 @@ use Rattle.heap_core.specs.Format.{IsFormatting, format_calls}
 use Rattle.heap_core.specs.GivenBack.{format_device, IsFromDisk}
 use Rattle.heap_shell.specs.declared.status.Status.{Status}
 use Rattle.heap_shell.specs.declared.status.Status.TheVariants as status
-use Rattle.heap_shell.specs.Headline.{IsEndOfPlay, IsSound, IsUnmade, IsNotMade, Unharmed, IsPlayed}
+use Rattle.heap_shell.specs.declared.command.Stop.{Stop}
+use Rattle.heap_shell.specs.Headline.{IsEndOfPlay, IsSound, IsUnmade, IsNotMade, IsPlayed, RestartsDisk, stop_after}
 use Rattle.heap_shell.specs.StatusOf.{format_status}
 
 -- a play says nothing against the image
@@ -60,6 +62,12 @@ end_done disk sink (status.TooSmall size need) h by_disk by_sink no_disk no_sink
 pub large_made : (size need : ℕ) → (size < need → ⊥) → need ≤ size
 large_made size need small = ⊎_elim (λ (less : size < need). absurd (small less)) (λ (fits : need ≤ size). fits) (cases_lt size need)
 
+-- A run whose format failed isn't done.
+pub format_not_done : (e : FormatError) → format_status e ≡ status.Done → ⊥
+format_not_done (format.TooSmall size need) is = cc
+format_not_done format.DiskFault is = cc
+format_not_done format.Stopped is = cc
+
 -- A format that failed made no heap.
 module _ {D : Type 0} (g : Ghosts D) (s : Super) (old new : D) where
   abbrev need : ℕ
@@ -77,46 +85,49 @@ module _ {D : Type 0} (g : Ghosts D) (s : Super) (old new : D) where
   unmade format.DiskFault small large keeps passes = record { error = device.Failed; cause = keeps.cause; passes = passes (fits format.DiskFault small (λ size full is. cc)) }
   unmade format.Stopped small large keeps passes = record { error = device.Stopped; cause = keeps.cause; passes = passes (fits format.Stopped small (λ size full is. cc)) }
 
-  pub not_made : (e : FormatError) (by : Status) (told : Bool) (before : List ℕ) → by ≡ format_status e
+  pub not_made : (e : FormatError) (by : Status) (told : Bool) (before : List ℕ) → IsTrue g.tells → by ≡ format_status e
       → (g.extent old < need → (e ≡ format.TooSmall (g.extent old) need) × (new ≡ old)) → (need ≤ g.extent old → IsFromDisk e) → KeepsDisk g old new (format_device e)
       → (need ≤ g.extent old → Passes (format_calls need (g.bytes old)) (g.passed old) (g.passed new) (format_device e)) → LeavesOnly g.moment g.left_since old new (IsFormatting s (g.bytes old))
       → IsNotMade g s old new by told before before
-  not_made e by told before is small large keeps passes moments = record {
+  not_made e by told before tells is small large keeps passes moments = record {
     reason = subst (IsUnmade g s old new) (sym is) (unmade e small large keeps passes);
     nothing = λ t. refl;
     moments = moments;
+    restarts = keeps.restarts tells;
   }
 
 -- What a run says of crashes in short.
 module _ {D : Type 0} (g : Ghosts D) (now : (disk : D) (image : List ℕ) → g.left_since disk (g.moment disk) image → g.may_leave disk image) (start final : D) where
-  pub crash_safe : (stop : Option ℕ) (c : Core) (events : List Event) (result : Status) (told : Bool) (before after : List ℕ) → IsReached c → AllByRecursion IsSingleSession events
-      → IsPlayed g stop c events start final result told before after → IsCrashSafe g stop c start final result told before after
+  pub crash_safe : (stop : Option Stop) (c : Core) (events : List Event) (result : Status) (told : Bool) (before after : List ℕ) → IsReached c → AllByRecursion IsSingleSession events
+      → IsPlayed g stop c events start final result told before after → IsCrashSafe g (stop_after stop) c start final result told before after
   crash_safe stop c events result told before after reached single played =
       let made = played.run.made in
       let core = played.run.core in
       let disk = played.disk in
       let one = single_front made played.run.behind (subst (AllByRecursion IsSingleSession) played.run.parts single) in
-      let run = steps_run g (Unharmed g start final) c core disk.opened disk.stopped made disk.steps in
+      let run = steps_run g (stop_after stop) start final c core disk.opened disk.stopped made disk.steps in
       let at_end = run_reached c core made reached one run in
       let least = acknowledged c.history in
-      let prefix = λ (front rest : List Event) (is : made ≡ front ++ rest). prefix_lasts g now (Unharmed g start final) c core disk.opened disk.stopped final front rest reached (subst (AllByRecursion IsSingleSession) is one) disk.here
-      (subst (λ (l : List Event). AreSteps (Step g (Unharmed g start final)) c disk.opened l core disk.stopped) is disk.steps) disk.rest in
-      let since = steps_last g now (Unharmed g start final) c core disk.opened disk.stopped made reached one disk.here disk.steps in
-      let low = run_acknowledges c core made run in
+      let since = last_until g (stop_after stop) start final now c core disk.opened disk.stopped made reached one disk.here disk.steps disk.rest in
       record {
         made = made;
         core = core;
-        opened = disk.opened;
         each = weaker g.moment g.left_since start final _ (HasAtLeast core least)
-            (joined g.moment g.left_since start disk.opened final (KeepsCommits c) _ disk.opening (joined g.moment g.left_since disk.opened disk.stopped final (HasAtLeast core least) (KeepsCommits core) since disk.rest))
+            (joined g.moment g.left_since start disk.opened final (KeepsCommits c) (HasAtLeast core least) disk.opening since)
             (λ image either. ⊎_elim
             (λ (kept : KeepsCommits c image). has_at_least_on c core made least image reached.sound at_end.sound run (keeps_at_least c image kept))
-            (λ (later : HasAtLeast core least image ⊎ KeepsCommits core image). ⊎_elim
             (λ (has : HasAtLeast core least image). has)
-            (λ (kept : KeepsCommits core image). has_fewer core (acknowledged core.history) least image low (keeps_at_least core image kept))
-            later)
             either);
-        lasting = prefix;
+        opened = disk.opened;
+        stopped = disk.stopped;
+        steps = lasting_steps g (stop_after stop) start final now c core disk.opened disk.stopped made reached one disk.steps disk.rest;
         replies = played.replies;
         printed = λ done t. (played.prints.count, played.prints.most, (played.prints.written t).whole done);
       }
+
+-- How often a run that was asked to has started the disk again.
+pub restarts_none : (asked : ℕ) (result : Status) (before now : ℕ) → (result ≡ status.Done → asked ≡ 0) → now ≡ before → RestartsDisk asked result before now
+restarts_none asked result before now done same = record { times = 0; most = omega arith; all = λ is. sym (done is); told = same }
+
+pub restarts_all : (asked : ℕ) (result : Status) (before now : ℕ) → now ≡ counted asked before → RestartsDisk asked result before now
+restarts_all asked result before now same = record { times = asked; most = omega arith; all = λ is. refl; told = same }

@@ -26,10 +26,15 @@ pub record StreamCause (before now : ℕ) (failed : Type 0) : Type 0 where
   pub kept : before ≤ now
   pub cause : failed → Rose before now
 
--- What a run keeps of a disk that it may start again: its size. Its faults and stops together didn't fall, and they rose if the run
--- ended in the disk's fault.
+-- no call of the disk failed or found it stopped
+abbrev pub Unharmed : {D : Type 0} (g : Ghosts D) → D → D → Type 0
+Unharmed g old new = ¬ DiskRose (g.faults old) (g.stops old) (g.faults new) (g.stops new)
+
+-- What a run keeps of a disk that it may start again: its size, and what it was made of. Its faults and stops together didn't fall, and
+-- they rose if the run ended in the disk's fault.
 pub record RunsDisk {D : Type 0} (g : Ghosts D) (old new : D) (failed : Type 0) : Type 0 where
   pub extent : g.extent new ≡ g.extent old
+  pub origin : g.origin new ≡ g.origin old
   pub kept : g.faults old + g.stops old ≤ g.faults new + g.stops new
   pub cause : failed → DiskRose (g.faults old) (g.stops old) (g.faults new) (g.stops new)
 
@@ -54,3 +59,8 @@ IsOpenedEnd s = ⊥
 abbrev pub FailsByScript : List ℕ → Status → Type 0
 FailsByScript bytes (status.Script line) = script bytes ≡ Err (Fault line)
 FailsByScript bytes s = Unit {0}
+
+-- the disk that a call gives back either way
+abbrev pub either_disk : {D : Type 0} → Result D D → D
+either_disk (Ok disk) = disk
+either_disk (Err disk) = disk

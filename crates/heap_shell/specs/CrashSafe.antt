@@ -10,22 +10,27 @@ use Rattle.heap_model.specs.CoreReplies.{call_replies_of}
 use Rattle.heap_shell.specs.declared.command.Play.{Play}
 use Rattle.heap_shell.specs.declared.status.Status.{Status}
 use Rattle.heap_shell.specs.declared.status.Status.TheVariants as status
-use Rattle.heap_shell.specs.Headline.{made_super, made_core, end_text, Unharmed, IsNotMade}
+use Rattle.heap_shell.specs.Headline.{made_super, made_core, end_text, stop_after, IsNotMade}
 use Rattle.heap_shell.specs.Play.{lines_text}
 use Rattle.heap_shell.specs.Steps.{Step, AreSteps}
 use Rattle.heap_model.specs.CoreCrash.{HasAtLeast}
 
 module _ {D : Type 0} (g : Ghosts D) where
+  -- A step, from whose answer on until the run returned k is no less than what had been acknowledged by then.
+  pub record LastingStep (stop : Option ℕ) (last : Core) (start final : D) (c : Core) (before : D) (event : Event) (d : Core) (after : D) : Type 0 where
+    pub made : Step g stop start final c before event d after
+    pub lasts : LeavesOnly g.moment g.left_since after final (HasAtLeast last (acknowledged d.history))
+
   -- A heap was opened as the core c on a disk, and these events were made.
   pub record IsCrashSafe (stop : Option ℕ) (c : Core) (start final : D) (result : Status) (told : Bool) (before after : List ℕ) : Type 0 where
     pub made : List Event
     pub core : Core
-    pub opened : D
     -- At each moment an image is that of the first k commits.
     pub each : LeavesOnly g.moment g.left_since start final (HasAtLeast core (acknowledged c.history))
-    -- Whichever of the events had been made: from the moment on at which the last of them was answered k is no less than what had been acknowledged by then.
-    pub lasting : (front rest : List Event) → made ≡ front ++ rest
-        → (mid : Core) × (then : D) × AreSteps (Step g (Unharmed g start final)) c opened front mid then × LeavesOnly g.moment g.left_since then final (HasAtLeast core (acknowledged mid.history))
+    -- The events were made one after another, and what each of them acknowledged lasts.
+    pub opened : D
+    pub stopped : D
+    pub steps : AreSteps (LastingStep stop core start final) c opened made core stopped
     -- Each commit had the replies that the commits have one after another.
     pub replies : call_replies_of core.history ≡ serial_replies core.g0 (commits core.history)
     -- What is printed of a run that is done is the graph of the first k commits, for the k that is printed.
@@ -34,4 +39,4 @@ module _ {D : Type 0} (g : Ghosts D) where
   -- Either no heap was made, or it is crash safe from then on.
   abbrev pub RunsSafely : Play → D → D → Status → Bool → List ℕ → List ℕ → Type 0
   RunsSafely play old new result told before after =
-      IsNotMade g (made_super play.pages) old new result told before after ⊎ ((made : D) × IsCrashSafe play.stop (made_core play.pages) made new result told before after)
+      IsNotMade g (made_super play.pages) old new result told before after ⊎ ((made : D) × IsCrashSafe (stop_after play.stop) (made_core play.pages) made new result told before after)

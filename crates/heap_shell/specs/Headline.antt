@@ -30,8 +30,9 @@ use Rattle.heap_model.specs.Image.{IsLegal}
 use Rattle.heap_model.specs.Opening.{opened, opening_calls}
 use Rattle.script_text.specs.declared.line.Line.{Line}
 use Rattle.script_text.specs.Line.{events}
-use Rattle.heap_shell.specs.Causes.{DiskRose}
+use Rattle.heap_shell.specs.Causes.{DiskRose, Unharmed}
 use Rattle.heap_shell.specs.declared.command.Play.{Play}
+use Rattle.heap_shell.specs.declared.command.Stop.{Stop}
 use Rattle.heap_shell.specs.declared.status.Status.{Status}
 use Rattle.heap_shell.specs.declared.status.Status.TheVariants as status
 use Rattle.heap_shell.specs.Play.{lines_text, WroteFront, WroteLines, IsWhole, IsCutBy}
@@ -69,6 +70,11 @@ pub record Writes (result : Status) (history : List Entry) (text before after : 
   pub lines : WroteLines before history after
   pub fault : result ≡ status.DiskFault → (rest : List ℕ) × (after ≡ (before ++ lines_text history) ++ rest)
   pub whole : result ≡ status.Done → after ≡ before ++ (lines_text history ++ text)
+
+-- behind how many calls the disk stops first
+abbrev pub stop_after : Option Stop → Option ℕ
+stop_after None = None
+stop_after (Some stop) = Some stop.after
 
 -- how many of these calls a disk lets through that stops after some, or never
 abbrev pub let_through : Option ℕ → ℕ → ℕ
@@ -133,56 +139,100 @@ pub record MakesEvents (stop : Option ℕ) (c : Core) (events : List Event) (res
   pub exact : unharmed → IsExact stop c made core
 
 module _ {D : Type 0} (g : Ghosts D) where
-  -- no call of the disk failed or found it stopped
-  abbrev pub Unharmed : D → D → Type 0
-  Unharmed old new = ¬ DiskRose (g.faults old) (g.stops old) (g.faults new) (g.stops new)
-
   -- At each moment a crash left first commits: while the heap was opened as the core c, in each step, and from then on until the
-  -- end, also while it was opened again. Always they held all that had been acknowledged.
-  pub record KeepsThroughout (unharmed : Type 0) (c : Core) (made : List Event) (d : Core) (start final : D) : Type 0 where
+  -- end, also while it was opened again. Always they held all that had been acknowledged. The opening of a new heap makes no write and no sync.
+  pub record KeepsThroughout (stop : Option ℕ) (c : Core) (made : List Event) (d : Core) (start final : D) : Type 0 where
     pub opened : D
     pub opening : LeavesOnly g.moment g.left_since start opened (KeepsCommits c)
     pub here : (image : List ℕ) → g.may_leave opened image → KeepsCommits c image
+    pub passed : g.passed opened ≡ g.passed start
+    pub restarts : g.restarts opened ≡ g.restarts start
     pub stopped : D
-    pub steps : AreSteps (Step g unharmed) c opened made d stopped
+    pub steps : AreSteps (Step g stop start final) c opened made d stopped
     pub rest : LeavesOnly g.moment g.left_since stopped final (KeepsCommits d)
     pub kept : (image : List ℕ) → g.may_leave final image → KeepsCommits d image
 
-  -- A heap was opened on a disk that had just been started: it read as an image of the core's first k commits, and so does each that a
-  -- crash may leave now. The opening made four writes and syncs where that image held writes of a transaction that had not ended, and else none.
-  pub record Reopens (c : Core) (k : ℕ) (old new : D) : Type 0 where
+  -- The disk was started again, as one of the images that a crash could leave: no moment of that left another.
+  pub record Restarts (old new : D) : Type 0 where
+    pub left : g.may_leave old (g.bytes new)
+    pub only : Only (g.bytes new) (g.may_leave new)
+    pub moments : LeavesOnly g.moment g.left_since old new (g.may_leave old)
+    pub restarts : g.restarts new ≡ raised (g.restarts old)
+    pub passed : g.passed new ≡ g.passed old
+
+  -- A heap was to be opened on a disk that had just been started and read as an image of the core's first k commits: whatever came of that,
+  -- at each moment of it a crash left an image of the same k commits, and so does one now.
+  pub record KeepsFirst (c : Core) (k : ℕ) (old new : D) : Type 0 where
     pub first : StandsForFirst c k (g.bytes old)
+    pub moments : LeavesOnly g.moment g.left_since old new (StandsForFirst c k)
     pub still : (image : List ℕ) → g.may_leave new image → StandsForFirst c k image
-    pub passed : g.passed new ≡ counted (opening_calls first.stands.super first.stands.batches) (g.passed old)
+    pub restarts : g.restarts new ≡ g.restarts old
 
-  -- The disk was started again, as one of the images that a crash could leave where it was stopped, and the heap was opened on it.
-  pub record StartsAgain (c : Core) (k : ℕ) (stopped new : D) : Type 0 where
-    pub again : D
-    pub left : g.may_leave stopped (g.bytes again)
-    pub restarts : g.restarts again ≡ raised (g.restarts stopped)
-    pub passed : g.passed again ≡ g.passed stopped
-    pub opens : Reopens c k again new
+  -- the writes and syncs of the opening of an image of first commits: four where it holds writes of a transaction that has not ended, else none
+  abbrev pub calls_to_open : {c : Core} {k : ℕ} {image : List ℕ} → StandsForFirst c k image → ℕ
+  calls_to_open first = opening_calls first.stands.super first.stands.batches
 
-  -- What came behind the last event: nothing, where no stop was asked; else the disk was started again, or the run ended before and
-  -- wrote no more than lines.
-  abbrev pub IsFollowed : Option ℕ → Core → ℕ → D → D → Status → Type 0 → Type 0
+  -- The heap was opened, with all writes and syncs of an opening.
+  pub record Reopens (c : Core) (k : ℕ) (old new : D) : Type 0 where
+    pub keeps : KeepsFirst c k old new
+    pub passed : g.passed new ≡ counted (calls_to_open keeps.first) (g.passed old)
+
+  -- It was not opened, since memory was refused or the disk failed: with no more writes and syncs than those of an opening, and none without memory.
+  pub record FailsToOpen (c : Core) (k : ℕ) (result : Status) (old new : D) : Type 0 where
+    pub reason : (result ≡ status.NoMemory) ⊎ ((result ≡ status.DiskFault) × DiskRose (g.faults old) (g.stops old) (g.faults new) (g.stops new))
+    pub keeps : KeepsFirst c k old new
+    pub most : (calls : ℕ) × (calls ≤ calls_to_open keeps.first) × (g.passed new ≡ counted calls (g.passed old))
+    pub none : result ≡ status.NoMemory → g.passed new ≡ g.passed old
+
+  -- It was opened on a disk that stops behind m writes and syncs, and what came of that let go. If the disk doesn't fail, it stopped just where
+  -- an opening makes more than m: it let through the writes and syncs of an opening, or m of them if they are more.
+  pub record IsCutOff (m : ℕ) (c : Core) (k : ℕ) (old new : D) : Type 0 where
+    pub keeps : KeepsFirst c k old new
+    pub passed : Unharmed g old new → g.passed new ≡ counted (min m (calls_to_open keeps.first)) (g.passed old)
+    pub most : g.passed new ≤ counted (min m (calls_to_open keeps.first)) (g.passed old)
+
+  -- What comes between the first start of the disk and the last opening: nothing, or an opening that is cut off, and a second start.
+  abbrev pub IsCutBefore : Option ℕ → Core → ℕ → D → D → Type 0
+  IsCutBefore None c k first last = last ≡ first
+  IsCutBefore (Some m) c k first last = (cut : D) × IsCutOff m c k first cut × Restarts cut last
+
+  -- The disk was started again, and what came of the last opening behind that.
+  pub record StartsAgain (again : Option ℕ) (c : Core) (k : ℕ) (opening : D → D → Type 0) (stopped new : D) : Type 0 where
+    pub first : D
+    pub started : Restarts stopped first
+    pub last : D
+    pub cut : IsCutBefore again c k first last
+    pub outcome : opening last new
+
+  -- No heap was opened in the end: the disk was not started again, or the last opening failed, or the one that was to be cut off had no memory.
+  abbrev pub EndsUnopened : Option ℕ → Core → ℕ → D → D → Status → Type 0
+  EndsUnopened None c k stopped new result = (new ≡ stopped) ⊎ StartsAgain None c k (FailsToOpen c k result) stopped new
+  EndsUnopened (Some m) c k stopped new result =
+      (new ≡ stopped) ⊎ StartsAgain (Some m) c k (FailsToOpen c k result) stopped new ⊎ ((result ≡ status.NoMemory) × StartsAgain None c k (FailsToOpen c k result) stopped new)
+
+  -- What came behind the last event: nothing, where no stop was asked. Else the disk was started again and the heap opened on it; or no heap
+  -- was opened, and no more than lines were written.
+  abbrev pub IsFollowed : Option Stop → Core → ℕ → D → D → Status → Type 0 → Type 0
   IsFollowed None c k stopped new result only_lines = new ≡ stopped
-  IsFollowed (Some n) c k stopped new result only_lines = StartsAgain c k stopped new ⊎ ((result ≢ status.Done) × only_lines)
+  IsFollowed (Some stop) c k stopped new result only_lines =
+      StartsAgain stop.again c k (Reopens c k) stopped new ⊎ (EndsUnopened stop.again c k stopped new result × (result ≢ status.Done) × only_lines)
 
   -- The lines of a core's history were printed, how many commits came back where a stop was asked, and their graph.
-  pub record Prints (stop : Option ℕ) (c : Core) (stopped final : D) (result : Status) (told : Bool) (before after : List ℕ) : Type 0 where
+  pub record Prints (stop : Option Stop) (c : Core) (stopped final : D) (result : Status) (told : Bool) (before after : List ℕ) : Type 0 where
     pub count : ℕ
     pub least : acknowledged c.history ≤ count
     pub most : count ≤ length (commits c.history)
     pub all : stop ≡ None → count ≡ length (sealed c.history)
     pub behind : IsFollowed stop c count stopped final result (IsTrue told → WroteFront before (lines_text c.history) after)
-    pub written : IsTrue told → Writes result c.history (end_text stop count (serial c.g0 (take count (commits c.history)))) before after
+    pub written : IsTrue told → Writes result c.history (end_text (stop_after stop) count (serial c.g0 (take count (commits c.history)))) before after
 
   -- Events were played on a disk whose heap was opened as the core c.
-  pub record IsPlayed (stop : Option ℕ) (c : Core) (events : List Event) (start final : D) (result : Status) (told : Bool) (before after : List ℕ) : Type 0 where
-    pub run : MakesEvents stop c events result (Unharmed start final)
-    pub disk : KeepsThroughout (Unharmed start final) c run.made run.core start final
-    pub calls : Unharmed start final → result ≡ status.Done → g.passed disk.stopped ≡ counted (let_through stop (total_calls c run.made)) (g.passed start)
+  pub record IsPlayed (stop : Option Stop) (c : Core) (events : List Event) (start final : D) (result : Status) (told : Bool) (before after : List ℕ) : Type 0 where
+    pub run : MakesEvents (stop_after stop) c events result (Unharmed g start final)
+    pub disk : KeepsThroughout (stop_after stop) c run.made run.core start final
+    -- the disk behind the last event has counted the writes and syncs of these events, or no more than those
+    pub calls : Unharmed g start final → g.passed disk.stopped ≡ counted (let_through (stop_after stop) (total_calls c run.made)) (g.passed start)
+    pub most : g.passed disk.stopped ≤ counted (let_through (stop_after stop) (total_calls c run.made)) (g.passed start)
     pub replies : call_replies_of run.core.history ≡ serial_replies run.core.g0 (commits run.core.history)
     pub prints : Prints stop run.core disk.stopped final result told before after
     pub end : IsEndOfPlay result
@@ -193,6 +243,7 @@ module _ {D : Type 0} (g : Ghosts D) where
     pub empty : IsLegal s [] (g.bytes made)
     pub only : Only (g.bytes made) (g.may_leave made)
     pub passed : g.passed made ≡ counted (format_calls (image_size s.pages s.log_bytes) (g.bytes old)) (g.passed old)
+    pub restarts : g.restarts made ≡ g.restarts old
 
   -- The disk failed or stopped in one of the writes and syncs that make the heap.
   pub record FailsFormat (s : Super) (old new : D) : Type 0 where
@@ -214,6 +265,7 @@ module _ {D : Type 0} (g : Ghosts D) where
     pub reason : IsUnmade s old new result
     pub nothing : IsTrue told → after ≡ before
     pub moments : LeavesOnly g.moment g.left_since old new (IsFormatting s (g.bytes old))
+    pub restarts : g.restarts new ≡ g.restarts old
 
   -- A heap was made, and a script was played on it, with the events that end a run.
   pub record PlaysOnNew (play : Play) (is_script : List Line → Type 0) (old new : D) (result : Status) (told : Bool) (before after : List ℕ) : Type 0 where
@@ -221,7 +273,7 @@ module _ {D : Type 0} (g : Ghosts D) where
     pub script : is_script lines
     pub made : D
     pub format : IsFormatted (made_super play.pages) old made
-    pub played : IsPlayed play.stop (made_core play.pages) (all_events play.stop (made_core play.pages) (events lines)) made new result told before after
+    pub played : IsPlayed play.stop (made_core play.pages) (all_events (stop_after play.stop) (made_core play.pages) (events lines)) made new result told before after
 
   -- Either no heap was made, or a script was played on a new one.
   abbrev pub Runs : Play → (List Line → Type 0) → D → D → Status → Bool → List ℕ → List ℕ → Type 0
@@ -256,7 +308,19 @@ EndsUnmade expected status.ReadFault = Unit {0}
 EndsUnmade expected status.NoMemory = Unit {0}
 EndsUnmade expected result = result ≡ expected
 
--- how often the disk has been started again after a run that is done, where it was to stop or not
-abbrev pub restarts_of : Option ℕ → ℕ → ℕ
-restarts_of None before = before
-restarts_of (Some n) before = raised before
+-- how often a run starts a disk again behind its stop
+abbrev pub starts_asked : Option ℕ → ℕ
+starts_asked None = 1
+starts_asked (Some m) = 2
+
+-- how often a run does so, where the disk is to stop or not
+abbrev pub restarts_asked : Option Stop → ℕ
+restarts_asked None = 0
+restarts_asked (Some stop) = starts_asked stop.again
+
+-- The disk was started again no more often than that, and so often where the run is done.
+pub record RestartsDisk (asked : ℕ) (result : Status) (before now : ℕ) : Type 0 where
+  pub times : ℕ
+  pub most : times ≤ asked
+  pub all : result ≡ status.Done → times ≡ asked
+  pub told : now ≡ counted times before

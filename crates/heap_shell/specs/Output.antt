@@ -1,7 +1,7 @@
 -- What is written of a text, and of a heap that is opened again.
-use Rattle.std.specs.Prelude.{◌≡◌, ◌≢◌, ◌⊎◌, ℕ, List, ◌++◌, take, Bool, IsTrue, Option, None, Some, Result, Ok, Err}
+use Rattle.std.specs.Prelude.{◌≡◌, ◌≢◌, ◌⊎◌, ℕ, ◌≤◌, List, ◌++◌, length, take, Bool, IsTrue, Option, None, Some, Result, Ok, Err}
 use Rattle.graph_model.specs.Graph.{Graph}
-use Rattle.graph_model.specs.History.{commits}
+use Rattle.graph_model.specs.History.{commits, acknowledged}
 use Rattle.graph_model.specs.Transaction.{serial}
 use Rattle.heap_shell.specs.declared.output.WriteError.{WriteError}
 use Rattle.heap_shell.specs.declared.play.Halt.{Halt}
@@ -9,7 +9,7 @@ use Rattle.heap_shell.specs.declared.play.Halt.TheVariants as halt
 use Rattle.heap_shell.specs.declared.status.Status.{Status}
 use Rattle.heap_shell.specs.declared.status.Status.TheVariants.{Done}
 use Rattle.heap_model.specs.Core.{Core}
-use Rattle.heap_model.specs.CoreCrash.{KeepsCommits}
+use Rattle.heap_model.specs.CoreCrash.{StandsForFirst}
 use Rattle.heap_shell.specs.Headline.{IsEndOfPlay, recovered_line, graph_text}
 use Rattle.heap_shell.specs.Play.{WroteFront}
 use Rattle.heap_shell.specs.StatusOf.{write_status, halt_status}
@@ -30,23 +30,25 @@ early_end (Ok done) = None
 early_end (Err halt.Stopped) = None
 early_end (Err other) = Some (halt_status other)
 
--- The heap was opened again as a core's first commits, and their number and their graph were written, or a first part of that.
-pub record WroteRecovered (c : Core) (opens : ℕ → Type 0) (result : Status) (told : Bool) (before after : List ℕ) : Type 0 where
-  pub count : ℕ
-  pub opened : opens count
-  pub written : IsTrue told → WroteFront before (recovered_line count ++ graph_text (serial c.g0 (take count (commits c.history)))) after
-  pub whole : IsTrue told → result ≡ Done → after ≡ before ++ (recovered_line count ++ graph_text (serial c.g0 (take count (commits c.history))))
+-- The heap was opened again as a core's first k commits, and their number and their graph were written, or a first part of that.
+pub record WroteRecovered (c : Core) (k : ℕ) (opens : Type 0) (result : Status) (told : Bool) (before after : List ℕ) : Type 0 where
+  pub opened : opens
+  pub written : IsTrue told → WroteFront before (recovered_line k ++ graph_text (serial c.g0 (take k (commits c.history)))) after
+  pub whole : IsTrue told → result ≡ Done → after ≡ before ++ (recovered_line k ++ graph_text (serial c.g0 (take k (commits c.history))))
 
--- It could not be opened, and nothing was written.
-pub record WroteNothing (result : Status) (told : Bool) (before after : List ℕ) : Type 0 where
+-- It was not opened, and nothing was written.
+pub record WroteNothing (fails : Type 0) (result : Status) (told : Bool) (before after : List ℕ) : Type 0 where
+  pub failed : fails
   pub early : result ≢ Done
   pub nothing : IsTrue told → after ≡ before
 
--- A heap was opened again on a disk that keeps a core's commits, and what came back was written. A crash still leaves them.
-pub record Recovers (c : Core) (opens : ℕ → Type 0) (may_leave : List ℕ → Type 0) (result : Status) (told : Bool) (before after : List ℕ) : Type 0 where
+-- A heap was to be opened again on a disk that keeps a core's first k commits, and what came back was written. A crash still leaves them.
+pub record Recovers (c : Core) (k : ℕ) (opens fails : Type 0) (may_leave : List ℕ → Type 0) (result : Status) (told : Bool) (before after : List ℕ) : Type 0 where
   pub end : IsEndOfPlay result
-  pub kept : (image : List ℕ) → may_leave image → KeepsCommits c image
-  pub found : WroteRecovered c opens result told before after ⊎ WroteNothing result told before after
+  pub least : acknowledged c.history ≤ k
+  pub most : k ≤ length (commits c.history)
+  pub kept : (image : List ℕ) → may_leave image → StandsForFirst c k image
+  pub found : WroteRecovered c k opens result told before after ⊎ WroteNothing fails result told before after
 
 -- How many commits came back and a graph were written, or a first part of that.
 pub record WroteGraph (k : ℕ) (g : Graph) (result : Status) (before after : List ℕ) : Type 0 where

@@ -104,6 +104,8 @@ module _ {D : Type 0} {g : Ghosts D} where
     pub cause : HasCause (g.faults old.disk) (g.faults new.disk) (g.stops old.disk) (g.stops new.disk) (reply_device reply)
     -- where it stopped, fewer calls of that event passed than it makes
     pub passes : reply ≡ Refused Stopped → (k : ℕ) × (k < calls (after_events c before) event) × (g.passed new.disk ≡ counted (total_calls c before + k) (g.passed old.disk))
+    -- and else no more
+    pub most : (k : ℕ) × (k ≤ calls (after_events c before) event) × (g.passed new.disk ≡ counted (total_calls c before + k) (g.passed old.disk))
 
   abbrev pub Makes : Core → List Event → Core → Heap D g → Heap D g → Type 0
   Makes c made d old new = MakesAll c made d old new ⊎ ((reply : Reply) × MakesShort c made d old new reply)

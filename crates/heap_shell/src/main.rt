@@ -2,6 +2,7 @@
 //! graph that is reached from the root.
 #![tactic(auto)]
 
+mod again;
 mod command;
 mod output;
 mod play;

@@ -1,10 +1,7 @@
 //! The program's one call: from the words of its command line and a script to the printed graph.
-ghost use Rattle.std.specs.Prelude.{◌≡◌, ◌≢◌, ◌⊎◌, ℕ, ◌<◌, ◌≤◌, ◌↔◌, [], List, min, None, Some, Ok, Err, map, string_bytes, IfOk, IfErr, IsNone, IsTrue, OnOk};
-ghost use Rattle.counts.specs.Count.{Rose, greatest, raised};
+ghost use Rattle.std.specs.Prelude.{◌≡◌, ◌≢◌, ◌⊎◌, ℕ, ◌<◌, ◌≤◌, ◌↔◌, [], List, None, Some, Ok, Err, map, string_bytes, IfOk, IfErr, IsNone, IsTrue, OnOk};
+ghost use Rattle.counts.specs.Count.{Rose};
 ghost use Rattle.disk_model.specs.Disk.{Only};
-ghost use Rattle.disk_model.specs.Fuse.{fuse_inner};
-ghost use Rattle.disk_model.specs.Keeps.{KeepsDisk};
-ghost use Rattle.disk_model.specs.Moments.{LeavesOnly};
 ghost use Rattle.image_plan.specs.Plan.{image_size};
 ghost use Rattle.heap_shell.specs.declared.command.Play.{Play};
 ghost use Rattle.script_text.specs.declared.line.Line.{Line};
@@ -12,21 +9,20 @@ ghost use Rattle.script_text.specs.declared.script.ScriptError.TheVariants.{Faul
 ghost use Rattle.heap_shell.specs.declared.status.Status.TheVariants.{NoMemory};
 ghost use Rattle.heap_shell.specs.Causes.{DiskRose, StreamCause, RunsDisk, IsInputError, IsOpenedEnd, FailsByScript};
 ghost use Rattle.heap_shell.specs.Command.{command};
-ghost use Rattle.heap_model.specs.Core.{Core};
-ghost use Rattle.heap_model.specs.CoreCrash.{KeepsCommits};
 ghost use Rattle.heap_shell.specs.CrashSafe.{RunsSafely};
-ghost use Rattle.heap_shell.specs.Headline.{made_super, made_core, OfTold, IsPlayed, Reopens, StartsAgain, PrintsRun, PrintsSome, Runs, IsSound, IsUntouching, EndsUnread, EndsUnmade, restarts_of};
+ghost use Rattle.heap_shell.specs.Headline.{made_super, made_core, OfTold, IsPlayed, PrintsRun, PrintsSome, Runs, IsSound, IsUntouching, EndsUnread, EndsUnmade, RestartsDisk, restarts_asked, starts_asked, stop_after};
 ghost use Rattle.heap_shell.specs.Playable.{IsScript};
 ghost use Rattle.heap_model.specs.Ending.{all_events};
 ghost use Rattle.heap_model.specs.Image.{IsLegal};
-ghost use Rattle.heap_shell.specs.Output.{Recovers, WroteAgain, early_end, status_after};
+ghost use Rattle.heap_shell.specs.Output.{early_end};
 ghost use Rattle.script_text.specs.Line.{events};
 ghost use Rattle.script_text.specs.Script.{script};
 
-use crate::command::read_words;
-use crate::output::{WriteError, write_graph, write_recovered};
+use crate::again::start_again;
+use crate::command::{Stop, read_words};
+use crate::output::write_graph;
 use crate::play::{Halt, play_all, play_lines};
-use crate::status::Status;
+use crate::status::{Status, status_after};
 use disk_model::{Disk, FuseDisk};
 use heap_core::{Heap, OpenError};
 use heap_io::{Sink, Source, take_all};
@@ -77,7 +73,7 @@ pub fn run<D: Disk, S: Source, K: Sink>(
 
     // On any disk, what was written are lines of one history, a number of commits and a graph.
     ensures prints { IsTrue K.tells → (play : Play) → command (map string_bytes words.now) ≡ Some play
-        → ((result.0 ≢ Status.Done) × (K.written sink.new ≡ K.written sink.old)) ⊎ ((lines : List Line) × (IsTrue S.tells → script (S.left source.old) ≡ Ok lines) × PrintsRun play.stop lines result.0 (K.written sink.old) (K.written sink.new)) }
+        → ((result.0 ≢ Status.Done) × (K.written sink.new ≡ K.written sink.old)) ⊎ ((lines : List Line) × (IsTrue S.tells → script (S.left source.old) ≡ Ok lines) × PrintsRun (stop_after play.stop) lines result.0 (K.written sink.old) (K.written sink.new)) }
 
     // The heap that it made is never damaged, and without a fault it is done.
     ensures sound { OfTold D.tells (D.bytes disk) (D.may_leave disk) (IsSound result.0) }
@@ -85,7 +81,8 @@ pub fn run<D: Disk, S: Source, K: Sink>(
         → IsTrue S.tells → (lines : List Line) → script (S.left source.old) ≡ Ok lines
         → ¬ Rose (S.faults source.old) (S.faults source.new) → ¬ Rose (K.faults sink.old) (K.faults sink.new) → ¬ DiskRose (D.faults disk) (D.stops disk) (D.faults result.1) (D.stops result.1)
         → (result.0 ≡ Status.Done) ⊎ (result.0 ≡ NoMemory)) }
-    ensures restarts { IsTrue D.tells → result.0 ≡ Status.Done → (play : Play) → command (map string_bytes words.now) ≡ Some play → D.restarts result.1 ≡ restarts_of play.stop (D.restarts disk) }
+    // How often the disk was started again, however it ends.
+    ensures restarts { IsTrue D.tells → (play : Play) → command (map string_bytes words.now) ≡ Some play → RestartsDisk (restarts_asked play.stop) result.0 (D.restarts disk) (D.restarts result.1) }
 {
     let Some(play) = read_words(words) else {
         return (Status::Usage, disk);
@@ -100,7 +97,7 @@ pub fn run<D: Disk, S: Source, K: Sink>(
     };
     match play.stop {
         None => play_whole(alloc, disk, &script, sink),
-        Some(calls) => play_stopped(alloc, disk, calls, &script, sink),
+        Some(stop) => play_stopped(alloc, disk, stop, &script, sink),
     }
 }
 
@@ -146,11 +143,11 @@ fn play_whole<D: Disk, K: Sink>(
     }
 }
 
-/// Plays a script on a disk that stops after that many writes and syncs, and opens the heap again.
+/// Plays a script on a disk that stops, and opens the heap again.
 fn play_stopped<D: Disk, K: Sink>(
     alloc: Global,
     disk: D,
-    calls: u64,
+    stop: Stop,
     script: &[Line],
     sink: &mut K,
 ) -> (Status, D)
@@ -159,17 +156,17 @@ fn play_stopped<D: Disk, K: Sink>(
     ensures end { IsOpenedEnd result.0 }
     ensures disk { RunsDisk D.Disk disk result.1 (result.0 ≡ Status.DiskFault) }
     ensures sink { StreamCause (K.faults sink.old) (K.faults sink.new) (result.0 ≡ Status.WriteFault) }
-    ensures restarts { IsTrue D.tells → result.0 ≡ Status.Done → D.restarts result.1 ≡ raised (D.restarts disk) }
-    ensures prints { IsTrue K.tells → PrintsSome (Some calls) script.now result.0 (K.written sink.old) (K.written sink.new) }
+    ensures restarts { IsTrue D.tells → RestartsDisk (starts_asked stop.again) result.0 (D.restarts disk) (D.restarts result.1) }
+    ensures prints { IsTrue K.tells → PrintsSome (Some stop.after) script.now result.0 (K.written sink.old) (K.written sink.new) }
     ensures played { IsTrue D.tells → (pages : ℕ) → IsLegal (made_super pages) [] (D.bytes disk) → Only (D.bytes disk) (D.may_leave disk)
-        → IsPlayed D.Disk (Some calls) (made_core pages) (events script.now) disk result.1 result.0 K.tells (K.written sink.old) (K.written sink.new) }
+        → IsPlayed D.Disk (Some stop) (made_core pages) (events script.now) disk result.1 result.0 K.tells (K.written sink.old) (K.written sink.new) }
 {
-    let mut heap = match Heap::open(alloc, FuseDisk::new(disk, calls)) {
+    let mut heap = match Heap::open(alloc, FuseDisk::new(disk, stop.after)) {
         Ok(heap) => heap,
         Err((e, fuse)) => {
             // The opening of a new heap writes nothing, so only a disk that didn't keep what was written can stop here.
             if e == OpenError::Stopped {
-                return start_again(alloc, fuse, 0, sink);
+                return start_again(alloc, fuse, stop.again, 0, sink);
             }
             return (Status::from(e), fuse.into_inner());
         }
@@ -177,7 +174,7 @@ fn play_stopped<D: Disk, K: Sink>(
     let before = heap.commits();
     let played = play_lines(alloc, &mut heap, script, sink);
     match early_end(played) {
-        None => start_again(alloc, heap.close(), before, sink),
+        None => start_again(alloc, heap.close(), stop.again, before, sink),
         Some(status) => (status, heap.close().into_inner()),
     }
 }
@@ -190,59 +187,4 @@ fn early_end(played: Result<(), Halt>) -> Option<Status>
         Ok(()) | Err(Halt::Stopped) => None,
         Err(halt) => Some(Status::from(halt)),
     }
-}
-
-/// Starts the disk behind the fuse again, and prints what came back.
-fn start_again<D: Disk, K: Sink>(
-    alloc: Global,
-    fuse: FuseDisk<D>,
-    before: u64,
-    sink: &mut K,
-) -> (Status, D)
-    ensures end { IsOpenedEnd result.0 }
-    ensures disk { RunsDisk D.Disk (fuse_inner fuse) result.1 (result.0 ≡ Status.DiskFault) }
-    ensures sink { StreamCause (K.faults sink.old) (K.faults sink.new) (result.0 ≡ Status.WriteFault) }
-    ensures restarts { IsTrue D.tells → D.restarts result.1 ≡ raised (D.restarts (fuse_inner fuse)) }
-    ensures again { IsTrue K.tells → WroteAgain result.0 (K.written sink.old) (K.written sink.new) }
-    ensures moments { IsTrue D.tells → (c : Core) → ((image : List ℕ) → D.may_leave (fuse_inner fuse) image → KeepsCommits c image) → LeavesOnly D.moment D.left_since (fuse_inner fuse) result.1 (KeepsCommits c) }
-    ensures recovers { IsTrue D.tells → (c : Core) → ((image : List ℕ) → D.may_leave (fuse_inner fuse) image → KeepsCommits c image) → before ≡ min c.before greatest
-        → Recovers c (λ k. StartsAgain D.Disk c k (fuse_inner fuse) result.1) (D.may_leave result.1) result.0 K.tells (K.written sink.old) (K.written sink.new) }
-{
-    let mut disk = fuse.into_inner();
-    disk.restart();
-    print_recovered(alloc, disk, before, sink)
-}
-
-/// How a run ends that has written its output, or could not.
-fn status_after(written: Result<(), WriteError>) -> Status
-    ensures { result ≡ status_after written }
-{
-    match written {
-        Ok(()) => Status::Done,
-        Err(e) => Status::from(e),
-    }
-}
-
-/// Opens the heap again after a restart, and writes how many commits came back, and the graph.
-fn print_recovered<D: Disk, K: Sink>(
-    alloc: Global,
-    disk: D,
-    before: u64,
-    sink: &mut K,
-) -> (Status, D)
-    ensures end { IsOpenedEnd result.0 }
-    ensures disk { RunsDisk D.Disk disk result.1 (result.0 ≡ Status.DiskFault) }
-    ensures sink { StreamCause (K.faults sink.old) (K.faults sink.new) (result.0 ≡ Status.WriteFault) }
-    ensures restarts { IsTrue D.tells → D.restarts result.1 ≡ D.restarts disk }
-    ensures again { IsTrue K.tells → WroteAgain result.0 (K.written sink.old) (K.written sink.new) }
-    ensures moments { IsTrue D.tells → (c : Core) → KeepsCommits c (D.bytes disk) → Only (D.bytes disk) (D.may_leave disk) → LeavesOnly D.moment D.left_since disk result.1 (KeepsCommits c) }
-    ensures recovers { IsTrue D.tells → (c : Core) → KeepsCommits c (D.bytes disk) → Only (D.bytes disk) (D.may_leave disk) → before ≡ min c.before greatest
-        → Recovers c (λ k. Reopens D.Disk c k disk result.1) (D.may_leave result.1) result.0 K.tells (K.written sink.old) (K.written sink.new) }
-{
-    let heap = match Heap::open(alloc, disk) {
-        Ok(heap) => heap,
-        Err((e, disk)) => return (Status::from(e), disk),
-    };
-    let status = status_after(write_recovered(alloc, &heap, before, sink));
-    (status, heap.close())
 }

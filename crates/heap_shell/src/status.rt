@@ -1,6 +1,7 @@
 //! How a run ends.
 ghost use Rattle.std.specs.Prelude.{◌≡◌, Some};
 ghost use Rattle.heap_shell.specs.Status.{status_text, status_code};
+ghost use Rattle.heap_shell.specs.Output.{status_after};
 ghost use Rattle.heap_shell.specs.StatusOf.{script_status, input_status, format_status, open_status, write_status, halt_status};
 
 use crate::output::WriteError;
@@ -144,5 +145,15 @@ impl From<Halt> for Status {
             Halt::WriteFault => Status::WriteFault,
             Halt::DiskFault | Halt::Stopped => Status::DiskFault,
         }
+    }
+}
+
+/// How a run ends that has written its output, or could not.
+pub fn status_after(written: Result<(), WriteError>) -> Status
+    ensures { result ≡ status_after written }
+{
+    match written {
+        Ok(()) => Status::Done,
+        Err(e) => Status::from(e),
     }
 }

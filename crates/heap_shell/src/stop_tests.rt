@@ -130,19 +130,15 @@ fn are_first(lines: &str, told: &str) -> bool {
     }
 }
 
-fn play_to(
-    alloc: Global,
-    script: &str,
-    pick: Pick,
-    stop: Option<usize>,
-) -> Result<Played, AllocError> {
-    let line = match stop {
-        None => String::from_str(alloc, "heap play --fresh 1")?,
-        Some(calls) => format!(in alloc; "heap play --fresh 1 --stop {calls}")?,
-    };
+fn play_by(alloc: Global, line: &str, script: &str, pick: Pick) -> Result<Played, AllocError> {
     let disk = make_disk(alloc, HEAP_BYTES, pick)?;
     let none = (Vec::new(alloc), Vec::new(alloc));
-    Ok(play_on(alloc, line.as_str(), script.as_bytes(), disk, none)?.0)
+    Ok(play_on(alloc, line, script.as_bytes(), disk, none)?.0)
+}
+
+fn play_to(alloc: Global, script: &str, pick: Pick, calls: usize) -> Result<Played, AllocError> {
+    let line = format!(in alloc; "heap play --fresh 1 --stop {calls}")?;
+    play_by(alloc, line.as_str(), script, pick)
 }
 
 /// Plays the script with a stop after so many calls, and says whether it came and how many commits came back.
@@ -153,7 +149,17 @@ fn check_stop(
     pick: Pick,
     calls: usize,
 ) -> Result<(bool, usize), Fail> {
-    let played = play_to(alloc, told.script, pick, Some(calls))?;
+    let played = play_to(alloc, told.script, pick, calls)?;
+    check_played(rt, told, &played, pick, calls)
+}
+
+fn check_played(
+    rt: &impl Abort,
+    told: &Told,
+    played: &Played,
+    pick: Pick,
+    calls: usize,
+) -> Result<(bool, usize), Fail> {
     assert_eq!(rt; played.status, Status::Done);
     let found = read_restarted(&played.output).expect(rt, "no number of commits");
     let stopped = found.lines.ends_with("force -> stopped\n");
@@ -205,7 +211,7 @@ fn check_stops(
 
 /// Plays the script without a stop, which ends with these lines of its own.
 fn expect_whole(rt: &impl Abort, alloc: Global, told: &Told, ending: &str) -> Result<(), Fail> {
-    let played = play_to(alloc, told.script, Pick::Newest, None)?;
+    let played = play_by(alloc, "heap play --fresh 1", told.script, Pick::Newest)?;
     let mut output = told.lines.clone()?.into_bytes();
     output.extend_from_slice(ending.as_bytes())?;
     output.extend_from_slice(&told.heap.text(told.heap.sealed())?)?;
@@ -303,4 +309,58 @@ fn an_open_transaction_is_taken_back_from_written_bytes(rt: HostRuntime) -> Resu
 #[test]
 fn an_open_transaction_is_taken_back_from_filled_bytes(rt: HostRuntime) -> Result<(), Fail> {
     check_script(&rt, rt.alloc(), FORCED_AT_END, TAKEN_BACK, FILLED)
+}
+
+/// A stop inside of the recovery, at each of its calls and behind them, changes nothing of what is printed.
+fn check_again(
+    rt: &impl Abort,
+    alloc: Global,
+    script: &'static str,
+    stops: &[usize],
+    pick: Pick,
+) -> Result<(), Fail> {
+    let told = Told::of(rt, alloc, script)?;
+    for calls in stops {
+        let once = play_to(alloc, script, pick, *calls)?;
+        check_played(rt, &told, &once, pick, *calls)?;
+        for again in 0..=FORCE_CALLS {
+            let line = format!(in alloc; "heap play --fresh 1 --stop {calls} --again {again}")?;
+            let twice = play_by(alloc, line.as_str(), script, pick)?;
+            assert_eq!(rt; twice.status, Status::Done);
+            assert_eq!(rt;
+                twice.output.as_slice(),
+                once.output.as_slice(),
+                "{pick:?}, {calls}, {again}"
+            );
+        }
+    }
+    Ok(())
+}
+
+/// A transaction that is forced while it is active, and no more.
+const FORCED_ALONE: &str = "1 begin\n1 root 0\n1 put 0 0 7\nforce\n";
+
+#[test]
+fn a_recovery_that_is_stopped_takes_back_what_was_forced(rt: HostRuntime) -> Result<(), Fail> {
+    for pick in [Pick::Synced, Pick::Newest, Pick::AllOnes, Pick::AllOpen] {
+        check_again(&rt, rt.alloc(), FORCED_ALONE, &[8], pick)?;
+    }
+    Ok(())
+}
+
+#[test]
+fn a_stop_in_recovery_changes_nothing_behind_a_commit(rt: HostRuntime) -> Result<(), Fail> {
+    check_again(&rt, rt.alloc(), FORCED_AT_END, &[7, 8], Pick::Synced)?;
+    check_again(&rt, rt.alloc(), FORCED_AT_END, &[7, 8], Pick::Newest)
+}
+
+#[test]
+fn a_stop_in_recovery_changes_nothing_before_a_commit(rt: HostRuntime) -> Result<(), Fail> {
+    check_again(
+        &rt,
+        rt.alloc(),
+        FORCED_INSIDE,
+        &[3, 4, 7, 12],
+        Pick::AllOpen,
+    )
 }

@@ -147,6 +147,49 @@ fn a_forced_write_is_taken_back_by_an_opening(rt: HostRuntime) -> Result<(), Fai
         let played = play(alloc, "heap play --fresh 1 --stop 8", FORCED_INSIDE, *pick)?;
         expect_done(&rt, &played, output.as_str());
     }
+    // The first stop never comes, and nothing is ended.
+    let played = play(
+        alloc,
+        "heap play --fresh 1 --again 2",
+        FORCED_INSIDE,
+        Pick::AllOpen,
+    )?;
+    expect_done(&rt, &played, output.as_str());
+    Ok(())
+}
+
+/// The writes and syncs of a format and of a force.
+const CALLS_BEFORE_OPENING: u64 = 25;
+
+#[test]
+fn a_fault_is_let_go_in_an_opening_that_is_to_stop(rt: HostRuntime) -> Result<(), Fail> {
+    let alloc = rt.alloc();
+    let mut output = String::from_str(alloc, FORCED_INSIDE_LINES)?;
+    output.push_str("recovered 0\ngraph 1\n0: - - - -\n")?;
+    for (line, status) in [
+        ("heap play --fresh 1 --stop 8 --again 4", Status::Done),
+        ("heap play --fresh 1 --stop 8", Status::DiskFault),
+    ] {
+        let zeros = vec![in alloc; 0u8; DISK_BYTES]?;
+        let fails = vec![in alloc; CALLS_BEFORE_OPENING + 1]?;
+        let disk = MemoryDisk::of(
+            alloc,
+            zeros,
+            Pick::Newest,
+            RECORD_BYTES,
+            fails,
+            Vec::new(alloc),
+        )?;
+        let none = (Vec::new(alloc), Vec::new(alloc));
+        let (played, _) = play_on(alloc, line, FORCED_INSIDE.as_bytes(), disk, none)?;
+        assert_eq!(rt; played.status, status);
+        let text = if status == Status::Done {
+            output.as_str()
+        } else {
+            FORCED_INSIDE_LINES
+        };
+        assert_eq!(rt; played.output.as_slice(), text.as_bytes());
+    }
     Ok(())
 }
 
@@ -279,6 +322,11 @@ fn other_words_are_no_command(rt: HostRuntime) -> Result<(), Fail> {
         "heap play --fresh 1 --stop",
         "heap play --fresh 1 --stop x",
         "heap play --fresh 1 --stop 18446744073709551616",
+        "heap play --fresh 1 --again",
+        "heap play --fresh 1 --again 18446744073709551616",
+        "heap play --fresh 1 --again 1 --stop 1",
+        "heap play --fresh 1 --stop 1 --stop 1",
+        "heap play --again 1 --fresh 1",
         "heap play --fresh 000000000000000000001",
         "heap play --help",
         "heap graph",
