@@ -1,0 +1,5 @@
+pub mod Moved
+pub mod Orders
+pub mod Released
+pub mod Sets
+pub mod Tables

@@ -1,0 +1,9 @@
+use Rattle.std.proofs.Common.{◌≡◌, map}
+use Rattle.std.specs.FinSet as set
+use Rattle.std.specs.Map.Iter.{deref}
+use Rattle.object_locks.specs.Holdings.{moved_with}
+use Rattle.object_locks.proofs.lock_table.LockTable.rekey.Given as goal
+
+-- what was met has moved
+abbrev pub invariant-loop-holding : goal.invariant-loop-holding
+invariant-loop-holding l = l.table ≡ set.from_list (map (moved_with l.fn.moves) (map deref l.yielded))

@@ -1,0 +1,4 @@
+pub mod Conflict
+pub mod Holdings
+pub mod Refused
+pub mod Table

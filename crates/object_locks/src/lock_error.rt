@@ -1,0 +1,22 @@
+//! Why a lock was not taken.
+use std::alloc::AllocError;
+
+/// Why a lock was not taken. The table is as it was.
+#[derive(Clone, Copy, Debug, PartialEq, Eq)]
+pub enum LockError {
+    /// Another transaction uses the object in a way that conflicts; if several do, this is the least of their numbers.
+    Busy { holder: u32 },
+    /// Memory was refused.
+    NoMemory,
+}
+
+impl From<AllocError> for LockError {
+    ghost use Rattle.std.specs.Prelude.{◌≡◌};
+    ghost use Rattle.object_locks.specs.declared.lock_error.LockError.TheVariants.{NoMemory};
+
+    ghost from_gives = { λ _ e. e ≡ NoMemory };
+
+    fn from(_refused: AllocError) -> LockError {
+        LockError::NoMemory
+    }
+}

@@ -1,0 +1,235 @@
+//! The table of the locks that are held.
+//!
+//! A lock, or a test for one, takes the logarithm of what is held, times what is held of that object. `release` takes that logarithm
+//! times what the transaction holds, and `rekey` the time to make the table anew.
+ghost use Rattle.std.specs.Prelude.{◌≡◌, OnOk, OnErr, IfOk, IfErr, MatchOption, unwrap_or, find};
+ghost use Rattle.std.specs.BTreeMap as tree;
+ghost use Rattle.std.specs.BTreeSet.{IsOrdered};
+ghost use Rattle.std.specs.FinSet as set;
+ghost use Rattle.object_locks.specs.Holdings.{holding_cmp, reading, writing, IsFree, IsLeastInConflict, without, moved, rekeyed};
+ghost use Rattle.object_locks.specs.Table.{owned, on_object, IsOf, HasNone, key_cmp, AddsMove};
+ghost use Rattle.object_locks.specs.Conflict.{conflicts};
+ghost use Rattle.object_locks.specs.Refused.{IsCause};
+
+use crate::holding::{Holding, Key, Mode};
+use crate::lock_error::LockError;
+use std::alloc::{AllocError, Global};
+use std::collections::{BTreeMap, BTreeSet};
+use std::marker::Model;
+
+/// A holding, by its transaction.
+#[derive(Clone, Copy, Debug, PartialEq, Eq, PartialOrd, Ord)]
+struct Owned {
+    transaction: u32,
+    key: Key,
+    mode: Mode,
+}
+
+/// The locks that are held. Clauses see the set of the holdings.
+#[derive(Debug, Drop)]
+pub struct LockTable {
+    alloc: Global,
+    by_object: BTreeSet<Holding>,
+    /// The same holdings, so that those of one transaction stand together.
+    by_transaction: BTreeSet<Owned>,
+}
+
+impl Model for LockTable {
+    ghost use Rattle.object_locks.specs.Holdings.{Holdings};
+    ghost use Rattle.object_locks.specs.Table.{holdings_code, IsTable};
+    ghost use Rattle.std.specs.FinSet as set;
+
+    ghost Value = { Holdings };
+
+    ghost coded = { holdings_code };
+
+    ghost view = { λ table. set.from_list table.by_object.keys };
+
+    ghost invariant = { λ table. IsTable table.by_object table.by_transaction };
+}
+
+impl LockTable {
+    /// No locks. It takes no memory.
+    pub fn new(alloc: Global) -> LockTable
+        ensures { result ≡ set.empty }
+    {
+        LockTable {
+            alloc,
+            by_object: BTreeSet::new(alloc),
+            by_transaction: BTreeSet::new(alloc),
+        }
+    }
+
+    /// The transaction that stands in the way of `asked`, if one does: of those that hold what conflicts, the one with the least number. A
+    /// lock that is asked for and not stood in the way of is refused only for want of memory.
+    pub fn conflict(&self, asked: Holding) -> Option<u32>
+        ensures { MatchOption result (IsFree self.now asked) (IsLeastInConflict self.now asked) }
+    {
+        let held = find_conflict(&self.by_object, asked)?;
+        Some(held.transaction)
+    }
+
+    /// Transaction `t` locks an object to read it. An error changes nothing.
+    pub fn read_lock(&mut self, key: Key, t: u32) -> Result<(), LockError>
+        ensures granted { OnOk result (self.new ≡ set.insert self.old (reading t key)) }
+        ensures free { OnOk result (IsFree self.old (reading t key)) }
+        ensures busy { IfErr result (IsCause self.old (reading t key)) }
+        ensures err { OnErr result (self.new ≡ self.old) }
+    {
+        self.lock(Holding {
+            key,
+            transaction: t,
+            mode: Mode::Shared,
+        })
+    }
+
+    /// Transaction `t` locks an object to write it. Its own lock to read it is not in the way, those of others are. An error changes nothing.
+    pub fn write_lock(&mut self, key: Key, t: u32) -> Result<(), LockError>
+        ensures granted { OnOk result (self.new ≡ set.insert self.old (writing t key)) }
+        ensures free { OnOk result (IsFree self.old (writing t key)) }
+        ensures busy { IfErr result (IsCause self.old (writing t key)) }
+        ensures err { OnErr result (self.new ≡ self.old) }
+    {
+        self.lock(Holding {
+            key,
+            transaction: t,
+            mode: Mode::Exclusive,
+        })
+    }
+
+    // Takes the lock that is asked for.
+    fn lock(&mut self, asked: Holding) -> Result<(), LockError>
+        ensures granted { OnOk result (self.new ≡ set.insert self.old asked) }
+        ensures free { OnOk result (IsFree self.old asked) }
+        ensures busy { IfErr result (IsCause self.old asked) }
+        ensures err { OnErr result (self.new ≡ self.old) }
+    {
+        if let Some(holder) = self.conflict(asked) {
+            return Err(LockError::Busy { holder });
+        }
+        self.add(asked)?;
+        Ok(())
+    }
+
+    // Adds a holding. An error changes nothing.
+    fn add(&mut self, holding: Holding) -> Result<(), AllocError>
+        ensures ok { OnOk result (self.new ≡ set.insert self.old holding) }
+        ensures err { OnErr result (self.new ≡ self.old) }
+    {
+        self.by_object.insert(holding)?;
+        if let Err(refused) = self.by_transaction.insert(by_transaction(holding)) {
+            self.by_object.remove(&holding);
+            return Err(refused.into());
+        }
+        Ok(())
+    }
+
+    /// Frees all that transaction `t` holds, which it does when it ends. It takes no memory.
+    pub fn release(&mut self, t: u32)
+        ensures { self.new ≡ without self.old t }
+    {
+        while let Some(holding) = self.first_of(t) {
+            self.remove(holding);
+        }
+    }
+
+    // The first holding of transaction `t`, if it has one.
+    fn first_of(&self, t: u32) -> Option<Holding>
+        ensures { MatchOption result (HasNone self.now t) (IsOf self.now t) }
+    {
+        let first = Owned {
+            transaction: t,
+            key: Key { address: 0 },
+            mode: Mode::Shared,
+        };
+        let found = self.by_transaction.range(first..).next()?;
+        if found.transaction != t {
+            return None;
+        }
+        Some(Holding {
+            key: found.key,
+            transaction: t,
+            mode: found.mode,
+        })
+    }
+
+    // Takes a holding away.
+    fn remove(&mut self, held: Holding)
+        ensures { self.new ≡ set.remove self.old held }
+    {
+        self.by_object.remove(&held);
+        self.by_transaction.remove(&by_transaction(held));
+    }
+
+    /// The objects have moved, each from the first key of a pair to the second, and what is held of them goes with them. An object that
+    /// no pair names has stayed; of several pairs from one key the first counts. It fails only where memory is lacking, and then nothing
+    /// changes.
+    pub fn rekey(&mut self, moves: &[(Key, Key)]) -> Result<(), AllocError>
+        ensures ok { OnOk result (self.new ≡ rekeyed moves.now self.old) }
+        ensures err { OnErr result (self.new ≡ self.old) }
+    {
+        let destinations = destinations(self.alloc, moves)?;
+        let mut table = LockTable::new(self.alloc);
+        for holding in &self.by_object {
+            let to = destinations.get(&holding.key).copied();
+            table.add(Holding {
+                key: to.unwrap_or(holding.key),
+                ..*holding
+            })?;
+        }
+        *self = table;
+        Ok(())
+    }
+}
+
+// The first of the object's holdings that conflicts with `asked`.
+fn find_conflict(held: &BTreeSet<Holding>, asked: Holding) -> Option<Holding>
+    ensures found { result ≡ find (λ h. conflicts h asked) (on_object held.now asked.key) }
+    ensures ordered { IsOrdered holding_cmp held.now }
+{
+    let first = Holding {
+        key: asked.key,
+        transaction: 0,
+        mode: Mode::Shared,
+    };
+    let last = Holding {
+        key: asked.key,
+        transaction: u32::MAX,
+        mode: Mode::Exclusive,
+    };
+    held.range(first..=last)
+        .find(|h| h.conflicts_with(asked))
+        .copied()
+}
+
+// Where each object goes.
+fn destinations(alloc: Global, moves: &[(Key, Key)]) -> Result<BTreeMap<Key, Key>, AllocError>
+    ensures { IfOk result (λ map. (key : Key) → unwrap_or (tree.get key_cmp map key) key ≡ moved moves.now key) }
+{
+    let mut map = BTreeMap::new(alloc);
+    for (from, to) in moves {
+        add_move(&mut map, *from, *to)?;
+    }
+    Ok(map)
+}
+
+// Adds a move, unless there is one from there already.
+fn add_move(map: &mut BTreeMap<Key, Key>, from: Key, to: Key) -> Result<(), AllocError>
+    ensures { OnOk result (AddsMove map.old map.new from to) }
+{
+    if !map.contains_key(&from) {
+        map.insert(from, to)?;
+    }
+    Ok(())
+}
+
+// The holding, by its transaction.
+fn by_transaction(holding: Holding) -> Owned
+    ensures { result ≡ owned holding }
+{
+    Owned {
+        transaction: holding.transaction,
+        key: holding.key,
+        mode: holding.mode,
+    }
+}
