@@ -1,12 +1,13 @@
 //! The stable heap as a library: it is formatted, opened, and changed by events, each of them one atomic step.
 #![tactic(auto)]
 
-mod active;
+mod fields;
 mod errors;
 mod formatting;
 mod heap;
 mod history;
 mod log_room;
+mod sealing;
 mod working;
 
 pub use errors::{FormatError, GraphError, OpenError};

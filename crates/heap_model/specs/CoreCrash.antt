@@ -8,6 +8,7 @@ use Rattle.log_records.specs.declared.Record.{Record}
 use Rattle.gated_log.specs.Log.{with_batch}
 use Rattle.heap_model.specs.Core.{Core}
 use Rattle.heap_model.specs.Image.{StandsFor}
+use Rattle.heap_model.specs.Opening.{next_of}
 
 -- The disk holds the batches that were forced, or those that wait as one more.
 abbrev pub IsOnDisk : Core → List (List Record) → Type 0
@@ -18,10 +19,14 @@ pub record IsSuperOf (s : Super) (c : Core) : Type 0 where
   pub limits : IsSuper s
   pub pages : s.pages ≡ c.pages
   pub room : s.log_bytes ≡ c.room
+  pub first : s.first ≡ c.lowest
 
--- An image stands for the first k commits of a core since its opening, and all that was acknowledged is among them.
+-- An image stands for the first k commits of a core since its opening, and all that was acknowledged is among them. It has the core's
+-- superblock, and its next transaction number is none that was given before the core was opened.
 pub record StandsForFirst (c : Core) (k : ℕ) (image : List ℕ) : Type 0 where
   pub stands : StandsFor (serial c.g0 (take k (commits c.history))) (c.before + k) image
+  pub of : IsSuperOf stands.super c
+  pub next : c.first ≤ next_of stands.super stands.batches
   pub kept : acknowledged c.history ≤ k
   pub some : k ≤ length (commits c.history)
 

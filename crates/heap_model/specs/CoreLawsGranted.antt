@@ -1,204 +1,71 @@
--- An event that is granted leaves a core that agrees with its history.
-use Rattle.std.proofs.Common.{◌≡◌, ◌≢◌, ◌⊎◌, inl, inr, ℕ, ◌+◌, ◌<◌, ◌≤◌, Bool, true, false, cond, List, [], ◌∷◌, ◌++◌, length, take, Option, Some, None, refl, sym, ap, ◌∙◌, subst, arith, length-append, append_assoc}
-use Rattle.std.specs.Prelude.{slice_set, option_to_list}
-use Rattle.std.proofs.lemmas.Bool.{leb-false, ne_eqb}
+-- An event that is granted leaves a core that agrees with its history: all but a seal.
+use Rattle.std.proofs.Common.{◌≡◌, ◌≢◌, inl, inr, ℕ, ◌+◌, ◌<◌, ◌≤◌, Bool, true, false, cond, List, [], ◌∷◌, ◌++◌, length, take, Option, Some, None, unwrap_or, refl, sym, ap, ◌∙◌, subst, arith}
+use Rattle.std.specs.List.{AllByRecursion}
 use Rattle.std.proofs.lemmas.List.{append-nil}
+use Rattle.std.proofs.lemmas.Bool.{leb-false}
 use Rattle.std.proofs.Math.Seq.{take-length}
 use Rattle.graph_model.specs.declared.id.Id.{Id}
 use Rattle.graph_model.specs.declared.val.Val.{Val}
 use Rattle.graph_model.specs.declared.event.Event.{Event}
-use Rattle.graph_model.specs.declared.event.Event.TheVariants.{Begin, Seal, Abort, Force}
-use Rattle.graph_model.specs.declared.reply.Entry.{Entry}
+use Rattle.graph_model.specs.declared.event.Event.TheVariants.{Begin, New, Abort, Force}
 use Rattle.graph_model.specs.declared.reply.Refusal.{Refusal}
 use Rattle.graph_model.specs.declared.reply.Refusal.TheVariants.{BadField}
-use Rattle.graph_model.specs.declared.reply.Reply.TheVariants.{Begun, Sealed, Aborted, Durable}
-use Rattle.graph_model.specs.Graph.{Graph, root, fields}
+use Rattle.graph_model.specs.declared.reply.Reply.TheVariants.{Begun, Aborted, Durable}
+use Rattle.graph_model.specs.Graph.{Graph, fields, with_field}
 use Rattle.graph_model.specs.Transaction.{Transaction, View, held, put_value, call, serial}
-use Rattle.graph_model.specs.History.{Account, account_after, with_active, with_call, makes_call}
-use Rattle.graph_model.specs.HistoryLaws.{run-append, serial-append, serial-take}
-use Rattle.graph_model.specs.RootOnly.{HoldRootAlone, held-HoldRootAlone, fields-with_field, run-SeesRootOnly, serial-IsRootOnly}
+use Rattle.graph_model.specs.History.{Account, account_after, with_call, makes_call}
+use Rattle.graph_model.specs.HistoryLaws.{run-append}
 use Rattle.graph_model.specs.Plain.{view, no_number, field_refusal}
 use Rattle.log_records.specs.declared.Record.{Record}
-use Rattle.log_records.specs.declared.Record.TheVariants.{Commit}
-use Rattle.log_machine.specs.declared.UndoEntry.{UndoEntry}
-use Rattle.log_machine.specs.Machine.{start, after_all, is_number, undo_bytes, reserve}
-use Rattle.log_machine.specs.MachineLaws.{number_in_range}
+use Rattle.log_machine.specs.Machine.{State, words, undo_of, undo_bytes, with_entries, losing, turned, abort_records}
+use Rattle.log_machine.specs.MachineLaws.{undo_with as machine_undo_with}
 use Rattle.gated_log.specs.Log.{batches_bytes, records_of, hand}
-use Rattle.heap_model.specs.Core.{Core, all_records, undo_with, undo_behind, write_records, view_records, update, call_records, used, need, kept_for, forced}
-use Rattle.heap_model.specs.CoreLawsLone.{lone_reserve, none_reserve}
-use Rattle.heap_model.specs.CoreLawsRecords.{committed, written, taken, told_undo, told_write, told_commit, told_abort}
-use Rattle.heap_model.specs.CoreLawsRoom.{records_of-append, length-hand-append, length-forced, need-abort_records}
-use Rattle.heap_model.specs.CoreValid.{at_first, IsOwn, LeadBack, Behind, IsTold, IsWriting, IsWriter, IsNumbered, kept_behind, Agrees}
-use Rattle.heap_model.specs.ValueWord.{IsRootVal}
+use Rattle.graph_words.specs.Places.{Places, IsOwn, IsVisible, address_of, area_used, place_of}
+use Rattle.graph_words.specs.PlacesLaws.{some_address}
+use Rattle.graph_words.specs.MadeLaws.{own_apart}
+use Rattle.graph_words.specs.Area.{HasMade}
+use Rattle.graph_words.specs.Stands.{Stands, StandsCommitted, AreWritten, AreOfFields}
+use Rattle.graph_words.specs.StandsOwn.{own_write_stands, own_write_made, own_write_written, new_stands, new_made, new_written, new_kept}
+use Rattle.graph_words.specs.StandsWrite.{committed_stands, begin_made_next, begin_written, write_stands, write_made, write_written}
+use Rattle.graph_words.specs.VisibleLaws.{place_of-placed, place_of-apart, length-with_field}
+use Rattle.heap_model.specs.Core.{Core, all_records, undo_behind, update, write_records, view_records, used, need, kept_for, forced}
+use Rattle.heap_model.specs.CoreLawsGoes.{writer_as, numbered_as, numbered_call, kept_told, undo_fits, known_on, goes_on, idle_with, as_told, as_writer, need_nothing}
+use Rattle.heap_model.specs.CoreLawsHandles.{held_at_hand, call_at_hand, none_at_hand, more_handles}
+use Rattle.heap_model.specs.CoreLawsRoom.{records_of-append, length-forced, need-abort_records}
+use Rattle.heap_model.specs.CoreLawsTold.{only_none, undo_none, ended_none, told_words_none, of_fields_kept, IsWriteAt, entry_of, update_of, written, write_told, write_words, write_only, abort_told}
+use Rattle.heap_model.specs.CoreValid.{HoldsAtHand, IsTold, IsWriting, IsWriter, IsNumbered, kept_behind, Agrees}
+use Rattle.heap_model.specs.ListLaws.{AllByRecursion-set}
 
--- What the active transaction wrote and what is kept for it.
+-- A transaction begins.
 
--- the active transaction, by what it is
-pub writer_as : (a : Account) (c : Core) (o : Option Transaction) → a.active 1 ≡ o → (h : Agrees a c) → IsWriter c.g0 a o h.behind
-writer_as a c o e h = let P : Option Transaction → Type 0 = λ p. IsWriter c.g0 a p h.behind in subst P e h.writer
-
--- its number is one that a transaction can have
-pub numbered_as : (a : Account) (c : Core) (t : Transaction) → a.active 1 ≡ Some t → Agrees a c → is_number t.number ≡ true
-numbered_as a c t e h =
-    let P : Option Transaction → Type 0 = λ o. IsNumbered (c.first + a.begun) o in
-    let n : (1 ≤ t.number) × (t.number < c.first + a.begun) = subst P e h.numbered in
-    let fits = h.next_fits in
-    let some = n.0 in
-    let below = n.1 in
-    number_in_range t.number some (omega arith)
-
-numbered_call : (n : ℕ) (o : Option Transaction) (event : Event) → IsNumbered n o → IsNumbered n (with_call o event)
-numbered_call n None event h = tt
-numbered_call n (Some t) event h = h
-
--- what a transaction wrote that may be taken back, as records tell it
-pub undo_told : (pages first : ℕ) (g : Graph) (k : ℕ) (records : List Record) (b : Behind) (t : ℕ) → IsTold pages first g k records b → IsOwn b.writer b.undo t
-    → undo_with (after_all (start pages first) records) t ≡ b.undo
-undo_told pages first g k records b t told own = ap (λ o. undo_with o t) told.reached ∙ told_undo pages first g k records b told t own
-
--- so what is kept for it
-pub kept_told : (pages first : ℕ) (g0 g : Graph) (a : Account) (k : ℕ) (records : List Record) (b : Behind) (o : Option Transaction) → IsTold pages first g k records b → IsWriter g0 a o b
-    → kept_for (λ t. undo_with (after_all (start pages first) records) t) o ≡ kept_behind b o
-kept_told pages first g0 g a k records b None told w = refl
-kept_told pages first g0 g a k records b (Some t) told w = ap undo_bytes (undo_told pages first g k records b t.number told w.own)
-
--- the writes of the active transaction
-pub undo_active : (a : Account) (c : Core) (t : Transaction) → a.active 1 ≡ Some t → (h : Agrees a c) → undo_behind c (all_records c) t.number ≡ h.behind.undo
-undo_active a c t e h =
-    undo_told c.pages c.first (serial c.g0 a.sealed) (c.before + length a.sealed) (all_records c) h.behind t.number h.told (writer_as a c (Some t) e h).own
-
--- the bytes that are kept for the active transaction
-pub kept_active : (a : Account) (c : Core) → (h : Agrees a c) → kept_for (undo_behind c (all_records c)) (a.active 1) ≡ kept_behind h.behind (a.active 1)
-kept_active a c h = kept_told c.pages c.first c.g0 (serial c.g0 a.sealed) a (c.before + length a.sealed) (all_records c) h.behind (a.active 1) h.told h.writer
-
--- what has to be kept to take the writes back is kept for the active transaction
-pub undo_fits : (g0 : Graph) (a : Account) (o : Option Transaction) (pages first : ℕ) (g : Graph) (k : ℕ) (records : List Record) (b : Behind) → IsTold pages first g k records b → IsWriter g0 a o b
-    → reserve b.state ≤ kept_behind b o
-undo_fits g0 a None pages first g k records b told w = let none = none_reserve b.state b.writer b.undo told.alone w in omega arith
-undo_fits g0 a (Some t) pages first g k records b told w = lone_reserve b.state b.writer b.undo told.alone
-
--- Another history, or more records that wait.
-
--- another history changes nothing of this
-pub agrees_history : (a : Account) (c : Core) (history : List Entry) → Agrees a c → Agrees a (record c { history = history })
-agrees_history a c history h = record {
-  only = h.only;
-  unfailed = h.unfailed;
-  certain = h.certain;
-  idle = h.idle;
-  some_first = h.some_first;
-  next_fits = h.next_fits;
-  numbered = h.numbered;
-  durable = h.durable;
-  sealed_first = h.sealed_first;
-  acknowledged_last = h.acknowledged_last;
-  on_disk = h.on_disk;
-  disk_told = h.disk_told;
-  disk_room = h.disk_room;
-  behind = h.behind;
-  told = h.told;
-  writer = h.writer;
-  room = h.room;
-}
-
--- nor does one entry more, or whether the disk failed
-pub agrees_entry : (a : Account) (c : Core) (n : ℕ) → Agrees a c → Agrees (record a { failed = None; entries = n }) c
-agrees_entry a c n h = record {
-  only = h.only;
-  unfailed = refl;
-  certain = h.certain;
-  idle = h.idle;
-  some_first = h.some_first;
-  next_fits = h.next_fits;
-  numbered = h.numbered;
-  durable = h.durable;
-  sealed_first = h.sealed_first;
-  acknowledged_last = h.acknowledged_last;
-  on_disk = h.on_disk;
-  disk_told = h.disk_told;
-  disk_room = h.disk_room;
-  behind = h.behind;
-  told = h.told;
-  writer = h.writer;
-  room = h.room;
-}
-
--- What an event leaves of a core that agrees with its history: what the history says of the transactions, and what all records tell
--- with those that it appends.
-record Goes (a : Account) (c : Core) (b : Account) (more : List Record) : Type 0 where
-  unfailed : b.failed ≡ None
-  certain : b.in_doubt ≡ None
-  acknowledged : b.acknowledged ≡ a.acknowledged
-  idle : (s : ℕ) → s ≢ 1 → b.active s ≡ None
-  next_fits : c.first + b.begun ≤ no_number
-  numbered : IsNumbered (c.first + b.begun) (b.active 1)
-  later : List Transaction
-  sealed : b.sealed ≡ a.sealed ++ later
-  behind : Behind
-  told : IsTold c.pages c.first (serial c.g0 b.sealed) (c.before + length b.sealed) (all_records c ++ more) behind
-  writer : IsWriter c.g0 b (b.active 1) behind
-  room : used c + need c.pending more + kept_behind behind (b.active 1) ≤ c.room
-
--- the log's bytes that are used with more records behind those that wait
-pub used-append : (c : Core) (more : List Record) → used (record c { pending = c.pending ++ more }) ≡ used c + need c.pending more
-used-append c more = let parts = length-hand-append c.pending more in omega arith
-
-goes_on : (a : Account) (c : Core) (b : Account) (more : List Record) → Agrees a c → Goes a c b more → Agrees b (record c { pending = c.pending ++ more })
-goes_on a c b more h go =
-    let all = used-append c more in
-    let room = go.room in
-    let first = h.sealed_first in
-    let last = h.acknowledged_last in
-    let same = go.acknowledged in
-    let longer : length b.sealed ≡ length a.sealed + length go.later = ap (λ (ts : List Transaction). length ts) go.sealed ∙ length-append a.sealed go.later in
-    let graph : serial c.g0 (take h.durable b.sealed) ≡ serial c.g0 (take h.durable a.sealed) =
-    ap (λ (ts : List Transaction). serial c.g0 (take h.durable ts)) go.sealed ∙ serial-take c.g0 a.sealed go.later h.durable first in
+begin_writing : (a : Account) (c : Core) (n : ℕ) (h : Agrees a c) → a.active 1 ≡ None → h.behind.next ≤ n → 1 ≤ n
+    → IsWriting c.places (view c.g0 a (record { number = n; calls = [] })) n (words c.pages (all_records c)) h.behind
+begin_writing a c n h none above some =
+    let ended : losing h.behind ≡ [] = writer_as a c None none h in
+    let nothing = undo_none h.behind n ended in
+    let now = subst (λ ws. StandsCommitted c.places (serial c.g0 a.sealed) ws h.behind.base h.behind.used) (told_words_none h.told ended) h.told.stands in
     record {
-      only = h.only;
-      unfailed = go.unfailed;
-      certain = go.certain;
-      idle = go.idle;
-      some_first = h.some_first;
-      next_fits = go.next_fits;
-      numbered = go.numbered;
-      durable = h.durable;
-      sealed_first = omega arith;
-      acknowledged_last = omega arith;
-      on_disk = h.on_disk;
-      disk_told = subst (λ (g : Graph). IsTold c.pages c.first g (c.before + h.durable) (records_of c.batches) h.on_disk) (sym graph) h.disk_told;
-      disk_room = h.disk_room;
-      behind = go.behind;
-      told = subst (λ (rs : List Record). IsTold c.pages c.first (serial c.g0 b.sealed) (c.before + length b.sealed) rs go.behind) (append_assoc (records_of c.batches) c.pending more) go.told;
-      writer = go.writer;
-      room = omega arith;
+      alone = only_none h.behind n ended;
+      stands = committed_stands now n 0;
+      made = begin_made_next c.places (serial c.g0 a.sealed) h.behind.next n h.told.old above some;
+      written = subst (AreWritten c.places (serial c.g0 a.sealed)) (sym nothing) (begin_written now);
+      fields = subst (AreOfFields c.places (serial c.g0 a.sealed)) (sym nothing) tt;
+      handles = none_at_hand c.places n 0 64;
     }
-
--- other sessions stay idle where session 1's transaction is another
-pub idle_with : (active : ℕ → Option Transaction) (o : Option Transaction) → ((s : ℕ) → s ≢ 1 → active s ≡ None) → (s : ℕ) → s ≢ 1 → with_active active 1 o s ≡ None
-idle_with active o idle s other = ap (λ b. cond b o (active s)) (ne_eqb s 1 other) ∙ idle s other
-
--- no more records
-as_told : (a : Account) (c : Core) → (h : Agrees a c) → IsTold c.pages c.first (serial c.g0 a.sealed) (c.before + length a.sealed) (all_records c ++ []) h.behind
-as_told a c h = subst (λ (rs : List Record). IsTold c.pages c.first (serial c.g0 a.sealed) (c.before + length a.sealed) rs h.behind) (sym (append-nil (all_records c))) h.told
-
-pub need_nothing : (pending : List Record) → need pending [] ≡ 0
-need_nothing [] = refl
-need_nothing (p ∷ ps) = refl
-
--- The events.
 
 -- a transaction begins
 pub begin_agrees : (a : Account) (c : Core) → Agrees a c → a.active 1 ≡ None → c.first + a.begun ≢ no_number → used c + 10 ≤ c.room
-    → Agrees (account_after a (record { event = Begin 1; reply = Begun (c.first + a.begun) })) (record c { pending = c.pending ++ [] })
+    → Agrees (account_after a (record { event = Begin 1; reply = Begun (c.first + a.begun) })) (record c { pending = c.pending ++ []; places = c.places ++ [] })
 begin_agrees a c h none fits room =
     let bound = h.next_fits in
     let some = h.some_first in
+    let known = h.next_known in
     let n = c.first + a.begun in
-    let ended : h.behind.undo ≡ [] = writer_as a c None none h in
-    let same : h.told.fields ≡ h.behind.now = subst (λ (us : List UndoEntry). LeadBack us h.behind.now h.told.fields) ended h.told.back in
+    let b : Account = account_after a (record { event = Begin 1; reply = Begun n }) in
+    let ended : losing h.behind ≡ [] = writer_as a c None none h in
     let nothing = need_nothing c.pending in
-    let kept : undo_bytes h.behind.undo ≡ 10 = ap undo_bytes ended in
-    goes_on a c (account_after a (record { event = Begin 1; reply = Begun n })) [] h (record {
+    let kept : undo_bytes (undo_of h.behind n) ≡ 10 = ap undo_bytes (undo_none h.behind n ended) in
+    goes_on a c b [] [] h (record {
       unfailed = h.unfailed;
       certain = h.certain;
       acknowledged = refl;
@@ -209,40 +76,37 @@ begin_agrees a c h none fits room =
       sealed = sym (append-nil a.sealed);
       behind = h.behind;
       told = as_told a c h;
-      writer = record {
-        sees = h.told.is ∙ same;
-        own = subst (λ (us : List UndoEntry). IsOwn h.behind.writer us n) (sym ended) tt;
-      };
+      next_known = omega arith;
+      writer = as_writer c b (b.active 1) h.behind (begin_writing a c n h none (omega arith) (omega arith));
       room = omega arith;
     })
 
-abbrev after_call : Transaction → Event → Transaction
+-- Calls.
+
+abbrev pub after_call : Transaction → Event → Transaction
 after_call t event = record { number = t.number; calls = t.calls ++ event ∷ [] }
 
 -- what a history says with one call more of session 1
 abbrev pub called : Account → Event → Account
 called a event = record (makes_call a 1 event) { entries = a.entries + 1 }
 
-quiet_writer : (g0 : Graph) (a : Account) (t : Transaction) (event : Event) (b : Behind) → (call (view g0 a t) t.number event).view.graph ≡ (view g0 a t).graph
-    → IsWriting (view g0 a t).graph t b → IsWriting (view g0 (called a event) (after_call t event)).graph (after_call t event) b
-quiet_writer g0 a t event b same w = record {
-  sees = ap (λ (v : View). fields v.graph root) (run-append (serial g0 a.sealed) t event) ∙ ap (λ (g : Graph). fields g root) same ∙ w.sees;
-  own = w.own;
-}
+-- one call more leaves what is kept
+pub kept_call : (state : State) (o : Option Transaction) (event : Event) → kept_behind state (with_call o event) ≡ kept_behind state o
+kept_call state None event = refl
+kept_call state (Some t) event = refl
 
-kept_call : (b : Behind) (o : Option Transaction) (event : Event) → kept_behind b (with_call o event) ≡ kept_behind b o
-kept_call b None event = refl
-kept_call b (Some t) event = refl
-
--- a call that leaves the graph as it is
-pub quiet_agrees : (a : Account) (c : Core) (t : Transaction) (event : Event) → Agrees a c → a.active 1 ≡ Some t
-    → (call (view c.g0 a t) t.number event).view.graph ≡ (view c.g0 a t).graph → Agrees (called a event) (record c { pending = c.pending ++ [] })
-quiet_agrees a c t event h e same =
-    let P : Option Transaction → Type 0 = λ o. IsWriter c.g0 (called a event) (with_call o event) h.behind in
+-- a call that appends no record, where what its transaction sees stands behind it
+pub quiet_goes : (a : Account) (c : Core) (t : Transaction) (event : Event) → (h : Agrees a c) → a.active 1 ≡ Some t
+    → IsWriting c.places (call (view c.g0 a t) t.number event).view t.number (words c.pages (all_records c)) h.behind
+    → Agrees (called a event) (record c { pending = c.pending ++ []; places = c.places ++ [] })
+quiet_goes a c t event h e writes =
+    let P : Option Transaction → Type 0 = λ o. IsWriter c.places c.g0 (called a event) (with_call o event) (words c.pages (all_records c)) h.behind in
+    let Q : View → Type 0 = λ v. IsWriting c.places v t.number (words c.pages (all_records c)) h.behind in
+    let now = subst Q (sym (run-append (serial c.g0 a.sealed) t event)) writes in
     let nothing = need_nothing c.pending in
     let kept = kept_call h.behind (a.active 1) event in
     let room = h.room in
-    goes_on a c (called a event) [] h (record {
+    goes_on a c (called a event) [] [] h (record {
       unfailed = h.unfailed;
       certain = h.certain;
       acknowledged = refl;
@@ -253,62 +117,151 @@ quiet_agrees a c t event h e same =
       sealed = sym (append-nil a.sealed);
       behind = h.behind;
       told = as_told a c h;
-      writer = subst P (sym e) (quiet_writer c.g0 a t event h.behind same (writer_as a c (Some t) e h));
+      next_known = h.next_known;
+      writer = as_writer c (called a event) (with_call (a.active 1) event) h.behind (subst P (sym e) now);
       room = omega arith;
     })
+
+-- A call that leaves the graph as it is, and makes nothing.
+pub record IsQuiet (v : View) (t : ℕ) (event : Event) : Type 0 where
+  pub graph : (call v t event).view.graph ≡ v.graph
+  pub made : (call v t event).view.made ≡ v.made
+
+quiet_writing : (places : Places) (v : View) (t : ℕ) (event : Event) (now : List ℕ) (state : State) → IsQuiet v t event → IsWriting places v t now state
+    → IsWriting places (call v t event).view t now state
+quiet_writing places v t event now state quiet w =
+    let graph = sym quiet.graph in
+    let made = sym quiet.made in
+    let handles = call_at_hand v w.stands w.made w.handles event quiet.made in
+    record {
+      alone = w.alone;
+      stands = subst (λ m. Stands t m places (call v t event).view.graph now state.base state.used) made (subst (λ g. Stands t v.made places g now state.base state.used) graph w.stands);
+      made = subst (λ m. HasMade places (call v t event).view.graph t m) made (subst (λ g. HasMade places g t v.made) graph w.made);
+      written = subst (λ g. AreWritten places g (undo_of state t)) graph w.written;
+      fields = subst (λ g. AreOfFields places g (undo_of state t)) graph w.fields;
+      handles = subst (λ m. AllByRecursion (HoldsAtHand places t m) (call v t event).view.registers) made handles;
+    }
+
+-- a call that leaves the graph as it is
+pub quiet_agrees : (a : Account) (c : Core) (t : Transaction) (event : Event) → Agrees a c → a.active 1 ≡ Some t → IsQuiet (view c.g0 a t) t.number event
+    → Agrees (called a event) (record c { pending = c.pending ++ []; places = c.places ++ [] })
+quiet_agrees a c t event h e quiet =
+    quiet_goes a c t event h e (quiet_writing c.places (view c.g0 a t) t.number event (words c.pages (all_records c)) h.behind quiet (writer_as a c (Some t) e h))
+
+-- a call that makes an object
+pub new_agrees : (a : Account) (c : Core) (t : Transaction) (s i len : ℕ) → Agrees a c → a.active 1 ≡ Some t → len ≤ 510
+    → area_used (view c.g0 a t).graph t.number (view c.g0 a t).made + 2 + len ≤ 4096
+    → Agrees (called a (New s i len)) (record c { pending = c.pending ++ []; places = c.places ++ [] })
+new_agrees a c t s i len h e small few =
+    let v = view c.g0 a t in
+    let w = writer_as a c (Some t) e h in
+    let id : Id = record { t = t.number; k = v.made + 1 } in
+    quiet_goes a c t (New s i len) h e (record {
+      alone = w.alone;
+      stands = new_stands w.stands w.made len;
+      made = new_made w.made len small few;
+      written = new_written w.made (undo_of h.behind t.number) w.written len;
+      fields = of_fields_kept c.places v.graph (call v t.number (New s i len)).view.graph (undo_of h.behind t.number)
+          (λ q at is. ap (λ o. length (unwrap_or o [])) (new_kept w.made len q at is)) w.fields;
+      handles = AllByRecursion-set (HoldsAtHand c.places t.number (v.made + 1)) v.registers i (Some id)
+          (more_handles c.places t.number v.made (v.made + 1) v.registers (omega arith) w.handles)
+          (inr (record { maker = refl; first = omega arith; last = omega arith }));
+    })
+
+-- Writes.
 
 test_none : (b : Bool) (why : Refusal) → cond b (Some why) None ≡ None → b ≡ false
 test_none true why e = cc
 test_none false why e = refl
 
--- A write into a field that a handle's object has.
-record Wrote (pages first : ℕ) (base g : Graph) (k t : ℕ) (records : List Record) (b : Behind) (o : Option Id) (i : ℕ) (v : Val) : Type 0 where
-  told : IsTold pages first base k (records ++ write_records at_first t g o i v) (written b t i v)
-  graph : fields (put_value g o i v) root ≡ slice_set b.now i v
+-- A write of a value into field i of what a handle holds, by the transaction that is active.
+record IsWrite (a : Account) (c : Core) (t : Transaction) (event : Event) (hd i : ℕ) (v : Val) : Type 0 where
+  agrees : Agrees a c
+  active : a.active 1 ≡ Some t
+  graph : (call (view c.g0 a t) t.number event).view.graph ≡ put_value (view c.g0 a t).graph (held (view c.g0 a t).registers hd) i v
+  made : (call (view c.g0 a t) t.number event).view.made ≡ (view c.g0 a t).made
+  seen : IsVisible c.places t.number (view c.g0 a t).made v
 
-write_step : (pages first : ℕ) (base g : Graph) (k t : ℕ) (records : List Record) (b : Behind) (o : Option Id) (i : ℕ) (v : Val) → (o ≡ None) ⊎ (o ≡ Some root)
-    → field_refusal g o i ≡ None → is_number t ≡ true → IsTold pages first base k records b → fields g root ≡ b.now → IsOwn b.writer b.undo t → IsRootVal v
-    → Wrote pages first base g k t records b o i v
-write_step pages first base g k t records b o i v (inl none) granted number told sees own fits = let refused = ap (λ (p : Option Id). field_refusal g p i) none in cc
-write_step pages first base g k t records b o i v (inr some) granted number told sees own fits =
-    let P : Option Id → Type 0 = λ p. Wrote pages first base g k t records b p i v in
-    let within : i < length (fields g root) = leb-false (length (fields g root)) i (test_none _ BadField (sym (ap (λ (p : Option Id). field_refusal g p i) some) ∙ granted)) in
-    let len = ap (λ (l : List Val). length l) sees in
-    let four = told.four in
-    let one = told_write pages first base k records b told t i v number own (omega arith) fits in
-    subst P (sym some) (record {
-      told = subst (λ (vs : List Val). IsTold pages first base k (records ++ update at_first t root vs i v ∷ []) (written b t i v)) (sym sees) one;
-      graph = fields-with_field g i v ∙ ap (λ (vs : List Val). slice_set vs i v) sees;
-    })
+-- a write into an object that the transaction made
+own_write_writing : (places : Places) (v : View) (t : ℕ) (event : Event) (now : List ℕ) (state : State) (id : Id) (i : ℕ) (x : Val) → IsWriting places v t now state
+    → IsOwn t v.made id → IsVisible places t v.made x → (call v t event).view.graph ≡ with_field v.graph id i x → (call v t event).view.made ≡ v.made
+    → IsWriting places (call v t event).view t now state
+own_write_writing places v t event now state id i x w own seen graph made =
+    let back = sym graph in
+    let same = sym made in
+    let handles = call_at_hand v w.stands w.made w.handles event made in
+    record {
+      alone = w.alone;
+      stands = subst (λ m. Stands t m places (call v t event).view.graph now state.base state.used) same
+          (subst (λ g. Stands t v.made places g now state.base state.used) back (own_write_stands w.stands w.made id i x own));
+      made = subst (λ m. HasMade places (call v t event).view.graph t m) same (subst (λ g. HasMade places g t v.made) back (own_write_made w.made id i x own seen));
+      written = subst (λ g. AreWritten places g (undo_of state t)) back (own_write_written w.made (undo_of state t) w.written id i x own);
+      fields = subst (λ g. AreOfFields places g (undo_of state t)) back
+          (of_fields_kept places v.graph (with_field v.graph id i x) (undo_of state t) (λ q at is. length-with_field v.graph id i x q) w.fields);
+      handles = subst (λ m. AllByRecursion (HoldsAtHand places t m) (call v t event).view.registers) same handles;
+    }
 
--- the handles of a transaction hold the root or nothing
-pub registers_as : (a : Account) (c : Core) (t : Transaction) → Agrees a c → HoldRootAlone (view c.g0 a t).registers
-registers_as a c t h = (run-SeesRootOnly (serial c.g0 a.sealed) t (serial-IsRootOnly c.g0 a.sealed h.only)).handles
+-- a write into an object that stands in the current space
+stable_write_writing : (pages lowest : ℕ) (born : Bool) (places : Places) (base : Graph) (k : ℕ) (records : List Record) (v : View) (t : ℕ) (event : Event) (state : State) (id : Id) (at i : ℕ) (x : Val)
+    → IsWriting places v t (words pages records) state → IsWriteAt pages lowest born places base v.graph k t v.made records state id at i x
+    → (call v t event).view.graph ≡ with_field v.graph id i x → (call v t event).view.made ≡ v.made
+    → IsWriting places (call v t event).view t (words pages (records ++ update_of places v.graph t id at i x ∷ [])) (written state t (entry_of places v.graph id at i))
+stable_write_writing pages lowest born places base k records v t event state id at i x w one graph made =
+    let back = sym graph in
+    let same = sym made in
+    let handles = call_at_hand v w.stands w.made w.handles event made in
+    let entry = entry_of places v.graph id at i in
+    let later = written state t entry in
+    let undo : undo_of later t ≡ entry ∷ undo_of state t = machine_undo_with state.undo t (entry ∷ undo_of state t) in
+    let now = sym (write_words pages lowest born places base v.graph k t v.made records state id at i x one) in
+    record {
+      alone = write_only pages lowest born places base v.graph k t v.made records state id at i x one;
+      stands = subst (λ m. Stands t m places (call v t event).view.graph (words pages (records ++ update_of places v.graph t id at i x ∷ [])) state.base state.used) same
+          (subst (λ g. Stands t v.made places g (words pages (records ++ update_of places v.graph t id at i x ∷ [])) state.base state.used) back
+          (subst (λ ws. Stands t v.made places (with_field v.graph id i x) ws state.base state.used) now (write_stands w.stands id at i x one.place one.within one.seen)));
+      made = subst (λ m. HasMade places (call v t event).view.graph t m) same (subst (λ g. HasMade places g t v.made) back (write_made w.made id at i x one.place));
+      written = subst (AreWritten places (call v t event).view.graph) (sym undo) (subst (λ g. AreWritten places g (entry ∷ undo_of state t)) back
+          (write_written places v.graph (undo_of state t) w.written id at i x one.place entry refl refl));
+      fields = subst (AreOfFields places (call v t event).view.graph) (sym undo) (subst (λ g. AreOfFields places g (entry ∷ undo_of state t)) back
+          (of_fields_kept places v.graph (with_field v.graph id i x) (entry ∷ undo_of state t) (λ q to is. length-with_field v.graph id i x q)
+          (record { id = id; object = one.place; field = one.within }, w.fields)));
+      handles = subst (λ m. AllByRecursion (HoldsAtHand places t m) (call v t event).view.registers) same handles;
+    }
 
--- the same of one of them
-pub held_as : (a : Account) (c : Core) (t : Transaction) (i : ℕ) → Agrees a c
-    → (held (view c.g0 a t).registers i ≡ None) ⊎ (held (view c.g0 a t).registers i ≡ Some root)
-held_as a c t i h = held-HoldRootAlone (view c.g0 a t).registers i (registers_as a c t h)
+-- what a write appends and what is behind it
+abbrev WriteRoom : Account → Core → Event → List Record → Type 0
+WriteRoom a c event more = used c + need c.pending more + kept_for (undo_behind c (all_records c ++ more)) (with_call (a.active 1) event) ≤ c.room
 
--- a call that writes a value into a field
-pub write_agrees : (a : Account) (c : Core) (t : Transaction) (event : Event) (hd i : ℕ) (v : Val) (more : List Record) → Agrees a c → a.active 1 ≡ Some t
-    → (call (view c.g0 a t) t.number event).view.graph ≡ put_value (view c.g0 a t).graph (held (view c.g0 a t).registers hd) i v → IsRootVal v
-    → field_refusal (view c.g0 a t).graph (held (view c.g0 a t).registers hd) i ≡ None → more ≡ view_records at_first t.number (view c.g0 a t) hd i v
-    → used c + need c.pending more + kept_for (undo_behind c (all_records c ++ more)) (with_call (a.active 1) event) ≤ c.room
-    → Agrees (called a event) (record c { pending = c.pending ++ more })
-write_agrees a c t event hd i v more h e graph small granted is fits =
+stable_goes : (a : Account) (c : Core) (t : Transaction) (event : Event) (hd i : ℕ) (v : Val) (more : List Record) (id : Id) (at : ℕ) → IsWrite a c t event hd i v
+    → held (view c.g0 a t).registers hd ≡ Some id → i < length (fields (view c.g0 a t).graph id) → address_of c.places id ≡ Some at
+    → more ≡ update_of c.places (view c.g0 a t).graph t.number id at i v ∷ [] → WriteRoom a c event more
+    → Agrees (called a event) (record c { pending = c.pending ++ more; places = c.places ++ [] })
+stable_goes a c t event hd i v more id at w holds within place is room =
+    let h = w.agrees in
     let seen = view c.g0 a t in
-    let after_it = written h.behind t.number i v in
-    let P : Option Transaction → Type 0 = λ o. IsWriter c.g0 (called a event) (with_call o event) after_it in
-    let w = writer_as a c (Some t) e h in
-    let step = write_step c.pages c.first (serial c.g0 a.sealed) seen.graph (c.before + length a.sealed) t.number (all_records c) h.behind (held seen.registers hd) i v (held_as a c t hd h) granted (numbered_as a c t e h) h.told w.sees w.own small in
-    let told = subst (λ (rs : List Record). IsTold c.pages c.first (serial c.g0 a.sealed) (c.before + length a.sealed) (all_records c ++ rs) after_it) (sym is) step.told in
-    let writer = subst P (sym e) (record {
-      sees = ap (λ (x : View). fields x.graph root) (run-append (serial c.g0 a.sealed) t event) ∙ ap (λ (x : Graph). fields x root) graph ∙ step.graph;
-      own = refl;
-    }) in
-    let kept = kept_told c.pages c.first c.g0 (serial c.g0 a.sealed) (called a event) (c.before + length a.sealed) (all_records c ++ more) after_it (with_call (a.active 1) event) told writer in
-    goes_on a c (called a event) more h (record {
+    let writing = writer_as a c (Some t) w.active h in
+    let base = serial c.g0 a.sealed in
+    let k = c.before + length a.sealed in
+    let number = numbered_as a c t w.active h in
+    let one : IsWriteAt c.pages c.lowest c.born c.places base seen.graph k t.number seen.made (all_records c) h.behind id at i v = record {
+      told = h.told; number = number; alone = writing.alone; stands = writing.stands; has = writing.made; place = place; within = within; seen = w.seen;
+    } in
+    let after_it = written h.behind t.number (entry_of c.places seen.graph id at i) in
+    let graph : (call seen t.number event).view.graph ≡ with_field seen.graph id i v = w.graph ∙ ap (λ (o : Option Id). put_value seen.graph o i v) holds in
+    let update = update_of c.places seen.graph t.number id at i v in
+    let told = subst (λ (rs : List Record). IsTold c.pages c.lowest c.born c.places base k (all_records c ++ rs) after_it) (sym is)
+        (write_told c.pages c.lowest c.born c.places base seen.graph k t.number seen.made (all_records c) h.behind id at i v one) in
+    let now = stable_write_writing c.pages c.lowest c.born c.places base k (all_records c) seen t.number event h.behind id at i v writing one graph w.made in
+    let said = subst (λ (rs : List Record). IsWriting c.places (call seen t.number event).view t.number (words c.pages (all_records c ++ rs)) after_it) (sym is) now in
+    let P : Option Transaction → Type 0 = λ o. IsWriter c.places c.g0 (called a event) (with_call o event) (words c.pages (all_records c ++ more)) after_it in
+    let Q : View → Type 0 = λ x. IsWriting c.places x t.number (words c.pages (all_records c ++ more)) after_it in
+    let writer = subst P (sym w.active) (subst Q (sym (run-append base t event)) said) in
+    let kept = kept_told told (with_call (a.active 1) event) in
+    let N : Option Transaction → Type 0 = λ o. IsNumbered (c.first + a.begun) o in
+    let numbers = subst N w.active h.numbered in
+    let below = numbers.1 in
+    let known = h.next_known in
+    goes_on a c (called a event) more [] h (record {
       unfailed = h.unfailed;
       certain = h.certain;
       acknowledged = refl;
@@ -318,67 +271,88 @@ write_agrees a c t event hd i v more h e graph small granted is fits =
       later = [];
       sealed = sym (append-nil a.sealed);
       behind = after_it;
-      told = told;
-      writer = writer;
+      told = subst (λ ps. IsTold c.pages c.lowest c.born ps base k (all_records c ++ more) after_it) (sym (append-nil c.places)) told;
+      next_known = omega arith;
+      writer = subst (λ ps. IsWriter ps c.g0 (called a event) (with_call (a.active 1) event) (words c.pages (all_records c ++ more)) after_it) (sym (append-nil c.places)) writer;
       room = omega arith;
     })
 
--- a commit takes no more than what is kept for its transaction
-pub commit_fits : (g0 : Graph) (a : Account) (pending : List Record) (undo : ℕ → List UndoEntry) (b : Behind) (o : Option Transaction) → need pending (call_records at_first g0 a undo o (Seal 1)) ≤ kept_behind b o
-commit_fits g0 a [] undo b None = omega arith
-commit_fits g0 a (p ∷ ps) undo b None = omega arith
-commit_fits g0 a [] undo b (Some t) = omega arith
-commit_fits g0 a (p ∷ ps) undo b (Some t) = omega arith
+own_goes : (a : Account) (c : Core) (t : Transaction) (event : Event) (hd i : ℕ) (v : Val) (more : List Record) (id : Id) → IsWrite a c t event hd i v
+    → held (view c.g0 a t).registers hd ≡ Some id → IsOwn t.number (view c.g0 a t).made id → more ≡ []
+    → Agrees (called a event) (record c { pending = c.pending ++ more; places = c.places ++ [] })
+own_goes a c t event hd i v more id w holds own is =
+    let seen = view c.g0 a t in
+    let writing = writer_as a c (Some t) w.active w.agrees in
+    let graph : (call seen t.number event).view.graph ≡ with_field seen.graph id i v = w.graph ∙ ap (λ (o : Option Id). put_value seen.graph o i v) holds in
+    subst (λ (rs : List Record). Agrees (called a event) (record c { pending = c.pending ++ rs; places = c.places ++ [] })) (sym is)
+    (quiet_goes a c t event w.agrees w.active
+    (own_write_writing c.places seen t.number event (words c.pages (all_records c)) w.agrees.behind id i v writing own w.seen graph w.made))
 
--- a transaction is sealed
-pub seal_agrees : (a : Account) (c : Core) (t : Transaction) (n : ℕ) (undo : ℕ → List UndoEntry) → Agrees a c → a.active 1 ≡ Some t
-    → Agrees (account_after a (record { event = Seal 1; reply = Sealed n })) (record c { pending = c.pending ++ call_records at_first c.g0 a undo (a.active 1) (Seal 1) })
-seal_agrees a c t n undo h e =
-    let commit : Record = Commit t.number in
-    let last = committed h.behind t.number in
-    let P : Option Transaction → Type 0 = λ o. IsTold c.pages c.first (serial c.g0 (a.sealed ++ option_to_list o)) (c.before + length (a.sealed ++ option_to_list o)) (all_records c ++ call_records at_first c.g0 a undo o (Seal 1)) last in
-    let w = writer_as a c (Some t) e h in
-    let now = told_commit c.pages c.first (serial c.g0 a.sealed) (c.before + length a.sealed) (all_records c) h.behind h.told (view c.g0 a t).graph t.number (numbered_as a c t e h) w.own w.sees in
-    let graph = subst (λ (g : Graph). IsTold c.pages c.first g (c.before + length a.sealed + 1) (all_records c ++ commit ∷ []) last) (sym (serial-append c.g0 a.sealed t)) now in
-    let more = length-append a.sealed (t ∷ []) in
-    let all : c.before + length a.sealed + 1 ≡ c.before + length (a.sealed ++ t ∷ []) = omega arith in
-    let count = subst (λ (k : ℕ). IsTold c.pages c.first (serial c.g0 (a.sealed ++ t ∷ [])) k (all_records c ++ commit ∷ []) last) all graph in
-    let fits = commit_fits c.g0 a c.pending undo h.behind (a.active 1) in
-    let room = h.room in
-    goes_on a c (account_after a (record { event = Seal 1; reply = Sealed n })) (call_records at_first c.g0 a undo (a.active 1) (Seal 1)) h (record {
-      unfailed = h.unfailed;
-      certain = h.certain;
-      acknowledged = refl;
-      idle = idle_with a.active None h.idle;
-      next_fits = h.next_fits;
-      numbered = tt;
-      later = option_to_list (a.active 1);
-      sealed = refl;
-      behind = last;
-      told = subst P (sym e) count;
-      writer = refl;
-      room = omega arith;
-    })
+-- the records of a write into an object that stands in the current space, or in the transaction's area
+stable_records : (places : Places) (t : ℕ) (v : View) (hd i : ℕ) (x : Val) (id : Id) (at : ℕ) → held v.registers hd ≡ Some id → address_of places id ≡ Some at
+    → view_records places t v hd i x ≡ update_of places v.graph t id at i x ∷ []
+stable_records places t v hd i x id at holds place =
+    ap (λ (o : Option Id). write_records (place_of places v.graph) t v.graph o i x) holds
+    ∙ ap (λ w. update (place_of places v.graph) t w (fields v.graph id) i x) (place_of-placed places v.graph id at place)
+
+own_records : (places : Places) (t made : ℕ) (v : View) (hd i : ℕ) (x : Val) (id : Id) → held v.registers hd ≡ Some id → HasMade places v.graph t made → IsOwn t made id
+    → view_records places t v hd i x ≡ []
+own_records places t made v hd i x id holds has own =
+    ap (λ (o : Option Id). write_records (place_of places v.graph) t v.graph o i x) holds
+    ∙ ap (λ w. update (place_of places v.graph) t w (fields v.graph id) i x) (place_of-apart places v.graph id (own_apart has own))
+
+write_into : (a : Account) (c : Core) (t : Transaction) (event : Event) (hd i : ℕ) (v : Val) (more : List Record) (o : Option Id) → IsWrite a c t event hd i v
+    → held (view c.g0 a t).registers hd ≡ o → field_refusal (view c.g0 a t).graph o i ≡ None → more ≡ view_records c.places t.number (view c.g0 a t) hd i v → WriteRoom a c event more
+    → Agrees (called a event) (record c { pending = c.pending ++ more; places = c.places ++ [] })
+write_into a c t event hd i v more None w holds granted is room = cc
+write_into a c t event hd i v more (Some id) w holds granted is room =
+    let seen = view c.g0 a t in
+    let writing = writer_as a c (Some t) w.active w.agrees in
+    let within : i < length (fields seen.graph id) = leb-false (length (fields seen.graph id)) i (test_none _ BadField granted) in
+    elim (held_at_hand c.places t.number seen.made seen.registers hd id writing.handles holds) [
+      | inl there ↦
+          let place = some_address (address_of c.places id) there in
+          stable_goes a c t event hd i v more id place.0 w holds within place.1 (is ∙ stable_records c.places t.number seen hd i v id place.0 holds place.1) room
+      | inr own ↦ own_goes a c t event hd i v more id w holds own (is ∙ own_records c.places t.number seen.made seen hd i v id holds writing.made own)
+    ]
+
+-- a call that writes a value into a field
+pub write_agrees : (a : Account) (c : Core) (t : Transaction) (event : Event) (hd i : ℕ) (v : Val) (more : List Record) → Agrees a c → a.active 1 ≡ Some t
+    → (call (view c.g0 a t) t.number event).view.graph ≡ put_value (view c.g0 a t).graph (held (view c.g0 a t).registers hd) i v
+    → (call (view c.g0 a t) t.number event).view.made ≡ (view c.g0 a t).made → IsVisible c.places t.number (view c.g0 a t).made v
+    → field_refusal (view c.g0 a t).graph (held (view c.g0 a t).registers hd) i ≡ None → more ≡ view_records c.places t.number (view c.g0 a t) hd i v
+    → used c + need c.pending more + kept_for (undo_behind c (all_records c ++ more)) (with_call (a.active 1) event) ≤ c.room
+    → Agrees (called a event) (record c { pending = c.pending ++ more; places = c.places ++ [] })
+write_agrees a c t event hd i v more h e graph made seen granted is room =
+    write_into a c t event hd i v more (held (view c.g0 a t).registers hd) (record { agrees = h; active = e; graph = graph; made = made; seen = seen }) refl granted is room
+
+-- An abort.
 
 -- the end of a transaction that is taken back needs no more than what is kept for it
-pub abort_fits : (g0 : Graph) (a : Account) (pending : List Record) (o : Option Transaction) (undo : ℕ → List UndoEntry) → need pending (call_records at_first g0 a undo o (Abort 1)) ≤ kept_for undo o
-abort_fits g0 a [] None undo = omega arith
-abort_fits g0 a (p ∷ ps) None undo = omega arith
-abort_fits g0 a pending (Some t) undo = need-abort_records pending t.number (undo t.number)
+pub abort_fits : (pending : List Record) (t : Transaction) (state : State) → need pending (abort_records t.number (undo_of state t.number)) ≤ kept_behind state (Some t)
+abort_fits pending t state = need-abort_records pending t.number (undo_of state t.number)
 
 -- a transaction is taken back
-pub abort_agrees : (a : Account) (c : Core) (t : Transaction) → (h : Agrees a c) → a.active 1 ≡ Some t
-    → Agrees (account_after a (record { event = Abort 1; reply = Aborted })) (record c { pending = c.pending ++ call_records at_first c.g0 a (undo_behind c (all_records c)) (a.active 1) (Abort 1) })
-abort_agrees a c t h e =
-    let undo = undo_behind c (all_records c) in
+pub abort_agrees : (a : Account) (c : Core) (t : Transaction) (more : List Record) → (h : Agrees a c) → a.active 1 ≡ Some t → more ≡ abort_records t.number (undo_of h.behind t.number)
+    → Agrees (account_after a (record { event = Abort 1; reply = Aborted })) (record c { pending = c.pending ++ more; places = c.places ++ [] })
+abort_agrees a c t more h e is =
+    let b : Account = account_after a (record { event = Abort 1; reply = Aborted }) in
     let w = writer_as a c (Some t) e h in
-    let last = taken h.behind t.number h.told.fields in
-    let end = told_abort c.pages c.first (serial c.g0 a.sealed) (c.before + length a.sealed) (all_records c) h.behind h.told t.number (undo t.number) (numbered_as a c t e h) w.own (undo_active a c t e h) in
-    let P : Option Transaction → Type 0 = λ o. IsTold c.pages c.first (serial c.g0 a.sealed) (c.before + length a.sealed) (all_records c ++ call_records at_first c.g0 a undo o (Abort 1)) last in
-    let fits = abort_fits c.g0 a c.pending (a.active 1) undo in
-    let kept = kept_active a c h in
+    let base = serial c.g0 a.sealed in
+    let k = c.before + length a.sealed in
+    let number = numbered_as a c t e h in
+    let last = turned h.behind t.number (with_entries h.behind.undo t.number []) 0 in
+    let end = abort_told c.pages c.lowest c.born c.places base k t.number (all_records c) h.behind h.told number w.alone in
+    let told = subst (λ (rs : List Record). IsTold c.pages c.lowest c.born c.places base k (all_records c ++ rs) last) (sym is) end in
+    let fits = abort_fits c.pending t h.behind in
+    let same = ap (need c.pending) is in
+    let N : Option Transaction → Type 0 = λ o. IsNumbered (c.first + a.begun) o in
+    let numbers = subst N e h.numbered in
+    let below = numbers.1 in
+    let known = h.next_known in
+    let kept = ap (kept_behind h.behind) e in
     let room = h.room in
-    goes_on a c (account_after a (record { event = Abort 1; reply = Aborted })) (call_records at_first c.g0 a undo (a.active 1) (Abort 1)) h (record {
+    goes_on a c b more [] h (record {
       unfailed = h.unfailed;
       certain = h.certain;
       acknowledged = refl;
@@ -388,17 +362,20 @@ abort_agrees a c t h e =
       later = [];
       sealed = sym (append-nil a.sealed);
       behind = last;
-      told = subst P (sym e) end;
-      writer = refl;
+      told = subst (λ ps. IsTold c.pages c.lowest c.born ps base k (all_records c ++ more) last) (sym (append-nil c.places)) told;
+      next_known = omega arith;
+      writer = ended_none h.behind t.number 0 w.alone;
       room = omega arith;
     })
 
+-- A force.
+
 -- batches with all records tell all that was sealed
 pub all_on_disk : (a : Account) (c : Core) (bs : List (List Record)) → (h : Agrees a c) → records_of bs ≡ all_records c
-    → IsTold c.pages c.first (serial c.g0 (take (length a.sealed) a.sealed)) (c.before + length a.sealed) (records_of bs) h.behind
+    → IsTold c.pages c.lowest c.born c.places (serial c.g0 (take (length a.sealed) a.sealed)) (c.before + length a.sealed) (records_of bs) h.behind
 all_on_disk a c bs h e =
-    let now = subst (λ (rs : List Record). IsTold c.pages c.first (serial c.g0 a.sealed) (c.before + length a.sealed) rs h.behind) (sym e) h.told in
-    subst (λ (ts : List Transaction). IsTold c.pages c.first (serial c.g0 ts) (c.before + length a.sealed) (records_of bs) h.behind) (sym (take-length a.sealed)) now
+    let now = subst (λ (rs : List Record). IsTold c.pages c.lowest c.born c.places (serial c.g0 a.sealed) (c.before + length a.sealed) rs h.behind) (sym e) h.told in
+    subst (λ (ts : List Transaction). IsTold c.pages c.lowest c.born c.places (serial c.g0 ts) (c.before + length a.sealed) (records_of bs) h.behind) (sym (take-length a.sealed)) now
 
 force_all : (a : Account) (c : Core) (bs : List (List Record)) → Agrees a c → records_of bs ≡ all_records c
     → length (batches_bytes bs) + 1 + length (hand []) ≡ used c
@@ -407,12 +384,14 @@ force_all a c bs h same size =
     let first = h.sealed_first in
     let last = h.acknowledged_last in
     let room = h.room in
-    let fits = undo_fits c.g0 a (a.active 1) c.pages c.first (serial c.g0 a.sealed) (c.before + length a.sealed) (all_records c) h.behind h.told h.writer in
+    let fits = undo_fits a c h in
+    let records = append-nil (records_of bs) ∙ same in
     record {
-      only = h.only;
       unfailed = h.unfailed;
       certain = h.certain;
       idle = h.idle;
+      some_pages = h.some_pages;
+      few_pages = h.few_pages;
       some_first = h.some_first;
       next_fits = h.next_fits;
       numbered = h.numbered;
@@ -420,11 +399,14 @@ force_all a c bs h same size =
       sealed_first = omega arith;
       acknowledged_last = omega arith;
       on_disk = h.behind;
+      disk_places = c.places;
       disk_told = all_on_disk a c bs h same;
+      first_known = known_on a c h;
       disk_room = omega arith;
       behind = h.behind;
-      told = subst (λ (rs : List Record). IsTold c.pages c.first (serial c.g0 a.sealed) (c.before + length a.sealed) rs h.behind) (sym (append-nil (records_of bs) ∙ same)) h.told;
-      writer = h.writer;
+      told = subst (λ (rs : List Record). IsTold c.pages c.lowest c.born c.places (serial c.g0 a.sealed) (c.before + length a.sealed) rs h.behind) (sym records) h.told;
+      next_known = h.next_known;
+      writer = subst (λ (rs : List Record). IsWriter c.places c.g0 a (a.active 1) (words c.pages rs) h.behind) (sym records) h.writer;
       room = omega arith;
     }
 

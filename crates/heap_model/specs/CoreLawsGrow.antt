@@ -13,7 +13,8 @@ use Rattle.graph_model.specs.Transaction.{Transaction, serial}
 use Rattle.graph_model.specs.History.{Account, account, account_after, session_of, done, cut_short, answered, sealed, commits, acknowledged}
 use Rattle.graph_model.specs.HistoryLaws.{account-append}
 use Rattle.heap_model.specs.Core.{Core, IsStep, IsRun}
-use Rattle.heap_model.specs.CoreCrash.{KeepsCommits, HasCommits, HasAtLeast}
+use Rattle.heap_model.specs.Opening.{next_of}
+use Rattle.heap_model.specs.CoreCrash.{IsSuperOf, KeepsCommits, HasCommits, HasAtLeast}
 use Rattle.heap_model.specs.CoreLawsCrash.{commits-sealed}
 use Rattle.heap_model.specs.CoreLawsRun.{step_history, same_run}
 use Rattle.heap_model.specs.CoreValid.{IsSound}
@@ -85,9 +86,10 @@ has_commits_on c d made image from to run has =
 pub keeps_has : (c : Core) (image : List ℕ) → KeepsCommits c image → HasCommits c image
 keeps_has c image keeps = record { count = keeps.0; stands = keeps.1.stands; some = keeps.1.some }
 
--- another image that stands for the same commits keeps what that one kept
-pub keeps_as : (c : Core) (image : List ℕ) (keeps : KeepsCommits c image) (other : List ℕ) → StandsFor (serial c.g0 (take keeps.0 (commits c.history))) (c.before + keeps.0) other → KeepsCommits c other
-keeps_as c image keeps other stands = (keeps.0, record { stands = stands; kept = keeps.1.kept; some = keeps.1.some })
+-- another image that stands for the same commits with the core's superblock keeps what that one kept
+pub keeps_as : (c : Core) (image : List ℕ) (keeps : KeepsCommits c image) (other : List ℕ) → (stands : StandsFor (serial c.g0 (take keeps.0 (commits c.history))) (c.before + keeps.0) other)
+    → IsSuperOf stands.super c → c.first ≤ next_of stands.super stands.batches → KeepsCommits c other
+keeps_as c image keeps other stands of next = (keeps.0, record { stands = stands; of = of; next = next; kept = keeps.1.kept; some = keeps.1.some })
 
 -- an image that keeps what was acknowledged has as many commits at least
 pub keeps_at_least : (c : Core) (image : List ℕ) → KeepsCommits c image → HasAtLeast c (acknowledged c.history) image

@@ -16,26 +16,26 @@ use Rattle.heap_model.specs.Image.{words_of, IsLegalLog, Holds, IsLegal, Says, S
 
 -- an image holds one superblock
 pub one_held : (s r : Super) (bs cs : List (List Record)) (image : List ℕ) → IsLegal s bs image → IsLegal r cs image → s ≡ r
-one_held s r bs cs image legal other = one_super s r legal.log.limits other.log.limits (sym legal.held.super ∙ other.held.super)
+one_held s r bs cs image legal other = one_super s r legal.log.shaped.limits other.log.shaped.limits (sym legal.held.super ∙ other.held.super)
 
 -- and one log
 pub one_log : (s : Super) (bs cs : List (List Record)) (image : List ℕ) → IsLegal s bs image → IsLegal s cs image → bs ≡ cs
 one_log s bs cs image legal other =
     let size = legal.held.size in
-    let limits = legal.log.limits.small_log in
+    let limits = legal.log.shaped.limits.small_log in
     let long = length_part image log_offset s.log_bytes (omega arith) in
-    holds_once (part image log_offset s.log_bytes) (omega arith) bs cs legal.log.good other.log.good legal.held.log other.held.log
+    holds_once (part image log_offset s.log_bytes) (omega arith) bs cs legal.log.shaped.good other.log.shaped.good legal.held.log other.held.log
 
 -- a log says one state
-one_base : (s : Super) (bs : List (List Record)) (legal other : IsLegalLog s bs) → legal.state.base ≡ other.state.base
-one_base s bs legal other = let same : Some legal.state ≡ Some other.state = sym legal.reached ∙ other.reached in cc
+one_base : (s : Super) (bs : List (List Record)) (legal other : IsLegalLog s bs) → legal.shaped.state.base ≡ other.shaped.state.base
+one_base s bs legal other = let same : Some legal.shaped.state ≡ Some other.shaped.state = sym legal.shaped.reached ∙ other.shaped.reached in cc
 
 -- one graph, up to names, and one number of commits
 pub one_said : (g h : Graph) (k j : ℕ) (s : Super) (bs : List (List Record)) → Says g k s bs → Says h j s bs → (canon g ≡ canon h) × (k ≡ j)
 one_said g h k j s bs says other =
     let base = one_base s bs says.legal other.legal in
     let there = subst (λ n. IsSeen (words_of s bs) n says.seen) base says.shows in (
-      sym says.graph ∙ seen_canon (id_at (words_of s bs)) (id_at (words_of s bs)) (words_of s bs) other.legal.state.base says.seen other.seen there other.shows ∙ other.graph,
+      sym says.graph ∙ seen_canon (id_at (words_of s bs)) (id_at (words_of s bs)) (words_of s bs) other.legal.shaped.state.base says.seen other.seen there other.shows ∙ other.graph,
       sym says.count ∙ other.count,
     )
 

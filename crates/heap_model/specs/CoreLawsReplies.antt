@@ -4,7 +4,7 @@ use Rattle.std.specs.Option.{option_to_list, option_map}
 use Rattle.std.proofs.lemmas.List.{append-nil}
 use Rattle.std.proofs.lemmas.List.Sums.{fold-append}
 use Rattle.graph_model.specs.declared.event.Event.{Event}
-use Rattle.graph_model.specs.declared.event.Event.TheVariants.{Begin, Root, Put, Clear, Drop, Get, Same, Len, Seal, Abort, Force}
+use Rattle.graph_model.specs.declared.event.Event.TheVariants.{Begin, Root, New, Put, Clear, Link, Drop, Get, Same, Len, Seal, Abort, Force}
 use Rattle.graph_model.specs.declared.reply.Entry.{Entry}
 use Rattle.graph_model.specs.declared.reply.Refusal.{Refusal}
 use Rattle.graph_model.specs.declared.reply.Refusal.TheVariants.{DiskFault, Stopped}
@@ -99,8 +99,10 @@ granted_hears next g0 a heard (Seal s) certain h one = subst (λ (n : ℕ). Hear
 granted_hears next g0 a heard (Abort s) certain h one = subst (λ (n : ℕ). Hears next g0 a heard (Abort n)) (sym one) (record { sealed = h.sealed; active = refl; in_doubt = h.in_doubt })
 granted_hears next g0 a heard Force certain h one = record { sealed = h.sealed; active = h.active; in_doubt = h.in_doubt }
 granted_hears next g0 a heard (Root s i) certain h one = call_hears next g0 a heard (Root s i) h tt one
+granted_hears next g0 a heard (New s i n) certain h one = call_hears next g0 a heard (New s i n) h tt one
 granted_hears next g0 a heard (Put s i j v) certain h one = call_hears next g0 a heard (Put s i j v) h tt one
 granted_hears next g0 a heard (Clear s i j) certain h one = call_hears next g0 a heard (Clear s i j) h tt one
+granted_hears next g0 a heard (Link s i j k) certain h one = call_hears next g0 a heard (Link s i j k) h tt one
 granted_hears next g0 a heard (Drop s i) certain h one = call_hears next g0 a heard (Drop s i) h tt one
 granted_hears next g0 a heard (Get s i j k) certain h one = call_hears next g0 a heard (Get s i j k) h tt one
 granted_hears next g0 a heard (Same s i j) certain h one = call_hears next g0 a heard (Same s i j) h tt one

@@ -1,5 +1,5 @@
 -- Laws of the log's room: what records take, and when the log has room for an event.
-use Rattle.std.proofs.Common.{◌≡◌, ◌≢◌, ℕ, ◌+◌, ◌≤◌, Bool, true, false, cond, List, [], ◌∷◌, ◌++◌, length, Some, None, refl, ap, ◌∙◌, arith, length-append}
+use Rattle.std.proofs.Common.{◌≡◌, sym, ◌≢◌, ℕ, ◌+◌, ◌≤◌, Bool, true, false, cond, List, [], ◌∷◌, ◌++◌, length, Some, None, refl, ap, ◌∙◌, arith, length-append}
 use Rattle.std.specs.Prelude.{nat_lt}
 use Rattle.std.specs.Int.{w32, to_le_bytes}
 use Rattle.std.proofs.lemmas.Bool.{le-ltb, ltb-false}
@@ -13,9 +13,9 @@ use Rattle.log_machine.specs.declared.UndoEntry.{UndoEntry}
 use Rattle.log_machine.specs.Machine.{abort_records, undo_bytes}
 use Rattle.log_machine.specs.AbortLaws.{abort_length}
 use Rattle.log_records.specs.Record.{spelling, spellings}
-use Rattle.gated_log.specs.Log.{framed, batch, batches_bytes, records_of, hand}
+use Rattle.gated_log.specs.Log.{framed, batch, batches_bytes, records_of, hand, with_batch}
 use Rattle.heap_model.specs.ListLaws.{sum-first}
-use Rattle.heap_model.specs.Core.{need, sessions, kept_for, reserved, full_log}
+use Rattle.heap_model.specs.Core.{Core, need, sessions, kept_for, reserved, full_log, forced}
 
 -- the records of batches with one more
 pub records_of-append : (bs : List (List Record)) (b : List Record) → records_of (bs ++ b ∷ []) ≡ records_of bs ++ b
@@ -80,3 +80,21 @@ need-abort_records [] t [] = omega (arith, abort_length t [])
 need-abort_records [] t (u ∷ us) = omega (arith, abort_length t (u ∷ us))
 need-abort_records (p ∷ ps) t [] = omega (arith, abort_length t [])
 need-abort_records (p ∷ ps) t (u ∷ us) = omega (arith, abort_length t (u ∷ us))
+
+force_batch : (c : Core) (p : List Record) → c.pending ≡ p → forced c p ≡ record c { batches = with_batch c.batches p; pending = [] }
+force_batch c [] e = ap (λ (q : List Record). record c { pending = q }) e
+force_batch c (r ∷ rs) e = refl
+
+-- what a force leaves
+pub forced-with_batch : (c : Core) → forced c c.pending ≡ record c { batches = with_batch c.batches c.pending; pending = [] }
+forced-with_batch c = force_batch c c.pending refl
+
+-- the records of batches with those that wait
+pub records_of-with_batch : (bs : List (List Record)) (p : List Record) → records_of (with_batch bs p) ≡ records_of bs ++ p
+records_of-with_batch bs [] = sym (append-nil (records_of bs))
+records_of-with_batch bs (r ∷ rs) = records_of-append bs (r ∷ rs)
+
+-- and the bytes that they take
+pub length-with_batch : (bs : List (List Record)) (p : List Record) → length (batches_bytes (with_batch bs p)) + 1 + length (hand []) ≡ length (batches_bytes bs) + 1 + length (hand p)
+length-with_batch bs [] = refl
+length-with_batch bs (r ∷ rs) = length-forced bs r rs

@@ -13,9 +13,11 @@ use Rattle.graph_model.specs.HistoryLaws.{account-append}
 use Rattle.graph_model.specs.Plain.{event_refusal, refusal_of, granted, reply_of}
 use Rattle.graph_model.specs.PlainLaws.{account_after-refused}
 use Rattle.log_records.specs.declared.Record.{Record}
-use Rattle.heap_model.specs.Core.{Core, next_number, log_refusal, first_of_two, core_refusal, answer, with_entry, forced, done, after_refusal, after, force_calls, calls_if, calls, IsCutShort, IsStep, IsRun}
+use Rattle.graph_model.specs.Graph.{Graph}
+use Rattle.graph_model.specs.Transaction.{Transaction}
+use Rattle.heap_model.specs.Core.{Core, Ground, ground, room_refusal, next_number, words_refusal, log_refusal, first_of_two, core_refusal, answer, with_entry, forced, done, after_refusal, after, force_calls, calls_if, calls, IsCutShort, IsStep, IsRun}
 use Rattle.heap_model.specs.CoreRuns.{SameOpening}
-use Rattle.heap_model.specs.CoreLawsGranted.{agrees_history, agrees_entry}
+use Rattle.heap_model.specs.CoreLawsGoes.{agrees_history, agrees_entry}
 use Rattle.heap_model.specs.CoreValid.{Agrees, IsValid, HasFailed, IsSound, IsReached}
 use Rattle.heap_model.specs.CoreLawsStep.{done_history, log_force, valid_after}
 
@@ -47,7 +49,7 @@ failed_entry c event reply h =
 
 -- a core that has failed refuses everything
 pub failed_refusal : (c : Core) (event : Event) (entry : ℕ) → (account c.history).failed ≡ Some entry → core_refusal c event ≡ Some (Failed entry)
-failed_refusal c event entry e = ap (λ (o : Option ℕ). refusal_of o (first_of_two (event_refusal (next_number c) c.g0 (account c.history) event) (log_refusal c event))) e
+failed_refusal c event entry e = ap (λ (o : Option ℕ). refusal_of o (first_of_two (event_refusal (next_number c) c.g0 (account c.history) event) (first_of_two (words_refusal c event) (log_refusal c event)))) e
 
 -- and all that changes is its history
 pub failed_after : (c : Core) (event : Event) (entry : ℕ) → (account c.history).failed ≡ Some entry → after c event ≡ with_entry c event (Refused (Failed entry))
@@ -103,7 +105,7 @@ unfailed_if (Some entry) o e = cc
 pub calls-unfailed : (c : Core) (event : Event) → 0 < calls c event → (account c.history).failed ≡ None
 calls-unfailed c event some =
     let a = account c.history in
-    unfailed_if a.failed (first_of_two (event_refusal (next_number c) c.g0 a event) (log_refusal c event)) (calls-force c event some).2
+    unfailed_if a.failed (first_of_two (event_refusal (next_number c) c.g0 a event) (first_of_two (words_refusal c event) (log_refusal c event))) (calls-force c event some).2
 
 -- an event that is cut short leaves all but the history
 pub cut_fails : (c : Core) (event : Event) (reply : Reply) → IsValid c → IsCutShort c event reply
@@ -122,11 +124,17 @@ sound_step c d event reply (inr failed) one (inr cut) = let never = calls-unfail
 force_made : (c : Core) (why : Option Refusal) → why ≡ None → calls_if why c Force ≡ force_calls c.pending
 force_made c why none = ap (λ o. calls_if o c Force) none
 
+force_room : (g : Ground) (g0 : Graph) (a : Account) (o : Option Transaction) → room_refusal g g0 a o Force ≡ None
+force_room g g0 a None = refl
+force_room g g0 a (Some t) = refl
+
 -- a force of a valid core is not refused, and calls the disk where something waits
 pub force_granted : (c : Core) → IsValid c → core_refusal c Force ≡ None
 force_granted c valid =
     let a = account c.history in
-    ap (λ (o : Option ℕ). refusal_of o (first_of_two (event_refusal (next_number c) c.g0 a Force) (log_refusal c Force))) valid.unfailed ∙ log_force c valid
+    ap (λ (o : Option ℕ). refusal_of o (first_of_two (event_refusal (next_number c) c.g0 a Force) (first_of_two (words_refusal c Force) (log_refusal c Force)))) valid.unfailed
+    ∙ ap (λ (o : Option Refusal). first_of_two o (log_refusal c Force)) (force_room (ground c) c.g0 a (a.active 0))
+    ∙ log_force c valid
 
 pub calls-forced : (c : Core) → IsValid c → calls c Force ≡ force_calls c.pending
 calls-forced c valid = force_made c (core_refusal c Force) (force_granted c valid)
@@ -161,37 +169,39 @@ idle_entry c event reply e = ap (λ (a : Account). a.active 1) (account-append c
 -- What each step keeps.
 
 same_forced : (c : Core) (p : List Record) → SameOpening c (forced c p)
-same_forced c [] = record { pages = refl; room = refl; first = refl; g0 = refl; before = refl }
-same_forced c (r ∷ rs) = record { pages = refl; room = refl; first = refl; g0 = refl; before = refl }
+same_forced c [] = record { pages = refl; room = refl; lowest = refl; first = refl; g0 = refl; born = refl; before = refl }
+same_forced c (r ∷ rs) = record { pages = refl; room = refl; lowest = refl; first = refl; g0 = refl; born = refl; before = refl }
 
 same_done : (c : Core) (event : Event) → SameOpening c (done c event)
 same_done c Force = same_forced c c.pending
-same_done c event = record { pages = refl; room = refl; first = refl; g0 = refl; before = refl }
+same_done c event = record { pages = refl; room = refl; lowest = refl; first = refl; g0 = refl; born = refl; before = refl }
 
 same_refusal : (o : Option Refusal) (c : Core) (event : Event) → SameOpening c (after_refusal o c event)
 same_refusal None c event = same_done c event
-same_refusal (Some why) c event = record { pages = refl; room = refl; first = refl; g0 = refl; before = refl }
+same_refusal (Some why) c event = record { pages = refl; room = refl; lowest = refl; first = refl; g0 = refl; born = refl; before = refl }
 
 same_entry : (c d : Core) (event : Event) (reply : Reply) → SameOpening c d → SameOpening c (with_entry d event reply)
-same_entry c d event reply same = record { pages = same.pages; room = same.room; first = same.first; g0 = same.g0; before = same.before }
+same_entry c d event reply same = record { pages = same.pages; room = same.room; lowest = same.lowest; first = same.first; g0 = same.g0; born = same.born; before = same.before }
 
 -- a step keeps what the core was opened with
 pub same_step : (c d : Core) (event : Event) (reply : Reply) → IsStep c event reply d → SameOpening c d
 same_step c d event reply (inl whole) =
     subst (SameOpening c) (sym whole.1) (same_entry c (after_refusal (core_refusal c event) c event) event (answer c event) (same_refusal (core_refusal c event) c event))
 same_step c d event reply (inr cut) =
-    subst (SameOpening c) (sym cut.1) (same_entry c c event reply (record { pages = refl; room = refl; first = refl; g0 = refl; before = refl }))
+    subst (SameOpening c) (sym cut.1) (same_entry c c event reply (record { pages = refl; room = refl; lowest = refl; first = refl; g0 = refl; born = refl; before = refl }))
 
 same_on : (c mid d : Core) → SameOpening c mid → SameOpening mid d → SameOpening c d
 same_on c mid d one more = record {
   pages = more.pages ∙ one.pages;
   room = more.room ∙ one.room;
+  lowest = more.lowest ∙ one.lowest;
   first = more.first ∙ one.first;
   g0 = more.g0 ∙ one.g0;
+  born = more.born ∙ one.born;
   before = more.before ∙ one.before;
 }
 
 -- so do steps, one after another
 pub same_run : (c d : Core) (events : List Event) → IsRun c events d → SameOpening c d
-same_run c d [] run = subst (SameOpening c) (sym run) (record { pages = refl; room = refl; first = refl; g0 = refl; before = refl })
+same_run c d [] run = subst (SameOpening c) (sym run) (record { pages = refl; room = refl; lowest = refl; first = refl; g0 = refl; born = refl; before = refl })
 same_run c d (event ∷ events) run = same_on c run.1 d (same_step c run.1 event run.0 run.2) (same_run run.1 d events run.3)

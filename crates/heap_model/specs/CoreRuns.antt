@@ -7,8 +7,10 @@ use Rattle.heap_model.specs.Core.{Core, after, calls}
 pub record SameOpening (c d : Core) : Type 0 where
   pub pages : d.pages ≡ c.pages
   pub room : d.room ≡ c.room
+  pub lowest : d.lowest ≡ c.lowest
   pub first : d.first ≡ c.first
   pub g0 : d.g0 ≡ c.g0
+  pub born : d.born ≡ c.born
   pub before : d.before ≡ c.before
 
 -- the state after these events

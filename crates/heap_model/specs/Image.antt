@@ -18,17 +18,21 @@ use Rattle.gated_log.specs.Log.{HoldsBatches, batches_bytes, records_of}
 abbrev pub words_of : Super → List (List Record) → List ℕ
 words_of s batches = committed_words s.pages s.first (records_of batches)
 
--- What a legal log of a heap with these numbers says: its records follow one another; the log has room for those that take back
+-- What a shaped log of a heap with these numbers says: its records follow one another; the log has room for those that take back
 -- what transactions wrote that have not ended; and without these writes the used words are objects that refer to one another.
-pub record IsLegalLog (s : Super) (batches : List (List Record)) : Type 0 where
+pub record IsShapedLog (s : Super) (batches : List (List Record)) : Type 0 where
   pub limits : IsSuper s
   pub good : AllByRecursion IsRecord (records_of batches)
   pub state : State
   pub reached : after_all (start s.pages s.first) (records_of batches) ≡ Some state
   pub room : length (batches_bytes batches) + 1 + reserve state ≤ s.log_bytes
   pub walked : IsWalked (words_of s batches) state.base state.used
-  pub own_births : HaveOwnBirths (words_of s batches) walked.starts
-  pub born_before : AreBornBefore state.next (words_of s batches) state.base walked.starts
+
+-- A legal log: a shaped one in which births differ and come from transactions below the next one. An opening does not look at births.
+pub record IsLegalLog (s : Super) (batches : List (List Record)) : Type 0 where
+  pub shaped : IsShapedLog s batches
+  pub own_births : HaveOwnBirths (words_of s batches) shaped.walked.starts
+  pub born_before : AreBornBefore shaped.state.next (words_of s batches) shaped.state.base shaped.walked.starts
 
 -- A disk's image holds the heap with these numbers, whose log holds these batches, and no page has been stored.
 pub record Holds (s : Super) (batches : List (List Record)) (image : List ℕ) : Type 0 where
@@ -44,7 +48,7 @@ pub record IsLegal (s : Super) (batches : List (List Record)) (image : List ℕ)
 
 -- a graph is seen in what these batches leave
 abbrev pub Shows : (s : Super) (batches : List (List Record)) → IsLegalLog s batches → Graph → Type 0
-Shows s batches legal g = IsSeen (words_of s batches) legal.state.base g
+Shows s batches legal g = IsSeen (words_of s batches) legal.shaped.state.base g
 
 -- A legal log says a graph, up to the names of objects, and a number of commits.
 pub record Says (g : Graph) (k : ℕ) (s : Super) (batches : List (List Record)) : Type 0 where

@@ -1,4 +1,4 @@
--- The theorems on the core of a heap, of one session and the root object so far, and the files that prove their parts.
+-- The theorems on the core of a heap, of one session so far, and the files that prove their parts.
 --
 -- The crash, `CrashTheorem`. Wherever a crash comes, the image is legal and stands for the graph that the first k committed
 -- transactions give when run one after another, and k counts all that were acknowledged.
@@ -20,7 +20,7 @@
 --
 -- CoreLawsCalls and CoreLawsEnding are on the calls of the disk and on the events that end a run, CoreLawsGraph is on what is in memory,
 -- and ListLaws on lists.
-use Rattle.std.specs.Prelude.{◌≡◌, ℕ, ◌+◌, ◌≤◌, List, length, take}
+use Rattle.std.specs.Prelude.{◌≡◌, ℕ, ◌+◌, ◌≤◌, Bool, true, IsTrue, List, length, take}
 use Rattle.std.specs.List.{AllByRecursion}
 use Rattle.graph_model.specs.declared.event.Event.{Event}
 use Rattle.graph_model.specs.Canon.{canon}
@@ -36,16 +36,17 @@ use Rattle.heap_model.specs.Core.{Core, IsRun}
 use Rattle.heap_model.specs.CoreCrash.{IsOnDisk, IsSuperOf, KeepsCommits}
 use Rattle.heap_model.specs.CoreReplies.{call_replies_of}
 use Rattle.heap_model.specs.CoreValid.{IsReached, IsSound}
-use Rattle.heap_model.specs.Image.{IsLegalLog, Holds, Shows, Says, StandsFor}
-use Rattle.heap_model.specs.Opening.{rolled_back, next_behind, opened}
+use Rattle.heap_model.specs.Image.{IsShapedLog, IsLegalLog, Holds, Shows, Says, StandsFor}
+use Rattle.heap_model.specs.Opening.{rolled_back, next_behind, opened, IsFound}
+use Rattle.graph_words.specs.Places.{Places}
 
 -- Events of one session reach a core from a core, whichever of them the disk cuts short.
 abbrev pub StepsTheorem : Type 0
 StepsTheorem = (c d : Core) (events : List Event) → IsReached c → AllByRecursion IsSingleSession events → IsRun c events d → IsReached d
 
--- Each image that holds what a crash leaves of a core keeps its commits. A core that is reached is sound.
+-- Each image that holds what a crash leaves of a core keeps its commits, where births give the names. A core that is reached is sound.
 abbrev pub CrashTheorem : Type 0
-CrashTheorem = (c : Core) (s : Super) (batches : List (List Record)) → IsSound c → IsOnDisk c batches → IsSuperOf s c → (image : List ℕ) → Holds s batches image → KeepsCommits c image
+CrashTheorem = (c : Core) (s : Super) (batches : List (List Record)) → IsSound c → IsTrue c.born → IsOnDisk c batches → IsSuperOf s c → (image : List ℕ) → Holds s batches image → KeepsCommits c image
 
 -- An image stands for one graph, up to the names of objects, and for one number of commits.
 abbrev pub OneMeaningTheorem : Type 0
@@ -55,16 +56,27 @@ OneMeaningTheorem = (g h : Graph) (k j : ℕ) (image : List ℕ) → StandsFor g
 abbrev pub RepliesTheorem : Type 0
 RepliesTheorem = (c : Core) → IsReached c → call_replies_of c.history ≡ serial_replies c.g0 (commits c.history)
 
--- What holds of an opening where the log held these batches and this graph was seen.
-pub record Opens (s : Super) (batches : List (List Record)) (g : Graph) : Type 0 where
-  pub reached : IsReached (opened s batches g)
-  pub next : (opened s batches g).first ≡ next_behind s.first (records_of batches)  -- the number of the next transaction
-  pub found : Says g (machine.commits (records_of batches)) s batches  -- the log that was found says this graph
-  pub left : Says g (machine.commits (records_of batches)) s (rolled_back s batches)  -- so does the one behind the opening
+-- What holds of an opening where the log held these batches and this graph stands at these places.
+pub record Opens (s : Super) (batches : List (List Record)) (born : Bool) (places : Places) (g : Graph) : Type 0 where
+  pub reached : IsReached (opened s batches born places g)
+  pub next : (opened s batches born places g).first ≡ next_behind s.first (records_of batches)  -- the number of the next transaction
 
--- A heap that is opened on any legal log goes on.
+-- A heap that is opened on any shaped log goes on, under any names of its objects.
 abbrev pub OpeningTheorem : Type 0
-OpeningTheorem = (s : Super) (batches : List (List Record)) (legal : IsLegalLog s batches) (g : Graph) → Shows s batches legal g → Opens s batches g
+OpeningTheorem =
+    (s : Super) (batches : List (List Record)) (shaped : IsShapedLog s batches) (born : Bool) (places : Places) (g : Graph)
+    → IsFound s batches shaped born places g → Opens s batches born places g
+
+-- A legal log and the one behind its opening say the same.
+pub record SaysOn (g : Graph) (s : Super) (batches : List (List Record)) : Type 0 where
+  pub found : Says g (machine.commits (records_of batches)) s batches
+  pub left : Says g (machine.commits (records_of batches)) s (rolled_back s batches)
+
+-- The graph that stands in what a legal log leaves is the one that it says, and it stands there under the names of births.
+abbrev pub SayingTheorem : Type 0
+SayingTheorem =
+    (s : Super) (batches : List (List Record)) (legal : IsLegalLog s batches) (g : Graph) → Shows s batches legal g
+    → (places : Places) × (h : Graph) × IsFound s batches legal.shaped true places h × (canon h ≡ canon g) × SaysOn h s batches
 
 -- A core d goes on where a crash left the first k commits of c since its opening, and all that was acknowledged is among them.
 pub record GoesOnFrom (c : Core) (k : ℕ) (d : Core) : Type 0 where
@@ -77,5 +89,6 @@ pub record GoesOnFrom (c : Core) (k : ℕ) (d : Core) : Type 0 where
 -- A heap that is opened again on what a crash left of a core goes on from its first commits. So it may crash and go on any number of times.
 abbrev pub AgainTheorem : Type 0
 AgainTheorem =
-    (c : Core) (s : Super) (batches : List (List Record)) (g : Graph) → IsReached c → IsSuperOf s c → IsOnDisk c batches → (legal : IsLegalLog s batches) → Shows s batches legal g
-    → (k : ℕ) × GoesOnFrom c k (opened s batches g)
+    (c : Core) (s : Super) (batches : List (List Record)) (places : Places) (g : Graph) → IsReached c → IsTrue c.born → IsSuperOf s c → IsOnDisk c batches
+    → (legal : IsLegalLog s batches) → IsFound s batches legal.shaped true places g
+    → (k : ℕ) × GoesOnFrom c k (opened s batches true places g)

@@ -1,2 +1,1 @@
-mod LegalLog
-mod Opening
+pub mod Opening

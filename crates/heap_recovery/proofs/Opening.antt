@@ -28,16 +28,15 @@ use Rattle.log_machine.specs.AbortLaws.{rollback_fits, rollback_words}
 use Rattle.log_machine.specs.CommittedLaws.{committed_words_at}
 use Rattle.object_layout.specs.Walk.{IsWalked, IsWalkFault}
 use Rattle.object_layout.specs.WalkLaws.{walked_fault}
-use Rattle.heap_model.specs.CoreLawsCrash.{records_of-with_batch}
-use Rattle.heap_model.specs.CoreLawsHeld.{held_with, still_stands, rolled_stands}
-use Rattle.heap_model.specs.Image.{words_of, IsLegalLog, Holds, IsLegal, Says, StandsFor}
-use Rattle.heap_model.specs.Opening.{rollback_in, rollback_of, rolled_back, next_in, next_of}
+use Rattle.heap_model.specs.CoreLawsRoom.{records_of-with_batch}
+use Rattle.heap_model.specs.CoreLawsHeld.{still_stands, rolled_stands}
+use Rattle.heap_model.specs.Image.{words_of, IsShapedLog, IsLegalLog, Holds, StandsFor}
+use Rattle.heap_model.specs.Opening.{rollback_in, rollback_of, rolled_back, used_in, next_in}
 use Rattle.heap_recovery.specs.declared.error.RecoverError.{RecoverError}
 use Rattle.heap_recovery.specs.declared.error.RecoverError.TheVariants.{NoMemory, NotHeap, Damaged, Disk}
 use Rattle.heap_recovery.specs.declared.reading.Reading.{Reading}
 use Rattle.heap_recovery.specs.declared.recovery.Recovered.{Recovered}
 use Rattle.heap_recovery.specs.Recovered.{IsRead, IsRecovered, IsFromOutside, ErrorPasses, OpenPasses, log_error, replay_error}
-use Rattle.heap_recovery.proofs.LegalLog.{legal_log}
 
 -- a log that is not damaged fails by the outside
 pub outside_of : (e : LogError) → ((offset : ℕ) → e ≢ logging.BadBatch offset) → IsFromOutside (log_error e)
@@ -140,43 +139,49 @@ module _ (s : Super) (batches : List (List Record)) (read : Reading) (is : IsRea
       ∙ ap (λ (rs : List Record). words s.pages (records_of batches ++ rs)) (sym same_rollback)
       ∙ ap (words s.pages) (sym (records_of-with_batch batches (rollback_of s batches)))
 
-  -- what was read is a legal log, if the walk of its words passes
-  pub read_legal : (used : log_used read.log + reserve read.state ≤ log_room read.log) (now : List ℕ) → now ≡ all_taken_back read.state read.words → IsWalked now read.state.base read.state.used → IsLegalLog s batches
-  read_legal room now rolled walked =
-      legal_log s batches read.state is.limits is.good is.state (omega (arith, room, used_of read.log batches is.log, is.room))
-      (subst (λ (l : List ℕ). IsWalked l read.state.base read.state.used) (rolled ∙ committed) walked)
+  -- what was read is a shaped log, if the walk of its words passes
+  pub read_shaped : (used : log_used read.log + reserve read.state ≤ log_room read.log) (now : List ℕ) → now ≡ all_taken_back read.state read.words → IsWalked now read.state.base read.state.used → IsShapedLog s batches
+  read_shaped room now rolled walked = record {
+    limits = is.limits;
+    good = is.good;
+    state = read.state;
+    reached = is.state;
+    room = omega (arith, room, used_of read.log batches is.log, is.room);
+    walked = subst (λ (l : List ℕ). IsWalked l read.state.base read.state.used) (rolled ∙ committed) walked;
+  }
 
   -- a legal log has the room for its rollback, and its walk passes
   pub legal_walk : (legal : IsLegalLog s batches) (state : State) → state ≡ read.state → (now : List ℕ) → now ≡ all_taken_back read.state read.words → IsWalked now state.base state.used
   legal_walk legal state same now rolled =
-      let one : legal.state ≡ state = (let both : Some legal.state ≡ Some read.state = sym legal.reached ∙ is.state in cc) in
-      subst (λ (x : State). IsWalked now x.base x.used) one (subst (λ (l : List ℕ). IsWalked l legal.state.base legal.state.used) (sym (rolled ∙ committed)) legal.walked)
+      let one : legal.shaped.state ≡ state = (let both : Some legal.shaped.state ≡ Some read.state = sym legal.shaped.reached ∙ is.state in cc) in
+      subst (λ (x : State). IsWalked now x.base x.used) one (subst (λ (l : List ℕ). IsWalked l legal.shaped.state.base legal.shaped.state.used) (sym (rolled ∙ committed)) legal.shaped.walked)
 
   -- what is opened
   pub recovered : (r : Result Recovered RecoverError) (log : Log) (now : List ℕ) (of : Super) (state : State) → state ≡ read.state → of ≡ read.of → log_place log ≡ log_place read.log → log_room log ≡ log_room read.log
       → now ≡ all_taken_back read.state read.words → Keeps log (with_batch batches (rollback read.state)) []
       → IfOk r (λ found. found.log ≡ log) → IfOk r (λ found. found.words ≡ now) → IfOk r (λ found. found.pages ≡ of.pages)
-      → IfOk r (λ found. found.commits ≡ state.commits) → IfOk r (λ found. found.next ≡ state.next) → IfOk r (IsRecovered s batches)
-  recovered (Err e) log now of state same_state same_of at room taken keeps same_log same_words same_pages same_commits next = tt
-  recovered (Ok found) log now of state same_state same_of at room taken keeps same_log same_words same_pages same_commits next = record {
+      → IfOk r (λ found. found.used ≡ state.used) → IfOk r (λ found. found.commits ≡ state.commits) → IfOk r (λ found. found.next ≡ state.next) → IfOk r (IsRecovered s batches)
+  recovered (Err e) log now of state same_state same_of at room taken keeps same_log same_words same_pages same_used same_commits next = tt
+  recovered (Ok found) log now of state same_state same_of at room taken keeps same_log same_words same_pages same_used same_commits next = record {
     log = subst (λ (x : Log). Keeps x (rolled_back s batches) []) (sym same_log) (subst (λ (l : List Record). Keeps log (with_batch batches l) []) (sym same_rollback) keeps);
     place = ap log_place same_log ∙ at ∙ is.place;
     room = ap log_room same_log ∙ room ∙ is.room;
     words = same_words ∙ taken ∙ rolled_words;
     pages = same_pages ∙ ap (λ (x : Super). x.pages) (same_of ∙ is.of);
+    used = ap (λ (o : Option State). used_in o) is.state ∙ ap (λ (x : State). x.used) (sym same_state) ∙ sym same_used;
     commits = same_commits ∙ ap (λ (x : State). x.commits) same_state ∙ commits-start s.pages s.first read.state (records_of batches) is.state;
     next = next ∙ ap (λ (x : State). x.next) same_state ∙ sym (ap next_in is.state);
   }
 
--- what is opened is a legal log
-pub opened_legal : (s : Super) (batches : List (List Record)) (read : Reading) (is : IsRead s batches read) (r : Result Recovered RecoverError) (now : List ℕ) (state : State) (fault : Option ℕ)
+-- what is opened is a shaped log
+pub opened_shaped : (s : Super) (batches : List (List Record)) (read : Reading) (is : IsRead s batches read) (r : Result Recovered RecoverError) (now : List ℕ) (state : State) (fault : Option ℕ)
     → log_used read.log + reserve read.state ≤ log_room read.log → state ≡ read.state → now ≡ all_taken_back read.state read.words
     → (fault ≡ None → IsWalked now state.base state.used) → IfOk r (λ found. fault ≡ None) → IfOk r (IsRecovered s batches)
-    → IfOk r (λ found. (t : Super) × (bs : List (List Record)) × IsLegalLog t bs × IsRecovered t bs found)
-opened_legal s batches read is (Err e) now state fault room same taken passes none found = tt
-opened_legal s batches read is (Ok f) now state fault room same taken passes none found =
+    → IfOk r (λ found. (t : Super) × (bs : List (List Record)) × IsShapedLog t bs × IsRecovered t bs found)
+opened_shaped s batches read is (Err e) now state fault room same taken passes none found = tt
+opened_shaped s batches read is (Ok f) now state fault room same taken passes none found =
     let walked = subst (λ (x : State). IsWalked now x.base x.used) same (passes none) in
-    (s, batches, read_legal s batches read is room now taken walked, found)
+    (s, batches, read_shaped s batches read is room now taken walked, found)
 
 -- a walk that passes finds no fault
 pub no_fault : (words : List ℕ) (base used : ℕ) (fault : Option ℕ) → IsWalked words base used → ((at : ℕ) → fault ≡ Some at → IsWalkFault words base used at) → fault ≡ None

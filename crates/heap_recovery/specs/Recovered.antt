@@ -14,7 +14,7 @@ use Rattle.log_records.specs.Record.{IsRecord}
 use Rattle.log_machine.specs.declared.replaying.ReplayError.{ReplayError}
 use Rattle.log_machine.specs.declared.replaying.ReplayError.TheVariants as replaying
 use Rattle.log_machine.specs.Machine.{words, commits}
-use Rattle.heap_model.specs.Opening.{state_of, rolled_back, next_of}
+use Rattle.heap_model.specs.Opening.{state_of, rolled_back, used_of, next_of}
 use Rattle.heap_recovery.specs.Causes.{error_device}
 use Rattle.heap_recovery.specs.declared.at.At.TheVariants.{Batch, Rec}
 use Rattle.heap_recovery.specs.declared.error.RecoverError.{RecoverError}
@@ -40,6 +40,7 @@ pub record IsRecovered (s : Super) (batches : List (List Record)) (found : Recov
   pub room : log_room found.log ≡ s.log_bytes
   pub words : found.words ≡ words s.pages (records_of (rolled_back s batches))
   pub pages : found.pages ≡ s.pages
+  pub used : used_of s batches ≡ found.used
   pub commits : found.commits ≡ commits (records_of batches)
   pub next : found.next ≡ next_of s batches
 

@@ -9,7 +9,7 @@ ghost use Rattle.image_plan.specs.declared.superblock.Super.{Super};
 ghost use Rattle.log_records.specs.declared.Record.{Record};
 ghost use Rattle.log_machine.specs.Machine.{rollback, all_taken_back, reserve};
 ghost use Rattle.object_layout.specs.Walk.{IsWalked, IsWalkFault};
-ghost use Rattle.heap_model.specs.Image.{IsLegalLog, Holds, IsLegal, StandsFor};
+ghost use Rattle.heap_model.specs.Image.{IsShapedLog, Holds, IsLegal, StandsFor};
 ghost use Rattle.heap_model.specs.Opening.{rollback_of, rolled_back, opening_calls};
 ghost use Rattle.heap_recovery.specs.Causes.{open_device};
 ghost use Rattle.heap_recovery.specs.declared.at.At.TheVariants.{Address};
@@ -35,6 +35,8 @@ pub struct Recovered {
     pub words: PageWords,
     /// How many pages each space has.
     pub pages: u32,
+    /// How many words of the current space its objects take.
+    pub used: u32,
     /// How many transactions the records commit.
     pub commits: u64,
     /// The number of the next transaction: the heap's first, or one more than the greatest in the log.
@@ -44,8 +46,8 @@ pub struct Recovered {
 /// Opens the image on the disk. The writes of unfinished transactions are rolled back, ascending by number and each newest
 /// first, by one forced batch of compensation records (repeating history as in ARIES, 1992); where there are none the disk is only read.
 pub fn recover<D: Disk>(alloc: Global, disk: &mut D) -> Result<Recovered, RecoverError>
-    // On every disk what is opened is a legal log, rolled back.
-    ensures opens { IfOk result (λ found. (s : Super) × (batches : List (List Record)) × IsLegalLog s batches × IsRecovered s batches found) }
+    // On every disk what is opened is a shaped log, rolled back.
+    ensures opens { IfOk result (λ found. (s : Super) × (batches : List (List Record)) × IsShapedLog s batches × IsRecovered s batches found) }
     ensures inside { IfOk result (λ found. log_place found.log + log_room found.log ≤ D.extent disk.new) }
     ensures disk { KeepsDisk D.Disk disk.old disk.new (open_device result) }
 
@@ -113,6 +115,7 @@ impl Reading {
         ensures log { IfOk result (λ found. found.log ≡ self.log) }
         ensures words { IfOk result (λ found. found.words ≡ self.words) }
         ensures pages { IfOk result (λ found. found.pages ≡ self.of.pages) }
+        ensures used { IfOk result (λ found. found.used ≡ self.state.used) }
         ensures commits { IfOk result (λ found. found.commits ≡ self.state.commits) }
         ensures next { IfOk result (λ found. found.next ≡ self.state.next) }
         ensures no_disk { open_device result ≡ Ok tt }
@@ -124,6 +127,7 @@ impl Reading {
         }
         Ok(Recovered {
             pages: self.of.pages,
+            used: self.state.used(),
             commits: self.state.commits(),
             next: self.state.next(),
             log: self.log,

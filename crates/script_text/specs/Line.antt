@@ -2,7 +2,7 @@
 use Rattle.std.specs.Prelude.{ℕ, ◌-◌, ◌==◌, ◌||◌, not, Bool, false, List, [], ◌∷◌, length, filter, find, slice_index, Option, None, Some, option_map, option_and_then, bytes_eq, codes, if◌then◌else◌}
 use Rattle.std.specs.List.{slice_split, flat_map}
 use Rattle.graph_model.specs.declared.event.Event.{Event}
-use Rattle.graph_model.specs.declared.event.Event.TheVariants.{Begin, Root, Put, Clear, Drop, Get, Same, Len, Seal, Abort, Force}
+use Rattle.graph_model.specs.declared.event.Event.TheVariants.{Begin, Root, New, Put, Clear, Link, Drop, Get, Same, Len, Seal, Abort, Force}
 use Rattle.script_text.specs.declared.line.Line.{Line}
 use Rattle.script_text.specs.declared.line.Line.TheVariants.{One, Commit}
 use Rattle.script_text.specs.Number.{number}
@@ -34,8 +34,10 @@ abbrev pub calls : List ℕ → List (List ℕ × Line)
 calls [] =
     (codes "begin", One (Begin 1)) ∷ (codes "seal", One (Seal 1)) ∷ (codes "abort", One (Abort 1)) ∷ (codes "commit", Commit 1) ∷ []
 calls (h ∷ []) = (codes "root", One (Root 1 h)) ∷ (codes "drop", One (Drop 1 h)) ∷ (codes "len", One (Len 1 h)) ∷ []
-calls (h ∷ second ∷ []) = (codes "clear", One (Clear 1 h second)) ∷ (codes "same", One (Same 1 h second)) ∷ []
-calls (h ∷ i ∷ third ∷ []) = (codes "put", One (Put 1 h i third)) ∷ (codes "get", One (Get 1 h i third)) ∷ []
+calls (h ∷ second ∷ []) =
+    (codes "new", One (New 1 h second)) ∷ (codes "clear", One (Clear 1 h second)) ∷ (codes "same", One (Same 1 h second)) ∷ []
+calls (h ∷ i ∷ third ∷ []) =
+    (codes "put", One (Put 1 h i third)) ∷ (codes "link", One (Link 1 h i third)) ∷ (codes "get", One (Get 1 h i third)) ∷ []
 calls more = []
 
 -- what a verb asks for with these numbers

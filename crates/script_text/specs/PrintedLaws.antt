@@ -9,7 +9,7 @@ use Rattle.std.proofs.lemmas.Fmt.{decimal_nonempty, length-decimal-le, digits_de
 use Rattle.std.proofs.lemmas.List.{get_or-append-add}
 use Rattle.std.proofs.lemmas.Str.Parse.{IsNumeralModel, numerals_by_fold}
 use Rattle.graph_model.specs.declared.event.Event.{Event}
-use Rattle.graph_model.specs.declared.event.Event.TheVariants.{Begin, Root, Put, Clear, Drop, Get, Same, Len, Seal, Abort, Force}
+use Rattle.graph_model.specs.declared.event.Event.TheVariants.{Begin, Root, New, Put, Clear, Link, Drop, Get, Same, Len, Seal, Abort, Force}
 use Rattle.graph_model.specs.SlowHeap.{IsSingleSession}
 use Rattle.graph_model.specs.Text.{event_text}
 use Rattle.script_text.specs.declared.line.Line.TheVariants.{One}
@@ -19,8 +19,10 @@ use Rattle.script_text.specs.Line.{pieces, words, numbers, call_of, read_text}
 -- the numbers behind an event's verb
 abbrev pub numbers_of : Event → List ℕ
 numbers_of (Root s h) = h ∷ []
+numbers_of (New s h len) = h ∷ len ∷ []
 numbers_of (Put s h i v) = h ∷ i ∷ v ∷ []
 numbers_of (Clear s h i) = h ∷ i ∷ []
+numbers_of (Link s h i h2) = h ∷ i ∷ h2 ∷ []
 numbers_of (Drop s h) = h ∷ []
 numbers_of (Get s h i h2) = h ∷ i ∷ h2 ∷ []
 numbers_of (Same s h h2) = h ∷ h2 ∷ []
@@ -155,8 +157,10 @@ event_read event verb ns text word spelled call =
 pub read_text-event_text : (event : Event) → IsSingleSession event → AreSpellable (numbers_of event) → read_text (event_text event) ≡ Some (One event)
 read_text-event_text (Begin s) single spelled = rw single (event_read (Begin 1) (codes "begin") [] refl refl spelled refl)
 read_text-event_text (Root s h) single spelled = rw single (event_read (Root 1 h) (codes "root") (h ∷ []) (simp append_assoc) refl spelled refl)
+read_text-event_text (New s h len) single spelled = rw single (event_read (New 1 h len) (codes "new") (h ∷ len ∷ []) (simp append_assoc) refl spelled refl)
 read_text-event_text (Put s h i v) single spelled = rw single (event_read (Put 1 h i v) (codes "put") (h ∷ i ∷ v ∷ []) (simp append_assoc) refl spelled refl)
 read_text-event_text (Clear s h i) single spelled = rw single (event_read (Clear 1 h i) (codes "clear") (h ∷ i ∷ []) (simp append_assoc) refl spelled refl)
+read_text-event_text (Link s h i h2) single spelled = rw single (event_read (Link 1 h i h2) (codes "link") (h ∷ i ∷ h2 ∷ []) (simp append_assoc) refl spelled refl)
 read_text-event_text (Drop s h) single spelled = rw single (event_read (Drop 1 h) (codes "drop") (h ∷ []) (simp append_assoc) refl spelled refl)
 read_text-event_text (Get s h i h2) single spelled = rw single (event_read (Get 1 h i h2) (codes "get") (h ∷ i ∷ h2 ∷ []) (simp append_assoc) refl spelled refl)
 read_text-event_text (Same s h h2) single spelled = rw single (event_read (Same 1 h h2) (codes "same") (h ∷ h2 ∷ []) (simp append_assoc) refl spelled refl)

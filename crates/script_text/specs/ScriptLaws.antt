@@ -25,8 +25,8 @@ calls_sound : (given : List ℕ) → AllByRecursion (λ (call : List ℕ × Line
 calls_sound [] =
     (((refl, tt), omega arith), (((refl, tt), omega arith), (((refl, tt), omega arith), (((refl, (tt, tt)), omega arith), tt))))
 calls_sound (h ∷ []) = (((refl, tt), omega arith), (((refl, tt), omega arith), (((refl, tt), omega arith), tt)))
-calls_sound (h ∷ second ∷ []) = (((refl, tt), omega arith), (((refl, tt), omega arith), tt))
-calls_sound (h ∷ i ∷ third ∷ []) = (((refl, tt), omega arith), (((refl, tt), omega arith), tt))
+calls_sound (h ∷ second ∷ []) = (((refl, tt), omega arith), (((refl, tt), omega arith), (((refl, tt), omega arith), tt)))
+calls_sound (h ∷ i ∷ third ∷ []) = (((refl, tt), omega arith), (((refl, tt), omega arith), (((refl, tt), omega arith), tt)))
 calls_sound (a ∷ b ∷ c ∷ d ∷ more) = tt
 
 find_sound : (verb : List ℕ) (from : List (List ℕ × Line)) → AllByRecursion (λ (call : List ℕ × Line). IsSound call.1) from → IsSoundIn (option_map (λ (call : List ℕ × Line). call.1) (find (λ (call : List ℕ × Line). bytes_eq verb call.0) from))

@@ -78,6 +78,7 @@ fn pair_call_of(verb: &[u8], h: u64, second: u64) -> Option<Line>
 {
     let s = SESSION;
     match verb {
+        b"new" => Some(Line::One(Event::New { s, h, len: second })),
         b"clear" => Some(Line::One(Event::Clear { s, h, i: second })),
         b"same" => Some(Line::One(Event::Same { s, h, h2: second })),
         _ => None,
@@ -91,6 +92,7 @@ fn field_call_of(verb: &[u8], h: u64, i: u64, third: u64) -> Option<Line>
     let s = SESSION;
     match verb {
         b"put" => Some(Line::One(Event::Put { s, h, i, v: third })),
+        b"link" => Some(Line::One(Event::Link { s, h, i, h2: third })),
         b"get" => Some(Line::One(Event::Get { s, h, i, h2: third })),
         _ => None,
     }

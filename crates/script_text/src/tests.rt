@@ -6,7 +6,7 @@ use std::test::Fail;
 
 /// A line of each form, with blank lines, more blanks between words, leading zeros and the greatest number.
 const EACH_FORM: &str =
-    "1 begin\n1 root 0\n\n1   put 64 4 4611686018427387904\n01 clear 0 3\n1 drop 63\n\
+    "1 begin\n1 root 0\n1 new 1  18446744073709551615\n\n1   put 64 4 4611686018427387904\n01 clear 0 3\n1 link 0 3 01\n1 drop 63\n\
     1 get 0 18446744073709551615 64\n1 same 0 00000000000000000001\n1 len 0\n1 seal\n\n1 abort\n1 commit\nforce";
 
 #[test]
@@ -16,6 +16,7 @@ fn each_form_of_a_line_is_read(rt: HostRuntime) -> Result<(), Fail> {
     let want = [
         Line::One(Event::Begin { s }),
         Line::One(Event::Root { s, h: 0 }),
+        Line::One(Event::New { s, h: 1, len: most }),
         Line::One(Event::Put {
             s,
             h: 64,
@@ -23,6 +24,12 @@ fn each_form_of_a_line_is_read(rt: HostRuntime) -> Result<(), Fail> {
             v: 4_611_686_018_427_387_904,
         }),
         Line::One(Event::Clear { s, h: 0, i: 3 }),
+        Line::One(Event::Link {
+            s,
+            h: 0,
+            i: 3,
+            h2: 1,
+        }),
         Line::One(Event::Drop { s, h: 63 }),
         Line::One(Event::Get {
             s,
@@ -77,6 +84,11 @@ fn the_first_bad_line_is_told(rt: HostRuntime) -> Result<(), Fail> {
         ("1 root", Err(1)),
         ("1 root 0 0", Err(1)),
         ("1 get 0 0", Err(1)),
+        ("1 new 0", Err(1)),
+        ("1 new 0 0 0", Err(1)),
+        ("1 new 0 18446744073709551616", Err(1)),
+        ("1 link 0 0", Err(1)),
+        ("1 link 0 0 0 0", Err(1)),
         ("1 put 0 0 0 0", Err(1)),
         ("1 put 0 0 18446744073709551615", Ok(1)),
         ("1 put 0 0 18446744073709551616", Err(1)),

@@ -1,12 +1,11 @@
-use Rattle.std.proofs.Common.{◌≡◌, ◌⊎◌, ℕ, ◌+◌, List, Err, sym, ◌∙◌, ap, subst, rules}
-use Rattle.std.specs.Prelude.{IfOk}
+use Rattle.std.proofs.Common.{◌≡◌, ◌⊎◌, ◌+◌, Err, sym, ◌∙◌, rules}
 use Rattle.disk_model.specs.Disk.{part, SameOutside}
 use Rattle.disk_model.specs.Moments.{LeavesOnly}
 use Rattle.gated_log.specs.Log.{with_batch, HoldsBatches}
 use Rattle.log_machine.specs.Machine.{rollback}
 use Rattle.heap_model.specs.CoreLawsHeld.{held_with}
 use Rattle.heap_model.specs.Opening.{opening_calls, rolled_back}
-use Rattle.heap_recovery.proofs.Opening.{error_passes, only_still, held, outside_log, rolled_held, recovered, opened_legal, legal_walk, no_fault, ok_outside, if_ok, placed_there, opening_moments}
+use Rattle.heap_recovery.proofs.Opening.{error_passes, only_still, held, outside_log, rolled_held, recovered, opened_shaped, legal_walk, no_fault, ok_outside, if_ok, placed_there, opening_moments}
 use Rattle.heap_recovery.proofs.recovery.recover.Goals as goal
 
 pub returns-in_err-read-clause-legal : goal.returns-in_err-read-clause-legal
@@ -27,8 +26,8 @@ returns-clause-opens g c =
     let is = found.1 in
     let roll = c.in_ok-roll_back.ensures in
     let keeps = c.in_ok-force.ensures.kept batches (rollback read.state) (roll.kept batches is.log) in
-    let opened = recovered read.of batches read is c.finish.result c.force.new.self c.roll_back.new.self.words c.roll_back.new.self.of c.roll_back.new.self.state roll.state roll.of (c.force.ensures.at ∙ roll.place) (c.force.ensures.same_room ∙ roll.same_room) roll.words keeps c.finish.ensures.log c.finish.ensures.words c.finish.ensures.pages c.finish.ensures.commits c.finish.ensures.next in
-    opened_legal read.of batches read is c.finish.result c.roll_back.new.self.words c.roll_back.new.self.state c.in_ok-fault.fault c.in_ok-read.ensures.room roll.state roll.words c.in_ok-fault.ensures.passes c.finish.ensures.walked opened
+    let opened = recovered read.of batches read is c.finish.result c.force.new.self c.roll_back.new.self.words c.roll_back.new.self.of c.roll_back.new.self.state roll.state roll.of (c.force.ensures.at ∙ roll.place) (c.force.ensures.same_room ∙ roll.same_room) roll.words keeps c.finish.ensures.log c.finish.ensures.words c.finish.ensures.pages c.finish.ensures.used c.finish.ensures.commits c.finish.ensures.next in
+    opened_shaped read.of batches read is c.finish.result c.roll_back.new.self.words c.roll_back.new.self.state c.in_ok-fault.fault c.in_ok-read.ensures.room roll.state roll.words c.in_ok-fault.ensures.passes c.finish.ensures.walked opened
 
 pub returns-clause-found : goal.returns-clause-found
 returns-clause-found g c tells s batches legal =
@@ -36,7 +35,7 @@ returns-clause-found g c tells s batches legal =
     let is = c.in_ok-read.ensures.found tells s batches legal in
     let roll = c.in_ok-roll_back.ensures in
     let keeps = c.in_ok-force.ensures.kept batches (rollback read.state) (roll.kept batches is.log) in
-    recovered s batches read is c.finish.result c.force.new.self c.roll_back.new.self.words c.roll_back.new.self.of c.roll_back.new.self.state roll.state roll.of (c.force.ensures.at ∙ roll.place) (c.force.ensures.same_room ∙ roll.same_room) roll.words keeps c.finish.ensures.log c.finish.ensures.words c.finish.ensures.pages c.finish.ensures.commits c.finish.ensures.next
+    recovered s batches read is c.finish.result c.force.new.self c.roll_back.new.self.words c.roll_back.new.self.of c.roll_back.new.self.state roll.state roll.of (c.force.ensures.at ∙ roll.place) (c.force.ensures.same_room ∙ roll.same_room) roll.words keeps c.finish.ensures.log c.finish.ensures.words c.finish.ensures.pages c.finish.ensures.used c.finish.ensures.commits c.finish.ensures.next
 
 -- a legal image has no fault that a walk finds
 pub returns-clause-legal : goal.returns-clause-legal

@@ -1,0 +1,51 @@
+-- What is read of one entry, and of one after another.
+use Rattle.std.proofs.Common.{◌≡◌, ℕ, ◌+◌, ◌<◌, List, length, get_or, take, Result, Ok, Err, OnOk, refl, sym, subst}
+use Rattle.std.proofs.lemmas.List.{take_more}
+use Rattle.graph_model.specs.declared.reply.Entry.{Entry}
+use Rattle.graph_model.specs.declared.reply.Refusal.{Refusal}
+use Rattle.graph_model.specs.declared.reply.Reply.{Reply}
+use Rattle.graph_model.specs.declared.reply.Reply.TheVariants.{Begun, Sealed, Aborted, Durable, Refused}
+use Rattle.graph_model.specs.History.{Account, account, account_after, answered, begins, makes_call, session_of}
+use Rattle.graph_model.specs.HistoryLaws.{IsCallReply, account-append, account_after-call}
+use Rattle.commit_order.specs.declared.reading.Reading.{Reading}
+use Rattle.commit_order.specs.Told.{TellsOf, Keeps}
+
+on_ok : {T E : Type 0} (r : Result T E) (P Q : Type 0) → (P → Q) → OnOk r P → OnOk r Q
+on_ok (Ok x) P Q f h = f h
+on_ok (Err e) P Q f h = tt
+
+-- a count of entries does not matter
+recounted : (a : Account) (n : ℕ) (reading : Reading) → TellsOf a reading → TellsOf (record a { entries = n }) reading
+recounted a n reading told = record { active = told.active; sealed = told.sealed; in_doubt = told.in_doubt }
+
+-- a transaction that begins
+pub begun_keeps : {T E : Type 0} (r : Result T E) (e : Entry) (s n : ℕ) (old new : Reading) → e.reply ≡ Begun n → s ≡ session_of e.event → OnOk r (Keeps (λ a. begins a s n) old new) → OnOk r (Keeps (λ a. account_after a e) old new)
+begun_keeps r e s n old new is session =
+    on_ok r _ _ (λ keeps a told.
+    let P : Reply → Type 0 = λ reply. TellsOf (record (answered a e.event reply) { entries = a.entries + 1 }) new in
+    subst P (sym is) (recounted (begins a (session_of e.event) n) (a.entries + 1) new (subst (λ q. TellsOf (begins a q n) new) session (keeps a told))))
+
+call_reply : (reply : Reply) → ((n : ℕ) → reply ≡ Begun n → ⊥) → ((n : ℕ) → reply ≡ Sealed n → ⊥) → (reply ≡ Aborted → ⊥) → ((n : ℕ) → reply ≡ Durable n → ⊥) → ((why : Refusal) → reply ≡ Refused why → ⊥) → IsCallReply reply
+call_reply (Begun n) begun sealed aborted durable refused = begun n refl
+call_reply (Sealed n) begun sealed aborted durable refused = sealed n refl
+call_reply Aborted begun sealed aborted durable refused = aborted refl
+call_reply (Durable n) begun sealed aborted durable refused = durable n refl
+call_reply (Refused why) begun sealed aborted durable refused = refused why refl
+call_reply reply begun sealed aborted durable refused = tt
+
+-- a call
+pub call_keeps : {T E : Type 0} (r : Result T E) (e : Entry) (s : ℕ) (old new : Reading)
+    → ((n : ℕ) → e.reply ≡ Begun n → ⊥) → ((n : ℕ) → e.reply ≡ Sealed n → ⊥) → (e.reply ≡ Aborted → ⊥) → ((n : ℕ) → e.reply ≡ Durable n → ⊥) → ((why : Refusal) → e.reply ≡ Refused why → ⊥)
+    → s ≡ session_of e.event → OnOk r (Keeps (λ a. makes_call a s e.event) old new) → OnOk r (Keeps (λ a. account_after a e) old new)
+call_keeps r e s old new begun sealed aborted durable refused session =
+    on_ok r _ _ (λ keeps a told.
+    let is = call_reply e.reply begun sealed aborted durable refused in
+    subst (λ b. TellsOf b new) (sym (account_after-call a e.event e.reply is))
+    (recounted (makes_call a (session_of e.event) e.event) (a.entries + 1) new (subst (λ q. TellsOf (makes_call a q e.event) new) session (keeps a told))))
+
+-- one entry more has been read
+pub read_more : (history : List Entry) (i : ℕ) (d : Entry) (old new : Reading) → i < length history → Keeps (λ a. account_after a (get_or history i d)) old new → TellsOf (account (take i history)) old
+    → TellsOf (account (take (i + 1) history)) new
+read_more history i d old new within keeps told =
+    subst (λ h. TellsOf (account h) new) (sym (take_more history i d within))
+    (subst (λ a. TellsOf a new) (sym (account-append (take i history) (get_or history i d))) (keeps (account (take i history)) told))

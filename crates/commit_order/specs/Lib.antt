@@ -1,0 +1,13 @@
+pub mod CallLaws
+pub mod Heard
+pub mod HoldsLaws
+pub mod Locking
+pub mod LockingLaws
+pub mod OrderLaws
+pub mod PlaceLaws
+pub mod Present
+pub mod PresentLaws
+pub mod PresentSteps
+pub mod Recorded
+pub mod SerialOrder
+pub mod Told

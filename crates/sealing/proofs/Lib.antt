@@ -1,0 +1,4 @@
+mod Addresses
+mod Fields
+mod Found
+mod Inserted
