@@ -1,8 +1,8 @@
 //! The stable heap as a library: it is formatted, opened, and changed by events, each of them one atomic step.
 #![tactic(auto)]
 
-mod fields;
 mod errors;
+mod fields;
 mod formatting;
 mod heap;
 mod history;

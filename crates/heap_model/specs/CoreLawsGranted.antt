@@ -244,13 +244,20 @@ stable_goes a c t event hd i v more id at w holds within place is room =
     let k = c.before + length a.sealed in
     let number = numbered_as a c t w.active h in
     let one : IsWriteAt c.pages c.lowest c.born c.places base seen.graph k t.number seen.made (all_records c) h.behind id at i v = record {
-      told = h.told; number = number; alone = writing.alone; stands = writing.stands; has = writing.made; place = place; within = within; seen = w.seen;
+      told = h.told;
+      number = number;
+      alone = writing.alone;
+      stands = writing.stands;
+      has = writing.made;
+      place = place;
+      within = within;
+      seen = w.seen;
     } in
     let after_it = written h.behind t.number (entry_of c.places seen.graph id at i) in
     let graph : (call seen t.number event).view.graph ≡ with_field seen.graph id i v = w.graph ∙ ap (λ (o : Option Id). put_value seen.graph o i v) holds in
     let update = update_of c.places seen.graph t.number id at i v in
     let told = subst (λ (rs : List Record). IsTold c.pages c.lowest c.born c.places base k (all_records c ++ rs) after_it) (sym is)
-        (write_told c.pages c.lowest c.born c.places base seen.graph k t.number seen.made (all_records c) h.behind id at i v one) in
+    (write_told c.pages c.lowest c.born c.places base seen.graph k t.number seen.made (all_records c) h.behind id at i v one) in
     let now = stable_write_writing c.pages c.lowest c.born c.places base k (all_records c) seen t.number event h.behind id at i v writing one graph w.made in
     let said = subst (λ (rs : List Record). IsWriting c.places (call seen t.number event).view t.number (words c.pages (all_records c ++ rs)) after_it) (sym is) now in
     let P : Option Transaction → Type 0 = λ o. IsWriter c.places c.g0 (called a event) (with_call o event) (words c.pages (all_records c ++ more)) after_it in

@@ -14,7 +14,7 @@ use Rattle.heap_model.specs.CoreValid.{IsTold}
 use Rattle.heap_model.specs.Image.{IsShapedLog, IsLegalLog, Says}
 
 module _ (s : Super) (batches : List (List Record)) (born : Bool) (places : Places) (g : Graph) (k : ℕ) (state : State) (limits : IsSuper s)
-  (told : IsTold s.pages s.first born places g k (records_of batches) state) (room : length (batches_bytes batches) + 1 + reserve state ≤ s.log_bytes) where
+    (told : IsTold s.pages s.first born places g k (records_of batches) state) (room : length (batches_bytes batches) + 1 + reserve state ≤ s.log_bytes) where
   -- the records are a shaped log
   abbrev pub told_shaped : IsShapedLog s batches
   told_shaped = record { limits = limits; good = told.good; state = state; reached = told.reached; room = room; walked = stands_walked told.stands }

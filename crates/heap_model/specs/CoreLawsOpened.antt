@@ -151,17 +151,23 @@ module _ (s : Super) (batches : List (List Record)) (legal : IsLegalLog s batche
 
   -- an image of the log that was found or of the one behind the opening keeps all commits, wherever the opening was stopped
   pub opened_keeps : (image : List ℕ) → Holds s batches image ⊎ Holds s (rolled_back s batches) image → KeepsCommits (opened s batches true places g) image
-  opened_keeps image (inl held) = (0, record {
-    stands = record { super = s; batches = batches; says = none_since batches (says_found s batches legal places g found).found; held = held };
-    of = record { limits = legal.shaped.limits; pages = refl; room = refl; first = refl };
-    next = omega arith;
-    kept = omega arith;
-    some = omega arith;
-  })
-  opened_keeps image (inr held) = (0, record {
-    stands = record { super = s; batches = rolled_back s batches; says = none_since (rolled_back s batches) (says_found s batches legal places g found).left; held = held };
-    of = record { limits = legal.shaped.limits; pages = refl; room = refl; first = refl };
-    next = let one = next_is s batches legal.shaped in let other = next_is s (rolled_back s batches) (rolled_shaped s batches legal.shaped) in omega arith;
-    kept = omega arith;
-    some = omega arith;
-  })
+  opened_keeps image (inl held) = (
+    0,
+    record {
+      stands = record { super = s; batches = batches; says = none_since batches (says_found s batches legal places g found).found; held = held };
+      of = record { limits = legal.shaped.limits; pages = refl; room = refl; first = refl };
+      next = omega arith;
+      kept = omega arith;
+      some = omega arith;
+    },
+  )
+  opened_keeps image (inr held) = (
+    0,
+    record {
+      stands = record { super = s; batches = rolled_back s batches; says = none_since (rolled_back s batches) (says_found s batches legal places g found).left; held = held };
+      of = record { limits = legal.shaped.limits; pages = refl; room = refl; first = refl };
+      next = let one = next_is s batches legal.shaped in let other = next_is s (rolled_back s batches) (rolled_shaped s batches legal.shaped) in omega arith;
+      kept = omega arith;
+      some = omega arith;
+    },
+  )

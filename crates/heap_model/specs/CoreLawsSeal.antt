@@ -53,7 +53,7 @@ places_of_seal a c t h =
 
 -- What a seal finds in a core that agrees with its history, and where it leads.
 module _ (a : Account) (c : Core) (t : Transaction) (h : Agrees a c) (e : a.active 1 ≡ Some t)
-  (space : space_refusal (ground c).state (seal_need (ground c) t.number (view c.g0 a t)) ≡ None) where
+    (space : space_refusal (ground c).state (seal_need (ground c) t.number (view c.g0 a t)) ≡ None) where
   abbrev v : View
   v = view c.g0 a t
 

@@ -90,7 +90,7 @@ abbrev pub written : State → ℕ → UndoEntry → State
 written s t u = turned s t (with_entries s.undo t (u ∷ undo_of s t)) 0
 
 module _ (pages lowest : ℕ) (born : Bool) (places : Places) (base g : Graph) (k t made : ℕ) (records : List Record) (state : State) (id : Id) (at i : ℕ) (v : Val)
-  (w : IsWriteAt pages lowest born places base g k t made records state id at i v) where
+    (w : IsWriteAt pages lowest born places base g k t made records state id at i v) where
   was : get_or (words pages records) (field_at at i) 0 ≡ word_in places g (slice_index_or (fields g id) i Null)
   was = stands_field w.stands id at i w.place w.within
 
@@ -151,7 +151,7 @@ module _ (pages lowest : ℕ) (born : Bool) (places : Places) (base g : Graph) (
 -- An abort.
 
 module _ (pages lowest : ℕ) (born : Bool) (places : Places) (g : Graph) (k t : ℕ) (records : List Record) (state : State) (told : IsTold pages lowest born places g k records state)
-  (number : is_number t ≡ true) (only : IsOnlyLoser state t) where
+    (number : is_number t ≡ true) (only : IsOnlyLoser state t) where
   -- A transaction is taken back and leaves nothing: the records tell the same graph.
   pub abort_told : IsTold pages lowest born places g k (records ++ abort_records t (undo_of state t)) (turned state t (with_entries state.undo t []) 0)
   abort_told =

@@ -63,6 +63,14 @@ impl Spaces {
         self.used
     }
 
+    /// The address of the next word that is not taken.
+    pub fn next_free(&self) -> u32
+        ensures address { result ≡ self.now.base + self.now.used }
+        ensures sound { IsSpaces self.now }
+    {
+        self.base + self.used
+    }
+
     /// How many words of the current space are not taken.
     pub fn free(&self) -> u32
         ensures free { result ≡ free_words self.now }

@@ -1,0 +1,4 @@
+pub mod Leaves
+pub mod Memory
+pub mod Refusals
+pub mod Replies

@@ -1,0 +1,68 @@
+-- What an open heap keeps in memory.
+use Rattle.std.specs.Prelude.{ℕ, ◌==◌, nat_eq, nat_lt, List, [], Bool, false, Option, None, Some, Result, Ok, Err, slice_get, slice_index, option_and_then, if◌then◌else◌}
+use Rattle.std.specs.List.{list_any}
+use Rattle.gated_log.specs.declared.Log.{Log}
+use Rattle.graph_model.specs.declared.reply.Refusal.{Refusal}
+use Rattle.graph_model.specs.declared.reply.Refusal.TheVariants.{NotActive, BadHandle}
+use Rattle.heap_words.specs.declared.Word.{Word}
+use Rattle.heap_words.specs.declared.Word.TheVariants as word
+use Rattle.object_layout.specs.Layout.{field_words}
+use Rattle.volatile_area.specs.Area.{AreaState, starts_of}
+use Rattle.heap_spaces.specs.Spaces.{SpacesState}
+use Rattle.txn_table.specs.declared.place.Place.{Place}
+use Rattle.txn_table.specs.declared.place.Place.TheVariants.{Stable, Volatile}
+use Rattle.txn_table.specs.Table.{TransactionState, TableState, transaction_of}
+
+-- What an open heap keeps in memory, as contracts see it.
+pub record Memory : Type 0 where
+  pub log : Log  -- with the records that wait
+  pub words : List ℕ  -- those of both spaces, by address
+  pub spaces : SpacesState  -- which words of the current space are taken
+  pub table : TableState  -- the transactions that have not ended, and the number of the next
+  pub sealed : ℕ  -- how many transactions were sealed since the heap was opened
+
+-- the transaction of the session that the heap serves
+abbrev pub own : Memory → Option TransactionState
+own m = transaction_of m.table 1
+
+-- where the root object stands
+abbrev pub root_place : Place
+root_place = Stable 0
+
+-- what the word of a reference to the object at a place means
+abbrev pub place_word : Place → Word
+place_word (Stable at) = word.Stable at
+place_word (Volatile at) = word.Volatile at
+
+-- whether two places are one
+abbrev pub is_same_place : Place → Place → Bool
+is_same_place (Stable at) (Stable other) = at == other
+is_same_place (Volatile at) (Volatile other) = at == other
+is_same_place p q = false
+
+-- the words of the fields of an object that a transaction has made, and none where it has made none there
+abbrev pub own_fields : AreaState → ℕ → List ℕ
+own_fields area at = if list_any (nat_eq at) (starts_of area) then field_words area.words at else []
+
+-- the words of the fields of the object at a place, in order, and none where no object stands
+abbrev pub fields_at : List ℕ → AreaState → Place → List ℕ
+fields_at words area (Stable at) = field_words words at
+fields_at words area (Volatile at) = own_fields area at
+
+-- what a handle of a transaction holds; there are 64
+abbrev pub held_in : TransactionState → ℕ → Option Place
+held_in t h = if nat_lt 63 h then None else option_and_then (λ o. o) (slice_get t.handles h)
+
+abbrev pub held_or : Option Place → Result Place Refusal
+held_or None = Err BadHandle
+held_or (Some p) = Ok p
+
+-- the place of the object that a handle holds, or why there is none
+abbrev pub held_place : Option TransactionState → ℕ → Result Place Refusal
+held_place None h = Err NotActive
+held_place (Some t) h = held_or (held_in t h)
+
+-- the words of the fields of the object at a place that a transaction's handle holds
+abbrev pub fields_held : Memory → Option TransactionState → Result Place Refusal → List ℕ
+fields_held m (Some t) (Ok p) = fields_at m.words t.area p
+fields_held m t held = []

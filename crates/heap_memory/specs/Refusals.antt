@@ -1,0 +1,113 @@
+-- Why an event of a session is refused, by what is kept in memory.
+use Rattle.std.specs.Prelude.{ℕ, ◌+◌, ◌==◌, nat_lt, nat_le, List, length, Option, None, Some, Result, Ok, Err, is_some, if◌then◌else◌}
+use Rattle.gated_log.specs.declared.Log.{Log}
+use Rattle.gated_log.specs.LogState.{log_room, log_used, log_need}
+use Rattle.graph_model.specs.declared.reply.Refusal.{Refusal}
+use Rattle.graph_model.specs.declared.reply.Refusal.TheVariants.{AlreadyActive, NotActive, NumbersSpent, BadHandle, Range, BadField, VolatileFull, Exhausted}
+use Rattle.graph_model.specs.Plain.{no_number, no_int, most_fields}
+use Rattle.log_records.specs.declared.Record.{Record}
+use Rattle.log_records.specs.Record.{spellings}
+use Rattle.log_machine.specs.Machine.{end_bytes}
+use Rattle.heap_spaces.specs.Spaces.{SpacesState, free_words, open_words}
+use Rattle.txn_table.specs.declared.place.Place.{Place}
+use Rattle.txn_table.specs.declared.place.Place.TheVariants.{Stable, Volatile}
+use Rattle.txn_table.specs.Table.{TransactionState}
+use Rattle.graph_words.specs.Promotion.{promoted_need, seal_records}
+use Rattle.heap_model.specs.Core.{full_log, first_of_two}
+use Rattle.heap_memory.specs.Memory.{Memory, own, fields_at, held_place}
+
+-- why the log has no room, by what an event needs and what is kept after it
+abbrev pub no_room : Log → ℕ → ℕ → Option Refusal
+no_room log need reserved = full_log (log_room log) (log_used log) need reserved
+
+abbrev pub begin_refusal : Memory → Option Refusal
+begin_refusal m =
+    if is_some (own m) then Some AlreadyActive
+    else if m.table.next == no_number then Some NumbersSpent
+    else no_room m.log 0 (end_bytes 0)
+
+-- why a handle can't be named
+abbrev pub handle_refusal : Option TransactionState → ℕ → Option Refusal
+handle_refusal None h = Some NotActive
+handle_refusal (Some t) h = if nat_lt 63 h then Some BadHandle else None
+
+-- why there is no place, or what comes of it
+abbrev pub and_then : Result Place Refusal → (Place → Option Refusal) → Option Refusal
+and_then (Err why) next = Some why
+and_then (Ok p) next = next p
+
+-- why a field can't be named of an object with so many
+abbrev pub field_refusal : ℕ → ℕ → Option Refusal
+field_refusal count i = if nat_le count i then Some BadField else None
+
+-- why a number can't be written
+abbrev pub range_refusal : ℕ → Option Refusal
+range_refusal v = if nat_le no_int v then Some Range else None
+
+-- why the log has no room for a write into the object at a place: one into a transaction's area needs none
+abbrev pub write_room : Log → TransactionState → Place → Option Refusal
+write_room log t (Stable at) = no_room log (log_need log 27) (end_bytes (length t.undo + 1))
+write_room log t (Volatile at) = None
+
+abbrev pub write_refusal_of : Memory → Option TransactionState → Place → ℕ → Option Refusal
+write_refusal_of m None p i = Some NotActive
+write_refusal_of m (Some t) p i = first_of_two (field_refusal (length (fields_at m.words t.area p)) i) (write_room m.log t p)
+
+-- why a word can't be put into a field of the object at a place
+abbrev pub write_refusal : Memory → Place → ℕ → Option Refusal
+write_refusal m p i = write_refusal_of m (own m) p i
+
+abbrev pub put_refusal : Memory → ℕ → ℕ → ℕ → Option Refusal
+put_refusal m h i v = and_then (held_place (own m) h) (λ p. first_of_two (range_refusal v) (write_refusal m p i))
+
+abbrev pub clear_refusal : Memory → ℕ → ℕ → Option Refusal
+clear_refusal m h i = and_then (held_place (own m) h) (λ p. write_refusal m p i)
+
+abbrev pub link_refusal : Memory → ℕ → ℕ → ℕ → Option Refusal
+link_refusal m h i h2 = and_then (held_place (own m) h) (λ p. and_then (held_place (own m) h2) (λ q. write_refusal m p i))
+
+abbrev pub read_refusal_of : Memory → Option TransactionState → Place → ℕ → Option Refusal
+read_refusal_of m None p i = Some NotActive
+read_refusal_of m (Some t) p i = field_refusal (length (fields_at m.words t.area p)) i
+
+abbrev pub get_refusal : Memory → ℕ → ℕ → ℕ → Option Refusal
+get_refusal m h i h2 = first_of_two (handle_refusal (own m) h2) (and_then (held_place (own m) h) (λ p. read_refusal_of m (own m) p i))
+
+abbrev pub same_refusal : Memory → ℕ → ℕ → Option Refusal
+same_refusal m h h2 = and_then (held_place (own m) h) (λ p. and_then (held_place (own m) h2) (λ q. None))
+
+abbrev pub len_refusal : Memory → ℕ → Option Refusal
+len_refusal m h = and_then (held_place (own m) h) (λ p. None)
+
+-- why a transaction's area has no room for an object of so many fields
+abbrev pub area_refusal : Option TransactionState → ℕ → Option Refusal
+area_refusal None len = Some NotActive
+area_refusal (Some t) len = if nat_lt 4096 (length t.area.words + 2 + len) then Some (VolatileFull (length t.area.words)) else None
+
+abbrev pub new_refusal : Option TransactionState → ℕ → ℕ → Option Refusal
+new_refusal t h len = first_of_two (handle_refusal t h) (first_of_two (if nat_lt most_fields len then Some Range else None) (area_refusal t len))
+
+-- why a transaction can't end
+abbrev pub end_refusal : Option TransactionState → Option Refusal
+end_refusal None = Some NotActive
+end_refusal (Some t) = None
+
+-- the records of the seal of a transaction
+abbrev pub sealing_records : Memory → TransactionState → List Record
+sealing_records m t = seal_records t.area m.words t.undo (m.spaces.base + m.spaces.used)
+
+-- how many words it takes
+abbrev pub sealing_need : Memory → TransactionState → ℕ
+sealing_need m t = promoted_need t.area m.words t.undo
+
+-- why the current space has no room for so many words
+abbrev pub space_refusal : SpacesState → ℕ → Option Refusal
+space_refusal spaces need = if nat_lt (open_words spaces) need then Some (Exhausted need (free_words spaces) spaces.owed) else None
+
+abbrev pub seal_refusal_of : Memory → Option TransactionState → Option Refusal
+seal_refusal_of m None = Some NotActive
+seal_refusal_of m (Some t) =
+    first_of_two (space_refusal m.spaces (sealing_need m t)) (no_room m.log (log_need m.log (length (spellings (sealing_records m t)))) 0)
+
+abbrev pub seal_refusal : Memory → Option Refusal
+seal_refusal m = seal_refusal_of m (own m)

@@ -1,0 +1,41 @@
+-- What an event of a session is answered that is not refused, by what is kept in memory.
+use Rattle.std.specs.Prelude.{ℕ, length, Option, None, Some, Result, Ok, Err, slice_index, if◌then◌else◌}
+use Rattle.graph_model.specs.declared.reply.Refusal.{Refusal}
+use Rattle.graph_model.specs.declared.reply.Reply.{Reply}
+use Rattle.graph_model.specs.declared.reply.Reply.TheVariants as answer
+use Rattle.heap_words.specs.declared.Word.{Word}
+use Rattle.heap_words.specs.declared.Word.TheVariants as word
+use Rattle.heap_words.specs.Word.{meaning}
+use Rattle.txn_table.specs.declared.place.Place.{Place}
+use Rattle.heap_memory.specs.Memory.{Memory, own, is_same_place, held_place, fields_held}
+
+-- what a read of a word of that meaning is answered
+abbrev pub word_reply : Option Word → Reply
+word_reply (Some (word.Int n)) = answer.Int n
+word_reply (Some (word.Stable at)) = answer.Reference
+word_reply (Some (word.Volatile at)) = answer.Reference
+word_reply meant = answer.Null
+
+-- what is meant by the word of a field of the object that a handle holds
+abbrev pub meant_held : Memory → ℕ → ℕ → Option Word
+meant_held m h i = meaning (slice_index (fields_held m (own m) (held_place (own m) h)) i)
+
+abbrev pub get_reply : Memory → ℕ → ℕ → Reply
+get_reply m h i = word_reply (meant_held m h i)
+
+abbrev pub same_reply_of : Result Place Refusal → Result Place Refusal → Reply
+same_reply_of (Ok p) (Ok q) = if is_same_place p q then answer.Yes else answer.No
+same_reply_of one other = answer.No
+
+-- whether two handles hold one object
+abbrev pub same_reply : Memory → ℕ → ℕ → Reply
+same_reply m h h2 = same_reply_of (held_place (own m) h) (held_place (own m) h2)
+
+-- how many fields the object has that a handle holds
+abbrev pub len_reply : Memory → ℕ → Reply
+len_reply m h = answer.Length (length (fields_held m (own m) (held_place (own m) h)))
+
+-- The event was not refused.
+abbrev pub IsGranted : Reply → Type 0
+IsGranted (answer.Refused why) = ⊥
+IsGranted reply = Unit {0}

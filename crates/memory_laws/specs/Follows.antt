@@ -1,0 +1,61 @@
+-- When what an open heap keeps in memory is what a core says.
+use Rattle.std.specs.Prelude.{◌≡◌, ℕ, ◌+◌, List, length, map, Option, None, Some}
+use Rattle.std.specs.Option.{option_map}
+use Rattle.gated_log.specs.LogState.{Keeps, log_place, log_room}
+use Rattle.graph_model.specs.declared.event.Event.{Event}
+use Rattle.graph_model.specs.declared.id.Id.{Id}
+use Rattle.graph_model.specs.declared.reply.Reply.{Reply}
+use Rattle.graph_model.specs.Graph.{Graph}
+use Rattle.graph_model.specs.History.{Account, account}
+use Rattle.graph_model.specs.Plain.{view}
+use Rattle.graph_model.specs.Transaction.{View, Transaction}
+use Rattle.heap_spaces.specs.Spaces.{SpacesState}
+use Rattle.image_plan.specs.Plan.{log_offset}
+use Rattle.log_machine.specs.declared.UndoEntry.{UndoEntry}
+use Rattle.log_machine.specs.Machine.{State, words}
+use Rattle.txn_table.specs.declared.place.Place.{Place}
+use Rattle.txn_table.specs.declared.place.Place.TheVariants.{Stable, Volatile}
+use Rattle.txn_table.specs.Table.{TransactionState}
+use Rattle.graph_words.specs.Places.{Places, address_of, index_of}
+use Rattle.heap_memory.specs.Memory.{Memory, own}
+use Rattle.heap_model.specs.Core.{Core, Ground, ground, all_records, state_behind, undo_with, area_in, answer, after}
+
+-- the place of an object by its address, if it has one, and by its index
+abbrev pub standing_place : Option ℕ → ℕ → Place
+standing_place (Some address) index = Stable address
+standing_place None index = Volatile index
+
+-- the place of an object of a graph
+abbrev pub place_in : Places → Graph → Id → Place
+place_in places g id = standing_place (address_of places id) (index_of g id)
+
+-- what is kept of a transaction of that number that sees this and has made these writes
+abbrev pub kept : Places → View → ℕ → List UndoEntry → TransactionState
+kept places v t undo = record { number = t; handles = map (option_map (place_in places v.graph)) v.registers; undo = undo; area = area_in places v t }
+
+-- what is kept of a session's transaction, where the heap is found so
+abbrev pub kept_of : Ground → Graph → Account → Option Transaction → Option TransactionState
+kept_of ground g0 a None = None
+kept_of ground g0 a (Some t) = Some (kept ground.places (view g0 a t) t.number (undo_with ground.state t.number))
+
+-- the spaces of a heap in that state; nothing is owed to a collection
+abbrev pub spaces_of : State → SpacesState
+spaces_of s = record { pages = s.pages; base = s.base; used = s.used; owed = 0 }
+
+-- What is kept in memory is that of a core whose history tells this account.
+pub record IsMemory (m : Memory) (a : Account) (c : Core) : Type 0 where
+  pub log : Keeps m.log c.batches c.pending
+  pub place : log_place m.log ≡ log_offset
+  pub room : log_room m.log ≡ c.room
+  pub stored : m.words ≡ words c.pages (all_records c)
+  pub state : State
+  pub reached : state_behind c (all_records c) ≡ Some state
+  pub spaces : m.spaces ≡ spaces_of state
+  pub transaction : own m ≡ kept_of (ground c) c.g0 a (a.active 1)
+  pub next : m.table.next ≡ c.first + a.begun
+  pub sealed : m.sealed ≡ length a.sealed
+
+-- An event was answered as the core answers it, and left in memory what the core is then.
+pub record Does (c : Core) (event : Event) (reply : Reply) (new : Memory) : Type 0 where
+  pub replied : reply ≡ answer c event
+  pub memory : IsMemory new (account (after c event).history) (after c event)

@@ -1,0 +1,53 @@
+-- What the handles of a transaction hold in memory, and the fields of it: those of the objects that the core's handles hold.
+use Rattle.std.proofs.Common.{◌≡◌, ◌⊎◌, inl, inr, ℕ, zero, suc, ◌<◌, ◌≤◌, true, false, cond, List, [], ◌∷◌, length, map, Option, Some, None, refl, sym, ap, ◌∙◌, subst, arith}
+use Rattle.std.specs.Prelude.{nat_lt, slice_get, option_and_then}
+use Rattle.std.specs.Option.{option_map}
+use Rattle.std.proofs.lemmas.Bool.{ltb-true}
+use Rattle.graph_model.specs.declared.id.Id.{Id}
+use Rattle.graph_model.specs.Graph.{Graph, fields}
+use Rattle.graph_model.specs.Transaction.{Registers, View, held}
+use Rattle.graph_model.specs.HistoryLaws.{held-past}
+use Rattle.heap_words.specs.declared.Word.{Word}
+use Rattle.heap_words.specs.declared.Word.TheVariants as word
+use Rattle.log_machine.specs.declared.UndoEntry.{UndoEntry}
+use Rattle.txn_table.specs.declared.place.Place.{Place}
+use Rattle.txn_table.specs.declared.place.Place.TheVariants.{Stable, Volatile}
+use Rattle.txn_table.specs.Table.{TransactionState}
+use Rattle.graph_words.specs.Places.{Places, address_of, index_of, standing, place_of, bits_of, IsAtHand, IsOwn}
+use Rattle.graph_words.specs.PlacesLaws.{some_address}
+use Rattle.heap_memory.specs.Memory.{place_word, held_in, held_or, held_place}
+use Rattle.memory_laws.specs.Follows.{standing_place, place_in, kept}
+
+-- the word of a reference to a place is that of the object there
+pub standing_word : (o : Option ℕ) (index : ℕ) → place_word (standing_place o index) ≡ standing o index
+standing_word (Some address) index = refl
+standing_word None index = refl
+
+pub place_in_word : (places : Places) (g : Graph) (id : Id) → place_word (place_in places g id) ≡ place_of places g id
+place_in_word places g id = standing_word (address_of places id) (index_of g id)
+
+-- one that has an address stands there
+pub place_in-placed : (places : Places) (g : Graph) (id : Id) (at : ℕ) → address_of places id ≡ Some at → place_in places g id ≡ Stable at
+place_in-placed places g id at is = ap (λ o. standing_place o (index_of g id)) is
+
+-- another at its index
+pub place_in-apart : (places : Places) (g : Graph) (id : Id) → address_of places id ≡ None → place_in places g id ≡ Volatile (index_of g id)
+place_in-apart places g id is = ap (λ o. standing_place o (index_of g id)) is
+
+got_of_map : (f : Id → Place) (rs : Registers) (h : ℕ) → option_and_then (λ o. o) (slice_get (map (option_map f) rs) h) ≡ option_map f (held rs h)
+got_of_map f [] h = refl
+got_of_map f (None ∷ rs) zero = refl
+got_of_map f (Some id ∷ rs) zero = refl
+got_of_map f (r ∷ rs) (suc h) = got_of_map f rs h
+
+past : (f : Id → Place) (rs : Registers) (h : ℕ) → length rs ≡ 64 → 63 < h → None ≡ option_map f (held rs h)
+past f rs h long above = ap (option_map f) (sym (held-past rs h (omega (arith, long, above))))
+
+-- a handle holds the place of what the core's holds
+pub held_in-kept : (places : Places) (v : View) (t : ℕ) (undo : List UndoEntry) (h : ℕ) → length v.registers ≡ 64
+    → held_in (kept places v t undo) h ≡ option_map (place_in places v.graph) (held v.registers h)
+held_in-kept places v t undo h long = by_test (nat_lt 63 h) refl
+  where
+    by_test : (b : _) → nat_lt 63 h ≡ b → cond b None (option_and_then (λ o. o) (slice_get (map (option_map (place_in places v.graph)) v.registers) h)) ≡ option_map (place_in places v.graph) (held v.registers h)
+    by_test false e = got_of_map (place_in places v.graph) v.registers h
+    by_test true e = past (place_in places v.graph) v.registers h long (ltb-true 63 h e)

@@ -1,0 +1,35 @@
+-- What the working state keeps for the end of its transaction.
+use Rattle.std.specs.Prelude.{ℕ, ◌<◌, List, [], length, Option, None, Some}
+use Rattle.std.specs.List.{AllByRecursion}
+use Rattle.log_machine.specs.declared.UndoEntry.{UndoEntry}
+use Rattle.log_machine.specs.Machine.{field_at, end_bytes}
+use Rattle.txn_table.specs.Table.{TransactionState, TableState, transaction_of}
+
+-- the log's bytes that are kept for the end of a transaction, if there is one
+abbrev pub kept_for_end : Option TransactionState → ℕ
+kept_for_end None = 0
+kept_for_end (Some t) = end_bytes (length t.undo)
+
+-- those of the session that the heap serves
+abbrev pub active_reserve : TableState → ℕ
+active_reserve table = kept_for_end (transaction_of table 1)
+
+abbrev pub one_if : Option TransactionState → ℕ
+one_if None = 0
+one_if (Some t) = 1
+
+-- how many transactions are active
+abbrev pub active_count : TableState → ℕ
+active_count table = one_if (transaction_of table 1)
+
+abbrev pub undo_if : Option TransactionState → List UndoEntry
+undo_if None = []
+undo_if (Some t) = t.undo
+
+-- the writes that may be taken back, the newest first
+abbrev pub active_undo : TableState → List UndoEntry
+active_undo table = undo_if (transaction_of table 1)
+
+-- these writes wrote words below an address
+abbrev pub WroteBelow : ℕ → List UndoEntry → Type 0
+WroteBelow end undo = AllByRecursion (λ u. field_at u.object u.field < end) undo

@@ -1,0 +1,14 @@
+-- The working state, as contracts see it.
+use Rattle.std.specs.Prelude.{List, ℕ, Option, None, Some}
+use Rattle.log_machine.specs.Machine.{taken_back}
+use Rattle.heap_memory.specs.Memory.{Memory}
+use Rattle.working_state.specs.Reserve.{active_undo}
+use Rattle.working_state.specs.declared.working.Working.{Working}
+
+-- what it keeps
+abbrev pub memory : Working → Memory
+memory w = record { log = w.log; words = w.words; spaces = w.spaces; table = w.table; sealed = w.sealed }
+
+-- the words without what an active transaction wrote
+abbrev pub committed : Working → List ℕ
+committed w = taken_back (active_undo w.table) w.words

@@ -1,0 +1,146 @@
+//! The fields of objects: of those that stand in the current space, and of those that a transaction has made.
+ghost use Rattle.std.specs.Prelude.{◌≡◌, ◌<◌, ◌≤◌, ◌^◌, length, Ok, Some, None, OnErr, IfOk, IfSome, IsSome};
+ghost use Rattle.heap_words.specs.Word.{bits, meaning, IsWord};
+ghost use Rattle.graph_model.specs.Plain.{reply_of};
+ghost use Rattle.graph_model.specs.declared.reply.Reply.TheVariants.{Done};
+ghost use Rattle.object_layout.specs.Layout.{field_words};
+ghost use Rattle.txn_table.specs.Table.{with_transaction};
+ghost use Rattle.heap_memory.specs.Memory.{own, own_fields, fields_at as words_at};
+
+use crate::log_room::log_refusal;
+use crate::working::{SESSION, Working, refused};
+use graph_model::{Refusal, Reply};
+use heap_words::{Header, Word, decode, encode, header_of};
+use log_machine::{UndoEntry, end_bytes};
+use log_records::Record;
+use std::alloc::AllocError;
+use txn_table::Place;
+
+/// The words in front of an object's fields: its header and its birth.
+const FIELDS_AT: usize = 2;
+
+/// The words of the fields of the object that stands at an address, in order, and none where no object stands.
+fn fields_at(words: &[u64], at: u32) -> &[u64]
+    requires { length words.now < 2 ^ 32 }
+    ensures { result.now ≡ field_words words.now at }
+{
+    let from = at as usize + FIELDS_AT;
+    if at as usize >= words.len() {
+        return &[];
+    }
+    match header_of(words[at as usize]) {
+        Some(Header::Length(n)) if from + n as usize <= words.len() => {
+            &words[from..from + n as usize]
+        }
+        _ => &[],
+    }
+}
+
+impl Working {
+    ghost use Rattle.heap_memory.specs.Refusals.{write_refusal};
+    ghost use Rattle.heap_memory.specs.Replies.{word_reply};
+    ghost use Rattle.heap_memory.specs.Leaves.{IsAsItWas, Writes, LeavesOwn, with_read, with_handle};
+    ghost use Rattle.working_state.specs.State.{memory};
+
+    /// The words of the fields of the object at a place, in order, and none where no object stands.
+    pub(crate) fn fields(&self, place: Place) -> &[u64]
+        requires { IsSome (own (memory self.now)) }
+        ensures { IfSome (own (memory self.now)) (λ t. result.now ≡ words_at self.now.words t.area place) }
+    {
+        match place {
+            Place::Stable(at) => fields_at(self.words.as_slice(), at),
+            Place::Volatile(at) => self.own_fields(at),
+        }
+    }
+
+    /// The same of an object that the transaction has made.
+    fn own_fields(&self, at: u32) -> &[u64]
+        requires { IsSome (own (memory self.now)) }
+        ensures { IfSome (own (memory self.now)) (λ t. result.now ≡ own_fields t.area at) }
+    {
+        let area = self.table.area(SESSION);
+        if area.is_object(at) {
+            area.fields(at)
+        } else {
+            &[]
+        }
+    }
+
+    /// Puts a word into a field of the object at a place.
+    pub(crate) fn write(&mut self, place: Place, i: u64, word: Word) -> Result<Reply, AllocError>
+        requires active { IsSome (own (memory self.old)) }
+        requires meant { IsWord word }
+        ensures reply { IfOk result (λ reply. reply ≡ reply_of (write_refusal (memory self.old) place i) Done) }
+        ensures done { result ≡ Ok Done → Writes (memory self.old) (memory self.new) place i (bits word) }
+        ensures refused { (why : _) → result ≡ Ok (Reply.Refused why) → IsAsItWas (memory self.old) (memory self.new) }
+        ensures err { OnErr result (IsAsItWas (memory self.old) (memory self.new)) }
+    {
+        if i >= self.fields(place).len() as u64 {
+            return Ok(refused(Refusal::BadField));
+        }
+        match place {
+            Place::Stable(at) => self.write_stable(at, i as u16, encode(word)),
+            Place::Volatile(at) => {
+                self.table.set_field(SESSION, at, i as u32, encode(word));
+                Ok(Reply::Done)
+            }
+        }
+    }
+
+    /// Puts a word into a field of an object that stands in the current space: the before-image goes to the log.
+    fn write_stable(&mut self, object: u32, field: u16, word: u64) -> Result<Reply, AllocError>
+        requires active { IsSome (own (memory self.old)) }
+        requires there { field < length (field_words self.old.words object) }
+        ensures reply { IfOk result (λ reply. reply ≡ reply_of (write_refusal (memory self.old) (Place.Stable object) field) Done) }
+        ensures done { result ≡ Ok Done → Writes (memory self.old) (memory self.new) (Place.Stable object) field word }
+        ensures refused { (why : _) → result ≡ Ok (Reply.Refused why) → IsAsItWas (memory self.old) (memory self.new) }
+        ensures err { OnErr result (IsAsItWas (memory self.old) (memory self.new)) }
+    {
+        let was = self
+            .words
+            .word(object + FIELDS_AT as u32 + u32::from(field));
+        let t = self.table.number(SESSION);
+        let rec = Record::Update {
+            t,
+            object,
+            field,
+            was,
+            word,
+        };
+        let writes = self.table.undo(SESSION).len() as u64 + 1;
+        if let Some(why) = log_refusal(&self.log, self.log.need(&rec), end_bytes(writes)) {
+            return Ok(refused(why));
+        }
+        self.log.reserve(log_records::length(&rec) as usize)?;
+        let entry = UndoEntry { object, field, was };
+        self.table.push_undo(SESSION, entry)?;
+        self.log.append(&rec)?;
+        self.words.apply(&rec);
+        Ok(Reply::Done)
+    }
+
+    /// What a field is answered that was read; a handle holds what it refers to.
+    pub(crate) fn read_into(&mut self, h: u64, word: u64) -> Reply
+        requires active { IsSome (own (memory self.old)) }
+        requires within { h < 64 }
+        ensures reply { result ≡ word_reply (meaning word) }
+        ensures left { IfSome (own (memory self.old)) (λ t. LeavesOwn (memory self.old) (memory self.new) [] (with_read t h (meaning word))) }
+    {
+        match decode(word) {
+            Some(Word::Int(v)) => Reply::Int { v },
+            Some(Word::Stable(at)) => self.refer(h, Place::Stable(at)),
+            Some(Word::Volatile(at)) => self.refer(h, Place::Volatile(at)),
+            Some(Word::Null) | None => Reply::Null,
+        }
+    }
+
+    fn refer(&mut self, h: u64, to: Place) -> Reply
+        requires active { IsSome (own (memory self.old)) }
+        requires within { h < 64 }
+        ensures reply { result ≡ Reply.Reference }
+        ensures left { IfSome (own (memory self.old)) (λ t. LeavesOwn (memory self.old) (memory self.new) [] (with_handle t h (Some to))) }
+    {
+        self.table.set_handle(SESSION, h as u32, Some(to));
+        Reply::Reference
+    }
+}

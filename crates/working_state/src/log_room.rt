@@ -1,0 +1,54 @@
+//! What the log has room for.
+ghost use Rattle.std.specs.Prelude.{◌≡◌, ◌+◌, ◌<◌, ◌^◌, length};
+ghost use Rattle.gated_log.specs.LogState.{log_need};
+ghost use Rattle.log_records.specs.Record.{spellings};
+ghost use Rattle.heap_memory.specs.Refusals.{no_room};
+
+use gated_log::Log;
+use graph_model::Refusal;
+use log_records::Record;
+
+/// The bytes that a batch takes beside its records: its length, and the gate behind it.
+const BATCH_BYTES: u64 = 5;
+
+/// Why the log has no room for an event, if it hasn't: by the bytes that the event needs, and those kept after it.
+pub(crate) fn log_refusal(log: &Log, need: u64, reserved: u64) -> Option<Refusal>
+    requires need { need < 2 ^ 33 }
+    requires reserved { reserved < 2 ^ 33 }
+    ensures { result ≡ no_room log.now need reserved }
+{
+    let used = log.used();
+    if used + need + reserved > log.room() {
+        Some(Refusal::LogFull {
+            used,
+            need,
+            reserved,
+        })
+    } else {
+        None
+    }
+}
+
+/// The bytes that these records need, with those of a batch where no record waits.
+pub(crate) fn need_of(log: &Log, records: &[Record]) -> u64
+    requires { length (spellings records.now) < 2 ^ 32 + 2 ^ 20 }
+    ensures { result ≡ log_need log.now (length (spellings records.now)) }
+{
+    let own = bytes_of(records);
+    if log.pending() {
+        own
+    } else {
+        own + BATCH_BYTES
+    }
+}
+
+fn bytes_of(records: &[Record]) -> u64
+    requires { length (spellings records.now) < 2 ^ 32 + 2 ^ 20 }
+    ensures { result ≡ length (spellings records.now) }
+{
+    let mut bytes = 0;
+    for rec in records {
+        bytes += log_records::length(rec);
+    }
+    bytes
+}
