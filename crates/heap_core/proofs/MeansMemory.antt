@@ -1,0 +1,16 @@
+-- What is kept in memory of a core's transaction.
+use Rattle.std.proofs.Common.{◌≡◌, Bool, Option, None, Some, is_some, refl, ap, ◌∙◌}
+use Rattle.graph_model.specs.Graph.{Graph}
+use Rattle.graph_model.specs.History.{Account}
+use Rattle.graph_model.specs.Transaction.{Transaction}
+use Rattle.heap_memory.specs.Memory.{Memory, own}
+use Rattle.heap_model.specs.Core.{Core, Ground, ground}
+use Rattle.memory_laws.specs.Follows.{IsMemory, kept_of}
+
+is_some_kept : (g : Ground) (g0 : Graph) (a : Account) (o : Option Transaction) → is_some (kept_of g g0 a o) ≡ is_some o
+is_some_kept g g0 a None = refl
+is_some_kept g g0 a (Some t) = refl
+
+-- one is kept where there is one
+pub is_some_own : (m : Memory) (a : Account) (c : Core) → IsMemory m a c → is_some (own m) ≡ is_some (a.active 1)
+is_some_own m a c is = ap is_some is.transaction ∙ is_some_kept (ground c) c.g0 a (a.active 1)
