@@ -1,6 +1,6 @@
 -- A force, and what the disk holds behind an event.
 use Rattle.std.proofs.Common.{lit<, ◌<◌, true, false, ◌≡◌, ◌≢◌, ◌⊎◌, inl, inr, ℕ, ◌+◌, ◌*◌, List, [], ◌∷◌, ◌++◌, length, Option, Some, None, Result, Ok, Err, is_some, refl, sym, ap, ◌∙◌, subst, ⊎_elim}
-use Rattle.std.specs.Prelude.{IfOk}
+use Rattle.std.specs.Prelude.{IfOk, IsTrue}
 use Rattle.std.specs.declared.alloc.AllocError.{AllocError}
 use Rattle.std.proofs.lemmas.List.{append-nil}
 use Rattle.disk_model.specs.Disk.{part, Only, SameOutside}
@@ -26,10 +26,10 @@ use Rattle.image_plan.specs.declared.superblock.Super.{Super}
 use Rattle.log_records.specs.declared.Record.{Record}
 use Rattle.log_records.specs.Record.{spellings}
 use Rattle.heap_model.specs.Core.{Core, ground, all_records, state_behind, next_number, core_refusal, answer, with_entry, after_refusal, after, force_calls}
-use Rattle.heap_model.specs.CoreCrash.{KeepsCommits}
+use Rattle.heap_model.specs.CoreCrash.{IsSuperOf, IsOnDisk, KeepsCommits}
 use Rattle.heap_model.specs.CoreValid.{IsValid, IsSound, IsReached}
-use Rattle.heap_model.specs.CoreLawsCrash.{IsSuperOf, IsOnDisk, forced-with_batch, records_of-with_batch, crash_law}
-use Rattle.heap_model.specs.CoreLawsGranted.{writer_as, undo_active}
+use Rattle.heap_model.specs.CoreLawsCrash.{crash_law}
+use Rattle.heap_model.specs.CoreLawsRoom.{forced-with_batch, records_of-with_batch}
 use Rattle.heap_model.specs.CoreLawsHeld.{held_with}
 use Rattle.heap_model.specs.CoreLawsRun.{sound_valid, failed_refusal, failed_after, calls-force, calls-unfailed, calls-forced, force_granted, after_history, step_history, same_step}
 use Rattle.heap_model.specs.CoreLawsStep.{done_records, valid_after}

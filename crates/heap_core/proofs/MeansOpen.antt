@@ -58,7 +58,7 @@ fresh_memory s batches born places g found m shaped recovered fresh =
       spaces = fresh.spaces ∙ ap (λ n. record { pages = n; base = 0; used = found.used; owed = 0 }) (recovered.pages ∙ sym to.pages)
           ∙ ap (λ n. record { pages = shaped.state.pages; base = n; used = found.used; owed = 0 }) (sym to.base)
           ∙ ap (λ n. record { pages = shaped.state.pages; base = shaped.state.base; used = n; owed = 0 }) (used_found s batches found shaped recovered);
-      transaction = ap (λ t. transaction_of t 1) fresh.table;
+      transaction = let none : own m ≡ transaction_of (new_table found.next) 1 = ap (λ t. transaction_of t 1) fresh.table in none;
       next = ap (λ t. t.next) fresh.table ∙ omega (arith, recovered.next);
       sealed = fresh.sealed;
     }
@@ -70,7 +70,7 @@ opened_memory s batches born places g found w shaped recovered fresh = record {
   works = λ none. fresh_memory s batches born places g found (memory w) shaped recovered fresh;
   lost = λ some. absurd (some refl);
   sealed = fresh.sealed;
-  active = ap (λ t. is_some (transaction_of t 1)) fresh.table;
+  active = let none : is_some (own (memory w)) ≡ is_some (transaction_of (new_table found.next) 1) = ap (λ t. is_some (transaction_of t 1)) fresh.table in none;
 }
 
 -- the disk of such a heap holds it

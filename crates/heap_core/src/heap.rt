@@ -147,13 +147,8 @@ impl<D: Disk> Heap<D> {
                     next,
                 } = found;
                 table.set_next(next);
-                let working = Working {
-                    log,
-                    words,
-                    spaces: Spaces::new(pages, 0, used, 0),
-                    table,
-                    sealed: 0,
-                };
+                let spaces = Spaces::new(pages, 0, used, 0);
+                let working = Working::new(log, words, spaces, table);
                 Ok(Heap {
                     disk,
                     working,

@@ -1,2 +1,7 @@
+pub mod Appended
 pub mod Follows
 pub mod HeldLaws
+pub mod StepEnds
+pub mod StepHandles
+pub mod StepHeld
+pub mod StepWrites
