@@ -1,2 +1,5 @@
 pub mod Follows
 pub mod HeldLaws
+pub mod LogLaws
+pub mod RefusalHandles
+pub mod RefusalLaws
