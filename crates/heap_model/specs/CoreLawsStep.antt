@@ -319,7 +319,8 @@ clear_goes c h i valid may =
     let t = call_transaction c event tt refl may.0 in
     write_goes c t.0 event h i Null valid tt refl t.1 refl refl tt t.2 (ap (λ (o : Option Transaction). call_records (ground c) c.g0 a o event) t.1) may.2
 
-reference_visible : (places : Places) (t made : ℕ) (registers : Registers) (h : ℕ) (o : Option Id) → HoldAllAtHand places t made registers → held registers h ≡ o → IsVisible places t made (reference_to o)
+-- a reference to what a handle holds can be seen
+pub reference_visible : (places : Places) (t made : ℕ) (registers : Registers) (h : ℕ) (o : Option Id) → HoldAllAtHand places t made registers → held registers h ≡ o → IsVisible places t made (reference_to o)
 reference_visible places t made registers h None all is = tt
 reference_visible places t made registers h (Some id) all is = held_at_hand places t made registers h id all is
 

@@ -53,7 +53,8 @@ module _ (m : Memory) (c : Core) (valid : IsValid c) (is : IsMemory m (account c
   abbrev place_held : Transaction → ℕ → Option Place
   place_held t h = option_map (place_in c.places (view c.g0 a t).graph) (held (view c.g0 a t).registers h)
 
-  is_held : (t : Transaction) (h : ℕ) → held_or (place_held t h) ≡ held_place (mine (Some t)) h
+  -- is the place that memory's handle holds
+  pub is_held : (t : Transaction) (h : ℕ) → held_or (place_held t h) ≡ held_place (mine (Some t)) h
   is_held t h = sym (held_place-kept c.places (serial c.g0 a.sealed) t (undo_with (ground c).state t.number) h)
 
   handle_cases : (o : Option Transaction) (h : ℕ) → (call_refusal c.g0 a o (Root 1 h) ≡ handle_refusal (mine o) h) × (call_refusal c.g0 a o (Drop 1 h) ≡ handle_refusal (mine o) h)
