@@ -1,5 +1,6 @@
 mod Calls
 mod Empty
+mod MeansAnswer
 mod MeansForce
 pub mod MeansLeft
 mod MeansLog

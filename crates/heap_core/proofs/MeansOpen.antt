@@ -1,6 +1,8 @@
 -- A heap that has just been opened.
 use Rattle.std.proofs.Common.{◌≡◌, inl, ℕ, ◌+◌, ◌*◌, ◌^◌, ◌<◌, ◌≤◌, Bool, true, List, length, None, Some, is_some, refl, sym, ap, ◌∙◌, arith}
 use Rattle.std.specs.Prelude.{IsTrue}
+use Rattle.std.specs.FinMap.{get-empty}
+use Rattle.std.specs.Ordering.{nat_cmp}
 use Rattle.std.proofs.lemmas.List.{append-nil}
 use Rattle.disk_model.specs.Disk.{Only}
 use Rattle.gated_log.specs.Log.{records_of}
@@ -23,7 +25,7 @@ use Rattle.heap_recovery.specs.declared.recovery.Recovered.{Recovered}
 use Rattle.heap_recovery.specs.Recovered.{IsRecovered}
 use Rattle.heap_memory.specs.Memory.{Memory, own}
 use Rattle.memory_laws.specs.Follows.{IsMemory, spaces_of}
-use Rattle.txn_table.specs.Table.{transaction_of, new_table}
+use Rattle.txn_table.specs.Table.{TransactionState, TableState, transaction_of, new_table}
 use Rattle.working_state.specs.declared.working.Working.{Working}
 use Rattle.working_state.specs.State.{memory}
 use Rattle.heap_core.specs.Means.{Remembers, DiskHolds}
@@ -31,6 +33,10 @@ use Rattle.heap_core.specs.Means.{Remembers, DiskHolds}
 -- as many words are used as the log says
 used_found : (s : Super) (batches : List (List Record)) (found : Recovered) (shaped : IsShapedLog s batches) → IsRecovered s batches found → found.used ≡ shaped.state.used
 used_found s batches found shaped recovered = sym recovered.used ∙ ap used_in shaped.reached
+
+-- a new table has no transaction
+none_begun : (table : TableState) (next : ℕ) → table ≡ new_table next → transaction_of table 1 ≡ None
+none_begun table next is = ap (λ t. transaction_of t 1) is ∙ get-empty {X = TransactionState} nat_cmp 1
 
 -- What a heap just opened keeps in memory: the log and the words that were found, a space of which the objects' words are taken, and no
 -- transaction.
@@ -58,7 +64,7 @@ fresh_memory s batches born places g found m shaped recovered fresh =
       spaces = fresh.spaces ∙ ap (λ n. record { pages = n; base = 0; used = found.used; owed = 0 }) (recovered.pages ∙ sym to.pages)
           ∙ ap (λ n. record { pages = shaped.state.pages; base = n; used = found.used; owed = 0 }) (sym to.base)
           ∙ ap (λ n. record { pages = shaped.state.pages; base = shaped.state.base; used = n; owed = 0 }) (used_found s batches found shaped recovered);
-      transaction = let none : own m ≡ transaction_of (new_table found.next) 1 = ap (λ t. transaction_of t 1) fresh.table in none;
+      transaction = none_begun m.table found.next fresh.table;
       next = ap (λ t. t.next) fresh.table ∙ omega (arith, recovered.next);
       sealed = fresh.sealed;
     }
@@ -70,7 +76,7 @@ opened_memory s batches born places g found w shaped recovered fresh = record {
   works = λ none. fresh_memory s batches born places g found (memory w) shaped recovered fresh;
   lost = λ some. absurd (some refl);
   sealed = fresh.sealed;
-  active = let none : is_some (own (memory w)) ≡ is_some (transaction_of (new_table found.next) 1) = ap (λ t. is_some (transaction_of t 1)) fresh.table in none;
+  active = ap is_some (none_begun (memory w).table found.next fresh.table);
 }
 
 -- the disk of such a heap holds it

@@ -108,7 +108,7 @@ module _ (m n : Memory) (c : Core) (valid : IsValid c) (is : IsMemory m (account
   pub stays : n ≡ m → IsMemory n a c
   stays same = let P : Memory → Type 0 = λ x. IsMemory x a c in subst P (sym same) is
 
-  -- what was refused, or had no memory
+  -- where all is as it was, memory is that of the same core
   pub as_it_was : IsAsItWas m n → IsMemory n a c
   as_it_was same = record {
     log = keeps_same m.log n.log c.batches c.pending same.log is.log;
@@ -168,7 +168,7 @@ module _ (m n : Memory) (c : Core) (valid : IsValid c) (is : IsMemory m (account
       subst (λ (b : Account). IsMemory n b (done c event)) (sym (call_account (next_number c) c.g0 a event called_it one))
       (subst (λ (d : Core). IsMemory n (called a event) d) (sym (call_done c event more called_it records)) now)
 
-  -- one that leaves the transaction so
+  -- the same, where the transaction alone is changed in the table
   pub call_goes : (t : Transaction) (event : Event) (more : List Record) (state : State) (x : TransactionState) → a.active 1 ≡ Some t → IsCall event → session_of event ≡ 1
       → event_records c event ≡ more → Leaves m n more (with_transaction m.table 1 x) m.spaces m.sealed → state_behind c (all_records c ++ more) ≡ Some state → spaces_of s ≡ spaces_of state
       → x ≡ kept c.places (call (view c.g0 a t) t.number event).view t.number (undo_of state t.number) → Goes n c event

@@ -10,9 +10,6 @@ new-requires-in-Ok-recover g c =
     let found = c.in-Ok-recover.ensures.opens in
     (opened_bounds found.0 found.1 c.in-Ok-recover.found found.2 found.3).spaces
 
-pub new-requires-in-Ok-recover-2 : goal.new-requires-in-Ok-recover-2
-new-requires-in-Ok-recover-2 g c = ?
-
 pub returns-in-Ok-recover-clause-opens : goal.returns-in-Ok-recover-clause-opens
 returns-in-Ok-recover-clause-opens g c = ?
 
