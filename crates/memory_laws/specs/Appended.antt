@@ -105,7 +105,7 @@ does c event o gives reply n is replied gives_is go stay = record {
       (λ why e. stay why (replied ∙ ap (λ (p : Option Refusal). reply_of p gives) e));
 }
 
-some_one : {A : Type 0} (x y : A) → Some x ≡ Some y → x ≡ y
+pub some_one : {A : Type 0} (x y : A) → Some x ≡ Some y → x ≡ y
 some_one x y e = cc e
 
 -- a log as it was keeps what it kept
@@ -234,12 +234,33 @@ module _ (m n : Memory) (c : Core) (valid : IsValid c) (is : IsMemory m (account
   reached_still = ap (state_behind c) (append-nil (all_records c)) ∙ valid.told.reached
 
   -- a call of the active transaction
+  pub call_leaves : (t : Transaction) (event : Event) (more : List Record) (state : State) (table : TableState) (x : TransactionState) → a.active 1 ≡ Some t → IsCall event → session_of event ≡ 1
+      → event_records c event ≡ more → Leaves m n more table m.spaces m.sealed → transaction_of table 1 ≡ Some x → table.next ≡ m.table.next
+      → state_behind c (all_records c ++ more) ≡ Some state → spaces_of s ≡ spaces_of state
+      → x ≡ kept c.places (call (view c.g0 a t) t.number event).view t.number (undo_of state t.number) → Goes n c event
+  call_leaves t event more state table x e called_it one records left holds next reached same kept_so =
+      let there : transaction_of table 1 ≡ kept_of (ground_in c c.places state) c.g0 (called a event) (with_call (a.active 1) event) =
+      holds ∙ ap (λ (y : TransactionState). Some y) kept_so ∙ sym (kept_call (ground_in c c.places state) c.g0 a (a.active 1) t event e) in
+      let now = appended_here (called a event) more table m.sealed state left reached same there (next ∙ is.next) is.sealed in
+      subst (λ (b : Account). IsMemory n b (done c event)) (sym (call_account (next_number c) c.g0 a event called_it one))
+      (subst (λ (d : Core). IsMemory n (called a event) d) (sym (call_done c event more called_it records)) now)
+
+  -- one that leaves the transaction so
   pub call_goes : (t : Transaction) (event : Event) (more : List Record) (state : State) (x : TransactionState) → a.active 1 ≡ Some t → IsCall event → session_of event ≡ 1
       → event_records c event ≡ more → Leaves m n more (with_transaction m.table 1 x) m.spaces m.sealed → state_behind c (all_records c ++ more) ≡ Some state → spaces_of s ≡ spaces_of state
       → x ≡ kept c.places (call (view c.g0 a t) t.number event).view t.number (undo_of state t.number) → Goes n c event
   call_goes t event more state x e called_it one records left reached same kept_so =
-      let there : transaction_of (with_transaction m.table 1 x) 1 ≡ kept_of (ground_in c c.places state) c.g0 (called a event) (with_call (a.active 1) event) =
-      get_inserted m.table.active 1 x ∙ ap (λ (y : TransactionState). Some y) kept_so ∙ sym (kept_call (ground_in c c.places state) c.g0 a (a.active 1) t event e) in
-      let now = appended_here (called a event) more (with_transaction m.table 1 x) m.sealed state left reached same there is.next is.sealed in
-      subst (λ (b : Account). IsMemory n b (done c event)) (sym (call_account (next_number c) c.g0 a event called_it one))
-      (subst (λ (d : Core). IsMemory n (called a event) d) (sym (call_done c event more called_it records)) now)
+      call_leaves t event more state (with_transaction m.table 1 x) x e called_it one records left (get_inserted m.table.active 1 x) refl reached same kept_so
+
+-- what an event leaves that changes nothing
+pub nothing_left : (m : Memory) → Leaves m m [] m.table m.spaces m.sealed
+nothing_left m = record {
+  log = record {
+    place = record { at = refl; room = refl; tail = refl; forced = refl };
+    kept = λ batches pending keeps. subst (λ (rs : List Record). Keeps m.log batches rs) (sym (append-nil pending)) keeps;
+  };
+  words = refl;
+  table = refl;
+  spaces = refl;
+  sealed = refl;
+}

@@ -1,3 +1,5 @@
 pub mod Appended
 pub mod Follows
 pub mod HeldLaws
+pub mod StepHandles
+pub mod StepHeld
