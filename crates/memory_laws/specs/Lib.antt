@@ -1,5 +1,6 @@
 pub mod Appended
 pub mod Follows
 pub mod HeldLaws
+pub mod StepEnds
 pub mod StepHandles
 pub mod StepHeld
