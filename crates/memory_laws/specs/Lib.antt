@@ -4,3 +4,4 @@ pub mod HeldLaws
 pub mod StepEnds
 pub mod StepHandles
 pub mod StepHeld
+pub mod StepWrites
