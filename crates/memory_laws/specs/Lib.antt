@@ -4,4 +4,5 @@ pub mod HeldLaws
 pub mod StepEnds
 pub mod StepHandles
 pub mod StepHeld
+pub mod StepNew
 pub mod StepWrites
