@@ -1,8 +1,12 @@
+pub mod Answered
 pub mod Appended
 pub mod Follows
 pub mod HeldLaws
+pub mod KeptWrites
 pub mod StepEnds
 pub mod StepHandles
 pub mod StepHeld
 pub mod StepNew
+pub mod StepReads
+pub mod StepSame
 pub mod StepWrites

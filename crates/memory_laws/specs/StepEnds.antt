@@ -1,23 +1,22 @@
 -- A begin, an abort and a seal are answered as the core answers them, and leave memory as the core is then.
 use Rattle.std.proofs.Common.{◌≡◌, ℕ, ◌+◌, ◌-◌, ◌*◌, ◌≤◌, zero, suc, Bool, true, false, cond, List, [], ◌∷◌, ◌++◌, length, map, replicate, Option, Some, None, Result, Ok, Err, is_some, refl, sym, ap, ◌∙◌, subst, arith, length-append}
 use Rattle.std.specs.declared.alloc.AllocError.{AllocError}
-use Rattle.std.specs.Prelude.{◌==◌, IfOk}
+use Rattle.std.specs.Prelude.{IfOk}
 use Rattle.std.specs.Option.{option_map, option_to_list}
 use Rattle.std.proofs.lemmas.Bool.{ltb-false}
 use Rattle.graph_model.specs.declared.id.Id.{Id}
-use Rattle.graph_model.specs.declared.event.Event.{Event}
 use Rattle.graph_model.specs.declared.event.Event.TheVariants.{Begin, Seal, Abort}
 use Rattle.graph_model.specs.declared.reply.Refusal.{Refusal}
-use Rattle.graph_model.specs.declared.reply.Refusal.TheVariants.{AlreadyActive, NumbersSpent, Exhausted}
+use Rattle.graph_model.specs.declared.reply.Refusal.TheVariants.{AlreadyActive, Exhausted}
 use Rattle.graph_model.specs.declared.reply.Reply.{Reply}
 use Rattle.graph_model.specs.declared.reply.Reply.TheVariants.{Begun, Sealed, Aborted, Refused}
 use Rattle.graph_model.specs.Graph.{Graph}
 use Rattle.graph_model.specs.Transaction.{Transaction, View, serial}
 use Rattle.graph_model.specs.History.{Account, account, account_after}
-use Rattle.graph_model.specs.Plain.{view, no_number, reply_of}
+use Rattle.graph_model.specs.Plain.{view, reply_of}
 use Rattle.log_records.specs.declared.Record.{Record}
 use Rattle.log_machine.specs.declared.UndoEntry.{UndoEntry}
-use Rattle.log_machine.specs.Machine.{State, start, after_all, words, end_bytes, undo_of, losing, with_entries, turned, abort_records}
+use Rattle.log_machine.specs.Machine.{State, start, words, undo_of, with_entries, turned, abort_records}
 use Rattle.log_machine.specs.MachineLaws.{after_all-append2}
 use Rattle.log_machine.specs.MapLaws.{get_inserted, get_removed}
 use Rattle.log_machine.specs.StateLaws.{leads_after_all, room_after_all}
@@ -25,20 +24,20 @@ use Rattle.log_machine.specs.WordsLaws.{length-words}
 use Rattle.volatile_area.specs.Area.{AreaState}
 use Rattle.heap_spaces.specs.Spaces.{SpacesState, with_taken}
 use Rattle.txn_table.specs.declared.place.Place.{Place}
-use Rattle.txn_table.specs.Table.{TransactionState, transaction_of, new_transaction, with_begun, with_ended}
-use Rattle.graph_words.specs.Places.{Places}
+use Rattle.txn_table.specs.Table.{TransactionState, new_transaction, with_begun, with_ended}
 use Rattle.graph_words.specs.Promotion.{promoted_need, seal_records, sealed_state}
 use Rattle.graph_words.specs.PromotionLaws.{CanSeal, seal_follows}
-use Rattle.heap_model.specs.Core.{Core, Ground, ground, all_records, next_number, state_behind, area_in, seal_of, seal_need, space_refusal, room_refusal, call_records, event_records, event_places, core_refusal, done}
+use Rattle.heap_model.specs.Core.{Core, Ground, ground, all_records, next_number, state_behind, area_in, seal_of, seal_need, space_refusal, room_refusal, call_records, event_records, event_places, core_refusal}
 use Rattle.heap_model.specs.CoreValid.{IsWriting, IsValid}
 use Rattle.heap_model.specs.CoreLawsGoes.{writer_as, numbered_as}
 use Rattle.heap_model.specs.CoreLawsTold.{undo_none, abort_told}
 use Rattle.heap_model.specs.CoreLawsStep.{may_go}
 use Rattle.heap_memory.specs.Memory.{Memory, own}
-use Rattle.heap_memory.specs.Refusals.{no_room, begin_refusal, end_refusal, sealing_records, sealing_need, seal_refusal}
+use Rattle.heap_memory.specs.Refusals.{begin_refusal, end_refusal, sealing_records, sealing_need, seal_refusal}
 use Rattle.heap_memory.specs.Leaves.{Leaves, IsAsItWas, Begins, Seals, Aborts}
 use Rattle.memory_laws.specs.Follows.{place_in, kept, kept_of, spaces_of, IsMemory, Does}
-use Rattle.memory_laws.specs.Appended.{Goes, ground_in, does, mine, stays, as_it_was, spaces_are, reached_still, appended, appended_here}
+use Rattle.memory_laws.specs.Answered.{Goes, does}
+use Rattle.memory_laws.specs.Appended.{mine, stays, as_it_was, spaces_are, reached_still, appended, appended_here}
 use Rattle.memory_laws.specs.StepHeld.{test_none}
 
 -- empty handles hold nothing in memory
@@ -93,7 +92,7 @@ module _ (m n : Memory) (c : Core) (valid : IsValid c) (is : IsMemory m (account
       (λ e begun_it. begun_goes (none_active e) (begun m.table.next begun_it))
       (λ why e. stays m n c valid is (stayed why e))
 
-  -- a transaction that may end is the core's
+  -- the writes of the transaction that ends are taken back
   ended_goes : (t : Transaction) → a.active 1 ≡ Some t → Aborts m n → Goes n c (Abort 1)
   ended_goes t e aborts =
       let b = account_after a (record { event = Abort 1; reply = Aborted }) in

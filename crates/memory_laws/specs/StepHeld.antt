@@ -1,15 +1,14 @@
 -- What the handles of the active transaction hold in memory: the places of objects at hand, whose fields memory has.
-use Rattle.std.proofs.Common.{◌≡◌, ◌<◌, ℕ, Bool, true, false, cond, List, length, map, Option, Some, None, Result, Ok, Err, unwrap_or, refl, sym, ap, ◌∙◌, subst, get_or}
+use Rattle.std.proofs.Common.{◌≡◌, ◌<◌, ℕ, Bool, true, false, cond, List, length, map, Option, Some, None, Result, Ok, Err, refl, sym, ap, ◌∙◌}
 use Rattle.std.specs.Prelude.{nat_le, slice_index, slice_index_or}
 use Rattle.std.specs.Option.{option_map}
 use Rattle.std.proofs.lemmas.Bool.{leb-false}
 use Rattle.std.proofs.lemmas.List.{get_or-map, length-map}
 use Rattle.graph_model.specs.declared.id.Id.{Id}
-use Rattle.graph_model.specs.declared.val.Val.{Val}
 use Rattle.graph_model.specs.declared.val.Val.TheVariants.{Null}
 use Rattle.graph_model.specs.declared.reply.Refusal.{Refusal}
 use Rattle.graph_model.specs.declared.reply.Refusal.TheVariants.{BadField}
-use Rattle.graph_model.specs.Graph.{Graph, fields}
+use Rattle.graph_model.specs.Graph.{fields}
 use Rattle.graph_model.specs.Transaction.{Transaction, View, held, serial}
 use Rattle.graph_model.specs.History.{Account, account}
 use Rattle.graph_model.specs.HistoryLaws.{length-registers-run}
@@ -21,12 +20,12 @@ use Rattle.txn_table.specs.Table.{TransactionState}
 use Rattle.graph_words.specs.HandLaws.{read_visible}
 use Rattle.graph_words.specs.Places.{Places, IsAtHand, place_of, word_of, bits_of}
 use Rattle.graph_words.specs.StandsLaws.{visible_meaning}
-use Rattle.heap_model.specs.Core.{Core, ground, all_records, undo_with, area_in, first_of_two}
-use Rattle.heap_model.specs.CoreValid.{IsWriting, IsValid}
+use Rattle.heap_model.specs.Core.{Core, ground, undo_with, area_in, first_of_two}
+use Rattle.heap_model.specs.CoreValid.{IsValid}
 use Rattle.heap_model.specs.CoreLawsGoes.{writer_as}
 use Rattle.heap_model.specs.CoreLawsHandles.{held_at_hand}
 use Rattle.heap_memory.specs.Memory.{Memory, own, fields_at, held_in, held_or, held_place, fields_held}
-use Rattle.heap_memory.specs.Refusals.{and_then, field_refusal, read_refusal_of}
+use Rattle.heap_memory.specs.Refusals.{and_then, field_refusal}
 use Rattle.heap_memory.specs.Replies.{meant_held}
 use Rattle.memory_laws.specs.Follows.{place_in, kept, kept_of, IsMemory}
 use Rattle.memory_laws.specs.HeldLaws.{held_in-kept, fields_at_hand}

@@ -1,9 +1,8 @@
 -- A call that makes an object is answered as the core answers it, and leaves memory as the core is then.
-use Rattle.std.proofs.Common.{◌≡◌, ℕ, ◌+◌, List, [], ◌∷◌, length, map, replicate, Option, Some, None, Result, Ok, Err, refl, sym, ap, ◌∙◌, subst}
+use Rattle.std.proofs.Common.{◌≡◌, ℕ, ◌+◌, List, [], ◌∷◌, length, map, Option, Some, None, Result, Ok, Err, refl, sym, ap, ◌∙◌}
 use Rattle.std.specs.declared.alloc.AllocError.{AllocError}
 use Rattle.std.specs.Prelude.{IfOk, slice_set}
 use Rattle.std.specs.Option.{option_map}
-use Rattle.std.specs.List.{AllByRecursion}
 use Rattle.std.proofs.lemmas.List.{map-set}
 use Rattle.graph_model.specs.declared.id.Id.{Id}
 use Rattle.graph_model.specs.declared.event.Event.{Event}
@@ -12,11 +11,10 @@ use Rattle.graph_model.specs.declared.reply.Refusal.{Refusal}
 use Rattle.graph_model.specs.declared.reply.Reply.{Reply}
 use Rattle.graph_model.specs.declared.reply.Reply.TheVariants.{Done, Refused}
 use Rattle.graph_model.specs.Graph.{Graph}
-use Rattle.graph_model.specs.Transaction.{Transaction, View, Registers, make}
+use Rattle.graph_model.specs.Transaction.{View, Registers, make}
 use Rattle.graph_model.specs.History.{Account, account}
 use Rattle.graph_model.specs.Plain.{view, reply_of}
 use Rattle.graph_model.specs.PlainLaws.{call_reply-done}
-use Rattle.heap_words.specs.declared.Word.TheVariants as word
 use Rattle.log_machine.specs.declared.UndoEntry.{UndoEntry}
 use Rattle.log_machine.specs.Machine.{State, undo_of}
 use Rattle.volatile_area.specs.Area.{AreaState}
@@ -37,7 +35,8 @@ use Rattle.heap_memory.specs.Refusals.{new_refusal}
 use Rattle.heap_memory.specs.Leaves.{Makes, with_made}
 use Rattle.memory_laws.specs.Follows.{place_in, kept, IsMemory, Does}
 use Rattle.memory_laws.specs.HeldLaws.{place_in_word, place_in-apart}
-use Rattle.memory_laws.specs.Appended.{Goes, does, mine, stays, reached_still, call_goes}
+use Rattle.memory_laws.specs.Answered.{Goes, does}
+use Rattle.memory_laws.specs.Appended.{mine, stays, reached_still, call_goes}
 
 -- places whose words are one are one
 one_word : (p q : Place) → place_word p ≡ place_word q → p ≡ q

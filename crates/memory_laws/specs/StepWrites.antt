@@ -1,42 +1,35 @@
 -- A put, a clear and a link are answered as the core answers them, and leave memory as the core is then.
-use Rattle.std.proofs.Common.{◌≡◌, inl, inr, ℕ, ◌+◌, ◌*◌, ◌^◌, ◌<◌, List, [], ◌∷◌, ◌++◌, length, map, Option, Some, None, Result, Ok, Err, refl, sym, ap, ◌∙◌, subst}
+use Rattle.std.proofs.Common.{◌≡◌, inl, inr, ℕ, ◌+◌, ◌*◌, ◌^◌, ◌<◌, List, [], ◌∷◌, length, Option, Some, None, Result, Ok, Err, refl, sym, ap, ◌∙◌, subst}
 use Rattle.std.specs.declared.alloc.AllocError.{AllocError}
 use Rattle.std.specs.Prelude.{IfOk, nat_le, slice_index, slice_index_or}
-use Rattle.std.specs.Option.{option_map}
-use Rattle.std.proofs.Math.Path.{fun_ext}
 use Rattle.std.proofs.lemmas.Bool.{leb-false}
 use Rattle.graph_model.specs.declared.id.Id.{Id}
 use Rattle.graph_model.specs.declared.val.Val.{Val}
-use Rattle.graph_model.specs.declared.val.Val.TheVariants.{Null, Int, Ref}
+use Rattle.graph_model.specs.declared.val.Val.TheVariants.{Null, Int}
 use Rattle.graph_model.specs.declared.event.Event.{Event}
 use Rattle.graph_model.specs.declared.event.Event.TheVariants.{Put, Clear, Link}
 use Rattle.graph_model.specs.declared.reply.Refusal.{Refusal}
 use Rattle.graph_model.specs.declared.reply.Refusal.TheVariants.{Range}
 use Rattle.graph_model.specs.declared.reply.Reply.{Reply}
 use Rattle.graph_model.specs.declared.reply.Reply.TheVariants.{Done, Refused}
-use Rattle.graph_model.specs.Graph.{Graph, fields, with_field}
+use Rattle.graph_model.specs.Graph.{fields, with_field}
 use Rattle.graph_model.specs.Transaction.{Transaction, View, IsCall, held, put_value, reference_to, call, serial}
 use Rattle.graph_model.specs.History.{Account, account, session_of}
 use Rattle.graph_model.specs.Plain.{view, no_int, reply_of}
 use Rattle.graph_model.specs.PlainLaws.{call_reply-done}
 use Rattle.heap_words.specs.Word.{bits}
-use Rattle.log_records.specs.declared.Record.{Record}
 use Rattle.log_records.specs.declared.Record.TheVariants.{Update}
 use Rattle.log_machine.specs.declared.UndoEntry.{UndoEntry}
 use Rattle.log_machine.specs.Machine.{State, words, field_at, undo_of}
 use Rattle.log_machine.specs.MachineLaws.{undo_with as machine_undo_with}
-use Rattle.volatile_area.specs.Area.{AreaState}
 use Rattle.txn_table.specs.declared.place.Place.{Place}
 use Rattle.txn_table.specs.declared.place.Place.TheVariants.{Stable, Volatile}
 use Rattle.txn_table.specs.Table.{TransactionState, with_transaction}
-use Rattle.graph_words.specs.Area.{HasMade}
-use Rattle.graph_words.specs.AreaState.{own_write_area, write_area}
 use Rattle.graph_words.specs.MadeLaws.{own_apart}
-use Rattle.graph_words.specs.Places.{Places, IsOwn, IsVisible, address_of, index_of, made_by, place_of, bits_of}
+use Rattle.graph_words.specs.Places.{IsOwn, IsVisible, address_of, index_of, place_of, bits_of}
 use Rattle.graph_words.specs.PlacesLaws.{some_address}
 use Rattle.graph_words.specs.StandsLaws.{stands_field}
-use Rattle.graph_words.specs.VisibleLaws.{place_of-placed, place_of-apart, index_of-same, length-with_field}
-use Rattle.heap_model.specs.Core.{Core, ground, all_records, area_in, update, write_records, view_records, call_records, event_records, core_refusal, first_of_two}
+use Rattle.heap_model.specs.Core.{Core, ground, all_records, write_records, view_records, call_records, event_records, core_refusal, first_of_two}
 use Rattle.heap_model.specs.CoreValid.{IsValid}
 use Rattle.heap_model.specs.CoreLawsGoes.{writer_as, numbered_as}
 use Rattle.heap_model.specs.CoreLawsTold.{IsWriteAt, word_in, entry_of, update_of, written, write_told}
@@ -44,47 +37,12 @@ use Rattle.heap_memory.specs.Memory.{Memory, own, place_word, held_place, fields
 use Rattle.heap_memory.specs.Refusals.{and_then, field_refusal, range_refusal, write_room, write_refusal_of, write_refusal, put_refusal, clear_refusal, link_refusal}
 use Rattle.heap_memory.specs.Leaves as memory
 use Rattle.heap_memory.specs.Leaves.{Leaves, IsAsItWas, Writes, WritesHeld, Links, with_written}
-use Rattle.memory_laws.specs.Follows.{standing_place, place_in, kept, IsMemory, Does}
+use Rattle.memory_laws.specs.Follows.{place_in, kept, IsMemory, Does}
 use Rattle.memory_laws.specs.HeldLaws.{place_in_word, place_in-placed, place_in-apart}
-use Rattle.memory_laws.specs.Appended.{Goes, does, mine, as_it_was, reached_still, call_goes}
+use Rattle.memory_laws.specs.Answered.{Goes, does}
+use Rattle.memory_laws.specs.Appended.{as_it_was, reached_still, call_goes}
 use Rattle.memory_laws.specs.StepHeld.{IsHeld, both_none, test_none, own_is, held_active, is_held, held_within}
-
--- all objects stand where they did when a field was written
-place_in-with_field : (places : Places) (g : Graph) (id : Id) (i : ℕ) (x : Val) → place_in places (with_field g id i x) ≡ place_in places g
-place_in-with_field places g id i x =
-    fun_ext (λ q. ap (standing_place (address_of places q)) (index_of-same g (with_field g id i x) q (λ k first few. length-with_field g id i x (made_by q.t k))))
-
--- so all handles hold what they held
-handles-with_field : (places : Places) (v : View) (id : Id) (i : ℕ) (x : Val)
-    → map (option_map (place_in places (with_field v.graph id i x))) v.registers ≡ map (option_map (place_in places v.graph)) v.registers
-handles-with_field places v id i x = ap (λ (f : Id → Place). map (option_map f) v.registers) (place_in-with_field places v.graph id i x)
-
--- what is kept when a field of an object of the space was written: the write may be taken back
-kept_write : (places : Places) (v : View) (t : ℕ) (undo : List UndoEntry) (id : Id) (at i : ℕ) (x : Val) → HasMade places v.graph t v.made → address_of places id ≡ Some at
-    → kept places (record v { graph = with_field v.graph id i x }) t undo ≡ kept places v t undo
-kept_write places v t undo id at i x has place =
-    ap (λ (hs : List (Option Place)). record { number = t; handles = hs; undo = undo; area = area_in places (record v { graph = with_field v.graph id i x }) t }) (handles-with_field places v id i x)
-    ∙ ap (λ (area : AreaState). record (kept places v t undo) { area = area }) (write_area has id at i x place)
-
--- and when one of an object of the area was
-kept_own_write : (places : Places) (v : View) (t : ℕ) (undo : List UndoEntry) (id : Id) (i : ℕ) (x : Val) → IsOwn t v.made id → i < length (fields v.graph id) → (now : List ℕ)
-    → kept places (record v { graph = with_field v.graph id i x }) t undo ≡ with_written now (kept places v t undo) (Volatile (index_of v.graph id)) i (bits_of (place_of places v.graph) x)
-kept_own_write places v t undo id i x own within now =
-    ap (λ (hs : List (Option Place)). record { number = t; handles = hs; undo = undo; area = area_in places (record v { graph = with_field v.graph id i x }) t }) (handles-with_field places v id i x)
-    ∙ ap (λ (area : AreaState). record (kept places v t undo) { area = area }) (own_write_area places v.graph t v.made id i x own within)
-
--- the records of a write into an object of the space, and of one into the area
-stable_records : (places : Places) (t : ℕ) (v : View) (h i : ℕ) (x : Val) (id : Id) (at : ℕ) → held v.registers h ≡ Some id → address_of places id ≡ Some at
-    → view_records places t v h i x ≡ update_of places v.graph t id at i x ∷ []
-stable_records places t v h i x id at holds place =
-    ap (λ (o : Option Id). write_records (place_of places v.graph) t v.graph o i x) holds
-    ∙ ap (λ w. update (place_of places v.graph) t w (fields v.graph id) i x) (place_of-placed places v.graph id at place)
-
-own_records : (places : Places) (t made : ℕ) (v : View) (h i : ℕ) (x : Val) (id : Id) → held v.registers h ≡ Some id → HasMade places v.graph t made → IsOwn t made id
-    → view_records places t v h i x ≡ []
-own_records places t made v h i x id holds has own =
-    ap (λ (o : Option Id). write_records (place_of places v.graph) t v.graph o i x) holds
-    ∙ ap (λ w. update (place_of places v.graph) t w (fields v.graph id) i x) (place_of-apart places v.graph id (own_apart has own))
+use Rattle.memory_laws.specs.KeptWrites.{kept_write, kept_own_write, stable_records, own_records}
 
 small_int : (v : ℕ) → range_refusal v ≡ None → v < 2 ^ 62
 small_int v e = leb-false no_int v (test_none (nat_le no_int v) Range None e).0
