@@ -8,8 +8,8 @@ use Rattle.std.proofs.lemmas.List.{length-map}
 use Rattle.std.proofs.lemmas.List.Folds.{list_any_at}
 use Rattle.graph_model.specs.declared.id.Id.{Id}
 use Rattle.graph_model.specs.Graph.{Graph, fields}
-use Rattle.graph_model.specs.Transaction.{Registers, View, held}
-use Rattle.graph_model.specs.HistoryLaws.{held-past}
+use Rattle.graph_model.specs.Transaction.{Registers, View, Transaction, held, run}
+use Rattle.graph_model.specs.HistoryLaws.{held-past, length-registers-run}
 use Rattle.object_layout.specs.Layout.{field_words}
 use Rattle.volatile_area.specs.Area.{starts_of}
 use Rattle.log_machine.specs.declared.UndoEntry.{UndoEntry}
@@ -23,7 +23,7 @@ use Rattle.graph_words.specs.AreaState.{starts_of-area_of, own_words}
 use Rattle.graph_words.specs.MadeLaws.{own_apart}
 use Rattle.graph_words.specs.Stands.{Stands}
 use Rattle.graph_words.specs.StandsLaws.{stands_words}
-use Rattle.heap_memory.specs.Memory.{place_word, fields_at, held_in}
+use Rattle.heap_memory.specs.Memory.{place_word, fields_at, held_in, held_or, held_place}
 use Rattle.memory_laws.specs.Follows.{standing_place, place_in, kept}
 
 -- the word of a reference to a place is that of the object there
@@ -85,3 +85,8 @@ fields_at_hand {t} {made} {places} {g} {words} stands has id (inr own) =
 pub length-fields_at_hand : {t made : ℕ} {places : Places} {g : Graph} {words : List ℕ} {base used : ℕ} → Stands t made places g words base used → HasMade places g t made
     → (id : Id) → IsAtHand places t made id → length (fields_at words (area_of (place_of places g) g t made) (place_in places g id)) ≡ length (fields g id)
 length-fields_at_hand {places = places} {g = g} stands has id at_hand = ap (λ (ws : List ℕ). length ws) (fields_at_hand stands has id at_hand) ∙ length-map (fields g id) (bits_of (place_of places g))
+
+-- the place that a handle holds
+pub held_place-kept : (places : Places) (g : Graph) (t : Transaction) (undo : List UndoEntry) (h : ℕ)
+    → held_place (Some (kept places (run g t) t.number undo)) h ≡ held_or (option_map (place_in places (run g t).graph) (held (run g t).registers h))
+held_place-kept places g t undo h = ap held_or (held_in-kept places (run g t) t.number undo h (length-registers-run g t))

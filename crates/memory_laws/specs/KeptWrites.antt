@@ -1,22 +1,20 @@
--- What is kept of a transaction when a field was written, and the records of the write.
-use Rattle.std.proofs.Common.{◌≡◌, ℕ, ◌<◌, List, [], ◌∷◌, length, map, Option, Some, ap, ◌∙◌}
+-- What is kept of a transaction when a field was written.
+use Rattle.std.proofs.Common.{◌≡◌, ℕ, ◌<◌, List, length, map, Option, Some, ap, ◌∙◌}
 use Rattle.std.specs.Option.{option_map}
 use Rattle.std.proofs.Math.Path.{fun_ext}
 use Rattle.graph_model.specs.declared.id.Id.{Id}
 use Rattle.graph_model.specs.declared.val.Val.{Val}
 use Rattle.graph_model.specs.Graph.{Graph, fields, with_field}
-use Rattle.graph_model.specs.Transaction.{View, held}
+use Rattle.graph_model.specs.Transaction.{View}
 use Rattle.log_machine.specs.declared.UndoEntry.{UndoEntry}
 use Rattle.volatile_area.specs.Area.{AreaState}
 use Rattle.txn_table.specs.declared.place.Place.{Place}
 use Rattle.txn_table.specs.declared.place.Place.TheVariants.{Volatile}
 use Rattle.graph_words.specs.Area.{HasMade}
 use Rattle.graph_words.specs.AreaState.{own_write_area, write_area}
-use Rattle.graph_words.specs.MadeLaws.{own_apart}
 use Rattle.graph_words.specs.Places.{Places, IsOwn, address_of, index_of, made_by, place_of, bits_of}
-use Rattle.graph_words.specs.VisibleLaws.{place_of-placed, place_of-apart, index_of-same, length-with_field}
-use Rattle.heap_model.specs.Core.{area_in, update, write_records, view_records}
-use Rattle.heap_model.specs.CoreLawsTold.{update_of}
+use Rattle.graph_words.specs.VisibleLaws.{index_of-same, length-with_field}
+use Rattle.heap_model.specs.Core.{area_in}
 use Rattle.heap_memory.specs.Memory.{own}
 use Rattle.heap_memory.specs.Leaves.{with_written}
 use Rattle.memory_laws.specs.Follows.{standing_place, place_in, kept}
@@ -44,16 +42,3 @@ pub kept_own_write : (places : Places) (v : View) (t : ℕ) (undo : List UndoEnt
 kept_own_write places v t undo id i x own within now =
     ap (λ (hs : List (Option Place)). record { number = t; handles = hs; undo = undo; area = area_in places (record v { graph = with_field v.graph id i x }) t }) (handles-with_field places v id i x)
     ∙ ap (λ (area : AreaState). record (kept places v t undo) { area = area }) (own_write_area places v.graph t v.made id i x own within)
-
--- the records of a write into an object of the space, and of one into the area
-pub stable_records : (places : Places) (t : ℕ) (v : View) (h i : ℕ) (x : Val) (id : Id) (at : ℕ) → held v.registers h ≡ Some id → address_of places id ≡ Some at
-    → view_records places t v h i x ≡ update_of places v.graph t id at i x ∷ []
-stable_records places t v h i x id at holds place =
-    ap (λ (o : Option Id). write_records (place_of places v.graph) t v.graph o i x) holds
-    ∙ ap (λ w. update (place_of places v.graph) t w (fields v.graph id) i x) (place_of-placed places v.graph id at place)
-
-pub own_records : (places : Places) (t made : ℕ) (v : View) (h i : ℕ) (x : Val) (id : Id) → held v.registers h ≡ Some id → HasMade places v.graph t made → IsOwn t made id
-    → view_records places t v h i x ≡ []
-own_records places t made v h i x id holds has own =
-    ap (λ (o : Option Id). write_records (place_of places v.graph) t v.graph o i x) holds
-    ∙ ap (λ w. update (place_of places v.graph) t w (fields v.graph id) i x) (place_of-apart places v.graph id (own_apart has own))

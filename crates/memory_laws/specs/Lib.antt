@@ -3,6 +3,12 @@ pub mod Appended
 pub mod Follows
 pub mod HeldLaws
 pub mod KeptWrites
+pub mod LogLaws
+pub mod RefusalEnds
+pub mod RefusalHandles
+pub mod RefusalLaws
+pub mod RefusalRoom
+pub mod RefusalWrites
 pub mod StepEnds
 pub mod StepHandles
 pub mod StepHeld

@@ -32,6 +32,7 @@ use Rattle.graph_words.specs.StandsLaws.{stands_field}
 use Rattle.heap_model.specs.Core.{Core, ground, all_records, write_records, view_records, call_records, event_records, core_refusal, first_of_two}
 use Rattle.heap_model.specs.CoreValid.{IsValid}
 use Rattle.heap_model.specs.CoreLawsGoes.{writer_as, numbered_as}
+use Rattle.heap_model.specs.CoreLawsGranted.{stable_records, own_records}
 use Rattle.heap_model.specs.CoreLawsTold.{IsWriteAt, word_in, entry_of, update_of, written, write_told}
 use Rattle.heap_memory.specs.Memory.{Memory, own, place_word, held_place, fields_held}
 use Rattle.heap_memory.specs.Refusals.{and_then, field_refusal, range_refusal, write_room, write_refusal_of, write_refusal, put_refusal, clear_refusal, link_refusal}
@@ -42,7 +43,7 @@ use Rattle.memory_laws.specs.HeldLaws.{place_in_word, place_in-placed, place_in-
 use Rattle.memory_laws.specs.Answered.{Goes, does}
 use Rattle.memory_laws.specs.Appended.{as_it_was, reached_still, call_goes}
 use Rattle.memory_laws.specs.StepHeld.{IsHeld, both_none, test_none, own_is, held_active, is_held, held_within}
-use Rattle.memory_laws.specs.KeptWrites.{kept_write, kept_own_write, stable_records, own_records}
+use Rattle.memory_laws.specs.KeptWrites.{kept_write, kept_own_write}
 
 small_int : (v : ℕ) → range_refusal v ≡ None → v < 2 ^ 62
 small_int v e = leb-false no_int v (test_none (nat_le no_int v) Range None e).0
