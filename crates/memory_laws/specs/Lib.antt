@@ -1,6 +1,8 @@
+pub mod Answered
 pub mod Appended
 pub mod Follows
 pub mod HeldLaws
+pub mod KeptWrites
 pub mod LogLaws
 pub mod RefusalEnds
 pub mod RefusalHandles
@@ -10,4 +12,7 @@ pub mod RefusalWrites
 pub mod StepEnds
 pub mod StepHandles
 pub mod StepHeld
+pub mod StepNew
+pub mod StepReads
+pub mod StepSame
 pub mod StepWrites
