@@ -40,7 +40,7 @@ use Rattle.heap_core.proofs.MeansLeft.{keeps_refused, keeps_cut}
 use Rattle.heap_core.proofs.MeansLog.{keeps_same}
 use Rattle.heap_memory.specs.Memory.{Memory, own}
 use Rattle.memory_laws.specs.Follows.{IsMemory, Does, kept_of}
-use Rattle.memory_laws.specs.Appended.{does}
+use Rattle.memory_laws.specs.Answered.{does}
 use Rattle.heap_core.proofs.MeansMemory.{is_some_own}
 use Rattle.txn_table.specs.Table.{transaction_of}
 use Rattle.working_state.specs.declared.working.Working.{Working}
