@@ -2,8 +2,8 @@ mod Calls
 mod Empty
 mod MeansAnswer
 mod MeansForce
+mod MeansGraph
 pub mod MeansLeft
-mod MeansLog
 mod MeansMemory
 mod MeansOpen
 mod OpenErrors

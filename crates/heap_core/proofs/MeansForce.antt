@@ -37,10 +37,12 @@ use Rattle.heap_model.specs.Image.{Holds}
 use Rattle.log_machine.specs.Machine.{words}
 use Rattle.heap_core.specs.Means.{OnDisk, Remembers, DiskHolds, Steps, StepsOn}
 use Rattle.heap_core.proofs.MeansLeft.{keeps_refused, keeps_cut}
-use Rattle.heap_core.proofs.MeansLog.{keeps_same}
+use Rattle.memory_laws.specs.LogLaws.{keeps_same}
 use Rattle.heap_memory.specs.Memory.{Memory, own}
 use Rattle.memory_laws.specs.Follows.{IsMemory, Does, kept_of}
 use Rattle.memory_laws.specs.Answered.{does}
+use Rattle.heap_memory.specs.Leaves.{IsAsItWas}
+use Rattle.heap_core.proofs.MeansMemory.{as_it_was}
 use Rattle.heap_core.proofs.MeansMemory.{is_some_own}
 use Rattle.txn_table.specs.Table.{transaction_of}
 use Rattle.working_state.specs.declared.working.Working.{Working}
@@ -313,3 +315,19 @@ pub with_history : (c : Core) (event : Event) (reply : Reply) (w : Working) (fai
     → old ≡ c.history → new ≡ old ++ record { event = event; reply = reply } ∷ [] → (steps : Steps c event reply w failed) → new ≡ steps.next.history
 with_history c event reply w failed old new was is steps =
     is ∙ ap (λ (l : List Entry). l ++ record { event = event; reply = reply } ∷ []) was ∙ sym (step_history c steps.next event reply steps.step)
+
+-- an event that is answered in memory alone is a step of the core
+pub memory_steps : (c : Core) (event : Event) (reply : Reply) (w new : Working) (failed : Option ℕ) → Remembers c w failed → failed ≡ None → IsReached c → IsSingleSession event
+    → Does c event reply (memory new) → Steps c event reply new failed
+memory_steps c event reply w new failed remembers none reached one done =
+    whole_steps c event reply new failed (valid_after c event (unfailed_valid c failed remembers.failure none reached) one) none done
+
+-- what had no memory is as it was
+pub kept_as : (c : Core) (w new : Working) (failed : Option ℕ) → Remembers c w failed → IsAsItWas (memory w) (memory new) → Remembers c new failed
+kept_as c w new failed remembers same = record {
+  failure = remembers.failure;
+  works = λ none. as_it_was (memory w) (memory new) c (remembers.works none) same;
+  lost = remembers.lost;
+  sealed = same.sealed ∙ remembers.sealed;
+  active = ap (λ t. is_some (transaction_of t 1)) same.table ∙ remembers.active;
+}

@@ -1,6 +1,6 @@
 -- What a crash leaves of a heap, and how many device calls an event makes.
 use Rattle.std.proofs.Common.{◌≡◌, ◌⊎◌, inl, inr, ℕ, ◌+◌, ◌≤◌, cond, List, [], ◌∷◌, ◌++◌, length, take, Option, Some, None, Result, Ok, Err, refl, sym, ap, ◌∙◌, subst, arith}
-use Rattle.std.specs.Prelude.{IfOk, OnOk, nat_lt, if◌then◌else◌}
+use Rattle.std.specs.Prelude.{IfOk, OnOk, OnErr, nat_lt, if◌then◌else◌}
 use Rattle.std.specs.Option.{option_to_list}
 use Rattle.std.specs.declared.alloc.AllocError.{AllocError}
 use Rattle.std.proofs.lemmas.Bool.{lt-ltb}
@@ -30,7 +30,7 @@ use Rattle.heap_model.specs.CoreCrash.{KeepsCommits}
 use Rattle.heap_model.specs.CoreLawsRun.{failed_refusal, calls-forced}
 use Rattle.heap_model.specs.CoreValid.{IsValid}
 use Rattle.heap_model.specs.Image.{Says}
-use Rattle.heap_core.proofs.MeansLog.{some_spellings}
+use Rattle.memory_laws.specs.LogLaws.{some_spellings}
 
 -- an entry that neither commits nor acknowledges anything
 keeps_entry : (c : Core) (event : Event) (reply : Reply) (b : Account) (image : List ℕ) → account_after (account c.history) (record { event = event; reply = reply }) ≡ b
@@ -123,3 +123,8 @@ pub force_passes : (c : Core) (log : Log) (before now : ℕ) (result : Result (U
     → Passes (if is_waiting log then 4 else 0) before now result → Passes (calls c Force) before now result
 force_passes c log before now result valid keeps passes =
     subst (λ (n : ℕ). Passes n before now result) (hand_calls (hand_size log) c.pending (hand_size-Keeps log c.batches c.pending keeps) ∙ sym (calls-forced c valid)) passes
+
+-- what holds anyway holds after an error
+pub on_error : {T E P : Type 0} (result : Result T E) → P → OnErr result P
+on_error (Ok x) holds = tt
+on_error (Err e) holds = holds

@@ -8,7 +8,7 @@ use Rattle.disk_model.specs.Disk.{Only}
 use Rattle.gated_log.specs.Log.{records_of}
 use Rattle.graph_model.specs.Graph.{Graph}
 use Rattle.graph_model.specs.History.{account}
-use Rattle.heap_spaces.specs.Spaces.{IsSpaces}
+use Rattle.heap_spaces.specs.Spaces.{SpacesState, IsSpaces}
 use Rattle.image_plan.specs.declared.superblock.Super.{Super}
 use Rattle.image_plan.specs.Super.{IsSuper}
 use Rattle.log_records.specs.declared.Record.{Record}
@@ -46,6 +46,16 @@ pub record IsFresh (found : Recovered) (m : Memory) : Type 0 where
   pub spaces : m.spaces ≡ record { pages = found.pages; base = 0; used = found.used; owed = 0 }
   pub table : m.table ≡ new_table found.next
   pub sealed : m.sealed ≡ 0
+
+pub is_fresh : (found : Recovered) (spaces : SpacesState) (table first : TableState) (m : Memory) → m ≡ record { log = found.log; words = found.words; spaces = spaces; table = table; sealed = 0 }
+    → spaces ≡ record { pages = found.pages; base = 0; used = found.used; owed = 0 } → table ≡ record { next = found.next; active = first.active } → first ≡ new_table 1 → IsFresh found m
+is_fresh found spaces table first m is space transactions none = record {
+  log = ap (λ x. x.log) is;
+  words = ap (λ x. x.words) is;
+  spaces = ap (λ x. x.spaces) is ∙ space;
+  table = ap (λ x. x.table) is ∙ transactions ∙ ap (λ x. record { next = found.next; active = x.active }) none;
+  sealed = ap (λ x. x.sealed) is;
+}
 
 -- what was found is the core of a heap that has just been opened, whatever graph stands in it
 fresh_memory : (s : Super) (batches : List (List Record)) (born : Bool) (places : Places) (g : Graph) (found : Recovered) (m : Memory) → (shaped : IsShapedLog s batches) → IsRecovered s batches found
@@ -93,6 +103,7 @@ opened_disk_holds s batches places g new may_leave limits held only = record {
 pub record IsBounded (found : Recovered) : Type 0 where
   pub next : 0 < found.next
   pub size : length found.words ≡ words_in found.pages
+  pub few : length found.words < 2 ^ 32
   pub spaces : IsSpaces (record { pages = found.pages; base = 0; used = found.used; owed = 0 })
 
 pub opened_bounds : (s : Super) (batches : List (List Record)) (found : Recovered) → IsShapedLog s batches → IsRecovered s batches found → IsBounded found
@@ -107,8 +118,10 @@ opened_bounds s batches found shaped recovered =
     let pages = recovered.pages in
     let few = shaped.limits.few_pages in
     let within = room.3 in
+    let size = ap length recovered.words ∙ length-words s.pages (records_of (rolled_back s batches)) ∙ ap words_in (sym pages) in
     record {
       next = omega arith;
-      size = ap length recovered.words ∙ length-words s.pages (records_of (rolled_back s batches)) ∙ ap words_in (sym pages);
+      size = size;
+      few = omega (arith, size);
       spaces = record { few = omega arith; first = inl refl; room = omega arith };
     }

@@ -1,5 +1,5 @@
 //! The heap: events on an image, each of them one step.
-ghost use Rattle.std.specs.Prelude.{◌≡◌, ◌≢◌, ◌⊎◌, ◌↔◌, ◌+◌, ◌≤◌, ◌^◌, ◌<◌, ℕ, List, [], length, min, is_some, Bool, true, None, Some, Err, IsTrue, IfOk, IfErr, OnErr};
+ghost use Rattle.std.specs.Prelude.{◌≡◌, ◌≢◌, ◌⊎◌, ◌↔◌, ◌+◌, ◌≤◌, ◌^◌, ◌<◌, ℕ, List, [], length, min, is_some, Bool, true, None, Some, Ok, Err, IsTrue, IfOk, IfErr, OnErr};
 ghost use Rattle.counts.specs.Count.{greatest};
 ghost use Rattle.disk_model.specs.Disk.{Only};
 ghost use Rattle.disk_model.specs.Keeps.{KeepsDisk};
@@ -76,6 +76,7 @@ fn reply_in_memory(
 ) -> Result<Option<Reply>, AllocError>
     ensures does { (c : Core) → IsMemory (memory working.old) (account c.history) c → IsValid c → IsSingleSession event → IfOk result (λ o. (reply : Reply) → o ≡ Some reply → Does c event reply (memory working.new)) }
     ensures replied { IfOk result (λ o. (reply : Reply) → o ≡ Some reply → event ≢ Force) }
+    ensures quiet { IfOk result (λ o. (reply : Reply) → o ≡ Some reply → reply_device reply ≡ Ok tt) }
     ensures forced { IfOk result (λ o. o ≡ None → (event ≡ Force) × (working.new ≡ working.old)) }
     ensures placed { IsPlaced working.old.log working.new.log }
     ensures err { OnErr result (IsAsItWas (memory working.old) (memory working.new)) }

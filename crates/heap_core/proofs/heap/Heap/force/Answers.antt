@@ -6,9 +6,18 @@ use Rattle.graph_model.specs.declared.event.Event.TheVariants.{Force}
 use Rattle.heap_model.specs.Core.{calls}
 use Rattle.heap_model.specs.CoreCrash.{KeepsCommits}
 use Rattle.heap_core.specs.CrashLaws.{heap_keeps}
-use Rattle.heap_core.proofs.MeansLeft.{stays, force_passes}
-use Rattle.heap_core.proofs.MeansForce.{unfailed_valid, keeps, holds, force_keeps, ok_steps, ok_on, err_steps, err_on}
+use Rattle.heap_core.proofs.MeansLeft.{stays, force_passes, on_error}
+use Rattle.heap_core.proofs.MeansForce.{unfailed_valid, kept_as, keeps, holds, force_keeps, ok_steps, ok_on, err_steps, err_on}
 use Rattle.heap_core.proofs.heap.Heap.force.Goals as goal
+
+pub returns-in_err-reserve-clause-kept : goal.returns-in_err-reserve-clause-kept
+returns-in_err-reserve-clause-kept g c core heap =
+    let w = c.args.self.now.working in
+    on_error c.from_residual.result (record {
+      history = heap.history;
+      before = heap.before;
+      memory = kept_as core w _ c.args.self.now.failed heap.memory (record { log = c.reserve.ensures.same; words = refl; table = refl; spaces = refl; sealed = refl });
+    })
 
 pub returns-in_err-reserve-clause-moments : goal.returns-in_err-reserve-clause-moments
 returns-in_err-reserve-clause-moments g c tells s core heap none reached =
@@ -45,7 +54,7 @@ returns-in-Ok-clause-moments g c tells s core heap none reached =
     let valid = unfailed_valid core _ heap.core.memory.failure none reached in
     let disk = heap.disk.unfailed valid.unfailed in
     let kept = keeps core w log works c.reserve.ensures.same in
-    let held = holds core w log works c.reserve.ensures.same s _ _ disk in
+    let held = holds core w log works c.reserve.ensures.same s _ _ heap.disk.born disk in
     weaker d.moment d.left_since c.args.self.now.disk c.force.new.disk _ (KeepsCommits core) (c.force.ensures.moments tells disk.only core.batches core.pending kept held)
     (λ image. force_keeps core w log works c.reserve.ensures.same s _ _ heap.disk.born disk image reached.sound)
 
@@ -70,7 +79,7 @@ returns-in-Err-clause-moments g c tells s core heap none reached =
     let valid = unfailed_valid core _ heap.core.memory.failure none reached in
     let disk = heap.disk.unfailed valid.unfailed in
     let kept = keeps core w log works c.reserve.ensures.same in
-    let held = holds core w log works c.reserve.ensures.same s _ _ disk in
+    let held = holds core w log works c.reserve.ensures.same s _ _ heap.disk.born disk in
     weaker d.moment d.left_since c.args.self.now.disk c.force.new.disk _ (KeepsCommits core) (c.force.ensures.moments tells disk.only core.batches core.pending kept held)
     (λ image. force_keeps core w log works c.reserve.ensures.same s _ _ heap.disk.born disk image reached.sound)
 

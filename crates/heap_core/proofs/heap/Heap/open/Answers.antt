@@ -1,20 +1,53 @@
-use Rattle.std.proofs.Common.{sym, refl, ap, ◌∙◌, subst}
+use Rattle.log_machine.specs.Machine.{words_in}
+use Rattle.std.proofs.Common.{◌<◌, true, sym, refl, ap, ◌∙◌, subst}
 use Rattle.heap_model.specs.Opening.{opening_calls}
 use Rattle.heap_core.specs.Causes.{IsFromOutside, ErrorPasses}
-use Rattle.heap_core.proofs.MeansOpen.{opened_bounds, opened_memory, opened_disk_holds, fresh}
+use Rattle.heap_core.proofs.MeansOpen.{opened_bounds, opened_memory, opened_disk_holds, is_fresh}
 use Rattle.heap_core.proofs.OpenErrors.{outside_as, passes_as}
 use Rattle.heap_core.proofs.heap.Heap.open.Goals as goal
 
-pub new-requires-in-Ok-recover : goal.new-requires-in-Ok-recover
-new-requires-in-Ok-recover g c =
+pub new-spaces-requires : goal.new-spaces-requires
+new-spaces-requires g c =
     let found = c.in-Ok-recover.ensures.opens in
     (opened_bounds found.0 found.1 c.in-Ok-recover.found found.2 found.3).spaces
 
+pub new-working-requires-clause-sized : goal.new-working-requires-clause-sized
+new-working-requires-clause-sized g c =
+    let found = c.in-Ok-recover.ensures.opens in
+    (opened_bounds found.0 found.1 c.in-Ok-recover.found found.2 found.3).size ∙ ap (λ x. words_in x.pages) (sym c.new-spaces.ensures)
+
+pub new-working-requires-clause-few : goal.new-working-requires-clause-few
+new-working-requires-clause-few g c =
+    let found = c.in-Ok-recover.ensures.opens in
+    (opened_bounds found.0 found.1 c.in-Ok-recover.found found.2 found.3).few
+
+pub new-working-requires-clause-next : goal.new-working-requires-clause-next
+new-working-requires-clause-next g c =
+    let found = c.in-Ok-recover.ensures.opens in
+    subst (λ x. 0 < x.next) (sym c.set_next.ensures) (opened_bounds found.0 found.1 c.in-Ok-recover.found found.2 found.3).next
+
 pub returns-in-Ok-recover-clause-opens : goal.returns-in-Ok-recover-clause-opens
-returns-in-Ok-recover-clause-opens g c = ?
+returns-in-Ok-recover-clause-opens g c =
+    let found = c.in-Ok-recover.ensures.opens in
+    let fresh = is_fresh c.in-Ok-recover.found c.new-spaces.result c.set_next.new.self c.in-Ok.table _ c.new-working.ensures c.new-spaces.ensures c.set_next.ensures c.in-Ok.ensures in (
+      found.0,
+      found.1,
+      found.2,
+      λ born places gr stands. record {
+        history = c.new-in-Ok-recover.ensures;
+        before = found.3.commits;
+        memory = opened_memory found.0 found.1 born places gr c.in-Ok-recover.found _ found.2 found.3 fresh;
+      },
+    )
 
 pub returns-in-Ok-recover-clause-holds : goal.returns-in-Ok-recover-clause-holds
-returns-in-Ok-recover-clause-holds g c = ?
+returns-in-Ok-recover-clause-holds g c tells s batches legal only places gr stands =
+    let found = c.in-Ok-recover.ensures.found tells s batches legal in
+    let fresh = is_fresh c.in-Ok-recover.found c.new-spaces.result c.set_next.new.self c.in-Ok.table _ c.new-working.ensures c.new-spaces.ensures c.set_next.ensures c.in-Ok.ensures in
+    record {
+      core = record { history = c.new-in-Ok-recover.ensures; before = found.commits; memory = opened_memory s batches true places gr c.in-Ok-recover.found _ legal.log.shaped found fresh };
+      disk = opened_disk_holds s batches places gr _ _ legal.log.shaped.limits (c.in-Ok-recover.ensures.holds tells s batches legal) (c.in-Ok-recover.ensures.durable tells only);
+    }
 
 pub returns-in-Err-recover-clause-legal : goal.returns-in-Err-recover-clause-legal
 returns-in-Err-recover-clause-legal g c tells s batches legal = subst IsFromOutside (sym c.from.ensures) (outside_as c.in-Err-recover.e (c.in-Err-recover.ensures.legal tells s batches legal))
