@@ -24,12 +24,12 @@ pub record Adds (old new : Log) (records : List Record) : Type 0 where
   pub kept : (batches : List (List Record)) (pending : List Record) → Keeps old batches pending → Keeps new batches (pending ++ records)
 
 -- What an event leaves: these records more wait, and their effect is in the words; the rest is this.
-pub record Leaves (old new : Memory) (records : List Record) (table : TableState) (spaces : SpacesState) (sealed : ℕ) : Type 0 where
+pub record Leaves (old new : Memory) (records : List Record) (transactions : TableState) (current : SpacesState) (count : ℕ) : Type 0 where
   pub log : Adds old.log new.log records
   pub words : new.words ≡ fold put_record old.words records
-  pub table : new.table ≡ table
-  pub spaces : new.spaces ≡ spaces
-  pub sealed : new.sealed ≡ sealed
+  pub table : new.table ≡ transactions
+  pub spaces : new.spaces ≡ current
+  pub sealed : new.sealed ≡ count
 
 -- Nothing but the memory that is taken in advance may be other than it was.
 pub record IsAsItWas (old new : Memory) : Type 0 where

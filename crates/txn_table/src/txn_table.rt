@@ -59,6 +59,13 @@ impl TxnTable {
         self.next
     }
 
+    /// Lets the next transaction have this number.
+    pub fn set_next(&mut self, next: u32)
+        ensures { self.new ≡ record self.old { next = next } }
+    {
+        self.next = next;
+    }
+
     /// Whether the session has a transaction.
     pub fn active(&self, s: u32) -> bool
         ensures { IsTrue result ↔ IsSome (transaction_of self.now s) }

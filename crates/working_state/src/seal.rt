@@ -1,5 +1,5 @@
 //! A seal: what has become reachable from a stable field is promoted, and the transaction is committed.
-ghost use Rattle.std.specs.Prelude.{◌≡◌, Ok, OnErr, IfOk};
+ghost use Rattle.std.specs.Prelude.{◌≡◌, ◌+◌, Ok, OnErr, IfOk};
 ghost use Rattle.graph_model.specs.Plain.{reply_of};
 ghost use Rattle.graph_model.specs.declared.reply.Reply.TheVariants.{Sealed};
 ghost use Rattle.heap_memory.specs.Refusals.{space_refusal};

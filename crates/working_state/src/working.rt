@@ -1,12 +1,12 @@
 //! The working state of an open heap, and how a session's transaction begins, asks and ends.
-ghost use Rattle.std.specs.Prelude.{◌≡◌, ◌+◌, ◌<◌, ◌≤◌, length, Ok, Some, None, OnErr, IfOk, IfSome, IsTrue, IsSome, ◌↔◌, reverse};
+ghost use Rattle.std.specs.Prelude.{◌≡◌, ◌+◌, ◌*◌, ◌<◌, ◌≤◌, length, true, Ok, Some, None, OnErr, IfOk, IfSome, IsTrue, IsSome, ◌↔◌};
 ghost use Rattle.gated_log.specs.LogState.{log_room, log_used};
 ghost use Rattle.graph_model.specs.Plain.{reply_of};
 ghost use Rattle.graph_model.specs.declared.reply.Reply.TheVariants.{Begun, Done, Aborted};
 ghost use Rattle.log_machine.specs.Machine.{words_in};
-ghost use Rattle.txn_table.specs.Table.{with_transaction};
-ghost use Rattle.heap_memory.specs.Memory.{own, root_place, held_place};
-ghost use Rattle.working_state.specs.Reserve.{active_count, active_reserve, active_undo, WroteBelow};
+ghost use Rattle.heap_words.specs.Word.{IsWord};
+ghost use Rattle.heap_memory.specs.Memory.{own, root_place, place_word, held_place};
+ghost use Rattle.working_state.specs.Reserve.{active_count, active_reserve, active_undo, active_handles, WroteBelow, HoldPlaces, can_refer};
 
 use crate::log_room::log_refusal;
 use gated_log::Log;
@@ -49,6 +49,9 @@ pub struct Working {
     ghost sized: { length words ≡ words_in spaces.pages },
     // What the active transaction wrote lies in these words.
     ghost inside: { WroteBelow (length words) (active_undo table) },
+    ghost few: { length words ≤ 2097152 },
+    // A field's word can refer to what the handles hold.
+    ghost held: { HoldPlaces (active_handles table) },
 }
 
 /// The answer of an event that is refused.
@@ -111,6 +114,7 @@ impl Working {
     }
 
     fn set_handle(&mut self, h: u64, to: Option<Place>) -> Reply
+        requires { can_refer to ≡ true }
         ensures reply { result ≡ reply_of (handle_refusal (own (memory self.old)) h) Done }
         ensures done { result ≡ Done → SetsHandle (memory self.old) (memory self.new) h to }
         ensures refused { (why : _) → result ≡ Reply.Refused why → self.new ≡ self.old }
@@ -248,7 +252,8 @@ impl Working {
 
     /// Where the object stands that a handle of the transaction holds.
     fn held(&self, h: u64) -> Result<Place, Refusal>
-        ensures { result ≡ held_place (own (memory self.now)) h }
+        ensures place { result ≡ held_place (own (memory self.now)) h }
+        ensures word { IfOk result (λ p. IsWord (place_word p)) }
     {
         if let Some(why) = self.handle_refusal(h) {
             return Err(why);
