@@ -1,0 +1,4 @@
+pub mod Tables
+pub mod Room
+pub mod SealLaws
+pub mod Found
