@@ -1,6 +1,6 @@
 -- What is kept of the log is enough to take a transaction's writes back.
-use Rattle.std.proofs.Common.{◌≡◌, ℕ, ◌+◌, ◌<◌, ◌≤◌, Bool, true, false, None, Some, List, [], ◌∷◌, length, reverse, refl, sym, ap, ◌∙◌, subst, arith}
-use Rattle.std.specs.Prelude.{All, nat_lt, if◌then◌else◌}
+use Rattle.std.proofs.Common.{◌≡◌, ℕ, ◌+◌, ◌<◌, ◌≤◌, Bool, true, false, None, Some, Result, Ok, Err, List, [], ◌∷◌, length, reverse, refl, sym, ap, ◌∙◌, subst, arith}
+use Rattle.std.specs.Prelude.{All, ◌↔◌, IsErr, OnOk, nat_lt, if◌then◌else◌}
 use Rattle.std.specs.List.{AllByRecursion}
 use Rattle.std.proofs.lemmas.Bool.Decides.{nat_tests}
 use Rattle.std.proofs.lemmas.Bool.{ltb-false}
@@ -16,8 +16,9 @@ use Rattle.log_machine.specs.Machine.{field_at, abort_records, end_bytes}
 use Rattle.log_machine.specs.AbortLaws.{abort_length}
 use Rattle.log_machine.specs.ListLaws.{AllByRecursion-reverse}
 use Rattle.graph_model.specs.declared.reply.Refusal.{Refusal}
-use Rattle.graph_model.specs.declared.reply.Refusal.TheVariants.{LogFull}
-use Rattle.heap_memory.specs.Refusals.{no_room}
+use Rattle.graph_model.specs.declared.reply.Refusal.TheVariants.{LogFull, Exhausted}
+use Rattle.heap_memory.specs.Refusals.{no_room, space_refusal}
+use Rattle.heap_spaces.specs.Spaces.{SpacesState, free_words, open_words, with_taken}
 use Rattle.working_state.specs.Reserve.{WroteBelow}
 
 used_more : (tail hand k : ℕ) → used_bytes tail (hand + k) ≤ used_bytes tail hand + (k + 5)
@@ -59,3 +60,17 @@ room_left log need reserved is = left (nat_lt (log_room log) (log_used log + nee
     left : (b : Bool) → nat_lt (log_room log) (log_used log + need + reserved) ≡ b → (if b then Some (LogFull (log_used log) need reserved) else None) ≡ None → log_used log + need + reserved ≤ log_room log
     left true test is = absurd (cc is)
     left false test is = ltb-false (log_room log) (log_used log + need + reserved) test
+
+-- so has the current space
+pub space_left : (spaces : SpacesState) (n : ℕ) → space_refusal spaces n ≡ None → n ≤ open_words spaces
+space_left spaces n is = left (nat_lt (open_words spaces) n) refl is
+  where
+    left : (b : Bool) → nat_lt (open_words spaces) n ≡ b → (if b then Some (Exhausted n (free_words spaces) spaces.owed) else None) ≡ None → n ≤ open_words spaces
+    left true test is = absurd (cc is)
+    left false test is = ltb-false (open_words spaces) n test
+
+-- words that are free can be taken
+pub taken_is : {A E : Type 0} (r : Result A E) (old new : SpacesState) (n m : ℕ) → (IsErr r ↔ (open_words old < m)) → OnOk r (new ≡ with_taken old m) → m ≡ n → n ≤ open_words old
+    → new ≡ with_taken old n
+taken_is (Ok a) old new n m err taken same room = taken ∙ ap (with_taken old) same
+taken_is (Err e) old new n m err taken same room = let less = err.0 refl in absurd (omega arith)

@@ -1,15 +1,15 @@
 -- The session's transaction before and after a change of the table.
-use Rattle.std.proofs.Common.{◌≡◌, ℕ, ◌<◌, ◌≤◌, Bool, true, List, [], length, replicate, reverse, Option, None, Some, refl, sym, ap, ◌∙◌, subst, arith}
+use Rattle.std.proofs.Common.{◌≡◌, ℕ, ◌+◌, ◌<◌, ◌≤◌, Bool, true, List, [], ◌∷◌, length, replicate, reverse, Option, None, Some, refl, sym, ap, ◌∙◌, subst, arith}
 use Rattle.std.specs.Prelude.{IsSome, IfSome, slice_get, slice_set, All}
-use Rattle.std.proofs.lemmas.List.Elements.{All-set, All-replicate}
+use Rattle.std.proofs.lemmas.List.Elements.{All-cons, All-set, All-replicate}
 use Rattle.txn_table.specs.declared.place.Place.{Place}
 use Rattle.txn_table.specs.Table.{TransactionState, TableState, new_transaction, transaction_of, with_transaction, with_begun, with_ended, Changes}
-use Rattle.txn_table.specs.TableLaws.{changes_is, changes_same}
+use Rattle.txn_table.specs.TableLaws.{changes_is, changes_same, with_ended_same}
 use Rattle.log_machine.specs.declared.UndoEntry.{UndoEntry}
-use Rattle.log_machine.specs.Machine.{end_bytes}
+use Rattle.log_machine.specs.Machine.{field_at, end_bytes}
 use Rattle.heap_memory.specs.Refusals.{handle_refusal}
 use Rattle.heap_memory.specs.Leaves.{with_handle}
-use Rattle.working_state.specs.Reserve.{kept_for_end, active_reserve, undo_if, active_undo, WroteBelow, can_refer, HoldPlaces, handles_if, active_handles}
+use Rattle.working_state.specs.Reserve.{kept_for_end, active_reserve, one_if, active_count, undo_if, active_undo, WroteBelow, can_refer, HoldPlaces, handles_if, active_handles}
 
 -- the transaction that there is
 pub there : (o : Option TransactionState) → IsSome o → (t : TransactionState) × (o ≡ Some t)
@@ -82,3 +82,43 @@ reserve_kept old new change some changed same =
 pub told_undo : (o : Option TransactionState) (us : List UndoEntry) → IsSome o → IfSome o (λ t. reverse us ≡ t.undo) → reverse us ≡ undo_if o
 told_undo None us some is = absurd (cc some)
 told_undo (Some t) us some is = is
+
+-- one write more may be taken back
+pub undo_pushed : (end : ℕ) (old new : TableState) (u : UndoEntry) → IsSome (transaction_of old 1) → Changes old new 1 (λ t. record t { undo = u ∷ t.undo })
+    → field_at u.object u.field < end → WroteBelow end (active_undo old) → WroteBelow end (active_undo new)
+undo_pushed end old new u some changed here below =
+    let d = turned old new (λ t. record t { undo = u ∷ t.undo }) some changed in
+    let before = subst (λ (us : List UndoEntry). WroteBelow end us) (ap undo_if d.was) below in
+    subst (λ (us : List UndoEntry). WroteBelow end us) (sym (ap undo_if d.now)) (All-cons (λ (v : UndoEntry). field_at v.object v.field < end) u d.transaction.undo here before)
+
+-- and as many bytes more are kept
+pub reserve_pushed : (old new : TableState) (u : UndoEntry) → IsSome (transaction_of old 1) → Changes old new 1 (λ t. record t { undo = u ∷ t.undo })
+    → (active_reserve new ≡ end_bytes (length (active_undo old) + 1))
+reserve_pushed old new u some changed =
+    let d = turned old new (λ t. record t { undo = u ∷ t.undo }) some changed in
+    let count = ap (λ (us : List UndoEntry). length us) (ap undo_if d.was) in
+    omega (arith, ap kept_for_end d.now, count)
+
+-- the session's transaction counts, before a change and after it
+pub count_kept : (old new : TableState) (change : TransactionState → TransactionState) → IsSome (transaction_of old 1) → Changes old new 1 change → active_count new ≡ active_count old
+count_kept old new change some changed = let d = turned old new change some changed in ap one_if d.now ∙ sym (ap one_if d.was)
+
+pub count_one : (table : TableState) → IsSome (transaction_of table 1) → active_count table ≡ 1
+count_one table some = ap one_if (there (transaction_of table 1) some).1
+
+-- and what is kept for its end
+pub reserve_is : (table : TableState) → IsSome (transaction_of table 1) → active_reserve table ≡ end_bytes (length (active_undo table))
+reserve_is table some =
+    let t = there (transaction_of table 1) some in
+    ap kept_for_end t.1 ∙ sym (ap (λ (o : Option TransactionState). end_bytes (length (undo_if o))) t.1)
+
+-- Where it has ended there is nothing.
+
+pub ended : (old new : TableState) → new ≡ with_ended old 1 → transaction_of new 1 ≡ None
+ended old new is = ap (λ (table : TableState). transaction_of table 1) is ∙ with_ended_same old 1
+
+pub inside_ended : (end : ℕ) (new : TableState) → transaction_of new 1 ≡ None → WroteBelow end (active_undo new)
+inside_ended end new is = subst (λ (us : List UndoEntry). WroteBelow end us) (sym (ap undo_if is)) (λ k d within. absurd (omega arith))
+
+pub held_ended : (new : TableState) → transaction_of new 1 ≡ None → HoldPlaces (active_handles new)
+held_ended new is = subst (λ (hs : List (Option Place)). HoldPlaces hs) (sym (ap handles_if is)) (λ k d within. absurd (omega arith))

@@ -130,7 +130,8 @@ impl Working {
             Some(Word::Int(v)) => Reply::Int { v },
             Some(Word::Stable(at)) => self.refer(h, Place::Stable(at)),
             Some(Word::Volatile(at)) => self.refer(h, Place::Volatile(at)),
-            Some(Word::Null) | None => Reply::Null,
+            Some(Word::Null) => Reply::Null,
+            None => Reply::Null,
         }
     }
 

@@ -1,5 +1,5 @@
 //! The working state of an open heap, and how a session's transaction begins, asks and ends.
-ghost use Rattle.std.specs.Prelude.{◌≡◌, ◌+◌, ◌*◌, ◌<◌, ◌≤◌, length, true, Ok, Some, None, OnErr, IfOk, IfSome, IsTrue, IsSome, ◌↔◌};
+ghost use Rattle.std.specs.Prelude.{◌≡◌, ◌+◌, ◌*◌, ◌^◌, ◌<◌, ◌≤◌, length, true, Ok, Some, None, OnErr, IfOk, IfSome, IsTrue, IsSome, ◌↔◌};
 ghost use Rattle.gated_log.specs.LogState.{log_room, log_used};
 ghost use Rattle.graph_model.specs.Plain.{reply_of};
 ghost use Rattle.graph_model.specs.declared.reply.Reply.TheVariants.{Begun, Done, Aborted};
@@ -46,6 +46,7 @@ pub struct Working {
     // The log has room for what is kept for the active transaction's end.
     ghost reserve: { log_used log + active_reserve table ≤ log_room log },
     ghost counted: { sealed + active_count table < table.next },
+    ghost numbered: { table.next < 2 ^ 32 },
     ghost sized: { length words ≡ words_in spaces.pages },
     // What the active transaction wrote lies in these words.
     ghost inside: { WroteBelow (length words) (active_undo table) },

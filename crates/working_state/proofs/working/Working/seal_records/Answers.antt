@@ -51,7 +51,7 @@ returns-clause-inside c =
     let f = found c.args.self.now c.args.sealing.now c.area-area.result.now c.requires.active c.requires.found c.area-area.ensures in
     let same = records_are (memory s) f.0 c.args.sealing.now c.area-area.result.now c.as_slice.result.now c.next_free-address.result f.2 f.3 c.as_slice.ensures c.next_free-address.ensures.address in
     let all = records_below (memory s) f.0 c.args.sealing.now f.2 c.next_free-address.ensures.sound s.sized c.requires.room (below c.args.self.now f.0 f.1) in
-    map_ok c.records.result _ _ (λ records is. subst (λ (rs : List Record). EachWritesBelow (length s.words) rs) (sym (is ∙ same)) all) c.records.ensures
+    map_ok c.records.result _ (λ records. EachWritesBelow (length s.words) records.items) (λ records is. subst (λ (rs : List Record). EachWritesBelow (length s.words) rs) (sym (is ∙ same)) all) c.records.ensures
 
 pub returns-clause-few : goal.returns-clause-few
 returns-clause-few c =
