@@ -1,6 +1,6 @@
 -- What a seal has found out is that of its transaction.
-use Rattle.std.proofs.Common.{◌≡◌, ℕ, ◌+◌, ◌*◌, ◌<◌, ◌≤◌, inl, inr, List, [], ◌∷◌, ◌++◌, length, map, reverse, Option, None, Some, Result, Ok, Err, nat_cmp, refl, sym, ap, ◌∙◌, subst, arith}
-use Rattle.std.specs.Prelude.{◌^◌, All, Contains, IsSome, IfSome, IfOk}
+use Rattle.std.proofs.Common.{◌≡◌, ℕ, ◌+◌, ◌<◌, ◌≤◌, inl, inr, List, [], ◌∷◌, ◌++◌, length, map, reverse, Option, None, Some, Result, Ok, Err, nat_cmp, sym, ap, ◌∙◌, subst, arith}
+use Rattle.std.specs.Prelude.{◌^◌, All, Contains, IfSome, IfOk}
 use Rattle.std.specs.List.{flat_map}
 use Rattle.std.specs.List.Sorted.{IsStrictlySortedBy}
 use Rattle.std.proofs.lemmas.Map.Keys.{sorted_from_strictly_increasing}
@@ -13,12 +13,12 @@ use Rattle.log_machine.specs.Effect.{EachWritesBelow}
 use Rattle.volatile_area.specs.Area.{AreaState, starts_of}
 use Rattle.stability_tracker.specs.Promotion.{need}
 use Rattle.stability_tracker.specs.PromotionLaws.{promoted_increase}
-use Rattle.graph_words.specs.Promotion.{Field, written_fields, words_in_fields, moves_to, base_of, fix_of, promoted_by, seal_records}
+use Rattle.graph_words.specs.Promotion.{Field, written_fields, words_in_fields, moves_to, base_of, fix_of, promoted_by}
 use Rattle.heap_spaces.specs.Spaces.{SpacesState, IsSpaces, open_words}
 use Rattle.sealing.specs.declared.sealing.Sealing.{Sealing}
 use Rattle.txn_table.specs.Table.{TransactionState}
 use Rattle.heap_memory.specs.Memory.{Memory}
-use Rattle.heap_memory.specs.Refusals.{sealing_need, sealing_records}
+use Rattle.heap_memory.specs.Refusals.{sealing_records}
 use Rattle.working_state.specs.Reserve.{WroteBelow}
 use Rattle.working_state.specs.Seal.{IsFound}
 use Rattle.working_state.proofs.SealLaws.{written_below, promoted_there, seal_below, seal_few}

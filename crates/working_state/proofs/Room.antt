@@ -1,21 +1,19 @@
 -- What is kept of the log is enough to take a transaction's writes back.
-use Rattle.std.proofs.Common.{◌≡◌, ℕ, ◌+◌, ◌<◌, ◌≤◌, Bool, true, false, None, Some, Result, Ok, Err, List, [], ◌∷◌, length, reverse, refl, sym, ap, ◌∙◌, subst, arith}
-use Rattle.std.specs.Prelude.{All, ◌↔◌, IsErr, OnOk, nat_lt, if◌then◌else◌}
+use Rattle.std.proofs.Common.{◌≡◌, ℕ, ◌+◌, ◌<◌, ◌≤◌, Bool, true, false, None, Some, Result, Ok, Err, List, length, reverse, refl, sym, ap, ◌∙◌, subst, arith}
+use Rattle.std.specs.Prelude.{◌↔◌, IsErr, OnOk, nat_lt, if◌then◌else◌}
 use Rattle.std.specs.List.{AllByRecursion}
 use Rattle.std.proofs.lemmas.Bool.Decides.{nat_tests}
 use Rattle.std.proofs.lemmas.Bool.{ltb-false}
-use Rattle.std.proofs.lemmas.List.{length-reverse, reverse-reverse}
+use Rattle.std.proofs.lemmas.List.{reverse-reverse}
 use Rattle.std.proofs.lemmas.List.Elements.{recursion_from_All}
 use Rattle.gated_log.specs.declared.Log.{Log}
 use Rattle.gated_log.specs.LogRoom.{used_bytes, need_bytes}
 use Rattle.gated_log.specs.LogState.{log_tail, hand_size, log_room, log_used, log_used_with, log_need}
-use Rattle.log_records.specs.declared.Record.{Record}
 use Rattle.log_records.specs.Record.{spellings}
 use Rattle.log_machine.specs.declared.UndoEntry.{UndoEntry}
 use Rattle.log_machine.specs.Machine.{field_at, abort_records, end_bytes}
 use Rattle.log_machine.specs.AbortLaws.{abort_length}
 use Rattle.log_machine.specs.ListLaws.{AllByRecursion-reverse}
-use Rattle.graph_model.specs.declared.reply.Refusal.{Refusal}
 use Rattle.graph_model.specs.declared.reply.Refusal.TheVariants.{LogFull, Exhausted}
 use Rattle.heap_memory.specs.Refusals.{no_room, space_refusal}
 use Rattle.heap_spaces.specs.Spaces.{SpacesState, free_words, open_words, with_taken}

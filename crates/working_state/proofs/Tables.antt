@@ -1,9 +1,9 @@
 -- The session's transaction before and after a change of the table.
-use Rattle.std.proofs.Common.{◌≡◌, ℕ, ◌+◌, ◌<◌, ◌≤◌, Bool, true, List, [], ◌∷◌, length, replicate, reverse, Option, None, Some, refl, sym, ap, ◌∙◌, subst, arith}
-use Rattle.std.specs.Prelude.{IsSome, IfSome, slice_get, slice_set, All}
+use Rattle.std.proofs.Common.{◌≡◌, ℕ, ◌+◌, ◌<◌, true, List, ◌∷◌, length, reverse, Option, None, Some, refl, sym, ap, ◌∙◌, subst, arith}
+use Rattle.std.specs.Prelude.{IsSome, IfSome, slice_set}
 use Rattle.std.proofs.lemmas.List.Elements.{All-cons, All-set, All-replicate}
 use Rattle.txn_table.specs.declared.place.Place.{Place}
-use Rattle.txn_table.specs.Table.{TransactionState, TableState, new_transaction, transaction_of, with_transaction, with_begun, with_ended, Changes}
+use Rattle.txn_table.specs.Table.{TransactionState, TableState, new_transaction, transaction_of, with_transaction, with_ended, Changes}
 use Rattle.txn_table.specs.TableLaws.{changes_is, changes_same, with_ended_same}
 use Rattle.log_machine.specs.declared.UndoEntry.{UndoEntry}
 use Rattle.log_machine.specs.Machine.{field_at, end_bytes}

@@ -1,5 +1,5 @@
 -- The working state, as contracts see it.
-use Rattle.std.specs.Prelude.{List, ℕ, Option, None, Some}
+use Rattle.std.specs.Prelude.{List, ℕ}
 use Rattle.log_machine.specs.Machine.{taken_back}
 use Rattle.heap_memory.specs.Memory.{Memory}
 use Rattle.working_state.specs.Reserve.{active_undo}

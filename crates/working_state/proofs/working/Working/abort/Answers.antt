@@ -1,4 +1,4 @@
-use Rattle.std.proofs.Common.{◌≡◌, ℕ, ◌≤◌, List, ◌++◌, length, reverse, Option, Some, refl, sym, ap, ◌∙◌, subst, arith}
+use Rattle.std.proofs.Common.{◌≡◌, ℕ, ◌≤◌, List, ◌++◌, length, reverse, Option, refl, sym, ap, ◌∙◌, subst, arith}
 use Rattle.std.specs.Prelude.{IsSome, IfSome}
 use Rattle.gated_log.specs.LogState.{log_room, log_used_with, Keeps}
 use Rattle.log_records.specs.declared.Record.{Record}
@@ -7,10 +7,10 @@ use Rattle.log_machine.specs.declared.UndoEntry.{UndoEntry}
 use Rattle.log_machine.specs.Machine.{taken_back, abort_records}
 use Rattle.log_machine.specs.AbortLaws.{abort_words}
 use Rattle.log_machine.specs.WordsLaws.{length-taken_back}
-use Rattle.txn_table.specs.Table.{TransactionState, TableState, transaction_of}
+use Rattle.txn_table.specs.Table.{TransactionState, transaction_of}
 use Rattle.working_state.specs.declared.working.Working.{Working}
-use Rattle.working_state.specs.Reserve.{kept_for_end, one_if, undo_if, active_undo}
-use Rattle.working_state.proofs.Tables.{there, told_undo, reserve_is, count_one, ended, inside_ended, held_ended}
+use Rattle.working_state.specs.Reserve.{kept_for_end, active_undo}
+use Rattle.working_state.proofs.Tables.{there, told_undo, reserve_is, ended, inside_ended, held_ended}
 use Rattle.working_state.proofs.Room.{abort_room, turned_below}
 use Rattle.working_state.proofs.working.Working.abort.Goals as goal
 

@@ -1,10 +1,9 @@
-use Rattle.std.proofs.Common.{length, refl, sym, ap, ◌∙◌, subst, arith, List, Option}
+use Rattle.std.proofs.Common.{length, sym, ap, ◌∙◌, subst, arith, List, Option}
 use Rattle.txn_table.specs.declared.place.Place.{Place}
-use Rattle.txn_table.specs.Table.{TableState, new_transaction, transaction_of}
+use Rattle.txn_table.specs.Table.{TableState, transaction_of}
 use Rattle.txn_table.specs.TableLaws.{with_begun_same}
 use Rattle.log_machine.specs.declared.UndoEntry.{UndoEntry}
-use Rattle.working_state.specs.Reserve.{kept_for_end, undo_if, handles_if, active_undo, active_handles, WroteBelow, HoldPlaces}
-use Rattle.gated_log.specs.LogState.{log_room, log_used}
+use Rattle.working_state.specs.Reserve.{kept_for_end, undo_if, handles_if, WroteBelow, HoldPlaces}
 use Rattle.working_state.proofs.Tables.{held_new}
 use Rattle.working_state.proofs.Room.{room_left}
 use Rattle.working_state.proofs.working.Working.begin.Goals as goal

@@ -1,5 +1,5 @@
-use Rattle.std.proofs.Common.{◌≡◌, ℕ, ◌+◌, ◌<◌, ◌≤◌, ◌++◌, List, length, Option, Some, refl, sym, ap, ◌∙◌, subst, arith}
-use Rattle.std.specs.Prelude.{◌^◌, IsSome, IfSome, fold}
+use Rattle.std.proofs.Common.{◌≡◌, ℕ, ◌+◌, ◌<◌, ◌++◌, List, length, Option, refl, sym, ap, ◌∙◌, subst, arith}
+use Rattle.std.specs.Prelude.{◌^◌, IfSome, fold}
 use Rattle.gated_log.specs.LogState.{log_need, Keeps}
 use Rattle.heap_spaces.specs.Spaces.{SpacesState, with_taken}
 use Rattle.log_records.specs.declared.Record.{Record}

@@ -1,4 +1,4 @@
-use Rattle.std.proofs.Common.{◌≡◌, length, List, ℕ, Option, Some, sym, ap, ◌∙◌, subst, arith}
+use Rattle.std.proofs.Common.{◌≡◌, length, List, Option, Some, sym, ap, ◌∙◌, subst, arith}
 use Rattle.std.specs.Prelude.{IsSome, IfSome}
 use Rattle.log_machine.specs.declared.UndoEntry.{UndoEntry}
 use Rattle.gated_log.specs.LogState.{log_room, log_used}
@@ -14,7 +14,7 @@ use Rattle.working_state.specs.Reserve.{kept_for_end, undo_if, WroteBelow}
 use Rattle.working_state.specs.Seal.{IsFound}
 use Rattle.working_state.specs.State.{memory}
 use Rattle.working_state.proofs.Tables.{there}
-use Rattle.working_state.proofs.Found.{map_ok, records_by, records_are, fields_inside, objects_there, objects_ascend, records_below, records_few}
+use Rattle.working_state.proofs.Found.{map_ok, records_are, fields_inside, objects_there, objects_ascend, records_below, records_few}
 use Rattle.working_state.proofs.working.Working.seal_records.Goals as goal
 
 found : (s : Working) (x : Sealing) (area : AreaState) → IsSome (transaction_of s.table 1) → IfSome (transaction_of s.table 1) (λ t. IsFound (memory s) t x)

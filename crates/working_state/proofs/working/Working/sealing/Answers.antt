@@ -1,4 +1,3 @@
-use Rattle.std.proofs.Common.{length}
 use Rattle.txn_table.specs.Table.{transaction_of}
 use Rattle.working_state.specs.Reserve.{active_undo}
 use Rattle.working_state.specs.State.{memory}
