@@ -44,15 +44,15 @@ pub struct Working {
     /// How many transactions were sealed since the heap was opened.
     pub sealed: u64,
     // The log has room for what is kept for the active transaction's end.
-    ghost reserve: { log_used log + active_reserve table ≤ log_room log },
-    ghost counted: { sealed + active_count table < table.next },
-    ghost numbered: { table.next < 2 ^ 32 },
-    ghost sized: { length words ≡ words_in spaces.pages },
+    pub ghost reserve: { log_used log + active_reserve table ≤ log_room log },
+    pub ghost counted: { sealed + active_count table < table.next },
+    pub ghost numbered: { table.next < 2 ^ 32 },
+    pub ghost sized: { length words ≡ words_in spaces.pages },
     // What the active transaction wrote lies in these words.
-    ghost inside: { WroteBelow (length words) (active_undo table) },
-    ghost few: { length words ≤ 2097152 },
+    pub ghost inside: { WroteBelow (length words) (active_undo table) },
+    pub ghost few: { length words ≤ 2097152 },
     // A field's word can refer to what the handles hold.
-    ghost held: { HoldPlaces (active_handles table) },
+    pub ghost held: { HoldPlaces (active_handles table) },
 }
 
 /// The answer of an event that is refused.
@@ -66,7 +66,31 @@ impl Working {
     ghost use Rattle.heap_memory.specs.Refusals.{begin_refusal, handle_refusal, new_refusal, put_refusal, clear_refusal, link_refusal, get_refusal, same_refusal, len_refusal, end_refusal};
     ghost use Rattle.heap_memory.specs.Replies.{get_reply, same_reply, len_reply, IsGranted};
     ghost use Rattle.heap_memory.specs.Leaves.{IsAsItWas, Begins, SetsHandle, Makes, WritesHeld, Links, Gets, Aborts};
-    ghost use Rattle.working_state.specs.State.{memory, committed};
+    ghost use Rattle.working_state.specs.State.{memory, opened, committed};
+
+    /// The working state of a heap that was just opened, whose next transaction has this number.
+    pub fn new(
+        alloc: Global,
+        log: Log,
+        words: PageWords,
+        spaces: Spaces,
+        next: u32,
+    ) -> Result<Working, AllocError>
+        requires room { log_used log ≤ log_room log }
+        requires number { 1 ≤ next }
+        requires sized { length words ≡ words_in spaces.pages }
+        requires few { spaces.pages ≤ 16384 }
+        ensures { IfOk result (λ w. memory w ≡ opened log words spaces next) }
+    {
+        let table = TxnTable::new(alloc, next)?;
+        Ok(Working {
+            log,
+            words,
+            spaces,
+            table,
+            sealed: 0,
+        })
+    }
 
     /// Whether the session has a transaction.
     pub fn active(&self) -> bool
