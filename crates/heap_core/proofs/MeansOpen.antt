@@ -27,6 +27,7 @@ use Rattle.heap_memory.specs.Memory.{Memory, own}
 use Rattle.memory_laws.specs.Follows.{IsMemory, spaces_of}
 use Rattle.txn_table.specs.Table.{TransactionState, TableState, transaction_of, new_table}
 use Rattle.working_state.specs.declared.working.Working.{Working}
+use Rattle.working_state.specs.State as state
 use Rattle.working_state.specs.State.{memory}
 use Rattle.heap_core.specs.Means.{Remembers, DiskHolds}
 
@@ -47,13 +48,13 @@ pub record IsFresh (found : Recovered) (m : Memory) : Type 0 where
   pub table : m.table ≡ new_table found.next
   pub sealed : m.sealed ≡ 0
 
-pub is_fresh : (found : Recovered) (spaces : SpacesState) (table first : TableState) (m : Memory) → m ≡ record { log = found.log; words = found.words; spaces = spaces; table = table; sealed = 0 }
-    → spaces ≡ record { pages = found.pages; base = 0; used = found.used; owed = 0 } → table ≡ record { next = found.next; active = first.active } → first ≡ new_table 1 → IsFresh found m
-is_fresh found spaces table first m is space transactions none = record {
+pub is_fresh : (found : Recovered) (spaces : SpacesState) (table first : TableState) (m : Memory) → m ≡ state.opened found.log found.words spaces table.next
+    → spaces ≡ record { pages = found.pages; base = 0; used = found.used; owed = 0 } → table ≡ record { next = found.next; active = first.active } → IsFresh found m
+is_fresh found spaces table first m is space transactions = record {
   log = ap (λ x. x.log) is;
   words = ap (λ x. x.words) is;
   spaces = ap (λ x. x.spaces) is ∙ space;
-  table = ap (λ x. x.table) is ∙ transactions ∙ ap (λ x. record { next = found.next; active = x.active }) none;
+  table = ap (λ x. x.table) is ∙ ap (λ t. new_table t.next) transactions;
   sealed = ap (λ x. x.sealed) is;
 }
 
@@ -101,9 +102,8 @@ opened_disk_holds s batches places g new may_leave limits held only = record {
 -- Numbers of every heap that was opened: there is a next transaction, the words are those of both spaces, and the objects' words are in the
 -- first.
 pub record IsBounded (found : Recovered) : Type 0 where
-  pub next : 0 < found.next
+  pub next : 1 ≤ found.next
   pub size : length found.words ≡ words_in found.pages
-  pub few : length found.words < 2 ^ 32
   pub spaces : IsSpaces (record { pages = found.pages; base = 0; used = found.used; owed = 0 })
 
 pub opened_bounds : (s : Super) (batches : List (List Record)) (found : Recovered) → IsShapedLog s batches → IsRecovered s batches found → IsBounded found
@@ -122,6 +122,5 @@ opened_bounds s batches found shaped recovered =
     record {
       next = omega arith;
       size = size;
-      few = omega (arith, size);
       spaces = record { few = omega arith; first = inl refl; room = omega arith };
     }

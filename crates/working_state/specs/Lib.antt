@@ -1,2 +1,3 @@
 pub mod Reserve
+pub mod Seal
 pub mod State

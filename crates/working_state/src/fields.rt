@@ -1,11 +1,11 @@
 //! The fields of objects: of those that stand in the current space, and of those that a transaction has made.
-ghost use Rattle.std.specs.Prelude.{◌≡◌, ◌<◌, ◌≤◌, ◌^◌, length, Ok, Some, None, OnErr, IfOk, IfSome, IsSome};
+ghost use Rattle.std.specs.Prelude.{◌≡◌, ◌<◌, ◌≤◌, ◌^◌, length, [], true, Ok, Some, None, OnErr, IfOk, IfSome, IsSome};
 ghost use Rattle.heap_words.specs.Word.{bits, meaning, IsWord};
 ghost use Rattle.graph_model.specs.Plain.{reply_of};
 ghost use Rattle.graph_model.specs.declared.reply.Reply.TheVariants.{Done};
 ghost use Rattle.object_layout.specs.Layout.{field_words};
-ghost use Rattle.txn_table.specs.Table.{with_transaction};
 ghost use Rattle.heap_memory.specs.Memory.{own, own_fields, fields_at as words_at};
+ghost use Rattle.working_state.specs.Reserve.{can_refer};
 
 use crate::log_room::log_refusal;
 use crate::working::{SESSION, Working, refused};
@@ -130,13 +130,15 @@ impl Working {
             Some(Word::Int(v)) => Reply::Int { v },
             Some(Word::Stable(at)) => self.refer(h, Place::Stable(at)),
             Some(Word::Volatile(at)) => self.refer(h, Place::Volatile(at)),
-            Some(Word::Null) | None => Reply::Null,
+            Some(Word::Null) => Reply::Null,
+            None => Reply::Null,
         }
     }
 
     fn refer(&mut self, h: u64, to: Place) -> Reply
         requires active { IsSome (own (memory self.old)) }
         requires within { h < 64 }
+        requires meant { can_refer (Some to) ≡ true }
         ensures reply { result ≡ Reply.Reference }
         ensures left { IfSome (own (memory self.old)) (λ t. LeavesOwn (memory self.old) (memory self.new) [] (with_handle t h (Some to))) }
     {

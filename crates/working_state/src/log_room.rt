@@ -31,7 +31,7 @@ pub(crate) fn log_refusal(log: &Log, need: u64, reserved: u64) -> Option<Refusal
 
 /// The bytes that these records need, with those of a batch where no record waits.
 pub(crate) fn need_of(log: &Log, records: &[Record]) -> u64
-    requires { length (spellings records.now) < 2 ^ 32 + 2 ^ 20 }
+    requires { length (spellings records.now) < 2 ^ 32 + 2 ^ 24 }
     ensures { result ≡ log_need log.now (length (spellings records.now)) }
 {
     let own = bytes_of(records);
@@ -43,7 +43,7 @@ pub(crate) fn need_of(log: &Log, records: &[Record]) -> u64
 }
 
 fn bytes_of(records: &[Record]) -> u64
-    requires { length (spellings records.now) < 2 ^ 32 + 2 ^ 20 }
+    requires { length (spellings records.now) < 2 ^ 32 + 2 ^ 24 }
     ensures { result ≡ length (spellings records.now) }
 {
     let mut bytes = 0;

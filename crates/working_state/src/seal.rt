@@ -1,8 +1,13 @@
 //! A seal: what has become reachable from a stable field is promoted, and the transaction is committed.
-ghost use Rattle.std.specs.Prelude.{◌≡◌, Ok, OnErr, IfOk};
+ghost use Rattle.std.specs.Prelude.{◌≡◌, ◌+◌, ◌<◌, ◌≤◌, ◌^◌, length, Ok, OnErr, IfOk, IfSome, IsSome};
 ghost use Rattle.graph_model.specs.Plain.{reply_of};
 ghost use Rattle.graph_model.specs.declared.reply.Reply.TheVariants.{Sealed};
+ghost use Rattle.heap_memory.specs.Memory.{own};
 ghost use Rattle.heap_memory.specs.Refusals.{space_refusal};
+ghost use Rattle.heap_spaces.specs.Spaces.{open_words};
+ghost use Rattle.log_machine.specs.Effect.{EachWritesBelow};
+ghost use Rattle.log_records.specs.Record.{spellings};
+ghost use Rattle.working_state.specs.Seal.{IsFound};
 
 use crate::log_room::{log_refusal, need_of};
 use crate::working::{SESSION, Working, refused};
@@ -30,7 +35,7 @@ fn space_refusal(spaces: &Spaces, need: u64) -> Option<Refusal>
 }
 
 impl Working {
-    ghost use Rattle.heap_memory.specs.Refusals.{seal_refusal};
+    ghost use Rattle.heap_memory.specs.Refusals.{seal_refusal, sealing_records};
     ghost use Rattle.heap_memory.specs.Leaves.{IsAsItWas, Seals};
     ghost use Rattle.working_state.specs.State.{memory};
 
@@ -44,14 +49,11 @@ impl Working {
         if !self.table.active(SESSION) {
             return Ok(refused(Refusal::NotActive));
         }
-        let area = self.table.area(SESSION);
-        let undo = self.table.undo(SESSION);
-        let sealing = Sealing::new(alloc, area, self.words.as_slice(), undo)?;
+        let sealing = self.sealing(alloc)?;
         if let Some(why) = space_refusal(&self.spaces, sealing.need()) {
             return Ok(refused(why));
         }
-        let address = self.spaces.next_free();
-        let records = sealing.records(alloc, area, self.words.as_slice(), address)?;
+        let records = self.seal_records(alloc, &sealing)?;
         if let Some(why) = log_refusal(&self.log, need_of(&self.log, &records), 0) {
             return Ok(refused(why));
         }
@@ -61,5 +63,29 @@ impl Working {
         self.table.end(SESSION);
         self.sealed += 1;
         Ok(Reply::Sealed { n: self.sealed })
+    }
+
+    /// What the seal of the transaction promotes.
+    fn sealing(&self, alloc: Global) -> Result<Sealing, AllocError>
+        requires { IsSome (own (memory self.now)) }
+        ensures { IfOk result (λ found. IfSome (own (memory self.now)) (λ t. IsFound (memory self.now) t found)) }
+    {
+        let area = self.table.area(SESSION);
+        let undo = self.table.undo(SESSION);
+        Sealing::new(alloc, area, self.words.as_slice(), undo)
+    }
+
+    /// The records of the seal of the transaction, which promotes this.
+    fn seal_records(&self, alloc: Global, sealing: &Sealing) -> Result<Vec<Record>, AllocError>
+        requires active { IsSome (own (memory self.now)) }
+        requires found { IfSome (own (memory self.now)) (λ t. IsFound (memory self.now) t sealing.now) }
+        requires room { sealing.now.need ≤ open_words self.now.spaces }
+        ensures records { IfOk result (λ records. IfSome (own (memory self.now)) (λ t. records.items ≡ sealing_records (memory self.now) t)) }
+        ensures inside { IfOk result (λ records. EachWritesBelow (length self.now.words) records.items) }
+        ensures few { IfOk result (λ records. length (spellings records.items) < 2 ^ 32 + 2 ^ 24) }
+    {
+        let area = self.table.area(SESSION);
+        let address = self.spaces.next_free();
+        sealing.records(alloc, area, self.words.as_slice(), address)
     }
 }

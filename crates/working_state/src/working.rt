@@ -1,12 +1,12 @@
 //! The working state of an open heap, and how a session's transaction begins, asks and ends.
-ghost use Rattle.std.specs.Prelude.{◌≡◌, ◌+◌, ◌<◌, ◌≤◌, length, Ok, Some, None, OnErr, IfOk, IfSome, IsTrue, IsSome, ◌↔◌, reverse};
+ghost use Rattle.std.specs.Prelude.{◌≡◌, ◌+◌, ◌*◌, ◌^◌, ◌<◌, ◌≤◌, length, true, Ok, Some, None, OnErr, IfOk, IfSome, IsTrue, IsSome, ◌↔◌};
 ghost use Rattle.gated_log.specs.LogState.{log_room, log_used};
 ghost use Rattle.graph_model.specs.Plain.{reply_of};
 ghost use Rattle.graph_model.specs.declared.reply.Reply.TheVariants.{Begun, Done, Aborted};
 ghost use Rattle.log_machine.specs.Machine.{words_in};
-ghost use Rattle.txn_table.specs.Table.{with_transaction};
-ghost use Rattle.heap_memory.specs.Memory.{own, root_place, held_place};
-ghost use Rattle.working_state.specs.Reserve.{active_count, active_reserve, active_undo, WroteBelow};
+ghost use Rattle.heap_words.specs.Word.{IsWord};
+ghost use Rattle.heap_memory.specs.Memory.{own, root_place, place_word, held_place};
+ghost use Rattle.working_state.specs.Reserve.{active_count, active_reserve, active_undo, active_handles, WroteBelow, HoldPlaces, can_refer};
 
 use crate::log_room::log_refusal;
 use gated_log::Log;
@@ -44,11 +44,15 @@ pub struct Working {
     /// How many transactions were sealed since the heap was opened.
     pub sealed: u64,
     // The log has room for what is kept for the active transaction's end.
-    ghost reserve: { log_used log + active_reserve table ≤ log_room log },
-    ghost counted: { sealed + active_count table < table.next },
-    ghost sized: { length words ≡ words_in spaces.pages },
+    pub ghost reserve: { log_used log + active_reserve table ≤ log_room log },
+    pub ghost counted: { sealed + active_count table < table.next },
+    pub ghost numbered: { table.next < 2 ^ 32 },
+    pub ghost sized: { length words ≡ words_in spaces.pages },
     // What the active transaction wrote lies in these words.
-    ghost inside: { WroteBelow (length words) (active_undo table) },
+    pub ghost inside: { WroteBelow (length words) (active_undo table) },
+    pub ghost few: { length words ≤ 2097152 },
+    // A field's word can refer to what the handles hold.
+    pub ghost held: { HoldPlaces (active_handles table) },
 }
 
 /// The answer of an event that is refused.
@@ -62,7 +66,24 @@ impl Working {
     ghost use Rattle.heap_memory.specs.Refusals.{begin_refusal, handle_refusal, new_refusal, put_refusal, clear_refusal, link_refusal, get_refusal, same_refusal, len_refusal, end_refusal};
     ghost use Rattle.heap_memory.specs.Replies.{get_reply, same_reply, len_reply, IsGranted};
     ghost use Rattle.heap_memory.specs.Leaves.{IsAsItWas, Begins, SetsHandle, Makes, WritesHeld, Links, Gets, Aborts};
-    ghost use Rattle.working_state.specs.State.{memory, committed};
+    ghost use Rattle.working_state.specs.State.{memory, opened, committed};
+
+    /// The working state of a heap that was just opened: no session has a transaction.
+    pub fn new(log: Log, words: PageWords, spaces: Spaces, table: TxnTable) -> Working
+        requires number { 1 ≤ table.next }
+        requires idle { table ≡ new_table table.next }
+        requires sized { length words ≡ words_in spaces.pages }
+        requires few { spaces.pages ≤ 16384 }
+        ensures { memory result ≡ opened log words spaces table.next }
+    {
+        Working {
+            log,
+            words,
+            spaces,
+            table,
+            sealed: 0,
+        }
+    }
 
     /// Whether the session has a transaction.
     pub fn active(&self) -> bool
@@ -111,6 +132,7 @@ impl Working {
     }
 
     fn set_handle(&mut self, h: u64, to: Option<Place>) -> Reply
+        requires { can_refer to ≡ true }
         ensures reply { result ≡ reply_of (handle_refusal (own (memory self.old)) h) Done }
         ensures done { result ≡ Done → SetsHandle (memory self.old) (memory self.new) h to }
         ensures refused { (why : _) → result ≡ Reply.Refused why → self.new ≡ self.old }
@@ -248,7 +270,8 @@ impl Working {
 
     /// Where the object stands that a handle of the transaction holds.
     fn held(&self, h: u64) -> Result<Place, Refusal>
-        ensures { result ≡ held_place (own (memory self.now)) h }
+        ensures place { result ≡ held_place (own (memory self.now)) h }
+        ensures word { IfOk result (λ p. IsWord (place_word p)) }
     {
         if let Some(why) = self.handle_refusal(h) {
             return Err(why);

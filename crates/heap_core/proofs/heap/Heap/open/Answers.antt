@@ -1,5 +1,5 @@
 use Rattle.log_machine.specs.Machine.{words_in}
-use Rattle.std.proofs.Common.{◌<◌, true, sym, refl, ap, ◌∙◌, subst}
+use Rattle.std.proofs.Common.{◌≤◌, true, sym, refl, ap, ◌∙◌, subst}
 use Rattle.heap_model.specs.Opening.{opening_calls}
 use Rattle.heap_core.specs.Causes.{IsFromOutside, ErrorPasses}
 use Rattle.heap_core.proofs.MeansOpen.{opened_bounds, opened_memory, opened_disk_holds, is_fresh}
@@ -19,17 +19,17 @@ new-working-requires-clause-sized g c =
 pub new-working-requires-clause-few : goal.new-working-requires-clause-few
 new-working-requires-clause-few g c =
     let found = c.in-Ok-recover.ensures.opens in
-    (opened_bounds found.0 found.1 c.in-Ok-recover.found found.2 found.3).few
+    subst (λ x. x.pages ≤ 16384) (sym c.new-spaces.ensures) (opened_bounds found.0 found.1 c.in-Ok-recover.found found.2 found.3).spaces.few
 
-pub new-working-requires-clause-next : goal.new-working-requires-clause-next
-new-working-requires-clause-next g c =
+pub new-working-requires-clause-number : goal.new-working-requires-clause-number
+new-working-requires-clause-number g c =
     let found = c.in-Ok-recover.ensures.opens in
-    subst (λ x. 0 < x.next) (sym c.set_next.ensures) (opened_bounds found.0 found.1 c.in-Ok-recover.found found.2 found.3).next
+    subst (λ x. 1 ≤ x.next) (sym c.set_next.ensures) (opened_bounds found.0 found.1 c.in-Ok-recover.found found.2 found.3).next
 
 pub returns-in-Ok-recover-clause-opens : goal.returns-in-Ok-recover-clause-opens
 returns-in-Ok-recover-clause-opens g c =
     let found = c.in-Ok-recover.ensures.opens in
-    let fresh = is_fresh c.in-Ok-recover.found c.new-spaces.result c.set_next.new.self c.in-Ok.table _ c.new-working.ensures c.new-spaces.ensures c.set_next.ensures c.in-Ok.ensures in (
+    let fresh = is_fresh c.in-Ok-recover.found c.new-spaces.result c.set_next.new.self c.in-Ok.table _ c.new-working.ensures c.new-spaces.ensures c.set_next.ensures in (
       found.0,
       found.1,
       found.2,
@@ -43,7 +43,7 @@ returns-in-Ok-recover-clause-opens g c =
 pub returns-in-Ok-recover-clause-holds : goal.returns-in-Ok-recover-clause-holds
 returns-in-Ok-recover-clause-holds g c tells s batches legal only places gr stands =
     let found = c.in-Ok-recover.ensures.found tells s batches legal in
-    let fresh = is_fresh c.in-Ok-recover.found c.new-spaces.result c.set_next.new.self c.in-Ok.table _ c.new-working.ensures c.new-spaces.ensures c.set_next.ensures c.in-Ok.ensures in
+    let fresh = is_fresh c.in-Ok-recover.found c.new-spaces.result c.set_next.new.self c.in-Ok.table _ c.new-working.ensures c.new-spaces.ensures c.set_next.ensures in
     record {
       core = record { history = c.new-in-Ok-recover.ensures; before = found.commits; memory = opened_memory s batches true places gr c.in-Ok-recover.found _ legal.log.shaped found fresh };
       disk = opened_disk_holds s batches places gr _ _ legal.log.shaped.limits (c.in-Ok-recover.ensures.holds tells s batches legal) (c.in-Ok-recover.ensures.durable tells only);

@@ -1,0 +1,7 @@
+pub mod Tables
+pub mod Room
+pub mod SealLaws
+pub mod Found
+pub mod ObjectFields
+pub mod Made
+pub mod Left
