@@ -4,6 +4,7 @@ ghost use Rattle.gated_log.specs.LogState.{log_room, log_used};
 ghost use Rattle.graph_model.specs.Plain.{reply_of};
 ghost use Rattle.graph_model.specs.declared.reply.Reply.TheVariants.{Begun, Done, Aborted};
 ghost use Rattle.log_machine.specs.Machine.{words_in};
+ghost use Rattle.txn_table.specs.Table.{new_table};
 ghost use Rattle.heap_words.specs.Word.{IsWord};
 ghost use Rattle.heap_memory.specs.Memory.{own, root_place, place_word, held_place};
 ghost use Rattle.working_state.specs.Reserve.{active_count, active_reserve, active_undo, active_handles, WroteBelow, HoldPlaces, can_refer};
