@@ -1,5 +1,5 @@
 -- What an opening reads of a log, and what it leaves.
-use Rattle.std.proofs.Common.{◌≡◌, ◌≢◌, ◌⊎◌, ⊎_elim, ℕ, ◌+◌, ◌≤◌, List, [], ◌∷◌, ◌++◌, length, take, drop, take-append-drop, Option, None, Some, Result, Ok, Err, refl, sym, ap, ◌∙◌, subst, arith}
+use Rattle.std.proofs.Common.{inl, inr, ◌≡◌, ◌≢◌, ◌⊎◌, ⊎_elim, ℕ, ◌+◌, ◌≤◌, List, [], ◌∷◌, ◌++◌, length, take, drop, take-append-drop, Option, None, Some, Result, Ok, Err, refl, sym, ap, ◌∙◌, subst, arith}
 use Rattle.std.specs.Prelude.{option_and_then, IfOk, IfErr, IsOk}
 use Rattle.std.proofs.lemmas.Option.{option_and_then_some}
 use Rattle.std.proofs.lemmas.Bool.Decides.{nat_tests}
@@ -31,7 +31,7 @@ use Rattle.object_layout.specs.WalkLaws.{walked_fault}
 use Rattle.heap_model.specs.CoreLawsRoom.{records_of-with_batch}
 use Rattle.heap_model.specs.CoreLawsHeld.{held_with}
 use Rattle.heap_model.specs.Image.{words_of, IsShapedLog, IsLegalLog, Holds}
-use Rattle.heap_model.specs.Opening.{rollback_in, rollback_of, rolled_back, used_in, next_in}
+use Rattle.heap_model.specs.Opening.{IsLeftByOpening, rollback_in, rollback_of, rolled_back, used_in, next_in}
 use Rattle.heap_recovery.specs.declared.error.RecoverError.{RecoverError}
 use Rattle.heap_recovery.specs.declared.error.RecoverError.TheVariants.{NoMemory, NotHeap, Damaged, Disk}
 use Rattle.heap_recovery.specs.declared.reading.Reading.{Reading}
