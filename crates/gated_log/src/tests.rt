@@ -24,7 +24,8 @@ const FORCED: [u8; 44] = [
 #[test]
 fn forced_and_opened_again(rt: HostRuntime) -> Result<(), Fail> {
     let alloc = rt.alloc();
-    let [update, commit] = RECORDS;
+    let records = RECORDS;
+    let (update, commit) = (&records[0], &records[1]);
     let bytes = vec![in alloc; 0u8; 44]?;
     let mut disk = MemoryDisk::of(
         alloc,
@@ -38,11 +39,11 @@ fn forced_and_opened_again(rt: HostRuntime) -> Result<(), Fail> {
     assert_eq!(rt; found.len(), 0);
     assert_eq!(rt; log.used(), 1);
     log.reserve(32)?;
-    assert!(rt; log.used() + log.need(&update) <= log.room());
-    log.append(&update)?;
+    assert!(rt; log.used() + log.need(update) <= log.room());
+    log.append(update)?;
     assert!(rt; log.pending());
-    assert!(rt; log.used() + log.need(&commit) <= log.room());
-    log.append(&commit)?;
+    assert!(rt; log.used() + log.need(commit) <= log.room());
+    log.append(commit)?;
     assert_eq!(rt; (log.records(), log.forced()), (2, 0));
     log.force(&mut disk)?;
     assert_eq!(rt; (log.records(), log.forced()), (2, 2));

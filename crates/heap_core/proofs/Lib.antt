@@ -1,14 +1,12 @@
 mod Calls
 mod Empty
-mod MeansActive
+mod MeansAnswer
 mod MeansForce
+mod MeansGraph
 pub mod MeansLeft
-mod MeansLog
+mod MeansMemory
 mod MeansOpen
-mod MeansRefusal
-mod MeansStep
 mod OpenErrors
-mod Room
 mod RoundLaws
 mod Undamaged
 mod Zeros

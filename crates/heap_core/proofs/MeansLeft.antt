@@ -1,6 +1,6 @@
 -- What a crash leaves of a heap, and how many device calls an event makes.
 use Rattle.std.proofs.Common.{◌≡◌, ◌⊎◌, inl, inr, ℕ, ◌+◌, ◌≤◌, cond, List, [], ◌∷◌, ◌++◌, length, take, Option, Some, None, Result, Ok, Err, refl, sym, ap, ◌∙◌, subst, arith}
-use Rattle.std.specs.Prelude.{IfOk, OnOk, nat_lt, if◌then◌else◌}
+use Rattle.std.specs.Prelude.{IfOk, OnOk, OnErr, nat_lt, if◌then◌else◌}
 use Rattle.std.specs.Option.{option_to_list}
 use Rattle.std.specs.declared.alloc.AllocError.{AllocError}
 use Rattle.std.proofs.lemmas.Bool.{lt-ltb}
@@ -12,7 +12,7 @@ use Rattle.gated_log.specs.declared.Log.{Log}
 use Rattle.gated_log.specs.LogLaws.{hand_size-Keeps}
 use Rattle.gated_log.specs.LogState.{hand_size, is_waiting, Keeps}
 use Rattle.graph_model.specs.declared.event.Event.{Event}
-use Rattle.graph_model.specs.declared.event.Event.TheVariants.{Begin, Root, Put, Clear, Drop, Get, Same, Len, Seal, Abort, Force}
+use Rattle.graph_model.specs.declared.event.Event.TheVariants.{Begin, Root, New, Put, Clear, Link, Drop, Get, Same, Len, Seal, Abort, Force}
 use Rattle.graph_model.specs.declared.reply.Entry.{Entry}
 use Rattle.graph_model.specs.declared.reply.Refusal.{Refusal}
 use Rattle.graph_model.specs.declared.reply.Refusal.TheVariants.{DiskFault, Stopped}
@@ -29,8 +29,8 @@ use Rattle.heap_model.specs.Core.{Core, core_refusal, with_entry, force_calls, c
 use Rattle.heap_model.specs.CoreCrash.{KeepsCommits}
 use Rattle.heap_model.specs.CoreLawsRun.{failed_refusal, calls-forced}
 use Rattle.heap_model.specs.CoreValid.{IsValid}
-use Rattle.heap_model.specs.Image.{StandsFor}
-use Rattle.heap_core.proofs.MeansLog.{some_spellings}
+use Rattle.heap_model.specs.Image.{Says}
+use Rattle.memory_laws.specs.LogLaws.{some_spellings}
 
 -- an entry that neither commits nor acknowledges anything
 keeps_entry : (c : Core) (event : Event) (reply : Reply) (b : Account) (image : List ℕ) → account_after (account c.history) (record { event = event; reply = reply }) ≡ b
@@ -47,7 +47,14 @@ keeps_entry c event reply b image is same_sealed same_doubt same_acknowledged ke
     let first = kept.1 in (
       k,
       record {
-        stands = subst (λ (ts : List Transaction). StandsFor (serial c.g0 (take k ts)) (c.before + k) image) (sym all) first.stands;
+        stands = record {
+          super = first.stands.super;
+          batches = first.stands.batches;
+          says = subst (λ (ts : List Transaction). Says (serial c.g0 (take k ts)) (c.before + k) first.stands.super first.stands.batches) (sym all) first.stands.says;
+          held = first.stands.held;
+        };
+        of = record { limits = first.of.limits; pages = first.of.pages; room = first.of.room; first = first.of.first };
+        next = first.next;
         kept = subst (λ (n : ℕ). n ≤ k) (sym told) first.kept;
         some = subst (λ (ts : List Transaction). k ≤ length ts) (sym all) first.some;
       },
@@ -84,8 +91,10 @@ quiet_calls : (o : Option Refusal) (c : Core) (event : Event) → (event ≡ For
 quiet_calls (Some why) c event other = refl
 quiet_calls None c (Begin s) other = refl
 quiet_calls None c (Root s h) other = refl
+quiet_calls None c (New s h len) other = refl
 quiet_calls None c (Put s h i v) other = refl
 quiet_calls None c (Clear s h i) other = refl
+quiet_calls None c (Link s h i h2) other = refl
 quiet_calls None c (Drop s h) other = refl
 quiet_calls None c (Get s h i h2) other = refl
 quiet_calls None c (Same s h h2) other = refl
@@ -114,3 +123,8 @@ pub force_passes : (c : Core) (log : Log) (before now : ℕ) (result : Result (U
     → Passes (if is_waiting log then 4 else 0) before now result → Passes (calls c Force) before now result
 force_passes c log before now result valid keeps passes =
     subst (λ (n : ℕ). Passes n before now result) (hand_calls (hand_size log) c.pending (hand_size-Keeps log c.batches c.pending keeps) ∙ sym (calls-forced c valid)) passes
+
+-- what holds anyway holds after an error
+pub on_error : {T E P : Type 0} (result : Result T E) → P → OnErr result P
+on_error (Ok x) holds = tt
+on_error (Err e) holds = holds

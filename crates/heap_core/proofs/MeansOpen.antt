@@ -1,62 +1,126 @@
 -- A heap that has just been opened.
-use Rattle.std.proofs.Common.{◌≡◌, ℕ, ◌^◌, ◌<◌, ◌≤◌, List, length, None, is_some, refl, sym, ap, ◌∙◌, arith}
+use Rattle.std.proofs.Common.{◌≡◌, inl, ℕ, ◌+◌, ◌*◌, ◌^◌, ◌<◌, ◌≤◌, Bool, true, List, length, None, Some, is_some, refl, sym, ap, ◌∙◌, arith}
+use Rattle.std.specs.Prelude.{IsTrue}
+use Rattle.std.specs.FinMap.{get-empty}
+use Rattle.std.specs.Ordering.{nat_cmp}
 use Rattle.std.proofs.lemmas.List.{append-nil}
 use Rattle.disk_model.specs.Disk.{Only}
 use Rattle.gated_log.specs.Log.{records_of}
-use Rattle.graph_model.specs.Graph.{Graph, root_graph}
+use Rattle.graph_model.specs.Graph.{Graph}
+use Rattle.graph_model.specs.History.{account}
+use Rattle.heap_spaces.specs.Spaces.{SpacesState, IsSpaces}
 use Rattle.image_plan.specs.declared.superblock.Super.{Super}
 use Rattle.image_plan.specs.Super.{IsSuper}
 use Rattle.log_records.specs.declared.Record.{Record}
-use Rattle.log_machine.specs.Machine.{words}
+use Rattle.log_machine.specs.AbortLaws.{settled}
+use Rattle.log_machine.specs.Machine.{State, start, words, words_in}
+use Rattle.log_machine.specs.StateLaws.{leads_after_all, room_after_all}
 use Rattle.log_machine.specs.WordsLaws.{length-words}
-use Rattle.heap_model.specs.CoreLawsLegal.{root_shown}
-use Rattle.heap_model.specs.CoreLawsOpened.{opened_reached}
-use Rattle.heap_model.specs.CoreLawsRun.{reached_agrees}
-use Rattle.heap_model.specs.Image.{IsLegalLog, Holds, words_of}
-use Rattle.heap_model.specs.Opening.{rolled_back, opened}
-use Rattle.heap_model.specs.ValueWord.{root_values}
+use Rattle.graph_words.specs.Places.{Places}
+use Rattle.heap_model.specs.CoreLawsOpening.{next_is, rolled_reached}
+use Rattle.heap_model.specs.Core.{state_behind, all_records}
+use Rattle.heap_model.specs.Image.{IsShapedLog, Holds}
+use Rattle.heap_model.specs.Opening.{rolled_back, opened, used_in, next_of}
 use Rattle.heap_recovery.specs.declared.recovery.Recovered.{Recovered}
 use Rattle.heap_recovery.specs.Recovered.{IsRecovered}
-use Rattle.heap_core.specs.declared.working.Working.{Working}
+use Rattle.heap_memory.specs.Memory.{Memory, own}
+use Rattle.memory_laws.specs.Follows.{IsMemory, spaces_of}
+use Rattle.txn_table.specs.Table.{TransactionState, TableState, transaction_of, new_table}
+use Rattle.working_state.specs.declared.working.Working.{Working}
+use Rattle.working_state.specs.State as state
+use Rattle.working_state.specs.State.{memory}
 use Rattle.heap_core.specs.Means.{Remembers, DiskHolds}
 
--- what was found is the core of a heap that has just been opened, whatever graph was seen in it
-pub opened_memory : (s : Super) (batches : List (List Record)) (g : Graph) (found : Recovered) (w : Working) → IsRecovered s batches found
-    → w.log ≡ found.log → w.words ≡ found.words → w.active ≡ None → w.next ≡ found.next → w.sealed ≡ 0 → Remembers (opened s batches g) w None
-opened_memory s batches g found w recovered log stored active next sealed = record {
+-- as many words are used as the log says
+used_found : (s : Super) (batches : List (List Record)) (found : Recovered) (shaped : IsShapedLog s batches) → IsRecovered s batches found → found.used ≡ shaped.state.used
+used_found s batches found shaped recovered = sym recovered.used ∙ ap used_in shaped.reached
+
+-- a new table has no transaction
+none_begun : (table : TableState) (next : ℕ) → table ≡ new_table next → transaction_of table 1 ≡ None
+none_begun table next is = ap (λ t. transaction_of t 1) is ∙ get-empty {X = TransactionState} nat_cmp 1
+
+-- What a heap just opened keeps in memory: the log and the words that were found, a space of which the objects' words are taken, and no
+-- transaction.
+pub record IsFresh (found : Recovered) (m : Memory) : Type 0 where
+  pub log : m.log ≡ found.log
+  pub words : m.words ≡ found.words
+  pub spaces : m.spaces ≡ record { pages = found.pages; base = 0; used = found.used; owed = 0 }
+  pub table : m.table ≡ new_table found.next
+  pub sealed : m.sealed ≡ 0
+
+pub is_fresh : (found : Recovered) (spaces : SpacesState) (table first : TableState) (m : Memory) → m ≡ state.opened found.log found.words spaces table.next
+    → spaces ≡ record { pages = found.pages; base = 0; used = found.used; owed = 0 } → table ≡ record { next = found.next; active = first.active } → IsFresh found m
+is_fresh found spaces table first m is space transactions = record {
+  log = ap (λ x. x.log) is;
+  words = ap (λ x. x.words) is;
+  spaces = ap (λ x. x.spaces) is ∙ space;
+  table = ap (λ x. x.table) is ∙ ap (λ t. new_table t.next) transactions;
+  sealed = ap (λ x. x.sealed) is;
+}
+
+-- what was found is the core of a heap that has just been opened, whatever graph stands in it
+fresh_memory : (s : Super) (batches : List (List Record)) (born : Bool) (places : Places) (g : Graph) (found : Recovered) (m : Memory) → (shaped : IsShapedLog s batches) → IsRecovered s batches found
+    → IsFresh found m → IsMemory m (account (opened s batches born places g).history) (opened s batches born places g)
+fresh_memory s batches born places g found m shaped recovered fresh =
+    let c = opened s batches born places g in
+    let to = leads_after_all (start s.pages s.first) shaped.state (records_of batches) shaped.reached in
+    let none = append-nil (records_of (rolled_back s batches)) in
+    record {
+      log = rw fresh.log recovered.log;
+      place = rw fresh.log recovered.place;
+      room = rw fresh.log recovered.room;
+      stored = fresh.words ∙ recovered.words ∙ ap (words s.pages) (sym none);
+      state = settled shaped.state;
+      reached = ap (state_behind c) none ∙ rolled_reached s batches shaped;
+      spaces = fresh.spaces ∙ ap (λ n. record { pages = n; base = 0; used = found.used; owed = 0 }) (recovered.pages ∙ sym to.pages)
+          ∙ ap (λ n. record { pages = shaped.state.pages; base = n; used = found.used; owed = 0 }) (sym to.base)
+          ∙ ap (λ n. record { pages = shaped.state.pages; base = shaped.state.base; used = n; owed = 0 }) (used_found s batches found shaped recovered);
+      transaction = none_begun m.table found.next fresh.table;
+      next = ap (λ t. t.next) fresh.table ∙ omega (arith, recovered.next);
+      sealed = fresh.sealed;
+    }
+
+pub opened_memory : (s : Super) (batches : List (List Record)) (born : Bool) (places : Places) (g : Graph) (found : Recovered) (w : Working) → (shaped : IsShapedLog s batches) → IsRecovered s batches found
+    → IsFresh found (memory w) → Remembers (opened s batches born places g) w None
+opened_memory s batches born places g found w shaped recovered fresh = record {
   failure = refl;
-  works = λ none. record {
-    log = rw log recovered.log;
-    place = rw log recovered.place;
-    room = rw log recovered.room;
-    stored = stored ∙ recovered.words ∙ ap (words s.pages) (sym (append-nil (records_of (rolled_back s batches))));
-    active = rw active tt;
-    next = omega (arith, next, recovered.next);
-    sealed = sealed;
-  };
+  works = λ none. fresh_memory s batches born places g found (memory w) shaped recovered fresh;
   lost = λ some. absurd (some refl);
-  sealed = sealed;
-  active = ap is_some active;
+  sealed = fresh.sealed;
+  active = ap is_some (none_begun (memory w).table found.next fresh.table);
 }
 
 -- the disk of such a heap holds it
-pub opened_disk_holds : (s : Super) (batches : List (List Record)) (g : Graph) (new : List ℕ) (may_leave : List ℕ → Type 0) → IsSuper s → Holds s (rolled_back s batches) new → Only new may_leave
-    → DiskHolds s (opened s batches g) new may_leave
-opened_disk_holds s batches g new may_leave limits held only = record {
-  unfailed = λ none. record { of = record { limits = limits; pages = refl; room = refl }; held = held; only = only };
+pub opened_disk_holds : (s : Super) (batches : List (List Record)) (places : Places) (g : Graph) (new : List ℕ) (may_leave : List ℕ → Type 0) → IsSuper s → Holds s (rolled_back s batches) new → Only new may_leave
+    → DiskHolds s (opened s batches true places g) new may_leave
+opened_disk_holds s batches places g new may_leave limits held only = record {
+  born = refl;
+  unfailed = λ none. record { of = record { limits = limits; pages = refl; room = refl; first = refl }; held = held; only = only };
   failed = λ some. absurd (some refl);
 }
 
--- numbers and words that every heap has that was opened
-pub opened_bounds : (s : Super) (batches : List (List Record)) (found : Recovered) → IsLegalLog s batches → IsRecovered s batches found
-    → (0 < found.next) × (6 ≤ length found.words) × (length found.words < 2 ^ 32)
-opened_bounds s batches found legal recovered =
-    let gr = root_graph (root_values (words_of s batches) 0) in
-    let reached = opened_reached s batches legal gr (root_shown s batches legal) in
-    let first = (reached_agrees (opened s batches gr) reached).some_first in
+-- Numbers of every heap that was opened: there is a next transaction, the words are those of both spaces, and the objects' words are in the
+-- first.
+pub record IsBounded (found : Recovered) : Type 0 where
+  pub next : 1 ≤ found.next
+  pub size : length found.words ≡ words_in found.pages
+  pub spaces : IsSpaces (record { pages = found.pages; base = 0; used = found.used; owed = 0 })
+
+pub opened_bounds : (s : Super) (batches : List (List Record)) (found : Recovered) → IsShapedLog s batches → IsRecovered s batches found → IsBounded found
+opened_bounds s batches found shaped recovered =
+    let to = leads_after_all (start s.pages s.first) shaped.state (records_of batches) shaped.reached in
+    let room = room_after_all s.pages s.first shaped.state (records_of batches) shaped.limits.some_pages shaped.reached in
+    let used = used_found s batches found shaped recovered in
+    let first = shaped.limits.some_first in
+    let grows = to.grows in
     let next = recovered.next in
-    let size = ap (λ (ws : List ℕ). length ws) recovered.words ∙ length-words s.pages (records_of (rolled_back s batches)) in
-    let limits = legal.limits in
-    let some = limits.some_pages in
-    let most = limits.few_pages in
-    (omega arith, omega arith, omega arith)
+    let known = next_is s batches shaped in
+    let pages = recovered.pages in
+    let few = shaped.limits.few_pages in
+    let within = room.3 in
+    let size = ap length recovered.words ∙ length-words s.pages (records_of (rolled_back s batches)) ∙ ap words_in (sym pages) in
+    record {
+      next = omega arith;
+      size = size;
+      spaces = record { few = omega arith; first = inl refl; room = omega arith };
+    }

@@ -1,5 +1,5 @@
 -- A round of a program that stands on the heap.
-use Rattle.std.proofs.Common.{ℕ, zero, suc, ◌+◌, ◌<◌, List, [], ◌∷◌, ◌++◌, length, take, get_or, refl, sym, subst, arith}
+use Rattle.std.proofs.Common.{◌≡◌, ◌∙◌, true, ℕ, zero, suc, ◌+◌, ◌<◌, List, [], ◌∷◌, ◌++◌, length, take, get_or, refl, sym, subst, arith}
 use Rattle.std.specs.List.{AllByRecursion}
 use Rattle.std.proofs.lemmas.List.{take_more}
 use Rattle.disk_model.specs.declared.disk.Disk.{Ghosts}
@@ -10,10 +10,13 @@ use Rattle.graph_model.specs.SlowHeap.{IsSingleSession}
 use Rattle.heap_model.specs.Core.{Core, IsStep}
 use Rattle.heap_model.specs.CoreCrash.{KeepsCommits}
 use Rattle.heap_model.specs.CoreLawsCalls.{run_step}
-use Rattle.heap_model.specs.CoreLawsOpened.{opened_reached}
+use Rattle.heap_model.specs.CoreLawsOpened.{opened_reached, saying_law}
 use Rattle.heap_model.specs.CoreLawsReplies.{step_reached}
 use Rattle.heap_model.specs.Image.{IsLegal, StandsFor}
-use Rattle.heap_model.specs.Opening.{opened}
+use Rattle.heap_model.specs.Opening.{opened, IsFound}
+use Rattle.heap_model.specs.Theorems.{SaysOn}
+use Rattle.graph_model.specs.Canon.{canon}
+use Rattle.graph_words.specs.Places.{Places}
 use Rattle.heap_core.specs.declared.heap.Heap.{Heap}
 use Rattle.heap_core.specs.Means.{IsHeap}
 use Rattle.heap_core.specs.Rounds.{IsGoing, IsRound, HasGone}
@@ -22,16 +25,27 @@ use Rattle.heap_core.specs.Rounds.{IsGoing, IsRound, HasGone}
 abbrev pub legal_of : (g : Graph) (k : ℕ) (image : List ℕ) → (stands : StandsFor g k image) → IsLegal stands.super stands.batches image
 legal_of g k image stands = record { log = stands.says.legal; held = stands.held }
 
+-- the graph that stands in what its log leaves, under the names of births
+abbrev pub found_of : (g : Graph) (k : ℕ) (image : List ℕ) → (stands : StandsFor g k image)
+    → (places : Places) × (h : Graph) × IsFound stands.super stands.batches stands.says.legal.shaped true places h × (canon h ≡ canon stands.says.seen) × SaysOn h stands.super stands.batches
+found_of g k image stands = saying_law stands.super stands.batches stands.says.legal stands.says.seen stands.says.shows
+
+-- the core that is opened on it
+abbrev pub core_of : (g : Graph) (k : ℕ) (image : List ℕ) → StandsFor g k image → Core
+core_of g k image stands = let found = found_of g k image stands in opened stands.super stands.batches true found.0 found.1
+
 -- a heap was opened on it
-pub going_opened : (g : Graph) (k : ℕ) (image : List ℕ) → (stands : StandsFor g k image) → IsGoing g k [] (opened stands.super stands.batches stands.says.seen)
-going_opened g k image stands = record {
-  start = opened stands.super stands.batches stands.says.seen;
-  opened = refl;
-  graph = stands.says.graph;
-  before = stands.says.count;
-  run = refl;
-  reached = opened_reached stands.super stands.batches stands.says.legal stands.says.seen stands.says.shows;
-}
+pub going_opened : (g : Graph) (k : ℕ) (image : List ℕ) → (stands : StandsFor g k image) → IsGoing g k [] (core_of g k image stands)
+going_opened g k image stands =
+    let found = found_of g k image stands in
+    record {
+      start = core_of g k image stands;
+      opened = refl;
+      graph = found.3 ∙ stands.says.graph;
+      before = stands.says.count;
+      run = refl;
+      reached = opened_reached stands.super stands.batches stands.says.legal.shaped true found.0 found.1 found.2;
+    }
 
 -- one event more
 pub going_on : (g : Graph) (k : ℕ) (events : List Event) (c d : Core) (event : Event) (reply : Reply) → IsGoing g k events c → IsSingleSession event → IsStep c event reply d → IsGoing g k (events ++ event ∷ []) d

@@ -4,6 +4,4 @@ pub mod Format
 pub mod GivenBack
 pub mod HeapState
 pub mod Means
-pub mod Reserve
 pub mod Rounds
-pub mod Working

@@ -1,11 +1,11 @@
 //! The heap: events on an image, each of them one step.
-ghost use Rattle.std.specs.Prelude.{◌≡◌, ◌≢◌, ◌⊎◌, ◌↔◌, ◌+◌, ◌≤◌, ◌^◌, ◌<◌, ℕ, List, [], length, min, is_some, None, Err, IsTrue, IfOk, IfErr, OnErr};
+ghost use Rattle.std.specs.Prelude.{◌≡◌, ◌≢◌, ◌⊎◌, ◌↔◌, ◌+◌, ◌≤◌, ◌^◌, ◌<◌, ℕ, List, [], length, min, is_some, Bool, true, None, Some, Ok, Err, IsTrue, IfOk, IfErr, OnErr};
 ghost use Rattle.counts.specs.Count.{greatest};
 ghost use Rattle.disk_model.specs.Disk.{Only};
 ghost use Rattle.disk_model.specs.Keeps.{KeepsDisk};
 ghost use Rattle.disk_model.specs.Moments.{LeavesOnly};
 ghost use Rattle.gate_slot.specs.Passing.{Passes};
-ghost use Rattle.gated_log.specs.LogState.{log_place, log_room};
+ghost use Rattle.gated_log.specs.LogState.{log_place, log_room, IsPlaced};
 ghost use Rattle.graph_model.specs.Graph.{Graph};
 ghost use Rattle.graph_model.specs.Canon.{canon};
 ghost use Rattle.graph_model.specs.Text.{canon_text};
@@ -16,23 +16,30 @@ ghost use Rattle.graph_model.specs.declared.event.Event.TheVariants.{Force};
 ghost use Rattle.graph_model.specs.declared.reply.Refusal.TheVariants.{DiskFault, Stopped};
 ghost use Rattle.image_plan.specs.declared.superblock.Super.{Super};
 ghost use Rattle.log_records.specs.declared.Record.{Record};
-ghost use Rattle.heap_model.specs.Image.{IsLegalLog, IsLegal, Shows, StandsFor};
-ghost use Rattle.object_layout.specs.Layout.{IsSeen};
-ghost use Rattle.heap_model.specs.Opening.{opened, rollback_of, opening_calls};
+ghost use Rattle.heap_model.specs.Image.{IsShapedLog, IsLegal};
+ghost use Rattle.graph_model.specs.declared.id.Id.{Id};
+ghost use Rattle.graph_words.specs.Places.{Places};
+ghost use Rattle.object_layout.specs.Layout.{IsSeenAs};
+ghost use Rattle.heap_model.specs.Opening.{opened, rollback_of, opening_calls, IsFound, IsLeftByOpening};
 ghost use Rattle.heap_core.specs.Causes.{step_device, reply_device, opened_device, IsFromOutside, OpenedPasses};
 ghost use Rattle.heap_model.specs.Core.{Core, IsStep, calls};
 ghost use Rattle.heap_model.specs.CoreCrash.{KeepsCommits};
-ghost use Rattle.heap_model.specs.CoreValid.{IsReached};
+ghost use Rattle.heap_model.specs.CoreValid.{IsReached, IsValid};
+ghost use Rattle.heap_memory.specs.Leaves.{IsAsItWas};
+ghost use Rattle.memory_laws.specs.Follows.{IsMemory, Does};
+ghost use Rattle.working_state.specs.State.{memory};
 
 use crate::errors::{GraphError, OpenError};
 use crate::history::History;
-use crate::working::{Working, refused};
 use disk_model::{Disk, DiskError};
 use graph_model::{Entry, Event, Refusal, Reply};
 use heap_recovery::{Recovered, recover};
+use heap_spaces::Spaces;
 use log_machine::PageWords;
 use object_layout::WordSlice;
 use std::alloc::{AllocError, Global};
+use txn_table::TxnTable;
+use working_state::{Working, refused};
 
 /// The word address of the root object.
 const ROOT_AT: u32 = 0;
@@ -61,11 +68,41 @@ fn cut_short(e: DiskError) -> Reply
     })
 }
 
+/// What is answered to an event that asks nothing of the disk, and nothing to a force.
+fn reply_in_memory(
+    working: &mut Working,
+    alloc: Global,
+    event: Event,
+) -> Result<Option<Reply>, AllocError>
+    ensures does { (c : Core) → IsMemory (memory working.old) (account c.history) c → IsValid c → IsSingleSession event → IfOk result (λ o. (reply : Reply) → o ≡ Some reply → Does c event reply (memory working.new)) }
+    ensures replied { IfOk result (λ o. (reply : Reply) → o ≡ Some reply → event ≢ Force) }
+    ensures quiet { IfOk result (λ o. (reply : Reply) → o ≡ Some reply → reply_device reply ≡ Ok tt) }
+    ensures forced { IfOk result (λ o. o ≡ None → (event ≡ Force) × (working.new ≡ working.old)) }
+    ensures placed { IsPlaced working.old.log working.new.log }
+    ensures err { OnErr result (IsAsItWas (memory working.old) (memory working.new)) }
+{
+    match event {
+        Event::Begin { .. } => Ok(Some(working.begin())),
+        Event::Root { h, .. } => Ok(Some(working.root(h))),
+        Event::New { h, len, .. } => Ok(Some(working.make(h, len)?)),
+        Event::Put { h, i, v, .. } => Ok(Some(working.put(h, i, v)?)),
+        Event::Clear { h, i, .. } => Ok(Some(working.clear(h, i)?)),
+        Event::Link { h, i, h2, .. } => Ok(Some(working.link(h, i, h2)?)),
+        Event::Drop { h, .. } => Ok(Some(working.drop_handle(h))),
+        Event::Get { h, i, h2, .. } => Ok(Some(working.get(h, i, h2))),
+        Event::Same { h, h2, .. } => Ok(Some(working.same(h, h2))),
+        Event::Len { h, .. } => Ok(Some(working.len(h))),
+        Event::Seal { .. } => Ok(Some(working.seal(alloc)?)),
+        Event::Abort { .. } => Ok(Some(working.abort(alloc)?)),
+        Event::Force => Ok(None),
+    }
+}
+
 /// The text of the graph that is seen from the root on.
 fn print(alloc: Global, words: &PageWords) -> Result<Vec<u8>, GraphError>
     requires { length words.now < 2 ^ 32 }
-    ensures text { (g : Graph) → IsSeen words.now 0 g → IfOk result (λ text. text.items ≡ canon_text (canon g)) }
-    ensures error { (g : Graph) → IsSeen words.now 0 g → IfErr result (λ e. e ≡ GraphError.NoMemory) }
+    ensures text { (name : ℕ → Id) (g : Graph) → IsSeenAs name words.now 0 g → IfOk result (λ text. text.items ≡ canon_text (canon g)) }
+    ensures error { (name : ℕ → Id) (g : Graph) → IsSeenAs name words.now 0 g → IfErr result (λ e. e ≡ GraphError.NoMemory) }
 {
     let mut words = WordSlice::of(words.as_slice());
     Ok(graph_print::canon_text(alloc, &mut words, ROOT_AT)?)
@@ -79,38 +116,40 @@ impl<D: Disk> Heap<D> {
     pub fn open(alloc: Global, mut disk: D) -> Result<Heap<D>, (OpenError, D)>
         ensures disk { KeepsDisk D.Disk disk (opened_disk result) (opened_device result) }
 
-        // What is opened is the core that a legal log says, whatever graph is seen in it: the log that was read.
-        ensures opens { IfOk result (λ heap. (s : Super) × (batches : List (List Record)) × (legal : IsLegalLog s batches) × ((g : Graph) → Shows s batches legal g → IsCore (opened s batches g) heap)) }
+        // What is opened is the core that a shaped log says, whatever graph stands in it, under whatever names: the log that was read.
+        ensures opens { IfOk result (λ heap. (s : Super) × (batches : List (List Record)) × (shaped : IsShapedLog s batches) × ((born : Bool) (places : Places) (g : Graph) → IsFound s batches shaped born places g → IsCore (opened s batches born places g) heap)) }
 
         ensures unfailed { IfOk result (λ heap. failed_at heap ≡ None) }
 
         // Of a disk that tells it is the log that the disk holds, and the disk then holds the core.
-        ensures holds { IsTrue D.tells → (s : Super) (batches : List (List Record)) → (legal : IsLegal s batches (D.bytes disk)) → Only (D.bytes disk) (D.may_leave disk) → IfOk result (λ heap. (g : Graph) → Shows s batches legal.log g → IsHeap s (opened s batches g) heap) }
+        ensures holds { IsTrue D.tells → (s : Super) (batches : List (List Record)) → (legal : IsLegal s batches (D.bytes disk)) → Only (D.bytes disk) (D.may_leave disk) → IfOk result (λ heap. (places : Places) (g : Graph) → IsFound s batches legal.log.shaped true places g → IsHeap s (opened s batches true places g) heap) }
         // A legal image is refused only for want of memory or by the disk.
         ensures legal { IsTrue D.tells → (s : Super) (batches : List (List Record)) → IsLegal s batches (D.bytes disk) → IfErr result (λ e. IsFromOutside e.0) }
-        // At each moment of it a crash leaves an image that stands for the same graph and commits as the one that was opened.
-        ensures moments { IsTrue D.tells → Only (D.bytes disk) (D.may_leave disk) → (g : Graph) (k : ℕ) → StandsFor g k (D.bytes disk) → LeavesOnly D.moment D.left_since disk (opened_disk result) (StandsFor g k) }
-        ensures crash { IsTrue D.tells → Only (D.bytes disk) (D.may_leave disk) → (g : Graph) (k : ℕ) → StandsFor g k (D.bytes disk) → (image : List ℕ) → D.may_leave (opened_disk result) image → StandsFor g k image }
+        // At each moment of it a crash leaves the image as it was, or with its log rolled back: both stand for the same graph and commits.
+        ensures moments { IsTrue D.tells → Only (D.bytes disk) (D.may_leave disk) → (s : Super) (batches : List (List Record)) → IsLegal s batches (D.bytes disk) → LeavesOnly D.moment D.left_since disk (opened_disk result) (IsLeftByOpening s batches) }
+        ensures crash { IsTrue D.tells → Only (D.bytes disk) (D.may_leave disk) → (s : Super) (batches : List (List Record)) → IsLegal s batches (D.bytes disk) → (image : List ℕ) → D.may_leave (opened_disk result) image → IsLeftByOpening s batches image }
         // It writes only where it has to take transactions' writes back.
         ensures passes { IsTrue D.tells → (s : Super) (batches : List (List Record)) → IsLegal s batches (D.bytes disk) → OpenedPasses (opening_calls s batches) (D.passed disk) (D.passed (opened_disk result)) result }
         ensures no_first_stop { IsTrue D.tells → (s : Super) (batches : List (List Record)) → IsLegal s batches (D.bytes disk) → rollback_of s batches ≡ [] → D.stops disk ≡ 0 → D.stops (opened_disk result) ≡ 0 }
     {
+        // The table takes its memory before the disk is written.
+        let mut table = match TxnTable::new(alloc, 1) {
+            Ok(table) => table,
+            Err(_) => return Err((OpenError::NoMemory, disk)),
+        };
         match recover(alloc, &mut disk) {
             Ok(found) => {
                 let Recovered {
                     log,
                     words,
-                    pages: _,
+                    pages,
+                    used,
                     commits,
                     next,
                 } = found;
-                let working = Working {
-                    log,
-                    words,
-                    active: None,
-                    next,
-                    sealed: 0,
-                };
+                table.set_next(next);
+                let spaces = Spaces::new(pages, 0, used, 0);
+                let working = Working::new(log, words, spaces, table);
                 Ok(Heap {
                     disk,
                     working,
@@ -173,18 +212,9 @@ impl<D: Disk> Heap<D> {
         ensures passes { IsTrue D.tells → (c : Core) → IsCore c self.old → IsReached c → self.old.failed ≡ None → IfOk result (λ reply. Passes (calls c event) (D.passed self.old.disk) (D.passed self.new.disk) (reply_device reply)) }
     {
         let alloc = self.history.allocator();
-        match event {
-            Event::Begin { .. } => Ok(self.working.begin(alloc)),
-            Event::Root { h, .. } => Ok(self.working.root(h)),
-            Event::Put { h, i, v, .. } => self.working.put(h, i, v),
-            Event::Clear { h, i, .. } => self.working.clear(h, i),
-            Event::Drop { h, .. } => Ok(self.working.drop_handle(h)),
-            Event::Get { h, i, h2, .. } => Ok(self.working.get(h, i, h2)),
-            Event::Same { h, h2, .. } => Ok(self.working.same(h, h2)),
-            Event::Len { h, .. } => Ok(self.working.len(h)),
-            Event::Seal { .. } => self.working.seal(),
-            Event::Abort { .. } => self.working.abort(alloc),
-            Event::Force => self.force(),
+        match reply_in_memory(&mut self.working, alloc, event)? {
+            Some(reply) => Ok(reply),
+            None => self.force(),
         }
     }
 
@@ -245,7 +275,7 @@ impl<D: Disk> Heap<D> {
     pub fn active(&self) -> bool
         ensures { (c : Core) → IsCore c self.now → result ≡ is_some ((account c.history).active 1) }
     {
-        self.working.active.is_some()
+        self.working.active()
     }
 
     /// The text of the graph, without what an active transaction wrote. It asks that the disk has neither failed nor stopped.
@@ -254,14 +284,8 @@ impl<D: Disk> Heap<D> {
         ensures text { (c : Core) → IsCore c self.now → IsReached c → IfOk result (λ text. text.items ≡ canon_text (canon (serial c.g0 (sealed c.history)))) }
         ensures error { (c : Core) → IsCore c self.now → IsReached c → IfErr result (λ e. e ≡ GraphError.NoMemory) }
     {
-        match &self.working.active {
-            None => print(alloc, &self.working.words),
-            Some(active) => {
-                let mut words = self.working.words.copy(alloc)?;
-                words.take_back(&active.undo);
-                print(alloc, &words)
-            }
-        }
+        let words = self.working.committed_words(alloc)?;
+        print(alloc, &words)
     }
 
     /// Gives the disk back.

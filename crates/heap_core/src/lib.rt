@@ -2,13 +2,9 @@
 #![tactic(auto)]
 
 mod errors;
-mod fields;
 mod formatting;
 mod heap;
 mod history;
-mod log_room;
-mod sealing;
-mod working;
 
 pub use errors::{FormatError, GraphError, OpenError};
 pub use heap::Heap;

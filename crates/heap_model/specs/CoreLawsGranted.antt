@@ -296,13 +296,14 @@ own_goes a c t event hd i v more id w holds own is =
     (own_write_writing c.places seen t.number event (words c.pages (all_records c)) w.agrees.behind id i v writing own w.seen graph w.made))
 
 -- the records of a write into an object that stands in the current space, or in the transaction's area
-stable_records : (places : Places) (t : ℕ) (v : View) (hd i : ℕ) (x : Val) (id : Id) (at : ℕ) → held v.registers hd ≡ Some id → address_of places id ≡ Some at
+pub stable_records : (places : Places) (t : ℕ) (v : View) (hd i : ℕ) (x : Val) (id : Id) (at : ℕ) → held v.registers hd ≡ Some id → address_of places id ≡ Some at
     → view_records places t v hd i x ≡ update_of places v.graph t id at i x ∷ []
 stable_records places t v hd i x id at holds place =
     ap (λ (o : Option Id). write_records (place_of places v.graph) t v.graph o i x) holds
     ∙ ap (λ w. update (place_of places v.graph) t w (fields v.graph id) i x) (place_of-placed places v.graph id at place)
 
-own_records : (places : Places) (t made : ℕ) (v : View) (hd i : ℕ) (x : Val) (id : Id) → held v.registers hd ≡ Some id → HasMade places v.graph t made → IsOwn t made id
+-- one into the transaction's area appends none
+pub own_records : (places : Places) (t made : ℕ) (v : View) (hd i : ℕ) (x : Val) (id : Id) → held v.registers hd ≡ Some id → HasMade places v.graph t made → IsOwn t made id
     → view_records places t v hd i x ≡ []
 own_records places t made v hd i x id holds has own =
     ap (λ (o : Option Id). write_records (place_of places v.graph) t v.graph o i x) holds

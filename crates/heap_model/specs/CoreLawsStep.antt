@@ -57,14 +57,15 @@ call_account next g0 a event is one =
     ∙ ap (λ (s : ℕ). record (makes_call a s event) { entries = a.entries + 1 }) one
 
 -- so what is kept behind it is what is kept for its transaction
-call_reserved : (c : Core) (event : Event) → IsValid c → IsCall event → session_of event ≡ 1
+pub call_reserved : (c : Core) (event : Event) → IsValid c → IsCall event → session_of event ≡ 1
     → reserved_after c event ≡ kept_for (undo_behind c (all_records c ++ event_records c event)) (with_call ((account c.history).active 1) event)
 call_reserved c event valid is one =
     let a = account c.history in
     let undo = undo_behind c (all_records c ++ event_records c event) in
     ap (reserved undo) (call_account (next_number c) c.g0 a event is one) ∙ reserved-one undo (called a event) (idle_with a.active _ valid.idle)
 
-kept_with_call : (undo : ℕ → List UndoEntry) (o : Option Transaction) (event : Event) → kept_for undo (with_call o event) ≡ kept_for undo o
+-- one call more leaves what is kept for its transaction
+pub kept_with_call : (undo : ℕ → List UndoEntry) (o : Option Transaction) (event : Event) → kept_for undo (with_call o event) ≡ kept_for undo o
 kept_with_call undo None event = refl
 kept_with_call undo (Some t) event = refl
 
@@ -148,7 +149,7 @@ no_call (Same s h h2) is e = cc
 no_call (Len s h) is e = cc
 
 -- what is kept where no record is appended
-kept_still : (c : Core) (more : List Record) → (valid : IsValid c) → more ≡ [] → kept_for (undo_behind c (all_records c ++ more)) ((account c.history).active 1) ≡ kept_behind valid.behind ((account c.history).active 1)
+pub kept_still : (c : Core) (more : List Record) → (valid : IsValid c) → more ≡ [] → kept_for (undo_behind c (all_records c ++ more)) ((account c.history).active 1) ≡ kept_behind valid.behind ((account c.history).active 1)
 kept_still c more valid none =
     let a = account c.history in
     ap (λ (rs : List Record). kept_for (undo_behind c (all_records c ++ rs)) (a.active 1)) none
@@ -318,7 +319,8 @@ clear_goes c h i valid may =
     let t = call_transaction c event tt refl may.0 in
     write_goes c t.0 event h i Null valid tt refl t.1 refl refl tt t.2 (ap (λ (o : Option Transaction). call_records (ground c) c.g0 a o event) t.1) may.2
 
-reference_visible : (places : Places) (t made : ℕ) (registers : Registers) (h : ℕ) (o : Option Id) → HoldAllAtHand places t made registers → held registers h ≡ o → IsVisible places t made (reference_to o)
+-- a reference to what a handle holds can be seen
+pub reference_visible : (places : Places) (t made : ℕ) (registers : Registers) (h : ℕ) (o : Option Id) → HoldAllAtHand places t made registers → held registers h ≡ o → IsVisible places t made (reference_to o)
 reference_visible places t made registers h None all is = tt
 reference_visible places t made registers h (Some id) all is = held_at_hand places t made registers h id all is
 

@@ -6,6 +6,7 @@ use graph_model::{Refusal, Reply};
 use heap_spaces::Spaces;
 use log_machine::PageWords;
 use std::test::Fail;
+use txn_table::TxnTable;
 
 #[test]
 fn what_was_sealed_stays(rt: HostRuntime) -> Result<(), Fail> {
@@ -23,7 +24,8 @@ fn what_was_sealed_stays(rt: HostRuntime) -> Result<(), Fail> {
     assert_eq!(rt; log.used(), 1);
     let words = PageWords::first_contents(alloc, 1)?;
     let spaces = Spaces::new(1, 0, 6, 0);
-    let mut heap = Working::new(alloc, log, words, spaces, 1)?;
+    let table = TxnTable::new(alloc, 1)?;
+    let mut heap = Working::new(log, words, spaces, table);
 
     assert_eq!(rt; heap.begin(), Reply::Begun { n: 1 });
     assert_eq!(rt; heap.root(0), Reply::Done);

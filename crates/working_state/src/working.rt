@@ -4,6 +4,7 @@ ghost use Rattle.gated_log.specs.LogState.{log_room, log_used};
 ghost use Rattle.graph_model.specs.Plain.{reply_of};
 ghost use Rattle.graph_model.specs.declared.reply.Reply.TheVariants.{Begun, Done, Aborted};
 ghost use Rattle.log_machine.specs.Machine.{words_in};
+ghost use Rattle.txn_table.specs.Table.{new_table};
 ghost use Rattle.heap_words.specs.Word.{IsWord};
 ghost use Rattle.heap_memory.specs.Memory.{own, root_place, place_word, held_place};
 ghost use Rattle.working_state.specs.Reserve.{active_count, active_reserve, active_undo, active_handles, WroteBelow, HoldPlaces, can_refer};
@@ -68,28 +69,21 @@ impl Working {
     ghost use Rattle.heap_memory.specs.Leaves.{IsAsItWas, Begins, SetsHandle, Makes, WritesHeld, Links, Gets, Aborts};
     ghost use Rattle.working_state.specs.State.{memory, opened, committed};
 
-    /// The working state of a heap that was just opened, whose next transaction has this number.
-    pub fn new(
-        alloc: Global,
-        log: Log,
-        words: PageWords,
-        spaces: Spaces,
-        next: u32,
-    ) -> Result<Working, AllocError>
-        requires room { log_used log ≤ log_room log }
-        requires number { 1 ≤ next }
+    /// The working state of a heap that was just opened: no session has a transaction.
+    pub fn new(log: Log, words: PageWords, spaces: Spaces, table: TxnTable) -> Working
+        requires number { 1 ≤ table.next }
+        requires idle { table ≡ new_table table.next }
         requires sized { length words ≡ words_in spaces.pages }
         requires few { spaces.pages ≤ 16384 }
-        ensures { IfOk result (λ w. memory w ≡ opened log words spaces next) }
+        ensures { memory result ≡ opened log words spaces table.next }
     {
-        let table = TxnTable::new(alloc, next)?;
-        Ok(Working {
+        Working {
             log,
             words,
             spaces,
             table,
             sealed: 0,
-        })
+        }
     }
 
     /// Whether the session has a transaction.

@@ -1,20 +1,20 @@
 use Rattle.std.proofs.Common.{◌≡◌, List, take, subst, arith}
 use Rattle.std.proofs.lemmas.List.{take_all}
 use Rattle.graph_model.specs.declared.event.Event.{Event}
-use Rattle.heap_model.specs.Opening.{opened}
 use Rattle.heap_core.specs.CrashLaws.{heap_keeps}
 use Rattle.heap_core.specs.Rounds.{IsGoing}
-use Rattle.heap_core.proofs.RoundLaws.{legal_of, going_opened, single_at, gone_on, round_ends}
+use Rattle.heap_core.proofs.RoundLaws.{legal_of, found_of, core_of, going_opened, single_at, gone_on, round_ends}
 use Rattle.heap_core.proofs.library_tests.round.Goals as goal
 
 pub loop-event-init : goal.loop-event-init
 loop-event-init g c tells only gr k stands =
     let image = g.D.Disk.bytes c.args.disk in
+    let found = found_of gr k image stands in
     record {
       super = stands.super;
-      core = opened stands.super stands.batches stands.says.seen;
+      core = core_of gr k image stands;
       going = going_opened gr k image stands;
-      is = c.in-Ok.ensures.holds tells stands.super stands.batches (legal_of gr k image stands) only stands.says.seen stands.says.shows;
+      is = c.in-Ok.ensures.holds tells stands.super stands.batches (legal_of gr k image stands) only found.0 found.1 found.2;
     }
 
 pub loop-event-preserved : goal.loop-event-preserved

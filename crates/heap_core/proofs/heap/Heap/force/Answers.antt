@@ -6,9 +6,18 @@ use Rattle.graph_model.specs.declared.event.Event.TheVariants.{Force}
 use Rattle.heap_model.specs.Core.{calls}
 use Rattle.heap_model.specs.CoreCrash.{KeepsCommits}
 use Rattle.heap_core.specs.CrashLaws.{heap_keeps}
-use Rattle.heap_core.proofs.MeansLeft.{stays, force_passes}
-use Rattle.heap_core.proofs.MeansForce.{unfailed_valid, keeps, holds, force_keeps, ok_steps, ok_on, err_steps, err_on}
+use Rattle.heap_core.proofs.MeansLeft.{stays, force_passes, on_error}
+use Rattle.heap_core.proofs.MeansForce.{unfailed_valid, kept_as, keeps, holds, force_keeps, ok_steps, ok_on, err_steps, err_on}
 use Rattle.heap_core.proofs.heap.Heap.force.Goals as goal
+
+pub returns-in_err-reserve-clause-kept : goal.returns-in_err-reserve-clause-kept
+returns-in_err-reserve-clause-kept g c core heap =
+    let w = c.args.self.now.working in
+    on_error c.from_residual.result (record {
+      history = heap.history;
+      before = heap.before;
+      memory = kept_as core w _ c.args.self.now.failed heap.memory (record { log = c.reserve.ensures.same; words = refl; table = refl; spaces = refl; sealed = refl });
+    })
 
 pub returns-in_err-reserve-clause-moments : goal.returns-in_err-reserve-clause-moments
 returns-in_err-reserve-clause-moments g c tells s core heap none reached =
@@ -32,8 +41,8 @@ returns-in-Ok-clause-holds g c tells s core heap none reached =
     let works = heap.core.memory.works none in
     let valid = unfailed_valid core _ heap.core.memory.failure none reached in
     let disk = heap.disk.unfailed valid.unfailed in
-    let both = c.in-Ok.ensures.held tells core.batches core.pending (keeps core w log works c.reserve.ensures.same) (holds core w log works c.reserve.ensures.same s _ _ disk) in
-    ok_on core w log works c.reserve.ensures.same s _ _ disk _ _ _ _ _ valid none both.0 both.1 (c.in-Ok.ensures.outside tells) (c.in-Ok.ensures.durable tells disk.only)
+    let both = c.in-Ok.ensures.held tells core.batches core.pending (keeps core w log works c.reserve.ensures.same) (holds core w log works c.reserve.ensures.same s _ _ heap.disk.born disk) in
+    ok_on core w log works c.reserve.ensures.same s _ _ heap.disk.born disk _ _ _ _ _ valid none both.0 both.1 (c.in-Ok.ensures.outside tells) (c.in-Ok.ensures.durable tells disk.only)
     c.in-Ok.ensures.at c.in-Ok.ensures.same_room refl refl refl refl refl
 
 pub returns-in-Ok-clause-moments : goal.returns-in-Ok-clause-moments
@@ -45,9 +54,9 @@ returns-in-Ok-clause-moments g c tells s core heap none reached =
     let valid = unfailed_valid core _ heap.core.memory.failure none reached in
     let disk = heap.disk.unfailed valid.unfailed in
     let kept = keeps core w log works c.reserve.ensures.same in
-    let held = holds core w log works c.reserve.ensures.same s _ _ disk in
+    let held = holds core w log works c.reserve.ensures.same s _ _ heap.disk.born disk in
     weaker d.moment d.left_since c.args.self.now.disk c.force.new.disk _ (KeepsCommits core) (c.force.ensures.moments tells disk.only core.batches core.pending kept held)
-    (λ image. force_keeps core w log works c.reserve.ensures.same s _ _ disk image reached.sound)
+    (λ image. force_keeps core w log works c.reserve.ensures.same s _ _ heap.disk.born disk image reached.sound)
 
 pub returns-in-Ok-clause-passes : goal.returns-in-Ok-clause-passes
 returns-in-Ok-clause-passes g c tells core heap reached none =
@@ -70,16 +79,16 @@ returns-in-Err-clause-moments g c tells s core heap none reached =
     let valid = unfailed_valid core _ heap.core.memory.failure none reached in
     let disk = heap.disk.unfailed valid.unfailed in
     let kept = keeps core w log works c.reserve.ensures.same in
-    let held = holds core w log works c.reserve.ensures.same s _ _ disk in
+    let held = holds core w log works c.reserve.ensures.same s _ _ heap.disk.born disk in
     weaker d.moment d.left_since c.args.self.now.disk c.force.new.disk _ (KeepsCommits core) (c.force.ensures.moments tells disk.only core.batches core.pending kept held)
-    (λ image. force_keeps core w log works c.reserve.ensures.same s _ _ disk image reached.sound)
+    (λ image. force_keeps core w log works c.reserve.ensures.same s _ _ heap.disk.born disk image reached.sound)
 
 pub returns-in-Err-clause-holds : goal.returns-in-Err-clause-holds
 returns-in-Err-clause-holds g c tells s core heap none reached =
     let run = returns-in-Err-clause-moments g c tells s core heap none reached in
     let w = c.args.self.now.working in
     let valid = unfailed_valid core _ heap.core.memory.failure none reached in
-    err_on core w c.reserve.new.self (heap.core.memory.works none) c.reserve.ensures.same s _ _ (heap.disk.unfailed valid.unfailed) _ _ _ _ c.len.result c.force.result c.in-Err.e _ valid
+    err_on core w c.reserve.new.self (heap.core.memory.works none) c.reserve.ensures.same s _ _ heap.disk.born (heap.disk.unfailed valid.unfailed) _ _ _ _ c.len.result c.force.result c.in-Err.e _ valid
     (λ four. (c.force.ensures.idle four).0) c.in-Err.is c.cut_short.ensures.told
     (c.len.ensures ∙ (c.args.self.now.history.entries.ok.0 ∙ ap length heap.core.history)) refl refl refl
     (λ image left. run.each image (g.met.D.Disk.counts_now tells c.force.new.disk _ image run.later left))

@@ -1,54 +1,70 @@
-use Rattle.std.proofs.Common.{sym, refl, subst}
+use Rattle.log_machine.specs.Machine.{words_in}
+use Rattle.std.proofs.Common.{◌≤◌, true, sym, refl, ap, ◌∙◌, subst}
 use Rattle.heap_model.specs.Opening.{opening_calls}
 use Rattle.heap_core.specs.Causes.{IsFromOutside, ErrorPasses}
-use Rattle.heap_core.proofs.MeansOpen.{opened_bounds, opened_memory, opened_disk_holds}
+use Rattle.heap_core.proofs.MeansOpen.{opened_bounds, opened_memory, opened_disk_holds, is_fresh}
 use Rattle.heap_core.proofs.OpenErrors.{outside_as, passes_as}
 use Rattle.heap_core.proofs.heap.Heap.open.Goals as goal
 
-pub invariant_of-working-clause-counted : goal.invariant_of-working-clause-counted
-invariant_of-working-clause-counted g c =
-    let found = c.in-Ok.ensures.opens in
-    (opened_bounds found.0 found.1 c.in-Ok.found found.2 found.3).0
+pub new-spaces-requires : goal.new-spaces-requires
+new-spaces-requires g c =
+    let found = c.in-Ok-recover.ensures.opens in
+    (opened_bounds found.0 found.1 c.in-Ok-recover.found found.2 found.3).spaces
 
-pub invariant_of-working-clause-rooted : goal.invariant_of-working-clause-rooted
-invariant_of-working-clause-rooted g c =
-    let found = c.in-Ok.ensures.opens in
-    (opened_bounds found.0 found.1 c.in-Ok.found found.2 found.3).1
+pub new-working-requires-clause-sized : goal.new-working-requires-clause-sized
+new-working-requires-clause-sized g c =
+    let found = c.in-Ok-recover.ensures.opens in
+    (opened_bounds found.0 found.1 c.in-Ok-recover.found found.2 found.3).size ∙ ap (λ x. words_in x.pages) (sym c.new-spaces.ensures)
 
-pub invariant_of-working-clause-few : goal.invariant_of-working-clause-few
-invariant_of-working-clause-few g c =
-    let found = c.in-Ok.ensures.opens in
-    (opened_bounds found.0 found.1 c.in-Ok.found found.2 found.3).2
+pub new-working-requires-clause-few : goal.new-working-requires-clause-few
+new-working-requires-clause-few g c =
+    let found = c.in-Ok-recover.ensures.opens in
+    subst (λ x. x.pages ≤ 16384) (sym c.new-spaces.ensures) (opened_bounds found.0 found.1 c.in-Ok-recover.found found.2 found.3).spaces.few
 
-pub returns-in-Ok-clause-opens : goal.returns-in-Ok-clause-opens
-returns-in-Ok-clause-opens g c =
-    let found = c.in-Ok.ensures.opens in
-    (found.0, found.1, found.2, λ gr shows. record { history = c.new.ensures; before = found.3.commits; memory = opened_memory found.0 found.1 gr c.in-Ok.found _ found.3 refl refl refl refl refl })
+pub new-working-requires-clause-number : goal.new-working-requires-clause-number
+new-working-requires-clause-number g c =
+    let found = c.in-Ok-recover.ensures.opens in
+    subst (λ x. 1 ≤ x.next) (sym c.set_next.ensures) (opened_bounds found.0 found.1 c.in-Ok-recover.found found.2 found.3).next
 
-pub returns-in-Ok-clause-holds : goal.returns-in-Ok-clause-holds
-returns-in-Ok-clause-holds g c tells s batches legal only gr shows =
-    let found = c.in-Ok.ensures.found tells s batches legal in
+pub returns-in-Ok-recover-clause-opens : goal.returns-in-Ok-recover-clause-opens
+returns-in-Ok-recover-clause-opens g c =
+    let found = c.in-Ok-recover.ensures.opens in
+    let fresh = is_fresh c.in-Ok-recover.found c.new-spaces.result c.set_next.new.self c.in-Ok.table _ c.new-working.ensures c.new-spaces.ensures c.set_next.ensures in (
+      found.0,
+      found.1,
+      found.2,
+      λ born places gr stands. record {
+        history = c.new-in-Ok-recover.ensures;
+        before = found.3.commits;
+        memory = opened_memory found.0 found.1 born places gr c.in-Ok-recover.found _ found.2 found.3 fresh;
+      },
+    )
+
+pub returns-in-Ok-recover-clause-holds : goal.returns-in-Ok-recover-clause-holds
+returns-in-Ok-recover-clause-holds g c tells s batches legal only places gr stands =
+    let found = c.in-Ok-recover.ensures.found tells s batches legal in
+    let fresh = is_fresh c.in-Ok-recover.found c.new-spaces.result c.set_next.new.self c.in-Ok.table _ c.new-working.ensures c.new-spaces.ensures c.set_next.ensures in
     record {
-      core = record { history = c.new.ensures; before = found.commits; memory = opened_memory s batches gr c.in-Ok.found _ found refl refl refl refl refl };
-      disk = opened_disk_holds s batches gr _ _ legal.log.limits (c.in-Ok.ensures.holds tells s batches legal) (c.in-Ok.ensures.durable tells only);
+      core = record { history = c.new-in-Ok-recover.ensures; before = found.commits; memory = opened_memory s batches true places gr c.in-Ok-recover.found _ legal.log.shaped found fresh };
+      disk = opened_disk_holds s batches places gr _ _ legal.log.shaped.limits (c.in-Ok-recover.ensures.holds tells s batches legal) (c.in-Ok-recover.ensures.durable tells only);
     }
 
-pub returns-in-Err-clause-legal : goal.returns-in-Err-clause-legal
-returns-in-Err-clause-legal g c tells s batches legal = subst IsFromOutside (sym c.from.ensures) (outside_as c.in-Err.e (c.in-Err.ensures.legal tells s batches legal))
+pub returns-in-Err-recover-clause-legal : goal.returns-in-Err-recover-clause-legal
+returns-in-Err-recover-clause-legal g c tells s batches legal = subst IsFromOutside (sym c.from.ensures) (outside_as c.in-Err-recover.e (c.in-Err-recover.ensures.legal tells s batches legal))
 
-pub returns-in-Err-clause-passes : goal.returns-in-Err-clause-passes
-returns-in-Err-clause-passes g c tells s batches legal =
+pub returns-in-Err-recover-clause-passes : goal.returns-in-Err-recover-clause-passes
+returns-in-Err-recover-clause-passes g c tells s batches legal =
     let d = g.D.Disk in
     subst (λ e. ErrorPasses (opening_calls s batches) (d.passed c.args.disk) (d.passed c.recover.new.disk) e) (sym c.from.ensures)
-    (passes_as (opening_calls s batches) (d.passed c.args.disk) (d.passed c.recover.new.disk) c.in-Err.e (c.in-Err.ensures.passes tells s batches legal))
+    (passes_as (opening_calls s batches) (d.passed c.args.disk) (d.passed c.recover.new.disk) c.in-Err-recover.e (c.in-Err-recover.ensures.passes tells s batches legal))
 
 -- a crash now leaves what one at some moment of the opening does
-pub returns-in-Ok-clause-crash : goal.returns-in-Ok-clause-crash
-returns-in-Ok-clause-crash g c tells only gr k stands image left =
-    let run = c.recover.ensures.moments tells only gr k stands in
+pub returns-in-Ok-recover-clause-crash : goal.returns-in-Ok-recover-clause-crash
+returns-in-Ok-recover-clause-crash g c tells only s batches legal image left =
+    let run = c.recover.ensures.moments tells only s batches legal in
     run.each image (g.met.D.Disk.counts_now tells c.recover.new.disk _ image run.later left)
 
-pub returns-in-Err-clause-crash : goal.returns-in-Err-clause-crash
-returns-in-Err-clause-crash g c tells only gr k stands image left =
-    let run = c.recover.ensures.moments tells only gr k stands in
+pub returns-in-Err-recover-clause-crash : goal.returns-in-Err-recover-clause-crash
+returns-in-Err-recover-clause-crash g c tells only s batches legal image left =
+    let run = c.recover.ensures.moments tells only s batches legal in
     run.each image (g.met.D.Disk.counts_now tells c.recover.new.disk _ image run.later left)

@@ -1,6 +1,6 @@
 use Rattle.std.specs.Prelude.{IsTrue, ◌↔◌, ◌≢◌, []}
 use Rattle.std.proofs.Common.{◌≡◌, ℕ, Bool, Option, Some, None, is_some, refl, sym, subst, rules}
-use Rattle.heap_core.proofs.MeansLog.{some_waits}
+use Rattle.memory_laws.specs.LogLaws.{some_waits}
 use Rattle.heap_core.proofs.heap.Heap.pending.Goals as goal
 
 none_there : (o : Option ℕ) (b : Bool) → b ≡ is_some o → (IsTrue b → ⊥) → o ≡ None

@@ -7,19 +7,18 @@ use Rattle.working_state.proofs.working.Working.new.Goals as goal
 
 pub invariant_of-result-clause-reserve : goal.invariant_of-result-clause-reserve
 invariant_of-result-clause-reserve c =
-    let none = ap (λ (table : TableState). transaction_of table 1) c.in_ok-table.ensures ∙ get-empty nat_cmp 1 in
-    omega (arith, c.requires.room, ap kept_for_end none)
+    let none = ap (λ (table : TableState). transaction_of table 1) c.requires.idle ∙ get-empty nat_cmp 1 in
+    omega (arith, c.args.log.fits, ap kept_for_end none)
 
 pub invariant_of-result-clause-counted : goal.invariant_of-result-clause-counted
 invariant_of-result-clause-counted c =
-    let none = ap (λ (table : TableState). transaction_of table 1) c.in_ok-table.ensures ∙ get-empty nat_cmp 1 in
-    let next = ap (λ (table : TableState). table.next) c.in_ok-table.ensures in
-    omega (arith, c.requires.number, next, ap one_if none)
+    let none = ap (λ (table : TableState). transaction_of table 1) c.requires.idle ∙ get-empty nat_cmp 1 in
+    omega (arith, c.requires.number, ap one_if none)
 
 pub invariant_of-result-clause-inside : goal.invariant_of-result-clause-inside
 invariant_of-result-clause-inside c =
-    inside_ended (length c.args.words) c.in_ok-table.table (ap (λ (table : TableState). transaction_of table 1) c.in_ok-table.ensures ∙ get-empty nat_cmp 1)
+    inside_ended (length c.args.words) c.args.table (ap (λ (table : TableState). transaction_of table 1) c.requires.idle ∙ get-empty nat_cmp 1)
 
 pub invariant_of-result-clause-held : goal.invariant_of-result-clause-held
 invariant_of-result-clause-held c =
-    held_ended c.in_ok-table.table (ap (λ (table : TableState). transaction_of table 1) c.in_ok-table.ensures ∙ get-empty nat_cmp 1)
+    held_ended c.args.table (ap (λ (table : TableState). transaction_of table 1) c.requires.idle ∙ get-empty nat_cmp 1)

@@ -1,5 +1,5 @@
--- The log in memory and a core's: what is used of it, and one record more.
-use Rattle.std.proofs.Common.{◌≡◌, ◌≢◌, ℕ, ◌+◌, ◌<◌, cond, refl, List, [], ◌∷◌, length, ap, ◌∙◌, arith, length-append}
+-- The log in memory and a core's: what is used of it, and the bytes that records take.
+use Rattle.std.proofs.Common.{◌≡◌, ◌≢◌, ℕ, ◌+◌, ◌<◌, cond, List, [], ◌∷◌, length, refl, ap, ◌∙◌, arith, length-append}
 use Rattle.std.specs.Prelude.{◌↔◌, IsTrue, nat_lt}
 use Rattle.std.proofs.lemmas.Bool.{lt-ltb, ltb-true}
 use Rattle.gated_log.specs.declared.Log.{Log}
@@ -26,15 +26,17 @@ used_plain tail n (r ∷ rs) e =
 pub used_same : (log : Log) (bs : List (List Record)) (p : List Record) → Keeps log bs p → log_used log ≡ length (batches_bytes bs) + 1 + length (hand p)
 used_same log bs p keeps = used_plain (log_tail log) (hand_size log) p (hand_size-Keeps log bs p keeps) ∙ ap (λ (k : ℕ). k + 1 + length (hand p)) keeps.tail
 
-need_plain : (n : ℕ) (p : List Record) (r : Record) → n ≡ 4 + length (spellings p) → need_bytes n (length (spelling r)) ≡ need p (r ∷ [])
-need_plain n [] r e = ap (λ (k : ℕ). need_bytes k (length (spelling r))) e ∙ omega (arith, length-append (spelling r) [])
-need_plain n (q ∷ qs) r e =
-    ap (λ b. cond b (length (spelling r)) (length (spelling r) + 5)) (lt-ltb 4 n (omega (arith, e, some_spellings q qs)))
-    ∙ omega (arith, length-append (spelling r) [])
+need_plain : (n own : ℕ) (p : List Record) (r : Record) (rs : List Record) → n ≡ 4 + length (spellings p) → own ≡ length (spellings (r ∷ rs)) → need_bytes n own ≡ need p (r ∷ rs)
+need_plain n own [] r rs e is = ap (λ (k : ℕ). need_bytes k own) e ∙ omega (arith, is)
+need_plain n own (q ∷ qs) r rs e is = ap (λ b. cond b own (own + 5)) (lt-ltb 4 n (omega (arith, e, some_spellings q qs))) ∙ is
 
--- the bytes that a record takes
+-- the bytes that records take
+pub need_all : (log : Log) (bs : List (List Record)) (p : List Record) (r : Record) (rs : List Record) → Keeps log bs p → log_need log (length (spellings (r ∷ rs))) ≡ need p (r ∷ rs)
+need_all log bs p r rs keeps = need_plain (hand_size log) (length (spellings (r ∷ rs))) p r rs (hand_size-Keeps log bs p keeps) (omega arith)
+
+-- those that one takes
 pub need_same : (log : Log) (bs : List (List Record)) (p : List Record) (r : Record) → Keeps log bs p → log_need log (length (spelling r)) ≡ need p (r ∷ [])
-need_same log bs p r keeps = need_plain (hand_size log) p r (hand_size-Keeps log bs p keeps)
+need_same log bs p r keeps = need_plain (hand_size log) (length (spelling r)) p r [] (hand_size-Keeps log bs p keeps) (omega (arith, length-append (spelling r) []))
 
 waits_plain : (n : ℕ) (p : List Record) → n ≡ 4 + length (spellings p) → IsTrue (nat_lt 4 n) ↔ (p ≢ [])
 waits_plain n [] e = (λ more none. omega (arith, e, ltb-true 4 n more), λ some. absurd (some refl))
@@ -44,7 +46,7 @@ waits_plain n (r ∷ rs) e = (λ more none. cc, λ some. lt-ltb 4 n (omega (arit
 pub some_waits : (log : Log) (bs : List (List Record)) (p : List Record) → Keeps log bs p → IsTrue (is_waiting log) ↔ (p ≢ [])
 some_waits log bs p keeps = waits_plain (hand_size log) p (hand_size-Keeps log bs p keeps)
 
--- the log as it was
+-- a log that is the same keeps the same
 pub keeps_same : (old new : Log) (bs : List (List Record)) (p : List Record) → IsSameLog old new → Keeps old bs p → Keeps new bs p
 keeps_same old new bs p same keeps = record {
   tail = same.place.tail ∙ keeps.tail;

@@ -1,0 +1,86 @@
+-- An event is answered as the core answers it, where it is refused for the same reason.
+use Rattle.std.proofs.Common.{◌≡◌, ℕ, ◌+◌, List, [], ◌∷◌, ◌++◌, Option, Some, None, refl, sym, ap, ◌∙◌, subst}
+use Rattle.graph_model.specs.declared.event.Event.{Event}
+use Rattle.graph_model.specs.declared.reply.Entry.{Entry}
+use Rattle.graph_model.specs.declared.reply.Refusal.{Refusal}
+use Rattle.graph_model.specs.declared.reply.Reply.{Reply}
+use Rattle.graph_model.specs.declared.reply.Reply.TheVariants.{Refused}
+use Rattle.graph_model.specs.History.{Account, account, account_after}
+use Rattle.graph_model.specs.HistoryLaws.{account-append}
+use Rattle.graph_model.specs.Plain.{granted, reply_of}
+use Rattle.graph_model.specs.PlainLaws.{IsNoFault, HasNoFault, account_after-refused}
+use Rattle.heap_model.specs.Core.{Core, next_number, core_refusal, answer, with_entry, done, after_refusal, after}
+use Rattle.heap_model.specs.CoreLawsStep.{core_refusal-HasNoFault, done_history}
+use Rattle.heap_memory.specs.Memory.{Memory}
+use Rattle.memory_laws.specs.Follows.{IsMemory, Does}
+
+-- Another history, and one entry more, change nothing of memory.
+
+memory_with : (m : Memory) (a : Account) (c : Core) (event : Event) (reply : Reply) → IsMemory m a c → IsMemory m a (with_entry c event reply)
+memory_with m a c event reply h = record {
+  log = h.log;
+  place = h.place;
+  room = h.room;
+  stored = h.stored;
+  state = h.state;
+  reached = h.reached;
+  spaces = h.spaces;
+  transaction = h.transaction;
+  next = h.next;
+  sealed = h.sealed;
+}
+
+memory_entry : (m : Memory) (c d : Core) (event : Event) (reply : Reply) → d.history ≡ c.history → IsMemory m (account_after (account c.history) (record { event = event; reply = reply })) d
+    → IsMemory m (account (with_entry d event reply).history) (with_entry d event reply)
+memory_entry m c d event reply same h =
+    let entry : Entry = record { event = event; reply = reply } in
+    let said : account (d.history ++ entry ∷ []) ≡ account_after (account c.history) entry = account-append d.history entry ∙ ap (λ (l : List Entry). account_after (account l) entry) same in
+    let P : Account → Type 0 = λ a. IsMemory m a (with_entry d event reply) in
+    subst P (sym said) (memory_with m _ d event reply h)
+
+memory_counted : (m : Memory) (a : Account) (c : Core) (entries : ℕ) → IsMemory m a c → IsMemory m (record a { entries = entries }) c
+memory_counted m a c entries h = record {
+  log = h.log;
+  place = h.place;
+  room = h.room;
+  stored = h.stored;
+  state = h.state;
+  reached = h.reached;
+  spaces = h.spaces;
+  transaction = h.transaction;
+  next = h.next;
+  sealed = h.sealed;
+}
+
+memory_refused : (m : Memory) (a : Account) (c : Core) (event : Event) (why : Refusal) → IsNoFault why → IsMemory m a c → IsMemory m (account_after a (record { event = event; reply = Refused why })) c
+memory_refused m a c event why sound h =
+    let P : Account → Type 0 = λ b. IsMemory m b c in
+    subst P (sym (account_after-refused a event why sound)) (memory_counted m a c (a.entries + 1) h)
+
+-- Memory is that of a core which has done an event, where its history does not tell it yet.
+abbrev pub Goes : Memory → Core → Event → Type 0
+Goes n c event = IsMemory n (account_after (account c.history) (record { event = event; reply = granted (next_number c) c.g0 (account c.history) event })) (done c event)
+
+either_way : (n : Memory) (c : Core) (event : Event) (o : Option Refusal) → HasNoFault o → (o ≡ None → Goes n c event) → ((why : Refusal) → o ≡ Some why → IsMemory n (account c.history) c)
+    → IsMemory n (account (with_entry (after_refusal o c event) event (reply_of o (granted (next_number c) c.g0 (account c.history) event))).history) (with_entry (after_refusal o c event) event (reply_of o (granted (next_number c) c.g0 (account c.history) event)))
+either_way n c event None sound go stay = memory_entry n c (done c event) event _ (done_history c event) (go refl)
+either_way n c event (Some why) sound go stay = memory_entry n c c event (Refused why) refl (memory_refused n (account c.history) c event why sound (stay why refl))
+
+memory_after : (n : Memory) (c : Core) (event : Event) (o : Option Refusal) → core_refusal c event ≡ o → (o ≡ None → Goes n c event) → ((why : Refusal) → o ≡ Some why → IsMemory n (account c.history) c)
+    → IsMemory n (account (after c event).history) (after c event)
+memory_after n c event o is go stay = either_way n c event (core_refusal c event) (core_refusal-HasNoFault c event) (λ e. go (sym is ∙ e)) (λ why e. stay why (sym is ∙ e))
+
+answer_same : (c : Core) (event : Event) (o : Option Refusal) (reply : Reply) → core_refusal c event ≡ o → (o ≡ None → granted (next_number c) c.g0 (account c.history) event ≡ reply) → reply_of o reply ≡ answer c event
+answer_same c event None reply is gives = sym (gives refl) ∙ ap (λ (p : Option Refusal). reply_of p (granted (next_number c) c.g0 (account c.history) event)) (sym is)
+answer_same c event (Some why) reply is gives = ap (λ (p : Option Refusal). reply_of p (granted (next_number c) c.g0 (account c.history) event)) (sym is)
+
+-- an event is answered as the core answers it where it is refused for the same reason, and leaves memory as the core is then
+pub does : (c : Core) (event : Event) (o : Option Refusal) (gives reply : Reply) (n : Memory) → core_refusal c event ≡ o → reply ≡ reply_of o gives
+    → (o ≡ None → granted (next_number c) c.g0 (account c.history) event ≡ gives) → (o ≡ None → reply ≡ gives → Goes n c event)
+    → ((why : Refusal) → reply ≡ Refused why → IsMemory n (account c.history) c) → Does c event reply n
+does c event o gives reply n is replied gives_is go stay = record {
+  replied = replied ∙ answer_same c event o gives is gives_is;
+  memory = memory_after n c event o is
+      (λ e. go e (replied ∙ ap (λ (p : Option Refusal). reply_of p gives) e))
+      (λ why e. stay why (replied ∙ ap (λ (p : Option Refusal). reply_of p gives) e));
+}
