@@ -40,9 +40,8 @@ use Rattle.heap_core.proofs.MeansLeft.{keeps_refused, keeps_cut}
 use Rattle.memory_laws.specs.LogLaws.{keeps_same}
 use Rattle.heap_memory.specs.Memory.{Memory, own}
 use Rattle.memory_laws.specs.Follows.{IsMemory, Does, kept_of}
-use Rattle.memory_laws.specs.Answered.{does}
+use Rattle.memory_laws.specs.Answered.{does, as_it_was}
 use Rattle.heap_memory.specs.Leaves.{IsAsItWas}
-use Rattle.heap_core.proofs.MeansMemory.{as_it_was}
 use Rattle.heap_core.proofs.MeansMemory.{is_some_own}
 use Rattle.txn_table.specs.Table.{transaction_of}
 use Rattle.working_state.specs.declared.working.Working.{Working}

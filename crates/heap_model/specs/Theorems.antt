@@ -2,10 +2,11 @@
 --
 -- The crash, `CrashTheorem`. Wherever a crash comes, the image is legal and stands for the graph that the first k committed
 -- transactions give when run one after another, and k counts all that were acknowledged.
---   CoreLawsLone, CoreLawsRecords   each record leaves the words and the writes to be taken back that a core says
---   CoreLawsRoom, CoreLawsGranted   each event leaves a core that agrees with its history, and room in the log for what has to follow
+--   CoreLawsTold, CoreLawsHandles   what records tell of a graph, and what the handles of a transaction hold
+--   CoreLawsRoom, CoreLawsGoes      room in the log for what has to follow, and what it takes for a core to go on
+--   CoreLawsGranted, CoreLawsSeal   each event leaves a core that agrees with its history; a seal promotes
 --   CoreLawsStep, CoreLawsRun       so does each step, one that the disk cuts short too
---   CoreLawsRoot, CoreLawsLegal     what is seen of the root in the words, and which logs are legal
+--   CoreLawsLegal                   which logs are legal
 --   CoreLawsCrash                   the log on the disk is legal and says the first commits: `crash_law`
 --   CoreLawsGrow                    an image of first commits stays one while the history grows
 --   CoreLawsOneMeaning              an image stands for one graph and one number of commits: `one_graph`
@@ -13,9 +14,9 @@
 -- The replies, `RepliesTheorem`. Each committed transaction had, for its calls that were not refused, the replies of that serial run.
 --   CoreLawsReplies                 what each event's reply adds: `replies_law`; and that steps reach such cores: `run_reached`
 --
--- The opening, `OpeningTheorem`. A heap that is opened on any legal log goes on, with any graph and any number of commits.
---   CoreLawsOpening, CoreLawsHeld   the batches behind an opening are a legal log that says the same
---   CoreLawsOpened, CoreLawsNew     the core that is opened is reached: `opening_law`; an empty log is legal
+-- The opening, `OpeningTheorem` and `SayingTheorem`. A heap that is opened on any shaped log goes on, and a legal log says its graph.
+--   CoreLawsOpening, CoreLawsHeld   the batches behind an opening are a log that says the same, and what an opening leaves of an image
+--   CoreLawsOpened, CoreLawsNew     the core that is opened is reached: `opening_law`, `saying_law`; an empty log is legal
 --   CoreLawsAgain                   opened on what a crash left of a core, it goes on from that core's first commits: `opened_again`
 --
 -- CoreLawsCalls and CoreLawsEnding are on the calls of the disk and on the events that end a run, CoreLawsGraph is on what is in memory,

@@ -11,8 +11,11 @@ use Rattle.graph_model.specs.Plain.{granted, reply_of}
 use Rattle.graph_model.specs.PlainLaws.{IsNoFault, HasNoFault, account_after-refused}
 use Rattle.heap_model.specs.Core.{Core, next_number, core_refusal, answer, with_entry, done, after_refusal, after}
 use Rattle.heap_model.specs.CoreLawsStep.{core_refusal-HasNoFault, done_history}
+use Rattle.heap_memory.specs.Leaves.{IsAsItWas}
 use Rattle.heap_memory.specs.Memory.{Memory}
 use Rattle.memory_laws.specs.Follows.{IsMemory, Does}
+use Rattle.memory_laws.specs.LogLaws.{keeps_same}
+use Rattle.txn_table.specs.Table.{TableState, transaction_of}
 
 -- Another history, and one entry more, change nothing of memory.
 
@@ -83,4 +86,19 @@ does c event o gives reply n is replied gives_is go stay = record {
   memory = memory_after n c event o is
       (λ e. go e (replied ∙ ap (λ (p : Option Refusal). reply_of p gives) e))
       (λ why e. stay why (replied ∙ ap (λ (p : Option Refusal). reply_of p gives) e));
+}
+
+-- memory in which nothing but what is taken in advance has changed is that of the same core
+pub as_it_was : (m n : Memory) (c : Core) → IsMemory m (account c.history) c → IsAsItWas m n → IsMemory n (account c.history) c
+as_it_was m n c is same = record {
+  log = keeps_same m.log n.log c.batches c.pending same.log is.log;
+  place = same.log.place.at ∙ is.place;
+  room = same.log.place.room ∙ is.room;
+  stored = same.words ∙ is.stored;
+  state = is.state;
+  reached = is.reached;
+  spaces = same.spaces ∙ is.spaces;
+  transaction = ap (λ (t : TableState). transaction_of t 1) same.table ∙ is.transaction;
+  next = ap (λ (t : TableState). t.next) same.table ∙ is.next;
+  sealed = same.sealed ∙ is.sealed;
 }

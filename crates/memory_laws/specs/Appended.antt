@@ -3,7 +3,7 @@ use Rattle.std.proofs.Common.{◌≡◌, ℕ, ◌+◌, List, [], ◌++◌, lengt
 use Rattle.std.specs.Prelude.{fold}
 use Rattle.std.proofs.lemmas.List.{append-nil}
 use Rattle.gated_log.specs.Log.{records_of}
-use Rattle.gated_log.specs.LogState.{IsSameLog, Keeps}
+use Rattle.gated_log.specs.LogState.{Keeps}
 use Rattle.gated_log.specs.declared.Log.{Log}
 use Rattle.graph_model.specs.declared.event.Event.{Event}
 use Rattle.graph_model.specs.declared.event.Event.TheVariants.{Begin, Root, New, Put, Clear, Link, Drop, Get, Same, Len, Seal, Abort, Force}
@@ -24,23 +24,12 @@ use Rattle.heap_model.specs.CoreValid.{IsValid}
 use Rattle.heap_model.specs.CoreLawsGranted.{called}
 use Rattle.heap_model.specs.CoreLawsStep.{done_records, call_account}
 use Rattle.heap_memory.specs.Memory.{Memory, own}
-use Rattle.heap_memory.specs.Leaves.{Leaves, IsAsItWas}
+use Rattle.heap_memory.specs.Leaves.{Leaves}
 use Rattle.memory_laws.specs.Follows.{kept, kept_of, spaces_of, IsMemory}
 use Rattle.memory_laws.specs.Answered.{Goes}
 
 pub some_one : {A : Type 0} (x y : A) → Some x ≡ Some y → x ≡ y
 some_one x y e = cc e
-
--- a log as it was keeps what it kept
-keeps_same : (old new : Log) (bs : List (List Record)) (p : List Record) → IsSameLog old new → Keeps old bs p → Keeps new bs p
-keeps_same old new bs p same keeps = record {
-  tail = same.place.tail ∙ keeps.tail;
-  head = keeps.head;
-  four = keeps.four;
-  items = same.hand ∙ keeps.items;
-  forced = same.place.forced ∙ keeps.forced;
-  count = same.count ∙ keeps.count;
-}
 
 -- a call places no object in the current space
 call_places : (c : Core) (event : Event) → IsCall event → event_places c event ≡ []
@@ -107,21 +96,6 @@ module _ (m n : Memory) (c : Core) (valid : IsValid c) (is : IsMemory m (account
 
   pub stays : n ≡ m → IsMemory n a c
   stays same = let P : Memory → Type 0 = λ x. IsMemory x a c in subst P (sym same) is
-
-  -- where all is as it was, memory is that of the same core
-  pub as_it_was : IsAsItWas m n → IsMemory n a c
-  as_it_was same = record {
-    log = keeps_same m.log n.log c.batches c.pending same.log is.log;
-    place = same.log.place.at ∙ is.place;
-    room = same.log.place.room ∙ is.room;
-    stored = same.words ∙ is.stored;
-    state = is.state;
-    reached = is.reached;
-    spaces = same.spaces ∙ is.spaces;
-    transaction = ap (λ (t : TableState). transaction_of t 1) same.table ∙ is.transaction;
-    next = ap (λ (t : TableState). t.next) same.table ∙ is.next;
-    sealed = same.sealed ∙ is.sealed;
-  }
 
   -- records more wait, and objects more stand in the current space
   pub appended : (b : Account) (more : List Record) (placed : Places) (table : TableState) (current : SpacesState) (count : ℕ) (state : State) → Leaves m n more table current count

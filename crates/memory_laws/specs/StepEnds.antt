@@ -36,8 +36,8 @@ use Rattle.heap_memory.specs.Memory.{Memory, own}
 use Rattle.heap_memory.specs.Refusals.{begin_refusal, end_refusal, sealing_records, sealing_need, seal_refusal}
 use Rattle.heap_memory.specs.Leaves.{Leaves, IsAsItWas, Begins, Seals, Aborts}
 use Rattle.memory_laws.specs.Follows.{place_in, kept, kept_of, spaces_of, IsMemory, Does}
-use Rattle.memory_laws.specs.Answered.{Goes, does}
-use Rattle.memory_laws.specs.Appended.{mine, stays, as_it_was, spaces_are, reached_still, appended, appended_here}
+use Rattle.memory_laws.specs.Answered.{as_it_was, Goes, does}
+use Rattle.memory_laws.specs.Appended.{mine, stays, spaces_are, reached_still, appended, appended_here}
 use Rattle.memory_laws.specs.StepHeld.{test_none}
 
 -- empty handles hold nothing in memory
@@ -120,7 +120,7 @@ module _ (m n : Memory) (c : Core) (valid : IsValid c) (is : IsMemory m (account
       let aborts = aborted (ap Ok aborted_it) in
       let t = mine m n c valid is aborts.transaction aborts.was in
       ended_goes t.0 t.1 aborts)
-      (λ why e. as_it_was m n c valid is (stayed why (ap Ok e)))
+      (λ why e. as_it_was m n c is (stayed why (ap Ok e)))
 
   -- What a seal finds.
   module _ (t : Transaction) (e : a.active 1 ≡ Some t) (space : space_refusal (ground c).state (seal_need (ground c) t.number (view c.g0 a t)) ≡ None) where
@@ -217,4 +217,4 @@ module _ (m n : Memory) (c : Core) (valid : IsValid c) (is : IsMemory m (account
       let t = mine m n c valid is seals.transaction seals.was in
       let may = may_go c (Seal 1) valid (same ∙ e) in
       sealed_goes t.0 t.1 (ap (λ (o : Option Transaction). room_refusal (ground c) c.g0 a o (Seal 1)) (sym t.1) ∙ may.1) seals)
-      (λ why e. as_it_was m n c valid is (stayed why (ap Ok e)))
+      (λ why e. as_it_was m n c is (stayed why (ap Ok e)))

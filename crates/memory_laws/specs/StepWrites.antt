@@ -40,8 +40,8 @@ use Rattle.heap_memory.specs.Leaves as memory
 use Rattle.heap_memory.specs.Leaves.{Leaves, IsAsItWas, Writes, WritesHeld, Links, with_written}
 use Rattle.memory_laws.specs.Follows.{place_in, kept, IsMemory, Does}
 use Rattle.memory_laws.specs.HeldLaws.{place_in_word, place_in-placed, place_in-apart}
-use Rattle.memory_laws.specs.Answered.{Goes, does}
-use Rattle.memory_laws.specs.Appended.{as_it_was, reached_still, call_goes}
+use Rattle.memory_laws.specs.Answered.{as_it_was, Goes, does}
+use Rattle.memory_laws.specs.Appended.{reached_still, call_goes}
 use Rattle.memory_laws.specs.StepHeld.{IsHeld, both_none, test_none, own_is, held_active, is_held, held_within}
 use Rattle.memory_laws.specs.KeptWrites.{kept_write, kept_own_write}
 
@@ -187,7 +187,7 @@ module _ (m n : Memory) (c : Core) (valid : IsValid c) (is : IsMemory m (account
       (at_place (held_place (own m) h) (λ p. first_of_two (range_refusal v) (write_refusal m p i)) held_it.place held_it.held e) in
       wrote_held t.0 event h i (Int v) (4 * v + 1) t.1 tt refl refl (ap (λ (o : Option Transaction). call_records (ground c) c.g0 a o event) t.1)
       (small_int v granted.0) refl held_it granted.1)
-      (λ why e. as_it_was m n c valid is (stayed why (ap Ok e)))
+      (λ why e. as_it_was m n c is (stayed why (ap Ok e)))
 
   pub clear_does : (h i : ℕ) → core_refusal c (Clear 1 h i) ≡ clear_refusal m h i → (result : Result Reply AllocError) → IfOk result (λ reply. reply ≡ reply_of (clear_refusal m h i) Done)
       → (result ≡ Ok Done → WritesHeld m n h i 0) → ((why : Refusal) → result ≡ Ok (Refused why) → IsAsItWas m n) → IfOk result (λ reply. Does c (Clear 1 h i) reply n)
@@ -200,7 +200,7 @@ module _ (m n : Memory) (c : Core) (valid : IsValid c) (is : IsMemory m (account
       let t = held_active m c valid is h held_it.place held_it.held in
       let granted = at_place (held_place (own m) h) (λ p. write_refusal m p i) held_it.place held_it.held e in
       wrote_held t.0 event h i Null 0 t.1 tt refl refl (ap (λ (o : Option Transaction). call_records (ground c) c.g0 a o event) t.1) tt refl held_it granted)
-      (λ why e. as_it_was m n c valid is (stayed why (ap Ok e)))
+      (λ why e. as_it_was m n c is (stayed why (ap Ok e)))
 
   linked : (h i h2 : ℕ) → link_refusal m h i h2 ≡ None → Links m n h i h2 → Goes n c (Link 1 h i h2)
   linked h i h2 e links =
@@ -224,4 +224,4 @@ module _ (m n : Memory) (c : Core) (valid : IsValid c) (is : IsMemory m (account
       let event : Event = Link 1 h i h2 in
       does c event (link_refusal m h i h2) Done reply n same replied (λ e. call_reply-done c.g0 a (a.active 1) event tt)
       (λ e done_it. linked h i h2 e (linked_it (ap Ok done_it)))
-      (λ why e. as_it_was m n c valid is (stayed why (ap Ok e)))
+      (λ why e. as_it_was m n c is (stayed why (ap Ok e)))
