@@ -1,15 +1,19 @@
--- What a disk holds stays where it is changed inside of the log alone.
-use Rattle.std.proofs.Common.{ℕ, ◌+◌, List, sym, ◌∙◌, arith}
+-- What a disk holds stays where it is changed inside of the log alone, and what an opening leaves of it.
+use Rattle.std.proofs.Common.{◌≡◌, inl, inr, ℕ, ◌+◌, List, take, sym, ◌∙◌, arith}
 use Rattle.disk_model.specs.Disk.{part, SameOutside}
 use Rattle.gate_slot.specs.Images.{same_part}
 use Rattle.graph_model.specs.Graph.{Graph}
+use Rattle.graph_model.specs.History.{commits}
+use Rattle.graph_model.specs.Transaction.{serial}
 use Rattle.image_plan.specs.declared.superblock.Super.{Super}
 use Rattle.image_plan.specs.Plan.{log_offset, frame_offset}
 use Rattle.log_records.specs.declared.Record.{Record}
 use Rattle.gated_log.specs.Log.{HoldsBatches}
-use Rattle.heap_model.specs.CoreLawsOpening.{rolled_says}
+use Rattle.heap_model.specs.Core.{Core}
+use Rattle.heap_model.specs.CoreCrash.{StandsForFirst}
+use Rattle.heap_model.specs.CoreLawsOpening.{next_is, rolled_shaped, rolled_says}
 use Rattle.heap_model.specs.Image.{Holds, StandsFor}
-use Rattle.heap_model.specs.Opening.{rolled_back}
+use Rattle.heap_model.specs.Opening.{rolled_back, next_of, IsLeftByOpening}
 
 -- an image with the same bytes outside of the log, whose log holds other batches
 pub held_with : (s : Super) (batches others : List (List Record)) (old new : List ℕ) → Holds s batches old → SameOutside log_offset (log_offset + s.log_bytes) old new
@@ -21,21 +25,34 @@ held_with s batches others old new held outside holds = record {
   frames = λ p f few one is. held.frames p f few one (sym (outside.behind (frame_offset s.log_bytes p f) (omega arith)) ∙ is);
 }
 
-module _ (g : Graph) (k : ℕ) (image new : List ℕ) (stands : StandsFor g k image) (outside : SameOutside log_offset (log_offset + stands.super.log_bytes) image new) where
-  -- what an image stands for, it stands for with the same batches
-  pub still_stands : HoldsBatches (part new log_offset stands.super.log_bytes) stands.batches → StandsFor g k new
-  still_stands holds = record {
-    super = stands.super;
-    batches = stands.batches;
-    says = stands.says;
-    held = held_with stands.super stands.batches stands.batches image new stands.held outside holds;
-  }
+-- what an image stands for, each image stands for that an opening of it leaves
+abbrev pub left_stands : (g : Graph) (k : ℕ) (image : List ℕ) (stands : StandsFor g k image) (new : List ℕ) → IsLeftByOpening stands.super stands.batches new → StandsFor g k new
+left_stands g k image stands new (inl held) = record { super = stands.super; batches = stands.batches; says = stands.says; held = held }
+left_stands g k image stands new (inr held) = record {
+  super = stands.super;
+  batches = rolled_back stands.super stands.batches;
+  says = rolled_says g k stands.super stands.batches stands.says;
+  held = held;
+}
 
-  -- and with those behind an opening
-  pub rolled_stands : HoldsBatches (part new log_offset stands.super.log_bytes) (rolled_back stands.super stands.batches) → StandsFor g k new
-  rolled_stands holds = record {
-    super = stands.super;
-    batches = rolled_back stands.super stands.batches;
-    says = rolled_says g k stands.super stands.batches stands.says;
-    held = held_with stands.super stands.batches (rolled_back stands.super stands.batches) image new stands.held outside holds;
-  }
+-- an image of first commits leaves images of the same when it is opened
+pub left_first : (c : Core) (k : ℕ) (image : List ℕ) (first : StandsForFirst c k image) (new : List ℕ) → IsLeftByOpening first.stands.super first.stands.batches new → StandsForFirst c k new
+left_first c k image first new (inl held) = record {
+  stands = left_stands (serial c.g0 (take k (commits c.history))) (c.before + k) image first.stands new (inl held);
+  of = record { limits = first.of.limits; pages = first.of.pages; room = first.of.room; first = first.of.first };
+  next = first.next;
+  kept = first.kept;
+  some = first.some;
+}
+left_first c k image first new (inr held) =
+    let s = first.stands.super in
+    let batches = first.stands.batches in
+    let shaped = first.stands.says.legal.shaped in
+    let same : next_of s (rolled_back s batches) ≡ next_of s batches = next_is s (rolled_back s batches) (rolled_shaped s batches shaped) ∙ sym (next_is s batches shaped) in
+    record {
+      stands = left_stands (serial c.g0 (take k (commits c.history))) (c.before + k) image first.stands new (inr held);
+      of = record { limits = first.of.limits; pages = first.of.pages; room = first.of.room; first = first.of.first };
+      next = omega (arith, first.next, same);
+      kept = first.kept;
+      some = first.some;
+    }

@@ -1,5 +1,5 @@
 -- A core that was opened on a shaped log is reached, whatever graph stands in its words, under whatever names.
-use Rattle.std.proofs.Common.{◌≡◌, ◌⊎◌, inl, inr, ℕ, ◌+◌, ◌≤◌, Bool, true, List, [], ◌∷◌, max, Some, unwrap_or, refl, sym, ap, ◌∙◌, subst, arith}
+use Rattle.std.proofs.Common.{◌≡◌, ◌⊎◌, inl, inr, ℕ, ◌+◌, ◌≤◌, Bool, true, false, List, [], ◌∷◌, max, Some, unwrap_or, refl, sym, ap, ◌∙◌, subst, arith}
 use Rattle.std.proofs.lemmas.List.{append-nil}
 use Rattle.std.proofs.lemmas.Option.{option_and_then_some}
 use Rattle.graph_model.specs.Graph.{Graph}
@@ -13,10 +13,10 @@ use Rattle.log_machine.specs.declared.UndoEntry.{UndoEntry}
 use Rattle.gated_log.specs.Log.{records_of}
 use Rattle.object_layout.specs.Layout.{id_at}
 use Rattle.object_layout.specs.WalkedLaws.{gathered}
-use Rattle.graph_words.specs.Places.{Places, named_places}
+use Rattle.graph_words.specs.Places.{Places, named_places, address_name}
 use Rattle.graph_words.specs.Stands.{StandsCommitted, AreNamedByBirth}
 use Rattle.graph_words.specs.StandsSeen.{stands_seen, stands_canon}
-use Rattle.graph_words.specs.WalkedStands.{walked_stands_by_birth, id_at-AreNamedByBirth, id_at-AreOld}
+use Rattle.graph_words.specs.WalkedStands.{address_name-AreOld, walked_stands_by_address, walked_stands_by_birth, id_at-AreNamedByBirth, id_at-AreOld}
 use Rattle.heap_model.specs.CoreCrash.{KeepsCommits}
 use Rattle.heap_model.specs.CoreLawsOpening.{next_is, rolled_reached, rolled_good, rolled_room, rolled_shaped, rolled_says, words_of-rolled_back, settled_reserve}
 use Rattle.heap_model.specs.CoreLawsReplies.{hears_nothing}
@@ -129,6 +129,23 @@ used_below s batches shaped =
     let used = room.3 in
     let pages = shaped.limits.few_pages in
     omega arith
+
+-- In what a shaped log leaves a graph stands under names by address, so each heap that is opened is a core.
+pub address_found : (s : Super) (batches : List (List Record)) (shaped : IsShapedLog s batches) → (places : Places) × (g : Graph) × IsFound s batches shaped false places g
+address_found s batches shaped =
+    let words = words_of s batches in
+    let base = shaped.state.base in
+    let used = shaped.state.used in
+    let grows = (leads_after_all (start s.pages s.first) shaped.state (records_of batches) shaped.reached).grows in
+    let first = shaped.limits.some_first in (
+      named_places (address_name base) shaped.walked.starts,
+      gathered (address_name base) words shaped.walked.starts,
+      record {
+        stands = walked_stands_by_address words base used shaped.walked (used_below s batches shaped);
+        old = address_name-AreOld words base used shaped.walked shaped.state.next (omega arith);
+        births = λ by_birth. cc;
+      },
+    )
 
 -- A legal log says the graph of its objects, under the names of their births.
 pub saying_law : SayingTheorem

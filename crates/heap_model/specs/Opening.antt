@@ -1,5 +1,5 @@
 -- What an opening of a legal image does: it takes back the writes of transactions that have not ended, in one batch more.
-use Rattle.std.specs.Prelude.{ℕ, ◌+◌, Bool, IsTrue, List, [], Option, None, Some, fold, max}
+use Rattle.std.specs.Prelude.{◌⊎◌, ℕ, ◌+◌, Bool, IsTrue, List, [], Option, None, Some, fold, max}
 use Rattle.graph_model.specs.Graph.{Graph}
 use Rattle.image_plan.specs.declared.superblock.Super.{Super}
 use Rattle.log_records.specs.declared.Record.{Record}
@@ -8,7 +8,7 @@ use Rattle.log_machine.specs.Machine.{State, start, after_all, number_of, commit
 use Rattle.graph_words.specs.Places.{Places, AreOld}
 use Rattle.graph_words.specs.Stands.{StandsCommitted, AreNamedByBirth}
 use Rattle.heap_model.specs.Core.{Core, force_calls}
-use Rattle.heap_model.specs.Image.{words_of, IsShapedLog}
+use Rattle.heap_model.specs.Image.{words_of, IsShapedLog, Holds}
 
 -- what the records of these batches say
 abbrev pub state_of : Super → List (List Record) → Option State
@@ -73,3 +73,7 @@ pub record IsFound (s : Super) (batches : List (List Record)) (shaped : IsShaped
   pub stands : StandsCommitted places g (words_of s batches) shaped.state.base shaped.state.used
   pub old : AreOld shaped.state.next places
   pub births : IsTrue born → AreNamedByBirth places (words_of s batches)
+
+-- An opening of this log leaves an image of it, or of the log behind the opening.
+abbrev pub IsLeftByOpening : Super → List (List Record) → List ℕ → Type 0
+IsLeftByOpening s batches image = Holds s batches image ⊎ Holds s (rolled_back s batches) image

@@ -1,5 +1,5 @@
 -- What an opening reads of a log, and what it leaves.
-use Rattle.std.proofs.Common.{◌≡◌, ◌≢◌, ◌⊎◌, ⊎_elim, ℕ, ◌+◌, ◌≤◌, List, [], ◌∷◌, ◌++◌, length, take, drop, take-append-drop, Option, None, Some, Result, Ok, Err, refl, sym, ap, ◌∙◌, subst, arith}
+use Rattle.std.proofs.Common.{inl, inr, ◌≡◌, ◌≢◌, ◌⊎◌, ⊎_elim, ℕ, ◌+◌, ◌≤◌, List, [], ◌∷◌, ◌++◌, length, take, drop, take-append-drop, Option, None, Some, Result, Ok, Err, refl, sym, ap, ◌∙◌, subst, arith}
 use Rattle.std.specs.Prelude.{option_and_then, IfOk, IfErr, IsOk}
 use Rattle.std.proofs.lemmas.Option.{option_and_then_some}
 use Rattle.std.proofs.lemmas.Bool.Decides.{nat_tests}
@@ -29,9 +29,9 @@ use Rattle.log_machine.specs.CommittedLaws.{committed_words_at}
 use Rattle.object_layout.specs.Walk.{IsWalked, IsWalkFault}
 use Rattle.object_layout.specs.WalkLaws.{walked_fault}
 use Rattle.heap_model.specs.CoreLawsRoom.{records_of-with_batch}
-use Rattle.heap_model.specs.CoreLawsHeld.{still_stands, rolled_stands}
-use Rattle.heap_model.specs.Image.{words_of, IsShapedLog, IsLegalLog, Holds, StandsFor}
-use Rattle.heap_model.specs.Opening.{rollback_in, rollback_of, rolled_back, used_in, next_in}
+use Rattle.heap_model.specs.CoreLawsHeld.{held_with}
+use Rattle.heap_model.specs.Image.{words_of, IsShapedLog, IsLegalLog, Holds}
+use Rattle.heap_model.specs.Opening.{IsLeftByOpening, rollback_in, rollback_of, rolled_back, used_in, next_in}
 use Rattle.heap_recovery.specs.declared.error.RecoverError.{RecoverError}
 use Rattle.heap_recovery.specs.declared.error.RecoverError.TheVariants.{NoMemory, NotHeap, Damaged, Disk}
 use Rattle.heap_recovery.specs.declared.reading.Reading.{Reading}
@@ -214,16 +214,14 @@ keeps_same old new batches pending same keeps = record {
   count = same.count ∙ keeps.count;
 }
 
--- A crash at any moment of an opening leaves what stands for the same graph and commits.
-pub opening_moments : {D : Type 0} (moment : D → ℕ) (left_since : D → ℕ → List ℕ → Type 0) (old mid new : D) (may_leave : List ℕ → Type 0) (now image : List ℕ) (g : Graph) (k : ℕ) (stands : StandsFor g k image) (read : Reading)
-    → IsRead stands.super stands.batches read → Only image may_leave → now ≡ image → LeavesOnly moment left_since old mid may_leave
-    → LeavesOnly moment left_since mid new (λ c. SameOutside (log_place read.log) (log_place read.log + log_room read.log) now c × (HoldsBatches (part c (log_place read.log) (log_room read.log)) stands.batches ⊎ HoldsBatches (part c (log_place read.log) (log_room read.log)) (with_batch stands.batches (rollback read.state))))
-    → LeavesOnly moment left_since old new (StandsFor g k)
-opening_moments moment left_since old mid new may_leave now image g k stands read is only same first second =
-    let s = stands.super in
-    let batches = stands.batches in
+-- A crash at any moment of an opening leaves the image as it was, or with its log rolled back.
+pub opening_moments : {D : Type 0} (moment : D → ℕ) (left_since : D → ℕ → List ℕ → Type 0) (old mid new : D) (may_leave : List ℕ → Type 0) (now image : List ℕ) (s : Super) (batches : List (List Record)) → Holds s batches image → (read : Reading)
+    → IsRead s batches read → Only image may_leave → now ≡ image → LeavesOnly moment left_since old mid may_leave
+    → LeavesOnly moment left_since mid new (λ c. SameOutside (log_place read.log) (log_place read.log + log_room read.log) now c × (HoldsBatches (part c (log_place read.log) (log_room read.log)) batches ⊎ HoldsBatches (part c (log_place read.log) (log_room read.log)) (with_batch batches (rollback read.state))))
+    → LeavesOnly moment left_since old new (IsLeftByOpening s batches)
+opening_moments moment left_since old mid new may_leave now image s batches here read is only same first second =
     let outside = outside_log s batches read is image now in
-    weaker moment left_since old new _ (StandsFor g k) (joined moment left_since old mid new _ _ first second)
-    (λ c. ⊎_elim (λ left. subst (StandsFor g k) (sym (only c left)) stands)
-    (λ found. ⊎_elim (λ holds. still_stands g k image c stands (outside c same found.0) (in_log s batches read is (λ n m. HoldsBatches (part c n m) batches) holds))
-    (λ holds. rolled_stands g k image c stands (outside c same found.0) (rolled_held s batches read is c holds)) found.1))
+    weaker moment left_since old new _ (IsLeftByOpening s batches) (joined moment left_since old mid new _ _ first second)
+    (λ c. ⊎_elim (λ left. inl (subst (Holds s batches) (sym (only c left)) here))
+    (λ found. ⊎_elim (λ holds. inl (held_with s batches batches image c here (outside c same found.0) (in_log s batches read is (λ n m. HoldsBatches (part c n m) batches) holds)))
+    (λ holds. inr (held_with s batches (rolled_back s batches) image c here (outside c same found.0) (rolled_held s batches read is c holds))) found.1))

@@ -4,13 +4,12 @@ ghost use Rattle.disk_model.specs.Disk.{Only};
 ghost use Rattle.disk_model.specs.Keeps.{KeepsDisk};
 ghost use Rattle.disk_model.specs.Moments.{LeavesOnly};
 ghost use Rattle.gated_log.specs.LogState.{log_place, log_room, log_used, IsReady, Keeps};
-ghost use Rattle.graph_model.specs.Graph.{Graph};
 ghost use Rattle.image_plan.specs.declared.superblock.Super.{Super};
 ghost use Rattle.log_records.specs.declared.Record.{Record};
 ghost use Rattle.log_machine.specs.Machine.{rollback, all_taken_back, reserve};
 ghost use Rattle.object_layout.specs.Walk.{IsWalked, IsWalkFault};
-ghost use Rattle.heap_model.specs.Image.{IsShapedLog, Holds, IsLegal, StandsFor};
-ghost use Rattle.heap_model.specs.Opening.{rollback_of, rolled_back, opening_calls};
+ghost use Rattle.heap_model.specs.Image.{IsShapedLog, Holds, IsLegal};
+ghost use Rattle.heap_model.specs.Opening.{rollback_of, rolled_back, opening_calls, IsLeftByOpening};
 ghost use Rattle.heap_recovery.specs.Causes.{open_device};
 ghost use Rattle.heap_recovery.specs.declared.at.At.TheVariants.{Address};
 ghost use Rattle.heap_recovery.specs.declared.error.RecoverError.TheVariants.{NoMemory, Damaged};
@@ -57,8 +56,8 @@ pub fn recover<D: Disk>(alloc: Global, disk: &mut D) -> Result<Recovered, Recove
     ensures holds { IsTrue D.tells → (s : Super) (batches : List (List Record)) → IsLegal s batches (D.bytes disk.old) → IfOk result (λ found. Holds s (rolled_back s batches) (D.bytes disk.new)) }
     ensures durable { IsTrue D.tells → Only (D.bytes disk.old) (D.may_leave disk.old) → IfOk result (λ found. Only (D.bytes disk.new) (D.may_leave disk.new)) }
 
-    // A crash at any moment leaves an image that stands for the same graph and commits.
-    ensures moments { IsTrue D.tells → Only (D.bytes disk.old) (D.may_leave disk.old) → (g : Graph) (k : ℕ) → StandsFor g k (D.bytes disk.old) → LeavesOnly D.moment D.left_since disk.old disk.new (StandsFor g k) }
+    // A crash at any moment leaves the image as it was, or with its log rolled back: both stand for the same graph and commits.
+    ensures moments { IsTrue D.tells → Only (D.bytes disk.old) (D.may_leave disk.old) → (s : Super) (batches : List (List Record)) → IsLegal s batches (D.bytes disk.old) → LeavesOnly D.moment D.left_since disk.old disk.new (IsLeftByOpening s batches) }
     ensures passes { IsTrue D.tells → (s : Super) (batches : List (List Record)) → IsLegal s batches (D.bytes disk.old) → OpenPasses (opening_calls s batches) (D.passed disk.old) (D.passed disk.new) result }
     // Where nothing is rolled back the disk is only read.
     ensures no_first_stop { IsTrue D.tells → (s : Super) (batches : List (List Record)) → IsLegal s batches (D.bytes disk.old) → rollback_of s batches ≡ [] → D.stops disk.old ≡ 0 → D.stops disk.new ≡ 0 }

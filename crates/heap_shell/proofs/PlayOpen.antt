@@ -1,5 +1,5 @@
 -- A play opens the heap that was made for it.
-use Rattle.std.proofs.Common.{◌≡◌, inl, inr, ⊎_elim, ℕ, ◌+◌, ◌≤◌, Bool, List, [], ◌++◌, take, Option, Some, None, Result, Ok, refl, sym, ap, ◌∙◌, subst, arith}
+use Rattle.std.proofs.Common.{◌≡◌, inl, inr, ⊎_elim, ℕ, ◌+◌, ◌≤◌, Bool, true, false, List, [], ◌++◌, Option, Some, None, Result, Ok, refl, sym, ap, ◌∙◌, subst, arith}
 use Rattle.std.specs.Prelude.{◌⊎◌, IsTrue}
 use Rattle.std.proofs.lemmas.List.{append-nil}
 use Rattle.disk_model.specs.declared.disk.Disk.{Ghosts}
@@ -7,7 +7,7 @@ use Rattle.disk_model.specs.declared.disk.DiskError.{DiskError}
 use Rattle.disk_model.specs.Moments.{LeavesOnly, begins, joined, weaker}
 use Rattle.gate_slot.specs.Passing.{Passes}
 use Rattle.graph_model.specs.declared.event.Event.{Event}
-use Rattle.graph_model.specs.Graph.{Graph, root_graph, new_graph}
+use Rattle.graph_model.specs.Graph.{Graph, new_graph}
 use Rattle.graph_model.specs.Transaction.{serial}
 use Rattle.graph_model.specs.History.{account, commits}
 use Rattle.heap_core.specs.Causes.{IsFromOutside, ErrorPasses, error_device}
@@ -17,24 +17,22 @@ use Rattle.heap_model.specs.Core.{Core}
 use Rattle.heap_shell.specs.declared.status.Status.{Status}
 use Rattle.heap_shell.specs.declared.status.Status.TheVariants.{Done}
 use Rattle.heap_model.specs.CoreCrash.{KeepsCommits}
-use Rattle.heap_model.specs.CoreLawsGrow.{keeps_as}
-use Rattle.heap_model.specs.CoreLawsNew.{new_legal, new_shows}
-use Rattle.heap_model.specs.CoreLawsOpened.{opened_keeps, opened_reached}
+use Rattle.heap_model.specs.CoreLawsNew.{root_place, new_legal, new_found}
+use Rattle.heap_model.specs.CoreLawsOpened.{address_found, opened_keeps, opened_reached}
 use Rattle.heap_shell.specs.CoreLawsPlay.{running_after, all_playable}
 use Rattle.heap_model.specs.CoreRuns.{after_events}
 use Rattle.heap_model.specs.Ending.{all_events}
 use Rattle.heap_shell.specs.declared.command.Stop.{Stop}
 use Rattle.heap_shell.specs.Headline.{made_super, made_core, end_text, stop_after, let_through, IsExact, IsEndOfPlay, EndsUnopened, IsFollowed, IsPlayed}
 use Rattle.heap_shell.specs.Playable.{IsScript}
-use Rattle.heap_model.specs.Image.{words_of, IsLegalLog, IsLegal, Shows, StandsFor}
+use Rattle.heap_model.specs.Image.{IsShapedLog, IsLegal}
 use Rattle.counts.specs.Count.{counted}
 use Rattle.log_machine.specs.MapLaws.{entries_empty}
 use Rattle.log_machine.specs.Machine.{abort_each}
 use Rattle.log_machine.specs.declared.UndoEntry.{UndoEntry}
 use Rattle.heap_model.specs.Core.{force_calls}
-use Rattle.heap_model.specs.Opening.{opened, opening_calls, rollback_of}
-use Rattle.heap_model.specs.ValueWord.{root_values}
-use Rattle.heap_model.specs.CoreLawsLegal.{root_shown}
+use Rattle.heap_model.specs.Opening.{opened, opening_calls, rollback_of, IsFound, IsLeftByOpening}
+use Rattle.graph_words.specs.Places.{Places}
 use Rattle.heap_core.specs.declared.heap.Heap.{Heap}
 use Rattle.heap_core.specs.HeapState.{failed_at}
 use Rattle.heap_core.specs.Means.{IsCore}
@@ -50,19 +48,12 @@ use Rattle.heap_shell.proofs.Written.{none_written}
 -- an image that holds a new heap has its commits, of which there are none
 pub new_image : (pages : ℕ) (image : List ℕ) → IsLegal (made_super pages) [] image → KeepsCommits (made_core pages) image
 new_image pages image legal =
-    let limits = legal.log.limits in
-    opened_keeps (made_super pages) [] (new_legal (made_super pages) limits) new_graph (new_shows (made_super pages) limits) image (inl legal.held)
-
--- the graph of its first commits, and their number
-abbrev pub new_first : (pages : ℕ) (image : List ℕ) → IsLegal (made_super pages) [] image → Graph
-new_first pages image legal = serial (made_core pages).g0 (take (new_image pages image legal).0 (commits (made_core pages).history))
-
-abbrev pub new_count : (pages : ℕ) (image : List ℕ) → IsLegal (made_super pages) [] image → ℕ
-new_count pages image legal = (made_core pages).before + (new_image pages image legal).0
+    let limits = legal.log.shaped.limits in
+    opened_keeps (made_super pages) [] (new_legal (made_super pages) limits) root_place new_graph (new_found (made_super pages) limits) image (inl legal.held)
 
 -- the heap of such an image is that of an empty log
 abbrev pub empty_image : (pages : ℕ) (image : List ℕ) → IsLegal (made_super pages) [] image → IsLegal (made_super pages) [] image
-empty_image pages image legal = record { log = new_legal (made_super pages) legal.log.limits; held = legal.held }
+empty_image pages image legal = record { log = new_legal (made_super pages) legal.log.shaped.limits; held = legal.held }
 
 -- in a new heap there is nothing to be taken back
 pub no_rollback : (s : Super) → rollback_of s [] ≡ []
@@ -154,33 +145,31 @@ ends_unopened g pages stop events e by start final told before is outside moment
       end = subst IsEndOfPlay (sym is) (open_end e outside);
     }
 
--- what a new heap's image stands for
-pub new_stands : (pages : ℕ) (bytes : List ℕ) (legal : IsLegal (made_super pages) [] bytes) → StandsFor (new_first pages bytes legal) (new_count pages bytes legal) bytes
-new_stands pages bytes legal = (new_image pages bytes legal).1.stands
-
--- an opening leaves an image that stands for the same
-pub opened_commits : (pages : ℕ) (bytes : List ℕ) (legal : IsLegal (made_super pages) [] bytes) (image : List ℕ) → StandsFor (new_first pages bytes legal) (new_count pages bytes legal) image → KeepsCommits (made_core pages) image
-opened_commits pages bytes legal image stands = keeps_as (made_core pages) bytes (new_image pages bytes legal) image stands
+-- an opening of a new heap's image leaves an image of a new heap
+pub opened_commits : (pages : ℕ) (bytes : List ℕ) → IsLegal (made_super pages) [] bytes → (image : List ℕ) → IsLeftByOpening (made_super pages) [] image → KeepsCommits (made_core pages) image
+opened_commits pages bytes legal image left =
+    let limits = legal.log.shaped.limits in
+    opened_keeps (made_super pages) [] (new_legal (made_super pages) limits) root_place new_graph (new_found (made_super pages) limits) image left
 
 -- so it does at each moment
 pub opening_keeps : {D : Type 0} (moment : D → ℕ) (left_since : D → ℕ → List ℕ → Type 0) (old new : D) (pages : ℕ) (bytes : List ℕ) (legal : IsLegal (made_super pages) [] bytes)
-    → LeavesOnly moment left_since old new (StandsFor (new_first pages bytes legal) (new_count pages bytes legal)) → LeavesOnly moment left_since old new (KeepsCommits (made_core pages))
+    → LeavesOnly moment left_since old new (IsLeftByOpening (made_super pages) []) → LeavesOnly moment left_since old new (KeepsCommits (made_core pages))
 opening_keeps moment left_since old new pages bytes legal opened =
-    weaker moment left_since old new (StandsFor (new_first pages bytes legal) (new_count pages bytes legal)) (KeepsCommits (made_core pages)) opened (opened_commits pages bytes legal)
+    weaker moment left_since old new (IsLeftByOpening (made_super pages) []) (KeepsCommits (made_core pages)) opened (opened_commits pages bytes legal)
 
 -- What is opened on any disk is a core that runs, whatever its graph.
 pub record IsNew (c : Core) : Type 0 where
   pub running : IsRunning c
   pub nothing : c.history ≡ []
 
-pub opened_core : {D : Type 0} {g : Ghosts D} (heap : Heap D g) → (s : Super) × (batches : List (List Record)) × (legal : IsLegalLog s batches) × ((graph : Graph) → Shows s batches legal graph → IsCore (opened s batches graph) heap)
+pub opened_core : {D : Type 0} {g : Ghosts D} (heap : Heap D g)
+    → (s : Super) × (batches : List (List Record)) × (shaped : IsShapedLog s batches) × ((born : Bool) (places : Places) (graph : Graph) → IsFound s batches shaped born places graph → IsCore (opened s batches born places graph) heap)
     → (c : Core) × IsNew c × IsCore c heap
 opened_core heap is =
-    let graph = root_graph (root_values (words_of is.0 is.1) 0) in
-    let shows = root_shown is.0 is.1 is.2 in
-    let c = opened is.0 is.1 graph in
-    let running : IsRunning c = record { reached = opened_reached is.0 is.1 is.2 graph shows; unfailed = refl } in
-    (c, record { running = running; nothing = refl }, is.3 graph shows)
+    let found = address_found is.0 is.1 is.2 in
+    let c = opened is.0 is.1 false found.0 found.1 in
+    let running : IsRunning c = record { reached = opened_reached is.0 is.1 is.2 false found.0 found.1 found.2; unfailed = refl } in
+    (c, record { running = running; nothing = refl }, is.3 false found.0 found.1 found.2)
 
 -- it has not failed
 pub opened_unfailed : {D : Type 0} {g : Ghosts D} (heap : Heap D g) (c : Core) → IsNew c → IsCore c heap → failed_at heap ≡ None

@@ -28,7 +28,9 @@ use Rattle.heap_shell.specs.declared.status.Status.{Status}
 use Rattle.heap_shell.specs.declared.status.Status.TheVariants.{NoMemory, DiskFault}
 use Rattle.heap_model.specs.Core.{Core, force_calls}
 use Rattle.heap_model.specs.CoreCrash.{StandsForFirst, KeepsCommits}
-use Rattle.heap_model.specs.Image.{IsLegalLog, StandsFor}
+use Rattle.heap_model.specs.Image.{IsLegalLog, IsLegal}
+use Rattle.heap_model.specs.CoreLawsHeld.{left_first}
+use Rattle.heap_model.specs.Opening.{IsLeftByOpening}
 use Rattle.heap_shell.specs.Causes.{DiskRose}
 use Rattle.heap_shell.specs.Headline.{recovered_line, graph_text, IsEndOfPlay, KeepsFirst, calls_to_open, Reopens, FailsToOpen, Restarts, IsCutBefore, StartsAgain, EndsUnopened}
 use Rattle.heap_shell.specs.Output.{WroteText, Recovers, WroteRecovered, WroteNothing, status_after}
@@ -68,8 +70,8 @@ few_in_batches (b ∷ bs) =
 pub few_commits : (s : Super) (bs : List (List Record)) → IsLegalLog s bs → commits (records_of bs) ≤ 1073741824
 few_commits s bs legal =
     let few = few_in_batches bs in
-    let room = legal.room in
-    let small = legal.limits.small_log in
+    let room = legal.shaped.room in
+    let small = legal.shaped.limits.small_log in
     omega arith
 
 -- Why an opening of a legal image fails.
@@ -95,20 +97,21 @@ fails_none n before now (opening.Damaged at) is passes = cc
 fails_none n before now opening.DiskFault is passes = cc
 fails_none n before now opening.Stopped is passes = cc
 
+-- the legal image in one of first commits
+abbrev pub legal_of : {c : Core} {k : ℕ} {image : List ℕ} → (first : StandsForFirst c k image) → IsLegal first.stands.super first.stands.batches image
+legal_of first = record { log = first.stands.says.legal; held = first.stands.held }
+
 module _ {D : Type 0} (g : Ghosts D) (c : Core) (k : ℕ) (old new : D) (first : StandsForFirst c k (g.bytes old)) where
-  abbrev pub graph : Graph
-  graph = serial c.g0 (take k (history.commits c.history))
+  -- what an opening may leave of it
+  abbrev pub Left : List ℕ → Type 0
+  Left = IsLeftByOpening first.stands.super first.stands.batches
 
-  -- what an opening leaves stands for the same commits
-  pub still : (left : List ℕ) → StandsFor graph (c.before + k) left → StandsForFirst c k left
-  still left stands = record { stands = stands; kept = first.kept; some = first.some }
-
-  -- so it keeps them
-  abbrev pub keeps_first : LeavesOnly g.moment g.left_since old new (StandsFor graph (c.before + k)) → ((left : List ℕ) → g.may_leave new left → StandsFor graph (c.before + k) left) → g.restarts new ≡ g.restarts old → KeepsFirst g c k old new
+  -- it keeps the commits
+  abbrev pub keeps_first : LeavesOnly g.moment g.left_since old new Left → ((left : List ℕ) → g.may_leave new left → Left left) → g.restarts new ≡ g.restarts old → KeepsFirst g c k old new
   keeps_first moments leaves restarts = record {
     first = first;
-    moments = weaker g.moment g.left_since old new (StandsFor graph (c.before + k)) (StandsForFirst c k) moments still;
-    still = λ left may. still left (leaves left may);
+    moments = weaker g.moment g.left_since old new Left (StandsForFirst c k) moments (left_first c k (g.bytes old) first);
+    still = λ left may. left_first c k (g.bytes old) first left (leaves left may);
     restarts = restarts;
   }
 

@@ -1,5 +1,5 @@
 -- Laws of the events of a play: what is asked of a valid core, and what was made of it.
-use Rattle.std.proofs.Common.{◌≡◌, inl, inr, ℕ, ◌≤◌, List, [], ◌∷◌, ◌++◌, Option, Ok, refl, sym, subst, arith}
+use Rattle.std.proofs.Common.{◌≡◌, true, inl, inr, ℕ, ◌≤◌, List, [], ◌∷◌, ◌++◌, Option, Ok, refl, sym, subst, arith}
 use Rattle.disk_model.specs.declared.disk.Disk.{Ghosts}
 use Rattle.graph_model.specs.declared.event.Event.{Event}
 use Rattle.graph_model.specs.Graph.{new_graph}
@@ -14,7 +14,7 @@ use Rattle.heap_model.specs.Core.{Core, IsStep, IsRun}
 use Rattle.heap_model.specs.CoreRuns.{after_events}
 use Rattle.heap_model.specs.CoreValid.{IsValid, IsReached}
 use Rattle.heap_model.specs.CoreLawsCalls.{whole_run, run_step, valid_events, reached_events}
-use Rattle.heap_model.specs.CoreLawsNew.{new_legal, new_shows}
+use Rattle.heap_model.specs.CoreLawsNew.{root_place, new_legal, new_found}
 use Rattle.heap_model.specs.CoreLawsOpened.{opened_reached}
 use Rattle.heap_model.specs.CoreLawsReplies.{step_reached}
 use Rattle.heap_model.specs.CoreLawsEnding.{single_front, all_single, all_few}
@@ -31,7 +31,7 @@ made_limits pages some few = record { some_pages = some; few_pages = few; some_l
 
 -- a new heap is reached
 pub made_reached : (pages : ℕ) → IsSuper (made_super pages) → IsReached (made_core pages)
-made_reached pages limits = opened_reached (made_super pages) [] (new_legal (made_super pages) limits) new_graph (new_shows (made_super pages) limits)
+made_reached pages limits = opened_reached (made_super pages) [] (new_legal (made_super pages) limits).shaped true root_place new_graph (new_found (made_super pages) limits)
 
 -- a core may be asked the first of the events that it may be asked
 pub ready_front : (c : Core) (before behind : List Event) → AreReady c (before ++ behind) → AreReady c before

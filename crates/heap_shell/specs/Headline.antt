@@ -1,5 +1,5 @@
 -- What a run of the program promises.
-use Rattle.std.specs.Prelude.{◌≡◌, ◌≢◌, ◌⊎◌, ℕ, ◌≤◌, min, List, [], ◌∷◌, ◌++◌, length, take, codes, Bool, IsTrue, Option, None, Some, Err}
+use Rattle.std.specs.Prelude.{◌≡◌, ◌≢◌, ◌⊎◌, ℕ, ◌≤◌, min, List, [], ◌∷◌, ◌++◌, length, take, codes, Bool, true, IsTrue, Option, None, Some, Err}
 use Rattle.std.specs.Fmt.{decimal}
 use Rattle.counts.specs.Count.{raised, counted}
 use Rattle.disk_model.specs.declared.disk.Disk.{Ghosts}
@@ -23,6 +23,7 @@ use Rattle.heap_core.specs.Format.{IsFormatting, format_calls}
 use Rattle.heap_model.specs.Core.{Core, with_entry, IsRun}
 use Rattle.heap_model.specs.CoreValid.{IsReached}
 use Rattle.heap_model.specs.CoreCrash.{StandsForFirst, KeepsCommits}
+use Rattle.heap_model.specs.CoreLawsNew.{root_place}
 use Rattle.heap_model.specs.CoreReplies.{call_replies_of}
 use Rattle.heap_model.specs.CoreRuns.{after_events, total_calls, StopsAt}
 use Rattle.heap_model.specs.Ending.{all_events}
@@ -48,7 +49,7 @@ made_super pages = record { pages = pages; log_bytes = 1048576; first = 1 }
 
 -- that heap, when it has been opened
 abbrev pub made_core : ℕ → Core
-made_core pages = opened (made_super pages) [] new_graph
+made_core pages = opened (made_super pages) [] true root_place new_graph
 
 -- what is printed of a graph
 abbrev pub graph_text : Graph → List ℕ

@@ -7,3 +7,6 @@ mod seal;
 mod working;
 
 pub use working::{SESSION, Working, refused};
+
+#[cfg(test)]
+mod tests;

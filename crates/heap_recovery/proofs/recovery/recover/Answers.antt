@@ -65,12 +65,10 @@ returns-clause-holds g c tells s batches legal =
     if_ok c.finish.result _ (held_with s batches (rolled_back s batches) image new legal.held (outside_log s batches read is image now new same outside) (rolled_held s batches read is new there))
 
 pub returns-in_err-force-clause-moments : goal.returns-in_err-force-clause-moments
-returns-in_err-force-clause-moments g c tells only gr k stands =
+returns-in_err-force-clause-moments g c tells only s batches legal =
     let d = g.D.Disk in
     let read = c.in_ok-read.read in
-    let s = stands.super in
-    let batches = stands.batches in
-    let is = c.in_ok-read.ensures.found tells s batches (record { log = stands.says.legal; held = stands.held }) in
+    let is = c.in_ok-read.ensures.found tells s batches legal in
     let roll = c.in_ok-roll_back.ensures in
     let log = c.roll_back.new.self.log in
     let taken = rollback read.state in
@@ -78,19 +76,17 @@ returns-in_err-force-clause-moments g c tells only gr k stands =
     let now = d.bytes c.read_image.new.disk in
     let contents = c.read_image.ensures.disk.contents tells in
     let still = only_still image now (d.may_leave c.args.disk.now) (d.may_leave c.read_image.new.disk) only contents.bytes contents.crash in
-    let stand = placed_there log read.log (λ n m. HoldsBatches (part now n m) batches) (sym roll.place) (sym roll.same_room) (held s batches read is image now stands.held contents.bytes) in
+    let stand = placed_there log read.log (λ n m. HoldsBatches (part now n m) batches) (sym roll.place) (sym roll.same_room) (held s batches read is image now legal.held contents.bytes) in
     let forcing = c.force.ensures.moments tells still batches taken (roll.kept batches is.log) stand in
     let there = placed_there read.log log
     (λ n m. LeavesOnly d.moment d.left_since c.read_image.new.disk c.force.new.disk (λ c'. SameOutside n (n + m) now c' × (HoldsBatches (part c' n m) batches ⊎ HoldsBatches (part c' n m) (with_batch batches taken)))) roll.place roll.same_room forcing in
-    opening_moments d.moment d.left_since c.args.disk.now c.read_image.new.disk c.force.new.disk (d.may_leave c.args.disk.now) now image gr k stands read is only contents.bytes contents.moments there
+    opening_moments d.moment d.left_since c.args.disk.now c.read_image.new.disk c.force.new.disk (d.may_leave c.args.disk.now) now image s batches legal.held read is only contents.bytes contents.moments there
 
 pub returns-clause-moments : goal.returns-clause-moments
-returns-clause-moments g c tells only gr k stands =
+returns-clause-moments g c tells only s batches legal =
     let d = g.D.Disk in
     let read = c.in_ok-read.read in
-    let s = stands.super in
-    let batches = stands.batches in
-    let is = c.in_ok-read.ensures.found tells s batches (record { log = stands.says.legal; held = stands.held }) in
+    let is = c.in_ok-read.ensures.found tells s batches legal in
     let roll = c.in_ok-roll_back.ensures in
     let log = c.roll_back.new.self.log in
     let taken = rollback read.state in
@@ -98,8 +94,8 @@ returns-clause-moments g c tells only gr k stands =
     let now = d.bytes c.read_image.new.disk in
     let contents = c.read_image.ensures.disk.contents tells in
     let still = only_still image now (d.may_leave c.args.disk.now) (d.may_leave c.read_image.new.disk) only contents.bytes contents.crash in
-    let stand = placed_there log read.log (λ n m. HoldsBatches (part now n m) batches) (sym roll.place) (sym roll.same_room) (held s batches read is image now stands.held contents.bytes) in
+    let stand = placed_there log read.log (λ n m. HoldsBatches (part now n m) batches) (sym roll.place) (sym roll.same_room) (held s batches read is image now legal.held contents.bytes) in
     let forcing = c.force.ensures.moments tells still batches taken (roll.kept batches is.log) stand in
     let there = placed_there read.log log
     (λ n m. LeavesOnly d.moment d.left_since c.read_image.new.disk c.force.new.disk (λ c'. SameOutside n (n + m) now c' × (HoldsBatches (part c' n m) batches ⊎ HoldsBatches (part c' n m) (with_batch batches taken)))) roll.place roll.same_room forcing in
-    opening_moments d.moment d.left_since c.args.disk.now c.read_image.new.disk c.force.new.disk (d.may_leave c.args.disk.now) now image gr k stands read is only contents.bytes contents.moments there
+    opening_moments d.moment d.left_since c.args.disk.now c.read_image.new.disk c.force.new.disk (d.may_leave c.args.disk.now) now image s batches legal.held read is only contents.bytes contents.moments there

@@ -1,4 +1,4 @@
-use Rattle.std.proofs.Common.{◌≡◌, ℕ, ◌+◌, ◌-◌, min, List, ◌++◌, inl, sym, refl, ap, ◌∙◌, subst, arith}
+use Rattle.std.proofs.Common.{◌≡◌, true, ℕ, ◌+◌, ◌-◌, min, List, ◌++◌, inl, sym, refl, ap, ◌∙◌, subst, arith}
 use Rattle.std.specs.Prelude.{IsTrue}
 use Rattle.counts.specs.Count.{counted, greatest}
 use Rattle.disk_model.specs.Moments.{LeavesOnly, weaker}
@@ -6,39 +6,40 @@ use Rattle.gated_log.specs.Log.{records_of}
 use Rattle.graph_model.specs.Text.{canon_text}
 use Rattle.log_machine.specs.Machine as machine
 use Rattle.heap_model.specs.CoreCrash.{StandsForFirst}
-use Rattle.heap_model.specs.CoreLawsOpened.{opened_reached}
-use Rattle.heap_model.specs.Image.{IsLegal, StandsFor}
-use Rattle.heap_model.specs.Opening.{opened, opening_calls}
+use Rattle.heap_model.specs.CoreLawsHeld.{left_first}
+use Rattle.heap_model.specs.CoreLawsOpened.{opened_reached, saying_law}
+use Rattle.heap_model.specs.Opening.{opened, opening_calls, IsLeftByOpening}
 use Rattle.heap_shell.specs.Headline.{recovered_line, graph_text, Reopens, FailsToOpen}
 use Rattle.heap_shell.specs.Output.{WroteText}
 use Rattle.heap_shell.proofs.PlayOpen.{opened_core, opened_unfailed}
 use Rattle.heap_shell.proofs.PlayPrints.{wrote_again}
 use Rattle.heap_shell.proofs.Statuses.{open_not_done}
-use Rattle.heap_shell.proofs.PrintRecovered.{graph, still, keeps_first, few_commits, recovers_nothing, recovers_first}
+use Rattle.heap_shell.proofs.PrintRecovered.{Left, legal_of, keeps_first, few_commits, recovers_nothing, recovers_first}
 use Rattle.heap_shell.proofs.again.print_recovered.Goals as goal
 
 -- an opening leaves the same commits at each moment
 pub returns-in-Err-clause-moments : goal.returns-in-Err-clause-moments
 returns-in-Err-clause-moments g c tells core k first only =
     let d = g.D.Disk in
-    weaker d.moment d.left_since c.args.disk c.in-Err.disk (StandsFor (graph d core k c.args.disk c.in-Err.disk first) (core.before + k)) (StandsForFirst core k)
-    (c.in-Err.ensures.moments tells only _ _ first.stands) (still d core k c.args.disk c.in-Err.disk first)
+    weaker d.moment d.left_since c.args.disk c.in-Err.disk (Left d core k c.args.disk c.in-Err.disk first) (StandsForFirst core k)
+    (c.in-Err.ensures.moments tells only first.stands.super first.stands.batches (legal_of first)) (left_first core k (d.bytes c.args.disk) first)
 
 -- a legal image is refused by the outside alone
 pub returns-in-Err-clause-recovers : goal.returns-in-Err-clause-recovers
 returns-in-Err-clause-recovers g c = λ tells core k first only none.
     let d = g.D.Disk in
-    let stands = first.stands in
-    let legal : IsLegal stands.super stands.batches (d.bytes c.args.disk) = record { log = stands.says.legal; held = stands.held } in
-    let keeps = keeps_first d core k c.args.disk c.in-Err.disk first (c.in-Err.ensures.moments tells only _ _ stands) (c.in-Err.ensures.crash tells only _ _ stands) (c.in-Err.ensures.disk.restarts tells) in
-    recovers_nothing d core k c.args.disk c.in-Err.disk keeps (Reopens d core k c.args.disk c.in-Err.disk) c.in-Err.e c.from.result _ _ (c.in-Err.ensures.legal tells stands.super stands.batches legal) c.from.ensures
-    c.in-Err.ensures.disk.cause (c.in-Err.ensures.passes tells stands.super stands.batches legal)
+    let s = first.stands.super in
+    let batches = first.stands.batches in
+    let legal = legal_of first in
+    let keeps = keeps_first d core k c.args.disk c.in-Err.disk first (c.in-Err.ensures.moments tells only s batches legal) (c.in-Err.ensures.crash tells only s batches legal) (c.in-Err.ensures.disk.restarts tells) in
+    recovers_nothing d core k c.args.disk c.in-Err.disk keeps (Reopens d core k c.args.disk c.in-Err.disk) c.in-Err.e c.from.result _ _ (c.in-Err.ensures.legal tells s batches legal) c.from.ensures
+    c.in-Err.ensures.disk.cause (c.in-Err.ensures.passes tells s batches legal)
 
 pub returns-clause-moments : goal.returns-clause-moments
 returns-clause-moments g c tells core k first only =
     let d = g.D.Disk in
-    rw c.close.ensures (weaker d.moment d.left_since c.args.disk c.in-Ok.heap.disk (StandsFor (graph d core k c.args.disk c.in-Ok.heap.disk first) (core.before + k)) (StandsForFirst core k)
-    (c.in-Ok.ensures.moments tells only _ _ first.stands) (still d core k c.args.disk c.in-Ok.heap.disk first))
+    rw c.close.ensures (weaker d.moment d.left_since c.args.disk c.in-Ok.heap.disk (Left d core k c.args.disk c.in-Ok.heap.disk first) (StandsForFirst core k)
+    (c.in-Ok.ensures.moments tells only first.stands.super first.stands.batches (legal_of first)) (left_first core k (d.bytes c.args.disk) first))
 
 -- the heap that was opened is the core that the image stands for
 pub returns-clause-recovers : goal.returns-clause-recovers
@@ -46,24 +47,25 @@ returns-clause-recovers g c = λ tells core k first only same.
     let d = g.D.Disk in
     let sink = g.K.Sink in
     let final = c.close.result in
-    let stands = first.stands in
-    let says = stands.says in
-    let shown = graph d core k c.args.disk final first in
-    let legal : IsLegal stands.super stands.batches (d.bytes c.args.disk) = record { log = says.legal; held = stands.held } in
-    let heap = c.in-Ok.ensures.holds tells stands.super stands.batches legal only says.seen says.shows in
-    let reached = opened_reached stands.super stands.batches says.legal says.seen says.shows in
-    let few = few_commits stands.super stands.batches says.legal in
+    let says = first.stands.says in
+    let s = first.stands.super in
+    let batches = first.stands.batches in
+    let legal = legal_of first in
+    let found = saying_law s batches says.legal says.seen says.shows in
+    let heap = c.in-Ok.ensures.holds tells s batches legal only found.0 found.1 found.2 in
+    let reached = opened_reached s batches says.legal.shaped true found.0 found.1 found.2 in
+    let few = few_commits s batches says.legal in
     let count = says.count in
-    let since : min (machine.commits (records_of stands.batches) + 0) greatest - c.args.before ≡ k = omega (arith, count, few, same) in
-    let moments = subst (λ x. LeavesOnly d.moment d.left_since c.args.disk x (StandsFor shown (core.before + k))) (sym c.close.ensures) (c.in-Ok.ensures.moments tells only _ _ stands) in
-    let leaves = λ (left : List ℕ) (may : d.may_leave final left). c.in-Ok.ensures.crash tells only _ _ stands left (subst (λ x. d.may_leave x left) c.close.ensures may) in
+    let since : min (machine.commits (records_of batches) + 0) greatest - c.args.before ≡ k = omega (arith, count, few, same) in
+    let moments = subst (λ x. LeavesOnly d.moment d.left_since c.args.disk x (IsLeftByOpening s batches)) (sym c.close.ensures) (c.in-Ok.ensures.moments tells only s batches legal) in
+    let leaves = λ (left : List ℕ) (may : d.may_leave final left). c.in-Ok.ensures.crash tells only s batches legal left (subst (λ x. d.may_leave x left) c.close.ensures may) in
     let keeps = keeps_first d core k c.args.disk final first moments leaves (ap d.restarts c.close.ensures ∙ c.in-Ok.ensures.disk.restarts tells) in
-    let calls : d.passed final ≡ counted (opening_calls stands.super stands.batches) (d.passed c.args.disk) =
-    ap d.passed c.close.ensures ∙ (c.in-Ok.ensures.passes tells stands.super stands.batches legal).ok in
-    let wrote = λ (told : IsTrue sink.tells). c.write_recovered.ensures.wrote told (opened stands.super stands.batches says.seen) heap.core reached in
+    let calls : d.passed final ≡ counted (opening_calls s batches) (d.passed c.args.disk) =
+    ap d.passed c.close.ensures ∙ (c.in-Ok.ensures.passes tells s batches legal).ok in
+    let wrote = λ (told : IsTrue sink.tells). c.write_recovered.ensures.wrote told (opened s batches true found.0 found.1) heap.core reached in
     recovers_first d core k c.args.disk final keeps (FailsToOpen d core k c.status_after-status.result c.args.disk final) c.write_recovered.result c.status_after-status.result _ _ _ c.status_after-status.ensures calls
-    (λ told. subst (λ (t : List ℕ). WroteText c.write_recovered.result (sink.written c.args.sink.now) (recovered_line k ++ t) (sink.written c.write_recovered.new.sink)) (ap canon_text says.graph)
-    (subst (λ (n : ℕ). WroteText c.write_recovered.result (sink.written c.args.sink.now) (recovered_line n ++ graph_text says.seen) (sink.written c.write_recovered.new.sink)) since (wrote told)))
+    (λ told. subst (λ (t : List ℕ). WroteText c.write_recovered.result (sink.written c.args.sink.now) (recovered_line k ++ t) (sink.written c.write_recovered.new.sink)) (ap canon_text (found.3 ∙ says.graph))
+    (subst (λ (n : ℕ). WroteText c.write_recovered.result (sink.written c.args.sink.now) (recovered_line n ++ graph_text found.1) (sink.written c.write_recovered.new.sink)) since (wrote told)))
 
 pub write_recovered-requires : goal.write_recovered-requires
 write_recovered-requires g c =

@@ -11,7 +11,7 @@ use Rattle.heap_model.specs.CoreLawsRun.{same_run}
 use Rattle.heap_model.specs.CoreRuns.{total_calls}
 use Rattle.heap_shell.specs.CoreLawsPlay.{made_running, all_playable, script_ready}
 use Rattle.graph_model.specs.Graph.{new_graph}
-use Rattle.heap_model.specs.CoreLawsNew.{new_shows}
+use Rattle.heap_model.specs.CoreLawsNew.{root_place, new_found}
 use Rattle.heap_shell.specs.Headline.{made_super, made_core, IsExact, KeepsThroughout, Reopens, StartsAgain, EndsUnopened}
 use Rattle.heap_shell.specs.Causes.{Unharmed}
 use Rattle.heap_shell.specs.Output.{Recovers}
@@ -20,7 +20,7 @@ use Rattle.script_text.specs.Line.{events}
 use Rattle.heap_shell.proofs.Causes.{rose_within}
 use Rattle.heap_shell.proofs.PlayEnds.{run_reached, kept, halt_part, halt_lines, stopped_lines, ends_early, ends_recovered, ends_made, exact_some, passes_some, passes_within}
 use Rattle.heap_shell.proofs.PlayFuse.{same_disk, same_limit, fuse_since, fuse_passes, fuse_none, fuse_most, fuse_steps_of}
-use Rattle.heap_shell.proofs.PlayOpen.{empty_image, new_stands, opened_commits, opening_keeps, ends_unopened, new_passes, no_calls, no_rollback, error_passes, unstarted, opened_core}
+use Rattle.heap_shell.proofs.PlayOpen.{empty_image, opened_commits, opening_keeps, ends_unopened, new_passes, no_calls, no_rollback, error_passes, unstarted, opened_core}
 use Rattle.heap_shell.proofs.Statuses.{no_stop, early_none, early_some, halt_end, halt_not_done, open_not_done}
 use Rattle.heap_shell.specs.Headline.{RestartsDisk, starts_asked}
 use Rattle.heap_shell.proofs.RunLaws.{restarts_none}
@@ -35,18 +35,17 @@ returns-in-Err-clause-played g c tells pages legal only =
     let inner = c.new.ensures.inner in
     let bytes = d.bytes (fuse_inner c.new.result) in
     let legal_f = subst (λ x. IsLegal s [] (d.bytes x)) (sym inner) legal in
-    let limits = legal_f.log.limits in
+    let limits = legal_f.log.shaped.limits in
     let running = made_running pages limits in
     let playable = all_playable (Some c.args.stop.after) (made_core pages) c.args.script.now running.reached c.requires in
     let only_f = subst (λ x. Only (d.bytes x) (d.may_leave x)) (sym inner) only in
-    let stands = new_stands pages bytes legal_f in
-    let opened = fuse_since c.new.result c.in-Err.fuse _ (c.in-Err.ensures.moments tells only_f _ _ stands) in
+    let opened = fuse_since c.new.result c.in-Err.fuse _ (c.in-Err.ensures.moments tells only_f (made_super pages) [] legal_f) in
     let began = same_disk _ _ (c.in-Err.ensures.disk.origin ∙ c.new.ensures.origin) ∙ sym inner in
     let none : fuse_passed c.in-Err.fuse ≡ 0 = error_passes _ _ _ c.in-Err.e (no_calls s) (c.in-Err.ensures.passes tells s [] legal_f) ∙ c.new.ensures.passed in
     rw (c.into_inner.ensures, sym inner) (ends_unopened d pages (Some c.args.stop) (events c.args.script.now) c.in-Err.e c.from.result (fuse_inner c.new.result) (fuse_inner c.in-Err.fuse)
     g.K.Sink.tells (g.K.Sink.written c.args.sink.now) c.from.ensures (c.in-Err.ensures.legal tells s [] legal_f)
     (opening_keeps d.moment d.left_since (fuse_inner c.new.result) (fuse_inner c.in-Err.fuse) pages bytes legal_f opened)
-    (λ image left. opened_commits pages bytes legal_f image (c.in-Err.ensures.crash tells only_f _ _ stands image left))
+    (λ image left. opened_commits pages bytes legal_f image (c.in-Err.ensures.crash tells only_f (made_super pages) [] legal_f image left))
     (λ image since. g.met.D.Disk.only_now tells (fuse_inner c.in-Err.fuse) image since)
     (fuse_none c.in-Err.fuse (fuse_inner c.new.result) tells began none) (c.in-Err.ensures.disk.restarts tells))
 
@@ -75,13 +74,12 @@ returns-in-None-clause-played g c tells pages legal only =
     let inner = c.new.ensures.inner in
     let bytes = d.bytes start in
     let legal_f = subst (λ x. IsLegal s [] (d.bytes x)) (sym inner) legal in
-    let limits = legal_f.log.limits in
+    let limits = legal_f.log.shaped.limits in
     let running = made_running pages limits in
     let playable = all_playable (Some c.args.stop.after) (made_core pages) c.args.script.now running.reached c.requires in
     let only_f = subst (λ x. Only (d.bytes x) (d.may_leave x)) (sym inner) only in
-    let stands = new_stands pages bytes legal_f in
-    let plays = c.play_lines-played.ensures.plays tells s (made_core pages) (c.in-Ok.ensures.holds tells s [] (empty_image pages bytes legal_f) only_f new_graph (new_shows s limits)) (script_ready (made_core pages) c.args.script.now running c.requires) in
-    let heap = c.in-Ok.ensures.holds tells s [] (empty_image pages bytes legal_f) only_f new_graph (new_shows s limits) in
+    let plays = c.play_lines-played.ensures.plays tells s (made_core pages) (c.in-Ok.ensures.holds tells s [] (empty_image pages bytes legal_f) only_f root_place new_graph (new_found s limits)) (script_ready (made_core pages) c.args.script.now running c.requires) in
+    let heap = c.in-Ok.ensures.holds tells s [] (empty_image pages bytes legal_f) only_f root_place new_graph (new_found s limits) in
     let keep = kept s (made_core pages) (made_running pages limits) refl es playable old new k.tells before after c.play_lines-played.result plays in
     let opening = same_run (made_core pages) plays.core plays.made (run_reached s (made_core pages) running refl es playable old new k.tells before after c.play_lines-played.result plays).0 in
     let ended = early_none c.play_lines-played.result (sym c.early_end.ensures ∙ c.in-None.is) in
@@ -121,8 +119,8 @@ returns-in-None-clause-played g c tells pages legal only =
     }) c.args.stop.after start final tells (made_core pages) plays.core old.disk new.disk plays.made began (same_limit _ _ (c.in-Ok.ensures.disk.origin ∙ c.new.ensures.origin)) (λ u rose. u (rose_until _ _ _ kept_on rose)) plays.steps in
     let keeps : KeepsThroughout d (Some c.args.stop.after) (made_core pages) plays.made plays.core start final = record {
       opened = fuse_inner old.disk;
-      opening = opening_keeps d.moment d.left_since start (fuse_inner old.disk) pages bytes legal_f (fuse_since c.new.result old.disk _ (c.in-Ok.ensures.moments tells only_f _ _ stands));
-      here = λ image may. opened_commits pages bytes legal_f image (c.in-Ok.ensures.crash tells only_f _ _ stands image may);
+      opening = opening_keeps d.moment d.left_since start (fuse_inner old.disk) pages bytes legal_f (fuse_since c.new.result old.disk _ (c.in-Ok.ensures.moments tells only_f (made_super pages) [] legal_f));
+      here = λ image may. opened_commits pages bytes legal_f image (c.in-Ok.ensures.crash tells only_f (made_super pages) [] legal_f image may);
       passed = fuse_none old.disk start tells began passed;
       restarts = c.in-Ok.ensures.disk.restarts tells;
       stopped = stopped;
@@ -149,13 +147,12 @@ returns-in-Some-clause-played g c tells pages legal only =
     let inner = c.new.ensures.inner in
     let bytes = d.bytes start in
     let legal_f = subst (λ x. IsLegal s [] (d.bytes x)) (sym inner) legal in
-    let limits = legal_f.log.limits in
+    let limits = legal_f.log.shaped.limits in
     let running = made_running pages limits in
     let playable = all_playable (Some c.args.stop.after) (made_core pages) c.args.script.now running.reached c.requires in
     let only_f = subst (λ x. Only (d.bytes x) (d.may_leave x)) (sym inner) only in
-    let stands = new_stands pages bytes legal_f in
-    let plays = c.play_lines-played.ensures.plays tells s (made_core pages) (c.in-Ok.ensures.holds tells s [] (empty_image pages bytes legal_f) only_f new_graph (new_shows s limits)) (script_ready (made_core pages) c.args.script.now running c.requires) in
-    let heap = c.in-Ok.ensures.holds tells s [] (empty_image pages bytes legal_f) only_f new_graph (new_shows s limits) in
+    let plays = c.play_lines-played.ensures.plays tells s (made_core pages) (c.in-Ok.ensures.holds tells s [] (empty_image pages bytes legal_f) only_f root_place new_graph (new_found s limits)) (script_ready (made_core pages) c.args.script.now running c.requires) in
+    let heap = c.in-Ok.ensures.holds tells s [] (empty_image pages bytes legal_f) only_f root_place new_graph (new_found s limits) in
     let keep = kept s (made_core pages) (made_running pages limits) refl es playable old new k.tells before after c.play_lines-played.result plays in
     let halted = early_some c.play_lines-played.result c.in-Some.status (sym c.early_end.ensures ∙ c.in-Some.is) in
     let origin = c.play_lines-played.ensures.disk.origin ∙ c.in-Ok.ensures.disk.origin ∙ c.new.ensures.origin in
@@ -185,8 +182,8 @@ returns-in-Some-clause-played g c tells pages legal only =
     }) c.args.stop.after start final tells (made_core pages) plays.core old.disk new.disk plays.made began (same_limit _ _ (c.in-Ok.ensures.disk.origin ∙ c.new.ensures.origin)) (λ u rose. u rose) plays.steps in
     let keeps : KeepsThroughout d (Some c.args.stop.after) (made_core pages) plays.made plays.core start final = record {
       opened = fuse_inner old.disk;
-      opening = opening_keeps d.moment d.left_since start (fuse_inner old.disk) pages bytes legal_f (fuse_since c.new.result old.disk _ (c.in-Ok.ensures.moments tells only_f _ _ stands));
-      here = λ image may. opened_commits pages bytes legal_f image (c.in-Ok.ensures.crash tells only_f _ _ stands image may);
+      opening = opening_keeps d.moment d.left_since start (fuse_inner old.disk) pages bytes legal_f (fuse_since c.new.result old.disk _ (c.in-Ok.ensures.moments tells only_f (made_super pages) [] legal_f));
+      here = λ image may. opened_commits pages bytes legal_f image (c.in-Ok.ensures.crash tells only_f (made_super pages) [] legal_f image may);
       passed = fuse_none old.disk start tells began passed;
       restarts = c.in-Ok.ensures.disk.restarts tells;
       stopped = final;

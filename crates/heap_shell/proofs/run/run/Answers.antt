@@ -102,7 +102,7 @@ returns-in-None-clause-crash_safe g c tells only play is =
     let es = all_events None (made_core c.in-Some.play.pages) (events c.deref.result.now) in
     let played = c.play_whole.ensures.played tells c.in-Some.play.pages made.0 made.1 in
     let same : play ≡ c.in-Some.play = cc (is, c.in-Some.is, c.read_words.ensures) in
-    let safe = crash_safe g.D.Disk (λ disk image since. g.met.D.Disk.only_now tells disk image since) c.in-Ok-format.disk c.play_whole.result.1 None (made_core c.in-Some.play.pages) es c.play_whole.result.0 k.tells (k.written c.args.sink.now) (k.written c.play_whole.new.sink) (made_reached c.in-Some.play.pages made.0.log.limits) (all_playable None (made_core c.in-Some.play.pages) c.deref.result.now (made_reached c.in-Some.play.pages made.0.log.limits) (subst IsScript (sym c.deref.ensures.value) (script_is read.0 c.in-Ok.script.items read.1))).single played in
+    let safe = crash_safe g.D.Disk (λ disk image since. g.met.D.Disk.only_now tells disk image since) c.in-Ok-format.disk c.play_whole.result.1 None (made_core c.in-Some.play.pages) es c.play_whole.result.0 k.tells (k.written c.args.sink.now) (k.written c.play_whole.new.sink) (made_reached c.in-Some.play.pages made.0.log.shaped.limits) (all_playable None (made_core c.in-Some.play.pages) c.deref.result.now (made_reached c.in-Some.play.pages made.0.log.shaped.limits) (subst IsScript (sym c.deref.ensures.value) (script_is read.0 c.in-Ok.script.items read.1))).single played in
     rw (same, c.in-None.is) (inr (c.in-Ok-format.disk, safe))
 
 pub returns-clause-crash_safe : goal.returns-clause-crash_safe
@@ -113,7 +113,7 @@ returns-clause-crash_safe g c tells only play is =
     let es = events c.deref-in-Some-stop.result.now in
     let played = c.play_stopped.ensures.played tells c.in-Some.play.pages made.0 made.1 in
     let same : play ≡ c.in-Some.play = cc (is, c.in-Some.is, c.read_words.ensures) in
-    let safe = crash_safe g.D.Disk (λ disk image since. g.met.D.Disk.only_now tells disk image since) c.in-Ok-format.disk c.play_stopped.result.1 (Some c.in-Some-stop.stop) (made_core c.in-Some.play.pages) es c.play_stopped.result.0 k.tells (k.written c.args.sink.now) (k.written c.play_stopped.new.sink) (made_reached c.in-Some.play.pages made.0.log.limits) (all_playable (Some c.in-Some-stop.stop.after) (made_core c.in-Some.play.pages) c.deref-in-Some-stop.result.now (made_reached c.in-Some.play.pages made.0.log.limits) (subst IsScript (sym c.deref-in-Some-stop.ensures.value) (script_is read.0 c.in-Ok.script.items read.1))).single played in
+    let safe = crash_safe g.D.Disk (λ disk image since. g.met.D.Disk.only_now tells disk image since) c.in-Ok-format.disk c.play_stopped.result.1 (Some c.in-Some-stop.stop) (made_core c.in-Some.play.pages) es c.play_stopped.result.0 k.tells (k.written c.args.sink.now) (k.written c.play_stopped.new.sink) (made_reached c.in-Some.play.pages made.0.log.shaped.limits) (all_playable (Some c.in-Some-stop.stop.after) (made_core c.in-Some.play.pages) c.deref-in-Some-stop.result.now (made_reached c.in-Some.play.pages made.0.log.shaped.limits) (subst IsScript (sym c.deref-in-Some-stop.ensures.value) (script_is read.0 c.in-Ok.script.items read.1))).single played in
     rw (same, c.in-Some-stop.is) (inr (c.in-Ok-format.disk, safe))
 
 pub format-requires : goal.format-requires

@@ -60,11 +60,11 @@ returns-in-Err-recover-clause-passes g c tells s batches legal =
 
 -- a crash now leaves what one at some moment of the opening does
 pub returns-in-Ok-recover-clause-crash : goal.returns-in-Ok-recover-clause-crash
-returns-in-Ok-recover-clause-crash g c tells only gr k stands image left =
-    let run = c.recover.ensures.moments tells only gr k stands in
+returns-in-Ok-recover-clause-crash g c tells only s batches legal image left =
+    let run = c.recover.ensures.moments tells only s batches legal in
     run.each image (g.met.D.Disk.counts_now tells c.recover.new.disk _ image run.later left)
 
 pub returns-in-Err-recover-clause-crash : goal.returns-in-Err-recover-clause-crash
-returns-in-Err-recover-clause-crash g c tells only gr k stands image left =
-    let run = c.recover.ensures.moments tells only gr k stands in
+returns-in-Err-recover-clause-crash g c tells only s batches legal image left =
+    let run = c.recover.ensures.moments tells only s batches legal in
     run.each image (g.met.D.Disk.counts_now tells c.recover.new.disk _ image run.later left)
