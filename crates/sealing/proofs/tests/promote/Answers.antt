@@ -36,12 +36,12 @@ new-requires g c = record { inside = fields_below (length c.args.words.now) (rev
 
 pub records-requires-clause-inside : goal.records-requires-clause-inside
 records-requires-clause-inside g c =
-    subst (λ (fs : List Field). All (λ f. field_at f.0 f.1 < length c.args.words.now) fs) (sym c.in_ok-new.ensures.fields) (fields_below (length c.args.words.now) (reverse c.args.undo.now) c.requires)
+    subst (λ (fs : List Field). All (λ f. field_at f.0 f.1 < length c.args.words.now) fs) (sym c.in_ok-sealing.ensures.fields) (fields_below (length c.args.words.now) (reverse c.args.undo.now) c.requires)
 
 pub records-requires-clause-there : goal.records-requires-clause-there
 records-requires-clause-there g c =
-    subst (λ (xs : List ℕ). All (Contains (starts_of c.args.area.now)) xs) (sym c.in_ok-new.ensures.objects) (promoted_there c.args.area.now c.args.words.now (reverse c.args.undo.now))
+    subst (λ (xs : List ℕ). All (Contains (starts_of c.args.area.now)) xs) (sym c.in_ok-sealing.ensures.objects) (promoted_there c.args.area.now c.args.words.now (reverse c.args.undo.now))
 
 pub records-requires-clause-ascend : goal.records-requires-clause-ascend
 records-requires-clause-ascend g c =
-    subst (λ (xs : List ℕ). IsStrictlySortedBy nat_cmp xs) (sym c.in_ok-new.ensures.objects) (promoted_ascend c.args.area.now c.args.words.now (reverse c.args.undo.now))
+    subst (λ (xs : List ℕ). IsStrictlySortedBy nat_cmp xs) (sym c.in_ok-sealing.ensures.objects) (promoted_ascend c.args.area.now c.args.words.now (reverse c.args.undo.now))
