@@ -48,10 +48,12 @@ complains() {
     tell "$wanted" "$status" "$expected" $?
 }
 
-# quotes PAGE FILE [--notes]: the page has the lines of the file, indented by four blanks.
+# quotes PAGE FILE [--notes | --from LINE]: the page has the lines of the file, indented by four blanks.
 quotes() {
-    python3 examples/quoted.py "$1" "examples/$2" ${3+"$3"}
-    tell "$1 quotes $2" $? 0 0
+    page=$1 file=$2
+    shift 2
+    python3 examples/quoted.py "$page" "examples/$file" "$@"
+    tell "$page quotes $file" $? 0 0
 }
 
 # A signal to the launcher ends the program.
@@ -82,6 +84,12 @@ example refusals.out refusals.script
 example force_inside.out force_inside.script
 example rolled_back.out force_inside.script --stop 8
 example stopped_twice.out unended.script --stop 7 --again 2
+example list.out list.script
+example list_stopped.out list.script --stop 6
+example cycle.out cycle.script
+example lost.out lost.script
+example volatile_full.out volatile_full.script
+example exhausted.out exhausted.script
 made every_stop.out examples/every_stop.sh
 made refused.out examples/refused.sh
 
@@ -99,14 +107,15 @@ passes_signals_on
 quick first.out first.script
 complains quick.err 2 3 --quick play </dev/null
 
-made transfer.dot tools/graph_to_dot <examples/transfer.out
-made references.dot tools/graph_to_dot <examples/references.graph
+made list.dot tools/graph_to_dot <examples/list.out
 
 quotes README.md first.out --notes
 quotes README.md every_stop.out
 quotes examples/README.md transfer.script
 quotes examples/README.md stopped_twice.out
+quotes examples/README.md list.out --from "1 begin -> begun 3"
+quotes examples/README.md cycle.out --from "graph 3"
 quotes examples/README.md refused.out
-quotes examples/README.md transfer.dot
+quotes examples/README.md list.dot
 
 exit "$failed"

@@ -10,8 +10,11 @@ use std::process::Abort;
 use std::str;
 use std::test::Fail;
 
-/// The bytes of a heap of one page a space.
-const HEAP_BYTES: usize = 1_050_752;
+/// The bytes of a heap of sixteen pages a space.
+const HEAP_BYTES: usize = 1_082_432;
+
+/// The command that makes it.
+const FRESH: &str = "heap play --fresh 16";
 
 /// The writes and syncs of a force, of which the last two are those of the gate.
 const FORCE_CALLS: usize = 4;
@@ -42,18 +45,26 @@ const FORCED_INSIDE: &str =
 const FORCED_AT_END: &str =
     "1 begin\n1 root 0\n1 put 0 0 7\n1 commit\n1 begin\n1 root 0\n1 put 0 0 8\n1 put 0 0 9\nforce\n1 clear 0 0\n";
 
+/// Two objects that refer to each other, then a third one; one is made that nothing refers to, and one is let go.
+const OBJECTS: &str =
+    "1 begin\n1 root 0\n1 new 1 2\n1 new 2 1\n1 new 3 1\n1 link 0 0 1\n1 link 1 0 2\n1 link 2 0 1\n1 put 3 0 5\n1 commit\n1 begin\n1 root 0\n1 get 0 0 1\n1 get 1 0 2\n1 same 1 2\n1 new 4 1\n1 link 4 0 0\n1 link 1 1 4\n1 clear 2 0\n1 commit\n";
+
+/// An object is forced with the field that leads to it before it is promoted, and one that is taken back.
+const OBJECTS_FORCED_INSIDE: &str =
+    "1 begin\n1 root 0\n1 new 1 1\n1 link 0 0 1\nforce\n1 link 1 0 0\n1 commit\n1 begin\n1 root 0\n1 new 2 1\n1 link 0 1 2\nforce\n1 abort\n";
+
 /// A script, what the slow heap answers to it, and of each force whether something was sealed since the one before.
 #[derive(Drop)]
-struct Told {
-    script: &'static str,
+struct Told<'a> {
+    script: &'a str,
     heap: SlowHeap,
     lines: String,
     forced: usize,
     forces: Vec<bool>,
 }
 
-impl Told {
-    fn of(rt: &impl Abort, alloc: Global, script: &'static str) -> Result<Told, Fail> {
+impl<'a> Told<'a> {
+    fn of(rt: &impl Abort, alloc: Global, script: &'a str) -> Result<Told<'a>, Fail> {
         let mut told = Told {
             script,
             heap: SlowHeap::new(alloc)?,
@@ -137,7 +148,7 @@ fn play_by(alloc: Global, line: &str, script: &str, pick: Pick) -> Result<Played
 }
 
 fn play_to(alloc: Global, script: &str, pick: Pick, calls: usize) -> Result<Played, AllocError> {
-    let line = format!(in alloc; "heap play --fresh 1 --stop {calls}")?;
+    let line = format!(in alloc; "{FRESH} --stop {calls}")?;
     play_by(alloc, line.as_str(), script, pick)
 }
 
@@ -145,7 +156,7 @@ fn play_to(alloc: Global, script: &str, pick: Pick, calls: usize) -> Result<Play
 fn check_stop(
     rt: &impl Abort,
     alloc: Global,
-    told: &Told,
+    told: &Told<'_>,
     pick: Pick,
     calls: usize,
 ) -> Result<(bool, usize), Fail> {
@@ -155,7 +166,7 @@ fn check_stop(
 
 fn check_played(
     rt: &impl Abort,
-    told: &Told,
+    told: &Told<'_>,
     played: &Played,
     pick: Pick,
     calls: usize,
@@ -190,7 +201,7 @@ fn check_played(
 fn check_stops(
     rt: &impl Abort,
     alloc: Global,
-    told: &Told,
+    told: &Told<'_>,
     pick: Pick,
 ) -> Result<Vec<usize>, Fail> {
     let mut recovered = Vec::new(alloc);
@@ -210,8 +221,8 @@ fn check_stops(
 }
 
 /// Plays the script without a stop, which ends with these lines of its own.
-fn expect_whole(rt: &impl Abort, alloc: Global, told: &Told, ending: &str) -> Result<(), Fail> {
-    let played = play_by(alloc, "heap play --fresh 1", told.script, Pick::Newest)?;
+fn expect_whole(rt: &impl Abort, alloc: Global, told: &Told<'_>, ending: &str) -> Result<(), Fail> {
+    let played = play_by(alloc, FRESH, told.script, Pick::Newest)?;
     let mut output = told.lines.clone()?.into_bytes();
     output.extend_from_slice(ending.as_bytes())?;
     output.extend_from_slice(&told.heap.text(told.heap.sealed())?)?;
@@ -238,7 +249,7 @@ fn expect_doubt(rt: &impl Abort, forces: &[bool], lost: &[usize], kept: &[usize]
 fn check_script(
     rt: &impl Abort,
     alloc: Global,
-    script: &'static str,
+    script: &str,
     ending: &str,
     (closed, open): Pair,
 ) -> Result<(), Fail> {
@@ -299,6 +310,81 @@ fn forced_writes_are_taken_back_from_filled_bytes(rt: HostRuntime) -> Result<(),
     )
 }
 
+#[test]
+fn objects_come_back_from_written_bytes(rt: HostRuntime) -> Result<(), Fail> {
+    check_script(&rt, rt.alloc(), OBJECTS, "", WRITTEN)
+}
+
+#[test]
+fn objects_come_back_from_filled_bytes(rt: HostRuntime) -> Result<(), Fail> {
+    check_script(&rt, rt.alloc(), OBJECTS, "", FILLED)
+}
+
+#[test]
+fn volatile_words_that_were_forced_are_taken_back(rt: HostRuntime) -> Result<(), Fail> {
+    let ending = "force -> durable 1\n";
+    check_script(&rt, rt.alloc(), OBJECTS_FORCED_INSIDE, ending, WRITTEN)?;
+    check_script(&rt, rt.alloc(), OBJECTS_FORCED_INSIDE, ending, FILLED)
+}
+
+/// A script that is drawn by a seed: objects are made, linked, let go and looked at, in transactions that are sealed or taken back.
+fn draw_script(alloc: Global, seed: u64) -> Result<String, AllocError> {
+    let mut script = String::new(alloc);
+    let mut state = seed;
+    for _ in 0..DRAWN_LINES {
+        state = state
+            .wrapping_mul(6_364_136_223_846_793_005)
+            .wrapping_add(1_442_695_040_888_963_407);
+        let h = (state >> 33) % 3;
+        let h2 = (state >> 37) % 3;
+        let i = (state >> 41) % 3;
+        match (state >> 45) % 12 {
+            0 => writeln!(script, "1 begin")?,
+            1 => writeln!(script, "1 root {h}")?,
+            2 | 3 => writeln!(script, "1 new {h} {i}")?,
+            4 | 5 | 6 => writeln!(script, "1 link {h} {i} {h2}")?,
+            7 => writeln!(script, "1 put {h} {i} {h2}")?,
+            8 => writeln!(script, "1 get {h} {i} {h2}")?,
+            9 => writeln!(script, "1 same {h} {h2}")?,
+            10 => writeln!(script, "1 clear {h} {i}")?,
+            _ if i == 0 => writeln!(script, "1 abort")?,
+            _ => writeln!(script, "1 seal")?,
+        }
+    }
+    Ok(script)
+}
+
+/// The lines of a drawn script.
+const DRAWN_LINES: usize = 60;
+
+/// How many scripts are drawn.
+const DRAWN: u64 = 40;
+
+// What a run appends that its script left open or waiting.
+fn ending_of(alloc: Global, told: &Told<'_>, output: &[u8]) -> Result<String, Fail> {
+    let text = str::from_utf8(output)?;
+    let rest = text.strip_prefix(told.lines.as_str()).unwrap_or(text);
+    let ending = rest.split_once("graph ").map_or(rest, |parts| parts.0);
+    Ok(String::from_str(alloc, ending)?)
+}
+
+#[test]
+fn drawn_scripts_are_answered_as_by_the_slow_heap(rt: HostRuntime) -> Result<(), Fail> {
+    let alloc = rt.alloc();
+    for seed in 0..DRAWN {
+        let script = draw_script(alloc, seed)?;
+        let told = Told::of(&rt, alloc, script.as_str())?;
+        let played = play_by(alloc, FRESH, script.as_str(), Pick::Newest)?;
+        let ending = ending_of(alloc, &told, &played.output)?;
+        assert!(rt; ending.len() <= ENDING_BYTES, "{seed}");
+        expect_whole(&rt, alloc, &told, ending.as_str())?;
+    }
+    Ok(())
+}
+
+/// The bytes of the longest ending: an abort and a force.
+const ENDING_BYTES: usize = "1 abort -> aborted\nforce -> durable 00\n".len();
+
 const TAKEN_BACK: &str = "1 abort -> aborted\nforce -> durable 1\n";
 
 #[test]
@@ -315,7 +401,7 @@ fn an_open_transaction_is_taken_back_from_filled_bytes(rt: HostRuntime) -> Resul
 fn check_again(
     rt: &impl Abort,
     alloc: Global,
-    script: &'static str,
+    script: &str,
     stops: &[usize],
     pick: Pick,
 ) -> Result<(), Fail> {
@@ -324,7 +410,7 @@ fn check_again(
         let once = play_to(alloc, script, pick, *calls)?;
         check_played(rt, &told, &once, pick, *calls)?;
         for again in 0..=FORCE_CALLS {
-            let line = format!(in alloc; "heap play --fresh 1 --stop {calls} --again {again}")?;
+            let line = format!(in alloc; "{FRESH} --stop {calls} --again {again}")?;
             let twice = play_by(alloc, line.as_str(), script, pick)?;
             assert_eq!(rt; twice.status, Status::Done);
             assert_eq!(rt;

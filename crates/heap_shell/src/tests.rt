@@ -245,6 +245,65 @@ fn lines_come_in_any_order(rt: HostRuntime) -> Result<(), Fail> {
     Ok(())
 }
 
+/// An object of so many null fields, as the text of a graph has it.
+fn null_row(alloc: Global, number: usize, fields: usize) -> Result<String, AllocError> {
+    let mut row = format!(in alloc; "{number}:")?;
+    for _ in 0..fields {
+        row.push_str(" -")?;
+    }
+    row.push('\n')?;
+    Ok(row)
+}
+
+#[test]
+fn objects_are_promoted_while_there_is_room(rt: HostRuntime) -> Result<(), Fail> {
+    let alloc = rt.alloc();
+    let script = "1 begin\n1 root 0\n1 new 1 57\n1 link 0 0 1\n1 commit\n1 abort\n";
+    let played = play(alloc, "heap play --fresh 1", script, Pick::Newest)?;
+    expect_done(
+        &rt,
+        &played,
+        "1 begin -> begun 1\n1 root 0 -> done\n1 new 1 57 -> done\n1 link 0 0 1 -> done\n1 seal -> exhausted 59 58 0\nforce -> durable 0\n1 abort -> aborted\nforce -> durable 0\ngraph 1\n0: - - - -\n",
+    );
+    let script = "1 begin\n1 root 0\n1 new 1 56\n1 link 0 0 1\n1 commit\n";
+    let played = play(alloc, "heap play --fresh 1", script, Pick::Newest)?;
+    let mut output = String::from_str(
+        alloc,
+        "1 begin -> begun 1\n1 root 0 -> done\n1 new 1 56 -> done\n1 link 0 0 1 -> done\n1 seal -> sealed 1\nforce -> durable 1\ngraph 2\n0: @1 - - -\n",
+    )?;
+    output.push_str(null_row(alloc, 1, 56)?.as_str())?;
+    expect_done(&rt, &played, output.as_str());
+    Ok(())
+}
+
+#[test]
+fn a_transaction_makes_what_its_area_has_room_for(rt: HostRuntime) -> Result<(), Fail> {
+    let alloc = rt.alloc();
+    let mut script = String::from_str(alloc, "1 begin\n")?;
+    let mut output = String::from_str(alloc, "1 begin -> begun 1\n")?;
+    for h in 1..9 {
+        writeln!(script, "1 new {h} 510")?;
+        writeln!(output, "1 new {h} 510 -> done")?;
+    }
+    script.push_str("1 new 9 510\n1 commit\n")?;
+    output.push_str("1 new 9 510 -> volatilefull 4096\n1 seal -> sealed 1\nforce -> durable 1\ngraph 1\n0: - - - -\n")?;
+    let played = play(alloc, "heap play --fresh 1", script.as_str(), Pick::Newest)?;
+    expect_done(&rt, &played, output.as_str());
+    Ok(())
+}
+
+#[test]
+fn a_graph_is_numbered_breadth_first(rt: HostRuntime) -> Result<(), Fail> {
+    let script = "1 begin\n1 root 0\n1 new 1 1\n1 new 2 1\n1 link 0 0 1\n1 link 0 1 2\n1 link 1 0 2\n1 link 2 0 1\n1 commit\n";
+    let played = play(rt.alloc(), "heap play --fresh 1", script, Pick::Newest)?;
+    expect_done(
+        &rt,
+        &played,
+        "1 begin -> begun 1\n1 root 0 -> done\n1 new 1 1 -> done\n1 new 2 1 -> done\n1 link 0 0 1 -> done\n1 link 0 1 2 -> done\n1 link 1 0 2 -> done\n1 link 2 0 1 -> done\n1 seal -> sealed 1\nforce -> durable 1\ngraph 3\n0: @1 @2 - -\n1: @2\n2: @1\n",
+    );
+    Ok(())
+}
+
 #[test]
 fn a_bad_script_leaves_the_disk(rt: HostRuntime) -> Result<(), Fail> {
     let alloc = rt.alloc();
