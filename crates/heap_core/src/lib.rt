@@ -14,4 +14,6 @@ pub use history::History;
 #[cfg(test)]
 mod library_tests;
 #[cfg(test)]
+mod object_tests;
+#[cfg(test)]
 mod opening_tests;

@@ -21,7 +21,7 @@ const LOG_AT: u64 = 64;
 
 const LOG_BYTES: u32 = 1024;
 
-const PICKS: [Pick; 4] = [Pick::Synced, Pick::Newest, Pick::AllOnes, Pick::AllOpen];
+pub const PICKS: [Pick; 4] = [Pick::Synced, Pick::Newest, Pick::AllOnes, Pick::AllOpen];
 
 /// The writes and syncs of an opening that takes writes back.
 const OPENING_CALLS: u64 = 4;
@@ -73,7 +73,7 @@ const ROLLBACK: [Record; 3] = [
 
 const GRAPH: &[u8] = b"graph 1\n0: 7 - - -\n";
 
-fn make_disk(alloc: Global, pick: Pick) -> Result<MemoryDisk, AllocError> {
+pub fn make_disk(alloc: Global, pick: Pick) -> Result<MemoryDisk, AllocError> {
     let zeros = vec![in alloc; 0u8; DISK_BYTES]?;
     MemoryDisk::of(
         alloc,
@@ -85,7 +85,7 @@ fn make_disk(alloc: Global, pick: Pick) -> Result<MemoryDisk, AllocError> {
     )
 }
 
-fn open<D: Disk + Drop>(rt: &impl Abort, alloc: Global, disk: D) -> Heap<D>
+pub fn open<D: Disk + Drop>(rt: &impl Abort, alloc: Global, disk: D) -> Heap<D>
     ensures { failed_at result ≡ None }
 {
     match Heap::open(alloc, disk) {

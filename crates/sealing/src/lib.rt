@@ -8,3 +8,6 @@ mod sealing;
 mod written;
 
 pub use sealing::Sealing;
+
+#[cfg(test)]
+mod tests;

@@ -1,0 +1,131 @@
+//! Objects that transactions make, on a disk that is stopped and started again: what a sealed one made reachable is there, and what
+//! another made is not.
+use crate::heap::Heap;
+use crate::opening_tests::{PICKS, make_disk, open};
+use disk_model::{Disk, MemoryDisk};
+use graph_model::{Event, Reply};
+use std::alloc::{AllocError, Global};
+use std::process::Abort;
+use std::test::Fail;
+
+const LOG_BYTES: u32 = 1024;
+
+type Step = (Event, Reply);
+
+fn begin(n: u64) -> Step {
+    (Event::Begin { s: 1 }, Reply::Begun { n })
+}
+
+fn root(h: u64) -> Step {
+    (Event::Root { s: 1, h }, Reply::Done)
+}
+
+fn new(h: u64, len: u64) -> Step {
+    (Event::New { s: 1, h, len }, Reply::Done)
+}
+
+fn put(h: u64, i: u64, v: u64) -> Step {
+    (Event::Put { s: 1, h, i, v }, Reply::Done)
+}
+
+fn link(h: u64, i: u64, h2: u64) -> Step {
+    (Event::Link { s: 1, h, i, h2 }, Reply::Done)
+}
+
+fn get(h: u64, i: u64, h2: u64, reply: Reply) -> Step {
+    (Event::Get { s: 1, h, i, h2 }, reply)
+}
+
+fn same(h: u64, h2: u64, reply: Reply) -> Step {
+    (Event::Same { s: 1, h, h2 }, reply)
+}
+
+fn seal(n: u64) -> Step {
+    (Event::Seal { s: 1 }, Reply::Sealed { n })
+}
+
+fn force(n: u64) -> Step {
+    (Event::Force, Reply::Durable { n })
+}
+
+/// Transaction 1 makes two objects that are reached from the root, and one that isn't; of transaction 2 the writes are on the disk,
+/// and it is never sealed.
+fn first_session() -> [Step; 19] {
+    [
+        begin(1),
+        root(0),
+        new(1, 2),
+        new(2, 3),
+        new(3, 2),
+        put(3, 0, 5),
+        link(0, 1, 1),
+        link(1, 0, 3),
+        link(1, 1, 1),
+        link(3, 1, 0),
+        link(2, 0, 0),
+        seal(1),
+        force(1),
+        begin(2),
+        root(0),
+        new(1, 1),
+        link(0, 0, 1),
+        link(0, 1, 1),
+        force(1),
+    ]
+}
+
+/// Transaction 3 finds these objects, and puts one more behind them.
+fn second_session() -> [Step; 12] {
+    [
+        begin(3),
+        root(0),
+        get(0, 0, 1, Reply::Null),
+        get(0, 1, 1, Reply::Reference),
+        get(1, 0, 2, Reply::Reference),
+        get(2, 0, 3, Reply::Int { v: 5 }),
+        get(2, 1, 3, Reply::Reference),
+        same(0, 3, Reply::Yes),
+        new(3, 1),
+        link(2, 0, 3),
+        seal(1),
+        force(1),
+    ]
+}
+
+/// Makes these steps, which get these answers, and stops the disk and starts it again.
+fn play(
+    rt: &impl Abort,
+    alloc: Global,
+    disk: MemoryDisk,
+    steps: &[Step],
+) -> Result<MemoryDisk, AllocError> {
+    let mut heap = open(rt, alloc, disk);
+    for (event, reply) in steps {
+        assert_eq!(rt; heap.step(*event)?, *reply, "{event}");
+    }
+    let mut disk = heap.close();
+    disk.restart();
+    Ok(disk)
+}
+
+#[test]
+fn what_was_sealed_is_reached(rt: HostRuntime) -> Result<(), Fail> {
+    let alloc = rt.alloc();
+    for pick in PICKS {
+        let disk = match Heap::format(make_disk(alloc, pick)?, 1, LOG_BYTES, 1) {
+            Ok(disk) => disk,
+            Err((e, _)) => panic!(rt; "not made: {e:?}"),
+        };
+        let disk = play(&rt, alloc, disk, &first_session())?;
+        let heap = open(&rt, alloc, disk);
+        assert_eq!(rt; heap.commits(), 1);
+        let graph = b"graph 3\n0: - @1 - -\n1: @2 @1\n2: 5 @0\n".as_slice();
+        assert_eq!(rt; heap.graph(alloc)?.as_slice(), graph);
+        let disk = play(&rt, alloc, heap.close(), &second_session())?;
+        let heap = open(&rt, alloc, disk);
+        assert_eq!(rt; heap.commits(), 2);
+        let graph = b"graph 4\n0: - @1 - -\n1: @2 @1\n2: @3 @0\n3: -\n".as_slice();
+        assert_eq!(rt; heap.graph(alloc)?.as_slice(), graph);
+    }
+    Ok(())
+}
