@@ -60,7 +60,7 @@ module _ {D : Type 0} {g : Ghosts D} where
   abbrev pub HoldsCore : Super → Core → Heap D g → Type 0
   HoldsCore s c heap = DiskHolds s c (g.bytes heap.disk) (g.may_leave heap.disk)
 
-  -- A heap on a disk that tells is a core, in memory and on the disk.
+  -- A heap on a disk that tells is a core, in memory and on the disk, where births name its objects.
   pub record IsHeap (s : Super) (c : Core) (heap : Heap D g) : Type 0 where
     pub core : IsCore c heap
     pub disk : HoldsCore s c heap

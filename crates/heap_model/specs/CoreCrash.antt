@@ -22,7 +22,7 @@ pub record IsSuperOf (s : Super) (c : Core) : Type 0 where
   pub first : s.first ≡ c.lowest
 
 -- An image stands for the first k commits of a core since its opening, and all that was acknowledged is among them. It has the core's
--- superblock, and its next transaction number is none that was given before the core was opened.
+-- superblock, and its next transaction number is not below the core's first.
 pub record StandsForFirst (c : Core) (k : ℕ) (image : List ℕ) : Type 0 where
   pub stands : StandsFor (serial c.g0 (take k (commits c.history))) (c.before + k) image
   pub of : IsSuperOf stands.super c

@@ -90,7 +90,7 @@ module _ (c : Core) (s : Super) (batches : List (List Record)) (h : IsSound c) (
   pub disk_shaped : IsShapedLog s batches
   disk_shaped = told_shaped s batches c.born first.1.places (serial c.g0 (take first.0 (commits c.history))) (c.before + first.0) first.1.state of.limits told fits
 
-  -- its next transaction number is none that was given before the opening
+  -- its next transaction number is not below the first of this opening
   disk_next : c.first ≤ next_of s batches
   disk_next = let same : next_of s batches ≡ first.1.state.next = ap next_in told.reached in let next = first.1.next in omega arith
 

@@ -1,13 +1,13 @@
 -- A new heap: its log is empty and legal, and the root stands alone in its words, with four null fields.
-use Rattle.std.proofs.Common.{◌≡◌, inl, inr, ℕ, suc, ◌-◌, true, List, [], ◌∷◌, replicate, Some, refl, sym, ap, ◌∙◌, subst, arith}
+use Rattle.std.proofs.Common.{◌≡◌, inl, inr, ℕ, suc, ◌-◌, true, List, [], ◌∷◌, replicate, None, Some, is_some, refl, sym, ap, ◌∙◌, subst, arith}
 use Rattle.std.specs.Prelude.{slice_set}
 use Rattle.std.specs.List.{AllByRecursion}
-use Rattle.std.specs.FinMap.{empty}
+use Rattle.std.specs.FinMap.{empty, get-empty}
 use Rattle.graph_model.specs.declared.id.Id.{Id}
 use Rattle.graph_model.specs.declared.val.Val.{Val}
 use Rattle.graph_model.specs.declared.val.Val.TheVariants.{Null}
-use Rattle.graph_model.specs.Graph.{new_graph, root, fields}
-use Rattle.graph_model.specs.GraphLaws.{get-insert_same}
+use Rattle.graph_model.specs.Graph.{new_graph, id_cmp, root, fields}
+use Rattle.graph_model.specs.GraphLaws.{get-insert_same, get-insert_other, same_or_other}
 use Rattle.graph_model.specs.RootGraph.{fields-root_graph}
 use Rattle.image_plan.specs.declared.superblock.Super.{Super}
 use Rattle.image_plan.specs.Super.{IsSuper}
@@ -17,7 +17,7 @@ use Rattle.log_machine.specs.ReserveLaws.{reserve-start}
 use Rattle.object_layout.specs.RootLaws.{StandsAlone, root_object, root_field_words}
 use Rattle.graph_words.specs.Places.{Places, address_of, place_of, IsVisible}
 use Rattle.graph_words.specs.PlacesLaws.{address_of-cases}
-use Rattle.graph_words.specs.Stands.{StandsAt, StandsCommitted, AreNamedByBirth}
+use Rattle.graph_words.specs.Stands.{StandsAt, StandsCommitted, ArePlaced, AreNamedByBirth}
 use Rattle.graph_words.specs.StandsSeen.{stands_walked, stands_seen, stands_own_births, stands_born_before}
 use Rattle.graph_words.specs.VisibleLaws.{nulls_visible}
 use Rattle.heap_model.specs.Image.{words_of, IsLegalLog, Shows, Says}
@@ -79,6 +79,13 @@ first_words n = slice_set (replicate n 0) 0 17
 some_zeros : (n m : ℕ) → n ≡ suc (suc (suc (suc (suc (suc m))))) → first_words n ≡ root_words (replicate m 0)
 some_zeros n m is = ap first_words is
 
+-- the root is all that there is in a new graph
+root_placed : ArePlaced root_place new_graph
+root_placed id there = elim (same_or_other id root) [
+  | inl same ↦ subst (λ q. is_some (address_of root_place q) ≡ true) (sym same) refl
+  | inr other ↦ let none : None ≡ Some there.0 = sym (get-empty {X = List Val} id_cmp id) ∙ sym (get-insert_other empty root id nulls other) ∙ there.1 in cc none
+]
+
 module _ (s : Super) (limits : IsSuper s) where
   new_words : words_of s [] ≡ root_words (replicate (words_in s.pages - 6) 0)
   new_words =
@@ -106,7 +113,7 @@ module _ (s : Super) (limits : IsSuper s) where
 
   -- the root is found in it
   pub new_found : IsFound s [] new_legal.shaped true root_place new_graph
-  new_found = record { stands = new_stand; old = (inl refl, tt); births = λ by_birth. new_births }
+  new_found = record { stands = new_stand; placed = root_placed; old = (inl refl, tt); births = λ by_birth. new_births }
 
   -- a new graph is seen in it
   pub new_shows : Shows s [] new_legal new_graph

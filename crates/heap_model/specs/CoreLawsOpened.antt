@@ -16,7 +16,7 @@ use Rattle.object_layout.specs.WalkedLaws.{gathered}
 use Rattle.graph_words.specs.Places.{Places, named_places, address_name}
 use Rattle.graph_words.specs.Stands.{StandsCommitted, AreNamedByBirth}
 use Rattle.graph_words.specs.StandsSeen.{stands_seen, stands_canon}
-use Rattle.graph_words.specs.WalkedStands.{address_name-AreOld, walked_stands_by_address, walked_stands_by_birth, id_at-AreNamedByBirth, id_at-AreOld}
+use Rattle.graph_words.specs.WalkedStands.{gathered_placed, address_name-AreOld, address_name-KeepApart, id_at-KeepApart, walked_stands_by_address, walked_stands_by_birth, id_at-AreNamedByBirth, id_at-AreOld}
 use Rattle.heap_model.specs.CoreCrash.{KeepsCommits}
 use Rattle.heap_model.specs.CoreLawsOpening.{next_is, rolled_reached, rolled_good, rolled_room, rolled_shaped, rolled_says, words_of-rolled_back, settled_reserve}
 use Rattle.heap_model.specs.CoreLawsReplies.{hears_nothing}
@@ -142,6 +142,7 @@ address_found s batches shaped =
       gathered (address_name base) words shaped.walked.starts,
       record {
         stands = walked_stands_by_address words base used shaped.walked (used_below s batches shaped);
+        placed = gathered_placed (address_name base) words shaped.walked.starts (address_name-KeepApart words base used shaped.walked);
         old = address_name-AreOld words base used shaped.walked shaped.state.next (omega arith);
         births = λ by_birth. cc;
       },
@@ -157,6 +158,7 @@ saying_law s batches legal g shows =
     let h = gathered (id_at words) words shaped.walked.starts in
     let found : IsFound s batches shaped true places h = record {
       stands = stands;
+      placed = gathered_placed (id_at words) words shaped.walked.starts (id_at-KeepApart words shaped.walked.starts legal.own_births);
       old = id_at-AreOld words shaped.state.base shaped.state.used shaped.walked shaped.state.next legal.born_before;
       births = λ by_birth. id_at-AreNamedByBirth words shaped.walked.starts;
     } in

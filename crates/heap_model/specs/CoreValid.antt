@@ -72,7 +72,7 @@ pub record Agrees (a : Account) (c : Core) : Type 0 where
   pub on_disk : State
   pub disk_places : Places
   pub disk_told : IsTold c.pages c.lowest c.born disk_places (serial c.g0 (take durable a.sealed)) (c.before + durable) (records_of c.batches) on_disk  -- the disk tells those commits
-  pub first_known : c.first ≤ on_disk.next  -- an opening of it goes on with no number that was given before
+  pub first_known : c.first ≤ on_disk.next  -- an opening of it goes on with no number below the first of this one
   pub disk_room : length (batches_bytes c.batches) + 1 + reserve on_disk ≤ c.room  -- and has room to take back what else it holds
   pub behind : State
   pub told : IsTold c.pages c.lowest c.born c.places (serial c.g0 a.sealed) (c.before + length a.sealed) (all_records c) behind  -- all records tell all that was sealed

@@ -41,7 +41,7 @@ pub record Holds (s : Super) (batches : List (List Record)) (image : List ℕ) :
   pub log : HoldsBatches (part image log_offset s.log_bytes) batches
   pub frames : (p f : ℕ) → p < 2 * s.pages → f < 2 → slice_index image (frame_offset s.log_bytes p f) ≢ 1
 
--- A legal image: it holds a log, and that is legal. Of a disk that tells nothing the second alone is known.
+-- A legal image: it holds a log, and that is legal. Of what is opened on a disk that tells nothing no more is known than that a log is shaped.
 pub record IsLegal (s : Super) (batches : List (List Record)) (image : List ℕ) : Type 0 where
   pub log : IsLegalLog s batches
   pub held : Holds s batches image

@@ -6,7 +6,7 @@ use Rattle.log_records.specs.declared.Record.{Record}
 use Rattle.gated_log.specs.Log.{records_of, with_batch}
 use Rattle.log_machine.specs.Machine.{State, start, after_all, number_of, commits, rollback}
 use Rattle.graph_words.specs.Places.{Places, AreOld}
-use Rattle.graph_words.specs.Stands.{StandsCommitted, AreNamedByBirth}
+use Rattle.graph_words.specs.Stands.{StandsCommitted, ArePlaced, AreNamedByBirth}
 use Rattle.heap_model.specs.Core.{Core, force_calls}
 use Rattle.heap_model.specs.Image.{words_of, IsShapedLog, Holds}
 
@@ -67,10 +67,11 @@ opened s batches born places g =
       places = places;
     }
 
--- A graph stands in what a shaped log leaves, at these places; its objects have no name that a transaction to come can give. Where births
--- give the names, `born` says so.
+-- A graph stands in what a shaped log leaves, and each of its objects at one of these places; no name of theirs is one that a transaction
+-- to come can give. Where births give the names, `born` says so.
 pub record IsFound (s : Super) (batches : List (List Record)) (shaped : IsShapedLog s batches) (born : Bool) (places : Places) (g : Graph) : Type 0 where
   pub stands : StandsCommitted places g (words_of s batches) shaped.state.base shaped.state.used
+  pub placed : ArePlaced places g
   pub old : AreOld shaped.state.next places
   pub births : IsTrue born → AreNamedByBirth places (words_of s batches)
 
