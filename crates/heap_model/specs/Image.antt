@@ -41,6 +41,11 @@ pub record Holds (s : Super) (batches : List (List Record)) (image : List ℕ) :
   pub log : HoldsBatches (part image log_offset s.log_bytes) batches
   pub frames : (p f : ℕ) → p < 2 * s.pages → f < 2 → slice_index image (frame_offset s.log_bytes p f) ≢ 1
 
+-- A shaped image: it holds a log, and that is shaped.
+pub record IsShaped (s : Super) (batches : List (List Record)) (image : List ℕ) : Type 0 where
+  pub log : IsShapedLog s batches
+  pub held : Holds s batches image
+
 -- A legal image: it holds a log, and that is legal. Of what is opened on a disk that tells nothing no more is known than that a log is shaped.
 pub record IsLegal (s : Super) (batches : List (List Record)) (image : List ℕ) : Type 0 where
   pub log : IsLegalLog s batches
@@ -64,3 +69,7 @@ pub record StandsFor (g : Graph) (k : ℕ) (image : List ℕ) : Type 0 where
   pub batches : List (List Record)
   pub says : Says g k super batches
   pub held : Holds super batches image
+
+-- a legal image is shaped
+abbrev pub shaped_image : {s : Super} {batches : List (List Record)} {image : List ℕ} → IsLegal s batches image → IsShaped s batches image
+shaped_image legal = record { log = legal.log.shaped; held = legal.held }
