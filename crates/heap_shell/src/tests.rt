@@ -286,7 +286,9 @@ fn a_transaction_makes_what_its_area_has_room_for(rt: HostRuntime) -> Result<(),
         writeln!(output, "1 new {h} 510 -> done")?;
     }
     script.push_str("1 new 9 510\n1 commit\n")?;
-    output.push_str("1 new 9 510 -> volatilefull 4096\n1 seal -> sealed 1\nforce -> durable 1\ngraph 1\n0: - - - -\n")?;
+    output.push_str(
+        "1 new 9 510 -> volatilefull 4096\n1 seal -> sealed 1\nforce -> durable 1\ngraph 1\n0: - - - -\n",
+    )?;
     let played = play(alloc, "heap play --fresh 1", script.as_str(), Pick::Newest)?;
     expect_done(&rt, &played, output.as_str());
     Ok(())
@@ -294,7 +296,8 @@ fn a_transaction_makes_what_its_area_has_room_for(rt: HostRuntime) -> Result<(),
 
 #[test]
 fn a_graph_is_numbered_breadth_first(rt: HostRuntime) -> Result<(), Fail> {
-    let script = "1 begin\n1 root 0\n1 new 1 1\n1 new 2 1\n1 link 0 0 1\n1 link 0 1 2\n1 link 1 0 2\n1 link 2 0 1\n1 commit\n";
+    let script =
+        "1 begin\n1 root 0\n1 new 1 1\n1 new 2 1\n1 link 0 0 1\n1 link 0 1 2\n1 link 1 0 2\n1 link 2 0 1\n1 commit\n";
     let played = play(rt.alloc(), "heap play --fresh 1", script, Pick::Newest)?;
     expect_done(
         &rt,
