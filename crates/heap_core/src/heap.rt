@@ -16,7 +16,7 @@ ghost use Rattle.graph_model.specs.declared.event.Event.TheVariants.{Force};
 ghost use Rattle.graph_model.specs.declared.reply.Refusal.TheVariants.{DiskFault, Stopped};
 ghost use Rattle.image_plan.specs.declared.superblock.Super.{Super};
 ghost use Rattle.log_records.specs.declared.Record.{Record};
-ghost use Rattle.heap_model.specs.Image.{IsShapedLog, IsLegal};
+ghost use Rattle.heap_model.specs.Image.{IsShapedLog, IsShaped, IsLegal};
 ghost use Rattle.graph_model.specs.declared.id.Id.{Id};
 ghost use Rattle.graph_words.specs.Places.{Places};
 ghost use Rattle.object_layout.specs.Layout.{IsSeenAs};
@@ -121,16 +121,17 @@ impl<D: Disk> Heap<D> {
 
         ensures unfailed { IfOk result (λ heap. failed_at heap ≡ None) }
 
-        // Of a disk that tells it is the log that the disk holds, and the disk then holds the core.
+        // Of a disk that tells it is the log that the disk holds; where that is legal the disk then holds the core.
+        ensures found { IsTrue D.tells → (s : Super) (batches : List (List Record)) → (shaped : IsShaped s batches (D.bytes disk)) → IfOk result (λ heap. (born : Bool) (places : Places) (g : Graph) → IsFound s batches shaped.log born places g → IsCore (opened s batches born places g) heap) }
         ensures holds { IsTrue D.tells → (s : Super) (batches : List (List Record)) → (legal : IsLegal s batches (D.bytes disk)) → Only (D.bytes disk) (D.may_leave disk) → IfOk result (λ heap. (places : Places) (g : Graph) → IsFound s batches legal.log.shaped true places g → IsHeap s (opened s batches true places g) heap) }
-        // A legal image is refused only for want of memory or by the disk.
-        ensures legal { IsTrue D.tells → (s : Super) (batches : List (List Record)) → IsLegal s batches (D.bytes disk) → IfErr result (λ e. IsFromOutside e.0) }
+        // A shaped image is refused only for want of memory or by the disk.
+        ensures shaped { IsTrue D.tells → (s : Super) (batches : List (List Record)) → IsShaped s batches (D.bytes disk) → IfErr result (λ e. IsFromOutside e.0) }
         // At each moment of it a crash leaves the image as it was, or with its log rolled back: both stand for the same graph and commits.
-        ensures moments { IsTrue D.tells → Only (D.bytes disk) (D.may_leave disk) → (s : Super) (batches : List (List Record)) → IsLegal s batches (D.bytes disk) → LeavesOnly D.moment D.left_since disk (opened_disk result) (IsLeftByOpening s batches) }
-        ensures crash { IsTrue D.tells → Only (D.bytes disk) (D.may_leave disk) → (s : Super) (batches : List (List Record)) → IsLegal s batches (D.bytes disk) → (image : List ℕ) → D.may_leave (opened_disk result) image → IsLeftByOpening s batches image }
+        ensures moments { IsTrue D.tells → Only (D.bytes disk) (D.may_leave disk) → (s : Super) (batches : List (List Record)) → IsShaped s batches (D.bytes disk) → LeavesOnly D.moment D.left_since disk (opened_disk result) (IsLeftByOpening s batches) }
+        ensures crash { IsTrue D.tells → Only (D.bytes disk) (D.may_leave disk) → (s : Super) (batches : List (List Record)) → IsShaped s batches (D.bytes disk) → (image : List ℕ) → D.may_leave (opened_disk result) image → IsLeftByOpening s batches image }
         // It writes only where it has to take transactions' writes back.
-        ensures passes { IsTrue D.tells → (s : Super) (batches : List (List Record)) → IsLegal s batches (D.bytes disk) → OpenedPasses (opening_calls s batches) (D.passed disk) (D.passed (opened_disk result)) result }
-        ensures no_first_stop { IsTrue D.tells → (s : Super) (batches : List (List Record)) → IsLegal s batches (D.bytes disk) → rollback_of s batches ≡ [] → D.stops disk ≡ 0 → D.stops (opened_disk result) ≡ 0 }
+        ensures passes { IsTrue D.tells → (s : Super) (batches : List (List Record)) → IsShaped s batches (D.bytes disk) → OpenedPasses (opening_calls s batches) (D.passed disk) (D.passed (opened_disk result)) result }
+        ensures no_first_stop { IsTrue D.tells → (s : Super) (batches : List (List Record)) → IsShaped s batches (D.bytes disk) → rollback_of s batches ≡ [] → D.stops disk ≡ 0 → D.stops (opened_disk result) ≡ 0 }
     {
         // The table takes its memory before the disk is written.
         let mut table = match TxnTable::new(alloc, 1) {

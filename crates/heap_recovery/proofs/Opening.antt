@@ -30,7 +30,7 @@ use Rattle.object_layout.specs.Walk.{IsWalked, IsWalkFault}
 use Rattle.object_layout.specs.WalkLaws.{walked_fault}
 use Rattle.heap_model.specs.CoreLawsRoom.{records_of-with_batch}
 use Rattle.heap_model.specs.CoreLawsHeld.{held_with}
-use Rattle.heap_model.specs.Image.{words_of, IsShapedLog, IsLegalLog, Holds}
+use Rattle.heap_model.specs.Image.{words_of, IsShapedLog, Holds}
 use Rattle.heap_model.specs.Opening.{IsLeftByOpening, rollback_in, rollback_of, rolled_back, used_in, next_in}
 use Rattle.heap_recovery.specs.declared.error.RecoverError.{RecoverError}
 use Rattle.heap_recovery.specs.declared.error.RecoverError.TheVariants.{NoMemory, NotHeap, Damaged, Disk}
@@ -150,11 +150,11 @@ module _ (s : Super) (batches : List (List Record)) (read : Reading) (is : IsRea
     walked = subst (λ (l : List ℕ). IsWalked l read.state.base read.state.used) (rolled ∙ committed) walked;
   }
 
-  -- a legal log has the room for its rollback, and its walk passes
-  pub legal_walk : (legal : IsLegalLog s batches) (state : State) → state ≡ read.state → (now : List ℕ) → now ≡ all_taken_back read.state read.words → IsWalked now state.base state.used
-  legal_walk legal state same now rolled =
-      let one : legal.shaped.state ≡ state = (let both : Some legal.shaped.state ≡ Some read.state = sym legal.shaped.reached ∙ is.state in cc) in
-      subst (λ (x : State). IsWalked now x.base x.used) one (subst (λ (l : List ℕ). IsWalked l legal.shaped.state.base legal.shaped.state.used) (sym (rolled ∙ committed)) legal.shaped.walked)
+  -- a shaped log has the room for its rollback, and its walk passes
+  pub shaped_walk : (shaped : IsShapedLog s batches) (state : State) → state ≡ read.state → (now : List ℕ) → now ≡ all_taken_back read.state read.words → IsWalked now state.base state.used
+  shaped_walk shaped state same now rolled =
+      let one : shaped.state ≡ state = (let both : Some shaped.state ≡ Some read.state = sym shaped.reached ∙ is.state in cc) in
+      subst (λ (x : State). IsWalked now x.base x.used) one (subst (λ (l : List ℕ). IsWalked l shaped.state.base shaped.state.used) (sym (rolled ∙ committed)) shaped.walked)
 
   -- what is opened
   pub recovered : (r : Result Recovered RecoverError) (log : Log) (now : List ℕ) (of : Super) (state : State) → state ≡ read.state → of ≡ read.of → log_place log ≡ log_place read.log → log_room log ≡ log_room read.log

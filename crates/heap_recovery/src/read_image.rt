@@ -9,7 +9,7 @@ ghost use Rattle.image_plan.specs.Plan.{log_offset, image_size};
 ghost use Rattle.image_plan.specs.Super.{IsSuper, superblock};
 ghost use Rattle.log_records.specs.declared.Record.{Record};
 ghost use Rattle.log_machine.specs.Machine.{reserve};
-ghost use Rattle.heap_model.specs.Image.{IsLegalLog, IsLegal};
+ghost use Rattle.heap_model.specs.Image.{IsShapedLog, IsShaped};
 ghost use Rattle.heap_recovery.specs.Causes.{open_device};
 ghost use Rattle.heap_recovery.specs.Recovered.{IsRead, IsFromOutside};
 
@@ -29,9 +29,9 @@ pub fn read_image<D: Disk>(alloc: Global, disk: &mut D) -> Result<Reading, Recov
     ensures inside { IfOk result (λ read. log_place read.log + log_room read.log ≤ D.extent disk.new) }
     ensures room { IfOk result (λ read. log_used read.log + reserve read.state ≤ log_room read.log) }
 
-    // Of a legal image its own are read.
-    ensures found { IsTrue D.tells → (s : Super) (batches : List (List Record)) → IsLegal s batches (D.bytes disk.old) → IfOk result (IsRead s batches) }
-    ensures legal { IsTrue D.tells → (s : Super) (batches : List (List Record)) → IsLegal s batches (D.bytes disk.old) → IfErr result IsFromOutside }
+    // Of a shaped image its own are read.
+    ensures found { IsTrue D.tells → (s : Super) (batches : List (List Record)) → IsShaped s batches (D.bytes disk.old) → IfOk result (IsRead s batches) }
+    ensures shaped { IsTrue D.tells → (s : Super) (batches : List (List Record)) → IsShaped s batches (D.bytes disk.old) → IfErr result IsFromOutside }
     ensures disk { OnlyReads D.Disk disk.old disk.new (open_device result) }
 {
     let of = read_numbers(disk)?;
@@ -43,7 +43,7 @@ fn read_numbers<D: Disk>(disk: &mut D) -> Result<Super, RecoverError>
     ensures good { IfOk result IsSuper }
     ensures fits { IfOk result (λ s. image_size s.pages s.log_bytes ≤ D.extent disk.new) }
     ensures found { IsTrue D.tells → (s : Super) → IsSuper s → take 64 (D.bytes disk.old) ≡ superblock s → image_size s.pages s.log_bytes ≤ D.extent disk.old → IfOk result (λ found. found ≡ s) }
-    ensures legal { IsTrue D.tells → (s : Super) → IsSuper s → take 64 (D.bytes disk.old) ≡ superblock s → image_size s.pages s.log_bytes ≤ D.extent disk.old → IfErr result IsFromOutside }
+    ensures shaped { IsTrue D.tells → (s : Super) → IsSuper s → take 64 (D.bytes disk.old) ≡ superblock s → image_size s.pages s.log_bytes ≤ D.extent disk.old → IfErr result IsFromOutside }
     ensures disk { OnlyReads D.Disk disk.old disk.new (open_device result) }
 {
     if disk.size() < SUPER_BYTES as u64 {
@@ -66,8 +66,8 @@ fn read_log<D: Disk>(alloc: Global, disk: &mut D, of: Super) -> Result<Reading, 
     ensures read { IfOk result (λ read. (batches : List (List Record)) × IsRead of batches read) }
     ensures inside { IfOk result (λ read. log_place read.log + log_room read.log ≤ D.extent disk.new) }
     ensures room { IfOk result (λ read. log_used read.log + reserve read.state ≤ log_room read.log) }
-    ensures found { IsTrue D.tells → (batches : List (List Record)) → HoldsBatches (part (D.bytes disk.old) log_offset of.log_bytes) batches → IsLegalLog of batches → IfOk result (IsRead of batches) }
-    ensures legal { IsTrue D.tells → (batches : List (List Record)) → HoldsBatches (part (D.bytes disk.old) log_offset of.log_bytes) batches → IsLegalLog of batches → IfErr result IsFromOutside }
+    ensures found { IsTrue D.tells → (batches : List (List Record)) → HoldsBatches (part (D.bytes disk.old) log_offset of.log_bytes) batches → IsShapedLog of batches → IfOk result (IsRead of batches) }
+    ensures shaped { IsTrue D.tells → (batches : List (List Record)) → HoldsBatches (part (D.bytes disk.old) log_offset of.log_bytes) batches → IsShapedLog of batches → IfErr result IsFromOutside }
     ensures disk { OnlyReads D.Disk disk.old disk.new (open_device result) }
 {
     let (log, records) = Log::open(alloc, disk, of.plan().log_at(), of.log_bytes)?;

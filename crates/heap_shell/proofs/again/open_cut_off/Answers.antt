@@ -6,7 +6,7 @@ use Rattle.heap_core.specs.Causes.{ErrorPasses}
 use Rattle.heap_core.specs.declared.errors.OpenError.TheVariants as opening
 use Rattle.heap_shell.specs.declared.status.Status.TheVariants.{NoMemory}
 use Rattle.heap_model.specs.CoreCrash.{StandsForFirst}
-use Rattle.heap_model.specs.Image.{IsLegal}
+use Rattle.heap_model.specs.Image.{IsLegal, shaped_image}
 use Rattle.heap_model.specs.Opening.{opening_calls, rollback_of}
 use Rattle.heap_shell.specs.Headline.{IsCutOff, FailsToOpen}
 use Rattle.heap_shell.proofs.PlayFuse.{same_disk, same_limit, fuse_since, fuse_passes, fuse_none, fuse_most}
@@ -29,9 +29,9 @@ returns-in-Ok-clause-cut g c tells core k at_first at_only =
     let origin = e.disk.origin ∙ c.new.ensures.origin in
     let began = same_disk _ _ origin ∙ sym inner in
     let within = subst (λ (m : ℕ). fuse_passed fuse ≤ m) (same_limit _ _ origin) fuse.within in
-    let keeps = keeps_first d core k start (fuse_inner fuse) first (fuse_since c.new.result fuse _ (e.moments tells only stands.super stands.batches legal)) (λ left may. e.crash tells only stands.super stands.batches legal left may) (e.disk.restarts tells) in
+    let keeps = keeps_first d core k start (fuse_inner fuse) first (fuse_since c.new.result fuse _ (e.moments tells only stands.super stands.batches (shaped_image legal))) (λ left may. e.crash tells only stands.super stands.batches (shaped_image legal) left may) (e.disk.restarts tells) in
     let through = min c.args.calls n in
-    let all : fuse_passed fuse ≡ through = whole_passes c.args.calls n (fuse_passed fuse) (few_to_open (rollback_of stands.super stands.batches)) within ((e.passes tells stands.super stands.batches legal).ok ∙ ap (counted n) c.new.ensures.passed) in
+    let all : fuse_passed fuse ≡ through = whole_passes c.args.calls n (fuse_passed fuse) (few_to_open (rollback_of stands.super stands.batches)) within ((e.passes tells stands.super stands.batches (shaped_image legal)).ok ∙ ap (counted n) c.new.ensures.passed) in
     let cut : IsCutOff d c.args.calls core k start (fuse_inner fuse) = record {
       keeps = keeps;
       passed = λ u. fuse_passes fuse start through tells began u all;
@@ -57,9 +57,9 @@ returns-else-eq-clause-cut g c tells core k at_first at_only =
     let limit = same_limit _ _ origin in
     let began = same_disk _ _ origin ∙ sym inner in
     let within = subst (λ (m : ℕ). fuse_passed fuse ≤ m) limit fuse.within in
-    let keeps = keeps_first d core k start (fuse_inner fuse) first (fuse_since c.new.result fuse _ (e.moments tells only stands.super stands.batches legal)) (λ left may. e.crash tells only stands.super stands.batches legal left may) (e.disk.restarts tells) in
-    let passes = subst (λ (p : ℕ). ErrorPasses n p (fuse_passed fuse) c.in-Err.e) c.new.ensures.passed (e.passes tells stands.super stands.batches legal) in
-    let all = error_cut c.args.calls n (fuse_passed fuse) (few_to_open (rollback_of stands.super stands.batches)) within _ _ _ _ c.in-Err.e (λ blown. fuse.blown blown ∙ limit) e.disk.cause (e.legal tells stands.super stands.batches legal) other passes in
+    let keeps = keeps_first d core k start (fuse_inner fuse) first (fuse_since c.new.result fuse _ (e.moments tells only stands.super stands.batches (shaped_image legal))) (λ left may. e.crash tells only stands.super stands.batches (shaped_image legal) left may) (e.disk.restarts tells) in
+    let passes = subst (λ (p : ℕ). ErrorPasses n p (fuse_passed fuse) c.in-Err.e) c.new.ensures.passed (e.passes tells stands.super stands.batches (shaped_image legal)) in
+    let all = error_cut c.args.calls n (fuse_passed fuse) (few_to_open (rollback_of stands.super stands.batches)) within _ _ _ _ c.in-Err.e (λ blown. fuse.blown blown ∙ limit) e.disk.cause (e.shaped tells stands.super stands.batches (shaped_image legal)) other passes in
     let cut : IsCutOff d c.args.calls core k start (fuse_inner fuse) = record {
       keeps = keeps;
       passed = λ u. fuse_passes fuse start _ tells began u (all.1 u);
@@ -82,8 +82,8 @@ returns-then-eq-clause-cut g c tells core k at_first at_only =
     let legal : IsLegal stands.super stands.batches (d.bytes start) = record { log = stands.says.legal; held = stands.held } in
     let n = opening_calls stands.super stands.batches in
     let began = same_disk _ _ (e.disk.origin ∙ c.new.ensures.origin) ∙ sym inner in
-    let keeps = keeps_first d core k start (fuse_inner fuse) first (fuse_since c.new.result fuse _ (e.moments tells only stands.super stands.batches legal)) (λ left may. e.crash tells only stands.super stands.batches legal left may) (e.disk.restarts tells) in
-    let passes = subst (λ error. ErrorPasses n (fuse_passed c.new.result) (fuse_passed fuse) error) is (e.passes tells stands.super stands.batches legal) in
+    let keeps = keeps_first d core k start (fuse_inner fuse) first (fuse_since c.new.result fuse _ (e.moments tells only stands.super stands.batches (shaped_image legal))) (λ left may. e.crash tells only stands.super stands.batches (shaped_image legal) left may) (e.disk.restarts tells) in
+    let passes = subst (λ error. ErrorPasses n (fuse_passed c.new.result) (fuse_passed fuse) error) is (e.passes tells stands.super stands.batches (shaped_image legal)) in
     let same = fuse_none fuse start tells began (passes ∙ c.new.ensures.passed) in
     let fails : FailsToOpen d core k NoMemory start (fuse_inner fuse) = record {
       reason = inl refl;

@@ -9,6 +9,7 @@ use Rattle.heap_model.specs.CoreCrash.{StandsForFirst}
 use Rattle.heap_model.specs.CoreLawsHeld.{left_first}
 use Rattle.heap_model.specs.CoreLawsOpened.{opened_reached, saying_law}
 use Rattle.heap_model.specs.Opening.{opened, opening_calls, IsLeftByOpening}
+use Rattle.heap_model.specs.Image.{shaped_image}
 use Rattle.heap_shell.specs.Headline.{recovered_line, graph_text, Reopens, FailsToOpen}
 use Rattle.heap_shell.specs.Output.{WroteText}
 use Rattle.heap_shell.proofs.PlayOpen.{opened_core, opened_unfailed}
@@ -22,7 +23,7 @@ pub returns-in-Err-clause-moments : goal.returns-in-Err-clause-moments
 returns-in-Err-clause-moments g c tells core k first only =
     let d = g.D.Disk in
     weaker d.moment d.left_since c.args.disk c.in-Err.disk (Left d core k c.args.disk c.in-Err.disk first) (StandsForFirst core k)
-    (c.in-Err.ensures.moments tells only first.stands.super first.stands.batches (legal_of first)) (left_first core k (d.bytes c.args.disk) first)
+    (c.in-Err.ensures.moments tells only first.stands.super first.stands.batches (shaped_image (legal_of first))) (left_first core k (d.bytes c.args.disk) first)
 
 -- a legal image is refused by the outside alone
 pub returns-in-Err-clause-recovers : goal.returns-in-Err-clause-recovers
@@ -31,15 +32,15 @@ returns-in-Err-clause-recovers g c = λ tells core k first only none.
     let s = first.stands.super in
     let batches = first.stands.batches in
     let legal = legal_of first in
-    let keeps = keeps_first d core k c.args.disk c.in-Err.disk first (c.in-Err.ensures.moments tells only s batches legal) (c.in-Err.ensures.crash tells only s batches legal) (c.in-Err.ensures.disk.restarts tells) in
-    recovers_nothing d core k c.args.disk c.in-Err.disk keeps (Reopens d core k c.args.disk c.in-Err.disk) c.in-Err.e c.from.result _ _ (c.in-Err.ensures.legal tells s batches legal) c.from.ensures
-    c.in-Err.ensures.disk.cause (c.in-Err.ensures.passes tells s batches legal)
+    let keeps = keeps_first d core k c.args.disk c.in-Err.disk first (c.in-Err.ensures.moments tells only s batches (shaped_image legal)) (c.in-Err.ensures.crash tells only s batches (shaped_image legal)) (c.in-Err.ensures.disk.restarts tells) in
+    recovers_nothing d core k c.args.disk c.in-Err.disk keeps (Reopens d core k c.args.disk c.in-Err.disk) c.in-Err.e c.from.result _ _ (c.in-Err.ensures.shaped tells s batches (shaped_image legal)) c.from.ensures
+    c.in-Err.ensures.disk.cause (c.in-Err.ensures.passes tells s batches (shaped_image legal))
 
 pub returns-clause-moments : goal.returns-clause-moments
 returns-clause-moments g c tells core k first only =
     let d = g.D.Disk in
     rw c.close.ensures (weaker d.moment d.left_since c.args.disk c.in-Ok.heap.disk (Left d core k c.args.disk c.in-Ok.heap.disk first) (StandsForFirst core k)
-    (c.in-Ok.ensures.moments tells only first.stands.super first.stands.batches (legal_of first)) (left_first core k (d.bytes c.args.disk) first))
+    (c.in-Ok.ensures.moments tells only first.stands.super first.stands.batches (shaped_image (legal_of first))) (left_first core k (d.bytes c.args.disk) first))
 
 -- the heap that was opened is the core that the image stands for
 pub returns-clause-recovers : goal.returns-clause-recovers
@@ -57,11 +58,11 @@ returns-clause-recovers g c = λ tells core k first only same.
     let few = few_commits s batches says.legal in
     let count = says.count in
     let since : min (machine.commits (records_of batches) + 0) greatest - c.args.before ≡ k = omega (arith, count, few, same) in
-    let moments = subst (λ x. LeavesOnly d.moment d.left_since c.args.disk x (IsLeftByOpening s batches)) (sym c.close.ensures) (c.in-Ok.ensures.moments tells only s batches legal) in
-    let leaves = λ (left : List ℕ) (may : d.may_leave final left). c.in-Ok.ensures.crash tells only s batches legal left (subst (λ x. d.may_leave x left) c.close.ensures may) in
+    let moments = subst (λ x. LeavesOnly d.moment d.left_since c.args.disk x (IsLeftByOpening s batches)) (sym c.close.ensures) (c.in-Ok.ensures.moments tells only s batches (shaped_image legal)) in
+    let leaves = λ (left : List ℕ) (may : d.may_leave final left). c.in-Ok.ensures.crash tells only s batches (shaped_image legal) left (subst (λ x. d.may_leave x left) c.close.ensures may) in
     let keeps = keeps_first d core k c.args.disk final first moments leaves (ap d.restarts c.close.ensures ∙ c.in-Ok.ensures.disk.restarts tells) in
     let calls : d.passed final ≡ counted (opening_calls s batches) (d.passed c.args.disk) =
-    ap d.passed c.close.ensures ∙ (c.in-Ok.ensures.passes tells s batches legal).ok in
+    ap d.passed c.close.ensures ∙ (c.in-Ok.ensures.passes tells s batches (shaped_image legal)).ok in
     let wrote = λ (told : IsTrue sink.tells). c.write_recovered.ensures.wrote told (opened s batches true found.0 found.1) heap.core reached in
     recovers_first d core k c.args.disk final keeps (FailsToOpen d core k c.status_after-status.result c.args.disk final) c.write_recovered.result c.status_after-status.result _ _ _ c.status_after-status.ensures calls
     (λ told. subst (λ (t : List ℕ). WroteText c.write_recovered.result (sink.written c.args.sink.now) (recovered_line k ++ t) (sink.written c.write_recovered.new.sink)) (ap canon_text (found.3 ∙ says.graph))

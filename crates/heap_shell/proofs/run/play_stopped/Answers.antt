@@ -15,7 +15,7 @@ use Rattle.heap_model.specs.CoreLawsNew.{root_place, new_found}
 use Rattle.heap_shell.specs.Headline.{made_super, made_core, IsExact, KeepsThroughout, Reopens, StartsAgain, EndsUnopened}
 use Rattle.heap_shell.specs.Causes.{Unharmed}
 use Rattle.heap_shell.specs.Output.{Recovers}
-use Rattle.heap_model.specs.Image.{IsLegal}
+use Rattle.heap_model.specs.Image.{IsLegal, shaped_image}
 use Rattle.script_text.specs.Line.{events}
 use Rattle.heap_shell.proofs.Causes.{rose_within}
 use Rattle.heap_shell.proofs.PlayEnds.{run_reached, kept, halt_part, halt_lines, stopped_lines, ends_early, ends_recovered, ends_made, exact_some, passes_some, passes_within}
@@ -39,13 +39,13 @@ returns-in-Err-clause-played g c tells pages legal only =
     let running = made_running pages limits in
     let playable = all_playable (Some c.args.stop.after) (made_core pages) c.args.script.now running.reached c.requires in
     let only_f = subst (λ x. Only (d.bytes x) (d.may_leave x)) (sym inner) only in
-    let opened = fuse_since c.new.result c.in-Err.fuse _ (c.in-Err.ensures.moments tells only_f (made_super pages) [] legal_f) in
+    let opened = fuse_since c.new.result c.in-Err.fuse _ (c.in-Err.ensures.moments tells only_f (made_super pages) [] (shaped_image legal_f)) in
     let began = same_disk _ _ (c.in-Err.ensures.disk.origin ∙ c.new.ensures.origin) ∙ sym inner in
-    let none : fuse_passed c.in-Err.fuse ≡ 0 = error_passes _ _ _ c.in-Err.e (no_calls s) (c.in-Err.ensures.passes tells s [] legal_f) ∙ c.new.ensures.passed in
+    let none : fuse_passed c.in-Err.fuse ≡ 0 = error_passes _ _ _ c.in-Err.e (no_calls s) (c.in-Err.ensures.passes tells s [] (shaped_image legal_f)) ∙ c.new.ensures.passed in
     rw (c.into_inner.ensures, sym inner) (ends_unopened d pages (Some c.args.stop) (events c.args.script.now) c.in-Err.e c.from.result (fuse_inner c.new.result) (fuse_inner c.in-Err.fuse)
-    g.K.Sink.tells (g.K.Sink.written c.args.sink.now) c.from.ensures (c.in-Err.ensures.legal tells s [] legal_f)
+    g.K.Sink.tells (g.K.Sink.written c.args.sink.now) c.from.ensures (c.in-Err.ensures.shaped tells s [] (shaped_image legal_f))
     (opening_keeps d.moment d.left_since (fuse_inner c.new.result) (fuse_inner c.in-Err.fuse) pages bytes legal_f opened)
-    (λ image left. opened_commits pages bytes legal_f image (c.in-Err.ensures.crash tells only_f (made_super pages) [] legal_f image left))
+    (λ image left. opened_commits pages bytes legal_f image (c.in-Err.ensures.crash tells only_f (made_super pages) [] (shaped_image legal_f) image left))
     (λ image since. g.met.D.Disk.only_now tells (fuse_inner c.in-Err.fuse) image since)
     (fuse_none c.in-Err.fuse (fuse_inner c.new.result) tells began none) (c.in-Err.ensures.disk.restarts tells))
 
@@ -53,7 +53,7 @@ returns-in-Err-clause-played g c tells pages legal only =
 pub returns-then-eq-clause-played : goal.returns-then-eq-clause-played
 returns-then-eq-clause-played g c tells pages legal only =
     let legal_f = subst (λ x. IsLegal (made_super pages) [] (g.D.Disk.bytes x)) (sym c.new.ensures.inner) legal in
-    let still = c.in-Err.ensures.no_first_stop tells (made_super pages) [] legal_f (no_rollback (made_super pages)) c.new.ensures.stops in
+    let still = c.in-Err.ensures.no_first_stop tells (made_super pages) [] (shaped_image legal_f) (no_rollback (made_super pages)) c.new.ensures.stops in
     let is : c.in-Err.e ≡ opening.Stopped = search rules in
     absurd (no_stop c.new.result.stops c.in-Err.fuse.stops c.new.ensures.stops still (c.in-Err.ensures.disk.cause.stopped (ap error_device is)))
 
@@ -91,8 +91,8 @@ returns-in-None-clause-played g c tells pages legal only =
     let closed = c.close.ensures in
     let kept_on = subst (λ x. d.faults (fuse_inner x) + d.stops (fuse_inner x) ≤ d.faults final + d.stops final) closed c.start_again-in-None.ensures.disk.kept in
     let unrisen = λ (unharmed : Unharmed d start final) (rose : Rose (d.faults (fuse_inner old.disk) + d.stops (fuse_inner old.disk)) (d.faults stopped + d.stops stopped)). unharmed (rose_within _ _ _ _ first then kept_on rose) in
-    let passed = new_passes s _ _ (c.in-Ok.ensures.passes tells s [] legal_f).ok ∙ c.new.ensures.passed in
-    let still = c.in-Ok.ensures.no_first_stop tells s [] legal_f (no_rollback (made_super pages)) c.new.ensures.stops in
+    let passed = new_passes s _ _ (c.in-Ok.ensures.passes tells s [] (shaped_image legal_f)).ok ∙ c.new.ensures.passed in
+    let still = c.in-Ok.ensures.no_first_stop tells s [] (shaped_image legal_f) (no_rollback (made_super pages)) c.new.ensures.stops in
     let began = same_disk _ _ (c.in-Ok.ensures.disk.origin ∙ c.new.ensures.origin) ∙ sym inner in
     let exact : Unharmed d start final → IsExact (Some c.args.stop.after) (made_core pages) plays.made plays.core = λ u. exact_some s (made_core pages) (made_running pages limits) refl es playable old new k.tells before after c.play_lines-played.result plays c.args.stop.after passed still within (λ blown. new.disk.blown blown ∙ limit) (unrisen u) in
     let through = min c.args.stop.after (total_calls (made_core pages) plays.made) in
@@ -119,8 +119,8 @@ returns-in-None-clause-played g c tells pages legal only =
     }) c.args.stop.after start final tells (made_core pages) plays.core old.disk new.disk plays.made began (same_limit _ _ (c.in-Ok.ensures.disk.origin ∙ c.new.ensures.origin)) (λ u rose. u (rose_until _ _ _ kept_on rose)) plays.steps in
     let keeps : KeepsThroughout d (Some c.args.stop.after) (made_core pages) plays.made plays.core start final = record {
       opened = fuse_inner old.disk;
-      opening = opening_keeps d.moment d.left_since start (fuse_inner old.disk) pages bytes legal_f (fuse_since c.new.result old.disk _ (c.in-Ok.ensures.moments tells only_f (made_super pages) [] legal_f));
-      here = λ image may. opened_commits pages bytes legal_f image (c.in-Ok.ensures.crash tells only_f (made_super pages) [] legal_f image may);
+      opening = opening_keeps d.moment d.left_since start (fuse_inner old.disk) pages bytes legal_f (fuse_since c.new.result old.disk _ (c.in-Ok.ensures.moments tells only_f (made_super pages) [] (shaped_image legal_f)));
+      here = λ image may. opened_commits pages bytes legal_f image (c.in-Ok.ensures.crash tells only_f (made_super pages) [] (shaped_image legal_f) image may);
       passed = fuse_none old.disk start tells began passed;
       restarts = c.in-Ok.ensures.disk.restarts tells;
       stopped = stopped;
@@ -160,8 +160,8 @@ returns-in-Some-clause-played g c tells pages legal only =
     let within = subst (λ n. fuse_passed new.disk ≤ n) limit new.disk.within in
     let first = c.in-Ok.ensures.disk.cause.faults_kept in
     let unrisen = λ (unharmed : Unharmed d start final) (rose : Rose (d.faults (fuse_inner old.disk) + d.stops (fuse_inner old.disk)) (d.faults final + d.stops final)). unharmed (rose_within _ _ _ _ first c.play_lines-played.ensures.disk.cause.faults_kept (omega arith) rose) in
-    let passed = new_passes s _ _ (c.in-Ok.ensures.passes tells s [] legal_f).ok ∙ c.new.ensures.passed in
-    let still = c.in-Ok.ensures.no_first_stop tells s [] legal_f (no_rollback (made_super pages)) c.new.ensures.stops in
+    let passed = new_passes s _ _ (c.in-Ok.ensures.passes tells s [] (shaped_image legal_f)).ok ∙ c.new.ensures.passed in
+    let still = c.in-Ok.ensures.no_first_stop tells s [] (shaped_image legal_f) (no_rollback (made_super pages)) c.new.ensures.stops in
     let began = same_disk _ _ (c.in-Ok.ensures.disk.origin ∙ c.new.ensures.origin) ∙ sym inner in
     let exact : Unharmed d start final → IsExact (Some c.args.stop.after) (made_core pages) plays.made plays.core = λ u. exact_some s (made_core pages) (made_running pages limits) refl es playable old new k.tells before after c.play_lines-played.result plays c.args.stop.after passed still within (λ blown. new.disk.blown blown ∙ limit) (unrisen u) in
     let then = c.play_lines-played.ensures.disk.cause.faults_kept in
@@ -182,8 +182,8 @@ returns-in-Some-clause-played g c tells pages legal only =
     }) c.args.stop.after start final tells (made_core pages) plays.core old.disk new.disk plays.made began (same_limit _ _ (c.in-Ok.ensures.disk.origin ∙ c.new.ensures.origin)) (λ u rose. u rose) plays.steps in
     let keeps : KeepsThroughout d (Some c.args.stop.after) (made_core pages) plays.made plays.core start final = record {
       opened = fuse_inner old.disk;
-      opening = opening_keeps d.moment d.left_since start (fuse_inner old.disk) pages bytes legal_f (fuse_since c.new.result old.disk _ (c.in-Ok.ensures.moments tells only_f (made_super pages) [] legal_f));
-      here = λ image may. opened_commits pages bytes legal_f image (c.in-Ok.ensures.crash tells only_f (made_super pages) [] legal_f image may);
+      opening = opening_keeps d.moment d.left_since start (fuse_inner old.disk) pages bytes legal_f (fuse_since c.new.result old.disk _ (c.in-Ok.ensures.moments tells only_f (made_super pages) [] (shaped_image legal_f)));
+      here = λ image may. opened_commits pages bytes legal_f image (c.in-Ok.ensures.crash tells only_f (made_super pages) [] (shaped_image legal_f) image may);
       passed = fuse_none old.disk start tells began passed;
       restarts = c.in-Ok.ensures.disk.restarts tells;
       stopped = final;

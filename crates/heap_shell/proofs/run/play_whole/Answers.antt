@@ -1,5 +1,6 @@
 use Rattle.std.proofs.Common.{◌≡◌, ◌≤◌, ℕ, [], None, Ok, Err, refl, ap, ◌∙◌, subst, arith}
 use Rattle.counts.specs.Count.{counted}
+use Rattle.heap_model.specs.Image.{shaped_image}
 use Rattle.heap_shell.specs.declared.play.Halt.{Halt}
 use Rattle.heap_model.specs.CoreRuns.{total_calls}
 use Rattle.heap_model.specs.Ending.{all_events}
@@ -21,10 +22,10 @@ pub returns-in-Err-clause-played : goal.returns-in-Err-clause-played
 returns-in-Err-clause-played g c tells pages legal only =
     let d = g.D.Disk in
     let bytes = d.bytes c.args.disk in
-    let same : d.passed c.in-Err.disk ≡ d.passed c.args.disk = error_passes _ _ _ c.in-Err.e (no_calls (made_super pages)) (c.in-Err.ensures.passes tells (made_super pages) [] legal) in
-    ends_unopened d pages None (all_events None (made_core pages) (events c.args.script.now)) c.in-Err.e c.from.result c.args.disk c.in-Err.disk g.K.Sink.tells (g.K.Sink.written c.args.sink.now) c.from.ensures (c.in-Err.ensures.legal tells (made_super pages) [] legal)
-    (opening_keeps d.moment d.left_since c.args.disk c.in-Err.disk pages bytes legal (c.in-Err.ensures.moments tells only (made_super pages) [] legal))
-    (λ image left. opened_commits pages bytes legal image (c.in-Err.ensures.crash tells only (made_super pages) [] legal image left))
+    let same : d.passed c.in-Err.disk ≡ d.passed c.args.disk = error_passes _ _ _ c.in-Err.e (no_calls (made_super pages)) (c.in-Err.ensures.passes tells (made_super pages) [] (shaped_image legal)) in
+    ends_unopened d pages None (all_events None (made_core pages) (events c.args.script.now)) c.in-Err.e c.from.result c.args.disk c.in-Err.disk g.K.Sink.tells (g.K.Sink.written c.args.sink.now) c.from.ensures (c.in-Err.ensures.shaped tells (made_super pages) [] (shaped_image legal))
+    (opening_keeps d.moment d.left_since c.args.disk c.in-Err.disk pages bytes legal (c.in-Err.ensures.moments tells only (made_super pages) [] (shaped_image legal)))
+    (λ image left. opened_commits pages bytes legal image (c.in-Err.ensures.crash tells only (made_super pages) [] (shaped_image legal) image left))
     (λ image since. g.met.D.Disk.only_now tells c.in-Err.disk image since)
     same (c.in-Err.ensures.disk.restarts tells)
 
@@ -44,9 +45,9 @@ returns-in-Ok-play_all-clause-played g c tells pages legal only =
     let bytes = d.bytes c.args.disk in
     let plays = c.in-Ok-play_all.ensures.plays tells s (made_core pages) (c.in-Ok.ensures.holds tells s [] (empty_image pages bytes legal) only root_place new_graph (new_found s limits)) (script_ready (made_core pages) c.args.script.now running c.requires) in
     let whole = plays.ends in
-    let nothing = new_passes s _ _ (c.in-Ok.ensures.passes tells s [] legal).ok in
+    let nothing = new_passes s _ _ (c.in-Ok.ensures.passes tells s [] (shaped_image legal)).ok in
     let keeps = keeps_own s (made_core pages) (made_running pages limits) refl es playable old new k.tells before after (Ok tt) plays tells c.args.disk (λ disk image since. g.met.D.Disk.only_now tells disk image since)
-    (opening_keeps d.moment d.left_since c.args.disk old.disk pages bytes legal (c.in-Ok.ensures.moments tells only (made_super pages) [] legal)) (λ image left. opened_commits pages bytes legal image (c.in-Ok.ensures.crash tells only (made_super pages) [] legal image left)) nothing (c.in-Ok.ensures.disk.restarts tells) in
+    (opening_keeps d.moment d.left_since c.args.disk old.disk pages bytes legal (c.in-Ok.ensures.moments tells only (made_super pages) [] (shaped_image legal))) (λ image left. opened_commits pages bytes legal image (c.in-Ok.ensures.crash tells only (made_super pages) [] (shaped_image legal) image left)) nothing (c.in-Ok.ensures.disk.restarts tells) in
     let calls : d.passed new.disk ≡ counted (total_calls (made_core pages) plays.made) (d.passed c.args.disk) = whole.1.passes ∙ ap (counted (total_calls (made_core pages) plays.made)) nothing in
     rw (c.close.ensures, c.status_after-status.ensures) (ends_whole s (made_core pages) (made_running pages limits) refl es playable old new k.tells before after (Ok tt) plays d c.args.disk new.disk keeps
     c.write_graph.result (k.written c.write_graph.new.sink) whole.0 whole.1.reached
@@ -68,12 +69,12 @@ returns-in-Err-play_all-clause-played g c tells pages legal only =
     let after = k.written c.play_all.new.sink in
     let bytes = d.bytes c.args.disk in
     let h : Halt = c.in-Err-play_all.halt in
-    let nothing = new_passes s _ _ (c.in-Ok.ensures.passes tells s [] legal).ok in
+    let nothing = new_passes s _ _ (c.in-Ok.ensures.passes tells s [] (shaped_image legal)).ok in
     let unharmed = λ (u : Unharmed d c.args.disk new.disk) (rose : DiskRose (d.faults old.disk) (d.stops old.disk) (d.faults new.disk) (d.stops new.disk)).
     u (disk_rose_since _ _ _ _ _ _ c.in-Ok.ensures.disk.cause.faults_kept c.in-Ok.ensures.disk.cause.stops_kept c.play_all.ensures.disk.cause.faults_kept c.play_all.ensures.disk.cause.stops_kept rose) in
     let plays = c.in-Err-play_all.ensures.plays tells s (made_core pages) (c.in-Ok.ensures.holds tells s [] (empty_image pages bytes legal) only root_place new_graph (new_found s limits)) (script_ready (made_core pages) c.args.script.now running c.requires) in
     let keeps = keeps_own s (made_core pages) (made_running pages limits) refl es playable old new k.tells before after (Err h) plays tells c.args.disk (λ disk image since. g.met.D.Disk.only_now tells disk image since)
-    (opening_keeps d.moment d.left_since c.args.disk old.disk pages bytes legal (c.in-Ok.ensures.moments tells only (made_super pages) [] legal)) (λ image left. opened_commits pages bytes legal image (c.in-Ok.ensures.crash tells only (made_super pages) [] legal image left)) nothing (c.in-Ok.ensures.disk.restarts tells) in
+    (opening_keeps d.moment d.left_since c.args.disk old.disk pages bytes legal (c.in-Ok.ensures.moments tells only (made_super pages) [] (shaped_image legal))) (λ image left. opened_commits pages bytes legal image (c.in-Ok.ensures.crash tells only (made_super pages) [] (shaped_image legal) image left)) nothing (c.in-Ok.ensures.disk.restarts tells) in
     let all = total_calls (made_core pages) plays.made in
     let whole = λ (u : Unharmed d c.args.disk new.disk). exact_passes s (made_core pages) (made_running pages limits) refl es playable old new k.tells before after (Err h) plays (unharmed u) ∙ ap (counted all) nothing in
     let most = subst (λ (n : ℕ). d.passed new.disk ≤ counted all n) nothing (passes_most s (made_core pages) (made_running pages limits) refl es playable old new k.tells before after (Err h) plays) in

@@ -1,5 +1,6 @@
 use Rattle.log_machine.specs.Machine.{words_in}
 use Rattle.std.proofs.Common.{◌≤◌, true, sym, refl, ap, ◌∙◌, subst}
+use Rattle.heap_model.specs.Image.{shaped_image}
 use Rattle.heap_model.specs.Opening.{opening_calls}
 use Rattle.heap_core.specs.Causes.{IsFromOutside, ErrorPasses}
 use Rattle.heap_core.proofs.MeansOpen.{opened_bounds, opened_memory, opened_disk_holds, is_fresh}
@@ -40,31 +41,36 @@ returns-in-Ok-recover-clause-opens g c =
       },
     )
 
+pub returns-in-Ok-recover-clause-found : goal.returns-in-Ok-recover-clause-found
+returns-in-Ok-recover-clause-found g c tells s batches shaped born places gr stands =
+    let found = c.in-Ok-recover.ensures.found tells s batches shaped in
+    let fresh = is_fresh c.in-Ok-recover.found c.new-spaces.result c.set_next.new.self c.in-Ok.table _ c.new-working.ensures c.new-spaces.ensures c.set_next.ensures in
+    record { history = c.new-in-Ok-recover.ensures; before = found.commits; memory = opened_memory s batches born places gr c.in-Ok-recover.found _ shaped.log found fresh }
+
 pub returns-in-Ok-recover-clause-holds : goal.returns-in-Ok-recover-clause-holds
 returns-in-Ok-recover-clause-holds g c tells s batches legal only places gr stands =
-    let found = c.in-Ok-recover.ensures.found tells s batches legal in
-    let fresh = is_fresh c.in-Ok-recover.found c.new-spaces.result c.set_next.new.self c.in-Ok.table _ c.new-working.ensures c.new-spaces.ensures c.set_next.ensures in
+    let shaped = shaped_image legal in
     record {
-      core = record { history = c.new-in-Ok-recover.ensures; before = found.commits; memory = opened_memory s batches true places gr c.in-Ok-recover.found _ legal.log.shaped found fresh };
-      disk = opened_disk_holds s batches places gr _ _ legal.log.shaped.limits (c.in-Ok-recover.ensures.holds tells s batches legal) (c.in-Ok-recover.ensures.durable tells only);
+      core = returns-in-Ok-recover-clause-found g c tells s batches shaped true places gr stands;
+      disk = opened_disk_holds s batches places gr _ _ legal.log.shaped.limits (c.in-Ok-recover.ensures.holds tells s batches shaped) (c.in-Ok-recover.ensures.durable tells only);
     }
 
-pub returns-in-Err-recover-clause-legal : goal.returns-in-Err-recover-clause-legal
-returns-in-Err-recover-clause-legal g c tells s batches legal = subst IsFromOutside (sym c.from.ensures) (outside_as c.in-Err-recover.e (c.in-Err-recover.ensures.legal tells s batches legal))
+pub returns-in-Err-recover-clause-shaped : goal.returns-in-Err-recover-clause-shaped
+returns-in-Err-recover-clause-shaped g c tells s batches shaped = subst IsFromOutside (sym c.from.ensures) (outside_as c.in-Err-recover.e (c.in-Err-recover.ensures.shaped tells s batches shaped))
 
 pub returns-in-Err-recover-clause-passes : goal.returns-in-Err-recover-clause-passes
-returns-in-Err-recover-clause-passes g c tells s batches legal =
+returns-in-Err-recover-clause-passes g c tells s batches shaped =
     let d = g.D.Disk in
     subst (λ e. ErrorPasses (opening_calls s batches) (d.passed c.args.disk) (d.passed c.recover.new.disk) e) (sym c.from.ensures)
-    (passes_as (opening_calls s batches) (d.passed c.args.disk) (d.passed c.recover.new.disk) c.in-Err-recover.e (c.in-Err-recover.ensures.passes tells s batches legal))
+    (passes_as (opening_calls s batches) (d.passed c.args.disk) (d.passed c.recover.new.disk) c.in-Err-recover.e (c.in-Err-recover.ensures.passes tells s batches shaped))
 
 -- a crash now leaves what one at some moment of the opening does
 pub returns-in-Ok-recover-clause-crash : goal.returns-in-Ok-recover-clause-crash
-returns-in-Ok-recover-clause-crash g c tells only s batches legal image left =
-    let run = c.recover.ensures.moments tells only s batches legal in
+returns-in-Ok-recover-clause-crash g c tells only s batches shaped image left =
+    let run = c.recover.ensures.moments tells only s batches shaped in
     run.each image (g.met.D.Disk.counts_now tells c.recover.new.disk _ image run.later left)
 
 pub returns-in-Err-recover-clause-crash : goal.returns-in-Err-recover-clause-crash
-returns-in-Err-recover-clause-crash g c tells only s batches legal image left =
-    let run = c.recover.ensures.moments tells only s batches legal in
+returns-in-Err-recover-clause-crash g c tells only s batches shaped image left =
+    let run = c.recover.ensures.moments tells only s batches shaped in
     run.each image (g.met.D.Disk.counts_now tells c.recover.new.disk _ image run.later left)
