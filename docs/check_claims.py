@@ -47,7 +47,7 @@ def owner(text, at):
 
 def belongs(name, head):
     """Whether that head is an impl of this type, or this trait's own."""
-    subject = re.sub(r"^(?:pub )?(?:impl|trait)\s*(?:<(?:[^<>]|<[^<>]*>)*>\s+)?", "", head)
+    subject = re.sub(r"^(?:pub )?(?:impl|trait)\s*(?:<.*?>+\s+)?", "", head)
     subject = subject.split(" for ")[-1].strip()
     return re.match(rf"{re.escape(name)}\b", subject) is not None
 

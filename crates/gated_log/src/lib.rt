@@ -322,7 +322,7 @@ fn read_batches(alloc: Global, area: &[u8]) -> Result<(Vec<Record>, u32), LogErr
     let mut records = Vec::new(alloc);
     let mut tail = 0usize;
     while area[tail] == OPEN {
-        let Some(size) = read_batch(&area[tail..], &mut records)? else {
+        let Some(size) = read_batch(alloc, &area[tail..], &mut records)? else {
             return Err(LogError::BadBatch { at: tail as u64 });
         };
         tail += size;
@@ -332,7 +332,11 @@ fn read_batches(alloc: Global, area: &[u8]) -> Result<(Vec<Record>, u32), LogErr
 
 /// Adds the records of the batch whose gate comes first, and says how many bytes it takes, if it lies in these bytes with
 /// the next gate behind it and holds whole records.
-fn read_batch(bytes: &[u8], into: &mut Vec<Record>) -> Result<Option<usize>, AllocError>
+fn read_batch(
+    alloc: Global,
+    bytes: &[u8],
+    into: &mut Vec<Record>,
+) -> Result<Option<usize>, AllocError>
     requires { AllByRecursion IsRecord into.old.items }
     ensures good { AllByRecursion IsRecord into.new.items }
     ensures inside { IfOk result (λ found. IfSome found (λ size. (0 < size) × (size < length bytes.now))) }
@@ -343,7 +347,7 @@ fn read_batch(bytes: &[u8], into: &mut Vec<Record>) -> Result<Option<usize>, All
     let Some(body) = batch_body(bytes) else {
         return Ok(None);
     };
-    if read_records(body, into)? {
+    if read_records(alloc, body, into)? {
         Ok(Some(BATCH_HEAD + body.len()))
     } else {
         Ok(None)
@@ -366,7 +370,7 @@ fn batch_body(bytes: &[u8]) -> Option<&[u8]>
 }
 
 /// Adds the records that the bytes spell, and says whether they spell whole ones.
-fn read_records(bytes: &[u8], into: &mut Vec<Record>) -> Result<bool, AllocError>
+fn read_records(alloc: Global, bytes: &[u8], into: &mut Vec<Record>) -> Result<bool, AllocError>
     requires { AllByRecursion IsRecord into.old.items }
     ensures good { AllByRecursion IsRecord into.new.items }
     ensures few { vec_len into.new ≤ vec_len into.old + length bytes.now }
@@ -375,7 +379,7 @@ fn read_records(bytes: &[u8], into: &mut Vec<Record>) -> Result<bool, AllocError
 {
     let mut rest = bytes;
     while !rest.is_empty() {
-        let Some((record, length)) = log_records::decode(rest) else {
+        let Some((record, length)) = log_records::decode(alloc, rest)? else {
             return Ok(false);
         };
         into.push(record)?;

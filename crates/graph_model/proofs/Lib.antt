@@ -1,3 +1,3 @@
 pub mod Kept
-pub mod Open
+pub mod RowLaws
 pub mod Texts

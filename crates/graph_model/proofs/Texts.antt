@@ -1,27 +1,36 @@
--- What the slow heap prints.
-use Rattle.std.proofs.Common.{◌≡◌, ℕ, ◌≤◌, List, [], ◌∷◌, ◌++◌, length, map, take, get_or, Option, Some, None, sym, ap, ◌∙◌, arith}
-use Rattle.std.specs.Prelude.{codes}
-use Rattle.std.proofs.lemmas.List.{get_or_read}
-use Rattle.graph_model.specs.declared.open_transaction.OpenTransaction.{OpenTransaction}
-use Rattle.graph_model.specs.Graph.{new_graph, root_graph}
-use Rattle.graph_model.specs.Transaction.{serial}
-use Rattle.graph_model.specs.History.{Account}
-use Rattle.graph_model.specs.Canon.{canon}
-use Rattle.graph_model.specs.Text.{fields_text, canon_text}
-use Rattle.graph_model.specs.RootGraph.{AllPlain, plain_shown, canon_text-root_graph}
-use Rattle.graph_model.specs.SlowHeap.{val_of, IsKept}
+-- How a graph is numbered and printed, step by step.
+use Rattle.std.proofs.Common.{◌≡◌, ℕ, zero, suc, ◌+◌, ◌-◌, ◌<◌, List, ◌++◌, map, drop, Some, None, refl, sym, ap, ◌∙◌, arith}
+use Rattle.std.specs.Prelude.{slice_get}
+use Rattle.graph_model.specs.declared.id.Id.{Id}
+use Rattle.graph_model.specs.Graph.{Graph, fields}
+use Rattle.graph_model.specs.Canon.{with_targets, visit, Shown, shown}
+use Rattle.graph_model.specs.Text.{rows_text}
 
--- nulls and numbers refer to nothing
-plain_vals : (fs : List (Option ℕ)) → AllPlain (map val_of fs)
-plain_vals [] = tt
-plain_vals (None ∷ fs) = (tt, plain_vals fs)
-plain_vals (Some n ∷ fs) = (tt, plain_vals fs)
+-- what is numbered once it has been gone on from the ith
+abbrev pub visited : Graph → ℕ → ℕ → List Id → List Id
+visited g end i ids = visit g (end - i) i (slice_get ids i) ids
 
--- the text of the graph after k transactions is that of the fields that are kept for it
-pub text_of_kept : (a : Account) (next : ℕ) (active : Option OpenTransaction) (states : List (List (Option ℕ))) (k : ℕ) (fs : List (Option ℕ))
-    → IsKept a next active states → k ≤ length a.sealed → fs ≡ get_or states k fs
-    → codes "graph 1" ++ 10 ∷ codes "0:" ++ fields_text (map plain_shown (map val_of fs)) ++ 10 ∷ [] ≡ canon_text (canon (serial new_graph (take k a.sealed)))
-text_of_kept a next active states k fs kept le read =
-    let same : fs ≡ get_or states k [] = get_or_read states k fs (omega (arith, kept.count)) read [] in
-    sym (ap (λ g. canon_text (canon g)) (kept.graphs k le ∙ ap (λ f. root_graph (map val_of f)) (sym same))
-    ∙ canon_text-root_graph (map val_of fs) (plain_vals fs))
+-- the ith leads to the next
+pub visited-next : (g : Graph) (end i : ℕ) (id : Id) (ids more : List Id) (fs : _) → i < end → slice_get ids i ≡ Some id → fs ≡ fields g id → more ≡ with_targets ids fs
+    → visited g end (i + 1) more ≡ visited g end i ids
+visited-next g end i id ids more fs within is are leads =
+    let turns : end - i ≡ suc (end - (i + 1)) = omega arith in
+    ap (visited g end (i + 1)) (leads ∙ ap (with_targets ids) are)
+    ∙ sym (ap (λ o. visit g (suc (end - (i + 1))) i o ids) is)
+    ∙ sym (ap (λ n. visit g n i (slice_get ids i) ids) turns)
+
+stopped : (g : Graph) (turns i : ℕ) (ids : List Id) → visit g turns i None ids ≡ ids
+stopped g zero i ids = refl
+stopped g (suc turns) i ids = refl
+
+-- and where none is left
+pub visited-none : (g : Graph) (end i : ℕ) (ids : List Id) → slice_get ids i ≡ None → visited g end i ids ≡ ids
+visited-none g end i ids is = ap (λ o. visit g (end - i) i o ids) is ∙ stopped g (end - i) i ids
+
+-- the row of an object, where these ids are numbered
+abbrev pub row_of : Graph → List Id → Id → List Shown
+row_of g ids id = map (shown ids) (fields g id)
+
+-- the text so far, and that of the rows from the ith on
+abbrev pub with_rows : List ℕ → Graph → List Id → ℕ → List ℕ
+with_rows text g ids i = text ++ rows_text i (map (row_of g ids) (drop i ids))

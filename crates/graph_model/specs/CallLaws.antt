@@ -1,7 +1,7 @@
 -- Laws of calls on any graph: a field gives what was written there last, and a reference leads on.
 use Rattle.std.proofs.Common.{◌≡◌, ◌≢◌, ℕ, ◌<◌, Bool, true, false, length, Some, None, refl, sym, ap, ◌∙◌, get_or-set_same, get_or-set_other}
-use Rattle.std.specs.Prelude.{◌↔◌, ◌&&◌, nat_eq, slice_index_or, if◌then◌else◌}
-use Rattle.std.proofs.lemmas.Bool.{and_parts, eqb-true, eq-eqb}
+use Rattle.std.specs.Prelude.{◌↔◌, slice_index_or, if◌then◌else◌}
+use Rattle.std.proofs.lemmas.Bool.{eq-eqb}
 use Rattle.graph_model.specs.declared.id.Id.{Id}
 use Rattle.graph_model.specs.declared.val.Val.{Val}
 use Rattle.graph_model.specs.declared.val.Val.TheVariants.{Null, Ref}
@@ -11,7 +11,7 @@ use Rattle.graph_model.specs.Graph.{is_same_id, fields, with_field}
 use Rattle.graph_model.specs.Transaction.{View, held, fields_of, put_value, with_referred, value_reply, same_reply, write, call}
 use Rattle.graph_model.specs.History.{Account, account_after}
 use Rattle.graph_model.specs.HistoryLaws.{held-set_same}
-use Rattle.graph_model.specs.RootGraph.{fields-insert}
+use Rattle.graph_model.specs.GraphLaws.{same_id, itself, fields-insert}
 
 read_of : (v : View) (t s h i h2 : ℕ) (x : Val) (id : Id) → held v.registers h ≡ Some id → slice_index_or (fields v.graph id) i Null ≡ x
     → (call v t (Get s h i h2)).reply ≡ value_reply x
@@ -45,14 +45,6 @@ pub held-get : (v : View) (t s h i h2 : ℕ) (id target : Id) → held v.registe
 held-get v t s h i h2 id target holds is within =
     ap (λ x. held (with_referred v.registers h2 x) h2) (ap (λ o. slice_index_or (fields_of v.graph o) i Null) holds ∙ is)
     ∙ held-set_same v.registers h2 (Some target) within
-
-same_id : (a b : Id) → is_same_id a b ≡ true → a ≡ b
-same_id a b e =
-    let parts = and_parts (nat_eq a.t b.t) (nat_eq a.k b.k) e in
-    ap (λ t. record { t = t; k = a.k }) (eqb-true a.t b.t parts.0) ∙ ap (λ k. record { t = b.t; k = k }) (eqb-true a.k b.k parts.1)
-
-itself : (a : Id) → is_same_id a a ≡ true
-itself a = ap (λ x. x && nat_eq a.k a.k) (eq-eqb a.t a.t refl) ∙ eq-eqb a.k a.k refl
 
 yes_if : (b : Bool) → (if b then Yes else No) ≡ Yes → b ≡ true
 yes_if true e = refl

@@ -13,7 +13,7 @@ use Rattle.graph_model.specs.Graph.{Graph, is_same_id, root, fields}
 use Rattle.graph_model.specs.Canon.{Reached, at_root, along, with_target, with_targets, visit, numbered}
 
 -- each reference among the fields leads to what is reached
-abbrev LeadOn : Graph → List Val → Type 0
+abbrev pub LeadOn : Graph → List Val → Type 0
 LeadOn g vs = (i : ℕ) (target : Id) → slice_get vs i ≡ Some (Ref target) → Reached g target
 
 added-Reached : (g : Graph) (b : Bool) (ids : List Id) (id : Id) → Reached g id → All (Reached g) ids → All (Reached g) (if b then ids else ids ++ id ∷ [])
@@ -54,7 +54,8 @@ eqb_flip zero (suc b) = eqb-zero-suc b ∙ sym (eqb-suc-zero b)
 eqb_flip (suc a) zero = eqb-suc-zero a ∙ sym (eqb-zero-suc a)
 eqb_flip (suc a) (suc b) = eqb-suc-suc a b ∙ eqb_flip a b ∙ sym (eqb-suc-suc b a)
 
-same_flip : (a b : Id) → is_same_id a b ≡ is_same_id b a
+-- the test of two ids is the same from either side
+pub same_flip : (a b : Id) → is_same_id a b ≡ is_same_id b a
 same_flip a b = ap (λ (x : Bool). x && nat_eq a.k b.k) (eqb_flip a.t b.t) ∙ ap (λ (x : Bool). nat_eq b.t a.t && x) (eqb_flip a.k b.k)
 
 AllByRecursion-push : (P : Id → Type 0) (ids : List Id) (id : Id) → AllByRecursion P ids → P id → AllByRecursion P (ids ++ id ∷ [])

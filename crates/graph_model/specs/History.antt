@@ -2,7 +2,7 @@
 use Rattle.std.specs.Prelude.{ℕ, ◌+◌, ◌==◌, List, [], ◌∷◌, ◌++◌, Option, None, Some, fold, max, if◌then◌else◌}
 use Rattle.std.specs.Option.{option_to_list}
 use Rattle.graph_model.specs.declared.event.Event.{Event}
-use Rattle.graph_model.specs.declared.event.Event.TheVariants.{Begin, Root, Put, Clear, Drop, Get, Same, Len, Seal, Abort, Force}
+use Rattle.graph_model.specs.declared.event.Event.TheVariants.{Begin, Root, New, Put, Clear, Link, Drop, Get, Same, Len, Seal, Abort, Force}
 use Rattle.graph_model.specs.declared.reply.Refusal.TheVariants.{DiskFault, Stopped}
 use Rattle.graph_model.specs.declared.reply.Reply.{Reply}
 use Rattle.graph_model.specs.declared.reply.Reply.TheVariants.{Begun, Sealed, Aborted, Durable, Refused}
@@ -13,8 +13,10 @@ use Rattle.graph_model.specs.Transaction.{Transaction}
 abbrev pub session_of : Event → ℕ
 session_of (Begin s) = s
 session_of (Root s h) = s
+session_of (New s h len) = s
 session_of (Put s h i v) = s
 session_of (Clear s h i) = s
+session_of (Link s h i h2) = s
 session_of (Drop s h) = s
 session_of (Get s h i h2) = s
 session_of (Same s h h2) = s

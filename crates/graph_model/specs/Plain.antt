@@ -2,7 +2,7 @@
 use Rattle.std.specs.Prelude.{ℕ, ◌+◌, ◌==◌, nat_lt, nat_le, length, Option, None, Some, is_some, if◌then◌else◌}
 use Rattle.graph_model.specs.declared.id.Id.{Id}
 use Rattle.graph_model.specs.declared.event.Event.{Event}
-use Rattle.graph_model.specs.declared.event.Event.TheVariants.{Begin, Root, Put, Clear, Drop, Get, Same, Len, Seal, Abort, Force}
+use Rattle.graph_model.specs.declared.event.Event.TheVariants.{Begin, Root, New, Put, Clear, Link, Drop, Get, Same, Len, Seal, Abort, Force}
 use Rattle.graph_model.specs.declared.reply.Refusal.{Refusal}
 use Rattle.graph_model.specs.declared.reply.Refusal.TheVariants.{Failed, AlreadyActive, NotActive, NumbersSpent, BadHandle, Range, BadField}
 use Rattle.graph_model.specs.declared.reply.Reply.{Reply}
@@ -19,6 +19,10 @@ no_number = 4294967295
 abbrev pub no_int : ℕ
 no_int = 4611686018427387904
 
+-- the most fields of an object
+abbrev pub most_fields : ℕ
+most_fields = 510
+
 -- what an active transaction sees: its own calls on what the sealed ones left
 abbrev pub view : Graph → Account → Transaction → View
 view g0 a t = run (serial g0 a.sealed) t
@@ -26,6 +30,10 @@ view g0 a t = run (serial g0 a.sealed) t
 -- why a handle can't be named
 abbrev pub handle_refusal : ℕ → Option Refusal
 handle_refusal h = if nat_lt 63 h then Some BadHandle else None
+
+-- why a handle can't hold a new object of that many fields
+abbrev pub new_refusal : ℕ → ℕ → Option Refusal
+new_refusal h len = if nat_lt 63 h then Some BadHandle else if nat_lt most_fields len then Some Range else None
 
 -- why what a handle holds can't be asked for its length
 abbrev pub len_refusal : Option Id → Option Refusal
@@ -47,11 +55,18 @@ abbrev pub put_refusal : Graph → Option Id → ℕ → ℕ → Option Refusal
 put_refusal g None i v = Some BadHandle
 put_refusal g (Some id) i v = if nat_le no_int v then Some Range else field_refusal g (Some id) i
 
+-- why a field of the object that a handle holds can't refer to what another handle holds
+abbrev pub link_refusal : Graph → Option Id → ℕ → Option Id → Option Refusal
+link_refusal g o i None = Some BadHandle
+link_refusal g o i (Some id) = field_refusal g o i
+
 -- why a call is refused where its transaction sees this; a handle above 63 holds nothing
 abbrev pub view_refusal : View → Event → Option Refusal
 view_refusal view (Root s h) = handle_refusal h
+view_refusal view (New s h len) = new_refusal h len
 view_refusal view (Put s h i v) = put_refusal view.graph (held view.registers h) i v
 view_refusal view (Clear s h i) = field_refusal view.graph (held view.registers h) i
+view_refusal view (Link s h i h2) = link_refusal view.graph (held view.registers h) i (held view.registers h2)
 view_refusal view (Drop s h) = handle_refusal h
 view_refusal view (Get s h i h2) = if nat_lt 63 h2 then Some BadHandle else field_refusal view.graph (held view.registers h) i
 view_refusal view (Same s h h2) = same_refusal (held view.registers h) (held view.registers h2)

@@ -3,7 +3,7 @@ use Rattle.std.proofs.Common.{◌≡◌, ℕ, ◌+◌, Bool, true, false, Option
 use Rattle.std.specs.Prelude.{◌==◌, nat_lt, nat_le, length, is_some, if◌then◌else◌}
 use Rattle.graph_model.specs.declared.id.Id.{Id}
 use Rattle.graph_model.specs.declared.event.Event.{Event}
-use Rattle.graph_model.specs.declared.event.Event.TheVariants.{Begin, Root, Put, Clear, Drop, Get, Same, Len, Seal, Abort, Force}
+use Rattle.graph_model.specs.declared.event.Event.TheVariants.{Begin, Root, New, Put, Clear, Link, Drop, Get, Same, Len, Seal, Abort, Force}
 use Rattle.graph_model.specs.declared.reply.Refusal.{Refusal}
 use Rattle.graph_model.specs.declared.reply.Refusal.TheVariants.{AlreadyActive, NumbersSpent, BadHandle, Range, BadField, DiskFault, Stopped}
 use Rattle.graph_model.specs.declared.reply.Reply.{Reply}
@@ -11,7 +11,7 @@ use Rattle.graph_model.specs.declared.reply.Reply.TheVariants.{Done, Refused}
 use Rattle.graph_model.specs.Graph.{Graph, fields}
 use Rattle.graph_model.specs.Transaction.{View, Transaction, IsCall, held}
 use Rattle.graph_model.specs.History.{Account, session_of, answered, account_after}
-use Rattle.graph_model.specs.Plain.{no_number, no_int, handle_refusal, len_refusal, field_refusal, put_refusal, same_refusal, view_refusal, call_refusal, event_refusal, refusal_of, call_reply, granted, reply_of, plain_reply, view}
+use Rattle.graph_model.specs.Plain.{no_number, no_int, most_fields, handle_refusal, new_refusal, len_refusal, field_refusal, put_refusal, link_refusal, same_refusal, view_refusal, call_refusal, event_refusal, refusal_of, call_reply, granted, reply_of, plain_reply, view}
 use Rattle.graph_model.specs.HistoryLaws.{IsCallReply, IsOrder, call-IsCallReply, call-reply}
 
 -- a refusal that doesn't come from the disk
@@ -37,6 +37,11 @@ no_fault_if false why o h k = k
 handle_no_fault : (h : ℕ) → HasNoFault (handle_refusal h)
 handle_no_fault h = no_fault_if (nat_lt 63 h) BadHandle None tt tt
 
+new_no_fault : (h len : ℕ) → HasNoFault (new_refusal h len)
+new_no_fault h len =
+    no_fault_if (nat_lt 63 h) BadHandle (if nat_lt most_fields len then Some Range else None) tt
+    (no_fault_if (nat_lt most_fields len) Range None tt tt)
+
 len_no_fault : (o : Option Id) → HasNoFault (len_refusal o)
 len_no_fault None = tt
 len_no_fault (Some id) = tt
@@ -49,15 +54,22 @@ put_no_fault : (g : Graph) (o : Option Id) (i v : ℕ) → HasNoFault (put_refus
 put_no_fault g None i v = tt
 put_no_fault g (Some id) i v = no_fault_if (nat_le no_int v) Range (field_refusal g (Some id) i) tt (field_no_fault g (Some id) i)
 
+link_no_fault : (g : Graph) (o : Option Id) (i : ℕ) (p : Option Id) → HasNoFault (link_refusal g o i p)
+link_no_fault g o i None = tt
+link_no_fault g o i (Some id) = field_no_fault g o i
+
 same_no_fault : (o p : Option Id) → HasNoFault (same_refusal o p)
 same_no_fault None p = tt
 same_no_fault (Some id) None = tt
 same_no_fault (Some id) (Some other) = tt
 
-view_no_fault : (v : View) (event : Event) → HasNoFault (view_refusal v event)
+-- nor is a call refused by the disk
+pub view_no_fault : (v : View) (event : Event) → HasNoFault (view_refusal v event)
 view_no_fault v (Root s h) = handle_no_fault h
+view_no_fault v (New s h len) = new_no_fault h len
 view_no_fault v (Put s h i n) = put_no_fault v.graph (held v.registers h) i n
 view_no_fault v (Clear s h i) = field_no_fault v.graph (held v.registers h) i
+view_no_fault v (Link s h i h2) = link_no_fault v.graph (held v.registers h) i (held v.registers h2)
 view_no_fault v (Drop s h) = handle_no_fault h
 view_no_fault v (Get s h i h2) = no_fault_if (nat_lt 63 h2) BadHandle (field_refusal v.graph (held v.registers h) i) tt (field_no_fault v.graph (held v.registers h) i)
 view_no_fault v (Same s h h2) = same_no_fault (held v.registers h) (held v.registers h2)

@@ -2,9 +2,9 @@
 use Rattle.std.specs.Prelude.{ℕ, ◌+◌, List, [], ◌∷◌, ◌++◌, length, codes}
 use Rattle.std.specs.Fmt.{decimal}
 use Rattle.graph_model.specs.declared.event.Event.{Event}
-use Rattle.graph_model.specs.declared.event.Event.TheVariants.{Begin, Root, Put, Clear, Drop, Get, Same, Len, Seal, Abort, Force}
+use Rattle.graph_model.specs.declared.event.Event.TheVariants.{Begin, Root, New, Put, Clear, Link, Drop, Get, Same, Len, Seal, Abort, Force}
 use Rattle.graph_model.specs.declared.reply.Refusal.{Refusal}
-use Rattle.graph_model.specs.declared.reply.Refusal.TheVariants.{Failed, AlreadyActive, NotActive, NumbersSpent, BadHandle, Range, BadField, LogFull, DiskFault, Stopped}
+use Rattle.graph_model.specs.declared.reply.Refusal.TheVariants.{Failed, AlreadyActive, NotActive, NumbersSpent, BadHandle, Range, BadField, VolatileFull, Exhausted, LogFull, DiskFault, Stopped}
 use Rattle.graph_model.specs.declared.reply.Reply.{Reply}
 use Rattle.graph_model.specs.declared.reply.Reply.TheVariants.{Begun, Done, Null, Int, Reference, Yes, No, Length, Sealed, Aborted, Durable, Refused}
 use Rattle.graph_model.specs.declared.reply.Entry.{Entry}
@@ -13,8 +13,10 @@ use Rattle.graph_model.specs.Canon.{Shown, Nothing, Number, Object}
 abbrev pub event_text : Event → List ℕ
 event_text (Begin s) = decimal s ++ codes " begin"
 event_text (Root s h) = decimal s ++ codes " root " ++ decimal h
+event_text (New s h len) = decimal s ++ codes " new " ++ decimal h ++ codes " " ++ decimal len
 event_text (Put s h i v) = decimal s ++ codes " put " ++ decimal h ++ codes " " ++ decimal i ++ codes " " ++ decimal v
 event_text (Clear s h i) = decimal s ++ codes " clear " ++ decimal h ++ codes " " ++ decimal i
+event_text (Link s h i h2) = decimal s ++ codes " link " ++ decimal h ++ codes " " ++ decimal i ++ codes " " ++ decimal h2
 event_text (Drop s h) = decimal s ++ codes " drop " ++ decimal h
 event_text (Get s h i h2) = decimal s ++ codes " get " ++ decimal h ++ codes " " ++ decimal i ++ codes " " ++ decimal h2
 event_text (Same s h h2) = decimal s ++ codes " same " ++ decimal h ++ codes " " ++ decimal h2
@@ -31,6 +33,8 @@ refusal_text NumbersSpent = codes "numbersspent"
 refusal_text BadHandle = codes "badhandle"
 refusal_text Range = codes "range"
 refusal_text BadField = codes "badfield"
+refusal_text (VolatileFull used) = codes "volatilefull " ++ decimal used
+refusal_text (Exhausted need free owed) = codes "exhausted " ++ decimal need ++ codes " " ++ decimal free ++ codes " " ++ decimal owed
 refusal_text (LogFull used need reserved) = codes "logfull " ++ decimal used ++ codes " " ++ decimal need ++ codes " " ++ decimal reserved
 refusal_text DiskFault = codes "diskfault"
 refusal_text Stopped = codes "stopped"
@@ -66,6 +70,10 @@ field_text (Object number) = codes " @" ++ decimal number
 abbrev pub fields_text : List Shown → List ℕ
 fields_text [] = []
 fields_text (field ∷ fields) = field_text field ++ fields_text fields
+
+-- the row of the object of that number
+abbrev pub row_text : ℕ → List Shown → List ℕ
+row_text number row = decimal number ++ codes ":" ++ fields_text row ++ 10 ∷ []
 
 -- the rows from this number on
 abbrev pub rows_text : ℕ → List (List Shown) → List ℕ

@@ -1,10 +1,11 @@
 -- What transactions do to a graph, one after another.
-use Rattle.std.specs.Prelude.{ℕ, List, [], ◌∷◌, length, Option, None, Some, replicate, slice_get, slice_index_or, slice_set, option_and_then, if◌then◌else◌}
+use Rattle.std.specs.Prelude.{ℕ, ◌+◌, List, [], ◌∷◌, length, Option, None, Some, replicate, slice_get, slice_index_or, slice_set, option_and_then, if◌then◌else◌}
+use Rattle.std.specs.FinMap.{insert}
 use Rattle.graph_model.specs.declared.id.Id.{Id}
 use Rattle.graph_model.specs.declared.val.Val.{Val}
 use Rattle.graph_model.specs.declared.val.Val.TheVariants.{Null, Int, Ref}
 use Rattle.graph_model.specs.declared.event.Event.{Event}
-use Rattle.graph_model.specs.declared.event.Event.TheVariants.{Begin, Root, Put, Clear, Drop, Get, Same, Len, Seal, Abort, Force}
+use Rattle.graph_model.specs.declared.event.Event.TheVariants.{Begin, Root, New, Put, Clear, Link, Drop, Get, Same, Len, Seal, Abort, Force}
 use Rattle.graph_model.specs.declared.reply.Reply.{Reply}
 use Rattle.graph_model.specs.declared.reply.Reply.TheVariants as answer
 use Rattle.graph_model.specs.Graph.{Graph, is_same_id, root, fields, with_field}
@@ -20,10 +21,11 @@ no_registers = replicate 64 None
 abbrev pub held : Registers → ℕ → Option Id
 held registers h = option_and_then (λ id. id) (slice_get registers h)
 
--- a graph and the registers of a transaction on it
+-- A graph and the registers of a transaction on it.
 pub record View : Type 0 where
   pub graph : Graph
   pub registers : Registers
+  pub made : ℕ  -- how many objects the transaction has made
 
 -- a call's view afterwards, and its reply
 pub record Outcome : Type 0 where
@@ -58,15 +60,37 @@ same_reply o p = answer.No
 
 -- handle h holds this object, or nothing
 abbrev pub hold : View → ℕ → Option Id → Outcome
-hold view h o = record { view = record { graph = view.graph; registers = slice_set view.registers h o }; reply = answer.Done }
+hold view h o = record { view = record view { registers = slice_set view.registers h o }; reply = answer.Done }
+
+-- the name of the next object that transaction t makes
+abbrev pub next_id : View → ℕ → Id
+next_id view t = record { t = t; k = view.made + 1 }
+
+-- transaction t makes an object of that many null fields, and handle h holds it
+abbrev pub make : View → ℕ → ℕ → ℕ → Outcome
+make view t h len =
+    let id = next_id view t in
+    record {
+      view = record {
+        graph = insert view.graph id (replicate len Null);
+        registers = slice_set view.registers h (Some id);
+        made = view.made + 1;
+      };
+      reply = answer.Done;
+    }
 
 -- field i of what handle h holds has this value
 abbrev pub write : View → ℕ → ℕ → Val → Outcome
-write view h i v = record { view = record { graph = put_value view.graph (held view.registers h) i v; registers = view.registers }; reply = answer.Done }
+write view h i v = record { view = record view { graph = put_value view.graph (held view.registers h) i v }; reply = answer.Done }
+
+-- a reference to what a handle holds, and null where it holds nothing
+abbrev pub reference_to : Option Id → Val
+reference_to None = Null
+reference_to (Some id) = Ref id
 
 -- a field of this value is read, and handle h holds what it refers to
 abbrev pub read : View → ℕ → Val → Outcome
-read view h v = record { view = record { graph = view.graph; registers = with_referred view.registers h v }; reply = value_reply v }
+read view h v = record { view = record view { registers = with_referred view.registers h v }; reply = value_reply v }
 
 -- nothing changes, and this is answered
 abbrev pub tell : View → Reply → Outcome
@@ -83,8 +107,10 @@ IsCall event = Unit {0}
 -- one call of transaction t; other events call nothing
 abbrev pub call : View → ℕ → Event → Outcome
 call view t (Root s h) = hold view h (Some root)
+call view t (New s h len) = make view t h len
 call view t (Put s h i v) = write view h i (Int v)
 call view t (Clear s h i) = write view h i Null
+call view t (Link s h i h2) = write view h i (reference_to (held view.registers h2))
 call view t (Drop s h) = hold view h None
 call view t (Get s h i h2) = read view h2 (slice_index_or (fields_of view.graph (held view.registers h)) i Null)
 call view t (Same s h h2) = tell view (same_reply (held view.registers h) (held view.registers h2))
@@ -106,9 +132,9 @@ abbrev pub call_replies : View → ℕ → List Event → List Reply
 call_replies view t [] = []
 call_replies view t (c ∷ cs) = (call view t c).reply ∷ call_replies (call view t c).view t cs
 
--- a transaction begins with empty registers
+-- a transaction begins with empty registers, and has made nothing
 abbrev pub fresh_view : Graph → View
-fresh_view g = record { graph = g; registers = no_registers }
+fresh_view g = record { graph = g; registers = no_registers; made = 0 }
 
 -- what a transaction sees after its calls, and what they were answered
 abbrev pub run : Graph → Transaction → View

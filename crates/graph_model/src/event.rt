@@ -12,10 +12,14 @@ pub enum Event {
     Begin { s: u32 },
     /// Handle `h` is to hold the root object.
     Root { s: u32, h: u64 },
+    /// A new object of `len` null fields is made, and handle `h` is to hold it.
+    New { s: u32, h: u64, len: u64 },
     /// Field `i` of the object that `h` holds is to be the number `v`.
     Put { s: u32, h: u64, i: u64, v: u64 },
     /// Field `i` of the object that `h` holds is to be null.
     Clear { s: u32, h: u64, i: u64 },
+    /// Field `i` of the object that `h` holds is to refer to the object that `h2` holds.
+    Link { s: u32, h: u64, i: u64, h2: u64 },
     /// Handle `h` is to hold nothing.
     Drop { s: u32, h: u64 },
     /// What is in field `i` of the object that `h` holds? If it is a reference, `h2` is to hold the object referred to.
@@ -42,8 +46,10 @@ impl Event {
         match self {
             Event::Begin { s }
             | Event::Root { s, .. }
+            | Event::New { s, .. }
             | Event::Put { s, .. }
             | Event::Clear { s, .. }
+            | Event::Link { s, .. }
             | Event::Drop { s, .. }
             | Event::Get { s, .. }
             | Event::Same { s, .. }
@@ -63,8 +69,10 @@ impl fmt::Display for Event {
         match self {
             Event::Begin { s } => write!(f, "{s} begin"),
             Event::Root { s, h } => write!(f, "{s} root {h}"),
+            Event::New { s, h, len } => write!(f, "{s} new {h} {len}"),
             Event::Put { s, h, i, v } => write!(f, "{s} put {h} {i} {v}"),
             Event::Clear { s, h, i } => write!(f, "{s} clear {h} {i}"),
+            Event::Link { s, h, i, h2 } => write!(f, "{s} link {h} {i} {h2}"),
             Event::Drop { s, h } => write!(f, "{s} drop {h}"),
             Event::Get { s, h, i, h2 } => write!(f, "{s} get {h} {i} {h2}"),
             Event::Same { s, h, h2 } => write!(f, "{s} same {h} {h2}"),

@@ -3,7 +3,9 @@
 #![tactic(auto)]
 
 mod event;
+mod graph_text;
 mod id;
+mod objects;
 mod open_transaction;
 mod reply;
 mod slow_heap;

@@ -18,10 +18,14 @@ pub enum Refusal {
     NumbersSpent,
     /// There is no such handle, or it holds nothing.
     BadHandle,
-    /// The number is too large for a field.
+    /// The number is too large for a field, or too many fields are asked for.
     Range,
     /// The object has no such field.
     BadField,
+    /// The transaction's volatile area has no room: that many of its words are used.
+    VolatileFull { used: u64 },
+    /// The space has no room: the event needs so many words, so many are free, and so many of these are kept for copies.
+    Exhausted { need: u64, free: u64, owed: u64 },
     /// The log has no room: so many bytes are used, the event needs so many, and so many are kept for what must not fail.
     LogFull { used: u64, need: u64, reserved: u64 },
     /// The disk failed in this event.
@@ -78,6 +82,8 @@ impl fmt::Display for Refusal {
             Refusal::BadHandle => f.write_str("badhandle"),
             Refusal::Range => f.write_str("range"),
             Refusal::BadField => f.write_str("badfield"),
+            Refusal::VolatileFull { used } => write!(f, "volatilefull {used}"),
+            Refusal::Exhausted { need, free, owed } => write!(f, "exhausted {need} {free} {owed}"),
             Refusal::LogFull {
                 used,
                 need,
@@ -166,11 +172,19 @@ mod tests {
             need: 20,
             reserved: 3,
         };
+        let volatile = Refusal::VolatileFull { used: 4096 };
+        let exhausted = Refusal::Exhausted {
+            need: 59,
+            free: 58,
+            owed: 7,
+        };
         compare(
             &rt,
             &[
                 (refused(Refusal::NumbersSpent), "numbersspent"),
                 (refused(Refusal::Failed { entry: 30 }), "failed 30"),
+                (refused(volatile), "volatilefull 4096"),
+                (refused(exhausted), "exhausted 59 58 7"),
                 (refused(full), "logfull 100 20 3"),
                 (refused(Refusal::DiskFault), "diskfault"),
                 (refused(Refusal::Stopped), "stopped"),

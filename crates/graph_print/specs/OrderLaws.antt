@@ -15,8 +15,10 @@ use Rattle.graph_model.specs.declared.val.Val.{Val}
 use Rattle.graph_model.specs.declared.val.Val.TheVariants.{Null, Int, Ref}
 use Rattle.graph_model.specs.Graph.{Graph, is_same_id, root, fields}
 use Rattle.graph_model.specs.Canon.{with_target, with_targets, visit, numbered, Object, shown, canon}
+use Rattle.graph_model.specs.GraphLaws.{same_id, itself}
+use Rattle.graph_model.specs.Numbering.{rows_of}
+use Rattle.graph_model.specs.VisitLaws.{enough_turns}
 use Rattle.object_layout.specs.Layout.{field_words, stand, referred, as_ref, value, IsMet, at_start, along, IsKnown, IsSeenAs}
-use Rattle.object_layout.specs.CanonMatch.{rows_of, same_id, itself, enough_turns}
 use Rattle.object_layout.specs.SeenLaws.{seen_whole}
 use Rattle.graph_print.specs.Order.{with_place, with_places, target, targets, IsOrder, first, next, shown_place, shown_word, row, rows}
 

@@ -5,15 +5,12 @@ use Rattle.std.specs.Fmt.{decimal}
 use Rattle.std.proofs.lemmas.List.{append-nil}
 use Rattle.graph_model.specs.Canon.{Shown}
 use Rattle.graph_model.specs.Text.{field_text, fields_text, rows_text}
+pub use Rattle.graph_model.specs.Text.{row_text}
 
 -- one field more
 pub fields_text_push : (row : List Shown) (field : Shown) → fields_text (row ++ field ∷ []) ≡ fields_text row ++ field_text field
 fields_text_push [] field = append-nil (field_text field)
 fields_text_push (f ∷ row) field = ap (λ t. field_text f ++ t) (fields_text_push row field) ∙ sym (append_assoc (field_text f) (fields_text row) (field_text field))
-
--- a row of that number
-abbrev pub row_text : ℕ → List Shown → List ℕ
-row_text number row = decimal number ++ codes ":" ++ fields_text row ++ 10 ∷ []
 
 -- one row more
 pub rows_text_push : (number : ℕ) (rows : List (List Shown)) (row : List Shown) → rows_text number (rows ++ row ∷ []) ≡ rows_text number rows ++ row_text (number + length rows) row

@@ -16,7 +16,7 @@ use Rattle.graph_model.specs.declared.reply.Refusal.{Refusal}
 use Rattle.graph_model.specs.declared.reply.Refusal.TheVariants.{Failed, DiskFault, Stopped}
 use Rattle.graph_model.specs.declared.reply.Reply.{Reply}
 use Rattle.graph_model.specs.declared.reply.Reply.TheVariants.{Begun, Done, Yes, Length, Sealed, Aborted, Durable, Refused}
-use Rattle.graph_model.specs.SlowHeap.{IsSingleSession}
+use Rattle.graph_model.specs.Served.{IsServed}
 use Rattle.graph_model.specs.Transaction.{Transaction, serial}
 use Rattle.graph_model.specs.History.{Account, account, account_after, first_failure}
 use Rattle.graph_model.specs.HistoryLaws.{account-append, entries-account}
@@ -205,7 +205,7 @@ failed_on s c event reply entry w failed image may_leave fails holds steps =
     subst (λ (x : Core). DiskHolds s x image may_leave) (sym next_is) here
 
 -- the disk that an event leaves alone
-pub quiet_on : (s : Super) (c : Core) (event : Event) (reply : Reply) (w : Working) (failed : Option ℕ) (image : List ℕ) (may_leave : List ℕ → Type 0) → IsValid c → IsSingleSession event → (event ≡ Force → ⊥)
+pub quiet_on : (s : Super) (c : Core) (event : Event) (reply : Reply) (w : Working) (failed : Option ℕ) (image : List ℕ) (may_leave : List ℕ → Type 0) → IsValid c → IsServed event → (event ≡ Force → ⊥)
     → DiskHolds s c image may_leave → (steps : Steps c event reply w failed) → StepsOn s c event reply w failed image may_leave
 quiet_on s c event reply w failed image may_leave valid one other holds steps =
     let next_is : steps.next ≡ after c event = ⊎_elim (λ whole. whole.1) (λ cut. absurd (other (calls-force c event cut.0.some).0)) steps.step in
@@ -215,7 +215,7 @@ quiet_on s c event reply w failed image may_leave valid one other holds steps =
     } in
     record { steps = steps; disk = subst (λ (x : Core). DiskHolds s x image may_leave) (sym next_is) here }
 
-pub quiet_result_on : (s : Super) (c : Core) (event : Event) (result : Result Reply AllocError) (w : Working) (failed : Option ℕ) (image : List ℕ) (may_leave : List ℕ → Type 0) → IsValid c → IsSingleSession event
+pub quiet_result_on : (s : Super) (c : Core) (event : Event) (result : Result Reply AllocError) (w : Working) (failed : Option ℕ) (image : List ℕ) (may_leave : List ℕ → Type 0) → IsValid c → IsServed event
     → (event ≡ Force → ⊥) → DiskHolds s c image may_leave → IfOk result (λ reply. Steps c event reply w failed) → IfOk result (λ reply. StepsOn s c event reply w failed image may_leave)
 quiet_result_on s c event (Ok reply) w failed image may_leave valid one other holds steps = quiet_on s c event reply w failed image may_leave valid one other holds steps
 quiet_result_on s c event (Err e) w failed image may_leave valid one other holds steps = tt
@@ -307,15 +307,15 @@ module _ (c : Core) (w : Working) (failed : Option ℕ) (memory : Remembers c w 
   works_now = memory.works none
 
   -- an event that asks nothing of the disk
-  quiet_steps : (event : Event) (reply : Reply) (new : Working) → IsSingleSession event → Does c event reply new → Steps c event reply new failed
+  quiet_steps : (event : Event) (reply : Reply) (new : Working) → IsServed event → Does c event reply new → Steps c event reply new failed
   quiet_steps event reply new one does = whole_steps c event reply new failed (valid_after c event is_valid one) none does
 
-  quiet_result : (event : Event) (result : Result Reply AllocError) (new : Working) → IsSingleSession event → IfOk result (λ reply. Does c event reply new) → IfOk result (λ reply. Steps c event reply new failed)
+  quiet_result : (event : Event) (result : Result Reply AllocError) (new : Working) → IsServed event → IfOk result (λ reply. Does c event reply new) → IfOk result (λ reply. Steps c event reply new failed)
   quiet_result event (Ok reply) new one does = quiet_steps event reply new one does
   quiet_result event (Err e) new one does = tt
 
   -- an event of session 1 whose session is given
-  of_one : (form : ℕ → Event) (event : Event) (n : ℕ) (P : Event → Type 0) → event ≡ form n → (IsSingleSession event → n ≡ 1) → IsSingleSession event → P (form 1) → P event
+  of_one : (form : ℕ → Event) (event : Event) (n : ℕ) (P : Event → Type 0) → event ≡ form n → (IsServed event → n ≡ 1) → IsServed event → P (form 1) → P event
   of_one form event n P is own one h =
       let Q : ℕ → Type 0 = λ m. P (form m) in
       subst P (sym is) (subst Q (sym (own one)) h)
@@ -326,53 +326,53 @@ module _ (c : Core) (w : Working) (failed : Option ℕ) (memory : Remembers c w 
   abbrev SteppedOr : Working → Result Reply AllocError → Event → Type 0
   SteppedOr new result event = IfOk result (λ reply. Stepped new reply event)
 
-  pub begin_steps : (event : Event) (n : ℕ) (new : Working) (reply : Reply) → event ≡ Begin n → IsSingleSession event → reply ≡ reply_of (begin_refusal w) (Begun w.next) → ((m : ℕ) → reply ≡ Begun m → Begins w new)
+  pub begin_steps : (event : Event) (n : ℕ) (new : Working) (reply : Reply) → event ≡ Begin n → IsServed event → reply ≡ reply_of (begin_refusal w) (Begun w.next) → ((m : ℕ) → reply ≡ Begun m → Begins w new)
       → ((why : Refusal) → reply ≡ Refused why → new ≡ w) → Stepped new reply event
   begin_steps event n new reply is one replied begun stays =
-      of_one Begin event n (Stepped new reply) is (λ h. subst IsSingleSession is h) one (quiet_steps (Begin 1) reply new refl (begin_does w new c is_valid works_now reply replied begun stays))
+      of_one Begin event n (Stepped new reply) is (λ h. subst IsServed is h) one (quiet_steps (Begin 1) reply new refl (begin_does w new c is_valid works_now reply replied begun stays))
 
-  pub root_steps : (event : Event) (n h : ℕ) (new : Working) (reply : Reply) → event ≡ Root n h → IsSingleSession event → reply ≡ reply_of (handle_refusal w.active h) Done → (reply ≡ Done → SetsHandle w new h true)
+  pub root_steps : (event : Event) (n h : ℕ) (new : Working) (reply : Reply) → event ≡ Root n h → IsServed event → reply ≡ reply_of (handle_refusal w.active h) Done → (reply ≡ Done → SetsHandle w new h true)
       → ((why : Refusal) → reply ≡ Refused why → new ≡ w) → Stepped new reply event
   root_steps event n h new reply is one replied set stays =
-      of_one (λ m. Root m h) event n (Stepped new reply) is (λ own. subst IsSingleSession is own) one (quiet_steps (Root 1 h) reply new refl (root_does w new c is_valid works_now h reply replied set stays))
+      of_one (λ m. Root m h) event n (Stepped new reply) is (λ own. subst IsServed is own) one (quiet_steps (Root 1 h) reply new refl (root_does w new c is_valid works_now h reply replied set stays))
 
-  pub drop_steps : (event : Event) (n h : ℕ) (new : Working) (reply : Reply) → event ≡ Drop n h → IsSingleSession event → reply ≡ reply_of (handle_refusal w.active h) Done → (reply ≡ Done → SetsHandle w new h false)
+  pub drop_steps : (event : Event) (n h : ℕ) (new : Working) (reply : Reply) → event ≡ Drop n h → IsServed event → reply ≡ reply_of (handle_refusal w.active h) Done → (reply ≡ Done → SetsHandle w new h false)
       → ((why : Refusal) → reply ≡ Refused why → new ≡ w) → Stepped new reply event
   drop_steps event n h new reply is one replied set stays =
-      of_one (λ m. Drop m h) event n (Stepped new reply) is (λ own. subst IsSingleSession is own) one (quiet_steps (Drop 1 h) reply new refl (drop_does w new c is_valid works_now h reply replied set stays))
+      of_one (λ m. Drop m h) event n (Stepped new reply) is (λ own. subst IsServed is own) one (quiet_steps (Drop 1 h) reply new refl (drop_does w new c is_valid works_now h reply replied set stays))
 
-  pub get_steps : (event : Event) (n h i h2 : ℕ) (new : Working) (reply : Reply) → event ≡ Get n h i h2 → IsSingleSession event → reply ≡ reply_of (get_refusal w.active h i h2) (field_reply w.words i)
+  pub get_steps : (event : Event) (n h i h2 : ℕ) (new : Working) (reply : Reply) → event ≡ Get n h i h2 → IsServed event → reply ≡ reply_of (get_refusal w.active h i h2) (field_reply w.words i)
       → (IsGranted reply → Gets w new h2 (value_of (field_word w.words i))) → ((why : Refusal) → reply ≡ Refused why → new ≡ w) → Stepped new reply event
   get_steps event n h i h2 new reply is one replied got stays =
-      of_one (λ m. Get m h i h2) event n (Stepped new reply) is (λ own. subst IsSingleSession is own) one (quiet_steps (Get 1 h i h2) reply new refl (get_does w new c is_valid works_now h i h2 reply replied got stays))
+      of_one (λ m. Get m h i h2) event n (Stepped new reply) is (λ own. subst IsServed is own) one (quiet_steps (Get 1 h i h2) reply new refl (get_does w new c is_valid works_now h i h2 reply replied got stays))
 
-  pub same_steps : (event : Event) (n h h2 : ℕ) (reply : Reply) → event ≡ Same n h h2 → IsSingleSession event → reply ≡ reply_of (same_refusal w.active h h2) Yes → Stepped w reply event
+  pub same_steps : (event : Event) (n h h2 : ℕ) (reply : Reply) → event ≡ Same n h h2 → IsServed event → reply ≡ reply_of (same_refusal w.active h h2) Yes → Stepped w reply event
   same_steps event n h h2 reply is one replied =
-      of_one (λ m. Same m h h2) event n (Stepped w reply) is (λ own. subst IsSingleSession is own) one (quiet_steps (Same 1 h h2) reply w refl (same_does w w c is_valid works_now h h2 reply replied refl))
+      of_one (λ m. Same m h h2) event n (Stepped w reply) is (λ own. subst IsServed is own) one (quiet_steps (Same 1 h h2) reply w refl (same_does w w c is_valid works_now h h2 reply replied refl))
 
-  pub len_steps : (event : Event) (n h : ℕ) (reply : Reply) → event ≡ Len n h → IsSingleSession event → reply ≡ reply_of (held_refusal w.active h) (Length 4) → Stepped w reply event
+  pub len_steps : (event : Event) (n h : ℕ) (reply : Reply) → event ≡ Len n h → IsServed event → reply ≡ reply_of (held_refusal w.active h) (Length 4) → Stepped w reply event
   len_steps event n h reply is one replied =
-      of_one (λ m. Len m h) event n (Stepped w reply) is (λ own. subst IsSingleSession is own) one (quiet_steps (Len 1 h) reply w refl (len_does w w c is_valid works_now h reply replied refl))
+      of_one (λ m. Len m h) event n (Stepped w reply) is (λ own. subst IsServed is own) one (quiet_steps (Len 1 h) reply w refl (len_does w w c is_valid works_now h reply replied refl))
 
-  pub put_steps : (event : Event) (n h i v : ℕ) (new : Working) (result : Result Reply AllocError) → event ≡ Put n h i v → IsSingleSession event → IfOk result (λ reply. reply ≡ reply_of (put_refusal w.log w.active h i v) Done)
+  pub put_steps : (event : Event) (n h i v : ℕ) (new : Working) (result : Result Reply AllocError) → event ≡ Put n h i v → IsServed event → IfOk result (λ reply. reply ≡ reply_of (put_refusal w.log w.active h i v) Done)
       → (result ≡ Ok Done → Writes w new i (4 * v + 1)) → ((why : Refusal) → result ≡ Ok (Refused why) → IsAsItWas w new) → SteppedOr new result event
   put_steps event n h i v new result is one replied wrote stays =
-      of_one (λ m. Put m h i v) event n (SteppedOr new result) is (λ own. subst IsSingleSession is own) one (quiet_result (Put 1 h i v) result new refl (put_does w new c is_valid works_now h i v result replied wrote stays))
+      of_one (λ m. Put m h i v) event n (SteppedOr new result) is (λ own. subst IsServed is own) one (quiet_result (Put 1 h i v) result new refl (put_does w new c is_valid works_now h i v result replied wrote stays))
 
-  pub clear_steps : (event : Event) (n h i : ℕ) (new : Working) (result : Result Reply AllocError) → event ≡ Clear n h i → IsSingleSession event → IfOk result (λ reply. reply ≡ reply_of (clear_refusal w.log w.active h i) Done)
+  pub clear_steps : (event : Event) (n h i : ℕ) (new : Working) (result : Result Reply AllocError) → event ≡ Clear n h i → IsServed event → IfOk result (λ reply. reply ≡ reply_of (clear_refusal w.log w.active h i) Done)
       → (result ≡ Ok Done → Writes w new i 0) → ((why : Refusal) → result ≡ Ok (Refused why) → IsAsItWas w new) → SteppedOr new result event
   clear_steps event n h i new result is one replied wrote stays =
-      of_one (λ m. Clear m h i) event n (SteppedOr new result) is (λ own. subst IsSingleSession is own) one (quiet_result (Clear 1 h i) result new refl (clear_does w new c is_valid works_now h i result replied wrote stays))
+      of_one (λ m. Clear m h i) event n (SteppedOr new result) is (λ own. subst IsServed is own) one (quiet_result (Clear 1 h i) result new refl (clear_does w new c is_valid works_now h i result replied wrote stays))
 
-  pub seal_steps : (event : Event) (n : ℕ) (new : Working) (result : Result Reply AllocError) → event ≡ Seal n → IsSingleSession event → IfOk result (λ reply. reply ≡ reply_of (end_refusal w.active) (Sealed (w.sealed + 1)))
+  pub seal_steps : (event : Event) (n : ℕ) (new : Working) (result : Result Reply AllocError) → event ≡ Seal n → IsServed event → IfOk result (λ reply. reply ≡ reply_of (end_refusal w.active) (Sealed (w.sealed + 1)))
       → ((number : ℕ) → result ≡ Ok (Sealed number) → Seals w new) → ((why : Refusal) → result ≡ Ok (Refused why) → IsAsItWas w new) → SteppedOr new result event
   seal_steps event n new result is one replied sealed stays =
-      of_one Seal event n (SteppedOr new result) is (λ own. subst IsSingleSession is own) one (quiet_result (Seal 1) result new refl (seal_does w new c is_valid works_now result replied sealed stays))
+      of_one Seal event n (SteppedOr new result) is (λ own. subst IsServed is own) one (quiet_result (Seal 1) result new refl (seal_does w new c is_valid works_now result replied sealed stays))
 
-  pub abort_steps : (event : Event) (n : ℕ) (new : Working) (result : Result Reply AllocError) → event ≡ Abort n → IsSingleSession event → IfOk result (λ reply. reply ≡ reply_of (end_refusal w.active) Aborted)
+  pub abort_steps : (event : Event) (n : ℕ) (new : Working) (result : Result Reply AllocError) → event ≡ Abort n → IsServed event → IfOk result (λ reply. reply ≡ reply_of (end_refusal w.active) Aborted)
       → (result ≡ Ok Aborted → Aborts w new) → ((why : Refusal) → result ≡ Ok (Refused why) → IsAsItWas w new) → SteppedOr new result event
   abort_steps event n new result is one replied aborted stays =
-      of_one Abort event n (SteppedOr new result) is (λ own. subst IsSingleSession is own) one (quiet_result (Abort 1) result new refl (abort_does w new c is_valid works_now result replied aborted stays))
+      of_one Abort event n (SteppedOr new result) is (λ own. subst IsServed is own) one (quiet_result (Abort 1) result new refl (abort_does w new c is_valid works_now result replied aborted stays))
 
 -- what is kept of a heap and the entry that its history has got
 pub with_history : (c : Core) (event : Event) (reply : Reply) (w : Working) (failed : Option ℕ) (old new : List Entry)

@@ -12,7 +12,7 @@ use Rattle.gated_log.specs.declared.Log.{Log}
 use Rattle.gated_log.specs.LogLaws.{hand_size-Keeps}
 use Rattle.gated_log.specs.LogState.{hand_size, is_waiting, Keeps}
 use Rattle.graph_model.specs.declared.event.Event.{Event}
-use Rattle.graph_model.specs.declared.event.Event.TheVariants.{Begin, Root, Put, Clear, Drop, Get, Same, Len, Seal, Abort, Force}
+use Rattle.graph_model.specs.declared.event.Event.TheVariants.{Begin, Root, New, Put, Clear, Link, Drop, Get, Same, Len, Seal, Abort, Force}
 use Rattle.graph_model.specs.declared.reply.Entry.{Entry}
 use Rattle.graph_model.specs.declared.reply.Refusal.{Refusal}
 use Rattle.graph_model.specs.declared.reply.Refusal.TheVariants.{DiskFault, Stopped}
@@ -84,8 +84,10 @@ quiet_calls : (o : Option Refusal) (c : Core) (event : Event) → (event ≡ For
 quiet_calls (Some why) c event other = refl
 quiet_calls None c (Begin s) other = refl
 quiet_calls None c (Root s h) other = refl
+quiet_calls None c (New s h len) other = refl
 quiet_calls None c (Put s h i v) other = refl
 quiet_calls None c (Clear s h i) other = refl
+quiet_calls None c (Link s h i h2) other = refl
 quiet_calls None c (Drop s h) other = refl
 quiet_calls None c (Get s h i h2) other = refl
 quiet_calls None c (Same s h h2) other = refl

@@ -203,7 +203,7 @@ module _ (w : Working) (c : Core) (valid : IsValid c) (works : Works w (account 
       let seen = view c.g0 a t in
       let regs = seen.registers in
       get_asked (nat_lt 63 h2) (plain.field_refusal seen.graph (held regs h) i)
-      ∙ ap (first_of_two (handle_refusal (Some x) h2)) (field_asked seen.graph (held regs h) i (four_fields c t valid e) (held_as a c t h valid)
+      ∙ ap (first_of_two (handle_refusal (Some x) h2)) (field_asked seen.graph (held regs h) i (four_fields c t valid e) (held_as a c t h e valid)
       ∙ ap (λ (r : Option Refusal). first_of_two r (field_refusal i)) (asked_held x regs h is.handles))
   get_cases None (Some x) h i h2 e is = absurd is
   get_cases (Some t) None h i h2 e is = absurd is
@@ -269,7 +269,7 @@ module _ (w : Working) (c : Core) (valid : IsValid c) (works : Works w (account 
       let seen = view c.g0 a t in
       let o = held seen.registers h in
       let room = λ (none : first_of_two (asked (is_some o)) (first_of_two first (field_refusal i)) ≡ None).
-      let some = asked_none o (first_of_two first (field_refusal i)) (held_as a c t h valid) none in
+      let some = asked_none o (first_of_two first (field_refusal i)) (held_as a c t h e valid) none in
       let parts = none_of_both first (field_refusal i) (none_of_both (asked (is_some o)) (first_of_two first (field_refusal i)) none).1 in
       let lt : i < 4 = leb-false 4 i (passed (nat_le 4 i) BadField parts.1) in
       let one_record : event_records c event ≡ update at_first t.number root valid.behind.now i v ∷ [] =
@@ -289,7 +289,7 @@ module _ (w : Working) (c : Core) (valid : IsValid c) (works : Works w (account 
   put_cases None None h i v e at is = no_transaction (Put 1 h i v) e refl
   put_cases (Some t) (Some x) h i v e at is =
       let seen = view c.g0 a t in
-      write_same t x (Put 1 h i v) h i (Int v) (range_refusal v) e is tt refl (put_asked seen.graph (held seen.registers h) i v (four_fields c t valid e) (held_as a c t h valid))
+      write_same t x (Put 1 h i v) h i (Int v) (range_refusal v) e is tt refl (put_asked seen.graph (held seen.registers h) i v (four_fields c t valid e) (held_as a c t h e valid))
       (ap (λ (o : Option Transaction). call_refusal c.g0 a o (Put 1 h i v)) e)
       (ap (λ (o : Option Transaction). call_records at_first c.g0 a (undo_behind c (all_records c)) o (Put 1 h i v)) e)
       (λ none. leb-false no_int v (passed (nat_le no_int v) Range none))
@@ -303,7 +303,7 @@ module _ (w : Working) (c : Core) (valid : IsValid c) (works : Works w (account 
   clear_cases None None h i e is = no_transaction (Clear 1 h i) e refl
   clear_cases (Some t) (Some x) h i e is =
       let seen = view c.g0 a t in
-      write_same t x (Clear 1 h i) h i Null None e is tt refl (field_asked seen.graph (held seen.registers h) i (four_fields c t valid e) (held_as a c t h valid))
+      write_same t x (Clear 1 h i) h i Null None e is tt refl (field_asked seen.graph (held seen.registers h) i (four_fields c t valid e) (held_as a c t h e valid))
       (ap (λ (o : Option Transaction). call_refusal c.g0 a o (Clear 1 h i)) e)
       (ap (λ (o : Option Transaction). call_records at_first c.g0 a (undo_behind c (all_records c)) o (Clear 1 h i)) e)
       (λ none. tt)

@@ -254,7 +254,7 @@ module _ (w new : Working) (c : Core) (valid : IsValid c) (works : Works w (acco
   len_reads None None h e is none = cc none
   len_reads (Some t) (Some x) h e is none =
       let seen = view c.g0 a t in
-      let some = held_len (held seen.registers h) (held_as a c t h valid) (len_cases w c valid works (Some t) (Some x) h is ∙ none) in
+      let some = held_len (held seen.registers h) (held_as a c t h e valid) (len_cases w c valid works (Some t) (Some x) h is ∙ none) in
       (ap (λ (o : Option Id). Length (length (fields_of seen.graph o))) some ∙ ap Length (four_fields c t valid e), same_handles g undo t (Len 1 h) refl)
   len_reads None (Some x) h e is none = absurd is
   len_reads (Some t) None h e is none = absurd is
@@ -267,7 +267,7 @@ module _ (w new : Working) (c : Core) (valid : IsValid c) (works : Works w (acco
   same_reads None None h h2 e is none = cc none
   same_reads (Some t) (Some x) h h2 e is none =
       let seen = view c.g0 a t in
-      (same_yes (held seen.registers h) (held seen.registers h2) (held_as a c t h valid) (held_as a c t h2 valid) (same_cases w c valid works (Some t) (Some x) h h2 is ∙ none), same_handles g undo t (Same 1 h h2) refl)
+      (same_yes (held seen.registers h) (held seen.registers h2) (held_as a c t h e valid) (held_as a c t h2 e valid) (same_cases w c valid works (Some t) (Some x) h h2 is ∙ none), same_handles g undo t (Same 1 h h2) refl)
   same_reads None (Some x) h h2 e is none = absurd is
   same_reads (Some t) None h h2 e is none = absurd is
 
@@ -285,7 +285,7 @@ module _ (w new : Working) (c : Core) (valid : IsValid c) (works : Works w (acco
   get_reads (Some t) (Some x) h i h2 e is none =
       let seen = view c.g0 a t in
       let own = get_cases w c valid works (Some t) (Some x) h i h2 e is ∙ none in
-      let some = held_field seen.graph (held seen.registers h) i (held_as a c t h valid) (test_none (nat_lt 63 h2) BadHandle _ own).1 in
+      let some = held_field seen.graph (held seen.registers h) i (held_as a c t h e valid) (test_none (nat_lt 63 h2) BadHandle _ own).1 in
       let lt = below_four i (both_none (held_refusal (Some x) h) (field_refusal i) (both_none (handle_refusal (Some x) h2) (first_of_two (held_refusal (Some x) h) (field_refusal i)) none).1).1 in
       let v = slice_index_or (fields_of seen.graph (held seen.registers h)) i Null in
       let read : v ≡ slice_index_or valid.behind.now i Null =
@@ -361,7 +361,7 @@ module _ (w new : Working) (c : Core) (valid : IsValid c) (works : Works w (acco
   held_is : (t : Transaction) (x : Active) (h : ℕ) → a.active 1 ≡ Some t → w.active ≡ Some x → held_refusal w.active h ≡ None → held (view c.g0 a t).registers h ≡ Some root
   held_is t x h e at none =
       let is = subst (λ (o : Option Transaction). IsActive g undo o (Some x)) e (subst (λ (p : Option Active). IsActive g undo (a.active 1) p) at works.active) in
-      held_len (held (view c.g0 a t).registers h) (held_as a c t h valid) (len_cases w c valid works (Some t) (Some x) h is ∙ sym (ap (λ (p : Option Active). held_refusal p h) at) ∙ none)
+      held_len (held (view c.g0 a t).registers h) (held_as a c t h e valid) (len_cases w c valid works (Some t) (Some x) h is ∙ sym (ap (λ (p : Option Active). held_refusal p h) at) ∙ none)
 
   pub put_does : (h i v : ℕ) (result : Result Reply AllocError) → IfOk result (λ reply. reply ≡ reply_of (put_refusal w.log w.active h i v) Done)
       → (result ≡ Ok Done → Writes w new i (4 * v + 1)) → ((why : Refusal) → result ≡ Ok (Refused why) → IsAsItWas w new) → IfOk result (λ reply. Does c (Put 1 h i v) reply new)

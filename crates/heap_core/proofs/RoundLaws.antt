@@ -6,7 +6,7 @@ use Rattle.disk_model.specs.declared.disk.Disk.{Ghosts}
 use Rattle.graph_model.specs.declared.event.Event.{Event}
 use Rattle.graph_model.specs.declared.reply.Reply.{Reply}
 use Rattle.graph_model.specs.Graph.{Graph}
-use Rattle.graph_model.specs.SlowHeap.{IsSingleSession}
+use Rattle.graph_model.specs.Served.{IsServed}
 use Rattle.heap_model.specs.Core.{Core, IsStep}
 use Rattle.heap_model.specs.CoreCrash.{KeepsCommits}
 use Rattle.heap_model.specs.CoreLawsCalls.{run_step}
@@ -34,7 +34,7 @@ going_opened g k image stands = record {
 }
 
 -- one event more
-pub going_on : (g : Graph) (k : ℕ) (events : List Event) (c d : Core) (event : Event) (reply : Reply) → IsGoing g k events c → IsSingleSession event → IsStep c event reply d → IsGoing g k (events ++ event ∷ []) d
+pub going_on : (g : Graph) (k : ℕ) (events : List Event) (c d : Core) (event : Event) (reply : Reply) → IsGoing g k events c → IsServed event → IsStep c event reply d → IsGoing g k (events ++ event ∷ []) d
 going_on g k events c d event reply going one step = record {
   start = going.start;
   opened = going.opened;
@@ -53,14 +53,14 @@ round_ends g k events c image going kept = (
   kept.1.stands,
 )
 
-pub single_at : (events : List Event) (i : ℕ) (d : Event) → i < length events → AllByRecursion IsSingleSession events → IsSingleSession (get_or events i d)
+pub single_at : (events : List Event) (i : ℕ) (d : Event) → i < length events → AllByRecursion IsServed events → IsServed (get_or events i d)
 single_at [] i d lt all = absurd (omega arith)
 single_at (e ∷ es) zero d lt all = all.0
 single_at (e ∷ es) (suc i) d lt all = single_at es i d (omega arith) all.1
 
 module _ {D : Type 0} {ghosts : Ghosts D} where
   -- a heap on which one event more was made
-  pub gone_on : (g : Graph) (k : ℕ) (events : List Event) (i : ℕ) (d : Event) (old new : Heap D ghosts) (reply : Reply) → i < length events → AllByRecursion IsSingleSession events
+  pub gone_on : (g : Graph) (k : ℕ) (events : List Event) (i : ℕ) (d : Event) (old new : Heap D ghosts) (reply : Reply) → i < length events → AllByRecursion IsServed events
       → (gone : HasGone g k (take i events) old) → (next : Core) × IsStep gone.core (get_or events i d) reply next × IsHeap gone.super next new → HasGone g k (take (i + 1) events) new
   gone_on g k events i d old new reply lt all gone stepped =
       let event = get_or events i d in

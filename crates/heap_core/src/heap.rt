@@ -9,7 +9,7 @@ ghost use Rattle.gated_log.specs.LogState.{log_place, log_room};
 ghost use Rattle.graph_model.specs.Graph.{Graph};
 ghost use Rattle.graph_model.specs.Canon.{canon};
 ghost use Rattle.graph_model.specs.Text.{canon_text};
-ghost use Rattle.graph_model.specs.SlowHeap.{IsSingleSession};
+ghost use Rattle.graph_model.specs.Served.{IsServed};
 ghost use Rattle.graph_model.specs.History.{account, sealed};
 ghost use Rattle.graph_model.specs.Transaction.{serial};
 ghost use Rattle.graph_model.specs.declared.event.Event.TheVariants.{Force};
@@ -128,12 +128,12 @@ impl<D: Disk> Heap<D> {
         ensures disk { KeepsDisk D.Disk self.old.disk self.new.disk (step_device result) }
 
         // Each event is a step of the core that the heap is.
-        ensures core { (c : Core) → IsCore c self.old → IsReached c → IsSingleSession event → IfOk result (λ reply. (d : Core) × IsStep c event reply d × IsCore d self.new) }
+        ensures core { (c : Core) → IsCore c self.old → IsReached c → IsServed event → IfOk result (λ reply. (d : Core) × IsStep c event reply d × IsCore d self.new) }
         ensures kept { (c : Core) → IsCore c self.old → OnErr result (IsCore c self.new) }
         ensures untouched { OnErr result (self.new.disk ≡ self.old.disk) }
 
         // So is what a disk that tells holds.
-        ensures holds { IsTrue D.tells → (s : Super) (c : Core) → IsHeap s c self.old → IsReached c → IsSingleSession event → IfOk result (λ reply. (d : Core) × IsStep c event reply d × IsHeap s d self.new) }
+        ensures holds { IsTrue D.tells → (s : Super) (c : Core) → IsHeap s c self.old → IsReached c → IsServed event → IfOk result (λ reply. (d : Core) × IsStep c event reply d × IsHeap s d self.new) }
         // At each moment of it a crash leaves first commits, among them all that were acknowledged before.
         ensures moments { IsTrue D.tells → (s : Super) (c : Core) → IsHeap s c self.old → IsReached c → LeavesOnly D.moment D.left_since self.old.disk self.new.disk (KeepsCommits c) }
         ensures passes { IsTrue D.tells → (c : Core) → IsCore c self.old → IsReached c → IfOk result (λ reply. Passes (calls c event) (D.passed self.old.disk) (D.passed self.new.disk) (reply_device reply)) }
@@ -147,8 +147,8 @@ impl<D: Disk> Heap<D> {
     fn reply_to(&mut self, event: Event) -> Result<Reply, AllocError>
         ensures disk { KeepsDisk D.Disk self.old.disk self.new.disk (step_device result) }
         ensures history { self.new.history ≡ self.old.history }
-        ensures core { (c : Core) → IsCore c self.old → IsReached c → IsSingleSession event → IfOk result (λ reply. Steps c event reply self.new.working self.new.failed) }
-        ensures holds { IsTrue D.tells → (s : Super) (c : Core) → IsHeap s c self.old → IsReached c → IsSingleSession event → IfOk result (λ reply. StepsOn s c event reply self.new.working self.new.failed (D.bytes self.new.disk) (D.may_leave self.new.disk)) }
+        ensures core { (c : Core) → IsCore c self.old → IsReached c → IsServed event → IfOk result (λ reply. Steps c event reply self.new.working self.new.failed) }
+        ensures holds { IsTrue D.tells → (s : Super) (c : Core) → IsHeap s c self.old → IsReached c → IsServed event → IfOk result (λ reply. StepsOn s c event reply self.new.working self.new.failed (D.bytes self.new.disk) (D.may_leave self.new.disk)) }
         ensures kept { (c : Core) → IsCore c self.old → OnErr result (IsCore c self.new) }
         ensures before { self.new.before ≡ self.old.before }
         ensures untouched { OnErr result (self.new.disk ≡ self.old.disk) }
@@ -163,8 +163,8 @@ impl<D: Disk> Heap<D> {
 
     fn answer(&mut self, event: Event) -> Result<Reply, AllocError>
         ensures disk { KeepsDisk D.Disk self.old.disk self.new.disk (step_device result) }
-        ensures core { (c : Core) → IsCore c self.old → self.old.failed ≡ None → IsReached c → IsSingleSession event → IfOk result (λ reply. Steps c event reply self.new.working self.new.failed) }
-        ensures holds { IsTrue D.tells → (s : Super) (c : Core) → IsHeap s c self.old → self.old.failed ≡ None → IsReached c → IsSingleSession event → IfOk result (λ reply. StepsOn s c event reply self.new.working self.new.failed (D.bytes self.new.disk) (D.may_leave self.new.disk)) }
+        ensures core { (c : Core) → IsCore c self.old → self.old.failed ≡ None → IsReached c → IsServed event → IfOk result (λ reply. Steps c event reply self.new.working self.new.failed) }
+        ensures holds { IsTrue D.tells → (s : Super) (c : Core) → IsHeap s c self.old → self.old.failed ≡ None → IsReached c → IsServed event → IfOk result (λ reply. StepsOn s c event reply self.new.working self.new.failed (D.bytes self.new.disk) (D.may_leave self.new.disk)) }
         ensures kept { (c : Core) → IsCore c self.old → OnErr result (IsCore c self.new) }
         ensures before { self.new.before ≡ self.old.before }
         ensures history { self.new.history ≡ self.old.history }
@@ -185,6 +185,8 @@ impl<D: Disk> Heap<D> {
             Event::Seal { .. } => self.working.seal(),
             Event::Abort { .. } => self.working.abort(alloc),
             Event::Force => self.force(),
+            // No object but the root is served yet.
+            Event::New { .. } | Event::Link { .. } => Ok(refused(Refusal::BadHandle)),
         }
     }
 

@@ -4,7 +4,7 @@ ghost use Rattle.std.specs.Prelude.{◌≡◌, ℕ, IsTrue, IfOk};
 ghost use Rattle.std.specs.List.{AllByRecursion};
 ghost use Rattle.disk_model.specs.Disk.{Only};
 ghost use Rattle.graph_model.specs.Graph.{Graph};
-ghost use Rattle.graph_model.specs.SlowHeap.{IsSingleSession};
+ghost use Rattle.graph_model.specs.Served.{IsServed};
 ghost use Rattle.heap_model.specs.Image.{StandsFor};
 ghost use Rattle.heap_core.specs.Rounds.{IsRound, Rounds};
 
@@ -33,7 +33,7 @@ impl From<AllocError> for Halt {
 /// Opens the heap on the disk, makes these events, and crashes: the disk is started again. It then stands for the first of the
 /// commits that were made, among them all that were acknowledged.
 fn round<D: Disk + Drop>(alloc: Global, disk: D, events: &[Event]) -> Result<D, Halt>
-    requires { AllByRecursion IsSingleSession events.now }
+    requires { AllByRecursion IsServed events.now }
     ensures { IsTrue D.tells → Only (D.bytes disk) (D.may_leave disk) → (g : Graph) (k : ℕ) → StandsFor g k (D.bytes disk)
         → IfOk result (λ left. Only (D.bytes left) (D.may_leave left) × (h : Graph) × (j : ℕ) × IsRound g k events.now h j × StandsFor h j (D.bytes left)) }
 {
@@ -56,7 +56,7 @@ fn rounds<D: Disk + Drop>(
     events: &[Event],
     count: u32,
 ) -> Result<D, Halt>
-    requires { AllByRecursion IsSingleSession events.now }
+    requires { AllByRecursion IsServed events.now }
     ensures { IsTrue D.tells → Only (D.bytes disk) (D.may_leave disk) → (g : Graph) (k : ℕ) → StandsFor g k (D.bytes disk)
         → IfOk result (λ left. Only (D.bytes left) (D.may_leave left) × (h : Graph) × (j : ℕ) × Rounds g k events.now count h j × StandsFor h j (D.bytes left)) }
 {

@@ -4,7 +4,7 @@ use Rattle.std.specs.List.{AllByRecursion}
 use Rattle.std.proofs.lemmas.Bool.{cases_lt}
 use Rattle.graph_model.specs.declared.event.Event.{Event}
 use Rattle.graph_model.specs.declared.reply.Reply.{Reply}
-use Rattle.graph_model.specs.SlowHeap.{IsSingleSession}
+use Rattle.graph_model.specs.Served.{IsServed}
 use Rattle.heap_model.specs.Core.{Core, answer, after, IsStep, IsRun, calls}
 use Rattle.heap_model.specs.CoreRuns.{after_events, total_calls, StopsAt}
 use Rattle.heap_model.specs.CoreValid.{IsValid, IsReached}
@@ -43,12 +43,12 @@ pub run_step : (c mid d : Core) (events : List Event) (event : Event) (reply : R
 run_step c mid d events event reply run step = run_append c mid d events (event ∷ []) run (reply, d, step, refl)
 
 -- Where the disk does what it is asked, events of session 1 keep a core valid.
-pub valid_events : (c : Core) (events : List Event) → IsValid c → AllByRecursion IsSingleSession events → IsValid (after_events c events)
+pub valid_events : (c : Core) (events : List Event) → IsValid c → AllByRecursion IsServed events → IsValid (after_events c events)
 valid_events c [] valid one = valid
 valid_events c (event ∷ events) valid one = valid_events (after c event) events (valid_after c event valid one.0) one.1
 
 -- and reach a core
-pub reached_events : (c : Core) (events : List Event) → IsReached c → AllByRecursion IsSingleSession events → IsReached (after_events c events)
+pub reached_events : (c : Core) (events : List Event) → IsReached c → AllByRecursion IsServed events → IsReached (after_events c events)
 reached_events c events reached one = run_reached c (after_events c events) events reached one (whole_run c events)
 
 stop_step : (c : Core) (n : ℕ) (event : Event) (events : List Event) → calls c event ≤ n → StopsAt (after c event) (n - calls c event) events → StopsAt c n (event ∷ events)
@@ -72,6 +72,6 @@ stop_place c n (event ∷ events) lt = ⊎_elim
     (λ (le : calls c event ≤ n). stop_step c n event events le (stop_place (after c event) (n - calls c event) events (omega arith)))
     (cases_lt n (calls c event))
 
-one_session_front : (before : List Event) (event : Event) (behind : List Event) → AllByRecursion IsSingleSession (before ++ event ∷ behind) → AllByRecursion IsSingleSession (before ++ event ∷ [])
+one_session_front : (before : List Event) (event : Event) (behind : List Event) → AllByRecursion IsServed (before ++ event ∷ behind) → AllByRecursion IsServed (before ++ event ∷ [])
 one_session_front [] event behind one = (one.0, tt)
 one_session_front (first ∷ before) event behind one = (one.0, one_session_front before event behind one.1)

@@ -106,7 +106,7 @@ module _ (c : Core) (s : Super) (batches : List (List Record)) (h : IsSound c) (
       let there = after_all_moved (start c.pages c.first) tell.behind.state s.first (records_of batches) tell.told.reached in
       let room = tell.room in
       let same = of.room in
-      root_legal s batches (with_next tell.behind.state there.0) tell.told.fields of.limits tell.told.good
+      root_legal s batches (with_next tell.behind.state there.0) tell.told.fields tell.told.used of.limits tell.told.good
       (ap (λ n. after_all (start n s.first) (records_of batches)) of.pages ∙ there.1)
       (omega arith)
       disk_alone

@@ -4,7 +4,7 @@ use Rattle.std.specs.List.{AllByRecursion, flat_map}
 use Rattle.graph_model.specs.declared.event.Event.{Event}
 use Rattle.graph_model.specs.declared.event.Event.TheVariants.{Force}
 use Rattle.graph_model.specs.declared.reply.Refusal.{Refusal}
-use Rattle.graph_model.specs.SlowHeap.{IsSingleSession}
+use Rattle.graph_model.specs.Served.{IsServed}
 use Rattle.graph_model.specs.Transaction.{Transaction}
 use Rattle.graph_model.specs.History.{account}
 use Rattle.log_records.specs.declared.Record.{Record}
@@ -18,11 +18,11 @@ use Rattle.heap_model.specs.CoreRuns.{after_events, total_calls}
 use Rattle.heap_model.specs.Ending.{abort_of, force_of, aborting, forcing, ending, all_events}
 
 -- the first of events that all are session 1's
-pub single_front : (before behind : List Event) → AllByRecursion IsSingleSession (before ++ behind) → AllByRecursion IsSingleSession before
+pub single_front : (before behind : List Event) → AllByRecursion IsServed (before ++ behind) → AllByRecursion IsServed before
 single_front [] behind one = tt
 single_front (event ∷ before) behind one = (one.0, single_front before behind one.1)
 
-abort_single : (o : Option Transaction) → AllByRecursion IsSingleSession (abort_of 1 o)
+abort_single : (o : Option Transaction) → AllByRecursion IsServed (abort_of 1 o)
 abort_single None = tt
 abort_single (Some t) = (refl, tt)
 
@@ -34,21 +34,21 @@ one_aborts active idle = flat_map-first (λ s. abort_of s (active s)) 1 31 (λ s
 pub aborting-one : (c : Core) → IsSound c → aborting c ≡ abort_of 1 ((account c.history).active 1)
 aborting-one c sound = one_aborts (account c.history).active (sound_agrees c sound).idle
 
-force_single : (waiting : List Record) → AllByRecursion IsSingleSession (force_of waiting)
+force_single : (waiting : List Record) → AllByRecursion IsServed (force_of waiting)
 force_single [] = tt
 force_single (r ∷ rs) = (tt, tt)
 
 -- the events that end a run are session 1's
-pub ending_single : (c : Core) → IsSound c → AllByRecursion IsSingleSession (ending c)
+pub ending_single : (c : Core) → IsSound c → AllByRecursion IsServed (ending c)
 ending_single c sound =
-    AllByRecursion-append IsSingleSession (aborting c) (forcing (after_events c (aborting c)))
-    (subst (λ l. AllByRecursion IsSingleSession l) (sym (aborting-one c sound)) (abort_single ((account c.history).active 1)))
+    AllByRecursion-append IsServed (aborting c) (forcing (after_events c (aborting c)))
+    (subst (λ l. AllByRecursion IsServed l) (sym (aborting-one c sound)) (abort_single ((account c.history).active 1)))
     (force_single (after_events c (aborting c)).pending)
 
 -- so all are, if those are that were asked
-pub all_single : (stop : Option ℕ) (c : Core) (events : List Event) → IsReached c → AllByRecursion IsSingleSession events → AllByRecursion IsSingleSession (all_events stop c events)
+pub all_single : (stop : Option ℕ) (c : Core) (events : List Event) → IsReached c → AllByRecursion IsServed events → AllByRecursion IsServed (all_events stop c events)
 all_single None c events reached one =
-    AllByRecursion-append IsSingleSession events (ending (after_events c events)) one (ending_single (after_events c events) (reached_events c events reached one).sound)
+    AllByRecursion-append IsServed events (ending (after_events c events)) one (ending_single (after_events c events) (reached_events c events reached one).sound)
 all_single (Some n) c events reached one = one
 
 abort_few : (o : Option Transaction) → length (abort_of 1 o) ≤ 1
@@ -60,7 +60,7 @@ force_few [] = omega arith
 force_few (r ∷ rs) = omega arith
 
 -- two more at most
-pub all_few : (stop : Option ℕ) (c : Core) (events : List Event) → IsReached c → AllByRecursion IsSingleSession events → length (all_events stop c events) ≤ length events + 2
+pub all_few : (stop : Option ℕ) (c : Core) (events : List Event) → IsReached c → AllByRecursion IsServed events → length (all_events stop c events) ≤ length events + 2
 all_few None c events reached one =
     let d = after_events c events in
     let same = ap (λ (l : List Event). length l) (aborting-one d (reached_events c events reached one).sound) in

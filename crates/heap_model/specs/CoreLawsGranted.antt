@@ -1,6 +1,6 @@
 -- An event that is granted leaves a core that agrees with its history.
 use Rattle.std.proofs.Common.{◌≡◌, ◌≢◌, ◌⊎◌, inl, inr, ℕ, ◌+◌, ◌<◌, ◌≤◌, Bool, true, false, cond, List, [], ◌∷◌, ◌++◌, length, take, Option, Some, None, refl, sym, ap, ◌∙◌, subst, arith, length-append, append_assoc}
-use Rattle.std.specs.Prelude.{slice_set, option_to_list}
+use Rattle.std.specs.Prelude.{slice_set, option_to_list, MatchOption}
 use Rattle.std.proofs.lemmas.Bool.{leb-false, ne_eqb}
 use Rattle.std.proofs.lemmas.List.{append-nil}
 use Rattle.std.proofs.Math.Seq.{take-length}
@@ -16,7 +16,8 @@ use Rattle.graph_model.specs.Graph.{Graph, root, fields}
 use Rattle.graph_model.specs.Transaction.{Transaction, View, held, put_value, call, serial}
 use Rattle.graph_model.specs.History.{Account, account_after, with_active, with_call, makes_call}
 use Rattle.graph_model.specs.HistoryLaws.{run-append, serial-append, serial-take}
-use Rattle.graph_model.specs.RootOnly.{HoldRootAlone, held-HoldRootAlone, fields-with_field, run-SeesRootOnly, serial-IsRootOnly}
+use Rattle.heap_model.specs.RootOnly.{IsRootOnly, SeesRootOnly, held-HoldRootAlone, fields-with_field, fresh_view-SeesRootOnly, call-SeesRootOnly}
+use Rattle.graph_model.specs.Served.{MakesNone}
 use Rattle.graph_model.specs.Plain.{view, no_number, field_refusal}
 use Rattle.log_records.specs.declared.Record.{Record}
 use Rattle.log_records.specs.declared.Record.TheVariants.{Commit}
@@ -82,7 +83,8 @@ undo_fits g0 a (Some t) pages first g k records b told w = lone_reserve b.state 
 -- another history changes nothing of this
 pub agrees_history : (a : Account) (c : Core) (history : List Entry) → Agrees a c → Agrees a (record c { history = history })
 agrees_history a c history h = record {
-  only = h.only;
+  sealed_only = h.sealed_only;
+  active_only = h.active_only;
   unfailed = h.unfailed;
   certain = h.certain;
   idle = h.idle;
@@ -104,7 +106,8 @@ agrees_history a c history h = record {
 -- nor does one entry more, or whether the disk failed
 pub agrees_entry : (a : Account) (c : Core) (n : ℕ) → Agrees a c → Agrees (record a { failed = None; entries = n }) c
 agrees_entry a c n h = record {
-  only = h.only;
+  sealed_only = h.sealed_only;
+  active_only = h.active_only;
   unfailed = refl;
   certain = h.certain;
   idle = h.idle;
@@ -132,6 +135,8 @@ record Goes (a : Account) (c : Core) (b : Account) (more : List Record) : Type 0
   idle : (s : ℕ) → s ≢ 1 → b.active s ≡ None
   next_fits : c.first + b.begun ≤ no_number
   numbered : IsNumbered (c.first + b.begun) (b.active 1)
+  sealed_only : IsRootOnly (serial c.g0 b.sealed)
+  active_only : MatchOption (b.active 1) (Unit {0}) (λ t. SeesRootOnly (view c.g0 b t))
   later : List Transaction
   sealed : b.sealed ≡ a.sealed ++ later
   behind : Behind
@@ -154,7 +159,8 @@ goes_on a c b more h go =
     let graph : serial c.g0 (take h.durable b.sealed) ≡ serial c.g0 (take h.durable a.sealed) =
     ap (λ (ts : List Transaction). serial c.g0 (take h.durable ts)) go.sealed ∙ serial-take c.g0 a.sealed go.later h.durable first in
     record {
-      only = h.only;
+      sealed_only = go.sealed_only;
+      active_only = go.active_only;
       unfailed = go.unfailed;
       certain = go.certain;
       idle = go.idle;
@@ -205,6 +211,8 @@ begin_agrees a c h none fits room =
       idle = idle_with a.active _ h.idle;
       next_fits = omega arith;
       numbered = (omega arith, omega arith);
+      sealed_only = h.sealed_only;
+      active_only = fresh_view-SeesRootOnly (serial c.g0 a.sealed) h.sealed_only;
       later = [];
       sealed = sym (append-nil a.sealed);
       behind = h.behind;
@@ -234,10 +242,28 @@ kept_call : (b : Behind) (o : Option Transaction) (event : Event) → kept_behin
 kept_call b None event = refl
 kept_call b (Some t) event = refl
 
+-- the active transaction sees the root alone
+pub sees_as : (a : Account) (c : Core) (t : Transaction) → a.active 1 ≡ Some t → Agrees a c → SeesRootOnly (view c.g0 a t)
+sees_as a c t e h = let P : Option Transaction → Type 0 = λ o. MatchOption o (Unit {0}) (λ t. SeesRootOnly (view c.g0 a t)) in subst P e h.active_only
+
+-- so it does with one call more
+call_only : (a : Account) (c : Core) (t : Transaction) (event : Event) → MakesNone event → Agrees a c → a.active 1 ≡ Some t
+    → MatchOption (with_call (a.active 1) event) (Unit {0}) (λ u. SeesRootOnly (view c.g0 (called a event) u))
+call_only a c t event none h e =
+    let P : Option Transaction → Type 0 = λ o. MatchOption (with_call o event) (Unit {0}) (λ u. SeesRootOnly (view c.g0 (called a event) u)) in
+    let now = call-SeesRootOnly (view c.g0 a t) t.number event none (sees_as a c t e h) in
+    subst P (sym e) (subst SeesRootOnly (sym (run-append (serial c.g0 a.sealed) t event)) now)
+
+-- and what it leaves when it is sealed
+sealed_only_on : (a : Account) (c : Core) (t : Transaction) → Agrees a c → a.active 1 ≡ Some t → IsRootOnly (serial c.g0 (a.sealed ++ option_to_list (a.active 1)))
+sealed_only_on a c t h e =
+    let P : Option Transaction → Type 0 = λ o. IsRootOnly (serial c.g0 (a.sealed ++ option_to_list o)) in
+    subst P (sym e) (subst IsRootOnly (sym (serial-append c.g0 a.sealed t)) (sees_as a c t e h).graph)
+
 -- a call that leaves the graph as it is
-pub quiet_agrees : (a : Account) (c : Core) (t : Transaction) (event : Event) → Agrees a c → a.active 1 ≡ Some t
+pub quiet_agrees : (a : Account) (c : Core) (t : Transaction) (event : Event) → MakesNone event → Agrees a c → a.active 1 ≡ Some t
     → (call (view c.g0 a t) t.number event).view.graph ≡ (view c.g0 a t).graph → Agrees (called a event) (record c { pending = c.pending ++ [] })
-quiet_agrees a c t event h e same =
+quiet_agrees a c t event none h e same =
     let P : Option Transaction → Type 0 = λ o. IsWriter c.g0 (called a event) (with_call o event) h.behind in
     let nothing = need_nothing c.pending in
     let kept = kept_call h.behind (a.active 1) event in
@@ -249,6 +275,8 @@ quiet_agrees a c t event h e same =
       idle = idle_with a.active _ h.idle;
       next_fits = h.next_fits;
       numbered = numbered_call (c.first + a.begun) (a.active 1) event h.numbered;
+      sealed_only = h.sealed_only;
+      active_only = call_only a c t event none h e;
       later = [];
       sealed = sym (append-nil a.sealed);
       behind = h.behind;
@@ -282,26 +310,22 @@ write_step pages first base g k t records b o i v (inr some) granted number told
     })
 
 -- the handles of a transaction hold the root or nothing
-pub registers_as : (a : Account) (c : Core) (t : Transaction) → Agrees a c → HoldRootAlone (view c.g0 a t).registers
-registers_as a c t h = (run-SeesRootOnly (serial c.g0 a.sealed) t (serial-IsRootOnly c.g0 a.sealed h.only)).handles
-
--- the same of one of them
-pub held_as : (a : Account) (c : Core) (t : Transaction) (i : ℕ) → Agrees a c
+pub held_as : (a : Account) (c : Core) (t : Transaction) (i : ℕ) → a.active 1 ≡ Some t → Agrees a c
     → (held (view c.g0 a t).registers i ≡ None) ⊎ (held (view c.g0 a t).registers i ≡ Some root)
-held_as a c t i h = held-HoldRootAlone (view c.g0 a t).registers i (registers_as a c t h)
+held_as a c t i e h = held-HoldRootAlone (view c.g0 a t).registers i (sees_as a c t e h).handles
 
 -- a call that writes a value into a field
-pub write_agrees : (a : Account) (c : Core) (t : Transaction) (event : Event) (hd i : ℕ) (v : Val) (more : List Record) → Agrees a c → a.active 1 ≡ Some t
+pub write_agrees : (a : Account) (c : Core) (t : Transaction) (event : Event) (hd i : ℕ) (v : Val) (more : List Record) → MakesNone event → Agrees a c → a.active 1 ≡ Some t
     → (call (view c.g0 a t) t.number event).view.graph ≡ put_value (view c.g0 a t).graph (held (view c.g0 a t).registers hd) i v → IsRootVal v
     → field_refusal (view c.g0 a t).graph (held (view c.g0 a t).registers hd) i ≡ None → more ≡ view_records at_first t.number (view c.g0 a t) hd i v
     → used c + need c.pending more + kept_for (undo_behind c (all_records c ++ more)) (with_call (a.active 1) event) ≤ c.room
     → Agrees (called a event) (record c { pending = c.pending ++ more })
-write_agrees a c t event hd i v more h e graph small granted is fits =
+write_agrees a c t event hd i v more none h e graph small granted is fits =
     let seen = view c.g0 a t in
     let after_it = written h.behind t.number i v in
     let P : Option Transaction → Type 0 = λ o. IsWriter c.g0 (called a event) (with_call o event) after_it in
     let w = writer_as a c (Some t) e h in
-    let step = write_step c.pages c.first (serial c.g0 a.sealed) seen.graph (c.before + length a.sealed) t.number (all_records c) h.behind (held seen.registers hd) i v (held_as a c t hd h) granted (numbered_as a c t e h) h.told w.sees w.own small in
+    let step = write_step c.pages c.first (serial c.g0 a.sealed) seen.graph (c.before + length a.sealed) t.number (all_records c) h.behind (held seen.registers hd) i v (held_as a c t hd e h) granted (numbered_as a c t e h) h.told w.sees w.own small in
     let told = subst (λ (rs : List Record). IsTold c.pages c.first (serial c.g0 a.sealed) (c.before + length a.sealed) (all_records c ++ rs) after_it) (sym is) step.told in
     let writer = subst P (sym e) (record {
       sees = ap (λ (x : View). fields x.graph root) (run-append (serial c.g0 a.sealed) t event) ∙ ap (λ (x : Graph). fields x root) graph ∙ step.graph;
@@ -315,6 +339,8 @@ write_agrees a c t event hd i v more h e graph small granted is fits =
       idle = idle_with a.active _ h.idle;
       next_fits = h.next_fits;
       numbered = numbered_call (c.first + a.begun) (a.active 1) event h.numbered;
+      sealed_only = h.sealed_only;
+      active_only = call_only a c t event none h e;
       later = [];
       sealed = sym (append-nil a.sealed);
       behind = after_it;
@@ -352,6 +378,8 @@ seal_agrees a c t n undo h e =
       idle = idle_with a.active None h.idle;
       next_fits = h.next_fits;
       numbered = tt;
+      sealed_only = sealed_only_on a c t h e;
+      active_only = tt;
       later = option_to_list (a.active 1);
       sealed = refl;
       behind = last;
@@ -385,6 +413,8 @@ abort_agrees a c t h e =
       idle = idle_with a.active None h.idle;
       next_fits = h.next_fits;
       numbered = tt;
+      sealed_only = h.sealed_only;
+      active_only = tt;
       later = [];
       sealed = sym (append-nil a.sealed);
       behind = last;
@@ -409,7 +439,8 @@ force_all a c bs h same size =
     let room = h.room in
     let fits = undo_fits c.g0 a (a.active 1) c.pages c.first (serial c.g0 a.sealed) (c.before + length a.sealed) (all_records c) h.behind h.told h.writer in
     record {
-      only = h.only;
+      sealed_only = h.sealed_only;
+      active_only = h.active_only;
       unfailed = h.unfailed;
       certain = h.certain;
       idle = h.idle;

@@ -3,7 +3,7 @@ use Rattle.std.proofs.Common.{◌≡◌, ◌+◌, length, None, Some, subst, app
 use Rattle.graph_model.specs.Graph.{root, fields}
 use Rattle.graph_model.specs.declared.event.Event.{Event}
 use Rattle.graph_model.specs.declared.event.Event.TheVariants.{Force}
-use Rattle.graph_model.specs.SlowHeap.{IsSingleSession}
+use Rattle.graph_model.specs.Served.{IsServed}
 use Rattle.graph_model.specs.Plain
 use Rattle.graph_model.specs.Plain.{view}
 use Rattle.graph_model.specs.Transaction.{Transaction, serial}
@@ -46,7 +46,7 @@ module _ (c : Core) (sound : IsSound c) where
   core_view t e = (writer_as _ c (Some t) e (sound_agrees c sound)).sees
 
 -- the records that a granted event appends follow those before them
-pub event_follows : (c : Core) (event : Event) → (valid : IsValid c) → IsSingleSession event → core_refusal c event ≡ None → (event ≡ Force → ⊥)
+pub event_follows : (c : Core) (event : Event) → (valid : IsValid c) → IsServed event → core_refusal c event ≡ None → (event ≡ Force → ⊥)
     → (state : State) × (after_all valid.behind.state (event_records c event) ≡ Some state)
 event_follows c event valid one granted other =
     let next = goes c event valid one (may_go c event valid granted) in

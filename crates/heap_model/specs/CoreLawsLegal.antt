@@ -1,6 +1,6 @@
 -- Legal logs of heaps whose only object is the root: what is seen of them, and which logs are legal.
 use Rattle.std.proofs.Common.{◌≡◌, ℕ, ◌+◌, ◌≤◌, inl, ⊎_elim, suc, lit<, List, [], ◌∷◌, map, length, take, drop, Option, Some, None, Bool, true, false, cond, max, refl, sym, ap, ◌∙◌, subst, arith}
-use Rattle.std.specs.Prelude.{Contains, slice_get, slice_index, option_and_then}
+use Rattle.std.specs.Prelude.{Contains, slice_get, slice_index, option_and_then, ◌&&◌}
 use Rattle.std.specs.List.{AllByRecursion}
 use Rattle.std.specs.Option.{option_map}
 use Rattle.std.specs.FinMap.{empty, get, insert}
@@ -11,7 +11,7 @@ use Rattle.graph_model.specs.declared.val.Val.TheVariants.{Null, Int, Ref}
 use Rattle.heap_words.specs.declared.Header.TheVariants.{Length}
 use Rattle.heap_words.specs.declared.Word.{Word}
 use Rattle.heap_words.specs.declared.Word.TheVariants as word
-use Rattle.heap_words.specs.Word.{meaning}
+use Rattle.heap_words.specs.Word.{meaning, is_stable}
 use Rattle.heap_words.specs.WordLaws.{bits-meaning}
 use Rattle.heap_words.specs.HeaderLaws.{bits-header}
 use Rattle.graph_model.specs.Graph.{Graph, root, root_graph}
@@ -19,10 +19,10 @@ use Rattle.graph_model.specs.RootGraph.{get-insert_same}
 use Rattle.image_plan.specs.declared.superblock.Super.{Super}
 use Rattle.image_plan.specs.Super.{IsSuper}
 use Rattle.log_records.specs.declared.Record.{Record}
-use Rattle.log_records.specs.declared.Record.TheVariants.{Update, Undo, Commit, End}
+use Rattle.log_records.specs.declared.Record.TheVariants.{Update, Base, Fix, Undo, Commit, End}
 use Rattle.log_records.specs.Record.{IsRecord}
 use Rattle.log_machine.specs.declared.UndoEntry.{UndoEntry}
-use Rattle.log_machine.specs.Machine.{State, start, after, after_all, row_after, turned, number_of, is_number, lies_inside, undo_of, with_entries, without_newest, has_none, committed_words, losing_in, each_taken_back, words, reserve}
+use Rattle.log_machine.specs.Machine.{State, start, after, after_all, row_after, turned, promoted, number_of, is_number, lies_inside, is_next_free, is_promoted_by, undo_of, with_entries, without_newest, has_none, committed_words, losing_in, each_taken_back, words, reserve}
 use Rattle.log_machine.specs.StateLaws.{leads_after_all}
 use Rattle.gated_log.specs.Log.{records_of, batches_bytes}
 use Rattle.object_layout.specs.Layout.{object_at, field_words, birth_at, id_at, values, at_start, IsSeen}
@@ -56,6 +56,9 @@ moved m r x = with_next x (max m (number_of r + 1))
 row_moved : (s : State) (m : ℕ) (r : Record) → row_after (with_next s m) r ≡ option_map (moved m r) (row_after s r)
 row_moved s m (Update t object field was word) =
     told_moved (moved m (Update t object field was word)) (lies_inside s object field) (turned s t (insert s.undo t (record { object = object; field = field; was = was } ∷ undo_of s t)) 0)
+row_moved s m (Base t address words) =
+    told_moved (moved m (Base t address words)) (is_next_free s address (length words) && is_promoted_by t words) (promoted s t (length words))
+row_moved s m (Fix t object field word) = told_moved (moved m (Fix t object field word)) (lies_inside s object field && is_stable word) (turned s t s.undo 0)
 row_moved s m (Undo t object field word) =
     rest_moved (moved m (Undo t object field word)) (λ rest. turned s t (with_entries s.undo t rest) 0) (without_newest (undo_of s t) (record { object = object; field = field; was = word }))
 row_moved s m (Commit t) = refl
@@ -171,7 +174,7 @@ module _ (s : Super) (batches : List (List Record)) (legal : IsLegalLog s batche
   legal_base = (leads_after_all (start s.pages s.first) legal.state (records_of batches) legal.reached).base
 
   pub legal_used : legal.state.used ≡ 6
-  legal_used = (leads_after_all (start s.pages s.first) legal.state (records_of batches) legal.reached).used
+  legal_used = legal.alone
 
   legal_walked : IsWalked (words_of s batches) 0 6
   legal_walked = subst (λ n. IsWalked (words_of s batches) 0 n) legal_used (subst (λ n. IsWalked (words_of s batches) n legal.state.used) legal_base legal.walked)
@@ -205,13 +208,13 @@ one_birth : (words : List ℕ) (a b : ℕ) → Contains (0 ∷ []) a → Contain
 one_birth words a b first second same = one_start a first ∙ sym (one_start b second)
 
 -- a log is legal that leaves a root which stands alone
-pub root_legal : (s : Super) (batches : List (List Record)) (state : State) (vs : List Val) → IsSuper s → AllByRecursion IsRecord (records_of batches)
+pub root_legal : (s : Super) (batches : List (List Record)) (state : State) (vs : List Val) → state.used ≡ 6 → IsSuper s → AllByRecursion IsRecord (records_of batches)
     → after_all (start s.pages s.first) (records_of batches) ≡ Some state → length (batches_bytes batches) + 1 + reserve state ≤ s.log_bytes
     → StandsAlone (words_of s batches) 0 vs → IsLegalLog s batches
-root_legal s batches state vs limits good reached room alone =
+root_legal s batches state vs six limits good reached room alone =
     let to = leads_after_all (start s.pages s.first) state (records_of batches) reached in
     let plain : State = record state { base = 0; used = 6 } in
-    let same : state ≡ plain = ap (λ n. record state { base = n }) to.base ∙ ap (λ n. record state { base = 0; used = n }) to.used in
+    let same : state ≡ plain = ap (λ n. record state { base = n }) to.base ∙ ap (λ n. record state { base = 0; used = n }) six in
     let walked = root_walked (words_of s batches) 0 vs alone in
     let starts = walked_starts (words_of s batches) walked in
     record {
@@ -220,16 +223,17 @@ root_legal s batches state vs limits good reached room alone =
       state = plain;
       reached = reached ∙ ap Some same;
       room = room;
+      alone = refl;
       walked = walked;
       own_births = subst (HaveOwnBirths (words_of s batches)) (sym starts) (one_birth (words_of s batches));
       born_before = subst (AreBornBefore plain.next (words_of s batches) 0) (sym starts) (λ a has. inl (one_start a has));
     }
 
 -- a log is legal whose records follow one another and leave room, and whose words the walk passes
-pub walked_legal : (s : Super) (batches : List (List Record)) (state : State) → IsSuper s → AllByRecursion IsRecord (records_of batches)
+pub walked_legal : (s : Super) (batches : List (List Record)) (state : State) → state.used ≡ 6 → IsSuper s → AllByRecursion IsRecord (records_of batches)
     → after_all (start s.pages s.first) (records_of batches) ≡ Some state → length (batches_bytes batches) + 1 + reserve state ≤ s.log_bytes
     → IsWalked (words_of s batches) state.base state.used → IsLegalLog s batches
-walked_legal s batches state limits good reached room walked =
+walked_legal s batches state six limits good reached room walked =
     let to = leads_after_all (start s.pages s.first) state (records_of batches) reached in
-    let first = subst (λ n. IsWalked (words_of s batches) 0 n) to.used (subst (λ n. IsWalked (words_of s batches) n state.used) to.base walked) in
-    root_legal s batches state (root_values (words_of s batches) 0) limits good reached room (walked_alone (words_of s batches) first)
+    let first = subst (λ n. IsWalked (words_of s batches) 0 n) six (subst (λ n. IsWalked (words_of s batches) n state.used) to.base walked) in
+    root_legal s batches state (root_values (words_of s batches) 0) six limits good reached room (walked_alone (words_of s batches) first)

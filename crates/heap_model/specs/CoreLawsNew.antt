@@ -35,7 +35,7 @@ module _ (s : Super) (limits : IsSuper s) where
   new_legal =
       let some = limits.some_log in
       let none = none_reserve (start s.pages s.first) 0 [] refl refl in
-      root_legal s [] (start s.pages s.first) (Null ∷ Null ∷ Null ∷ Null ∷ []) limits tt refl (omega arith) new_alone
+      root_legal s [] (start s.pages s.first) (Null ∷ Null ∷ Null ∷ Null ∷ []) refl limits tt refl (omega arith) new_alone
 
   -- a new graph is seen in it
   pub new_shows : Shows s [] new_legal new_graph

@@ -5,7 +5,7 @@ use Rattle.std.proofs.lemmas.Option.{option_and_then_some}
 use Rattle.graph_model.specs.declared.val.Val.{Val}
 use Rattle.graph_model.specs.declared.val.Val.TheVariants.{Null, Int, Ref}
 use Rattle.graph_model.specs.Graph.{Graph, root, fields}
-use Rattle.graph_model.specs.RootOnly.{IsRootOnly-of}
+use Rattle.heap_model.specs.RootOnly.{IsRootOnly-of}
 use Rattle.image_plan.specs.declared.superblock.Super.{Super}
 use Rattle.log_records.specs.declared.Record.{Record}
 use Rattle.log_machine.specs.Machine.{State, start, after, after_all, number_of, commits}
@@ -49,7 +49,7 @@ alone_words (a ∷ b ∷ ws) vs alone =
 -- The number of the next transaction.
 
 next_after : (s n : State) (r : Record) → after s r ≡ Some n → max s.next (number_of r + 1) ≡ n.next
-next_after s n r is = ap (λ (x : State). x.next) (turns s n r is).is
+next_after s n r is = sym (turns s n r is).next
 
 next_all : (s x : State) (rs : List Record) → after_all s rs ≡ Some x → x.next ≡ next_behind s.next rs
 next_all s x [] is = let same : Some s ≡ Some x = is in ap (λ o. (unwrap_or o s).next) (sym is)
@@ -105,7 +105,8 @@ module _ (s : Super) (batches : List (List Record)) (legal : IsLegalLog s batche
       let room = rolled_room s batches legal in
       let none = none_reserve behind.state 0 [] refl refl in
       record {
-        only = IsRootOnly-of g vs root_fields (all_lead vs (legal_fit s batches legal));
+        sealed_only = IsRootOnly-of g vs root_fields (all_lead vs (legal_fit s batches legal));
+        active_only = tt;
         unfailed = refl;
         certain = refl;
         idle = λ session other. refl;

@@ -127,6 +127,7 @@ module _ (s : Super) (batches : List (List Record)) (legal : IsLegalLog s batche
         state = settled legal.state;
         reached = rolled_reached;
         room = omega arith;
+        alone = legal.alone;
         walked = rolled_walks.0;
         own_births = rolled_walks.1;
         born_before = rolled_walks.2;

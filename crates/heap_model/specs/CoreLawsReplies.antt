@@ -4,14 +4,14 @@ use Rattle.std.specs.Option.{option_to_list, option_map}
 use Rattle.std.proofs.lemmas.List.{append-nil}
 use Rattle.std.proofs.lemmas.List.Sums.{fold-append}
 use Rattle.graph_model.specs.declared.event.Event.{Event}
-use Rattle.graph_model.specs.declared.event.Event.TheVariants.{Begin, Root, Put, Clear, Drop, Get, Same, Len, Seal, Abort, Force}
+use Rattle.graph_model.specs.declared.event.Event.TheVariants.{Begin, Root, New, Put, Clear, Link, Drop, Get, Same, Len, Seal, Abort, Force}
 use Rattle.graph_model.specs.declared.reply.Entry.{Entry}
 use Rattle.graph_model.specs.declared.reply.Refusal.{Refusal}
 use Rattle.graph_model.specs.declared.reply.Refusal.TheVariants.{DiskFault, Stopped}
 use Rattle.graph_model.specs.declared.reply.Reply.{Reply}
 use Rattle.graph_model.specs.declared.reply.Reply.TheVariants.{Begun, Sealed, Aborted, Durable, Refused}
 use Rattle.graph_model.specs.Graph.{Graph}
-use Rattle.graph_model.specs.SlowHeap.{IsSingleSession}
+use Rattle.graph_model.specs.Served.{IsServed}
 use Rattle.graph_model.specs.Transaction.{Transaction, IsCall, fresh_view, replies, run, serial, serial_replies}
 use Rattle.graph_model.specs.History.{Account, nothing_yet, account, account_after, session_of, with_call}
 use Rattle.graph_model.specs.HistoryLaws.{IsCallReply, account-append, call_replies-append}
@@ -93,14 +93,16 @@ call_hears next g0 a heard event h is one =
     let both = subst (λ (x : Heard). HearsSerial g0 (called a event) x) (sym told) own in
     subst (λ (b : Account). HearsSerial g0 b (hear heard event reply)) (sym (call_account next g0 a event is one)) both
 
-granted_hears : (next : ℕ) (g0 : Graph) (a : Account) (heard : Heard) (event : Event) → a.in_doubt ≡ None → HearsSerial g0 a heard → IsSingleSession event → Hears next g0 a heard event
+granted_hears : (next : ℕ) (g0 : Graph) (a : Account) (heard : Heard) (event : Event) → a.in_doubt ≡ None → HearsSerial g0 a heard → IsServed event → Hears next g0 a heard event
 granted_hears next g0 a heard (Begin s) certain h one = subst (λ (n : ℕ). Hears next g0 a heard (Begin n)) (sym one) (hears_begin g0 a heard next h)
 granted_hears next g0 a heard (Seal s) certain h one = subst (λ (n : ℕ). Hears next g0 a heard (Seal n)) (sym one) (hears_seal g0 a heard (length a.sealed + 1) certain h)
 granted_hears next g0 a heard (Abort s) certain h one = subst (λ (n : ℕ). Hears next g0 a heard (Abort n)) (sym one) (record { sealed = h.sealed; active = refl; in_doubt = h.in_doubt })
 granted_hears next g0 a heard Force certain h one = record { sealed = h.sealed; active = h.active; in_doubt = h.in_doubt }
 granted_hears next g0 a heard (Root s i) certain h one = call_hears next g0 a heard (Root s i) h tt one
+granted_hears next g0 a heard (New s i len) certain h one = absurd one
 granted_hears next g0 a heard (Put s i j v) certain h one = call_hears next g0 a heard (Put s i j v) h tt one
 granted_hears next g0 a heard (Clear s i j) certain h one = call_hears next g0 a heard (Clear s i j) h tt one
+granted_hears next g0 a heard (Link s i j k) certain h one = absurd one
 granted_hears next g0 a heard (Drop s i) certain h one = call_hears next g0 a heard (Drop s i) h tt one
 granted_hears next g0 a heard (Get s i j k) certain h one = call_hears next g0 a heard (Get s i j k) h tt one
 granted_hears next g0 a heard (Same s i j) certain h one = call_hears next g0 a heard (Same s i j) h tt one
@@ -146,7 +148,7 @@ entry_answers c d event reply graph history h =
     subst (λ (g : Graph). HearsSerial g (account d.history) (heard_in d.history)) (sym graph) all
 
 -- A step of session 1 answers as the serial run does.
-pub step_answers : (c d : Core) (event : Event) (reply : Reply) → IsSound c → AnswersSerially c → IsSingleSession event → IsStep c event reply d → AnswersSerially d
+pub step_answers : (c d : Core) (event : Event) (reply : Reply) → IsSound c → AnswersSerially c → IsServed event → IsStep c event reply d → AnswersSerially d
 step_answers c d event reply sound h one (inl whole) =
     let a = account c.history in
     let heard = heard_in c.history in
@@ -162,7 +164,7 @@ step_answers c d event reply sound h one (inr cut) =
     (subst P (sym (calls-force c event cut.0.some).0) (cut_hears c.g0 a heard reply cut.0.told h))
 
 -- A step of session 1 reaches a core.
-pub step_reached : (c d : Core) (event : Event) (reply : Reply) → IsReached c → IsSingleSession event → IsStep c event reply d → IsReached d
+pub step_reached : (c d : Core) (event : Event) (reply : Reply) → IsReached c → IsServed event → IsStep c event reply d → IsReached d
 step_reached c d event reply h one step = record { sound = sound_step c d event reply h.sound one step; answers = step_answers c d event reply h.sound h.answers one step }
 
 -- So do steps, one after another.

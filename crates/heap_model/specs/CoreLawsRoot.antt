@@ -11,7 +11,7 @@ use Rattle.graph_model.specs.declared.val.Val.{Val}
 use Rattle.graph_model.specs.declared.val.Val.TheVariants.{Null, Int, Ref}
 use Rattle.graph_model.specs.Graph.{Graph, id_cmp, root, fields, root_graph}
 use Rattle.graph_model.specs.RootGraph.{id_cmp_total, id_cmp-IsAntisymmetric}
-use Rattle.graph_model.specs.RootOnly.{LeadsToRoot}
+use Rattle.heap_model.specs.RootOnly.{LeadsToRoot}
 use Rattle.heap_words.specs.declared.Word.TheVariants as means
 use Rattle.heap_words.specs.Word.{IsFieldWord}
 use Rattle.heap_words.specs.WordLaws.{meaning-bits}

@@ -7,7 +7,7 @@ use Rattle.graph_model.specs.declared.reply.Refusal.{Refusal}
 use Rattle.graph_model.specs.declared.reply.Refusal.TheVariants.{Failed, DiskFault, Stopped}
 use Rattle.graph_model.specs.declared.reply.Reply.{Reply}
 use Rattle.graph_model.specs.declared.reply.Reply.TheVariants.{Refused}
-use Rattle.graph_model.specs.SlowHeap.{IsSingleSession}
+use Rattle.graph_model.specs.Served.{IsServed}
 use Rattle.graph_model.specs.History.{Account, account, account_after, first_failure}
 use Rattle.graph_model.specs.HistoryLaws.{account-append}
 use Rattle.graph_model.specs.Plain.{event_refusal, refusal_of, granted, reply_of}
@@ -113,7 +113,7 @@ cut_fails c event reply valid cut =
     failed_entry c event reply (subst P (sym (calls-force c event cut.some).0) (cut_agrees (account c.history) c reply cut.told valid))
 
 -- A step of session 1 leaves a core sound.
-pub sound_step : (c d : Core) (event : Event) (reply : Reply) → IsSound c → IsSingleSession event → IsStep c event reply d → IsSound d
+pub sound_step : (c d : Core) (event : Event) (reply : Reply) → IsSound c → IsServed event → IsStep c event reply d → IsSound d
 sound_step c d event reply (inl valid) one (inl whole) = subst IsSound (sym whole.1) (inl (valid_after c event valid one))
 sound_step c d event reply (inl valid) one (inr cut) = subst IsSound (sym cut.1) (inr (cut_fails c event reply valid cut.0))
 sound_step c d event reply (inr failed) one (inl whole) = subst IsSound (sym whole.1) (inr (failed_stays c event failed))

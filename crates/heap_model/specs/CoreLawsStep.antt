@@ -8,14 +8,14 @@ use Rattle.graph_model.specs.declared.id.Id.{Id}
 use Rattle.graph_model.specs.declared.val.Val.{Val}
 use Rattle.graph_model.specs.declared.val.Val.TheVariants.{Null, Int}
 use Rattle.graph_model.specs.declared.event.Event.{Event}
-use Rattle.graph_model.specs.declared.event.Event.TheVariants.{Begin, Root, Put, Clear, Drop, Get, Same, Len, Seal, Abort, Force}
+use Rattle.graph_model.specs.declared.event.Event.TheVariants.{Begin, Root, New, Put, Clear, Link, Drop, Get, Same, Len, Seal, Abort, Force}
 use Rattle.graph_model.specs.declared.reply.Entry.{Entry}
 use Rattle.graph_model.specs.declared.reply.Refusal.{Refusal}
 use Rattle.graph_model.specs.declared.reply.Refusal.TheVariants.{AlreadyActive, NumbersSpent, Range, LogFull}
 use Rattle.graph_model.specs.declared.reply.Reply.{Reply}
 use Rattle.graph_model.specs.declared.reply.Reply.TheVariants.{Begun, Sealed, Aborted, Durable, Refused}
 use Rattle.graph_model.specs.Graph.{Graph}
-use Rattle.graph_model.specs.SlowHeap.{IsSingleSession}
+use Rattle.graph_model.specs.Served.{IsServed, MakesNone}
 use Rattle.graph_model.specs.Transaction.{View, Transaction, IsCall, held, put_value, call}
 use Rattle.graph_model.specs.History.{Account, account, account_after, session_of, makes_call, with_call}
 use Rattle.graph_model.specs.HistoryLaws.{IsCallReply, account-append, account_after-call}
@@ -73,8 +73,10 @@ is_write event = false
 pub quiet_records : (c : Core) (event : Event) → IsCall event → is_write event ≡ false → event_records c event ≡ []
 quiet_records c (Begin s) is quiet = absurd is
 quiet_records c (Root s h) is quiet = refl
+quiet_records c (New s h len) is quiet = refl
 quiet_records c (Put s h i v) is quiet = cc
 quiet_records c (Clear s h i) is quiet = cc
+quiet_records c (Link s h i h2) is quiet = refl
 quiet_records c (Drop s h) is quiet = refl
 quiet_records c (Get s h i h2) is quiet = refl
 quiet_records c (Same s h h2) is quiet = refl
@@ -84,18 +86,20 @@ quiet_records c (Abort s) is quiet = absurd is
 quiet_records c Force is quiet = absurd is
 
 -- and leaves the graph
-quiet_graph : (v : View) (t : ℕ) (event : Event) → is_write event ≡ false → (call v t event).view.graph ≡ v.graph
-quiet_graph v t (Begin s) quiet = refl
-quiet_graph v t (Root s h) quiet = refl
-quiet_graph v t (Put s h i n) quiet = cc
-quiet_graph v t (Clear s h i) quiet = cc
-quiet_graph v t (Drop s h) quiet = refl
-quiet_graph v t (Get s h i h2) quiet = refl
-quiet_graph v t (Same s h h2) quiet = refl
-quiet_graph v t (Len s h) quiet = refl
-quiet_graph v t (Seal s) quiet = refl
-quiet_graph v t (Abort s) quiet = refl
-quiet_graph v t Force quiet = refl
+quiet_graph : (v : View) (t : ℕ) (event : Event) → MakesNone event → is_write event ≡ false → (call v t event).view.graph ≡ v.graph
+quiet_graph v t (Begin s) none quiet = refl
+quiet_graph v t (Root s h) none quiet = refl
+quiet_graph v t (New s h len) none quiet = absurd none
+quiet_graph v t (Put s h i n) none quiet = cc
+quiet_graph v t (Clear s h i) none quiet = cc
+quiet_graph v t (Link s h i h2) none quiet = absurd none
+quiet_graph v t (Drop s h) none quiet = refl
+quiet_graph v t (Get s h i h2) none quiet = refl
+quiet_graph v t (Same s h h2) none quiet = refl
+quiet_graph v t (Len s h) none quiet = refl
+quiet_graph v t (Seal s) none quiet = refl
+quiet_graph v t (Abort s) none quiet = refl
+quiet_graph v t Force none quiet = refl
 
 -- what is done but a force is that records wait
 pub done_records : (c : Core) (event : Event) → (event ≡ Force → ⊥) → done c event ≡ record c { pending = c.pending ++ event_records c event }
@@ -108,8 +112,10 @@ no_call (Begin s) is e = is
 no_call (Seal s) is e = is
 no_call (Abort s) is e = is
 no_call (Root s h) is e = cc
+no_call (New s h len) is e = cc
 no_call (Put s h i v) is e = cc
 no_call (Clear s h i) is e = cc
+no_call (Link s h i h2) is e = cc
 no_call (Drop s h) is e = cc
 no_call (Get s h i h2) is e = cc
 no_call (Same s h h2) is e = cc
@@ -207,26 +213,26 @@ begin_goes c valid may =
     let room = full_log-room c.room (used c) (need c.pending []) (reserved_after c (Begin 1)) may.1 in
     begin_agrees a c valid (not_active (a.active 1) tests.0) (eqb-false (next_number c) no_number tests.1) (omega arith)
 
-quiet_goes : (c : Core) (event : Event) → IsValid c → IsCall event → session_of event ≡ 1 → is_write event ≡ false → IsGranted c event → Goes c event
-quiet_goes c event valid is one quiet may =
+quiet_goes : (c : Core) (event : Event) → MakesNone event → IsValid c → IsCall event → session_of event ≡ 1 → is_write event ≡ false → IsGranted c event → Goes c event
+quiet_goes c event none valid is one quiet may =
     let a = account c.history in
     let t = call_transaction c event is one may.0 in
-    let go = quiet_agrees a c t.0 event valid t.1 (quiet_graph (view c.g0 a t.0) t.0.number event quiet) in
+    let go = quiet_agrees a c t.0 event none valid t.1 (quiet_graph (view c.g0 a t.0) t.0.number event none quiet) in
     let left : done c event ≡ record c { pending = c.pending ++ [] } =
     done_records c event (no_call event is) ∙ ap (λ (more : List Record). record c { pending = c.pending ++ more }) (quiet_records c event is quiet) in
     let there = subst (λ (d : Core). Agrees (called a event) d) (sym left) go in
     subst (λ (b : Account). Agrees b (done c event)) (sym (call_account (next_number c) c.g0 a event is one)) there
 
 -- a call that writes a value into a field
-write_goes : (c : Core) (t : Transaction) (event : Event) (hd i : ℕ) (v : Val) → IsValid c → IsCall event → session_of event ≡ 1 → (account c.history).active 1 ≡ Some t
+write_goes : (c : Core) (t : Transaction) (event : Event) (hd i : ℕ) (v : Val) → MakesNone event → IsValid c → IsCall event → session_of event ≡ 1 → (account c.history).active 1 ≡ Some t
     → (call (view c.g0 (account c.history) t) t.number event).view.graph ≡ put_value (view c.g0 (account c.history) t).graph (held (view c.g0 (account c.history) t).registers hd) i v → IsRootVal v
     → field_refusal (view c.g0 (account c.history) t).graph (held (view c.g0 (account c.history) t).registers hd) i ≡ None
     → event_records c event ≡ view_records (place c) t.number (view c.g0 (account c.history) t) hd i v → log_refusal c event ≡ None → Goes c event
-write_goes c t event hd i v valid is one e graph small within records room =
+write_goes c t event hd i v none valid is one e graph small within records room =
     let a = account c.history in
     let fits = full_log-room c.room (used c) (need c.pending (event_records c event)) (reserved_after c event) room in
     let kept = call_reserved c event valid is one in
-    let go = write_agrees a c t event hd i v (event_records c event) valid e graph small within records (omega arith) in
+    let go = write_agrees a c t event hd i v (event_records c event) none valid e graph small within records (omega arith) in
     let there = subst (λ (d : Core). Agrees (called a event) d) (sym (done_records c event (no_call event is))) go in
     subst (λ (b : Account). Agrees b (done c event)) (sym (call_account (next_number c) c.g0 a event is one)) there
 
@@ -247,14 +253,14 @@ put_goes c h i v valid may =
     let event : Event = Put 1 h i v in
     let t = call_transaction c event tt refl may.0 in
     let bounds = put_bounds (view c.g0 a t.0).graph (held (view c.g0 a t.0).registers h) i v t.2 in
-    write_goes c t.0 event h i (Int v) valid tt refl t.1 refl bounds.0 bounds.1 (ap (λ (o : Option Transaction). call_records (place c) c.g0 a (undo_behind c (all_records c)) o event) t.1) may.1
+    write_goes c t.0 event h i (Int v) tt valid tt refl t.1 refl bounds.0 bounds.1 (ap (λ (o : Option Transaction). call_records (place c) c.g0 a (undo_behind c (all_records c)) o event) t.1) may.1
 
 clear_goes : (c : Core) (h i : ℕ) → IsValid c → IsGranted c (Clear 1 h i) → Goes c (Clear 1 h i)
 clear_goes c h i valid may =
     let a = account c.history in
     let event : Event = Clear 1 h i in
     let t = call_transaction c event tt refl may.0 in
-    write_goes c t.0 event h i Null valid tt refl t.1 refl tt t.2 (ap (λ (o : Option Transaction). call_records (place c) c.g0 a (undo_behind c (all_records c)) o event) t.1) may.1
+    write_goes c t.0 event h i Null tt valid tt refl t.1 refl tt t.2 (ap (λ (o : Option Transaction). call_records (place c) c.g0 a (undo_behind c (all_records c)) o event) t.1) may.1
 
 seal_goes : (c : Core) → IsValid c → IsGranted c (Seal 1) → Goes c (Seal 1)
 seal_goes c valid may =
@@ -269,15 +275,17 @@ abort_goes c valid may =
     abort_agrees a c t.0 valid t.1
 
 -- an event of session 1 that isn't refused, by its form
-pub goes : (c : Core) (event : Event) → IsValid c → IsSingleSession event → IsGranted c event → Goes c event
+pub goes : (c : Core) (event : Event) → IsValid c → IsServed event → IsGranted c event → Goes c event
 goes c (Begin s) valid one may = let P : ℕ → Type 0 = λ n. IsGranted c (Begin n) → Goes c (Begin n) in subst P (sym one) (begin_goes c valid) may
-goes c (Root s h) valid one may = quiet_goes c (Root s h) valid tt one refl may
+goes c (Root s h) valid one may = quiet_goes c (Root s h) tt valid tt one refl may
+goes c (New s h len) valid one may = absurd one
 goes c (Put s h i v) valid one may = let P : ℕ → Type 0 = λ n. IsGranted c (Put n h i v) → Goes c (Put n h i v) in subst P (sym one) (put_goes c h i v valid) may
 goes c (Clear s h i) valid one may = let P : ℕ → Type 0 = λ n. IsGranted c (Clear n h i) → Goes c (Clear n h i) in subst P (sym one) (clear_goes c h i valid) may
-goes c (Drop s h) valid one may = quiet_goes c (Drop s h) valid tt one refl may
-goes c (Get s h i h2) valid one may = quiet_goes c (Get s h i h2) valid tt one refl may
-goes c (Same s h h2) valid one may = quiet_goes c (Same s h h2) valid tt one refl may
-goes c (Len s h) valid one may = quiet_goes c (Len s h) valid tt one refl may
+goes c (Link s h i h2) valid one may = absurd one
+goes c (Drop s h) valid one may = quiet_goes c (Drop s h) tt valid tt one refl may
+goes c (Get s h i h2) valid one may = quiet_goes c (Get s h i h2) tt valid tt one refl may
+goes c (Same s h h2) valid one may = quiet_goes c (Same s h h2) tt valid tt one refl may
+goes c (Len s h) valid one may = quiet_goes c (Len s h) tt valid tt one refl may
 goes c (Seal s) valid one may = let P : ℕ → Type 0 = λ n. IsGranted c (Seal n) → Goes c (Seal n) in subst P (sym one) (seal_goes c valid) may
 goes c (Abort s) valid one may = let P : ℕ → Type 0 = λ n. IsGranted c (Abort n) → Goes c (Abort n) in subst P (sym one) (abort_goes c valid) may
 goes c Force valid one may = force_agrees (account c.history) c valid
@@ -351,11 +359,11 @@ either_way c event None valid sound go = valid_entry c (done c event) event _ (d
 either_way c event (Some why) valid sound go = valid_entry c c event (Refused why) refl (refused_agrees (account c.history) c event why sound valid)
 
 -- A valid core stays valid where the disk does what it is asked.
-pub valid_after : (c : Core) (event : Event) → IsValid c → IsSingleSession event → IsValid (after c event)
+pub valid_after : (c : Core) (event : Event) → IsValid c → IsServed event → IsValid (after c event)
 valid_after c event valid one = either_way c event (core_refusal c event) valid (core_refusal-HasNoFault c event) (λ e. goes c event valid one (may_go c event valid e))
 
 -- the records that a granted event appends have spellings
-pub event_records_good : (c : Core) (event : Event) → IsValid c → IsSingleSession event → core_refusal c event ≡ None → (event ≡ Force → ⊥) → AllByRecursion IsRecord (event_records c event)
+pub event_records_good : (c : Core) (event : Event) → IsValid c → IsServed event → core_refusal c event ≡ None → (event ≡ Force → ⊥) → AllByRecursion IsRecord (event_records c event)
 event_records_good c event valid one granted other =
     let a = account c.history in
     let left = subst (λ (d : Core). Agrees (account_after a (record { event = event; reply = Plain.granted (next_number c) c.g0 a event })) d) (done_records c event other) (goes c event valid one (may_go c event valid granted)) in

@@ -9,7 +9,7 @@ use Rattle.graph_model.specs.declared.id.Id.{Id}
 use Rattle.graph_model.specs.declared.val.Val.{Val}
 use Rattle.graph_model.specs.Graph.{Graph, root}
 use Rattle.graph_model.specs.Graph as graph
-use Rattle.graph_model.specs.RootOnly.{IsRootOnly}
+use Rattle.heap_model.specs.RootOnly.{IsRootOnly, SeesRootOnly}
 use Rattle.graph_model.specs.Transaction.{Transaction, replies, serial, serial_replies}
 use Rattle.graph_model.specs.History.{Account, account}
 use Rattle.graph_model.specs.Plain.{view, no_number}
@@ -93,7 +93,8 @@ kept_behind b (Some t) = undo_bytes b.undo
 
 -- A core agrees with what its history says.
 pub record Agrees (a : Account) (c : Core) : Type 0 where
-  pub only : IsRootOnly c.g0  -- nothing but the root is reached
+  pub sealed_only : IsRootOnly (serial c.g0 a.sealed)  -- nothing but the root is reached
+  pub active_only : MatchOption (a.active 1) (Unit {0}) (λ t. SeesRootOnly (view c.g0 a t))
   pub unfailed : a.failed ≡ None  -- the disk has done what it was asked
   pub certain : a.in_doubt ≡ None  -- a seal asks nothing of the disk
   pub idle : (s : ℕ) → s ≢ 1 → a.active s ≡ None  -- no other session has a transaction

@@ -26,6 +26,7 @@ pub record IsLegalLog (s : Super) (batches : List (List Record)) : Type 0 where
   pub state : State
   pub reached : after_all (start s.pages s.first) (records_of batches) ≡ Some state
   pub room : length (batches_bytes batches) + 1 + reserve state ≤ s.log_bytes
+  pub alone : state.used ≡ 6  -- the root is the only object: no other is served yet
   pub walked : IsWalked (words_of s batches) state.base state.used
   pub own_births : HaveOwnBirths (words_of s batches) walked.starts
   pub born_before : AreBornBefore state.next (words_of s batches) state.base walked.starts

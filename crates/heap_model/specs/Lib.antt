@@ -27,5 +27,6 @@ pub mod Ending
 pub mod Image
 pub mod ListLaws
 pub mod Opening
+pub mod RootOnly
 pub mod Theorems
 pub mod ValueWord

@@ -26,7 +26,7 @@ use Rattle.graph_model.specs.declared.event.Event.{Event}
 use Rattle.graph_model.specs.Canon.{canon}
 use Rattle.graph_model.specs.Graph.{Graph}
 use Rattle.graph_model.specs.History.{commits, acknowledged}
-use Rattle.graph_model.specs.SlowHeap.{IsSingleSession}
+use Rattle.graph_model.specs.Served.{IsServed}
 use Rattle.graph_model.specs.Transaction.{serial, serial_replies}
 use Rattle.gated_log.specs.Log.{records_of}
 use Rattle.image_plan.specs.declared.superblock.Super.{Super}
@@ -41,7 +41,7 @@ use Rattle.heap_model.specs.Opening.{rolled_back, next_behind, opened}
 
 -- Events of one session reach a core from a core, whichever of them the disk cuts short.
 abbrev pub StepsTheorem : Type 0
-StepsTheorem = (c d : Core) (events : List Event) → IsReached c → AllByRecursion IsSingleSession events → IsRun c events d → IsReached d
+StepsTheorem = (c d : Core) (events : List Event) → IsReached c → AllByRecursion IsServed events → IsRun c events d → IsReached d
 
 -- Each image that holds what a crash leaves of a core keeps its commits. A core that is reached is sound.
 abbrev pub CrashTheorem : Type 0

@@ -1,5 +1,5 @@
 -- What was read is a legal log once the walk of its words passes.
-use Rattle.std.proofs.Common.{◌≡◌, ◌⊎◌, inl, inr, ℕ, ◌+◌, ◌≤◌, List, [], ◌∷◌, length, Option, Some, None, refl, sym, ap, ◌∙◌, subst, arith}
+use Rattle.std.proofs.Common.{◌≡◌, inl, inr, ℕ, ◌+◌, ◌≤◌, List, [], ◌∷◌, length, Some, sym, ap, ◌∙◌, subst, arith}
 use Rattle.std.specs.Prelude.{Contains}
 use Rattle.std.specs.List.{AllByRecursion}
 use Rattle.gated_log.specs.Log.{records_of, batches_bytes}
@@ -8,10 +8,9 @@ use Rattle.image_plan.specs.Super.{IsSuper}
 use Rattle.log_records.specs.declared.Record.{Record}
 use Rattle.log_records.specs.Record.{IsRecord}
 use Rattle.log_machine.specs.Machine.{State, start, after_all, reserve}
-use Rattle.log_machine.specs.StateLaws.{leads_after_all}
 use Rattle.heap_model.specs.Image.{IsLegalLog, words_of}
 use Rattle.object_layout.specs.Layout.{object_at}
-use Rattle.object_layout.specs.Walk.{used_words, AreEndToEnd, IsRootAt, IsFilled, IsWalked, HaveOwnBirths, AreBornBefore}
+use Rattle.object_layout.specs.Walk.{used_words, AreEndToEnd, IsFilled, IsWalked, HaveOwnBirths, AreBornBefore}
 use Rattle.object_layout.specs.WalkLaws.{Contains-cases, Contains-none}
 
 -- objects end to end go forward
@@ -48,17 +47,17 @@ born_before : (next : ℕ) (words : List ℕ) (base : ℕ) (starts : List ℕ) �
 born_before next words base starts is at has = inl (only base starts is at has)
 
 -- A log whose records follow one another is legal where it has room for a rollback and the walk of its words passes: the root is their only object.
-pub legal_log : (s : Super) (batches : List (List Record)) (state : State) → IsSuper s → AllByRecursion IsRecord (records_of batches) → after_all (start s.pages s.first) (records_of batches) ≡ Some state
+pub legal_log : (s : Super) (batches : List (List Record)) (state : State) → state.used ≡ 6 → IsSuper s → AllByRecursion IsRecord (records_of batches) → after_all (start s.pages s.first) (records_of batches) ≡ Some state
     → length (batches_bytes batches) + 1 + reserve state ≤ s.log_bytes → IsWalked (words_of s batches) state.base state.used → IsLegalLog s batches
-legal_log s batches state limits good reached room walked =
-    let leads = leads_after_all (start s.pages s.first) state (records_of batches) reached in
-    let alone = root_alone (words_of s batches) state.base walked.starts (subst (λ (n : ℕ). IsFilled (words_of s batches) state.base n walked.starts) leads.used walked.filled) in
+legal_log s batches state six limits good reached room walked =
+    let alone = root_alone (words_of s batches) state.base walked.starts (subst (λ (n : ℕ). IsFilled (words_of s batches) state.base n walked.starts) six walked.filled) in
     record {
       limits = limits;
       good = good;
       state = state;
       reached = reached;
       room = room;
+      alone = six;
       walked = walked;
       own_births = own_births (words_of s batches) state.base walked.starts alone;
       born_before = born_before state.next (words_of s batches) state.base walked.starts alone;

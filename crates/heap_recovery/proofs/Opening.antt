@@ -29,9 +29,9 @@ use Rattle.log_machine.specs.CommittedLaws.{committed_words_at}
 use Rattle.object_layout.specs.Walk.{IsWalked, IsWalkFault}
 use Rattle.object_layout.specs.WalkLaws.{walked_fault}
 use Rattle.heap_model.specs.CoreLawsCrash.{records_of-with_batch}
-use Rattle.heap_model.specs.CoreLawsHeld.{held_with, still_stands, rolled_stands}
-use Rattle.heap_model.specs.Image.{words_of, IsLegalLog, Holds, IsLegal, Says, StandsFor}
-use Rattle.heap_model.specs.Opening.{rollback_in, rollback_of, rolled_back, next_in, next_of}
+use Rattle.heap_model.specs.CoreLawsHeld.{still_stands, rolled_stands}
+use Rattle.heap_model.specs.Image.{words_of, IsLegalLog, Holds, StandsFor}
+use Rattle.heap_model.specs.Opening.{rollback_in, rollback_of, rolled_back, next_in}
 use Rattle.heap_recovery.specs.declared.error.RecoverError.{RecoverError}
 use Rattle.heap_recovery.specs.declared.error.RecoverError.TheVariants.{NoMemory, NotHeap, Damaged, Disk}
 use Rattle.heap_recovery.specs.declared.reading.Reading.{Reading}
@@ -143,7 +143,7 @@ module _ (s : Super) (batches : List (List Record)) (read : Reading) (is : IsRea
   -- what was read is a legal log, if the walk of its words passes
   pub read_legal : (used : log_used read.log + reserve read.state ≤ log_room read.log) (now : List ℕ) → now ≡ all_taken_back read.state read.words → IsWalked now read.state.base read.state.used → IsLegalLog s batches
   read_legal room now rolled walked =
-      legal_log s batches read.state is.limits is.good is.state (omega (arith, room, used_of read.log batches is.log, is.room))
+      legal_log s batches read.state is.alone is.limits is.good is.state (omega (arith, room, used_of read.log batches is.log, is.room))
       (subst (λ (l : List ℕ). IsWalked l read.state.base read.state.used) (rolled ∙ committed) walked)
 
   -- a legal log has the room for its rollback, and its walk passes

@@ -32,6 +32,7 @@ pub record IsRead (s : Super) (batches : List (List Record)) (read : Reading) : 
   pub room : log_room read.log ≡ s.log_bytes
   pub words : read.words ≡ words s.pages (records_of batches)
   pub state : state_of s batches ≡ Some read.state
+  pub alone : read.state.used ≡ 6
 
 -- What was opened is a heap with these numbers, whose log held these batches and holds them now rolled back.
 pub record IsRecovered (s : Super) (batches : List (List Record)) (found : Recovered) : Type 0 where

@@ -19,7 +19,7 @@ use crate::reading::Reading;
 use disk_model::Disk;
 use gated_log::Log;
 use image_plan::{SUPER_BYTES, Super, read_super};
-use log_machine::replay;
+use log_machine::{ROOT_WORDS, replay};
 use std::alloc::Global;
 
 /// Reads the image on the disk.
@@ -74,6 +74,12 @@ fn read_log<D: Disk>(alloc: Global, disk: &mut D, of: Super) -> Result<Reading, 
     let (state, words) = replay(alloc, of.pages, of.first, &records)?;
     if log.used() + state.reserve() > log.room() {
         return Err(RecoverError::Damaged { at: At::Reserve });
+    }
+    // The first object behind the root: none but the root is served yet.
+    if state.used() != ROOT_WORDS {
+        return Err(RecoverError::Damaged {
+            at: At::Address(ROOT_WORDS),
+        });
     }
     Ok(Reading {
         of,

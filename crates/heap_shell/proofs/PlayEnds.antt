@@ -12,7 +12,7 @@ use Rattle.graph_model.specs.declared.reply.Entry.{Entry}
 use Rattle.graph_model.specs.declared.reply.Refusal.TheVariants.{DiskFault, Stopped}
 use Rattle.graph_model.specs.declared.reply.Reply.{Reply}
 use Rattle.graph_model.specs.declared.reply.Reply.TheVariants.{Refused}
-use Rattle.graph_model.specs.SlowHeap.{IsSingleSession}
+use Rattle.graph_model.specs.Served.{IsServed}
 use Rattle.graph_model.specs.Transaction.{Transaction, serial, serial_replies}
 use Rattle.graph_model.specs.History.{sealed, commits, acknowledged}
 use Rattle.image_plan.specs.declared.superblock.Super.{Super}
@@ -68,7 +68,7 @@ module _ {D : Type 0} {g : Ghosts D} (s : Super) (c : Core) (running : IsRunning
   pub run_reached : IsRun c made core × IsReached core
   run_reached = makes_run c made plays.behind core old new ready makes
 
-  made_single : AllByRecursion IsSingleSession made
+  made_single : AllByRecursion IsServed made
   made_single = (ready_front c made plays.behind ready).single
 
   replies : call_replies_of core.history ≡ serial_replies core.g0 (commits core.history)

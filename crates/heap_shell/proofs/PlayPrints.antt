@@ -8,7 +8,7 @@ use Rattle.graph_model.specs.declared.event.Event.{Event}
 use Rattle.graph_model.specs.declared.reply.Entry.{Entry}
 use Rattle.graph_model.specs.Graph.{Graph}
 use Rattle.graph_model.specs.History.{sealed}
-use Rattle.graph_model.specs.SlowHeap.{IsSingleSession}
+use Rattle.graph_model.specs.Served.{IsServed}
 use Rattle.graph_model.specs.Transaction.{serial}
 use Rattle.heap_core.specs.declared.heap.Heap.{Heap}
 use Rattle.heap_model.specs.Core.{Core}
@@ -69,7 +69,7 @@ module _ {D : Type 0} {g : Ghosts D} (stop : Option ℕ) (c : Core) (new : IsNew
   pub reached : IsReached core
   reached =
       let single = (all_playable stop c script new.running.reached is_script).single in
-      run_reached c core plays.made new.running.reached (single_front plays.made plays.behind (subst (AllByRecursion IsSingleSession) plays.parts single)) plays.run
+      run_reached c core plays.made new.running.reached (single_front plays.made plays.behind (subst (AllByRecursion IsServed) plays.parts single)) plays.run
 
   wrote : Wrote result before core.history after
   wrote = plays.written tells before (sym (ap (λ (h : List Entry). before ++ lines_text h) new.nothing ∙ append-nil before))

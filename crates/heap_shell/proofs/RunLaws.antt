@@ -11,7 +11,7 @@ use Rattle.disk_model.specs.Moments.{LeavesOnly, joined, weaker}
 use Rattle.gate_slot.specs.Passing.{Passes}
 use Rattle.graph_model.specs.declared.event.Event.{Event}
 use Rattle.graph_model.specs.History.{acknowledged}
-use Rattle.graph_model.specs.SlowHeap.{IsSingleSession}
+use Rattle.graph_model.specs.Served.{IsServed}
 use Rattle.heap_model.specs.Core.{Core}
 use Rattle.heap_model.specs.CoreCrash.{KeepsCommits, HasAtLeast}
 use Rattle.heap_model.specs.CoreLawsGrow.{has_at_least_on, keeps_at_least}
@@ -98,13 +98,13 @@ module _ {D : Type 0} (g : Ghosts D) (s : Super) (old new : D) where
 
 -- What a run says of crashes in short.
 module _ {D : Type 0} (g : Ghosts D) (now : (disk : D) (image : List ℕ) → g.left_since disk (g.moment disk) image → g.may_leave disk image) (start final : D) where
-  pub crash_safe : (stop : Option Stop) (c : Core) (events : List Event) (result : Status) (told : Bool) (before after : List ℕ) → IsReached c → AllByRecursion IsSingleSession events
+  pub crash_safe : (stop : Option Stop) (c : Core) (events : List Event) (result : Status) (told : Bool) (before after : List ℕ) → IsReached c → AllByRecursion IsServed events
       → IsPlayed g stop c events start final result told before after → IsCrashSafe g (stop_after stop) c start final result told before after
   crash_safe stop c events result told before after reached single played =
       let made = played.run.made in
       let core = played.run.core in
       let disk = played.disk in
-      let one = single_front made played.run.behind (subst (AllByRecursion IsSingleSession) played.run.parts single) in
+      let one = single_front made played.run.behind (subst (AllByRecursion IsServed) played.run.parts single) in
       let run = steps_run g (stop_after stop) start final c core disk.opened disk.stopped made disk.steps in
       let at_end = run_reached c core made reached one run in
       let least = acknowledged c.history in

@@ -3,7 +3,7 @@ use Rattle.std.proofs.Common.{◌≡◌, inl, inr, ℕ, ◌≤◌, List, [], ◌
 use Rattle.disk_model.specs.declared.disk.Disk.{Ghosts}
 use Rattle.graph_model.specs.declared.event.Event.{Event}
 use Rattle.graph_model.specs.Graph.{new_graph}
-use Rattle.graph_model.specs.SlowHeap.{IsSingleSession}
+use Rattle.graph_model.specs.Served.{IsServed}
 use Rattle.script_text.specs.declared.line.Line.{Line}
 use Rattle.script_text.specs.Line.{events}
 use Rattle.script_text.specs.Script.{script}
@@ -52,7 +52,7 @@ running_after c events ready = record {
 pub ready_behind : (c : Core) (before behind : List Event) → AreReady c (before ++ behind) → AreReady (after_events c before) behind
 ready_behind c before behind ready = record {
   running = running_after c before (ready_front c before behind ready);
-  single = AllByRecursion-behind IsSingleSession before behind ready.single;
+  single = AllByRecursion-behind IsServed before behind ready.single;
 }
 
 -- The events that were made are a run, and what they left is reached.

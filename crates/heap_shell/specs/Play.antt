@@ -10,7 +10,7 @@ use Rattle.graph_model.specs.declared.reply.Refusal.TheVariants.{DiskFault, Stop
 use Rattle.graph_model.specs.declared.reply.Reply.{Reply}
 use Rattle.graph_model.specs.declared.reply.Reply.TheVariants.{Refused}
 use Rattle.graph_model.specs.History.{account}
-use Rattle.graph_model.specs.SlowHeap.{IsSingleSession}
+use Rattle.graph_model.specs.Served.{IsServed}
 use Rattle.graph_model.specs.Text.{line}
 use Rattle.image_plan.specs.declared.superblock.Super.{Super}
 use Rattle.heap_core.specs.declared.heap.Heap.{Heap}
@@ -35,7 +35,7 @@ pub record IsRunning (c : Core) : Type 0 where
 -- Events that a core may be asked one after another: they are session 1's.
 pub record AreReady (c : Core) (events : List Event) : Type 0 where
   pub running : IsRunning c
-  pub single : AllByRecursion IsSingleSession events
+  pub single : AllByRecursion IsServed events
 
 -- A first part of a text was written.
 abbrev pub WroteFront : List ℕ → List ℕ → List ℕ → Type 0

@@ -11,7 +11,7 @@ use Rattle.graph_model.specs.declared.reply.Reply.{Reply}
 use Rattle.graph_model.specs.declared.reply.Reply.TheVariants.{Begun, Sealed, Aborted, Durable, Refused}
 use Rattle.graph_model.specs.History.{Account, account, done, cut_short, answered, acknowledged}
 use Rattle.graph_model.specs.HistoryLaws.{account-append}
-use Rattle.graph_model.specs.SlowHeap.{IsSingleSession}
+use Rattle.graph_model.specs.Served.{IsServed}
 use Rattle.heap_model.specs.Core.{Core, IsStep, IsRun}
 use Rattle.heap_model.specs.CoreCrash.{KeepsCommits, HasAtLeast}
 use Rattle.heap_model.specs.CoreLawsGrow.{has_at_least_on, keeps_at_least, has_fewer}
@@ -71,7 +71,7 @@ module _ {D : Type 0} (g : Ghosts D) (stop : Option ℕ) (start final : D) where
 
   module _ (only_now : (disk : D) (c : List ℕ) → g.left_since disk (g.moment disk) c → g.may_leave disk c) where
     -- From the moment of the first disk on each image holds at least the commits that were acknowledged by then.
-    pub steps_last : (c d : Core) (old new : D) (events : List Event) → IsReached c → AllByRecursion IsSingleSession events → ((image : List ℕ) → g.may_leave old image → KeepsCommits c image)
+    pub steps_last : (c d : Core) (old new : D) (events : List Event) → IsReached c → AllByRecursion IsServed events → ((image : List ℕ) → g.may_leave old image → KeepsCommits c image)
         → AreSteps (Step g stop start final) c old events d new → LeavesOnly g.moment g.left_since old new (HasAtLeast d (acknowledged c.history))
     steps_last c d old new [] reached single here steps =
         let P : Core → D → Type 0 = λ x disk. LeavesOnly g.moment g.left_since old disk (HasAtLeast x (acknowledged c.history)) in
@@ -96,7 +96,7 @@ module _ {D : Type 0} (g : Ghosts D) (stop : Option ℕ) (start final : D) where
         either)
 
     -- So do they until a later moment, up to which a crash keeps all commits that were acknowledged at the end.
-    pub last_until : (c d : Core) (old new : D) (events : List Event) → IsReached c → AllByRecursion IsSingleSession events → ((image : List ℕ) → g.may_leave old image → KeepsCommits c image)
+    pub last_until : (c d : Core) (old new : D) (events : List Event) → IsReached c → AllByRecursion IsServed events → ((image : List ℕ) → g.may_leave old image → KeepsCommits c image)
         → AreSteps (Step g stop start final) c old events d new → LeavesOnly g.moment g.left_since new final (KeepsCommits d) → LeavesOnly g.moment g.left_since old final (HasAtLeast d (acknowledged c.history))
     last_until c d old new events reached single here steps rest =
         let least = acknowledged c.history in
@@ -109,7 +109,7 @@ module _ {D : Type 0} (g : Ghosts D) (stop : Option ℕ) (start final : D) where
         either)
 
     -- Each step of a chain lasts: from its answer on each image holds at least the commits that were acknowledged by then.
-    pub lasting_steps : (c d : Core) (old new : D) (events : List Event) → IsReached c → AllByRecursion IsSingleSession events
+    pub lasting_steps : (c d : Core) (old new : D) (events : List Event) → IsReached c → AllByRecursion IsServed events
         → AreSteps (Step g stop start final) c old events d new → LeavesOnly g.moment g.left_since new final (KeepsCommits d) → AreSteps (LastingStep g stop d start final) c old events d new
     lasting_steps c d old new [] reached single steps rest = steps
     lasting_steps c d old new (event ∷ events) reached single steps rest =

@@ -1,5 +1,5 @@
 -- What a field's word means.
-use Rattle.std.specs.Prelude.{◌≡◌, ℕ, ◌+◌, ◌*◌, ◌/◌, ◌%◌, ◌^◌, ◌<◌, ◌==◌, nat_lt, Option, None, Some, if◌then◌else◌}
+use Rattle.std.specs.Prelude.{◌≡◌, ℕ, ◌+◌, ◌*◌, ◌/◌, ◌%◌, ◌^◌, ◌<◌, ◌==◌, nat_lt, Bool, true, false, Option, None, Some, if◌then◌else◌}
 use Rattle.heap_words.specs.declared.Word.{Word}
 use Rattle.heap_words.specs.declared.Word.TheVariants.{Null, Int, Stable, Volatile}
 
@@ -28,3 +28,27 @@ meaning w =
     else (if w % 4 == 1 then (if nat_lt (w / 4) (2 ^ 62) then Some (Int (w / 4)) else None)
     else (if w % 4 == 2 then (if nat_lt (w / 4) 2097152 then Some (Stable (w / 4)) else None)
     else (if w % 4 == 3 then (if nat_lt (w / 4) 4096 then Some (Volatile (w / 4)) else None) else None)))
+
+-- whether a meaning is a reference to a stable object
+abbrev pub refers_to_stable : Option Word → Bool
+refers_to_stable None = false
+refers_to_stable (Some Null) = false
+refers_to_stable (Some (Int n)) = false
+refers_to_stable (Some (Stable address)) = true
+refers_to_stable (Some (Volatile index)) = false
+
+-- whether a meaning is a reference to a volatile object
+abbrev pub refers_to_volatile : Option Word → Bool
+refers_to_volatile None = false
+refers_to_volatile (Some Null) = false
+refers_to_volatile (Some (Int n)) = false
+refers_to_volatile (Some (Stable address)) = false
+refers_to_volatile (Some (Volatile index)) = true
+
+-- whether a word is a reference to a stable object
+abbrev pub is_stable : ℕ → Bool
+is_stable w = refers_to_stable (meaning w)
+
+-- whether a word is a reference to a volatile object
+abbrev pub is_volatile : ℕ → Bool
+is_volatile w = refers_to_volatile (meaning w)

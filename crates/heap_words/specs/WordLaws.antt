@@ -1,8 +1,8 @@
 -- Field words are read as they are written, and no word is read as two.
-use Rattle.std.proofs.Common.{◌≡◌, ℕ, Some, refl, arith}
+use Rattle.std.proofs.Common.{◌≡◌, ℕ, Some, refl, ap, arith}
 use Rattle.heap_words.specs.declared.Word.{Word}
 use Rattle.heap_words.specs.declared.Word.TheVariants.{Null, Int, Stable, Volatile}
-use Rattle.heap_words.specs.Word.{bits, IsWord, meaning}
+use Rattle.heap_words.specs.Word.{bits, IsWord, meaning, refers_to_stable, refers_to_volatile, is_stable, is_volatile}
 
 -- a meaning's word is read as that meaning
 pub meaning-bits : (word : Word) → IsWord word → meaning (bits word) ≡ Some word
@@ -19,3 +19,11 @@ bits-meaning w Null is = (tt, grind arith)
 bits-meaning w (Int n) is = (grind arith, grind arith)
 bits-meaning w (Stable address) is = (grind arith, grind arith)
 bits-meaning w (Volatile index) is = (grind arith, grind arith)
+
+-- whether a word refers to a stable object is told by its meaning
+pub is_stable-bits : (word : Word) → IsWord word → is_stable (bits word) ≡ refers_to_stable (Some word)
+is_stable-bits word within = ap refers_to_stable (meaning-bits word within)
+
+-- so is whether it refers to a volatile one
+pub is_volatile-bits : (word : Word) → IsWord word → is_volatile (bits word) ≡ refers_to_volatile (Some word)
+is_volatile-bits word within = ap refers_to_volatile (meaning-bits word within)

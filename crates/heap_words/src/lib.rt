@@ -4,7 +4,7 @@
 ghost use Rattle.std.specs.Prelude.{◌≡◌, Some, IfSome};
 ghost use Rattle.heap_words.specs.Header.{header, birth_bits};
 ghost use Rattle.heap_words.specs.declared.Word.{Word};
-ghost use Rattle.heap_words.specs.Word.{bits, IsWord, meaning};
+ghost use Rattle.heap_words.specs.Word.{bits, IsWord, meaning, is_stable, is_volatile};
 
 /// The stable words of the largest heap.
 pub const STABLE_WORDS: u32 = 2_097_152;
@@ -59,6 +59,20 @@ pub fn decode(w: u64) -> Option<Word>
         _ if w == 0 => Some(Word::Null),
         _ => None,
     }
+}
+
+/// Whether the word is a reference to a stable object.
+pub fn is_stable(w: u64) -> bool
+    ensures { result ≡ is_stable w }
+{
+    matches!(decode(w), Some(Word::Stable(_)))
+}
+
+/// Whether the word is a reference to a volatile object.
+pub fn is_volatile(w: u64) -> bool
+    ensures { result ≡ is_volatile w }
+{
+    matches!(decode(w), Some(Word::Volatile(_)))
 }
 
 /// What stands in front of an object.

@@ -1,5 +1,5 @@
 -- The state in memory stays consistent, and its records write within the pages.
-use Rattle.std.proofs.Common.{◌≡◌, ℕ, ◌+◌, ◌<◌, ◌≤◌, max, Bool, true, false, cond, List, [], ◌∷◌, reverse, drop, None, Some, is_some, refl, sym, ap, ◌∙◌, subst, arith, Result, Ok, Err}
+use Rattle.std.proofs.Common.{◌≡◌, ℕ, ◌+◌, ◌^◌, ◌<◌, ◌≤◌, max, Bool, true, false, cond, List, [], ◌∷◌, reverse, drop, None, Some, is_some, refl, sym, ap, ◌∙◌, subst, arith, Result, Ok, Err}
 use Rattle.std.specs.Prelude.{IfOk}
 use Rattle.std.specs.List.{AllByRecursion}
 use Rattle.std.specs.Ordering.{nat_cmp}
@@ -9,19 +9,23 @@ use Rattle.std.proofs.lemmas.List.{reverse-reverse}
 use Rattle.log_records.specs.declared.Record.{Record}
 use Rattle.log_machine.specs.declared.UndoEntry.{UndoEntry}
 use Rattle.log_machine.specs.UndoEntry.{LiesInside}
-use Rattle.log_machine.specs.Machine.{State, Loser, start, undo_of, with_entries, words_in, field_at, is_number, lies_inside, is_same_write, without_newest, losing, abort_records, abort_each, rollback}
+use Rattle.log_machine.specs.Machine.{State, Loser, start, undo_of, with_entries, space_words, words_in, field_at, is_number, lies_inside, is_same_write, without_newest, losing, abort_records, abort_each, rollback}
 use Rattle.log_machine.specs.ListLaws.{AllByRecursion-append, AllByRecursion-reverse}
 use Rattle.log_machine.specs.MapLaws.{EachEntry, each_empty, each_remove, get_first, remove_first}
 use Rattle.log_machine.specs.MachineLaws.{inside_told, newest_told}
 use Rattle.log_machine.specs.Sound.{IsLoser, IsConsistent}
-use Rattle.log_machine.specs.StateLaws.{all_inside, sound_with}
+use Rattle.log_machine.specs.StateLaws.{all_inside, inside_on, sound_with}
 use Rattle.log_machine.specs.Effect.{WritesBelow, EachWritesBelow}
 
+-- the used words are words of the pages
+fits_in : (s : State) → IsConsistent s → s.base + s.used ≤ words_in s.pages
+fits_in s is = omega (arith, is.based, is.room)
+
 -- before the first record
-pub consistent_start : (pages first : ℕ) (undo : FinMap nat_cmp (List UndoEntry)) → 1 ≤ pages → undo ≡ empty → IsConsistent (record { pages = pages; base = 0; used = 6; undo = undo; commits = 0; next = first })
-consistent_start pages first undo some none =
+pub consistent_start : (pages first : ℕ) (undo : FinMap nat_cmp (List UndoEntry)) → 1 ≤ pages → words_in pages ≤ 2 ^ 32 → undo ≡ empty → IsConsistent (record { pages = pages; base = 0; used = 6; undo = undo; commits = 0; next = first })
+consistent_start pages first undo some addresses none =
     subst (λ u. IsConsistent (record { pages = pages; base = 0; used = 6; undo = u; commits = 0; next = first })) (sym none)
-    (record { sound = each_empty (IsLoser (start pages first)); fits = omega arith })
+    (record { sound = each_empty (IsLoser (start pages first)); addresses = addresses; based = omega arith; room = omega arith })
 
 -- with other writes of one transaction
 pub consistent_with : (s : State) (t : ℕ) (us : List UndoEntry) (undo : FinMap nat_cmp (List UndoEntry)) (commits next : ℕ) → is_number t ≡ true → AllByRecursion (LiesInside s.base s.used) us → IsConsistent s
@@ -29,14 +33,25 @@ pub consistent_with : (s : State) (t : ℕ) (us : List UndoEntry) (undo : FinMap
 consistent_with s t us undo commits next number inside is with_them later =
     let sound = sound_with s t us 0 number inside is.sound in
     let whole : IsConsistent (record { pages = s.pages; base = s.base; used = s.used; undo = with_entries s.undo t us; commits = commits; next = max s.next (t + 1) }) =
-    record { sound = λ q w some. let loser = sound q w some in record { some = loser.some; number = loser.number; known = loser.known; inside = loser.inside }; fits = is.fits } in
+    record { sound = λ q w some. let loser = sound q w some in record { some = loser.some; number = loser.number; known = loser.known; inside = loser.inside }; addresses = is.addresses; based = is.based; room = is.room } in
     subst (λ u. IsConsistent (record { pages = s.pages; base = s.base; used = s.used; undo = u; commits = commits; next = next })) (sym with_them)
     (subst (λ n. IsConsistent (record { pages = s.pages; base = s.base; used = s.used; undo = with_entries s.undo t us; commits = commits; next = n })) (sym later) whole)
 
 -- at the end of one
 pub consistent_end : (s : State) (t next : ℕ) → IsConsistent s → next ≡ max s.next (t + 1) → IsConsistent (record { pages = s.pages; base = s.base; used = s.used; undo = s.undo; commits = s.commits; next = next })
 consistent_end s t next is later =
-    record { sound = λ q w some. let loser = is.sound q w some in record { some = loser.some; number = loser.number; known = omega (arith, loser.known); inside = loser.inside }; fits = is.fits }
+    record { sound = λ q w some. let loser = is.sound q w some in record { some = loser.some; number = loser.number; known = omega (arith, loser.known); inside = loser.inside }; addresses = is.addresses; based = is.based; room = is.room }
+
+-- where an object has become stable
+pub consistent_on : (s : State) (t size used next : ℕ) → IsConsistent s → s.used + size ≤ space_words s.pages → used ≡ s.used + size → next ≡ max s.next (t + 1) → IsConsistent (record { pages = s.pages; base = s.base; used = used; undo = s.undo; commits = s.commits; next = next })
+consistent_on s t size used next is room more later = record {
+  sound = λ q w some.
+      let loser = is.sound q w some in
+      record { some = loser.some; number = loser.number; known = omega (arith, loser.known, later); inside = inside_on s.base s.used used w (omega (arith, more)) loser.inside };
+  addresses = is.addresses;
+  based = is.based;
+  room = omega (arith, room, more);
+}
 
 -- one write more
 pub inside_more : (s : State) (now : State) (t : ℕ) (write : UndoEntry) → IsConsistent s → s ≡ now → lies_inside now write.object write.field ≡ true → AllByRecursion (LiesInside s.base s.used) (write ∷ undo_of s t)
@@ -61,7 +76,7 @@ inside_reversed s now t us is same e =
 
 -- a field inside is one of the pages' words
 pub below_pages : (s : State) (u : UndoEntry) → IsConsistent s → LiesInside s.base s.used u → field_at u.object u.field < words_in s.pages
-below_pages s u is inside = let fits = is.fits in let below = inside.below in omega arith
+below_pages s u is inside = let fits = fits_in s is in let below = inside.below in omega arith
 
 pub field_below : (s now : State) (object field : ℕ) → IsConsistent s → s ≡ now → lies_inside now object field ≡ true → field_at object field < words_in now.pages
 field_below s now object field is same inside =
@@ -115,4 +130,16 @@ below_reversed s now t us is same e =
 
 -- the used words are words of the pages
 pub fits_now : (s now : State) → IsConsistent s → s ≡ now → now.base + now.used ≤ words_in now.pages
-fits_now s now is same = subst (λ (x : State). x.base + x.used ≤ words_in x.pages) same is.fits
+fits_now s now is same = subst (λ (x : State). x.base + x.used ≤ words_in x.pages) same (fits_in s is)
+
+pub room_now : (s now : State) → IsConsistent s → s ≡ now → now.used ≤ space_words now.pages
+room_now s now is same = subst (λ (x : State). x.used ≤ space_words x.pages) same is.room
+
+pub addresses_now : (s now : State) → IsConsistent s → s ≡ now → words_in now.pages ≤ 2 ^ 32
+addresses_now s now is same = subst (λ (x : State). words_in x.pages ≤ 2 ^ 32) same is.addresses
+
+-- what has room in the space has a size of 32 bits
+pub short_now : (s now : State) (size : ℕ) → IsConsistent s → s ≡ now → now.used + size ≤ space_words now.pages → size < 2 ^ 32
+short_now s now size is same room =
+    let here = subst (λ (x : State). x.used + size ≤ space_words x.pages) (sym same) room in
+    omega (arith, here, is.addresses)

@@ -73,7 +73,7 @@ abort_length t (u ∷ us) =
 -- the records that take them back have spellings
 pub abort_good : (t : ℕ) (us : List UndoEntry) → t < 2 ^ 32 → AllByRecursion IsEntry us → AllByRecursion IsRecord (abort_records t us)
 abort_good t [] fits good = (fits, tt)
-abort_good t (u ∷ us) fits good = (record { t_fits = fits; object_fits = good.0.object_fits; field_fits = good.0.field_fits; old_word = good.0.was_word }, abort_good t us fits good.1)
+abort_good t (u ∷ us) fits good = (record { t_fits = fits; object_fits = good.0.object_fits; field_fits = good.0.field_fits; put_word = good.0.was_word }, abort_good t us fits good.1)
 
 -- Every transaction that has not ended.
 

@@ -2,7 +2,7 @@
 use Rattle.std.specs.Prelude.{ℕ, ◌<◌, List}
 use Rattle.std.specs.List.{AllByRecursion}
 use Rattle.log_records.specs.declared.Record.{Record}
-use Rattle.log_records.specs.declared.Record.TheVariants.{Update, Undo, Commit, End}
+use Rattle.log_records.specs.declared.Record.TheVariants.{Update, Base, Fix, Undo, Commit, End}
 use Rattle.log_machine.specs.Machine.{effect}
 
 -- a record writes only words below an address
@@ -16,6 +16,8 @@ EachWritesBelow end records = AllByRecursion (WritesBelow end) records
 -- a record adds a write that may be taken back
 abbrev pub AddsEntry : Record → Type 0
 AddsEntry (Update t object field was word) = Unit {0}
+AddsEntry (Base t address words) = ⊥
+AddsEntry (Fix t object field word) = ⊥
 AddsEntry (Undo t object field word) = ⊥
 AddsEntry (Commit t) = ⊥
 AddsEntry (End t) = ⊥

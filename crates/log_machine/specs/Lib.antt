@@ -11,7 +11,11 @@ pub mod Apart
 pub mod CommittedLaws
 pub mod ReserveLaws
 pub mod WordsLaws
+pub mod WordsFrom
 pub mod Seen
 pub mod Kept
 pub mod Effect
 pub mod Replay
+pub mod Promotion
+pub mod PromotionLaws
+pub mod PromotionWords

@@ -1,14 +1,20 @@
 -- What a list of records says: the words that they leave, which writes may still be taken back, and which records can follow.
-use Rattle.std.specs.Prelude.{ℕ, ◌+◌, ◌*◌, ◌==◌, nat_lt, nat_le, List, [], ◌∷◌, length, replicate, Bool, true, false, ◌&&◌, Option, None, Some, fold, max, slice_set, count_by, sum_by, unwrap_or, option_and_then, if◌then◌else◌}
-use Rattle.std.specs.List.{flat_map}
+use Rattle.std.specs.Prelude.{ℕ, ◌+◌, ◌*◌, ◌==◌, nat_lt, nat_le, List, [], ◌∷◌, length, replicate, Bool, true, false, not, ◌&&◌, Option, None, Some, fold, max, slice_set, count_by, sum_by, unwrap_or, option_and_then, if◌then◌else◌}
+use Rattle.std.specs.List.{flat_map, enumerate_from, list_all}
 use Rattle.std.specs.Ordering.{nat_cmp}
 use Rattle.std.specs.FinMap.{FinMap}
 use Rattle.std.specs.FinMap as map
 use Rattle.log_records.specs.declared.Record.{Record}
-use Rattle.log_records.specs.declared.Record.TheVariants.{Update, Undo, Commit, End}
+use Rattle.log_records.specs.declared.Record.TheVariants.{Update, Base, Fix, Undo, Commit, End}
+use Rattle.heap_words.specs.Header.{born_in, born_as}
+use Rattle.heap_words.specs.Word.{is_stable, is_volatile}
 use Rattle.log_machine.specs.declared.UndoEntry.{UndoEntry}
 
 -- The words.
+
+-- how many words the pages of a space have
+abbrev pub space_words : ℕ → ℕ
+space_words pages = 64 * pages
 
 -- how many words the pages of both spaces have
 abbrev pub words_in : ℕ → ℕ
@@ -25,6 +31,8 @@ field_at object field = object + 2 + field
 -- a record's effect: the addresses that it writes, each with its word
 abbrev pub effect : Record → List (ℕ × ℕ)
 effect (Update t object field was word) = (field_at object field, word) ∷ []
+effect (Base t address words) = enumerate_from address words
+effect (Fix t object field word) = (field_at object field, word) ∷ []
 effect (Undo t object field word) = (field_at object field, word) ∷ []
 effect (Commit t) = []
 effect (End t) = []
@@ -86,6 +94,8 @@ with_entries undo t (u ∷ us) = map.insert undo t (u ∷ us)
 -- the transaction of a record
 abbrev pub number_of : Record → ℕ
 number_of (Update t object field was word) = t
+number_of (Base t address words) = t
+number_of (Fix t object field word) = t
 number_of (Undo t object field word) = t
 number_of (Commit t) = t
 number_of (End t) = t
@@ -97,6 +107,24 @@ is_number t = nat_le 1 t && nat_le t 4294967294
 -- the field lies in the used words of the current space
 abbrev pub lies_inside : State → ℕ → ℕ → Bool
 lies_inside s object field = nat_le s.base object && nat_lt (field_at object field) (s.base + s.used)
+
+-- so many words from the address on are the next words of the current space that are not used
+abbrev pub is_next_free : State → ℕ → ℕ → Bool
+is_next_free s address size = address == s.base + s.used && nat_le (s.used + size) (space_words s.pages)
+
+-- the birth is that of an object that the transaction made
+abbrev pub is_born_in : ℕ → ℕ → Bool
+is_born_in t birth = born_in birth == t && nat_le 1 (born_as birth)
+
+-- none of the words is a reference to a volatile object
+abbrev pub none_volatile : List ℕ → Bool
+none_volatile words = list_all (λ w. not (is_volatile w)) words
+
+-- the object of these words was made by the transaction, and its fields refer to no volatile object
+abbrev pub is_promoted_by : ℕ → List ℕ → Bool
+is_promoted_by t [] = false
+is_promoted_by t (header ∷ []) = false
+is_promoted_by t (header ∷ birth ∷ fields) = is_born_in t birth && none_volatile fields
 
 abbrev pub is_same_write : UndoEntry → UndoEntry → Bool
 is_same_write u v = u.object == v.object && u.field == v.field && u.was == v.was
@@ -122,11 +150,19 @@ commits records = count_by is_commit records
 abbrev pub turned : State → ℕ → FinMap nat_cmp (List UndoEntry) → ℕ → State
 turned s t undo more = record { pages = s.pages; base = s.base; used = s.used; undo = undo; commits = s.commits + more; next = max s.next (t + 1) }
 
+-- the state after a transaction's object has become stable, which has so many words
+abbrev pub promoted : State → ℕ → ℕ → State
+promoted s t size = record { pages = s.pages; base = s.base; used = s.used + size; undo = s.undo; commits = s.commits; next = max s.next (t + 1) }
+
 -- the state after one record more of a transaction whose number is one, if the record can follow
 abbrev pub row_after : State → Record → Option State
 row_after s (Update t object field was word) =
     if lies_inside s object field
     then Some (turned s t (map.insert s.undo t (record { object = object; field = field; was = was } ∷ undo_of s t)) 0) else None
+row_after s (Base t address words) =
+    if is_next_free s address (length words) && is_promoted_by t words then Some (promoted s t (length words)) else None
+row_after s (Fix t object field word) =
+    if lies_inside s object field && is_stable word then Some (turned s t s.undo 0) else None
 row_after s (Undo t object field word) =
     option_and_then (λ rest. Some (turned s t (with_entries s.undo t rest) 0))
     (without_newest (undo_of s t) (record { object = object; field = field; was = word }))

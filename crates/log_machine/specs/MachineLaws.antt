@@ -1,17 +1,18 @@
 -- Laws of the state and the words after a list of records: with more records behind it, record by record, and what holds of
 -- every state that records reach.
-use Rattle.std.proofs.Common.{◌≡◌, ◌≢◌, ℕ, ◌+◌, ◌≤◌, Bool, true, false, cond, List, [], ◌∷◌, ◌++◌, Option, None, Some, refl, ap, ◌∙◌}
-use Rattle.std.specs.Prelude.{fold, option_and_then, unwrap_or}
+use Rattle.std.proofs.Common.{◌≡◌, ◌≢◌, ℕ, ◌+◌, ◌≤◌, Bool, true, false, cond, List, [], ◌∷◌, ◌++◌, length, Option, None, Some, is_some, refl, ap, ◌∙◌}
+use Rattle.std.specs.Prelude.{◌&&◌, fold, option_and_then, unwrap_or}
 use Rattle.std.specs.Ordering.{nat_cmp}
 use Rattle.std.specs.FinMap.{FinMap, get, entries}
 use Rattle.std.proofs.lemmas.Bool.{eq-eqb, eqb-true, lt-ltb, ltb-true, le-leb, leb-true, and_parts, and_from}
 use Rattle.std.proofs.lemmas.Option.{cond_some}
 use Rattle.std.proofs.lemmas.List.Sums.{fold-append, sum_by-append}
 use Rattle.log_records.specs.declared.Record.{Record}
-use Rattle.log_records.specs.declared.Record.TheVariants.{Update, Undo, Commit, End}
+use Rattle.log_records.specs.declared.Record.TheVariants.{Update, Base, Fix, Undo, Commit, End}
+use Rattle.heap_words.specs.Word.{is_stable}
 use Rattle.log_machine.specs.declared.UndoEntry.{UndoEntry}
 use Rattle.log_machine.specs.UndoEntry.{LiesInside}
-use Rattle.log_machine.specs.Machine.{State, undo_in, undo_of, with_entries, number_of, is_number, lies_inside, is_same_write, without_newest, has_none, turned, row_after, after, after_all, put_record, words, first_contents, is_commit, commits}
+use Rattle.log_machine.specs.Machine.{State, undo_in, undo_of, with_entries, number_of, is_number, lies_inside, is_same_write, without_newest, has_none, space_words, is_next_free, is_promoted_by, turned, promoted, row_after, after, after_all, put_record, words, first_contents, is_commit, commits}
 use Rattle.log_machine.specs.MapLaws.{get_inserted, get_removed, get_beside, get_kept, insert_insert, remove_insert, insert_remove, remove_remove}
 
 -- Records behind records.
@@ -100,6 +101,17 @@ inside_from s u inside = and_from _ _ (le-leb _ _ inside.above) (lt-ltb _ _ insi
 pub inside_told : (s : State) (object field was : ℕ) → lies_inside s object field ≡ true → LiesInside s.base s.used (record { object = object; field = field; was = was })
 inside_told s object field was e = let parts = and_parts _ _ e in record { above = leb-true _ _ parts.0; below = ltb-true _ _ parts.1 }
 
+-- What it says that so many words from an address on are the next ones that are not used.
+pub record IsNextFree (s : State) (address size : ℕ) : Type 0 where
+  pub at : address ≡ s.base + s.used
+  pub room : s.used + size ≤ space_words s.pages
+
+pub free_told : (s : State) (address size : ℕ) → is_next_free s address size ≡ true → IsNextFree s address size
+free_told s address size e = let parts = and_parts _ _ e in record { at = eqb-true _ _ parts.0; room = leb-true _ _ parts.1 }
+
+pub free_from : (s : State) (address size : ℕ) → IsNextFree s address size → is_next_free s address size ≡ true
+free_from s address size free = and_from _ _ (eq-eqb _ _ free.at) (le-leb _ _ free.room)
+
 -- a write is that write
 same_write : (u : UndoEntry) → is_same_write u u ≡ true
 same_write u = and_from _ _ (and_from _ _ (eq-eqb u.object u.object refl) (eq-eqb u.field u.field refl)) (eq-eqb u.was u.was refl)
@@ -133,6 +145,60 @@ pub after-Update : (s : State) (t object field was word : ℕ) → is_number t �
 after-Update s t object field was word number inside =
     of_number s (Update t object field was word) number
     ∙ ap (λ b. cond b (Some (turned s t (with_entries s.undo t (record { object = object; field = field; was = was } ∷ undo_of s t)) 0)) None) inside
+
+-- behind an object that becomes stable
+pub after-Base : (s : State) (t address : ℕ) (words : List ℕ) → is_number t ≡ true → IsNextFree s address (length words) → is_promoted_by t words ≡ true
+    → after s (Base t address words) ≡ Some (promoted s t (length words))
+after-Base s t address words number free own =
+    of_number s (Base t address words) number
+    ∙ ap (λ b. cond b (Some (promoted s t (length words))) None) (and_from _ _ (free_from s address (length words) free) own)
+
+-- What it says that an object becomes stable.
+pub record TellsBase (s : State) (t address : ℕ) (words : List ℕ) (n : State) : Type 0 where
+  pub number : is_number t ≡ true
+  pub free : IsNextFree s address (length words)
+  pub own : is_promoted_by t words ≡ true
+  pub is : promoted s t (length words) ≡ n
+
+pub told-Base : (s n : State) (t address : ℕ) (words : List ℕ) → after s (Base t address words) ≡ Some n → TellsBase s t address words n
+told-Base s n t address words e =
+    let told = told_if _ _ _ e in
+    let row = cond_some _ _ _ told.1 in
+    let both = and_parts _ _ row.0 in
+    record { number = told.0; free = free_told s address (length words) both.0; own = both.1; is = row.1 }
+
+-- What it says that a field comes to refer to a stable object.
+pub record TellsFix (s : State) (t object field word : ℕ) (n : State) : Type 0 where
+  pub number : is_number t ≡ true
+  pub inside : lies_inside s object field ≡ true
+  pub stable : is_stable word ≡ true
+  pub is : turned s t s.undo 0 ≡ n
+
+pub told-Fix : (s n : State) (t object field word : ℕ) → after s (Fix t object field word) ≡ Some n → TellsFix s t object field word n
+told-Fix s n t object field word e =
+    let told = told_if _ _ _ e in
+    let row = cond_some _ _ _ told.1 in
+    let both = and_parts _ _ row.0 in
+    record { number = told.0; inside = both.0; stable = both.1; is = row.1 }
+
+-- what is chosen is there where both hold
+told_both : {X : Type 0} (a b : Bool) (x : X) → is_some (cond a (cond b (Some x) None) None) ≡ true → (a ≡ true) × (b ≡ true)
+told_both true true x e = (refl, refl)
+told_both true false x e = absurd (cc e)
+told_both false b x e = absurd (cc e)
+
+-- such an object takes the next words that are not used
+pub follows_Base : (s : State) (t address : ℕ) (words : List ℕ) → is_some (after s (Base t address words)) ≡ true → (is_number t ≡ true) × IsNextFree s address (length words)
+follows_Base s t address words e =
+    let both = told_both (is_number t) (is_next_free s address (length words) && is_promoted_by t words) (promoted s t (length words)) e in
+    (both.0, free_told s address (length words) (and_parts _ _ both.1).0)
+
+-- behind a field that comes to refer to one
+pub after-Fix : (s : State) (t object field word : ℕ) → is_number t ≡ true → lies_inside s object field ≡ true → is_stable word ≡ true
+    → after s (Fix t object field word) ≡ Some (turned s t s.undo 0)
+after-Fix s t object field word number inside stable =
+    of_number s (Fix t object field word) number
+    ∙ ap (λ b. cond b (Some (turned s t s.undo 0)) None) (and_from _ _ inside stable)
 
 -- behind one that takes the newest write back
 pub after-Undo : (s : State) (t : ℕ) (u : UndoEntry) (us : List UndoEntry) → is_number t ≡ true → undo_of s t ≡ u ∷ us

@@ -38,23 +38,23 @@ bounds_on pages i r s n b is =
     record { sound = sound_after s n r b.sound is; same_pages = leads.pages ∙ b.same_pages; few = omega (arith, b.few); room = omega (arith, b.room) }
 
 -- the records up to a place, and with that one
-front : (rs : List Record) (i : ℕ) (d : Record) → i < length rs → take (i + 1) rs ≡ take i rs ++ get_or rs i d ∷ []
-front rs i d lt = take_more rs i d lt
+front : (rs : List Record) (i : ℕ) (r : Record) → i < length rs → r ≡ get_or rs i r → take (i + 1) rs ≡ take i rs ++ r ∷ []
+front rs i r lt at = take_more rs i r lt ∙ ap (λ (x : Record). take i rs ++ x ∷ []) (sym at)
 
 -- the state with the record at a place
-pub state_on : (s : State) (rs : List Record) (i : ℕ) (d : Record) (m n : State) → i < length rs → after_all s (take i rs) ≡ Some m → after m (get_or rs i d) ≡ Some n → after_all s (take (i + 1) rs) ≡ Some n
-state_on s rs i d m n lt so_far is = ap (λ (l : List Record). after_all s l) (front rs i d lt) ∙ after_all-append s m (take i rs) (get_or rs i d) so_far ∙ is
+pub state_on : (s : State) (rs : List Record) (i : ℕ) (r : Record) (m n : State) → i < length rs → r ≡ get_or rs i r → after_all s (take i rs) ≡ Some m → after m r ≡ Some n → after_all s (take (i + 1) rs) ≡ Some n
+state_on s rs i r m n lt at so_far is = ap (λ (l : List Record). after_all s l) (front rs i r lt at) ∙ after_all-append s m (take i rs) r so_far ∙ is
 
 -- the words with the record at a place
-pub words_on : (pages : ℕ) (rs : List Record) (i : ℕ) (d : Record) (old new : List ℕ) → i < length rs → old ≡ words pages (take i rs) → new ≡ put_record old (get_or rs i d) → new ≡ words pages (take (i + 1) rs)
-words_on pages rs i d old new lt so_far is =
-    is ∙ ap (λ (l : List ℕ). put_record l (get_or rs i d)) so_far ∙ sym (words-append pages (take i rs) (get_or rs i d ∷ [])) ∙ ap (words pages) (sym (front rs i d lt))
+pub words_on : (pages : ℕ) (rs : List Record) (i : ℕ) (r : Record) (old new : List ℕ) → i < length rs → r ≡ get_or rs i r → old ≡ words pages (take i rs) → new ≡ put_record old r → new ≡ words pages (take (i + 1) rs)
+words_on pages rs i r old new lt at so_far is =
+    is ∙ ap (λ (l : List ℕ). put_record l r) so_far ∙ sym (words-append pages (take i rs) (r ∷ [])) ∙ ap (words pages) (sym (front rs i r lt at))
 
 -- the record at a place is the first that can't follow, where those before it do
-pub unshaped_at : (s : State) (rs : List Record) (i : ℕ) (d : Record) (m : State) → i < length rs → after_all s (take i rs) ≡ Some m → after m (get_or rs i d) ≡ None → IsFirstUnshaped s rs (i + 1)
-unshaped_at s rs i d m lt so_far stuck = record {
+pub unshaped_at : (s : State) (rs : List Record) (i : ℕ) (r : Record) (m : State) → i < length rs → r ≡ get_or rs i r → after_all s (take i rs) ≡ Some m → after m r ≡ None → IsFirstUnshaped s rs (i + 1)
+unshaped_at s rs i r m lt at so_far stuck = record {
   before = ap (λ n. is_some (after_all s (take n rs))) (omega arith) ∙ ap is_some so_far;
-  stuck = ap (λ (l : List Record). after_all s l) (front rs i d lt) ∙ after_all-append s m (take i rs) (get_or rs i d) so_far ∙ stuck;
+  stuck = ap (λ (l : List Record). after_all s l) (front rs i r lt at) ∙ after_all-append s m (take i rs) r so_far ∙ stuck;
 }
 
 -- records behind one that can't follow

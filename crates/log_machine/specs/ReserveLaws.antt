@@ -4,7 +4,7 @@ use Rattle.std.specs.Ordering.{nat_cmp}
 use Rattle.std.specs.FinMap.{FinMap, remove, entries}
 use Rattle.std.proofs.lemmas.Option.{option_and_then_some, cond_some}
 use Rattle.log_records.specs.declared.Record.{Record}
-use Rattle.log_records.specs.declared.Record.TheVariants.{Update, Undo, Commit, End}
+use Rattle.log_records.specs.declared.Record.TheVariants.{Update, Base, Fix, Undo, Commit, End}
 use Rattle.log_machine.specs.declared.UndoEntry.{UndoEntry}
 use Rattle.log_machine.specs.Machine.{State, undo_in, undo_of, with_entries, turned, row_after, after, undo_bytes, reserve, start}
 use Rattle.log_machine.specs.MapLaws.{sum_over, sum-insert, sum-remove, remove_absent, entries_empty}
@@ -62,6 +62,8 @@ reserve_row s n (Update t object field was word) sound e =
     let more = bytes_more write (undo_of s t) in
     let same = ap reserve told.1 in
     omega arith
+reserve_row s n (Base t address words) sound e = let told = cond_some _ _ _ e in let same = ap reserve told.1 in omega arith
+reserve_row s n (Fix t object field word) sound e = let told = cond_some _ _ _ e in let same = ap reserve told.1 in omega arith
 reserve_row s n (Undo t object field word) sound e =
     let write : UndoEntry = record { object = object; field = field; was = word } in
     option_and_then_some (λ rest. Some (turned s t (with_entries s.undo t rest) 0)) _ n e (λ rest newest is.

@@ -1,12 +1,12 @@
 -- What holds of every state that records reach.
-use Rattle.std.specs.Prelude.{◌≡◌, ◌≢◌, ℕ, ◌+◌, ◌<◌, ◌≤◌, List, [], true, cond}
+use Rattle.std.specs.Prelude.{◌≡◌, ◌≢◌, ℕ, ◌+◌, ◌^◌, ◌<◌, ◌≤◌, List, [], true, cond, max}
 use Rattle.std.specs.List.{AllByRecursion}
 use Rattle.std.specs.Ordering.{nat_cmp}
 use Rattle.std.specs.FinMap.{FinMap}
 use Rattle.log_records.specs.declared.Record.{Record}
 use Rattle.log_machine.specs.declared.UndoEntry.{UndoEntry}
 use Rattle.log_machine.specs.UndoEntry.{IsEntry, LiesInside}
-use Rattle.log_machine.specs.Machine.{State, words_in, number_of, is_number, is_commit, turned}
+use Rattle.log_machine.specs.Machine.{State, space_words, words_in, number_of, is_number, is_commit}
 use Rattle.log_machine.specs.MapLaws.{EachEntry}
 
 -- A transaction whose writes may be taken back, and these.
@@ -36,18 +36,25 @@ pub record CanRollBack (s : State) : Type 0 where
 -- What one record does to the state, whatever it is.
 pub record Turns (s : State) (r : Record) (n : State) : Type 0 where
   pub number : is_number (number_of r) ≡ true
-  pub undo : FinMap nat_cmp (List UndoEntry)
-  pub is : turned s (number_of r) undo (cond (is_commit r) 1 0) ≡ n
+  pub pages : n.pages ≡ s.pages
+  pub base : n.base ≡ s.base
+  pub used : s.used ≤ n.used
+  pub room : s.used ≤ space_words s.pages → n.used ≤ space_words n.pages
+  pub commits : n.commits ≡ s.commits + cond (is_commit r) 1 0
+  pub next : n.next ≡ max s.next (number_of r + 1)
 
 -- What records do to the state, whatever they are.
 pub record Leads (s n : State) : Type 0 where
   pub pages : n.pages ≡ s.pages
   pub base : n.base ≡ s.base
-  pub used : n.used ≡ s.used
+  pub used : s.used ≤ n.used
+  pub room : s.used ≤ space_words s.pages → n.used ≤ space_words n.pages
   pub grows : s.next ≤ n.next
   pub next_in_range : s.next ≤ 4294967295 → n.next ≤ 4294967295
 
 -- What holds of every state that records reach in a heap that has the root object.
 pub record IsConsistent (s : State) : Type 0 where
   pub sound : IsSound s
-  pub fits : s.base + s.used ≤ words_in s.pages  -- the used words are words of the pages
+  pub addresses : words_in s.pages ≤ 2 ^ 32  -- an address has 32 bits
+  pub based : s.base ≤ space_words s.pages  -- the current space is one of the two
+  pub room : s.used ≤ space_words s.pages  -- its used words are words of its pages

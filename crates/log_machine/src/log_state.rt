@@ -1,16 +1,17 @@
 //! The state of the heap after a list of records.
-ghost use Rattle.std.specs.Prelude.{◌≡◌, ◌+◌, ◌<◌, ◌≤◌, ◌^◌, ◌↔◌, ◌∷◌, [], None, Some, IfOk, OnOk, OnErr, IsTrue, is_some, true, drop, reverse, nat_lt};
+ghost use Rattle.std.specs.Prelude.{◌≡◌, ◌+◌, ◌<◌, ◌≤◌, ◌^◌, ◌↔◌, ◌∷◌, [], None, Some, IfOk, OnOk, OnErr, IsTrue, is_some, true, drop, reverse, length, nat_lt};
 ghost use Rattle.std.specs.List.{AllByRecursion};
 ghost use Rattle.std.specs.FinMap as map;
-ghost use Rattle.log_records.specs.declared.Record.TheVariants.{Update, Undo, Commit, End};
-ghost use Rattle.log_machine.specs.Machine.{start, undo_of, losers, with_entries, words_in, field_at, number_of, is_number, lies_inside, without_newest, has_none, turned, row_after, after, reserve, rollback};
+ghost use Rattle.log_records.specs.declared.Record.TheVariants.{Update, Base, Fix, Undo, Commit, End};
+ghost use Rattle.log_machine.specs.Machine.{start, undo_of, losers, with_entries, space_words, words_in, field_at, number_of, is_number, lies_inside, is_next_free, is_promoted_by, is_born_in, none_volatile, without_newest, has_none, turned, promoted, row_after, after, reserve, rollback};
 ghost use Rattle.log_machine.specs.Effect.{WritesBelow, EachWritesBelow, AddsEntry};
 ghost use Rattle.log_machine.specs.declared.UndoEntry.{UndoEntry};
 ghost use Rattle.log_machine.specs.UndoEntry.{LiesInside};
 
 use crate::UndoEntry;
-use crate::page_words::{FIELDS_AT, ROOT_WORDS};
+use crate::page_words::{FIELDS_AT, PAGE_WORDS, ROOT_WORDS};
 use crate::undo_lists::UndoLists;
+use heap_words::{is_stable, is_volatile};
 use log_records::Record;
 use std::alloc::{AllocError, Global};
 use std::marker::Model;
@@ -65,10 +66,11 @@ impl Model for LogState {
 }
 
 impl LogState {
-    /// Before the first record, in a heap of two spaces of so many pages whose first transaction has the number `first`. It takes
-    /// no memory.
+    /// Before the first record, in a heap of two spaces of so many pages whose first transaction has the number `first`. Each word
+    /// has an address of 32 bits. It takes no memory.
     pub fn start(alloc: Global, pages: u32, first: u32) -> LogState
-        requires { 1 ≤ pages }
+        requires some { 1 ≤ pages }
+        requires addresses { words_in pages ≤ 2 ^ 32 }
         ensures { result ≡ start pages first }
     {
         LogState {
@@ -97,6 +99,14 @@ impl LogState {
         self.undo.losers()
     }
 
+    /// How many pages each of the two spaces has.
+    pub fn pages(&self) -> u32
+        ensures pages { result ≡ self.now.pages }
+        ensures addresses { words_in self.now.pages ≤ 2 ^ 32 }
+    {
+        self.pages
+    }
+
     /// The address of the current space's first word.
     pub fn base(&self) -> u32
         ensures { result ≡ self.now.base }
@@ -107,6 +117,7 @@ impl LogState {
     /// How many words of the current space its objects take.
     pub fn used(&self) -> u32
         ensures used { result ≡ self.now.used }
+        ensures room { self.now.used ≤ space_words self.now.pages }
         ensures fits { self.now.base + self.now.used ≤ words_in self.now.pages }
     {
         self.used
@@ -163,9 +174,10 @@ impl LogState {
                 was,
                 ..
             } => self.add(*t, entry(*object, *field, *was))?,
+            Record::Base { t, words, .. } => self.promote(*t, words.as_slice()),
             Record::Undo { t, .. } => self.take_off(*t),
             Record::Commit { t } => self.commit(*t),
-            Record::End { t } => self.end(*t),
+            Record::Fix { t, .. } | Record::End { t } => self.raise_next(*t),
         }
         Ok(())
     }
@@ -181,6 +193,16 @@ impl LogState {
         self.undo.push(t, write)?;
         self.next = self.next.max(t + 1);
         Ok(())
+    }
+
+    // An object of transaction `t` has become stable, which has these words.
+    fn promote(&mut self, t: u32, words: &[u64])
+        requires number { is_number t ≡ true }
+        requires room { self.old.used + length words.now ≤ space_words self.old.pages }
+        ensures { self.new ≡ promoted self.old t (length words.now) }
+    {
+        self.next = self.next.max(t + 1);
+        self.used += words.len() as u32;
     }
 
     // Takes the newest write of transaction `t` off.
@@ -203,8 +225,8 @@ impl LogState {
         self.next = self.next.max(t + 1);
     }
 
-    // Transaction `t` has ended.
-    fn end(&mut self, t: u32)
+    // The number of transaction `t` is taken.
+    fn raise_next(&mut self, t: u32)
         requires { is_number t ≡ true }
         ensures { self.new ≡ turned self.old t self.old.undo 0 }
     {
@@ -226,6 +248,16 @@ impl LogState {
     {
         match rec {
             Record::Update { object, field, .. } => self.lies_inside(*object, *field),
+            Record::Base { t, address, words } => {
+                self.is_next_free(*address, words.as_slice())
+                    && is_promoted_by(*t, words.as_slice())
+            }
+            Record::Fix {
+                object,
+                field,
+                word,
+                ..
+            } => self.lies_inside(*object, *field) && is_stable(*word),
             Record::Undo {
                 t,
                 object,
@@ -246,6 +278,16 @@ impl LogState {
         object >= self.base && address < u64::from(self.base) + u64::from(self.used)
     }
 
+    // The words are as many as the next ones of the current space, from the address on, that are not used.
+    fn is_next_free(&self, address: u32, words: &[u64]) -> bool
+        ensures answer { result ≡ is_next_free self.now address (length words.now) }
+        ensures inside { result ≡ true → address + length words.now ≤ words_in self.now.pages }
+    {
+        let end = u64::from(self.base) + u64::from(self.used);
+        let used = u64::from(self.used) + words.len() as u64;
+        u64::from(address) == end && used <= u64::from(PAGE_WORDS) * u64::from(self.pages)
+    }
+
     // This is the newest write of transaction `t` that may be taken back.
     fn is_newest(&self, t: u32, write: UndoEntry) -> bool
         ensures answer { result ≡ is_some (without_newest (undo_of self.now t) write) }
@@ -263,6 +305,30 @@ fn ends_with(list: &[UndoEntry], write: UndoEntry) -> bool
         Some(newest) => *newest == write,
         None => false,
     }
+}
+
+// The words are of an object that the transaction made, and its fields refer to no volatile object.
+fn is_promoted_by(t: u32, words: &[u64]) -> bool
+    ensures { result ≡ is_promoted_by t words.now }
+{
+    match words {
+        [_, birth, fields @ ..] => is_born_in(t, *birth) && none_volatile(fields),
+        _ => false,
+    }
+}
+
+// The birth is that of an object that the transaction made.
+fn is_born_in(t: u32, birth: u64) -> bool
+    ensures { result ≡ is_born_in t birth }
+{
+    birth >> 32 == u64::from(t) && birth & 0xffff_ffff >= 1
+}
+
+// None of the words is a reference to a volatile object.
+fn none_volatile(words: &[u64]) -> bool
+    ensures { result ≡ none_volatile words.now }
+{
+    words.iter().all(|word| !is_volatile(*word))
 }
 
 // What a write replaced.
@@ -285,6 +351,8 @@ fn number(rec: &Record) -> u32
 {
     match rec {
         Record::Update { t, .. }
+        | Record::Base { t, .. }
+        | Record::Fix { t, .. }
         | Record::Undo { t, .. }
         | Record::Commit { t }
         | Record::End { t } => *t,

@@ -1,9 +1,9 @@
 //! The words of the heap's pages, those of both spaces.
 ghost use Rattle.std.specs.Prelude.{◌≡◌, ◌+◌, ◌*◌, ◌^◌, ◌<◌, ◌≤◌, IfOk, List, length, fold, reverse, slice_index_or};
-ghost use Rattle.std.specs.List.{AllByRecursion};
+ghost use Rattle.std.specs.List.{AllByRecursion, enumerate_from};
 ghost use Rattle.log_records.specs.declared.Record.{Record};
 ghost use Rattle.log_machine.specs.declared.UndoEntry.{UndoEntry};
-ghost use Rattle.log_machine.specs.Machine.{first_contents, field_at, put_record, with_word, taken_back};
+ghost use Rattle.log_machine.specs.Machine.{first_contents, field_at, put_all, put_record, with_word, taken_back};
 ghost use Rattle.log_machine.specs.Effect.{WritesBelow, EachWritesBelow};
 
 use crate::UndoEntry;
@@ -95,12 +95,19 @@ impl PageWords {
                 word,
                 ..
             }
+            | Record::Fix {
+                object,
+                field,
+                word,
+                ..
+            }
             | Record::Undo {
                 object,
                 field,
                 word,
                 ..
             } => self.put(*object, *field, *word),
+            Record::Base { address, words, .. } => self.put_words(*address, words.as_slice()),
             Record::Commit { .. } | Record::End { .. } => {}
         }
     }
@@ -122,6 +129,16 @@ impl PageWords {
     {
         for entry in undo.iter().rev() {
             self.put(entry.object, entry.field, entry.was);
+        }
+    }
+
+    // Puts words from an address on.
+    fn put_words(&mut self, address: u32, words: &[u64])
+        requires { AllByRecursion (λ w. w.0 < length self.old) (enumerate_from address words.now) }
+        ensures { self.new ≡ put_all self.old (enumerate_from address words.now) }
+    {
+        for (i, word) in words.iter().enumerate() {
+            self.words[address as usize + i] = *word;
         }
     }
 

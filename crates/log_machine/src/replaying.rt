@@ -37,6 +37,7 @@ pub fn replay(
     records: &[Record],
 ) -> Result<(LogState, PageWords), ReplayError>
     requires some { 1 ≤ pages }
+    requires addresses { words_in pages ≤ 2 ^ 32 }
     requires few { length records.now < 2 ^ 32 }
     ensures state { IfOk result (λ found. after_all (start pages first) records.now ≡ Some found.0) }
     ensures words { IfOk result (λ found. found.1 ≡ words pages records.now) }

@@ -1,2 +1,3 @@
 mod Fields
 mod Spelled
+pub mod Words

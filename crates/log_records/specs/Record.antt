@@ -1,15 +1,23 @@
 -- The records of the log, and how they are spelled.
-use Rattle.std.specs.Prelude.{◌≡◌, ℕ, ◌^◌, ◌<◌, List, ◌∷◌, ◌++◌}
-use Rattle.std.specs.List.{flat_map}
+use Rattle.std.specs.Prelude.{◌≡◌, ℕ, ◌^◌, ◌<◌, List, [], ◌∷◌, ◌++◌, length}
+use Rattle.std.specs.List.{flat_map, AllByRecursion}
 use Rattle.std.specs.Int.{w16, w32, w64, to_le_bytes}
+use Rattle.heap_words.specs.declared.Header.TheVariants.{Length}
+use Rattle.heap_words.specs.Header.{header_bits}
 use Rattle.heap_words.specs.Word.{IsFieldWord}
 use Rattle.log_records.specs.declared.Record.{Record}
-use Rattle.log_records.specs.declared.Record.TheVariants.{Update, Undo, Commit, End}
+use Rattle.log_records.specs.declared.Record.TheVariants.{Update, Base, Fix, Undo, Commit, End}
+
+-- the bytes of words, lowest bytes first
+abbrev pub word_bytes : List ℕ → List ℕ
+word_bytes words = flat_map (to_le_bytes w64) words
 
 -- the bytes of a record: its kind and its fields, lowest bytes first
 abbrev pub spelling : Record → List ℕ
 spelling (Update t object field was word) =
     1 ∷ to_le_bytes w32 t ++ to_le_bytes w32 object ++ to_le_bytes w16 field ++ to_le_bytes w64 was ++ to_le_bytes w64 word
+spelling (Base t address words) = 2 ∷ to_le_bytes w32 t ++ to_le_bytes w32 address ++ word_bytes words
+spelling (Fix t object field word) = 3 ∷ to_le_bytes w32 t ++ to_le_bytes w32 object ++ to_le_bytes w16 field ++ to_le_bytes w64 word
 spelling (Undo t object field word) = 4 ∷ to_le_bytes w32 t ++ to_le_bytes w32 object ++ to_le_bytes w16 field ++ to_le_bytes w64 word
 spelling (Commit t) = 5 ∷ to_le_bytes w32 t
 spelling (End t) = 6 ∷ to_le_bytes w32 t
@@ -29,16 +37,37 @@ pub record IsUpdate (t object field was word : ℕ) : Type 0 where
   pub was_word : IsFieldWord was
   pub new_word : IsFieldWord word
 
--- an undo that has a spelling
-pub record IsUndo (t object field word : ℕ) : Type 0 where
+-- an object's words: the header tells how many fields there are, and their words are those of fields
+pub record IsObject (header birth : ℕ) (fields : List ℕ) : Type 0 where
+  pub tells : header ≡ header_bits (Length (length fields))
+  pub few : length fields < 511
+  pub birth_fits : birth < 2 ^ 64
+  pub field_words : AllByRecursion IsFieldWord fields
+
+-- the words of an object: a header, a birth, and fields
+abbrev pub IsObjectWords : List ℕ → Type 0
+IsObjectWords [] = ⊥
+IsObjectWords (header ∷ []) = ⊥
+IsObjectWords (header ∷ birth ∷ fields) = IsObject header birth fields
+
+-- a base that has a spelling
+pub record IsBase (t address : ℕ) (words : List ℕ) : Type 0 where
+  pub t_fits : t < 2 ^ 32
+  pub address_fits : address < 2 ^ 32
+  pub object : IsObjectWords words
+
+-- a word put into a field, as an undo and a fix do it, that has a spelling
+pub record IsPut (t object field word : ℕ) : Type 0 where
   pub t_fits : t < 2 ^ 32
   pub object_fits : object < 2 ^ 32
   pub field_fits : field < 2 ^ 16
-  pub old_word : IsFieldWord word
+  pub put_word : IsFieldWord word
 
 -- a record that has a spelling
 abbrev pub IsRecord : Record → Type 0
 IsRecord (Update t object field was word) = IsUpdate t object field was word
-IsRecord (Undo t object field word) = IsUndo t object field word
+IsRecord (Base t address words) = IsBase t address words
+IsRecord (Fix t object field word) = IsPut t object field word
+IsRecord (Undo t object field word) = IsPut t object field word
 IsRecord (Commit t) = t < 2 ^ 32
 IsRecord (End t) = t < 2 ^ 32

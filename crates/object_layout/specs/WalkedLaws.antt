@@ -15,12 +15,12 @@ use Rattle.graph_model.specs.declared.id.Id.{Id}
 use Rattle.graph_model.specs.declared.val.Val.{Val}
 use Rattle.graph_model.specs.declared.val.Val.TheVariants.{Null, Ref}
 use Rattle.graph_model.specs.Graph.{Graph, id_cmp, root}
+use Rattle.graph_model.specs.GraphLaws.{tied_ids}
 use Rattle.graph_model.specs.RootGraph.{id_cmp_total, id_cmp_itself}
 use Rattle.object_layout.specs.Layout.{object_at, field_words, birth_at, id_of, id_at, stand, referred, as_ref, value, values, IsMet, at_start, along, IsSeenAs, IsSeen}
 use Rattle.object_layout.specs.LayoutLaws.{stand_object}
 use Rattle.object_layout.specs.Walk.{used_words, AreEndToEnd, IsInside, IsWalked, HaveOwnBirths}
 use Rattle.object_layout.specs.WalkLaws.{Contains-head, Contains-rest, Contains-cases, Contains-none, object_take, object_take_end}
-use Rattle.object_layout.specs.CanonMatch.{tied_ids}
 
 -- each of these objects stands
 pub end_to_end_object : (words : List ℕ) (from : ℕ) (starts : List ℕ) (end at : ℕ) → AreEndToEnd words from starts end → Contains starts at
@@ -65,14 +65,15 @@ walked_met words base used walked at (along {at = a} i w target met is leads) =
     inside_referred words base used walked (meaning w) target (walked.inside a has i w is) leads
 
 -- the values of fields of which each has one
-abbrev found : Option Val → Val
+abbrev pub found : Option Val → Val
 found v = unwrap_or v Null
 
-abbrev values_found : (ℕ → Id) → List ℕ → ℕ → List Val
+-- the values of the fields of the object at an address
+abbrev pub values_found : (ℕ → Id) → List ℕ → ℕ → List Val
 values_found name words at = map found (values name words at)
 
 -- the graph of these objects
-abbrev gathered : (ℕ → Id) → List ℕ → List ℕ → Graph
+abbrev pub gathered : (ℕ → Id) → List ℕ → List ℕ → Graph
 gathered name words [] = empty
 gathered name words (a ∷ rest) = insert (gathered name words rest) (name a) (values_found name words a)
 
@@ -90,7 +91,8 @@ gathered_pick name words a at rest false kept is apart has later = elim (Contain
   | inr behind ↦ later behind
 ]
 
-gathered_get : (name : ℕ → Id) (words : List ℕ) (starts : List ℕ) (at : ℕ) → KeepApart name starts → Contains starts at
+-- each of them is in it, with these fields
+pub gathered_get : (name : ℕ → Id) (words : List ℕ) (starts : List ℕ) (at : ℕ) → KeepApart name starts → Contains starts at
     → get (gathered name words starts) (name at) ≡ Some (values_found name words at)
 gathered_get name words [] at apart has = absurd (Contains-none at has)
 gathered_get name words (a ∷ rest) at apart has =
@@ -115,33 +117,44 @@ all_found name words (w ∷ ws) each =
     ap (λ v. v ∷ map (λ x. value name words (meaning x)) ws) (each zero w refl)
     ∙ ap (λ vs. Some (found (value name words (meaning w))) ∷ vs) (all_found name words ws (λ i. each (suc i)))
 
--- Where a walk passes a graph is seen from its base, if the base has the root's name and the names keep the objects apart.
+-- Where a walk passes the graph of its objects is seen from its base, if the base has the root's name and the names keep the objects apart.
+pub gathered_seen_as : (name : ℕ → Id) (words : List ℕ) (base used : ℕ) (walked : IsWalked words base used) → name base ≡ root → KeepApart name walked.starts
+    → IsSeenAs name words base (gathered name words walked.starts)
+gathered_seen_as name words base used walked named apart = record {
+  first = base;
+  stands = walked_stand words base used base walked (walked_base words base used walked);
+  named = named;
+  known = λ at met.
+      let has = walked_met words base used walked at met in
+      record {
+        fields = values_found name words at;
+        is = gathered_get name words walked.starts at apart has;
+        values = all_found name words (field_words words at) (λ i w is. inside_value name words base used walked (meaning w) (walked.inside at has i w is));
+      };
+  apart = λ a b one other. apart a b (walked_met words base used walked a one) (walked_met words base used walked b other);
+}
+
+-- So a graph is seen.
 pub walked_seen_as : (name : ℕ → Id) (words : List ℕ) (base used : ℕ) (walked : IsWalked words base used) → name base ≡ root → KeepApart name walked.starts
     → (g : Graph) × IsSeenAs name words base g
-walked_seen_as name words base used walked named apart = (
-  gathered name words walked.starts,
-  record {
-    first = base;
-    stands = walked_stand words base used base walked (walked_base words base used walked);
-    named = named;
-    known = λ at met.
-        let has = walked_met words base used walked at met in
-        record {
-          fields = values_found name words at;
-          is = gathered_get name words walked.starts at apart has;
-          values = all_found name words (field_words words at) (λ i w is. inside_value name words base used walked (meaning w) (walked.inside at has i w is));
-        };
-    apart = λ a b one other. apart a b (walked_met words base used walked a one) (walked_met words base used walked b other);
-  },
-)
+walked_seen_as name words base used walked named apart = (gathered name words walked.starts, gathered_seen_as name words base used walked named apart)
 
 same_birth : (b c : ℕ) → id_of b ≡ id_of c → b ≡ c
 same_birth b c same =
     sym (birth_bits-born b) ∙ ap (λ (x : Id). birth_bits x.t x.k) same ∙ birth_bits-born c
 
+-- births that differ keep objects apart
+pub births_apart : (words : List ℕ) (starts : List ℕ) → HaveOwnBirths words starts → KeepApart (id_at words) starts
+births_apart words starts own a b one other same = own a b one other (same_birth (birth_at words a) (birth_at words b) same)
+
+-- the base has the root's birth
+pub base_named : (words : List ℕ) (base used : ℕ) → IsWalked words base used → id_at words base ≡ root
+base_named words base used walked =
+    let end = object_take_end words (base + used) base 4 walked.filled.root.length in
+    let birth : birth_at words base ≡ 0 = sym (get_or-take (base + used) words (base + 1) 0 (omega arith)) ∙ walked.filled.root.birth in
+    ap id_of birth
+
 -- Where a walk passes and births differ a graph is seen.
 pub walked_seen : (words : List ℕ) (base used : ℕ) (walked : IsWalked words base used) → HaveOwnBirths words walked.starts → (g : Graph) × IsSeen words base g
 walked_seen words base used walked own =
-    let end = object_take_end words (base + used) base 4 walked.filled.root.length in
-    let birth : birth_at words base ≡ 0 = sym (get_or-take (base + used) words (base + 1) 0 (omega arith)) ∙ walked.filled.root.birth in
-    walked_seen_as (id_at words) words base used walked (ap id_of birth) (λ a b one other same. own a b one other (same_birth (birth_at words a) (birth_at words b) same))
+    walked_seen_as (id_at words) words base used walked (base_named words base used walked) (births_apart words walked.starts own)

@@ -10,7 +10,7 @@ use Rattle.std.proofs.lemmas.List.{get_or-append-add}
 use Rattle.std.proofs.lemmas.Str.Parse.{IsNumeralModel, numerals_by_fold}
 use Rattle.graph_model.specs.declared.event.Event.{Event}
 use Rattle.graph_model.specs.declared.event.Event.TheVariants.{Begin, Root, Put, Clear, Drop, Get, Same, Len, Seal, Abort, Force}
-use Rattle.graph_model.specs.SlowHeap.{IsSingleSession}
+use Rattle.graph_model.specs.Served.{IsServed}
 use Rattle.graph_model.specs.Text.{event_text}
 use Rattle.script_text.specs.declared.line.Line.TheVariants.{One}
 use Rattle.script_text.specs.Number.{value_from, value, number}
@@ -152,7 +152,7 @@ event_read event verb ns text word spelled call =
     rw (text, words-join (decimal 1) (verb ∷ map decimal ns) each, number-decimal 1 (omega arith), numbers-decimal ns spelled) call
 
 -- A printed event is a line of a script, and is read as what it was.
-pub read_text-event_text : (event : Event) → IsSingleSession event → AreSpellable (numbers_of event) → read_text (event_text event) ≡ Some (One event)
+pub read_text-event_text : (event : Event) → IsServed event → AreSpellable (numbers_of event) → read_text (event_text event) ≡ Some (One event)
 read_text-event_text (Begin s) single spelled = rw single (event_read (Begin 1) (codes "begin") [] refl refl spelled refl)
 read_text-event_text (Root s h) single spelled = rw single (event_read (Root 1 h) (codes "root") (h ∷ []) (simp append_assoc) refl spelled refl)
 read_text-event_text (Put s h i v) single spelled = rw single (event_read (Put 1 h i v) (codes "put") (h ∷ i ∷ v ∷ []) (simp append_assoc) refl spelled refl)

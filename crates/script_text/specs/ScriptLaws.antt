@@ -4,7 +4,7 @@ use Rattle.std.specs.Prelude.{◌==◌, nat_lt, IfSome, IfOk, option_map, option
 use Rattle.std.specs.List.{AllByRecursion, onto_first}
 use Rattle.std.proofs.lemmas.Bool.{ltb-false}
 use Rattle.graph_model.specs.declared.event.Event.TheVariants.{Force}
-use Rattle.graph_model.specs.SlowHeap.{IsSingleSession}
+use Rattle.graph_model.specs.Served.{IsServed}
 use Rattle.script_text.specs.declared.line.Line.{Line}
 use Rattle.script_text.specs.declared.line.Line.TheVariants.{One}
 use Rattle.script_text.specs.declared.script.ScriptError.{ScriptError}
@@ -15,7 +15,7 @@ use Rattle.script_text.specs.Script.{lines as text_lines, Reading, start, with_l
 
 -- The events of a line are session 1's, and there are at most two.
 abbrev IsSound : Line → Type 0
-IsSound line = AllByRecursion IsSingleSession (line_events line) × (length (line_events line) ≤ 2)
+IsSound line = AllByRecursion IsServed (line_events line) × (length (line_events line) ≤ 2)
 
 -- The line is sound, if there is one.
 abbrev IsSoundIn : Option Line → Type 0
@@ -108,16 +108,16 @@ script_sound bytes lines is =
     let read = finish_read (0 + length (text_lines bytes)) _ lines (all_read 0 (Ok start) (text_lines bytes) (tt, omega arith)) short.1 in
     (read.0, omega (arith, read.1, lines_few bytes, ltb-false _ _ short.0))
 
-single_lines : (lines : List Line) → AllByRecursion IsSound lines → AllByRecursion IsSingleSession (events lines)
+single_lines : (lines : List Line) → AllByRecursion IsSound lines → AllByRecursion IsServed (events lines)
 single_lines [] sound = tt
-single_lines (line ∷ lines) sound = AllByRecursion-append IsSingleSession (line_events line) (events lines) sound.0.0 (single_lines lines sound.1)
+single_lines (line ∷ lines) sound = AllByRecursion-append IsServed (line_events line) (events lines) sound.0.0 (single_lines lines sound.1)
 
 events_few : (lines : List Line) → AllByRecursion IsSound lines → length (events lines) ≤ 2 * length lines
 events_few [] sound = omega arith
 events_few (line ∷ lines) sound = omega (arith, length-append (line_events line) (events lines), sound.0.1, events_few lines sound.1)
 
 -- The events of a script are session 1's.
-pub script_single : (bytes : List ℕ) (lines : List Line) → script bytes ≡ Ok lines → AllByRecursion IsSingleSession (events lines)
+pub script_single : (bytes : List ℕ) (lines : List Line) → script bytes ≡ Ok lines → AllByRecursion IsServed (events lines)
 script_single bytes lines is = single_lines lines (script_sound bytes lines is).0
 
 -- A line has a byte or a newline, and stands for at most two events.

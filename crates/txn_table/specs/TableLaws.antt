@@ -1,6 +1,7 @@
 -- Laws of the table: what a session has after a change, and which changes are the same.
-use Rattle.std.proofs.Common.{◌≡◌, ◌≢◌, ℕ, Option, None, Some, ap, ◌∙◌, subst}
+use Rattle.std.proofs.Common.{◌≡◌, ◌≢◌, ℕ, Option, None, Some, refl, sym, ap, ◌∙◌, subst}
 use Rattle.std.specs.Prelude.{IfSome}
+use Rattle.std.specs.FinMap.{insert}
 use Rattle.log_machine.specs.MapLaws.{get_inserted, get_beside, get_removed, get_kept, insert_insert, insert_known}
 use Rattle.txn_table.specs.Table.{TransactionState, TableState, new_transaction, transaction_of, with_transaction, with_begun, with_ended, Changes}
 

@@ -23,7 +23,6 @@ fn sessions_keep_apart(rt: HostRuntime) -> Result<(), Fail> {
     assert_eq!(rt; table.new_object(1, 2)?, 0);
     assert!(rt; table.active(1));
     assert_eq!(rt; table.new_object(1, 510)?, 4);
-    assert!(rt; table.active(1));
     table.set_handle(1, 63, Some(Place::Volatile(4)));
     assert!(rt; table.active(1));
     let entry = UndoEntry {

@@ -9,20 +9,21 @@ use Rattle.gated_log.proofs.read_records.Goals as goal
 pub returns-in_default-clause-whole : goal.returns-in_default-clause-whole
 returns-in_default-clause-whole c records good spelled =
     let some : 0 < length c.loop-rest.rest.now = grind (arith, nat_tests) in
-    let next = finds_next records c.args.into.now.items c.loop-rest.into.items c.loop-rest.rest.now c.decode.result (c.loop-rest.invariant.whole records good spelled) some c.decode.ensures.only in
+    let next = finds_next records c.args.into.now.items c.loop-rest.into.items c.loop-rest.rest.now c.in_ok-record.field-0 (c.loop-rest.invariant.whole records good spelled) some c.in_ok-record.ensures.only in
     absurd (c.in_default.not-Some (next.rec, length (spelling next.rec)) next.is)
 
 pub loop-rest-preserved : goal.loop-rest-preserved
 loop-rest-preserved c =
     let some : 0 < length c.loop-rest.rest.now = grind (arith, nat_tests) in
+    let found = rw c.in-Some.is at c.in_ok-record.ensures.found in
     let behind = take_rest c.loop-rest.rest.now c.in-Some.length in
-    let one : 1 ≤ c.in-Some.length = omega (arith, some_spelling c.in-Some.record, c.in-Some.ensures.found.2) in
+    let one : 1 ≤ c.in-Some.length = omega (arith, some_spelling c.in-Some.record, found.2) in
     record {
-      good = rw c.in_ok-push.ensures.items (good_push _ _ c.loop-rest.invariant.good c.in-Some.ensures.found.0);
+      good = rw c.in_ok-push.ensures.items (good_push _ _ c.loop-rest.invariant.good found.0);
       few = fewer _ _ _ (length c.loop-rest.rest.now) c.in-Some.length _ _ c.in_ok-push.ensures.len one some (ap (λ (l : List ℕ). length l) behind ∙ length-drop c.in-Some.length c.loop-rest.rest.now) c.loop-rest.invariant.few;
-      found = spelled_on _ _ _ _ c.loop-rest.invariant.found c.in-Some.record c.in-Some.length c.in-Some.ensures.found.0 c.in-Some.ensures.found.1 _ c.in_ok-push.ensures.items _ behind;
+      found = spelled_on _ _ _ _ c.loop-rest.invariant.found c.in-Some.record c.in-Some.length found.0 found.1 _ c.in_ok-push.ensures.items _ behind;
       whole = λ records good spelled.
-          let next = finds_next records c.args.into.now.items c.loop-rest.into.items c.loop-rest.rest.now c.decode.result (c.loop-rest.invariant.whole records good spelled) some c.decode.ensures.only in
+          let next = finds_next records c.args.into.now.items c.loop-rest.into.items c.loop-rest.rest.now c.in_ok-record.field-0 (c.loop-rest.invariant.whole records good spelled) some c.in_ok-record.ensures.only in
           reads_on records _ _ _ _ next c.in-Some.record c.in-Some.length c.in-Some.is _ c.in_ok-push.ensures.items _ behind;
     }
 

@@ -1,12 +1,12 @@
-use Rattle.std.proofs.Common.{◌≡◌, ℕ, ◌≤◌, List, Err, ap, sym, subst, ◌∙◌, arith, rules}
-use Rattle.std.specs.Prelude.{IfOk, IfErr}
+use Rattle.std.proofs.Common.{◌≡◌, ℕ, ◌≤◌, List, Err, sym, subst, arith, rules}
+use Rattle.std.specs.Prelude.{IfOk}
 use Rattle.disk_model.specs.Disk.{part}
 use Rattle.gated_log.specs.Log.{HoldsBatches}
 use Rattle.image_plan.specs.declared.superblock.Super.{Super}
 use Rattle.image_plan.specs.Plan.{log_offset, image_size}
 use Rattle.log_records.specs.declared.Record.{Record}
 use Rattle.heap_model.specs.Image.{IsLegalLog, Holds}
-use Rattle.heap_recovery.specs.Recovered.{IsRead, IsFromOutside}
+use Rattle.heap_recovery.specs.Recovered.{IsRead}
 use Rattle.heap_recovery.proofs.read_image.read_image.Goals as goal
 
 pub returns-in_err-of-clause-legal : goal.returns-in_err-of-clause-legal

@@ -1,5 +1,4 @@
-use Rattle.std.proofs.Common.{◌≡◌, ◌⊎◌, ℕ, ◌+◌, List, Err, sym, ◌∙◌, ap, subst, rules}
-use Rattle.std.specs.Prelude.{IfOk}
+use Rattle.std.proofs.Common.{◌≡◌, ◌⊎◌, ◌+◌, Err, sym, ◌∙◌, rules}
 use Rattle.disk_model.specs.Disk.{part, SameOutside}
 use Rattle.disk_model.specs.Moments.{LeavesOnly}
 use Rattle.gated_log.specs.Log.{with_batch, HoldsBatches}

@@ -1,5 +1,4 @@
-use Rattle.std.proofs.Common.{◌≡◌, ◌+◌, Err, Some, take, get_or, ap, sym, ◌∙◌, subst}
-use Rattle.log_records.specs.declared.Record.TheVariants.{Update}
+use Rattle.std.proofs.Common.{◌≡◌, ◌+◌, Err, Some, take, ap, sym, ◌∙◌, subst}
 use Rattle.log_machine.specs.Machine.{start}
 use Rattle.log_machine.specs.Replay.{IsFirstUnshaped, Bounds, bounds_start, bounds_on, state_on, words_on, unshaped_at, same_size, within_words}
 use Rattle.log_machine.proofs.replaying.replay.Goals as goal
@@ -13,22 +12,22 @@ loop-i-init c = record {
 
 pub apply-requires : goal.apply-requires
 apply-requires c =
-    within_words c.args.pages (take c.loop-i.i c.args.records.now) c.loop-i.words c.loop-i.state (get_or c.args.records.now c.loop-i.i (Update 0 0 0 0 0)) c.loop-i.invariant.words c.loop-i.invariant.bounds.same_pages c.in-Ok.ensures.inside
+    within_words c.args.pages (take c.loop-i.i c.args.records.now) c.loop-i.words c.loop-i.state c.index-records-i.result c.loop-i.invariant.words c.loop-i.invariant.bounds.same_pages c.in-Ok.ensures.inside
 
 pub returns-in-Err-Unshaped-clause-unshaped : goal.returns-in-Err-Unshaped-clause-unshaped
 returns-in-Err-Unshaped-clause-unshaped c lsn is =
     let same : c.loop-i.i + 1 ≡ lsn = cc is in
     subst (λ n. IsFirstUnshaped (start c.args.pages c.args.first) c.args.records.now n) same
-    (unshaped_at (start c.args.pages c.args.first) c.args.records.now c.loop-i.i (Update 0 0 0 0 0) c.loop-i.state c.loop-i-test.true c.loop-i.invariant.state (c.after.ensures.unshaped.0 (c.in-Err-Unshaped.is ∙ ap (λ e. Err e) c.in-Err-Unshaped.field-0-is)))
+    (unshaped_at (start c.args.pages c.args.first) c.args.records.now c.loop-i.i c.index-records-i.result c.loop-i.state c.loop-i-test.true c.index-records-i.is c.loop-i.invariant.state (c.after.ensures.unshaped.0 (c.in-Err-Unshaped.is ∙ ap (λ e. Err e) c.in-Err-Unshaped.field-0-is)))
 
 pub loop-i-preserved : goal.loop-i-preserved
 loop-i-preserved c =
     let rs = c.args.records.now in
     let i = c.loop-i.invariant in
     record {
-      state = state_on (start c.args.pages c.args.first) rs c.loop-i.i (Update 0 0 0 0 0) c.loop-i.state c.after.new.self c.loop-i-test.true i.state c.in-Ok.ensures.ok;
-      words = words_on c.args.pages rs c.loop-i.i (Update 0 0 0 0 0) c.loop-i.words c.apply.new.self c.loop-i-test.true i.words c.apply.ensures;
-      bounds = bounds_on c.args.pages c.loop-i.i (get_or rs c.loop-i.i (Update 0 0 0 0 0)) c.loop-i.state c.after.new.self i.bounds c.in-Ok.ensures.ok;
+      state = state_on (start c.args.pages c.args.first) rs c.loop-i.i c.index-records-i.result c.loop-i.state c.after.new.self c.loop-i-test.true c.index-records-i.is i.state c.in-Ok.ensures.ok;
+      words = words_on c.args.pages rs c.loop-i.i c.index-records-i.result c.loop-i.words c.apply.new.self c.loop-i-test.true c.index-records-i.is i.words c.apply.ensures;
+      bounds = bounds_on c.args.pages c.loop-i.i c.index-records-i.result c.loop-i.state c.after.new.self i.bounds c.in-Ok.ensures.ok;
     }
 
 pub returns-clause-size : goal.returns-clause-size

@@ -1,24 +1,12 @@
-use Rattle.std.proofs.Common.{◌≡◌, List, subst}
-use Rattle.graph_model.specs.declared.reply.Entry.{Entry}
-use Rattle.graph_model.specs.declared.reply.Reply.TheVariants.{Refused}
-use Rattle.graph_model.specs.Graph.{new_graph}
-use Rattle.graph_model.specs.History.{account}
-use Rattle.graph_model.specs.Plain.{plain_reply}
-use Rattle.graph_model.proofs.Kept.{kept_entry, kept_some, kept_called, plain_called, plain_refused}
+use Rattle.graph_model.proofs.Kept.{kept_answered_by, plain_call_by}
 use Rattle.graph_model.proofs.slow_heap.SlowHeap.call.Goals as goal
 
-pub invariant_of-self-in-Ok : goal.invariant_of-self-in-Ok
-invariant_of-self-in-Ok c =
-    kept_entry c.self.inside.history.items _ _ _ _ _ c.in_ok-push-in-Ok.ensures.items
-    (kept_called (account c.self.inside.history.items) _ _ _ _ _ (kept_some _ _ _ _ _ c.in-Some.is c.self.invariant) c.requires.call c.requires.session c.in-Ok.ensures)
+pub invariant_of-self-2 : goal.invariant_of-self-2
+invariant_of-self-2 c =
+    kept_answered_by c.self.inside.history.items _ _ c.self.inside.next c.self.inside.active c.self.inside.states.items c.in-Some.transaction c.answer.new.self c.args.event c.in_ok-reply.reply
+    c.self.invariant c.in-Some.is c.requires.call c.requires.session c.in_ok-reply.ensures.ok c.in_ok-reserve.ensures.items (rw c.unwrap.ensures at c.push.ensures.items)
 
-pub returns-in-Err-clause-reply : goal.returns-in-Err-clause-reply
-returns-in-Err-clause-reply c =
-    let P : List Entry → Type 0 = λ h. plain_reply 1 new_graph (account h) c.args.event ≡ Refused c.in-Err.why in
-    let refused = subst P c.self.view_is (plain_refused (account c.self.inside.history.items) _ _ _ _ _ (kept_some _ _ _ _ _ c.in-Some.is c.self.invariant) c.requires.call c.requires.session c.in-Err.ensures) in
-    rw refused c.refuse-in-Err.ensures.reply
-
-pub returns-in_ok-push-in-Ok-clause-reply : goal.returns-in_ok-push-in-Ok-clause-reply
-returns-in_ok-push-in-Ok-clause-reply c =
-    let P : List Entry → Type 0 = λ h. c.in-Ok.called.reply ≡ plain_reply 1 new_graph (account h) c.args.event in
-    subst P c.self.view_is (plain_called (account c.self.inside.history.items) _ _ _ _ _ (kept_some _ _ _ _ _ c.in-Some.is c.self.invariant) c.requires.call c.requires.session c.in-Ok.ensures)
+pub returns-clause-reply : goal.returns-clause-reply
+returns-clause-reply c =
+    plain_call_by c.self.inside.history.items c.args.self.now c.self.inside.next c.self.inside.active c.self.inside.states.items c.in-Some.transaction c.answer.new.self c.args.event c.in_ok-reply.reply
+    c.self.view_is c.self.invariant c.in-Some.is c.requires.call c.requires.session c.in_ok-reply.ensures.ok

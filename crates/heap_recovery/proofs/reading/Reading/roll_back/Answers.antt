@@ -1,4 +1,4 @@
-use Rattle.std.proofs.Common.{◌≡◌, List, length, sym, ap, ◌∙◌}
+use Rattle.std.proofs.Common.{◌≡◌, List, length, ap, ◌∙◌}
 use Rattle.std.specs.Prelude.{fold}
 use Rattle.log_records.specs.declared.Record.{Record}
 use Rattle.log_machine.specs.AbortLaws.{rollback_words}

@@ -1,0 +1,267 @@
+-- The core: what each event is answered, and the state that it leaves.
+use Rattle.std.specs.Prelude.{◌≡◌, ◌⊎◌, ℕ, ◌+◌, ◌-◌, ◌*◌, ◌<◌, nat_lt, Bool, List, [], ◌∷◌, ◌++◌, length, Option, None, Some, slice_index_or, sum_by, if◌then◌else◌}
+use Rattle.std.specs.List.{range_with_len}
+use Rattle.graph_model.specs.declared.id.Id.{Id}
+use Rattle.graph_model.specs.declared.val.Val.{Val}
+use Rattle.graph_model.specs.declared.val.Val.TheVariants.{Null, Int}
+use Rattle.graph_model.specs.declared.event.Event.{Event}
+use Rattle.graph_model.specs.declared.event.Event.TheVariants.{Begin, New, Put, Clear, Link, Seal, Abort, Force}
+use Rattle.graph_model.specs.declared.reply.Refusal.{Refusal}
+use Rattle.graph_model.specs.declared.reply.Refusal.TheVariants.{VolatileFull, Exhausted, LogFull, DiskFault, Stopped}
+use Rattle.graph_model.specs.declared.reply.Reply.{Reply}
+use Rattle.graph_model.specs.declared.reply.Reply.TheVariants.{Refused}
+use Rattle.graph_model.specs.declared.reply.Entry.{Entry}
+use Rattle.graph_model.specs.Graph.{Graph, fields}
+use Rattle.graph_model.specs.Transaction.{View, Transaction, held, reference_to}
+use Rattle.graph_model.specs.History.{Account, account, account_after, session_of}
+use Rattle.graph_model.specs.Plain.{view, event_refusal, refusal_of, granted, reply_of}
+use Rattle.log_records.specs.declared.Record.{Record}
+use Rattle.log_records.specs.declared.Record.TheVariants.{Update}
+use Rattle.log_records.specs.Record.{spellings}
+use Rattle.log_machine.specs.declared.UndoEntry.{UndoEntry}
+use Rattle.log_machine.specs.Machine.{State, start, after_all, words, undo_of, undo_bytes, abort_records}
+use Rattle.gated_log.specs.Log.{records_of, batches_bytes, hand}
+use Rattle.heap_words.specs.declared.Word.{Word}
+use Rattle.heap_words.specs.declared.Word.TheVariants.{Stable}
+use Rattle.volatile_area.specs.Area.{AreaState}
+use Rattle.graph_words.specs.Places.{Places, area_used, place_of, bits_of}
+use Rattle.graph_words.specs.Area.{area_of}
+use Rattle.graph_words.specs.Promotion.{Move, moves_of, promoted_need, seal_records, promoted_places}
+
+-- The state of a heap since it was opened.
+pub record Core : Type 0 where
+  pub pages : ℕ  -- how many pages each of the two spaces has
+  pub room : ℕ  -- the bytes of the log
+  pub lowest : ℕ  -- the number of the heap's first transaction
+  pub first : ℕ  -- the next transaction's number at the opening
+  pub g0 : Graph  -- the graph at the opening
+  pub born : Bool  -- whether its objects are named by their births
+  pub before : ℕ  -- how many commits the log had at the opening
+  pub history : List Entry  -- the events since then and their replies
+  pub batches : List (List Record)  -- the log's batches on the disk
+  pub pending : List Record  -- the records behind them that wait to be forced
+  pub places : Places  -- the objects that stand in the current space behind all of these, with their addresses
+
+-- the next transaction's number
+abbrev pub next_number : Core → ℕ
+next_number c = c.first + (account c.history).begun
+
+-- the records on the disk and those that wait
+abbrev pub all_records : Core → List Record
+all_records c = records_of c.batches ++ c.pending
+
+-- what records say of a core's heap, if they follow one another
+abbrev pub state_behind : Core → List Record → Option State
+state_behind c records = after_all (start c.pages c.lowest) records
+
+abbrev pub undo_with : Option State → ℕ → List UndoEntry
+undo_with None t = []
+undo_with (Some s) t = undo_of s t
+
+-- the writes of each transaction that may be taken back behind records, the newest first
+abbrev pub undo_behind : Core → List Record → ℕ → List UndoEntry
+undo_behind c records t = undo_with (state_behind c records) t
+
+-- the address of the next free word
+abbrev pub next_word : Option State → ℕ
+next_word None = 0
+next_word (Some s) = s.base + s.used
+
+-- Where an event finds the heap: the places of objects, the words, and what the records say.
+pub record Ground : Type 0 where
+  pub places : Places
+  pub words : List ℕ
+  pub state : Option State
+
+abbrev pub ground : Core → Ground
+ground c = record { places = c.places; words = words c.pages (all_records c); state = state_behind c (all_records c) }
+
+-- the area of a transaction that sees this
+abbrev pub area_in : Places → View → ℕ → AreaState
+area_in places view t = area_of (place_of places view.graph) view.graph t view.made
+
+-- The record of a write of a value into field i of an object with these fields: one that stands in the current space. A write into a
+-- transaction's area has none.
+abbrev pub update : (Id → Word) → ℕ → Word → List Val → ℕ → Val → List Record
+update place t (Stable at) vs i v = Update t at i (bits_of place (slice_index_or vs i Null)) (bits_of place v) ∷ []
+update place t at vs i v = []
+
+-- the record of a write into the object that a handle holds
+abbrev pub write_records : (Id → Word) → ℕ → Graph → Option Id → ℕ → Val → List Record
+write_records place t g None i v = []
+write_records place t g (Some id) i v = update place t (place id) (fields g id) i v
+
+-- the same, where the transaction sees this
+abbrev pub view_records : Places → ℕ → View → ℕ → ℕ → Val → List Record
+view_records places t view h i v = write_records (place_of places view.graph) t view.graph (held view.registers h) i v
+
+-- the objects that the seal of a transaction moves which sees this
+abbrev pub seal_moves : Ground → ℕ → View → List Move
+seal_moves ground t view = moves_of (area_in ground.places view t) ground.words (undo_with ground.state t) (next_word ground.state)
+
+-- the records of its seal
+abbrev pub seal_of : Ground → ℕ → View → List Record
+seal_of ground t view = seal_records (area_in ground.places view t) ground.words (undo_with ground.state t) (next_word ground.state)
+
+-- the records of a call of a session, or of its transaction's end
+abbrev pub call_records : Ground → Graph → Account → Option Transaction → Event → List Record
+call_records ground g0 a None event = []
+call_records ground g0 a (Some t) (Put s h i v) = view_records ground.places t.number (view g0 a t) h i (Int v)
+call_records ground g0 a (Some t) (Clear s h i) = view_records ground.places t.number (view g0 a t) h i Null
+call_records ground g0 a (Some t) (Link s h i h2) =
+    view_records ground.places t.number (view g0 a t) h i (reference_to (held (view g0 a t).registers h2))
+call_records ground g0 a (Some t) (Seal s) = seal_of ground t.number (view g0 a t)
+call_records ground g0 a (Some t) (Abort s) = abort_records t.number (undo_with ground.state t.number)
+call_records ground g0 a (Some t) event = []
+
+-- the records that an event appends
+abbrev pub records_for : Ground → Graph → Account → Event → List Record
+records_for ground g0 a (Begin s) = []
+records_for ground g0 a Force = []
+records_for ground g0 a event = call_records ground g0 a (a.active (session_of event)) event
+
+abbrev pub event_records : Core → Event → List Record
+event_records c event = records_for (ground c) c.g0 (account c.history) event
+
+abbrev pub sealed_places : Ground → Graph → Account → Option Transaction → Places
+sealed_places ground g0 a None = []
+sealed_places ground g0 a (Some t) =
+    promoted_places (area_in ground.places (view g0 a t) t.number) (seal_moves ground t.number (view g0 a t))
+
+-- the places that an event adds: a seal's promotion does
+abbrev pub places_for : Ground → Graph → Account → Event → Places
+places_for ground g0 a (Seal s) = sealed_places ground g0 a (a.active s)
+places_for ground g0 a event = []
+
+abbrev pub event_places : Core → Event → Places
+event_places c event = places_for (ground c) c.g0 (account c.history) event
+
+-- the log's bytes that are used: the forced batches, a gate, and the batch in hand
+abbrev pub used : Core → ℕ
+used c = length (batches_bytes c.batches) + 1 + length (hand c.pending)
+
+-- the bytes that records take behind those that wait, with those of a batch where none waits
+abbrev pub need : List Record → List Record → ℕ
+need pending [] = 0
+need [] (r ∷ rs) = length (spellings (r ∷ rs)) + 5
+need (p ∷ ps) (r ∷ rs) = length (spellings (r ∷ rs))
+
+-- the numbers of the sessions
+unfoldable pub sessions : List ℕ
+sessions = range_with_len 1 32
+
+-- the bytes that are kept for the end of a transaction that has these writes to be taken back
+abbrev pub kept_for : (ℕ → List UndoEntry) → Option Transaction → ℕ
+kept_for undo None = 0
+kept_for undo (Some t) = undo_bytes (undo t.number)
+
+-- the bytes that are kept for the ends of all active transactions
+abbrev pub reserved : (ℕ → List UndoEntry) → Account → ℕ
+reserved undo a = sum_by (λ s. kept_for undo (a.active s)) sessions
+
+-- what is kept after an event, if it is granted
+abbrev pub reserved_after : Core → Event → ℕ
+reserved_after c event =
+    let a = account c.history in
+    reserved (undo_behind c (all_records c ++ event_records c event)) (account_after a (record { event = event; reply = granted (next_number c) c.g0 a event }))
+
+abbrev pub full_log : ℕ → ℕ → ℕ → ℕ → Option Refusal
+full_log room used need reserved = if nat_lt room (used + need + reserved) then Some (LogFull used need reserved) else None
+
+-- why the log has no room for an event
+abbrev pub log_refusal : Core → Event → Option Refusal
+log_refusal c event = full_log c.room (used c) (need c.pending (event_records c event)) (reserved_after c event)
+
+-- the first reason of two
+abbrev pub first_of_two : Option Refusal → Option Refusal → Option Refusal
+first_of_two None second = second
+first_of_two (Some why) second = Some why
+
+-- why a transaction that sees this has no room in its area for an object of that many fields
+abbrev pub area_refusal : View → ℕ → ℕ → Option Refusal
+area_refusal view t len =
+    let used = area_used view.graph t view.made in
+    if nat_lt 4096 (used + 2 + len) then Some (VolatileFull used) else None
+
+-- the words that a promotion needs
+abbrev pub seal_need : Ground → ℕ → View → ℕ
+seal_need ground t view = promoted_need (area_in ground.places view t) ground.words (undo_with ground.state t)
+
+-- why the current space has no room for so many words; none is owed to a collection
+abbrev pub space_refusal : Option State → ℕ → Option Refusal
+space_refusal None need = None
+space_refusal (Some s) need =
+    let free = 64 * s.pages - s.used in
+    if nat_lt free need then Some (Exhausted need free 0) else None
+
+-- why there is no room for what a transaction asks: for a new object, or for those that its seal promotes
+abbrev pub room_refusal : Ground → Graph → Account → Option Transaction → Event → Option Refusal
+room_refusal ground g0 a (Some t) (New s h len) = area_refusal (view g0 a t) t.number len
+room_refusal ground g0 a (Some t) (Seal s) = space_refusal ground.state (seal_need ground t.number (view g0 a t))
+room_refusal ground g0 a t event = None
+
+-- why an event has no room in memory's spaces
+abbrev pub words_refusal : Core → Event → Option Refusal
+words_refusal c event = let a = account c.history in room_refusal (ground c) c.g0 a (a.active (session_of event)) event
+
+-- why the core refuses an event
+abbrev pub core_refusal : Core → Event → Option Refusal
+core_refusal c event =
+    let a = account c.history in
+    refusal_of a.failed (first_of_two (event_refusal (next_number c) c.g0 a event) (first_of_two (words_refusal c event) (log_refusal c event)))
+
+-- what an event is answered where the disk does what it is asked
+abbrev pub answer : Core → Event → Reply
+answer c event = reply_of (core_refusal c event) (granted (next_number c) c.g0 (account c.history) event)
+
+-- the state with one entry more
+abbrev pub with_entry : Core → Event → Reply → Core
+with_entry c event reply = record c { history = c.history ++ record { event = event; reply = reply } ∷ [] }
+
+-- all that waits is on the disk, as one batch
+abbrev pub forced : Core → List Record → Core
+forced c [] = c
+forced c (r ∷ rs) = record c { batches = c.batches ++ (r ∷ rs) ∷ []; pending = [] }
+
+-- what an event that is granted does
+abbrev pub done : Core → Event → Core
+done c Force = forced c c.pending
+done c event = record c { pending = c.pending ++ event_records c event; places = c.places ++ event_places c event }
+
+-- what an event does that may be refused
+abbrev pub after_refusal : Option Refusal → Core → Event → Core
+after_refusal None c event = done c event
+after_refusal (Some why) c event = c
+
+-- the state after an event where the disk does what it is asked
+abbrev pub after : Core → Event → Core
+after c event = with_entry (after_refusal (core_refusal c event) c event) event (answer c event)
+
+-- the writes and syncs of a force of what waits
+abbrev pub force_calls : List Record → ℕ
+force_calls [] = 0
+force_calls (r ∷ rs) = 4
+
+-- those of an event that may be refused
+abbrev pub calls_if : Option Refusal → Core → Event → ℕ
+calls_if None c Force = force_calls c.pending
+calls_if why c event = 0
+
+-- the writes and syncs of an event where the disk does what it is asked
+abbrev pub calls : Core → Event → ℕ
+calls c event = calls_if (core_refusal c event) c event
+
+-- the disk fails or stops in an event that calls it
+pub record IsCutShort (c : Core) (event : Event) (reply : Reply) : Type 0 where
+  pub some : 0 < calls c event
+  pub told : (reply ≡ Refused DiskFault) ⊎ (reply ≡ Refused Stopped)
+
+-- From c an event may be answered so, and leave d.
+abbrev pub IsStep : Core → Event → Reply → Core → Type 0
+IsStep c event reply d =
+    ((reply ≡ answer c event) × (d ≡ after c event)) ⊎ (IsCutShort c event reply × (d ≡ with_entry c event reply))
+
+-- From c these events may lead to d, one step after another.
+abbrev pub IsRun : Core → List Event → Core → Type 0
+IsRun c [] d = d ≡ c
+IsRun c (event ∷ events) d = (reply : Reply) × (mid : Core) × IsStep c event reply mid × IsRun mid events d

@@ -1,0 +1,48 @@
+-- What a crash leaves of a core.
+use Rattle.std.specs.Prelude.{◌≡◌, ◌⊎◌, ℕ, ◌+◌, ◌≤◌, List, length, take}
+use Rattle.graph_model.specs.Transaction.{serial}
+use Rattle.graph_model.specs.History.{commits, acknowledged}
+use Rattle.image_plan.specs.declared.superblock.Super.{Super}
+use Rattle.image_plan.specs.Super.{IsSuper}
+use Rattle.log_records.specs.declared.Record.{Record}
+use Rattle.gated_log.specs.Log.{with_batch}
+use Rattle.object_core.specs.Core.{Core}
+use Rattle.object_core.specs.Image.{StandsFor}
+use Rattle.object_core.specs.Opening.{next_of}
+
+-- The disk holds the batches that were forced, or those that wait as one more.
+abbrev pub IsOnDisk : Core → List (List Record) → Type 0
+IsOnDisk c batches = (batches ≡ c.batches) ⊎ (batches ≡ with_batch c.batches c.pending)
+
+-- the superblock is that of a core's heap
+pub record IsSuperOf (s : Super) (c : Core) : Type 0 where
+  pub limits : IsSuper s
+  pub pages : s.pages ≡ c.pages
+  pub room : s.log_bytes ≡ c.room
+  pub first : s.first ≡ c.lowest
+
+-- An image stands for the first k commits of a core since its opening, and all that was acknowledged is among them. It has the core's
+-- superblock, and its next transaction number is none that was given before the core was opened.
+pub record StandsForFirst (c : Core) (k : ℕ) (image : List ℕ) : Type 0 where
+  pub stands : StandsFor (serial c.g0 (take k (commits c.history))) (c.before + k) image
+  pub of : IsSuperOf stands.super c
+  pub next : c.first ≤ next_of stands.super stands.batches
+  pub kept : acknowledged c.history ≤ k
+  pub some : k ≤ length (commits c.history)
+
+-- The image stands for first commits, and all that was acknowledged is among them.
+abbrev pub KeepsCommits : Core → List ℕ → Type 0
+KeepsCommits c image = (k : ℕ) × StandsForFirst c k image
+
+-- The image stands for first commits.
+pub record HasCommits (c : Core) (image : List ℕ) : Type 0 where
+  pub count : ℕ
+  pub stands : StandsFor (serial c.g0 (take count (commits c.history))) (c.before + count) image
+  pub some : count ≤ length (commits c.history)
+
+-- The image stands for first commits, so many at least.
+pub record HasAtLeast (c : Core) (least : ℕ) (image : List ℕ) : Type 0 where
+  pub count : ℕ
+  pub stands : StandsFor (serial c.g0 (take count (commits c.history))) (c.before + count) image
+  pub enough : least ≤ count
+  pub some : count ≤ length (commits c.history)

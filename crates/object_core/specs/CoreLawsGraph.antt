@@ -1,0 +1,58 @@
+-- What a reached core says of the records and words in memory.
+use Rattle.std.proofs.Common.{◌≡◌, ◌≢◌, Some, None, sym, ap, ◌∙◌, subst, append_assoc}
+use Rattle.graph_model.specs.declared.event.Event.{Event}
+use Rattle.graph_model.specs.declared.event.Event.TheVariants.{Force}
+use Rattle.graph_model.specs.Transaction.{Transaction, serial}
+use Rattle.graph_model.specs.History.{account, account_after, sealed}
+use Rattle.graph_model.specs.Plain as Plain
+use Rattle.graph_model.specs.Plain.{view}
+use Rattle.graph_model.specs.SlowHeap.{IsSingleSession}
+use Rattle.gated_log.specs.Log.{records_of}
+use Rattle.log_machine.specs.Machine.{State, start, after_all, words, committed_words}
+use Rattle.log_machine.specs.MachineLaws.{after_all-append2}
+use Rattle.graph_words.specs.Stands.{StandsCommitted}
+use Rattle.graph_words.specs.StandsSeen.{stands_seen_at}
+use Rattle.graph_words.specs.Places.{name_at}
+use Rattle.object_layout.specs.Layout.{IsSeenAs}
+use Rattle.object_core.specs.Core.{Core, next_number, all_records, event_records, core_refusal}
+use Rattle.object_core.specs.CoreLawsGoes.{writer_as}
+use Rattle.object_core.specs.CoreLawsRun.{sound_agrees}
+use Rattle.object_core.specs.CoreLawsStep.{may_go, goes, done_records}
+use Rattle.object_core.specs.CoreValid.{Agrees, IsWriting, IsValid, IsSound}
+
+module _ (c : Core) (sound : IsSound c) where
+  -- the state behind all records
+  abbrev pub core_state : State
+  core_state = (sound_agrees c sound).behind
+
+  -- its records follow one another
+  pub core_reached : after_all (start c.pages c.lowest) (all_records c) ≡ Some core_state
+  core_reached = (sound_agrees c sound).told.reached
+
+  -- objects stand from the first word on
+  pub core_base : core_state.base ≡ 0
+  core_base = (sound_agrees c sound).told.base
+
+  -- the graph of the sealed transactions stands in the words without the writes of an active one
+  pub core_stands : StandsCommitted c.places (serial c.g0 (sealed c.history)) (committed_words c.pages c.lowest (all_records c)) core_state.base core_state.used
+  core_stands = (sound_agrees c sound).told.stands
+
+  -- and is seen there
+  pub core_seen : IsSeenAs (name_at c.places) (committed_words c.pages c.lowest (all_records c)) 0 (serial c.g0 (sealed c.history))
+  core_seen = subst (λ base. IsSeenAs (name_at c.places) (committed_words c.pages c.lowest (all_records c)) base (serial c.g0 (sealed c.history))) core_base (stands_seen_at core_stands)
+
+  -- what the active transaction sees stands in the words with its writes, and in its area
+  pub core_writing : (t : Transaction) → (account c.history).active 1 ≡ Some t → IsWriting c.places (view c.g0 (account c.history) t) t.number (words c.pages (all_records c)) core_state
+  core_writing t e = writer_as _ c (Some t) e (sound_agrees c sound)
+
+-- the records that a granted event appends follow those before them
+pub event_follows : (c : Core) (event : Event) → (valid : IsValid c) → IsSingleSession event → core_refusal c event ≡ None → event ≢ Force
+    → (state : State) × (after_all valid.behind (event_records c event) ≡ Some state)
+event_follows c event valid one granted other =
+    let next = goes c event valid one (may_go c event valid granted) in
+    let left = subst (λ (d : Core). Agrees (account_after (account c.history) (record { event = event; reply = Plain.granted (next_number c) c.g0 (account c.history) event })) d) (done_records c event other) next in (
+      left.behind,
+      sym (after_all-append2 (start c.pages c.lowest) valid.behind (all_records c) (event_records c event) valid.told.reached)
+          ∙ ap (λ l. after_all (start c.pages c.lowest) l) (append_assoc (records_of c.batches) c.pending (event_records c event))
+          ∙ left.told.reached,
+    )

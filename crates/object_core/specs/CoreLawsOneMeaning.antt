@@ -1,0 +1,64 @@
+-- An image stands for one graph, up to the names of objects, and for one number of commits.
+use Rattle.std.proofs.Common.{◌≡◌, ℕ, List, Some, sym, ◌∙◌, subst, arith}
+use Rattle.disk_model.specs.Disk.{part}
+use Rattle.gate_slot.specs.Images.{length_part}
+use Rattle.graph_model.specs.Graph.{Graph}
+use Rattle.graph_model.specs.Canon.{canon}
+use Rattle.image_plan.specs.declared.superblock.Super.{Super}
+use Rattle.image_plan.specs.Plan.{log_offset}
+use Rattle.image_plan.specs.SuperLaws.{one_super}
+use Rattle.log_records.specs.declared.Record.{Record}
+use Rattle.gated_log.specs.LogLaws.{holds_once}
+use Rattle.object_layout.specs.Layout.{id_at, IsSeen}
+use Rattle.object_layout.specs.SeenLaws.{seen_canon}
+use Rattle.object_core.specs.Theorems.{OneMeaningTheorem}
+use Rattle.object_core.specs.Image.{words_of, IsLegalLog, Holds, IsLegal, Says, StandsFor}
+
+-- an image holds one superblock
+pub one_held : (s r : Super) (bs cs : List (List Record)) (image : List ℕ) → IsLegal s bs image → IsLegal r cs image → s ≡ r
+one_held s r bs cs image legal other = one_super s r legal.log.shaped.limits other.log.shaped.limits (sym legal.held.super ∙ other.held.super)
+
+-- and one log
+pub one_log : (s : Super) (bs cs : List (List Record)) (image : List ℕ) → IsLegal s bs image → IsLegal s cs image → bs ≡ cs
+one_log s bs cs image legal other =
+    let size = legal.held.size in
+    let limits = legal.log.shaped.limits.small_log in
+    let long = length_part image log_offset s.log_bytes (omega arith) in
+    holds_once (part image log_offset s.log_bytes) (omega arith) bs cs legal.log.shaped.good other.log.shaped.good legal.held.log other.held.log
+
+-- a log says one state
+one_base : (s : Super) (bs : List (List Record)) (legal other : IsLegalLog s bs) → legal.shaped.state.base ≡ other.shaped.state.base
+one_base s bs legal other = let same : Some legal.shaped.state ≡ Some other.shaped.state = sym legal.shaped.reached ∙ other.shaped.reached in cc
+
+-- one graph, up to names, and one number of commits
+pub one_said : (g h : Graph) (k j : ℕ) (s : Super) (bs : List (List Record)) → Says g k s bs → Says h j s bs → (canon g ≡ canon h) × (k ≡ j)
+one_said g h k j s bs says other =
+    let base = one_base s bs says.legal other.legal in
+    let there = subst (λ n. IsSeen (words_of s bs) n says.seen) base says.shows in (
+      sym says.graph ∙ seen_canon (id_at (words_of s bs)) (id_at (words_of s bs)) (words_of s bs) other.legal.shaped.state.base says.seen other.seen there other.shows ∙ other.graph,
+      sym says.count ∙ other.count,
+    )
+
+stands_at : (g h : Graph) (k j : ℕ) (image : List ℕ) (s r : Super) (bs cs : List (List Record)) → s ≡ r → Says g k s bs → Holds s bs image → Says h j r cs → Holds r cs image
+    → (canon g ≡ canon h) × (k ≡ j)
+stands_at g h k j image s r bs cs same says held other_says other_held =
+    let P : Super → Type 0 = λ x. Says h j x cs × Holds x cs image in
+    let there = subst P (sym same) (other_says, other_held) in
+    let log = one_log s bs cs image (record { log = says.legal; held = held }) (record { log = there.0.legal; held = there.1 }) in
+    one_said g h k j s bs says (subst (λ x. Says h j s x) (sym log) there.0)
+
+-- An image stands for one graph, up to names, and for one number of commits.
+pub one_graph : OneMeaningTheorem
+one_graph g h k j image stands other =
+    let same = one_held stands.super other.super stands.batches other.batches image
+    (record { log = stands.says.legal; held = stands.held }) (record { log = other.says.legal; held = other.held }) in
+    stands_at g h k j image stands.super other.super stands.batches other.batches same stands.says stands.held other.says other.held
+
+-- an image that stands for a graph stands for each with its canon
+pub stands_as : (g h : Graph) (k : ℕ) (image : List ℕ) → canon g ≡ canon h → StandsFor g k image → StandsFor h k image
+stands_as g h k image same stands = record {
+  super = stands.super;
+  batches = stands.batches;
+  says = record { legal = stands.says.legal; seen = stands.says.seen; shows = stands.says.shows; graph = stands.says.graph ∙ same; count = stands.says.count };
+  held = stands.held;
+}

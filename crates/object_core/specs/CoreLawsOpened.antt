@@ -1,0 +1,167 @@
+-- A core that was opened on a shaped log is reached, whatever graph stands in its words, under whatever names.
+use Rattle.std.proofs.Common.{◌≡◌, ◌⊎◌, inl, inr, ℕ, ◌+◌, ◌≤◌, Bool, true, List, [], ◌∷◌, max, Some, unwrap_or, refl, sym, ap, ◌∙◌, subst, arith}
+use Rattle.std.proofs.lemmas.List.{append-nil}
+use Rattle.std.proofs.lemmas.Option.{option_and_then_some}
+use Rattle.graph_model.specs.Graph.{Graph}
+use Rattle.image_plan.specs.declared.superblock.Super.{Super}
+use Rattle.log_records.specs.declared.Record.{Record}
+use Rattle.log_machine.specs.Machine.{State, start, after, after_all, number_of, commits}
+use Rattle.log_machine.specs.StateLaws.{turns, leads_after_all, room_after_all, commits-start}
+use Rattle.log_machine.specs.MapLaws.{entries_empty}
+use Rattle.log_machine.specs.AbortLaws.{settled}
+use Rattle.log_machine.specs.declared.UndoEntry.{UndoEntry}
+use Rattle.gated_log.specs.Log.{records_of}
+use Rattle.object_layout.specs.Layout.{id_at}
+use Rattle.object_layout.specs.WalkedLaws.{gathered}
+use Rattle.graph_words.specs.Places.{Places, named_places}
+use Rattle.graph_words.specs.Stands.{StandsCommitted, AreNamedByBirth}
+use Rattle.graph_words.specs.StandsSeen.{stands_seen, stands_canon}
+use Rattle.graph_words.specs.WalkedStands.{walked_stands_by_birth, id_at-AreNamedByBirth, id_at-AreOld}
+use Rattle.object_core.specs.CoreCrash.{KeepsCommits}
+use Rattle.object_core.specs.CoreLawsOpening.{next_is, rolled_reached, rolled_good, rolled_room, rolled_shaped, rolled_says, words_of-rolled_back, settled_reserve}
+use Rattle.object_core.specs.CoreLawsReplies.{hears_nothing}
+use Rattle.object_core.specs.Theorems.{OpeningTheorem, SayingTheorem, SaysOn}
+use Rattle.object_core.specs.CoreValid.{IsTold, IsValid, IsReached}
+use Rattle.object_core.specs.Image.{words_of, IsShapedLog, IsLegalLog, Holds, Shows, Says}
+use Rattle.object_core.specs.Opening.{rolled_back, next_of, next_behind, opened, IsFound}
+
+-- The number of the next transaction.
+
+next_after : (s n : State) (r : Record) → after s r ≡ Some n → max s.next (number_of r + 1) ≡ n.next
+next_after s n r is = sym (turns s n r is).next
+
+next_all : (s x : State) (rs : List Record) → after_all s rs ≡ Some x → x.next ≡ next_behind s.next rs
+next_all s x [] is = let same : Some s ≡ Some x = is in ap (λ o. (unwrap_or o s).next) (sym is)
+next_all s x (r ∷ rs) is = option_and_then_some (λ next. after_all next rs) (after s r) x is (λ next first rest.
+    next_all next x rs rest ∙ ap (λ n. next_behind n rs) (sym (next_after s next r first)))
+
+-- a transaction begun behind an opening has the greater of the heap's first number and one more than the greatest in the log
+pub next_pinned : (s : Super) (batches : List (List Record)) → IsShapedLog s batches → next_of s batches ≡ next_behind s.first (records_of batches)
+next_pinned s batches shaped = next_is s batches shaped ∙ next_all (start s.pages s.first) shaped.state (records_of batches) shaped.reached
+
+-- The core.
+
+module _ (s : Super) (batches : List (List Record)) (shaped : IsShapedLog s batches) (born : Bool) (places : Places) (g : Graph) (found : IsFound s batches shaped born places g) where
+  behind_base : shaped.state.base ≡ 0
+  behind_base = (leads_after_all (start s.pages s.first) shaped.state (records_of batches) shaped.reached).base
+
+  opened_told : IsTold s.pages s.first born places g (commits (records_of batches) + 0) (records_of (rolled_back s batches)) (settled shaped.state)
+  opened_told =
+      let count = commits-start s.pages s.first shaped.state (records_of batches) shaped.reached in
+      let same = sym (words_of-rolled_back s batches shaped) in
+      record {
+        good = rolled_good s batches shaped;
+        reached = rolled_reached s batches shaped;
+        count = omega arith;
+        base = behind_base;
+        stands = subst (λ ws. StandsCommitted places g ws shaped.state.base shaped.state.used) same found.stands;
+        old = found.old;
+        births = λ by_birth. subst (AreNamedByBirth places) same (found.births by_birth);
+      }
+
+  opened_valid : IsValid (opened s batches born places g)
+  opened_valid =
+      let to = leads_after_all (start s.pages s.first) shaped.state (records_of batches) shaped.reached in
+      let next = next_is s batches shaped in
+      let some_first = shaped.limits.some_first in
+      let small_first = shaped.limits.small_first in
+      let grows = to.grows in
+      let fits = to.next_in_range (omega arith) in
+      let room = rolled_room s batches shaped in
+      let none = settled_reserve shaped.state in
+      record {
+        unfailed = refl;
+        certain = refl;
+        idle = λ session other. refl;
+        some_pages = shaped.limits.some_pages;
+        few_pages = shaped.limits.few_pages;
+        some_first = omega arith;
+        next_fits = omega arith;
+        numbered = tt;
+        durable = 0;
+        sealed_first = omega arith;
+        acknowledged_last = omega arith;
+        on_disk = settled shaped.state;
+        disk_places = places;
+        disk_told = opened_told;
+        first_known = omega arith;
+        disk_room = omega arith;
+        behind = settled shaped.state;
+        told = subst (λ rs. IsTold s.pages s.first born places g (commits (records_of batches) + 0) rs (settled shaped.state)) (sym (append-nil (records_of (rolled_back s batches)))) opened_told;
+        next_known = omega arith;
+        writer = entries_empty (List UndoEntry);
+        room = omega arith;
+      }
+
+  -- A core that was opened on a shaped log is reached.
+  pub opened_reached : IsReached (opened s batches born places g)
+  opened_reached = record { sound = inl opened_valid; answers = hears_nothing g }
+
+-- A heap that is opened on any shaped log goes on.
+pub opening_law : OpeningTheorem
+opening_law s batches shaped born places g found = record {
+  reached = opened_reached s batches shaped born places g found;
+  next = next_pinned s batches shaped;
+}
+
+-- What a legal log says.
+
+module _ (s : Super) (batches : List (List Record)) (legal : IsLegalLog s batches) (g : Graph) (shows : Shows s batches legal g) where
+  -- the log that was found says the graph
+  pub found_says : Says g (commits (records_of batches)) s batches
+  found_says = record { legal = legal; seen = g; shows = shows; graph = refl; count = refl }
+
+  -- so does the one behind the opening
+  pub left_says : Says g (commits (records_of batches)) s (rolled_back s batches)
+  left_says = rolled_says g (commits (records_of batches)) s batches found_says
+
+-- what a graph that stands under the names of births is said of
+pub says_found : (s : Super) (batches : List (List Record)) (legal : IsLegalLog s batches) (places : Places) (g : Graph) → IsFound s batches legal.shaped true places g → SaysOn g s batches
+says_found s batches legal places g found =
+    let shows = stands_seen found.stands (found.births refl) in
+    record { found = found_says s batches legal g shows; left = left_says s batches legal g shows }
+
+-- the words of both spaces end below the greatest address
+used_below : (s : Super) (batches : List (List Record)) (shaped : IsShapedLog s batches) → shaped.state.base + shaped.state.used ≤ 2097152
+used_below s batches shaped =
+    let room = room_after_all s.pages s.first shaped.state (records_of batches) shaped.limits.some_pages shaped.reached in
+    let base = room.1 in
+    let used = room.3 in
+    let pages = shaped.limits.few_pages in
+    omega arith
+
+-- A legal log says the graph of its objects, under the names of their births.
+pub saying_law : SayingTheorem
+saying_law s batches legal g shows =
+    let shaped = legal.shaped in
+    let words = words_of s batches in
+    let places = named_places (id_at words) shaped.walked.starts in
+    let stands = walked_stands_by_birth words shaped.state.base shaped.state.used shaped.walked (used_below s batches shaped) legal.own_births in
+    let h = gathered (id_at words) words shaped.walked.starts in
+    let found : IsFound s batches shaped true places h = record {
+      stands = stands;
+      old = id_at-AreOld words shaped.state.base shaped.state.used shaped.walked shaped.state.next legal.born_before;
+      births = λ by_birth. id_at-AreNamedByBirth words shaped.walked.starts;
+    } in
+    (places, h, found, sym (stands_canon stands (id_at words) g shows), says_found s batches legal places h found)
+
+module _ (s : Super) (batches : List (List Record)) (legal : IsLegalLog s batches) (places : Places) (g : Graph) (found : IsFound s batches legal.shaped true places g) where
+  none_since : (log : List (List Record)) → Says g (commits (records_of batches)) s log → Says g (commits (records_of batches) + 0) s log
+  none_since log says = record { legal = says.legal; seen = says.seen; shows = says.shows; graph = says.graph; count = omega (arith, says.count) }
+
+  -- an image of the log that was found or of the one behind the opening keeps all commits, wherever the opening was stopped
+  pub opened_keeps : (image : List ℕ) → Holds s batches image ⊎ Holds s (rolled_back s batches) image → KeepsCommits (opened s batches true places g) image
+  opened_keeps image (inl held) = (0, record {
+    stands = record { super = s; batches = batches; says = none_since batches (says_found s batches legal places g found).found; held = held };
+    of = record { limits = legal.shaped.limits; pages = refl; room = refl; first = refl };
+    next = omega arith;
+    kept = omega arith;
+    some = omega arith;
+  })
+  opened_keeps image (inr held) = (0, record {
+    stands = record { super = s; batches = rolled_back s batches; says = none_since (rolled_back s batches) (says_found s batches legal places g found).left; held = held };
+    of = record { limits = legal.shaped.limits; pages = refl; room = refl; first = refl };
+    next = let one = next_is s batches legal.shaped in let other = next_is s (rolled_back s batches) (rolled_shaped s batches legal.shaped) in omega arith;
+    kept = omega arith;
+    some = omega arith;
+  })

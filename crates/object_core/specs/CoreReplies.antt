@@ -1,0 +1,61 @@
+-- What the calls of each transaction were answered, as a history tells it.
+use Rattle.std.specs.Prelude.{ℕ, ◌==◌, List, [], ◌∷◌, ◌++◌, Option, None, Some, fold, if◌then◌else◌}
+use Rattle.std.specs.Option.{option_to_list, option_map}
+use Rattle.graph_model.specs.declared.event.Event.{Event}
+use Rattle.graph_model.specs.declared.event.Event.TheVariants.{Seal}
+use Rattle.graph_model.specs.declared.reply.Entry.{Entry}
+use Rattle.graph_model.specs.declared.reply.Refusal.TheVariants.{DiskFault, Stopped}
+use Rattle.graph_model.specs.declared.reply.Reply.{Reply}
+use Rattle.graph_model.specs.declared.reply.Reply.TheVariants.{Begun, Sealed, Aborted, Durable, Refused}
+use Rattle.graph_model.specs.History.{session_of}
+
+-- The replies to the calls of transactions.
+pub record Heard : Type 0 where
+  pub active : ℕ → Option (List Reply)  -- of each session's transaction so far
+  pub sealed : List (List Reply)  -- of those whose seal was answered `sealed`, in that order
+  pub in_doubt : Option (List Reply)  -- of the one whose seal the disk cut short
+
+-- nothing was answered
+abbrev pub nothing_heard : Heard
+nothing_heard = record { active = λ s. None; sealed = []; in_doubt = None }
+
+-- the sessions' replies where session s has these
+abbrev pub with_replies : (ℕ → Option (List Reply)) → ℕ → Option (List Reply) → ℕ → Option (List Reply)
+with_replies active s own session = if session == s then own else active session
+
+-- a transaction's replies with one more
+abbrev pub with_reply : Reply → List Reply → List Reply
+with_reply reply own = own ++ reply ∷ []
+
+-- what a call's reply adds
+abbrev pub hear_call : Heard → ℕ → Reply → Heard
+hear_call heard s reply = record heard { active = with_replies heard.active s (option_map (with_reply reply) (heard.active s)) }
+
+-- the replies to the calls of a session's transaction are complete
+abbrev pub hear_seal : Heard → ℕ → Heard
+hear_seal heard s = record heard { active = with_replies heard.active s None; sealed = heard.sealed ++ option_to_list (heard.active s) }
+
+-- so are those of a transaction whose seal the disk cut short
+abbrev pub hear_cut : Heard → Event → Heard
+hear_cut heard (Seal s) = record heard { in_doubt = heard.active s }
+hear_cut heard event = heard
+
+-- what an event's reply adds: every reply but these answers a call that was not refused
+abbrev pub hear : Heard → Event → Reply → Heard
+hear heard event (Begun n) = record heard { active = with_replies heard.active (session_of event) (Some []) }
+hear heard event (Sealed n) = hear_seal heard (session_of event)
+hear heard event Aborted = record heard { active = with_replies heard.active (session_of event) None }
+hear heard event (Durable n) = heard
+hear heard event (Refused DiskFault) = hear_cut heard event
+hear heard event (Refused Stopped) = hear_cut heard event
+hear heard event (Refused why) = heard
+hear heard event reply = hear_call heard (session_of event) reply
+
+-- all that a history tells of the replies
+abbrev pub heard_in : List Entry → Heard
+heard_in history = fold (λ heard entry. hear heard entry.event entry.reply) nothing_heard history
+
+-- the replies to the calls of each transaction that may be on the disk: of the sealed ones, in the order of their seals, and then of
+-- the one whose seal the disk cut short
+abbrev pub call_replies_of : List Entry → List (List Reply)
+call_replies_of history = (heard_in history).sealed ++ option_to_list (heard_in history).in_doubt

@@ -1,0 +1,75 @@
+-- What an opening of a legal image does: it takes back the writes of transactions that have not ended, in one batch more.
+use Rattle.std.specs.Prelude.{ℕ, ◌+◌, Bool, IsTrue, List, [], Option, None, Some, fold, max}
+use Rattle.graph_model.specs.Graph.{Graph}
+use Rattle.image_plan.specs.declared.superblock.Super.{Super}
+use Rattle.log_records.specs.declared.Record.{Record}
+use Rattle.gated_log.specs.Log.{records_of, with_batch}
+use Rattle.log_machine.specs.Machine.{State, start, after_all, number_of, commits, rollback}
+use Rattle.graph_words.specs.Places.{Places, AreOld}
+use Rattle.graph_words.specs.Stands.{StandsCommitted, AreNamedByBirth}
+use Rattle.object_core.specs.Core.{Core, force_calls}
+use Rattle.object_core.specs.Image.{words_of, IsShapedLog}
+
+-- what the records of these batches say
+abbrev pub state_of : Super → List (List Record) → Option State
+state_of s batches = after_all (start s.pages s.first) (records_of batches)
+
+abbrev pub rollback_in : Option State → List Record
+rollback_in None = []
+rollback_in (Some state) = rollback state
+
+-- the records that take back what these batches leave of transactions that have not ended
+abbrev pub rollback_of : Super → List (List Record) → List Record
+rollback_of s batches = rollback_in (state_of s batches)
+
+-- the batches behind an opening
+abbrev pub rolled_back : Super → List (List Record) → List (List Record)
+rolled_back s batches = with_batch batches (rollback_of s batches)
+
+-- the writes and syncs of an opening
+abbrev pub opening_calls : Super → List (List Record) → ℕ
+opening_calls s batches = force_calls (rollback_of s batches)
+
+abbrev pub used_in : Option State → ℕ
+used_in None = 0
+used_in (Some state) = state.used
+
+-- the words of the current space that objects take behind an opening
+abbrev pub used_of : Super → List (List Record) → ℕ
+used_of s batches = used_in (state_of s batches)
+
+abbrev pub next_in : Option State → ℕ
+next_in None = 0
+next_in (Some state) = state.next
+
+-- the number of the first transaction behind an opening
+abbrev pub next_of : Super → List (List Record) → ℕ
+next_of s batches = next_in (state_of s batches)
+
+-- the greater of a heap's first number and one more than the greatest among these records
+abbrev pub next_behind : ℕ → List Record → ℕ
+next_behind first records = fold (λ n rec. max n (number_of rec + 1)) first records
+
+-- The core of a heap just opened, where the log held these batches and this graph stands in the words at these places.
+abbrev pub opened : Super → List (List Record) → Bool → Places → Graph → Core
+opened s batches born places g =
+    record {
+      pages = s.pages;
+      room = s.log_bytes;
+      lowest = s.first;
+      first = next_of s batches;
+      g0 = g;
+      born = born;
+      before = commits (records_of batches);
+      history = [];
+      batches = rolled_back s batches;
+      pending = [];
+      places = places;
+    }
+
+-- A graph stands in what a shaped log leaves, at these places; its objects have no name that a transaction to come can give. Where births
+-- give the names, `born` says so.
+pub record IsFound (s : Super) (batches : List (List Record)) (shaped : IsShapedLog s batches) (born : Bool) (places : Places) (g : Graph) : Type 0 where
+  pub stands : StandsCommitted places g (words_of s batches) shaped.state.base shaped.state.used
+  pub old : AreOld shaped.state.next places
+  pub births : IsTrue born → AreNamedByBirth places (words_of s batches)
