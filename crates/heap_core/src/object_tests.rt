@@ -2,7 +2,7 @@
 //! another made is not.
 use crate::heap::Heap;
 use crate::opening_tests::{PICKS, make_disk, open};
-use disk_model::{Disk, MemoryDisk};
+use disk_model::{Disk, MemoryDisk, Pick};
 use graph_model::{Event, Reply};
 use std::alloc::{AllocError, Global};
 use std::process::Abort;
@@ -127,5 +127,37 @@ fn what_was_sealed_is_reached(rt: HostRuntime) -> Result<(), Fail> {
         let graph = b"graph 4\n0: - @1 - -\n1: @2 @1\n2: @3 @0\n3: -\n".as_slice();
         assert_eq!(rt; heap.graph(alloc)?.as_slice(), graph);
     }
+    Ok(())
+}
+
+/// The most pages of a space.
+const MOST_PAGES: u32 = 16_384;
+
+/// The bytes of a heap of so many pages: the superblock, the log, and two frames for each page of both spaces.
+const LARGEST_BYTES: usize = 34_604_096;
+
+#[test]
+fn the_largest_heap_is_made_and_opened(rt: HostRuntime) -> Result<(), Fail> {
+    let alloc = rt.alloc();
+    let zeros = vec![in alloc; 0u8; LARGEST_BYTES]?;
+    let room = LARGEST_BYTES + 65_536;
+    let none = Vec::new(alloc);
+    let disk = MemoryDisk::of(alloc, zeros, Pick::Synced, room, none, Vec::new(alloc))?;
+    let disk = match Heap::format(disk, MOST_PAGES, LOG_BYTES, 1) {
+        Ok(disk) => disk,
+        Err((e, _)) => panic!(rt; "not made: {e:?}"),
+    };
+    let steps = [
+        begin(1),
+        root(0),
+        new(1, 1),
+        link(0, 3, 1),
+        seal(1),
+        force(1),
+    ];
+    let disk = play(&rt, alloc, disk, &steps)?;
+    let heap = open(&rt, alloc, disk);
+    let graph = b"graph 2\n0: - - - @1\n1: -\n".as_slice();
+    assert_eq!(rt; heap.graph(alloc)?.as_slice(), graph);
     Ok(())
 }

@@ -329,7 +329,7 @@ fn volatile_words_that_were_forced_are_taken_back(rt: HostRuntime) -> Result<(),
 
 /// A script that is drawn by a seed: objects are made, linked, let go and looked at, in transactions that are sealed or taken back.
 fn draw_script(alloc: Global, seed: u64) -> Result<String, AllocError> {
-    let mut script = String::new(alloc);
+    let mut script = format!(in alloc; "{NEXT}\n")?;
     let mut state = seed;
     for _ in 0..DRAWN_LINES {
         state = state
@@ -339,22 +339,26 @@ fn draw_script(alloc: Global, seed: u64) -> Result<String, AllocError> {
         let h2 = (state >> 37) % 3;
         let i = (state >> 41) % 3;
         match (state >> 45) % 12 {
-            0 => writeln!(script, "1 begin")?,
-            1 => writeln!(script, "1 root {h}")?,
+            0 => writeln!(script, "1 len {h}")?,
+            1 => writeln!(script, "1 drop {h}")?,
             2 | 3 => writeln!(script, "1 new {h} {i}")?,
             4 | 5 | 6 => writeln!(script, "1 link {h} {i} {h2}")?,
             7 => writeln!(script, "1 put {h} {i} {h2}")?,
             8 => writeln!(script, "1 get {h} {i} {h2}")?,
             9 => writeln!(script, "1 same {h} {h2}")?,
             10 => writeln!(script, "1 clear {h} {i}")?,
-            _ if i == 0 => writeln!(script, "1 abort")?,
-            _ => writeln!(script, "1 seal")?,
+            _ if i == 0 => writeln!(script, "1 abort\n{NEXT}")?,
+            _ if i == 1 => writeln!(script, "1 seal\n{NEXT}")?,
+            _ => writeln!(script, "1 commit\n{NEXT}")?,
         }
     }
     Ok(script)
 }
 
-/// The lines of a drawn script.
+/// How the next transaction of a drawn script begins.
+const NEXT: &str = "1 begin\n1 root 0";
+
+/// The lines of a drawn script, but for those that begin the next transaction.
 const DRAWN_LINES: usize = 60;
 
 /// How many scripts are drawn.
@@ -380,6 +384,39 @@ fn drawn_scripts_are_answered_as_by_the_slow_heap(rt: HostRuntime) -> Result<(),
         expect_whole(&rt, alloc, &told, ending.as_str())?;
     }
     Ok(())
+}
+
+/// How many of the drawn scripts are stopped at each call.
+const DRAWN_AND_STOPPED: u64 = 4;
+
+/// More calls than a drawn script makes.
+const MOST_DRAWN_CALLS: usize = 4 * DRAWN_LINES;
+
+/// Stops a drawn script at each of its calls.
+fn check_drawn(rt: &impl Abort, alloc: Global, pick: Pick) -> Result<(), Fail> {
+    for seed in 0..DRAWN_AND_STOPPED {
+        let script = draw_script(alloc, seed)?;
+        let told = Told::of(rt, alloc, script.as_str())?;
+        for calls in 0..MOST_DRAWN_CALLS {
+            let (stopped, _) = check_stop(rt, alloc, &told, pick, calls)?;
+            if !stopped {
+                break;
+            }
+        }
+    }
+    Ok(())
+}
+
+#[test]
+fn drawn_scripts_that_stop_come_back_from_written_bytes(rt: HostRuntime) -> Result<(), Fail> {
+    check_drawn(&rt, rt.alloc(), Pick::Synced)?;
+    check_drawn(&rt, rt.alloc(), Pick::Newest)
+}
+
+#[test]
+fn drawn_scripts_that_stop_come_back_from_filled_bytes(rt: HostRuntime) -> Result<(), Fail> {
+    check_drawn(&rt, rt.alloc(), Pick::AllOnes)?;
+    check_drawn(&rt, rt.alloc(), Pick::AllOpen)
 }
 
 /// The bytes of the longest ending: an abort and a force.
