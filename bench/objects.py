@@ -4,8 +4,8 @@
     bench/objects.py
 
 A chain is built in many transactions, each of which puts one object in front; a tree in transactions that make a node with its
-leaves; a long chain in transactions of a thousand objects, which is printed at the end. Each script is played five times, and the least
-time of the five counts. It measures and judges nothing.
+leaves; a long chain in transactions of a thousand objects, which is printed at the end. Each script is played nine times, and the least
+time of the nine counts. It measures and judges nothing.
 """
 import os
 import subprocess
@@ -14,7 +14,7 @@ import time
 
 TOP = os.path.dirname(os.path.dirname(os.path.realpath(__file__)))
 HEAP = os.path.join(TOP, "heap")
-RUNS = 5
+RUNS = 9
 PAGES = 1489
 LEAVES = 8
 
