@@ -11,7 +11,7 @@ use Rattle.graph_model.specs.declared.reply.Reply.TheVariants as answer
 use Rattle.graph_model.specs.History.{account}
 use Rattle.graph_model.specs.Plain.{reply_of}
 use Rattle.graph_model.specs.SlowHeap.{IsSingleSession}
-use Rattle.heap_memory.specs.Leaves.{Adds, Leaves, IsAsItWas, Begins, SetsHandle, Makes, WritesHeld, Links, Gets, Seals, Aborts}
+use Rattle.heap_memory.specs.Leaves.{IsAsItWas, Begins, SetsHandle, Makes, WritesHeld, Links, Gets, Seals, Aborts}
 use Rattle.heap_memory.specs.Memory.{Memory, own, root_place}
 use Rattle.heap_memory.specs.Refusals.{begin_refusal, handle_refusal, new_refusal, put_refusal, clear_refusal, link_refusal, get_refusal, same_refusal, len_refusal, seal_refusal, end_refusal}
 use Rattle.heap_memory.specs.Replies.{get_reply, same_reply, len_reply, IsGranted}

@@ -1,5 +1,5 @@
 -- A force, and what the disk holds behind an event.
-use Rattle.std.proofs.Common.{lit<, ◌<◌, true, false, ◌≡◌, ◌≢◌, ◌⊎◌, inl, inr, ℕ, ◌+◌, ◌*◌, List, [], ◌∷◌, ◌++◌, length, Option, Some, None, Result, Ok, Err, is_some, refl, sym, ap, ◌∙◌, subst, ⊎_elim}
+use Rattle.std.proofs.Common.{lit<, ◌<◌, ◌≡◌, ◌≢◌, ◌⊎◌, inl, inr, ℕ, ◌+◌, List, [], ◌∷◌, ◌++◌, length, Option, Some, None, Result, Ok, Err, is_some, refl, sym, ap, ◌∙◌, subst, ⊎_elim}
 use Rattle.std.specs.Prelude.{IfOk, IsTrue}
 use Rattle.std.specs.declared.alloc.AllocError.{AllocError}
 use Rattle.std.proofs.lemmas.List.{append-nil}
@@ -10,14 +10,14 @@ use Rattle.gated_log.specs.Log.{records_of, with_batch, HoldsBatches}
 use Rattle.gated_log.specs.LogLaws.{hand_size-Keeps}
 use Rattle.gated_log.specs.LogState.{log_place, log_room, IsHandEmpty, Keeps, IsSameLog}
 use Rattle.graph_model.specs.declared.event.Event.{Event}
-use Rattle.graph_model.specs.declared.event.Event.TheVariants.{Begin, Root, Put, Clear, Drop, Get, Same, Len, Seal, Abort, Force}
+use Rattle.graph_model.specs.declared.event.Event.TheVariants.{Force}
 use Rattle.graph_model.specs.declared.reply.Entry.{Entry}
 use Rattle.graph_model.specs.declared.reply.Refusal.{Refusal}
 use Rattle.graph_model.specs.declared.reply.Refusal.TheVariants.{Failed, DiskFault, Stopped}
 use Rattle.graph_model.specs.declared.reply.Reply.{Reply}
-use Rattle.graph_model.specs.declared.reply.Reply.TheVariants.{Begun, Done, Yes, Length, Sealed, Aborted, Durable, Refused}
+use Rattle.graph_model.specs.declared.reply.Reply.TheVariants.{Durable, Refused}
 use Rattle.graph_model.specs.SlowHeap.{IsSingleSession}
-use Rattle.graph_model.specs.Transaction.{Transaction, serial}
+use Rattle.graph_model.specs.Transaction.{Transaction}
 use Rattle.graph_model.specs.History.{Account, account, account_after, first_failure}
 use Rattle.graph_model.specs.HistoryLaws.{account-append, entries-account}
 use Rattle.graph_model.specs.Plain.{granted, reply_of}
@@ -25,7 +25,7 @@ use Rattle.graph_model.specs.PlainLaws.{account_after-refused}
 use Rattle.image_plan.specs.declared.superblock.Super.{Super}
 use Rattle.log_records.specs.declared.Record.{Record}
 use Rattle.log_records.specs.Record.{spellings}
-use Rattle.heap_model.specs.Core.{Core, ground, all_records, state_behind, next_number, core_refusal, answer, with_entry, after_refusal, after, force_calls}
+use Rattle.heap_model.specs.Core.{Core, ground, state_behind, next_number, core_refusal, answer, with_entry, after_refusal, after, force_calls}
 use Rattle.heap_model.specs.CoreCrash.{IsSuperOf, IsOnDisk, KeepsCommits}
 use Rattle.heap_model.specs.CoreValid.{IsValid, IsSound, IsReached}
 use Rattle.heap_model.specs.CoreLawsCrash.{crash_law}
@@ -38,7 +38,7 @@ use Rattle.log_machine.specs.Machine.{words}
 use Rattle.heap_core.specs.Means.{OnDisk, Remembers, DiskHolds, Steps, StepsOn}
 use Rattle.heap_core.proofs.MeansLeft.{keeps_refused, keeps_cut}
 use Rattle.memory_laws.specs.LogLaws.{keeps_same}
-use Rattle.heap_memory.specs.Memory.{Memory, own}
+use Rattle.heap_memory.specs.Memory.{Memory}
 use Rattle.memory_laws.specs.Follows.{IsMemory, Does, kept_of}
 use Rattle.memory_laws.specs.Answered.{does, as_it_was}
 use Rattle.heap_memory.specs.Leaves.{IsAsItWas}

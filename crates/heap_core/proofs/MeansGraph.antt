@@ -3,12 +3,9 @@ use Rattle.std.proofs.Common.{◌≡◌, ℕ, List, Option, Some, None, refl, sy
 use Rattle.graph_model.specs.History.{account, sealed}
 use Rattle.graph_model.specs.Transaction.{Transaction, serial}
 use Rattle.log_machine.specs.CommittedLaws.{committed_words-only}
-use Rattle.log_machine.specs.declared.UndoEntry.{UndoEntry}
-use Rattle.log_machine.specs.Machine.{words, taken_back, committed_words, undo_of}
+use Rattle.log_machine.specs.Machine.{words, taken_back, committed_words}
 use Rattle.object_layout.specs.Layout.{IsSeenAs}
-use Rattle.txn_table.specs.Table.{TransactionState, transaction_of}
 use Rattle.graph_words.specs.Places.{name_at}
-use Rattle.heap_memory.specs.Memory.{own}
 use Rattle.heap_model.specs.Core.{Core, ground, all_records}
 use Rattle.heap_model.specs.CoreLawsGoes.{writer_as, undo_active, told_sound}
 use Rattle.heap_model.specs.CoreLawsGraph.{core_seen}

@@ -1,5 +1,5 @@
 -- What is kept in memory of a core's transaction.
-use Rattle.std.proofs.Common.{◌≡◌, Bool, Option, None, Some, is_some, refl, ap, ◌∙◌}
+use Rattle.std.proofs.Common.{◌≡◌, Option, None, Some, is_some, refl, ap, ◌∙◌}
 use Rattle.graph_model.specs.Graph.{Graph}
 use Rattle.graph_model.specs.History.{Account}
 use Rattle.graph_model.specs.Transaction.{Transaction}

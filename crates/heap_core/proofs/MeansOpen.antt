@@ -1,6 +1,5 @@
 -- A heap that has just been opened.
-use Rattle.std.proofs.Common.{◌≡◌, inl, ℕ, ◌+◌, ◌*◌, ◌^◌, ◌<◌, ◌≤◌, Bool, true, List, length, None, Some, is_some, refl, sym, ap, ◌∙◌, arith}
-use Rattle.std.specs.Prelude.{IsTrue}
+use Rattle.std.proofs.Common.{◌≡◌, inl, ℕ, ◌≤◌, Bool, true, List, length, None, is_some, refl, sym, ap, ◌∙◌, arith}
 use Rattle.std.specs.FinMap.{get-empty}
 use Rattle.std.specs.Ordering.{nat_cmp}
 use Rattle.std.proofs.lemmas.List.{append-nil}
@@ -13,18 +12,18 @@ use Rattle.image_plan.specs.declared.superblock.Super.{Super}
 use Rattle.image_plan.specs.Super.{IsSuper}
 use Rattle.log_records.specs.declared.Record.{Record}
 use Rattle.log_machine.specs.AbortLaws.{settled}
-use Rattle.log_machine.specs.Machine.{State, start, words, words_in}
+use Rattle.log_machine.specs.Machine.{start, words, words_in}
 use Rattle.log_machine.specs.StateLaws.{leads_after_all, room_after_all}
 use Rattle.log_machine.specs.WordsLaws.{length-words}
 use Rattle.graph_words.specs.Places.{Places}
 use Rattle.heap_model.specs.CoreLawsOpening.{next_is, rolled_reached}
-use Rattle.heap_model.specs.Core.{state_behind, all_records}
+use Rattle.heap_model.specs.Core.{state_behind}
 use Rattle.heap_model.specs.Image.{IsShapedLog, Holds}
-use Rattle.heap_model.specs.Opening.{rolled_back, opened, used_in, next_of}
+use Rattle.heap_model.specs.Opening.{rolled_back, opened, used_in}
 use Rattle.heap_recovery.specs.declared.recovery.Recovered.{Recovered}
 use Rattle.heap_recovery.specs.Recovered.{IsRecovered}
-use Rattle.heap_memory.specs.Memory.{Memory, own}
-use Rattle.memory_laws.specs.Follows.{IsMemory, spaces_of}
+use Rattle.heap_memory.specs.Memory.{Memory}
+use Rattle.memory_laws.specs.Follows.{IsMemory}
 use Rattle.txn_table.specs.Table.{TransactionState, TableState, transaction_of, new_table}
 use Rattle.working_state.specs.declared.working.Working.{Working}
 use Rattle.working_state.specs.State as state

@@ -1,5 +1,5 @@
 -- How a play tells what a run promises.
-use Rattle.std.proofs.Common.{◌≡◌, ◌≢◌, ◌⊎◌, inl, inr, ⊎_elim, ℕ, ◌+◌, ◌≤◌, min, Bool, List, [], ◌++◌, ◌∷◌, length, take, Option, Some, None, Result, Ok, Err, refl, sym, ap, ◌∙◌, subst, arith, append_assoc, length-append}
+use Rattle.std.proofs.Common.{◌≡◌, ◌≢◌, ◌⊎◌, inl, inr, ⊎_elim, ℕ, ◌+◌, ◌≤◌, min, Bool, List, [], ◌++◌, ◌∷◌, length, take, Option, Some, None, Result, Ok, Err, refl, sym, ap, ◌∙◌, subst, arith, length-append}
 use Rattle.std.specs.Prelude.{IsTrue}
 use Rattle.std.specs.List.{AllByRecursion}
 use Rattle.std.proofs.lemmas.List.{append-nil, take_all}
@@ -48,7 +48,7 @@ use Rattle.heap_shell.proofs.Lines as lines
 use Rattle.heap_shell.proofs.PlayFuse.{own_steps}
 use Rattle.heap_shell.proofs.PlayLaws.{ends_makes}
 use Rattle.heap_shell.proofs.Statuses.{written_end, wrote_all}
-use Rattle.heap_shell.proofs.Written.{front_more, then_front, whole_front, wrote_some}
+use Rattle.heap_shell.proofs.Written.{whole_front, wrote_some}
 
 module _ {D : Type 0} {g : Ghosts D} (s : Super) (c : Core) (running : IsRunning c) (new_history : c.history ≡ []) (events : List Event) (playable : IsPlayable events)
     (old new : Heap D g) (told : Bool) (before after : List ℕ) (result : Result (Unit {0}) Halt) (plays : Plays s c events old new told before after result) where

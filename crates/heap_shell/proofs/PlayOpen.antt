@@ -1,5 +1,5 @@
 -- A play opens the heap that was made for it.
-use Rattle.std.proofs.Common.{◌≡◌, inl, inr, ⊎_elim, ℕ, ◌+◌, ◌≤◌, Bool, true, false, List, [], ◌++◌, Option, Some, None, Result, Ok, refl, sym, ap, ◌∙◌, subst, arith}
+use Rattle.std.proofs.Common.{◌≡◌, inl, inr, ⊎_elim, ℕ, Bool, false, List, [], ◌++◌, Option, Some, None, Result, Ok, refl, sym, ap, ◌∙◌, subst, arith}
 use Rattle.std.specs.Prelude.{◌⊎◌, IsTrue}
 use Rattle.std.proofs.lemmas.List.{append-nil}
 use Rattle.disk_model.specs.declared.disk.Disk.{Ghosts}
@@ -8,8 +8,7 @@ use Rattle.disk_model.specs.Moments.{LeavesOnly, begins, joined, weaker}
 use Rattle.gate_slot.specs.Passing.{Passes}
 use Rattle.graph_model.specs.declared.event.Event.{Event}
 use Rattle.graph_model.specs.Graph.{Graph, new_graph}
-use Rattle.graph_model.specs.Transaction.{serial}
-use Rattle.graph_model.specs.History.{account, commits}
+use Rattle.graph_model.specs.History.{account}
 use Rattle.heap_core.specs.Causes.{IsFromOutside, ErrorPasses, error_device}
 use Rattle.heap_core.specs.declared.errors.OpenError.{OpenError}
 use Rattle.heap_core.specs.declared.errors.OpenError.TheVariants as opening

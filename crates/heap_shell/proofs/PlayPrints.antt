@@ -4,7 +4,6 @@ use Rattle.std.specs.Prelude.{IsTrue}
 use Rattle.std.specs.List.{AllByRecursion}
 use Rattle.std.proofs.lemmas.List.{append-nil}
 use Rattle.disk_model.specs.declared.disk.Disk.{Ghosts}
-use Rattle.graph_model.specs.declared.event.Event.{Event}
 use Rattle.graph_model.specs.declared.reply.Entry.{Entry}
 use Rattle.graph_model.specs.Graph.{Graph}
 use Rattle.graph_model.specs.History.{sealed}
@@ -22,9 +21,9 @@ use Rattle.heap_shell.specs.declared.play.Halt.TheVariants as halt
 use Rattle.heap_shell.specs.declared.status.Status.{Status}
 use Rattle.heap_shell.specs.declared.status.Status.TheVariants as status
 use Rattle.heap_shell.specs.CoreLawsPlay.{made_limits, made_reached, all_playable}
-use Rattle.heap_shell.specs.Headline.{made_core, graph_text, end_text, recovered_line, HasMade, PrintsRun, PrintsSome, Writes}
+use Rattle.heap_shell.specs.Headline.{made_core, graph_text, end_text, recovered_line, HasMade, PrintsSome, Writes}
 use Rattle.heap_shell.specs.Output.{WroteText, WroteGraph, WroteAgain, status_after}
-use Rattle.heap_shell.specs.Play.{IsRunning, IsWhole, IsCutBy, EndsAs, PlaysCore, Wrote, WroteFront, WroteLines, lines_text}
+use Rattle.heap_shell.specs.Play.{EndsAs, PlaysCore, Wrote, lines_text}
 use Rattle.heap_shell.specs.Playable.{IsScript}
 use Rattle.heap_shell.specs.StatusOf.{halt_status}
 use Rattle.heap_shell.proofs.Lines.{halt_part, halt_lines, stopped_lines, some_writes, all_writes, lines_more}

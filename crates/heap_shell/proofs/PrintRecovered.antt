@@ -1,5 +1,5 @@
 -- How the end of a stopped run comes out: the heap is opened again, and what came back is printed.
-use Rattle.std.proofs.Common.{◌≡◌, ◌≢◌, inl, inr, ⊎_elim, ℕ, ◌+◌, ◌≤◌, min, List, [], ◌∷◌, ◌++◌, length, take, Bool, Option, Some, None, Result, Ok, Err, refl, sym, ◌∙◌, subst, arith, length-append}
+use Rattle.std.proofs.Common.{◌≡◌, ◌≢◌, inl, inr, ⊎_elim, ℕ, ◌+◌, ◌≤◌, min, List, [], ◌∷◌, ◌++◌, length, take, Bool, Option, Some, None, Result, refl, sym, ◌∙◌, subst, arith, length-append}
 use Rattle.std.specs.Int.{w32, to_le_bytes}
 use Rattle.std.specs.Prelude.{◌⊎◌, IsTrue}
 use Rattle.counts.specs.Count.{Rose, counted}
@@ -10,7 +10,6 @@ use Rattle.disk_model.specs.Moments.{LeavesOnly, weaker}
 use Rattle.disk_model.specs.Disk.{HasCause}
 use Rattle.gate_slot.specs.Passing.{Passes}
 use Rattle.gated_log.specs.Log.{batch, batches_bytes, records_of}
-use Rattle.graph_model.specs.Graph.{Graph}
 use Rattle.graph_model.specs.Transaction.{serial}
 use Rattle.graph_model.specs.History as history
 use Rattle.image_plan.specs.declared.superblock.Super.{Super}

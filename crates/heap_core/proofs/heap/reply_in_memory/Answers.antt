@@ -1,9 +1,8 @@
-use Rattle.std.proofs.Common.{sym, ap, ◌∙◌}
+use Rattle.std.proofs.Common.{ap}
 use Rattle.heap_memory.specs.Refusals.{begin_refusal, new_refusal, put_refusal, clear_refusal, link_refusal}
 use Rattle.heap_memory.specs.Memory.{own}
 use Rattle.graph_model.specs.declared.reply.Reply.{Reply}
 use Rattle.graph_model.specs.declared.reply.Reply.TheVariants.{Begun}
-use Rattle.heap_model.specs.Core.{Core}
 use Rattle.memory_laws.specs.Follows.{Does}
 use Rattle.working_state.specs.State.{memory}
 use Rattle.heap_core.proofs.MeansAnswer.{begins, roots, drops, makes, puts, clears, links, gets, seals, aborts, compares, counts, either, taken, told, same_placed, placed}

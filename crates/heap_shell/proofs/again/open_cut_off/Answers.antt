@@ -1,4 +1,4 @@
-use Rattle.std.proofs.Common.{◌≡◌, ◌≢◌, ◌≤◌, inl, ℕ, min, List, rules, refl, sym, ap, ◌∙◌, subst, arith}
+use Rattle.std.proofs.Common.{◌≡◌, ◌≢◌, ◌≤◌, inl, ℕ, min, rules, refl, sym, ap, ◌∙◌, subst, arith}
 use Rattle.counts.specs.Count.{counted}
 use Rattle.disk_model.specs.Disk.{Only}
 use Rattle.disk_model.specs.Fuse.{fuse_inner, fuse_passed}

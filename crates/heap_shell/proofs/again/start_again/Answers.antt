@@ -1,5 +1,5 @@
-use Rattle.std.proofs.Common.{◌≡◌, ℕ, List, Some, None, refl, sym, ap, ◌∙◌, subst, arith}
-use Rattle.counts.specs.Count.{raised, counted}
+use Rattle.std.proofs.Common.{Some, None, refl, ap, ◌∙◌, subst, arith}
+use Rattle.counts.specs.Count.{raised}
 use Rattle.disk_model.specs.Fuse.{fuse_inner}
 use Rattle.heap_shell.specs.Headline.{Restarts}
 use Rattle.heap_shell.proofs.PrintRecovered.{recovers_again, recovers_no_memory, restart_keeps, first_keeps, keeps_then}

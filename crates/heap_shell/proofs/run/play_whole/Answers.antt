@@ -1,4 +1,4 @@
-use Rattle.std.proofs.Common.{◌≡◌, ◌≤◌, ℕ, [], None, Ok, Err, refl, ap, ◌∙◌, subst, arith}
+use Rattle.std.proofs.Common.{◌≡◌, ◌≤◌, ℕ, [], None, Ok, Err, refl, ap, ◌∙◌, subst}
 use Rattle.counts.specs.Count.{counted}
 use Rattle.heap_model.specs.Image.{shaped_image}
 use Rattle.heap_shell.specs.declared.play.Halt.{Halt}

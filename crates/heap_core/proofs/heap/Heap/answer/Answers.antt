@@ -1,4 +1,4 @@
-use Rattle.std.proofs.Common.{Some, Ok, refl, sym, ap, ◌∙◌, subst}
+use Rattle.std.proofs.Common.{sym, subst}
 use Rattle.std.specs.Prelude.{IfOk}
 use Rattle.disk_model.specs.Keeps.{KeepsDisk}
 use Rattle.disk_model.specs.KeepsLaws.{keeps_none}

@@ -1,5 +1,5 @@
 use Rattle.log_machine.specs.Machine.{words_in}
-use Rattle.std.proofs.Common.{◌≤◌, true, sym, refl, ap, ◌∙◌, subst}
+use Rattle.std.proofs.Common.{◌≤◌, true, sym, ap, ◌∙◌, subst}
 use Rattle.heap_model.specs.Image.{shaped_image}
 use Rattle.heap_model.specs.Opening.{opening_calls}
 use Rattle.heap_core.specs.Causes.{IsFromOutside, ErrorPasses}
