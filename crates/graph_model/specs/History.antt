@@ -1,5 +1,6 @@
 -- What a history says: the list of events and their replies since the heap was opened, oldest first.
-use Rattle.std.specs.Prelude.{ℕ, ◌+◌, ◌==◌, List, [], ◌∷◌, ◌++◌, Option, None, Some, fold, max, if◌then◌else◌}
+use Rattle.std.specs.Prelude.{◌≡◌, ℕ, ◌+◌, ◌≤◌, ◌==◌, List, [], ◌∷◌, ◌++◌, Option, None, Some, fold, max, if◌then◌else◌}
+use Rattle.std.specs.List.{range_with_len}
 use Rattle.std.specs.Option.{option_to_list}
 use Rattle.graph_model.specs.declared.event.Event.{Event}
 use Rattle.graph_model.specs.declared.event.Event.TheVariants.{Begin, Root, New, Put, Clear, Link, Drop, Get, Same, Len, Seal, Abort, Force}
@@ -8,6 +9,14 @@ use Rattle.graph_model.specs.declared.reply.Reply.{Reply}
 use Rattle.graph_model.specs.declared.reply.Reply.TheVariants.{Begun, Sealed, Aborted, Durable, Refused}
 use Rattle.graph_model.specs.declared.reply.Entry.{Entry}
 use Rattle.graph_model.specs.Transaction.{Transaction}
+
+-- the numbers of the sessions
+unfoldable pub sessions : List ℕ
+sessions = range_with_len 1 32
+
+-- a session is a number from 1 to 32
+abbrev pub IsSession : ℕ → Type 0
+IsSession s = (1 ≤ s) × (s ≤ 32)
 
 -- the session of an event, and 0 for `force`, which is of none
 abbrev pub session_of : Event → ℕ
@@ -34,6 +43,10 @@ pub record Account : Type 0 where
   pub acknowledged : ℕ  -- the greatest number that was answered `durable`
   pub entries : ℕ  -- how many entries there are
   pub failed : Option ℕ  -- the first entry, from 1, that was answered `diskfault` or `stopped`
+
+-- each transaction that is active is one of a session
+abbrev pub AreInSessions : Account → Type 0
+AreInSessions a = (s : ℕ) (t : Transaction) → a.active s ≡ Some t → IsSession s
 
 -- nothing has happened
 abbrev pub nothing_yet : Account

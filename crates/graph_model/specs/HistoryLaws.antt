@@ -1,6 +1,7 @@
 -- Laws of histories and of what transactions do: one entry, one call and one transaction more.
-use Rattle.std.proofs.Common.{◌≡◌, ◌≢◌, ℕ, ◌+◌, ◌<◌, ◌≤◌, zero, suc, Bool, true, false, List, [], ◌∷◌, ◌++◌, length, replicate, take, Option, Some, None, refl, ap, ◌∙◌, arith}
+use Rattle.std.proofs.Common.{◌≡◌, ◌≢◌, inl, inr, ℕ, ◌+◌, ◌<◌, ◌≤◌, zero, suc, Bool, true, false, List, [], ◌∷◌, ◌++◌, length, replicate, take, Option, Some, None, refl, sym, ap, ◌∙◌, subst, arith}
 use Rattle.std.specs.Prelude.{slice_get, slice_index_or, slice_set, fold, option_and_then, if◌then◌else◌}
+use Rattle.std.proofs.lemmas.Bool.{cases_eq, eq-eqb, ne_eqb}
 use Rattle.std.proofs.lemmas.List.{length-set, length-replicate, take-append-le}
 use Rattle.std.proofs.lemmas.Option.{slice_get_past}
 use Rattle.std.proofs.lemmas.List.Sums.{fold-append}
@@ -8,13 +9,14 @@ use Rattle.graph_model.specs.declared.id.Id.{Id}
 use Rattle.graph_model.specs.declared.event.Event.{Event}
 use Rattle.graph_model.specs.declared.event.Event.TheVariants.{Begin, Root, New, Put, Clear, Link, Drop, Get, Same, Len, Seal, Abort, Force}
 use Rattle.graph_model.specs.declared.reply.Entry.{Entry}
+use Rattle.graph_model.specs.declared.reply.Refusal.TheVariants.{DiskFault, Stopped}
 use Rattle.graph_model.specs.declared.reply.Reply.{Reply}
 use Rattle.graph_model.specs.declared.reply.Reply.TheVariants.{Begun, Done, Yes, No, Sealed, Aborted, Durable, Refused}
 use Rattle.graph_model.specs.declared.val.Val.{Val}
 use Rattle.graph_model.specs.declared.val.Val.TheVariants.{Null, Int, Ref}
 use Rattle.graph_model.specs.Graph.{Graph, is_same_id}
 use Rattle.graph_model.specs.Transaction.{Registers, no_registers, View, Transaction, held, fields_of, with_referred, value_reply, same_reply, call, after_calls, call_replies, fresh_view, run, serial}
-use Rattle.graph_model.specs.History.{Account, account_after, account, nothing_yet, session_of, makes_call}
+use Rattle.graph_model.specs.History.{Account, IsSession, AreInSessions, account_after, account, answered, nothing_yet, session_of, with_active, with_call, makes_call, cut_short}
 
 -- what a history says with one entry more
 pub account-append : (h : List Entry) (e : Entry) → account (h ++ e ∷ []) ≡ account_after (account h) e
@@ -178,3 +180,37 @@ account_after-call a event Aborted never = absurd never
 account_after-call a event (Durable n) never = absurd never
 account_after-call a event (Refused why) never = absurd never
 account_after-call a event reply is = refl
+
+in_sessions_with : (active : ℕ → Option Transaction) (s : ℕ) (x : Option Transaction) → ((t : Transaction) → x ≡ Some t → IsSession s) → ((r : ℕ) (t : Transaction) → active r ≡ Some t → IsSession r)
+    → (r : ℕ) (t : Transaction) → with_active active s x r ≡ Some t → IsSession r
+in_sessions_with active s x own others r t is = elim (cases_eq r s) [
+  | inl same ↦ subst IsSession (sym same) (own t (sym (ap (λ b. if b then x else active r) (eq-eqb r s same)) ∙ is))
+  | inr other ↦ others r t (sym (ap (λ b. if b then x else active r) (ne_eqb r s other)) ∙ is)
+]
+
+called_by : (o : Option Transaction) (event : Event) (t : Transaction) → with_call o event ≡ Some t → (u : Transaction) × (o ≡ Some u)
+called_by None event t is = cc
+called_by (Some u) event t is = (u, refl)
+
+active-cut_short : (a : Account) (event : Event) → (cut_short a event).active ≡ a.active
+active-cut_short a (Seal s) = refl
+active-cut_short a event = refl
+
+in_sessions_cut : (a : Account) (event : Event) → AreInSessions a → AreInSessions (cut_short a event)
+in_sessions_cut a event within s t is = within s t (sym (ap (λ (active : ℕ → Option Transaction). active s) (active-cut_short a event)) ∙ is)
+
+answered-AreInSessions : (a : Account) (event : Event) (reply : Reply) → ((n : ℕ) → reply ≡ Begun n → IsSession (session_of event)) → AreInSessions a → AreInSessions (answered a event reply)
+answered-AreInSessions a event (Begun n) begins within = in_sessions_with a.active (session_of event) _ (λ t is. begins n refl) within
+answered-AreInSessions a event (Sealed n) begins within = in_sessions_with a.active (session_of event) None (λ t is. cc) within
+answered-AreInSessions a event Aborted begins within = in_sessions_with a.active (session_of event) None (λ t is. cc) within
+answered-AreInSessions a event (Durable n) begins within = within
+answered-AreInSessions a event (Refused DiskFault) begins within = in_sessions_cut a event within
+answered-AreInSessions a event (Refused Stopped) begins within = in_sessions_cut a event within
+answered-AreInSessions a event (Refused why) begins within = within
+answered-AreInSessions a event reply begins within =
+    in_sessions_with a.active (session_of event) (with_call (a.active (session_of event)) event)
+    (λ t is. let before = called_by (a.active (session_of event)) event t is in within (session_of event) before.0 before.1) within
+
+-- transactions stay in sessions where they begin in sessions
+pub account_after-AreInSessions : (a : Account) (e : Entry) → ((n : ℕ) → e.reply ≡ Begun n → IsSession (session_of e.event)) → AreInSessions a → AreInSessions (account_after a e)
+account_after-AreInSessions a e begins within s t is = answered-AreInSessions a e.event e.reply begins within s t is

@@ -1,5 +1,6 @@
 pub mod AlikeLaws
 pub mod AlikeViews
+pub mod BusyLaws
 pub mod CallLaws
 pub mod Canon
 pub mod CanonLaws
@@ -12,6 +13,7 @@ pub mod HistoryLaws
 pub mod InReach
 pub mod Isomorphism
 pub mod IsomorphismLaws
+pub mod Locking
 pub mod Match
 pub mod MatchLaws
 pub mod MatchRowsLaws

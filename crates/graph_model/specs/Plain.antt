@@ -4,12 +4,13 @@ use Rattle.graph_model.specs.declared.id.Id.{Id}
 use Rattle.graph_model.specs.declared.event.Event.{Event}
 use Rattle.graph_model.specs.declared.event.Event.TheVariants.{Begin, Root, New, Put, Clear, Link, Drop, Get, Same, Len, Seal, Abort, Force}
 use Rattle.graph_model.specs.declared.reply.Refusal.{Refusal}
-use Rattle.graph_model.specs.declared.reply.Refusal.TheVariants.{Failed, AlreadyActive, NotActive, NumbersSpent, BadHandle, Range, BadField}
+use Rattle.graph_model.specs.declared.reply.Refusal.TheVariants.{Failed, AlreadyActive, NotActive, NumbersSpent, BadHandle, Range, BadField, Busy}
 use Rattle.graph_model.specs.declared.reply.Reply.{Reply}
 use Rattle.graph_model.specs.declared.reply.Reply.TheVariants.{Begun, Done, Sealed, Aborted, Durable, Refused}
 use Rattle.graph_model.specs.Graph.{Graph, fields}
 use Rattle.graph_model.specs.Transaction.{View, Transaction, held, call, run, serial}
 use Rattle.graph_model.specs.History.{Account, session_of}
+use Rattle.graph_model.specs.Locking.{lock_of, busy_holder}
 
 -- the first number that no transaction has
 abbrev pub no_number : ℕ
@@ -78,11 +79,35 @@ abbrev pub call_refusal : Graph → Account → Option Transaction → Event →
 call_refusal g0 a None event = Some NotActive
 call_refusal g0 a (Some t) event = view_refusal (view g0 a t) event
 
--- why an event is refused, of a heap that has not failed and whose next transaction has this number
+-- why an event is refused for what it asks
 abbrev pub event_refusal : ℕ → Graph → Account → Event → Option Refusal
 event_refusal next g0 a (Begin s) = if is_some (a.active s) then Some AlreadyActive else if next == no_number then Some NumbersSpent else None
 event_refusal next g0 a Force = None
 event_refusal next g0 a event = call_refusal g0 a (a.active (session_of event)) event
+
+-- the refusal that names who holds an object
+abbrev pub busy_with : Option ℕ → Option Refusal
+busy_with None = None
+busy_with (Some holder) = Some (Busy holder)
+
+-- why a call of a transaction has to give way to what others hold
+abbrev pub call_conflict : Graph → Account → Option Transaction → Event → Option Refusal
+call_conflict g0 a None event = None
+call_conflict g0 a (Some t) event = busy_with (busy_holder g0 a t.number (lock_of (view g0 a t).registers event))
+
+-- why an event has to give way to what other transactions hold
+abbrev pub conflict_refusal : Graph → Account → Event → Option Refusal
+conflict_refusal g0 a event = call_conflict g0 a (a.active (session_of event)) event
+
+-- the first reason of two
+abbrev pub first_of_two : Option Refusal → Option Refusal → Option Refusal
+first_of_two None second = second
+first_of_two (Some why) second = Some why
+
+-- why an event is refused, of a heap that has not failed and whose next transaction has this number: for what it asks, and then for
+-- what others hold
+abbrev pub model_refusal : ℕ → Graph → Account → Event → Option Refusal
+model_refusal next g0 a event = first_of_two (event_refusal next g0 a event) (conflict_refusal g0 a event)
 
 -- a heap that has failed refuses everything
 abbrev pub refusal_of : Option ℕ → Option Refusal → Option Refusal
@@ -91,7 +116,7 @@ refusal_of (Some entry) refusal = Some (Failed entry)
 
 -- why an event is refused
 abbrev pub refusal : ℕ → Graph → Account → Event → Option Refusal
-refusal next g0 a event = refusal_of a.failed (event_refusal next g0 a event)
+refusal next g0 a event = refusal_of a.failed (model_refusal next g0 a event)
 
 -- what a call of a transaction is answered
 abbrev pub call_reply : Graph → Account → Option Transaction → Event → Reply

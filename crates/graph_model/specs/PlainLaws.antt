@@ -11,7 +11,8 @@ use Rattle.graph_model.specs.declared.reply.Reply.TheVariants.{Done, Refused}
 use Rattle.graph_model.specs.Graph.{Graph, fields}
 use Rattle.graph_model.specs.Transaction.{View, Transaction, IsCall, held}
 use Rattle.graph_model.specs.History.{Account, session_of, answered, account_after}
-use Rattle.graph_model.specs.Plain.{no_number, no_int, most_fields, handle_refusal, new_refusal, len_refusal, field_refusal, put_refusal, link_refusal, same_refusal, view_refusal, call_refusal, event_refusal, refusal_of, call_reply, granted, reply_of, plain_reply, view}
+use Rattle.graph_model.specs.Locking.{lock_of, busy_holder}
+use Rattle.graph_model.specs.Plain.{no_number, no_int, most_fields, handle_refusal, new_refusal, len_refusal, field_refusal, put_refusal, link_refusal, same_refusal, view_refusal, call_refusal, event_refusal, busy_with, call_conflict, conflict_refusal, first_of_two, model_refusal, refusal_of, call_reply, granted, reply_of, plain_reply, view}
 use Rattle.graph_model.specs.HistoryLaws.{IsCallReply, IsOrder, call-IsCallReply, call-reply}
 
 -- a refusal that doesn't come from the disk
@@ -87,6 +88,23 @@ event_no_fault next g0 a (Begin s) =
 event_no_fault next g0 a Force = tt
 event_no_fault next g0 a event = call_no_fault g0 a (a.active (session_of event)) event
 
+busy_no_fault : (holder : Option ℕ) → HasNoFault (busy_with holder)
+busy_no_fault None = tt
+busy_no_fault (Some n) = tt
+
+call_conflict_no_fault : (g0 : Graph) (a : Account) (t : Option Transaction) (event : Event) → HasNoFault (call_conflict g0 a t event)
+call_conflict_no_fault g0 a None event = tt
+call_conflict_no_fault g0 a (Some t) event = busy_no_fault (busy_holder g0 a t.number (lock_of (view g0 a t).registers event))
+
+first_no_fault : (first second : Option Refusal) → HasNoFault first → HasNoFault second → HasNoFault (first_of_two first second)
+first_no_fault None second h k = k
+first_no_fault (Some why) second h k = h
+
+-- nor is an event that others stand in the way of
+pub model_no_fault : (next : ℕ) (g0 : Graph) (a : Account) (event : Event) → HasNoFault (model_refusal next g0 a event)
+model_no_fault next g0 a event =
+    first_no_fault (event_refusal next g0 a event) (conflict_refusal g0 a event) (event_no_fault next g0 a event) (call_conflict_no_fault g0 a (a.active (session_of event)) event)
+
 failed_no_fault : (failed : Option ℕ) (why : Option Refusal) → HasNoFault why → HasNoFault (refusal_of failed why)
 failed_no_fault None why h = h
 failed_no_fault (Some entry) why h = tt
@@ -116,7 +134,7 @@ sound_either (Some why) reply h k = h
 -- a plain heap never answers that the disk stopped or failed
 pub plain_reply-IsSoundReply : (first : ℕ) (g0 : Graph) (a : Account) (event : Event) → IsSoundReply (plain_reply first g0 a event)
 plain_reply-IsSoundReply first g0 a event =
-    sound_either _ _ (failed_no_fault a.failed _ (event_no_fault (first + a.begun) g0 a event)) (granted_sound (first + a.begun) g0 a event)
+    sound_either _ _ (failed_no_fault a.failed _ (model_no_fault (first + a.begun) g0 a event)) (granted_sound (first + a.begun) g0 a event)
 
 -- an order that isn't refused is answered `done`
 pub call_reply-done : (g0 : Graph) (a : Account) (t : Option Transaction) (event : Event) → IsOrder event → call_reply g0 a t event ≡ Done
@@ -139,12 +157,12 @@ granted-call next g0 a event is = refl
 
 -- what a plain heap that has not failed answers a call
 pub plain_reply-call : (first : ℕ) (g0 : Graph) (a : Account) (event : Event) → a.failed ≡ None → IsCall event
-    → plain_reply first g0 a event ≡ reply_of (call_refusal g0 a (a.active (session_of event)) event) (call_reply g0 a (a.active (session_of event)) event)
+    → plain_reply first g0 a event ≡ reply_of (first_of_two (call_refusal g0 a (a.active (session_of event)) event) (conflict_refusal g0 a event)) (call_reply g0 a (a.active (session_of event)) event)
 plain_reply-call first g0 a event unfailed is =
     let next = first + a.begun in
-    ap (λ failed. reply_of (refusal_of failed (event_refusal next g0 a event)) (granted next g0 a event)) unfailed
-    ∙ ap (λ why. reply_of why (granted next g0 a event)) (event_refusal-call next g0 a event is)
-    ∙ ap (reply_of (call_refusal g0 a (a.active (session_of event)) event)) (granted-call next g0 a event is)
+    ap (λ failed. reply_of (refusal_of failed (model_refusal next g0 a event)) (granted next g0 a event)) unfailed
+    ∙ ap (λ why. reply_of (first_of_two why (conflict_refusal g0 a event)) (granted next g0 a event)) (event_refusal-call next g0 a event is)
+    ∙ ap (reply_of (first_of_two (call_refusal g0 a (a.active (session_of event)) event) (conflict_refusal g0 a event))) (granted-call next g0 a event is)
 
 -- a refusal that doesn't come from the disk adds nothing
 pub answered-refused : (a : Account) (event : Event) (why : Refusal) → IsNoFault why → answered a event (Refused why) ≡ a

@@ -4,7 +4,7 @@ use Rattle.std.specs.Fmt.{decimal}
 use Rattle.graph_model.specs.declared.event.Event.{Event}
 use Rattle.graph_model.specs.declared.event.Event.TheVariants.{Begin, Root, New, Put, Clear, Link, Drop, Get, Same, Len, Seal, Abort, Force}
 use Rattle.graph_model.specs.declared.reply.Refusal.{Refusal}
-use Rattle.graph_model.specs.declared.reply.Refusal.TheVariants.{Failed, AlreadyActive, NotActive, NumbersSpent, BadHandle, Range, BadField, VolatileFull, Exhausted, LogFull, DiskFault, Stopped}
+use Rattle.graph_model.specs.declared.reply.Refusal.TheVariants.{Failed, AlreadyActive, NotActive, NumbersSpent, BadHandle, Range, BadField, Busy, VolatileFull, Exhausted, LogFull, DiskFault, Stopped}
 use Rattle.graph_model.specs.declared.reply.Reply.{Reply}
 use Rattle.graph_model.specs.declared.reply.Reply.TheVariants.{Begun, Done, Null, Int, Reference, Yes, No, Length, Sealed, Aborted, Durable, Refused}
 use Rattle.graph_model.specs.declared.reply.Entry.{Entry}
@@ -33,6 +33,7 @@ refusal_text NumbersSpent = codes "numbersspent"
 refusal_text BadHandle = codes "badhandle"
 refusal_text Range = codes "range"
 refusal_text BadField = codes "badfield"
+refusal_text (Busy holder) = codes "busy " ++ decimal holder
 refusal_text (VolatileFull used) = codes "volatilefull " ++ decimal used
 refusal_text (Exhausted need free owed) = codes "exhausted " ++ decimal need ++ codes " " ++ decimal free ++ codes " " ++ decimal owed
 refusal_text (LogFull used need reserved) = codes "logfull " ++ decimal used ++ codes " " ++ decimal need ++ codes " " ++ decimal reserved

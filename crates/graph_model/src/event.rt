@@ -1,5 +1,6 @@
 //! What is asked of the heap.
-ghost use Rattle.std.specs.Prelude.{Some, ◌↔◌, IsTrue};
+ghost use Rattle.std.specs.Prelude.{◌≡◌, Some, ◌↔◌, IsTrue};
+ghost use Rattle.graph_model.specs.History.{session_of};
 ghost use Rattle.graph_model.specs.Text.{event_text};
 
 use std::fmt;
@@ -36,12 +37,18 @@ pub enum Event {
     Force,
 }
 
-impl Event {
-    ghost use Rattle.graph_model.specs.SlowHeap.{IsSingleSession};
+/// The first session.
+pub const FIRST_SESSION: u32 = 1;
 
-    /// Whether the event is of session 1, or of none.
-    pub fn is_single_session(&self) -> bool
-        ensures { IsTrue result ↔ IsSingleSession self.now }
+/// The last one.
+pub const LAST_SESSION: u32 = 32;
+
+impl Event {
+    ghost use Rattle.graph_model.specs.SlowHeap.{IsOfSession};
+
+    /// The session of the event, and 0 for `force`, which is of none.
+    pub fn session(&self) -> u32
+        ensures { result ≡ session_of self.now }
     {
         match self {
             Event::Begin { s }
@@ -55,8 +62,18 @@ impl Event {
             | Event::Same { s, .. }
             | Event::Len { s, .. }
             | Event::Seal { s }
-            | Event::Abort { s } => *s == 1,
+            | Event::Abort { s } => *s,
+            Event::Force => 0,
+        }
+    }
+
+    /// Whether the event is of a session, that is one from 1 to 32, or of none.
+    pub fn is_of_session(&self) -> bool
+        ensures { IsTrue result ↔ IsOfSession self.now }
+    {
+        match self {
             Event::Force => true,
+            _ => FIRST_SESSION <= self.session() && self.session() <= LAST_SESSION,
         }
     }
 }

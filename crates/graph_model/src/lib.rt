@@ -2,16 +2,18 @@
 //! is no more than its definition.
 #![tactic(auto)]
 
+mod active_transaction;
 mod event;
 mod graph_text;
 mod id;
+mod object_lock;
 mod objects;
-mod open_transaction;
 mod reply;
 mod slow_heap;
+mod transaction_view;
 mod val;
 
-pub use event::Event;
+pub use event::{Event, FIRST_SESSION, LAST_SESSION};
 pub use id::{Id, ROOT};
 pub use reply::{Entry, Refusal, Reply};
 pub use slow_heap::SlowHeap;

@@ -115,14 +115,19 @@ impl Objects {
         Ok(())
     }
 
-    /// Field `i` of the object of that name has this value.
-    pub fn set(&mut self, id: Id, i: usize, value: Val)
-        requires { i < length (fields (graph_of self.old) id) }
-        ensures { graph_of self.new ≡ with_field (graph_of self.old) id i value }
+    /// Field `i` of the object of that name has this value. Nothing changes if the object has no such field; where there is no such
+    /// object, it is added with no fields. It fails only where memory is lacking.
+    pub fn set(&mut self, id: Id, i: usize, value: Val) -> Result<(), AllocError>
+        ensures { OnOk result (graph_of self.new ≡ with_field (graph_of self.old) id i value) }
     {
-        if let Some(place) = self.place_of(id) {
-            let object = &mut self.objects[place];
-            object.fields[i] = value;
+        let Some(place) = self.place_of(id) else {
+            return self.insert(id, 0);
+        };
+        let object = &mut self.objects[place];
+        if i >= object.fields.len() {
+            return Ok(());
         }
+        object.fields[i] = value;
+        Ok(())
     }
 }

@@ -22,6 +22,8 @@ pub enum Refusal {
     Range,
     /// The object has no such field.
     BadField,
+    /// Other transactions hold the object in a way that conflicts; this is the least of their numbers.
+    Busy { holder: u64 },
     /// The transaction's volatile area has no room: that many of its words are used.
     VolatileFull { used: u64 },
     /// The space has no room: the event needs so many words, so many are free, and so many of these are kept for copies.
@@ -82,6 +84,7 @@ impl fmt::Display for Refusal {
             Refusal::BadHandle => f.write_str("badhandle"),
             Refusal::Range => f.write_str("range"),
             Refusal::BadField => f.write_str("badfield"),
+            Refusal::Busy { holder } => write!(f, "busy {holder}"),
             Refusal::VolatileFull { used } => write!(f, "volatilefull {used}"),
             Refusal::Exhausted { need, free, owed } => write!(f, "exhausted {need} {free} {owed}"),
             Refusal::LogFull {
@@ -183,6 +186,7 @@ mod tests {
             &[
                 (refused(Refusal::NumbersSpent), "numbersspent"),
                 (refused(Refusal::Failed { entry: 30 }), "failed 30"),
+                (refused(Refusal::Busy { holder: 12 }), "busy 12"),
                 (refused(volatile), "volatilefull 4096"),
                 (refused(exhausted), "exhausted 59 58 7"),
                 (refused(full), "logfull 100 20 3"),

@@ -3,20 +3,82 @@ use super::*;
 use std::process::Abort;
 use std::test::Fail;
 
+// The events of one session.
+#[derive(Clone, Copy)]
+struct Session(u32);
+
+impl Session {
+    fn begin(self) -> Event {
+        Event::Begin { s: self.0 }
+    }
+
+    fn root(self, h: u64) -> Event {
+        Event::Root { s: self.0, h }
+    }
+
+    fn new(self, h: u64, len: u64) -> Event {
+        Event::New { s: self.0, h, len }
+    }
+
+    fn put(self, h: u64, i: u64, v: u64) -> Event {
+        Event::Put { s: self.0, h, i, v }
+    }
+
+    fn link(self, h: u64, i: u64, h2: u64) -> Event {
+        Event::Link {
+            s: self.0,
+            h,
+            i,
+            h2,
+        }
+    }
+
+    fn get(self, h: u64, i: u64, h2: u64) -> Event {
+        Event::Get {
+            s: self.0,
+            h,
+            i,
+            h2,
+        }
+    }
+
+    fn same(self, h: u64, h2: u64) -> Event {
+        Event::Same { s: self.0, h, h2 }
+    }
+
+    fn len(self, h: u64) -> Event {
+        Event::Len { s: self.0, h }
+    }
+
+    fn seal(self) -> Event {
+        Event::Seal { s: self.0 }
+    }
+
+    fn abort(self) -> Event {
+        Event::Abort { s: self.0 }
+    }
+}
+
+const ONE: Session = Session(1);
+
+const TWO: Session = Session(2);
+
+const LAST: Session = Session(32);
+
 fn begin() -> Event {
-    Event::Begin { s: 1 }
+    ONE.begin()
 }
 
 fn root(h: u64) -> Event {
-    Event::Root { s: 1, h }
+    ONE.root(h)
 }
 
 fn new(h: u64, len: u64) -> Event {
-    Event::New { s: 1, h, len }
+    ONE.new(h, len)
 }
 
 fn put(h: u64, i: u64, v: u64) -> Event {
-    Event::Put { s: 1, h, i, v }
+    ONE.put(h, i, v)
 }
 
 fn clear(h: u64, i: u64) -> Event {
@@ -24,7 +86,7 @@ fn clear(h: u64, i: u64) -> Event {
 }
 
 fn link(h: u64, i: u64, h2: u64) -> Event {
-    Event::Link { s: 1, h, i, h2 }
+    ONE.link(h, i, h2)
 }
 
 fn drop(h: u64) -> Event {
@@ -32,23 +94,23 @@ fn drop(h: u64) -> Event {
 }
 
 fn get(h: u64, i: u64, h2: u64) -> Event {
-    Event::Get { s: 1, h, i, h2 }
+    ONE.get(h, i, h2)
 }
 
 fn same(h: u64, h2: u64) -> Event {
-    Event::Same { s: 1, h, h2 }
+    ONE.same(h, h2)
 }
 
 fn len(h: u64) -> Event {
-    Event::Len { s: 1, h }
+    ONE.len(h)
 }
 
 fn seal() -> Event {
-    Event::Seal { s: 1 }
+    ONE.seal()
 }
 
 fn abort() -> Event {
-    Event::Abort { s: 1 }
+    ONE.abort()
 }
 
 // Asks each event and compares the line of its answer.
@@ -58,7 +120,7 @@ fn play(
     script: &[(Event, &str)],
 ) -> Result<(), Fail> {
     for (event, want) in script {
-        assert!(rt; event.is_single_session());
+        assert!(rt; event.is_of_session());
         let reply = heap.step(*event)?;
         let entry = Entry {
             event: *event,
@@ -372,5 +434,111 @@ fn objects_of_an_aborted_transaction_are_gone(rt: HostRuntime) -> Result<(), Fai
         &rt,
         &heap,
         &["graph 1\n0: - - - -\n", "graph 1\n0: - - - @0\n"],
+    )
+}
+
+// The sessions 32, 2 and 1 begin transactions 1, 2 and 3, so that no number is that of its session.
+#[test]
+fn sessions_run_side_by_side(rt: HostRuntime) -> Result<(), Fail> {
+    let mut heap = SlowHeap::new(rt.alloc())?;
+    share(&rt, &mut heap)?;
+    hand_over(&rt, &mut heap)?;
+    read_beside(&rt, &mut heap)?;
+    compare_texts(
+        &rt,
+        &heap,
+        &[
+            "graph 1\n0: - - - -\n",
+            "graph 1\n0: 5 - - -\n",
+            "graph 2\n0: 5 @1 - -\n1: 9\n",
+            "graph 2\n0: 5 @1 - -\n1: 8\n",
+            "graph 2\n0: 5 @1 - -\n1: 8\n",
+        ],
+    )
+}
+
+// Two transactions read the root; a third one and each of them are kept from writing it, until one is aborted.
+fn share(rt: &(impl Abort + Alloc), heap: &mut SlowHeap) -> Result<(), Fail> {
+    play(
+        rt,
+        heap,
+        &[
+            (LAST.begin(), "32 begin -> begun 1"),
+            (TWO.begin(), "2 begin -> begun 2"),
+            (ONE.begin(), "1 begin -> begun 3"),
+            (TWO.begin(), "2 begin -> alreadyactive"),
+            (LAST.root(0), "32 root 0 -> done"),
+            (TWO.root(0), "2 root 0 -> done"),
+            (ONE.root(0), "1 root 0 -> done"),
+            (ONE.get(0, 0, 1), "1 get 0 0 1 -> null"),
+            (TWO.put(0, 0, 7), "2 put 0 0 7 -> busy 3"),
+            (LAST.get(0, 0, 1), "32 get 0 0 1 -> null"),
+            (TWO.put(0, 0, 7), "2 put 0 0 7 -> busy 1"),
+            (ONE.put(0, 0, 7), "1 put 0 0 7 -> busy 1"),
+            (LAST.put(0, 0, 5), "32 put 0 0 5 -> busy 3"),
+            (ONE.abort(), "1 abort -> aborted"),
+            (LAST.put(0, 0, 5), "32 put 0 0 5 -> done"),
+        ],
+    )
+}
+
+// What is asked comes before what others hold; a new object is no one else's; a seal lets others read and write.
+fn hand_over(rt: &(impl Abort + Alloc), heap: &mut SlowHeap) -> Result<(), Fail> {
+    let large = 4611686018427387904;
+    play(
+        rt,
+        heap,
+        &[
+            (TWO.get(0, 0, 1), "2 get 0 0 1 -> busy 1"),
+            (TWO.get(0, 0, 64), "2 get 0 0 64 -> badhandle"),
+            (TWO.get(0, 4, 1), "2 get 0 4 1 -> badfield"),
+            (TWO.put(0, 4, 1), "2 put 0 4 1 -> badfield"),
+            (
+                TWO.put(0, 0, large),
+                "2 put 0 0 4611686018427387904 -> range",
+            ),
+            (TWO.len(0), "2 len 0 -> len 4"),
+            (TWO.new(1, 1), "2 new 1 1 -> done"),
+            (TWO.put(1, 0, 9), "2 put 1 0 9 -> done"),
+            (TWO.same(0, 1), "2 same 0 1 -> no"),
+            (TWO.link(0, 1, 1), "2 link 0 1 1 -> busy 1"),
+            (ONE.begin(), "1 begin -> begun 4"),
+            (ONE.root(0), "1 root 0 -> done"),
+            (LAST.seal(), "32 seal -> sealed 1"),
+            (TWO.get(0, 0, 2), "2 get 0 0 2 -> int 5"),
+            (TWO.link(0, 1, 1), "2 link 0 1 1 -> done"),
+            (ONE.put(0, 0, 6), "1 put 0 0 6 -> busy 2"),
+            (TWO.seal(), "2 seal -> sealed 2"),
+            (ONE.put(0, 0, 6), "1 put 0 0 6 -> done"),
+            (ONE.get(0, 1, 1), "1 get 0 1 1 -> ref"),
+            (ONE.get(1, 0, 2), "1 get 1 0 2 -> int 9"),
+        ],
+    )
+}
+
+// One object is written while another one is read, and what is sealed is seen by a transaction that began before.
+fn read_beside(rt: &(impl Abort + Alloc), heap: &mut SlowHeap) -> Result<(), Fail> {
+    play(
+        rt,
+        heap,
+        &[
+            (LAST.get(0, 0, 1), "32 get 0 0 1 -> notactive"),
+            (TWO.begin(), "2 begin -> begun 5"),
+            (TWO.root(0), "2 root 0 -> done"),
+            (TWO.get(0, 1, 1), "2 get 0 1 1 -> busy 4"),
+            (ONE.abort(), "1 abort -> aborted"),
+            (TWO.get(0, 1, 1), "2 get 0 1 1 -> ref"),
+            (ONE.begin(), "1 begin -> begun 6"),
+            (ONE.root(0), "1 root 0 -> done"),
+            (ONE.get(0, 1, 1), "1 get 0 1 1 -> ref"),
+            (ONE.put(1, 0, 8), "1 put 1 0 8 -> done"),
+            (TWO.get(1, 0, 2), "2 get 1 0 2 -> busy 6"),
+            (TWO.len(1), "2 len 1 -> len 1"),
+            (TWO.get(0, 0, 2), "2 get 0 0 2 -> int 5"),
+            (ONE.seal(), "1 seal -> sealed 3"),
+            (TWO.get(1, 0, 2), "2 get 1 0 2 -> int 8"),
+            (TWO.seal(), "2 seal -> sealed 4"),
+            (Event::Force, "force -> durable 4"),
+        ],
     )
 }
