@@ -16,19 +16,19 @@ use Rattle.graph_model.specs.Graph.{Graph, root, fields}
 use Rattle.graph_model.specs.GraphLaws.{same_or_other, fields-insert, fields-insert_other, fields_by_insert, get-insert_other}
 use Rattle.graph_model.specs.ClosedGraph.{IsThere, SeesClosed, IsUnused}
 use Rattle.graph_model.specs.Transaction.{Registers, View, held, fields_of, put_value, with_referred, value_reply, same_reply, reference_to, next_id, write, call}
-use Rattle.commit_order.specs.Locking.{Mode, Shared, Exclusive, Lock, in_mode, lock_on, lock_of, Conflict}
+use Rattle.graph_model.specs.Locking.{Mode, Shared, Exclusive, Lock, in_mode, lock_on, lock_of, Conflict}
 
 -- of two modes that conflict, either may come first
 pub Conflict-sym : (m n : Mode) → Conflict m n → Conflict n m
 Conflict-sym Shared Shared c = c
-Conflict-sym Shared Exclusive c = tt
-Conflict-sym Exclusive Shared c = tt
-Conflict-sym Exclusive Exclusive c = tt
+Conflict-sym Shared Exclusive c = refl
+Conflict-sym Exclusive Shared c = refl
+Conflict-sym Exclusive Exclusive c = refl
 
 -- the exclusive mode conflicts with every other
 pub Conflict-Exclusive : (m : Mode) → Conflict m Exclusive
-Conflict-Exclusive Shared = tt
-Conflict-Exclusive Exclusive = tt
+Conflict-Exclusive Shared = refl
+Conflict-Exclusive Exclusive = refl
 
 -- one that may be there is in its list
 pub Contains-Some : {X : Type 0} (o : Option X) (x : X) → o ≡ Some x → Contains (option_to_list o) x

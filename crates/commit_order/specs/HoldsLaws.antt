@@ -16,7 +16,7 @@ use Rattle.graph_model.specs.Transaction.{Transaction, fresh_view, run, serial}
 use Rattle.graph_model.specs.History.{Account, account, session_of, with_active, with_call, makes_call}
 use Rattle.graph_model.specs.HistoryLaws.{account-append, account_after-call, serial-append}
 use Rattle.graph_model.specs.Plain.{view}
-use Rattle.commit_order.specs.Locking.{Mode, Lock, lock_of, locks_of, Holds}
+use Rattle.graph_model.specs.Locking.{Mode, Lock, lock_of, locks_of, Holds}
 use Rattle.commit_order.specs.CallLaws.{Contains-Some, Contains-option}
 use Rattle.commit_order.specs.LockingLaws.{locks_of_calls-append, runs_alike}
 use Rattle.commit_order.specs.OrderLaws.{changed, two_phase_ordered}

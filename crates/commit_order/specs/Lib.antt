@@ -1,7 +1,7 @@
 pub mod CallLaws
+pub mod CommitLaws
 pub mod Heard
 pub mod HoldsLaws
-pub mod Locking
 pub mod LockingLaws
 pub mod OrderLaws
 pub mod PlaceLaws

@@ -10,7 +10,7 @@ use Rattle.graph_model.specs.Graph.{Graph, fields}
 use Rattle.graph_model.specs.ClosedGraph.{IsClosed, SeesClosed, IsUnused}
 use Rattle.graph_model.specs.ClosedGraphLaws.{call-SeesClosed, fresh_view-SeesClosed, length-fields-run}
 use Rattle.graph_model.specs.Transaction.{View, Transaction, call, after_calls, call_replies, fresh_view, run}
-use Rattle.commit_order.specs.Locking.{Mode, Exclusive, Lock, lock_of, locks_of_calls, locks_of, Conflict}
+use Rattle.graph_model.specs.Locking.{Mode, Exclusive, Lock, lock_of, locks_of_calls, locks_of, Conflict}
 use Rattle.commit_order.specs.CallLaws.{Conflict-sym, Contains-Some, Contains-option, fields-call, there_other, call-IsUnused, locked_there, SeesAlike, IsUntouched, call-SeesAlike, reply-SeesAlike}
 
 -- the locks with one call more
@@ -86,7 +86,7 @@ pub runs_alike : (g : Graph) (t u : Transaction) → IsClosed g → u.number ≢
     → RunAlike t.number (IsExclusive g t) (fresh_view g) (fresh_view (run g t).graph) u.number u.calls
 runs_alike g t u closed other unused apart =
     calls_alike t.number (IsExclusive g t) (fresh_view g) (fresh_view (run g t).graph) u.number u.calls other (fresh_view-SeesClosed g closed) unused
-    (λ id mode there exclusive. apart id Exclusive mode exclusive there tt)
+    (λ id mode there exclusive. apart id Exclusive mode exclusive there refl)
     (record {
       registers = refl;
       made = refl;

@@ -12,21 +12,21 @@ use Rattle.std.proofs.lemmas.List.Sums.{fold-append}
 use Rattle.graph_model.specs.declared.event.Event.{Event}
 use Rattle.graph_model.specs.declared.event.Event.TheVariants.{Seal}
 use Rattle.graph_model.specs.declared.reply.Entry.{Entry}
-use Rattle.graph_model.specs.declared.reply.Refusal.TheVariants.{Failed, DiskFault, Stopped}
+use Rattle.graph_model.specs.declared.reply.Refusal.TheVariants.{DiskFault, Stopped}
 use Rattle.graph_model.specs.declared.reply.Reply.{Reply}
 use Rattle.graph_model.specs.declared.reply.Reply.TheVariants.{Begun, Sealed, Aborted, Durable, Refused}
 use Rattle.graph_model.specs.Graph.{Graph}
 use Rattle.graph_model.specs.ClosedGraph.{IsClosed, IsUnused}
 use Rattle.graph_model.specs.ClosedGraphLaws.{run-SeesClosed, run-IsUnused}
 use Rattle.graph_model.specs.Transaction.{Transaction, call, fresh_view, replies, run, serial, serial_replies}
-use Rattle.graph_model.specs.History.{Account, account, account_after, nothing_yet, session_of, with_active, with_call, first_failure, cut_short}
+use Rattle.graph_model.specs.History.{Account, account, account_after, nothing_yet, session_of, with_active, with_call, cut_short}
 use Rattle.graph_model.specs.HistoryLaws.{IsCallReply, account-append, call_replies-append, serial-append}
 use Rattle.graph_model.specs.Plain.{view}
 use Rattle.commit_order.specs.Heard.{Heard, nothing_heard, with_replies, with_reply, hear_cut, hear, heard_in}
-use Rattle.commit_order.specs.Locking.{lock_of, locks_of, IsFree}
+use Rattle.graph_model.specs.Locking.{lock_of, locks_of, IsFree}
 use Rattle.commit_order.specs.CallLaws.{Conflict-sym, Contains-option}
 use Rattle.commit_order.specs.LockingLaws.{AreApart, AreApart-sym, locks_of_calls-append, runs_alike}
-use Rattle.commit_order.specs.SerialOrder.{RefusesConflicts, AnswersByView, BeginsAnew, EndsWithFailure, begun_number, numbers_begun, IsTwoPhase, SerialOrderTheorem}
+use Rattle.commit_order.specs.SerialOrder.{RefusesConflicts, AnswersByView, BeginsAnew, begun_number, numbers_begun, IsTwoPhase}
 
 -- Two active transactions have different numbers, and hold nothing in conflict.
 pub record IsBeside (g : Graph) (t u : Transaction) : Type 0 where
@@ -42,10 +42,8 @@ pub record IsOrdered (g0 : Graph) (numbers : List ℕ) (a : Account) (heard : He
   pub beside : (s r : ℕ) (t u : Transaction) → s ≢ r → a.active s ≡ Some t → a.active r ≡ Some u → IsBeside (serial g0 a.sealed) t u
   pub sealed : heard.sealed ≡ serial_replies g0 a.sealed
   pub active : (s : ℕ) → heard.active s ≡ option_map (replies (serial g0 a.sealed)) (a.active s)
-  pub in_doubt : heard.in_doubt ≡ option_map (replies (serial g0 a.sealed)) a.in_doubt
-  pub certain : a.failed ≡ None → a.in_doubt ≡ None
 
--- counts that the account keeps beside that do not matter
+-- what the account keeps beside does not matter
 recounted : (g0 : Graph) (numbers : List ℕ) (a : Account) (heard : Heard) (begun acknowledged entries : ℕ) → IsOrdered g0 numbers a heard
     → IsOrdered g0 numbers (record a { begun = begun; acknowledged = acknowledged; entries = entries }) heard
 recounted g0 numbers a heard begun acknowledged entries o = record {
@@ -56,8 +54,6 @@ recounted g0 numbers a heard begun acknowledged entries o = record {
   beside = o.beside;
   sealed = o.sealed;
   active = o.active;
-  in_doubt = o.in_doubt;
-  certain = o.certain;
 }
 
 -- more numbers
@@ -70,8 +66,6 @@ grown g0 numbers more a heard o = record {
   beside = o.beside;
   sealed = o.sealed;
   active = o.active;
-  in_doubt = o.in_doubt;
-  certain = o.certain;
 }
 
 -- the transaction of a session where that of session s was changed
@@ -122,8 +116,6 @@ updated g0 numbers a heard s x own told may o = record {
       ];
   sealed = o.sealed;
   active = changed_replies (replies (serial g0 a.sealed)) heard.active a.active s own x told (λ r other. o.active r);
-  in_doubt = o.in_doubt;
-  certain = o.certain;
 }
 
 -- session s has no transaction any more
@@ -142,9 +134,9 @@ same_replies g h None same = refl
 same_replies g h (Some u) same = ap Some (same u refl)
 
 -- A transaction of session s is sealed: what the others see does not change by it.
-sealed_ordered : (g0 : Graph) (numbers : List ℕ) (a : Account) (heard : Heard) (s : ℕ) (t : Transaction) → a.active s ≡ Some t → a.in_doubt ≡ None → IsOrdered g0 numbers a heard
+sealed_ordered : (g0 : Graph) (numbers : List ℕ) (a : Account) (heard : Heard) (s : ℕ) (t : Transaction) → a.active s ≡ Some t → IsOrdered g0 numbers a heard
     → IsOrdered g0 numbers (record a { active = with_active a.active s None; sealed = a.sealed ++ t ∷ [] }) (record heard { active = with_replies heard.active s None; sealed = heard.sealed ++ replies (serial g0 a.sealed) t ∷ [] })
-sealed_ordered g0 numbers a heard s t is certain o =
+sealed_ordered g0 numbers a heard s t is o =
     let g = serial g0 a.sealed in
     let h = serial g0 (a.sealed ++ t ∷ []) in
     let same : h ≡ (run g t).graph = serial-append g0 a.sealed t in
@@ -174,21 +166,19 @@ sealed_ordered g0 numbers a heard s t is certain o =
       sealed = ap (λ l. l ++ replies g t ∷ []) o.sealed ∙ sym (serial_replies-append g0 a.sealed t);
       active = changed_replies (replies h) heard.active a.active s None None refl (λ r other.
           o.active r ∙ same_replies g h (a.active r) (λ u also. (alike r u (λ x. other (sym x)) also).answers ∙ ap (λ k. replies k u) (sym same)));
-      in_doubt = o.in_doubt ∙ ap (option_map (replies g)) certain ∙ sym (ap (option_map (replies h)) certain);
-      certain = o.certain;
     }
 
 -- a session's transaction is sealed, if it has one
-seal_ordered : (g0 : Graph) (numbers : List ℕ) (a : Account) (heard : Heard) (s : ℕ) (x : Option Transaction) (own : Option (List Reply)) → a.active s ≡ x → own ≡ option_map (replies (serial g0 a.sealed)) x → a.in_doubt ≡ None
+seal_ordered : (g0 : Graph) (numbers : List ℕ) (a : Account) (heard : Heard) (s : ℕ) (x : Option Transaction) (own : Option (List Reply)) → a.active s ≡ x → own ≡ option_map (replies (serial g0 a.sealed)) x
     → IsOrdered g0 numbers a heard
     → IsOrdered g0 numbers (record a { active = with_active a.active s None; sealed = a.sealed ++ option_to_list x }) (record heard { active = with_replies heard.active s None; sealed = heard.sealed ++ option_to_list own })
-seal_ordered g0 numbers a heard s None own is told certain o =
+seal_ordered g0 numbers a heard s None own is told o =
     let P : List Transaction → List (List Reply) → Type 0 = λ ts rs. IsOrdered g0 numbers (record a { active = with_active a.active s None; sealed = ts }) (record heard { active = with_replies heard.active s None; sealed = rs }) in
     subst (λ p. P (a.sealed ++ []) (heard.sealed ++ option_to_list p)) (sym told)
     (subst (λ ts. P ts (heard.sealed ++ [])) (sym (append-nil a.sealed)) (subst (P a.sealed) (sym (append-nil heard.sealed)) (ended g0 numbers a heard s o)))
-seal_ordered g0 numbers a heard s (Some t) own is told certain o =
+seal_ordered g0 numbers a heard s (Some t) own is told o =
     subst (λ p. IsOrdered g0 numbers (record a { active = with_active a.active s None; sealed = a.sealed ++ t ∷ [] }) (record heard { active = with_replies heard.active s None; sealed = heard.sealed ++ option_to_list p }))
-    (sym told) (sealed_ordered g0 numbers a heard s t is certain o)
+    (sym told) (sealed_ordered g0 numbers a heard s t is o)
 
 -- a transaction begins
 begin_ordered : (g0 : Graph) (numbers : List ℕ) (a : Account) (heard : Heard) (s n : ℕ) → (Contains numbers n → ⊥) → IsUnused g0 n → IsOrdered g0 numbers a heard
@@ -245,10 +235,6 @@ call_ordered g0 numbers a heard s event reply (Some t) is free answered o =
           record { differ = b.differ; apart = call_apart g0 a t event r v also (free t refl) b };
     })) o
 
-failed_now : (first : Option ℕ) (entry : ℕ) → first_failure first entry ≡ None → ⊥
-failed_now None entry is = cc
-failed_now (Some n) entry is = cc
-
 -- the disk fails or stops in an event
 cut_ordered : (g0 : Graph) (numbers : List ℕ) (a : Account) (heard : Heard) (event : Event) → IsOrdered g0 numbers a heard → IsOrdered g0 numbers (cut_short a event) (hear_cut heard event)
 cut_ordered g0 numbers a heard (Seal s) o = record {
@@ -259,8 +245,6 @@ cut_ordered g0 numbers a heard (Seal s) o = record {
   beside = o.beside;
   sealed = o.sealed;
   active = o.active;
-  in_doubt = o.active s;
-  certain = λ unfailed. absurd (failed_now a.failed (a.entries + 1) unfailed);
 }
 cut_ordered g0 numbers a heard event o = record {
   closed = o.closed;
@@ -270,8 +254,6 @@ cut_ordered g0 numbers a heard event o = record {
   beside = o.beside;
   sealed = o.sealed;
   active = o.active;
-  in_doubt = o.in_doubt;
-  certain = λ unfailed. absurd (failed_now a.failed (a.entries + 1) unfailed);
 }
 
 -- What is asked of an entry at its place.
@@ -279,14 +261,6 @@ record IsAsked (g0 : Graph) (numbers : List ℕ) (a : Account) (event : Event) (
   locked : IsCallReply reply → (t : Transaction) → a.active (session_of event) ≡ Some t → IsFree g0 a t.number (lock_of (view g0 a t).registers event)
   answered : IsCallReply reply → (t : Transaction) → a.active (session_of event) ≡ Some t → reply ≡ (call (view g0 a t) t.number event).reply
   numbered : (n : ℕ) → reply ≡ Begun n → (Contains numbers n → ⊥) × IsUnused g0 n
-  failed : (n : ℕ) → a.failed ≡ Some n → reply ≡ Refused (Failed n)
-
-unfailed_if : (o : Option ℕ) (reply : Reply) → ((n : ℕ) → o ≡ Some n → reply ≡ Refused (Failed n)) → ((n : ℕ) → reply ≢ Refused (Failed n)) → o ≡ None
-unfailed_if None reply failed never = refl
-unfailed_if (Some n) reply failed never = absurd (never n (failed n refl))
-
-sealed_not_failed : (n m : ℕ) → Sealed n ≢ Refused (Failed m)
-sealed_not_failed n m is = cc
 
 -- One entry more.
 entry_ordered : (g0 : Graph) (numbers : List ℕ) (a : Account) (heard : Heard) (event : Event) (reply : Reply) → IsAsked g0 numbers a event reply → IsOrdered g0 numbers a heard
@@ -296,9 +270,8 @@ entry_ordered g0 numbers a heard event (Begun n) asked o =
     recounted g0 (numbers ++ n ∷ []) _ _ (a.begun + 1) a.acknowledged (a.entries + 1) (begin_ordered g0 numbers a heard (session_of event) n new.0 new.1 o)
 entry_ordered g0 numbers a heard event (Sealed n) asked o =
     let s = session_of event in
-    let certain = o.certain (unfailed_if a.failed (Sealed n) asked.failed (sealed_not_failed n)) in
     recounted g0 (numbers ++ []) _ _ a.begun a.acknowledged (a.entries + 1)
-    (grown g0 numbers [] _ _ (seal_ordered g0 numbers a heard s (a.active s) (heard.active s) refl (o.active s) certain o))
+    (grown g0 numbers [] _ _ (seal_ordered g0 numbers a heard s (a.active s) (heard.active s) refl (o.active s) o))
 entry_ordered g0 numbers a heard event Aborted asked o =
     recounted g0 (numbers ++ []) _ _ a.begun a.acknowledged (a.entries + 1) (grown g0 numbers [] _ _ (ended g0 numbers a heard (session_of event) o))
 entry_ordered g0 numbers a heard event (Durable n) asked o =
@@ -324,8 +297,6 @@ nothing_ordered g0 closed = record {
   beside = λ s r t u other is also. cc;
   sealed = refl;
   active = λ s. refl;
-  in_doubt = refl;
-  certain = λ unfailed. refl;
 }
 
 -- what is heard with one entry more
@@ -340,15 +311,14 @@ numbers-append h e = filter_map-append (λ (x : Entry). begun_number x.reply) h 
   one (Some n) = refl
 
 -- What holds at a place of a history holds behind the next entry.
-pub ordered_append : (g0 : Graph) (before : List Entry) (e : Entry) → RefusesConflicts g0 before e → AnswersByView g0 before e → BeginsAnew g0 before e → EndsWithFailure before e
+pub ordered_append : (g0 : Graph) (before : List Entry) (e : Entry) → RefusesConflicts g0 before e → AnswersByView g0 before e → BeginsAnew g0 before e
     → IsOrdered g0 (numbers_begun before) (account before) (heard_in before)
     → IsOrdered g0 (numbers_begun (before ++ e ∷ [])) (account (before ++ e ∷ [])) (heard_in (before ++ e ∷ []))
-ordered_append g0 before e locked answered numbered failed o =
+ordered_append g0 before e locked answered numbered o =
     let next = entry_ordered g0 (numbers_begun before) (account before) (heard_in before) e.event e.reply (record {
       locked = λ is t active. locked t (record { active = active; answered = is });
       answered = λ is t active. answered t (record { active = active; answered = is });
       numbered = numbered;
-      failed = failed;
     }) o in
     subst (λ ns. IsOrdered g0 ns (account (before ++ e ∷ [])) (heard_in (before ++ e ∷ []))) (sym (numbers-append before e))
     (subst (λ a. IsOrdered g0 (numbers_begun before ++ option_to_list (begun_number e.reply)) a (heard_in (before ++ e ∷ []))) (sym (account-append before e))
@@ -360,26 +330,8 @@ ordered_rest g0 history before [] two_phase is o =
     subst (λ h. IsOrdered g0 (numbers_begun h) (account h) (heard_in h)) (sym (is ∙ append-nil before)) o
 ordered_rest g0 history before (e ∷ rest) two_phase is o =
     ordered_rest g0 history (before ++ e ∷ []) rest two_phase (is ∙ sym (append_assoc before (e ∷ []) rest))
-    (ordered_append g0 before e (two_phase.locked before e rest is) (two_phase.answered before e rest is) (two_phase.numbered before e rest is) (two_phase.failed before e rest is) o)
+    (ordered_append g0 before e (two_phase.locked before e rest is) (two_phase.answered before e rest is) (two_phase.numbered before e rest is) o)
 
 -- So it holds at the end of each history under two-phase locking.
 pub two_phase_ordered : (g0 : Graph) (history : List Entry) → IsTwoPhase g0 history → IsOrdered g0 (numbers_begun history) (account history) (heard_in history)
 two_phase_ordered g0 history two_phase = ordered_rest g0 history [] history two_phase refl (nothing_ordered g0 two_phase.closed)
-
--- the replies of transactions and of one that may be behind them
-serial_replies-last : (g : Graph) (ts : List Transaction) (o : Option Transaction)
-    → serial_replies g ts ++ option_to_list (option_map (replies (serial g ts)) o) ≡ serial_replies g (ts ++ option_to_list o)
-serial_replies-last g ts None = append-nil (serial_replies g ts) ∙ ap (serial_replies g) (sym (append-nil ts))
-serial_replies-last g ts (Some t) = sym (serial_replies-append g ts t)
-
--- Strict two-phase locking gives commit order.
-pub serial_order : SerialOrderTheorem
-serial_order g0 history two_phase =
-    let o = two_phase_ordered g0 history two_phase in
-    let a = account history in
-    record {
-      committed = ap (λ l. l ++ option_to_list (heard_in history).in_doubt) o.sealed
-          ∙ ap (λ p. serial_replies g0 a.sealed ++ option_to_list p) o.in_doubt
-          ∙ serial_replies-last g0 a.sealed a.in_doubt;
-      active = o.active;
-    }

@@ -7,10 +7,10 @@ use Rattle.graph_model.specs.Graph.{Graph}
 use Rattle.graph_model.specs.ClosedGraph.{IsClosed}
 use Rattle.graph_model.specs.Transaction.{Transaction, fresh_view, run, serial}
 use Rattle.graph_model.specs.History.{account, sealed}
-use Rattle.commit_order.specs.Locking.{Mode, Lock, Holds, Conflict, IsFree}
+use Rattle.graph_model.specs.Locking.{Mode, Lock, Holds, Conflict, IsFree}
 use Rattle.commit_order.specs.LockingLaws.{IsExclusive, RunAlike, runs_alike, locks_of-other}
 use Rattle.commit_order.specs.OrderLaws.{two_phase_ordered}
-use Rattle.commit_order.specs.SerialOrder.{EachEntry, RefusesConflicts, AnswersByView, BeginsAnew, EndsWithFailure, IsTwoPhase}
+use Rattle.commit_order.specs.SerialOrder.{EachEntry, RefusesConflicts, AnswersByView, BeginsAnew, IsTwoPhase}
 
 same_head : {X : Type 0} (x y : X) (xs ys : List X) → x ∷ xs ≡ y ∷ ys → x ≡ y
 same_head x y xs ys is = cc
@@ -50,18 +50,16 @@ nothing_two_phase g0 closed = record {
   locked = λ before e after is. absurd (not_nil before e after is);
   answered = λ before e after is. absurd (not_nil before e after is);
   numbered = λ before e after is. absurd (not_nil before e after is);
-  failed = λ before e after is. absurd (not_nil before e after is);
 }
 
 -- So is one with one entry more that refuses conflicts and was answered by what its transaction saw.
-pub two_phase_append : (g0 : Graph) (history : List Entry) (e : Entry) → RefusesConflicts g0 history e → AnswersByView g0 history e → BeginsAnew g0 history e → EndsWithFailure history e → IsTwoPhase g0 history
+pub two_phase_append : (g0 : Graph) (history : List Entry) (e : Entry) → RefusesConflicts g0 history e → AnswersByView g0 history e → BeginsAnew g0 history e → IsTwoPhase g0 history
     → IsTwoPhase g0 (history ++ e ∷ [])
-two_phase_append g0 history e locked answered numbered failed two_phase = record {
+two_phase_append g0 history e locked answered numbered two_phase = record {
   closed = two_phase.closed;
   locked = EachEntry-append (RefusesConflicts g0) history e two_phase.locked locked;
   answered = EachEntry-append (AnswersByView g0) history e two_phase.answered answered;
   numbered = EachEntry-append (BeginsAnew g0) history e two_phase.numbered numbered;
-  failed = EachEntry-append EndsWithFailure history e two_phase.failed failed;
 }
 
 same_session : (history : List Entry) (s r : ℕ) (t u : Transaction) → (account history).active s ≡ Some t → (account history).active r ≡ Some u → t.number ≢ u.number → s ≢ r

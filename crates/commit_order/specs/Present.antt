@@ -7,7 +7,7 @@ use Rattle.graph_model.specs.ClosedGraph.{IsThere}
 use Rattle.graph_model.specs.Transaction.{Transaction, serial}
 use Rattle.graph_model.specs.History.{Account}
 use Rattle.graph_model.specs.Plain.{view}
-use Rattle.commit_order.specs.Locking.{Exclusive, Holds, locks_of}
+use Rattle.graph_model.specs.Locking.{Exclusive, Holds, locks_of}
 
 -- In the present graph each object of the sealed transactions is as the active one sees it that holds it exclusively, and as they left it
 -- if none does. It says nothing of objects that active transactions made.

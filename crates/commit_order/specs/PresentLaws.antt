@@ -1,5 +1,5 @@
 -- What a transaction sees of the objects that it holds is what stands in memory, and how that changes from one entry to the next.
-use Rattle.std.proofs.Common.{◌≡◌, ◌≢◌, ◌⊎◌, inl, inr, ℕ, List, [], ◌∷◌, length, Some, sym, ap, ◌∙◌, subst, arith, lit<}
+use Rattle.std.proofs.Common.{◌≡◌, ◌≢◌, ◌⊎◌, inl, inr, ℕ, List, [], ◌∷◌, length, Some, refl, sym, ap, ◌∙◌, subst, arith, lit<}
 use Rattle.std.specs.List.{Contains}
 use Rattle.std.proofs.lemmas.Bool.{cases_eq}
 use Rattle.std.proofs.lemmas.Option.{same_Some}
@@ -13,7 +13,7 @@ use Rattle.graph_model.specs.ClosedGraphLaws.{length-fields-run}
 use Rattle.graph_model.specs.Transaction.{Transaction, serial}
 use Rattle.graph_model.specs.History.{account, sealed}
 use Rattle.graph_model.specs.Plain.{view}
-use Rattle.commit_order.specs.Locking.{Mode, Shared, Exclusive, Lock, locks_of, Holds, IsFree}
+use Rattle.graph_model.specs.Locking.{Mode, Shared, Exclusive, Lock, locks_of, Holds, IsFree}
 use Rattle.commit_order.specs.CallLaws.{Contains-option, there_other}
 use Rattle.commit_order.specs.LockingLaws.{fields-run}
 use Rattle.commit_order.specs.OrderLaws.{two_phase_ordered}
@@ -70,7 +70,7 @@ sees_present g0 history present two_phase p s t q active there free =
           fields-run g t q (there_other g t.number q (o.unused s t active) there) none
           ∙ sym (p.left q there (λ n holds. elim (cases_eq n t.number) [
             | inl same ↦ none (same_holder g0 history two_phase s t n q Exclusive active same holds)
-            | inr other ↦ free n (record { differs = other; mode = Exclusive; holds = holds; conflicts = tt })
+            | inr other ↦ free n (record { differs = other; mode = Exclusive; holds = holds; conflicts = refl })
           ]))
     ]
 

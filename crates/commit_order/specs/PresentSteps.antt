@@ -20,7 +20,7 @@ use Rattle.graph_model.specs.Transaction.{Transaction, call, fresh_view, run, se
 use Rattle.graph_model.specs.History.{Account, nothing_yet, account, account_after, makes_call, sealed, session_of, with_call}
 use Rattle.graph_model.specs.HistoryLaws.{account-append, account_after-call, run-append, serial-append}
 use Rattle.graph_model.specs.Plain.{view}
-use Rattle.commit_order.specs.Locking.{Exclusive, Lock, lock_of, locks_of, Holds, IsFree}
+use Rattle.graph_model.specs.Locking.{Exclusive, Lock, lock_of, locks_of, Holds, IsFree}
 use Rattle.commit_order.specs.CallLaws.{Contains-option, Conflict-Exclusive, fields-call, there_other}
 use Rattle.commit_order.specs.LockingLaws.{locks_of_calls-append, runs_alike, fields-run, locks_of-other}
 use Rattle.commit_order.specs.HoldsLaws.{adds_lock, begin_holds, abort_holds, seal_holds}
@@ -116,7 +116,7 @@ present_write g0 history e t present q i x two_phase p own is_there needs free w
             differs = (o.beside session s u t others.0 others.1 own.active).differ;
             mode = Exclusive;
             holds = record { session = session; transaction = u; active = others.1; number = refl; lock = subst (λ y. Contains (locks_of g u) (y, Exclusive)) same lock };
-            conflicts = tt;
+            conflicts = refl;
           }))
           | inr other ↦ fields-insert_other present q r _ other ∙ p.written r session u there others.1 lock
         ]
@@ -198,7 +198,7 @@ present_abort g0 history event t present next two_phase p is put_back kept =
       ];
       written = λ r session u there active lock. elim (changed a.active s None session u active) [
         | inl gone ↦ cc
-        | inr others ↦ kept r there (λ own. (o.beside session s u t others.0 others.1 is).apart r Exclusive Exclusive lock own tt) ∙ p.written r session u there others.1 lock
+        | inr others ↦ kept r there (λ own. (o.beside session s u t others.0 others.1 is).apart r Exclusive Exclusive lock own refl) ∙ p.written r session u there others.1 lock
       ];
     })
 
@@ -249,7 +249,7 @@ present_seal g0 history event k t present next two_phase p is kept made =
               | inl was ↦
                   kept r was
                   ∙ p.written r session u was others.1 lock_before
-                  ∙ also.views.objects r not_its (λ own. (o.beside session s u t others.0 others.1 is).apart r Exclusive Exclusive lock_before own tt)
+                  ∙ also.views.objects r not_its (λ own. (o.beside session s u t others.0 others.1 is).apart r Exclusive Exclusive lock_before own refl)
                   ∙ ap (λ x. fields (run x u).graph r) (sym grown)
               | inr name ↦ absurd (not_its name.maker)
             ]

@@ -13,7 +13,7 @@ use Rattle.graph_model.specs.History.{account, commits, sealed, session_of}
 use Rattle.graph_model.specs.HistoryLaws.{IsCallReply}
 use Rattle.graph_model.specs.Plain.{view}
 use Rattle.commit_order.specs.Heard.{heard_in, replies_of_commits}
-use Rattle.commit_order.specs.Locking.{lock_of, IsFree}
+use Rattle.graph_model.specs.Locking.{lock_of, IsFree}
 
 -- each entry of a history has this property, which may speak of the entries before it
 abbrev pub EachEntry : (List Entry → Entry → Type 0) → List Entry → Type 0
@@ -55,14 +55,14 @@ pub record IsTwoPhase (g0 : Graph) (history : List Entry) : Type 0 where
   pub locked : EachEntry (RefusesConflicts g0) history
   pub answered : EachEntry (AnswersByView g0) history
   pub numbered : EachEntry (BeginsAnew g0) history
-  pub failed : EachEntry EndsWithFailure history
 
--- A history is serial in the order of commits. Each commit had, for its calls that were not refused, the replies of the one run in which the
--- commits follow one another in the order of their seals; and so far each active transaction had the replies that it would have as the
--- next of them, though others were sealed since it began.
+-- A history is serial in the order of the seals. Each sealed transaction had, for its calls that were not refused, the replies of the one
+-- run in which these follow one another; and so far each active transaction had the replies that it would have as the next of them, though
+-- others were sealed since it began. If all was refused once the disk had failed, the one whose seal it cut short follows them too.
 pub record IsCommitOrdered (g0 : Graph) (history : List Entry) : Type 0 where
-  pub committed : replies_of_commits history ≡ serial_replies g0 (commits history)
+  pub certain : (heard_in history).sealed ≡ serial_replies g0 (sealed history)
   pub active : (s : ℕ) → (heard_in history).active s ≡ option_map (replies (serial g0 (sealed history))) ((account history).active s)
+  pub committed : EachEntry EndsWithFailure history → replies_of_commits history ≡ serial_replies g0 (commits history)
 
 -- Strict two-phase locking gives commit order.
 abbrev pub SerialOrderTheorem : Type 0

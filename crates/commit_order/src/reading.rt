@@ -1,7 +1,7 @@
 //! A history read from its front, for its transactions.
 ghost use Rattle.std.specs.Prelude.{◌≡◌, ◌∷◌, [], ◌++◌, OnOk, IfOk};
 ghost use Rattle.std.specs.Option.{option_to_list};
-ghost use Rattle.graph_model.specs.History.{Account, account_after, nothing_yet, session_of, begins, makes_call, seals, aborts, cut_short};
+ghost use Rattle.graph_model.specs.History.{Account, account_after, nothing_yet, begins, makes_call, seals, aborts, cut_short};
 ghost use Rattle.commit_order.specs.Told.{Keeps, TellsOf};
 
 use crate::commit_list::{Commit, CommitList};
@@ -35,7 +35,7 @@ impl Reading {
     pub(crate) fn read(&mut self, entry: &Entry) -> Result<(), AllocError>
         ensures { OnOk result (Keeps (λ a. account_after a entry.now) self.old self.new) }
     {
-        let s = session(&entry.event);
+        let s = entry.event.session();
         match entry.reply {
             Reply::Begun { n } => self.begin(s, n),
             Reply::Sealed { .. } => self.seal(s),
@@ -108,26 +108,5 @@ impl Reading {
             sealed.push(transaction)?;
         }
         Ok(CommitList::from_vec(sealed))
-    }
-}
-
-// The session of an event, and 0 for one of none.
-fn session(event: &Event) -> u32
-    ensures { result ≡ session_of event.now }
-{
-    match event {
-        Event::Begin { s }
-        | Event::Root { s, .. }
-        | Event::New { s, .. }
-        | Event::Put { s, .. }
-        | Event::Clear { s, .. }
-        | Event::Link { s, .. }
-        | Event::Drop { s, .. }
-        | Event::Get { s, .. }
-        | Event::Same { s, .. }
-        | Event::Len { s, .. }
-        | Event::Seal { s }
-        | Event::Abort { s } => *s,
-        Event::Force => 0,
     }
 }

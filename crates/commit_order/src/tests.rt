@@ -50,7 +50,7 @@ fn commits_are_told_in_the_order_of_their_seals(rt: HostRuntime) -> Result<(), F
         reply,
     );
     let busy = Reply::Refused {
-        why: Refusal::NotActive,
+        why: Refusal::Busy { holder: 5 },
     };
     let history = told(
         &rt,
