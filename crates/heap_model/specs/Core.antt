@@ -1,6 +1,5 @@
 -- The core: what each event is answered, and the state that it leaves.
 use Rattle.std.specs.Prelude.{◌≡◌, ◌⊎◌, ℕ, ◌+◌, ◌-◌, ◌*◌, ◌<◌, nat_lt, Bool, List, [], ◌∷◌, ◌++◌, length, Option, None, Some, slice_index_or, sum_by, if◌then◌else◌}
-use Rattle.std.specs.List.{range_with_len}
 use Rattle.graph_model.specs.declared.id.Id.{Id}
 use Rattle.graph_model.specs.declared.val.Val.{Val}
 use Rattle.graph_model.specs.declared.val.Val.TheVariants.{Null, Int}
@@ -13,8 +12,8 @@ use Rattle.graph_model.specs.declared.reply.Reply.TheVariants.{Refused}
 use Rattle.graph_model.specs.declared.reply.Entry.{Entry}
 use Rattle.graph_model.specs.Graph.{Graph, fields}
 use Rattle.graph_model.specs.Transaction.{View, Transaction, held, reference_to}
-use Rattle.graph_model.specs.History.{Account, account, account_after, session_of}
-use Rattle.graph_model.specs.Plain.{view, event_refusal, refusal_of, granted, reply_of}
+use Rattle.graph_model.specs.History.{Account, account, account_after, session_of, sessions}
+use Rattle.graph_model.specs.Plain.{view, model_refusal, first_of_two, refusal_of, granted, reply_of}
 use Rattle.log_records.specs.declared.Record.{Record}
 use Rattle.log_records.specs.declared.Record.TheVariants.{Update}
 use Rattle.log_records.specs.Record.{spellings}
@@ -146,10 +145,6 @@ need pending [] = 0
 need [] (r ∷ rs) = length (spellings (r ∷ rs)) + 5
 need (p ∷ ps) (r ∷ rs) = length (spellings (r ∷ rs))
 
--- the numbers of the sessions
-unfoldable pub sessions : List ℕ
-sessions = range_with_len 1 32
-
 -- the bytes that are kept for the end of a transaction that has these writes to be taken back
 abbrev pub kept_for : (ℕ → List UndoEntry) → Option Transaction → ℕ
 kept_for undo None = 0
@@ -171,11 +166,6 @@ full_log room used need reserved = if nat_lt room (used + need + reserved) then 
 -- why the log has no room for an event
 abbrev pub log_refusal : Core → Event → Option Refusal
 log_refusal c event = full_log c.room (used c) (need c.pending (event_records c event)) (reserved_after c event)
-
--- the first reason of two
-abbrev pub first_of_two : Option Refusal → Option Refusal → Option Refusal
-first_of_two None second = second
-first_of_two (Some why) second = Some why
 
 -- why a transaction that sees this has no room in its area for an object of that many fields
 abbrev pub area_refusal : View → ℕ → ℕ → Option Refusal
@@ -208,7 +198,7 @@ words_refusal c event = let a = account c.history in room_refusal (ground c) c.g
 abbrev pub core_refusal : Core → Event → Option Refusal
 core_refusal c event =
     let a = account c.history in
-    refusal_of a.failed (first_of_two (event_refusal (next_number c) c.g0 a event) (first_of_two (words_refusal c event) (log_refusal c event)))
+    refusal_of a.failed (first_of_two (model_refusal (next_number c) c.g0 a event) (first_of_two (words_refusal c event) (log_refusal c event)))
 
 -- what an event is answered where the disk does what it is asked
 abbrev pub answer : Core → Event → Reply

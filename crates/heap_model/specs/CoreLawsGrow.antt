@@ -1,24 +1,19 @@
 -- What was sealed stays sealed: an image that stands for first commits does so behind every step.
-use Rattle.std.proofs.Common.{◌≡◌, ℕ, ◌+◌, ◌≤◌, List, [], ◌∷◌, ◌++◌, length, take, refl, sym, ap, ◌∙◌, subst, arith, append_assoc, length-append}
+use Rattle.std.proofs.Common.{◌≡◌, ℕ, ◌≤◌, List, [], ◌∷◌, ◌++◌, refl, sym, ap, ◌∙◌, subst, arith, append_assoc}
 use Rattle.std.specs.Option.{option_to_list}
-use Rattle.std.proofs.lemmas.List.{append-nil, take-append-le}
+use Rattle.std.proofs.lemmas.List.{append-nil}
 use Rattle.graph_model.specs.declared.event.Event.{Event}
 use Rattle.graph_model.specs.declared.event.Event.TheVariants.{Seal}
 use Rattle.graph_model.specs.declared.reply.Entry.{Entry}
 use Rattle.graph_model.specs.declared.reply.Refusal.TheVariants.{DiskFault, Stopped}
 use Rattle.graph_model.specs.declared.reply.Reply.{Reply}
 use Rattle.graph_model.specs.declared.reply.Reply.TheVariants.{Begun, Sealed, Aborted, Durable, Refused}
-use Rattle.graph_model.specs.Graph.{Graph}
-use Rattle.graph_model.specs.Transaction.{Transaction, serial}
-use Rattle.graph_model.specs.History.{Account, account, account_after, session_of, done, cut_short, answered, sealed, commits, acknowledged}
+use Rattle.graph_model.specs.Transaction.{Transaction}
+use Rattle.graph_model.specs.History.{Account, account, account_after, session_of, done, cut_short, answered, sealed, acknowledged}
 use Rattle.graph_model.specs.HistoryLaws.{account-append}
 use Rattle.heap_model.specs.Core.{Core, IsStep, IsRun}
-use Rattle.heap_model.specs.Opening.{next_of}
-use Rattle.heap_model.specs.CoreCrash.{IsSuperOf, KeepsCommits, HasCommits, HasAtLeast}
-use Rattle.heap_model.specs.CoreLawsCrash.{commits-sealed}
-use Rattle.heap_model.specs.CoreLawsRun.{step_history, same_run}
-use Rattle.heap_model.specs.CoreValid.{IsSound}
-use Rattle.heap_model.specs.Image.{StandsFor}
+use Rattle.heap_model.specs.CoreCrash.{KeepsCommits, HasAtLeast}
+use Rattle.heap_model.specs.CoreLawsRun.{step_history}
 
 -- Between two accounts nothing that was sealed is lost.
 abbrev Adds : Account → Account → Type 0
@@ -58,38 +53,6 @@ grows c d (event ∷ made) run =
       one.0 ++ rest.0,
       rest.1 ∙ ap (λ (l : List Transaction). l ++ rest.0) one.1 ∙ append_assoc (sealed c.history) one.0 rest.0,
     )
-
--- An image that stands for first commits does so after a run, and for as many.
-pub has_at_least_on : (c d : Core) (made : List Event) (least : ℕ) (image : List ℕ) → IsSound c → IsSound d → IsRun c made d → HasAtLeast c least image → HasAtLeast d least image
-has_at_least_on c d made least image from to run has =
-    let more = grows c d made run in
-    let same = same_run c d made run in
-    let all : commits d.history ≡ commits c.history ++ more.0 = commits-sealed d to ∙ more.1 ∙ ap (λ (l : List Transaction). l ++ more.0) (sym (commits-sealed c from)) in
-    let first : take has.count (commits d.history) ≡ take has.count (commits c.history) = ap (take has.count) all ∙ take-append-le has.count (commits c.history) more.0 has.some in
-    let graph : serial d.g0 (take has.count (commits d.history)) ≡ serial c.g0 (take has.count (commits c.history)) =
-    ap (λ (g : Graph). serial g (take has.count (commits d.history))) same.g0 ∙ ap (serial c.g0) first in
-    record {
-      count = has.count;
-      stands = subst (λ (n : ℕ). StandsFor (serial d.g0 (take has.count (commits d.history))) (n + has.count) image) (sym same.before)
-          (subst (λ (g : Graph). StandsFor g (c.before + has.count) image) (sym graph) has.stands);
-      enough = has.enough;
-      some = omega (arith, has.some, ap length all, length-append (commits c.history) more.0);
-    }
-
--- the same, however many
-pub has_commits_on : (c d : Core) (made : List Event) (image : List ℕ) → IsSound c → IsSound d → IsRun c made d → HasCommits c image → HasCommits d image
-has_commits_on c d made image from to run has =
-    let more = has_at_least_on c d made 0 image from to run (record { count = has.count; stands = has.stands; enough = omega arith; some = has.some }) in
-    record { count = more.count; stands = more.stands; some = more.some }
-
--- an image of first commits, whichever were acknowledged, stands for first commits
-pub keeps_has : (c : Core) (image : List ℕ) → KeepsCommits c image → HasCommits c image
-keeps_has c image keeps = record { count = keeps.0; stands = keeps.1.stands; some = keeps.1.some }
-
--- another image that stands for the same commits with the core's superblock keeps what that one kept
-pub keeps_as : (c : Core) (image : List ℕ) (keeps : KeepsCommits c image) (other : List ℕ) → (stands : StandsFor (serial c.g0 (take keeps.0 (commits c.history))) (c.before + keeps.0) other)
-    → IsSuperOf stands.super c → c.first ≤ next_of stands.super stands.batches → KeepsCommits c other
-keeps_as c image keeps other stands of next = (keeps.0, record { stands = stands; of = of; next = next; kept = keeps.1.kept; some = keeps.1.some })
 
 -- an image that keeps what was acknowledged has as many commits at least
 pub keeps_at_least : (c : Core) (image : List ℕ) → KeepsCommits c image → HasAtLeast c (acknowledged c.history) image

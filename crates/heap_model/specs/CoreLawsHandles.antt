@@ -15,7 +15,7 @@ use Rattle.graph_words.specs.MadeLaws.{own_visible}
 use Rattle.graph_words.specs.Area.{HasMade}
 use Rattle.graph_words.specs.Stands.{Stands}
 use Rattle.graph_words.specs.VisibleLaws.{more_at_hand}
-use Rattle.heap_model.specs.CoreValid.{HoldsAtHand}
+use Rattle.heap_model.specs.CoreTold.{HoldsAtHand}
 use Rattle.heap_model.specs.ListLaws.{AllByRecursion-set, AllByRecursion-at, AllByRecursion-map}
 
 -- all handles hold objects at hand

@@ -10,7 +10,7 @@ use Rattle.log_machine.specs.StateLaws.{commits-start}
 use Rattle.gated_log.specs.Log.{batches_bytes, records_of}
 use Rattle.graph_words.specs.Places.{Places}
 use Rattle.graph_words.specs.StandsSeen.{stands_walked, stands_seen, stands_own_births, stands_born_before}
-use Rattle.heap_model.specs.CoreValid.{IsTold}
+use Rattle.heap_model.specs.CoreTold.{IsTold}
 use Rattle.heap_model.specs.Image.{IsShapedLog, IsLegalLog, Says}
 
 module _ (s : Super) (batches : List (List Record)) (born : Bool) (places : Places) (g : Graph) (k : ℕ) (state : State) (limits : IsSuper s)

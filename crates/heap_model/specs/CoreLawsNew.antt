@@ -18,9 +18,9 @@ use Rattle.object_layout.specs.RootLaws.{StandsAlone, root_object, root_field_wo
 use Rattle.graph_words.specs.Places.{Places, address_of, place_of, IsVisible}
 use Rattle.graph_words.specs.PlacesLaws.{address_of-cases}
 use Rattle.graph_words.specs.Stands.{StandsAt, StandsCommitted, ArePlaced, AreNamedByBirth}
-use Rattle.graph_words.specs.StandsSeen.{stands_walked, stands_seen, stands_own_births, stands_born_before}
+use Rattle.graph_words.specs.StandsSeen.{stands_walked, stands_own_births, stands_born_before}
 use Rattle.graph_words.specs.VisibleLaws.{nulls_visible}
-use Rattle.heap_model.specs.Image.{words_of, IsLegalLog, Shows, Says}
+use Rattle.heap_model.specs.Image.{words_of, IsLegalLog}
 use Rattle.heap_model.specs.Opening.{IsFound}
 
 -- the root stands at the first word
@@ -114,11 +114,3 @@ module _ (s : Super) (limits : IsSuper s) where
   -- the root is found in it
   pub new_found : IsFound s [] new_legal.shaped true root_place new_graph
   new_found = record { stands = new_stand; placed = root_placed; old = (inl refl, tt); births = λ by_birth. new_births }
-
-  -- a new graph is seen in it
-  pub new_shows : Shows s [] new_legal new_graph
-  new_shows = stands_seen new_stand new_births
-
-  -- so that is what it says, with no commit
-  pub new_says : Says new_graph 0 s []
-  new_says = record { legal = new_legal; seen = new_graph; shows = new_shows; graph = refl; count = refl }

@@ -12,7 +12,7 @@ use Rattle.gated_log.specs.LogLaws.{holds_once}
 use Rattle.object_layout.specs.Layout.{id_at, IsSeen}
 use Rattle.object_layout.specs.SeenLaws.{seen_canon}
 use Rattle.heap_model.specs.Theorems.{OneMeaningTheorem}
-use Rattle.heap_model.specs.Image.{words_of, IsLegalLog, Holds, IsLegal, Says, StandsFor}
+use Rattle.heap_model.specs.Image.{words_of, IsLegalLog, Holds, IsLegal, Says}
 
 -- an image holds one superblock
 pub one_held : (s r : Super) (bs cs : List (List Record)) (image : List ℕ) → IsLegal s bs image → IsLegal r cs image → s ≡ r
@@ -53,12 +53,3 @@ one_graph g h k j image stands other =
     let same = one_held stands.super other.super stands.batches other.batches image
     (record { log = stands.says.legal; held = stands.held }) (record { log = other.says.legal; held = other.held }) in
     stands_at g h k j image stands.super other.super stands.batches other.batches same stands.says stands.held other.says other.held
-
--- an image that stands for a graph stands for each with its canon
-pub stands_as : (g h : Graph) (k : ℕ) (image : List ℕ) → canon g ≡ canon h → StandsFor g k image → StandsFor h k image
-stands_as g h k image same stands = record {
-  super = stands.super;
-  batches = stands.batches;
-  says = record { legal = stands.says.legal; seen = stands.says.seen; shows = stands.says.shows; graph = stands.says.graph ∙ same; count = stands.says.count };
-  held = stands.held;
-}

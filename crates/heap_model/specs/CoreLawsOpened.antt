@@ -1,27 +1,20 @@
 -- A core that was opened on a shaped log is reached, whatever graph stands in its words, under whatever names.
-use Rattle.std.proofs.Common.{◌≡◌, ◌⊎◌, inl, inr, ℕ, ◌+◌, ◌≤◌, Bool, true, false, List, [], ◌∷◌, max, Some, unwrap_or, refl, sym, ap, ◌∙◌, subst, arith}
-use Rattle.std.proofs.lemmas.List.{append-nil}
+use Rattle.std.proofs.Common.{◌≡◌, ◌⊎◌, inl, inr, ℕ, ◌+◌, ◌≤◌, true, false, List, [], ◌∷◌, max, Some, unwrap_or, refl, sym, ap, ◌∙◌, arith}
 use Rattle.std.proofs.lemmas.Option.{option_and_then_some}
 use Rattle.graph_model.specs.Graph.{Graph}
 use Rattle.image_plan.specs.declared.superblock.Super.{Super}
 use Rattle.log_records.specs.declared.Record.{Record}
 use Rattle.log_machine.specs.Machine.{State, start, after, after_all, number_of, commits}
-use Rattle.log_machine.specs.StateLaws.{turns, leads_after_all, room_after_all, commits-start}
-use Rattle.log_machine.specs.MapLaws.{entries_empty}
-use Rattle.log_machine.specs.AbortLaws.{settled}
-use Rattle.log_machine.specs.declared.UndoEntry.{UndoEntry}
+use Rattle.log_machine.specs.StateLaws.{turns, leads_after_all, room_after_all}
 use Rattle.gated_log.specs.Log.{records_of}
 use Rattle.object_layout.specs.Layout.{id_at}
 use Rattle.object_layout.specs.WalkedLaws.{gathered}
 use Rattle.graph_words.specs.Places.{Places, named_places, address_name}
-use Rattle.graph_words.specs.Stands.{StandsCommitted, AreNamedByBirth}
 use Rattle.graph_words.specs.StandsSeen.{stands_seen, stands_canon}
 use Rattle.graph_words.specs.WalkedStands.{gathered_placed, address_name-AreOld, address_name-KeepApart, id_at-KeepApart, walked_stands_by_address, walked_stands_by_birth, id_at-AreNamedByBirth, id_at-AreOld}
 use Rattle.heap_model.specs.CoreCrash.{KeepsCommits}
-use Rattle.heap_model.specs.CoreLawsOpening.{next_is, rolled_reached, rolled_good, rolled_room, rolled_shaped, rolled_says, words_of-rolled_back, settled_reserve}
-use Rattle.heap_model.specs.CoreLawsReplies.{hears_nothing}
-use Rattle.heap_model.specs.Theorems.{OpeningTheorem, SayingTheorem, SaysOn}
-use Rattle.heap_model.specs.CoreValid.{IsTold, IsValid, IsReached}
+use Rattle.heap_model.specs.CoreLawsOpening.{next_is, rolled_shaped, rolled_says}
+use Rattle.heap_model.specs.Theorems.{SayingTheorem, SaysOn}
 use Rattle.heap_model.specs.Image.{words_of, IsShapedLog, IsLegalLog, Holds, Shows, Says}
 use Rattle.heap_model.specs.Opening.{rolled_back, next_of, next_behind, opened, IsFound}
 
@@ -38,71 +31,6 @@ next_all s x (r ∷ rs) is = option_and_then_some (λ next. after_all next rs) (
 -- a transaction begun behind an opening has the greater of the heap's first number and one more than the greatest in the log
 pub next_pinned : (s : Super) (batches : List (List Record)) → IsShapedLog s batches → next_of s batches ≡ next_behind s.first (records_of batches)
 next_pinned s batches shaped = next_is s batches shaped ∙ next_all (start s.pages s.first) shaped.state (records_of batches) shaped.reached
-
--- The core.
-
-module _ (s : Super) (batches : List (List Record)) (shaped : IsShapedLog s batches) (born : Bool) (places : Places) (g : Graph) (found : IsFound s batches shaped born places g) where
-  behind_base : shaped.state.base ≡ 0
-  behind_base = (leads_after_all (start s.pages s.first) shaped.state (records_of batches) shaped.reached).base
-
-  opened_told : IsTold s.pages s.first born places g (commits (records_of batches) + 0) (records_of (rolled_back s batches)) (settled shaped.state)
-  opened_told =
-      let count = commits-start s.pages s.first shaped.state (records_of batches) shaped.reached in
-      let same = sym (words_of-rolled_back s batches shaped) in
-      record {
-        good = rolled_good s batches shaped;
-        reached = rolled_reached s batches shaped;
-        count = omega arith;
-        base = behind_base;
-        stands = subst (λ ws. StandsCommitted places g ws shaped.state.base shaped.state.used) same found.stands;
-        old = found.old;
-        births = λ by_birth. subst (AreNamedByBirth places) same (found.births by_birth);
-      }
-
-  opened_valid : IsValid (opened s batches born places g)
-  opened_valid =
-      let to = leads_after_all (start s.pages s.first) shaped.state (records_of batches) shaped.reached in
-      let next = next_is s batches shaped in
-      let some_first = shaped.limits.some_first in
-      let small_first = shaped.limits.small_first in
-      let grows = to.grows in
-      let fits = to.next_in_range (omega arith) in
-      let room = rolled_room s batches shaped in
-      let none = settled_reserve shaped.state in
-      record {
-        unfailed = refl;
-        certain = refl;
-        idle = λ session other. refl;
-        some_pages = shaped.limits.some_pages;
-        few_pages = shaped.limits.few_pages;
-        some_first = omega arith;
-        next_fits = omega arith;
-        numbered = tt;
-        durable = 0;
-        sealed_first = omega arith;
-        acknowledged_last = omega arith;
-        on_disk = settled shaped.state;
-        disk_places = places;
-        disk_told = opened_told;
-        first_known = omega arith;
-        disk_room = omega arith;
-        behind = settled shaped.state;
-        told = subst (λ rs. IsTold s.pages s.first born places g (commits (records_of batches) + 0) rs (settled shaped.state)) (sym (append-nil (records_of (rolled_back s batches)))) opened_told;
-        next_known = omega arith;
-        writer = entries_empty (List UndoEntry);
-        room = omega arith;
-      }
-
-  -- A core that was opened on a shaped log is reached.
-  pub opened_reached : IsReached (opened s batches born places g)
-  opened_reached = record { sound = inl opened_valid; answers = hears_nothing g }
-
--- A heap that is opened on any shaped log goes on.
-pub opening_law : OpeningTheorem
-opening_law s batches shaped born places g found = record {
-  reached = opened_reached s batches shaped born places g found;
-  next = next_pinned s batches shaped;
-}
 
 -- What a legal log says.
 

@@ -10,11 +10,11 @@ use Rattle.log_machine.specs.declared.UndoEntry.{UndoEntry}
 use Rattle.log_machine.specs.Machine.{State, Loser, start, after_all, words, committed_words, commits, losing, abort_each, rollback, reserve, undo_bytes}
 use Rattle.log_machine.specs.ListLaws.{AllByRecursion-append}
 use Rattle.log_machine.specs.MapLaws.{entries_empty}
-use Rattle.log_machine.specs.MachineLaws.{after_all-append2, words-append, commits-append}
+use Rattle.log_machine.specs.MachineLaws.{after_all-append2, commits-append}
 use Rattle.log_machine.specs.StateLaws.{can_roll_back}
 use Rattle.log_machine.specs.Sound.{CanRollBack}
-use Rattle.log_machine.specs.AbortLaws.{settled, rollback_reaches, rollback_words, rollback_commits, rollback_fits, rollback_good}
-use Rattle.log_machine.specs.CommittedLaws.{committed_words_at, committed_words-rollback}
+use Rattle.log_machine.specs.AbortLaws.{settled, rollback_reaches, rollback_commits, rollback_fits, rollback_good}
+use Rattle.log_machine.specs.CommittedLaws.{committed_words-rollback}
 use Rattle.gated_log.specs.Log.{batches_bytes, records_of}
 use Rattle.object_layout.specs.Layout.{IsSeen}
 use Rattle.object_layout.specs.Walk.{IsWalked, HaveOwnBirths, AreBornBefore}
@@ -73,14 +73,6 @@ module _ (s : Super) (batches : List (List Record)) (shaped : IsShapedLog s batc
       ap (λ (l : List Record). after_all (start s.pages s.first) l) rolled_records
       ∙ after_all-append2 (start s.pages s.first) shaped.state rs taken shaped.reached
       ∙ rollback_reaches shaped.state can.sound
-
-  -- it leaves the words without the writes of transactions that have not ended
-  pub rolled_words : words s.pages (records_of (rolled_back s batches)) ≡ words_of s batches
-  rolled_words =
-      ap (words s.pages) rolled_records
-      ∙ words-append s.pages rs taken
-      ∙ rollback_words shaped.state (words s.pages rs)
-      ∙ sym (committed_words_at shaped.state s.pages s.first rs shaped.reached)
 
   -- and no others are to be taken from these
   pub words_of-rolled_back : words_of s (rolled_back s batches) ≡ words_of s batches

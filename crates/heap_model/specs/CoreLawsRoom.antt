@@ -1,11 +1,10 @@
 -- Laws of the log's room: what records take, and when the log has room for an event.
-use Rattle.std.proofs.Common.{◌≡◌, sym, ◌≢◌, ℕ, ◌+◌, ◌≤◌, Bool, true, false, cond, List, [], ◌∷◌, ◌++◌, length, Some, None, refl, ap, ◌∙◌, arith, length-append}
+use Rattle.std.proofs.Common.{◌≡◌, sym, ℕ, ◌+◌, ◌≤◌, Bool, true, false, cond, List, [], ◌∷◌, ◌++◌, length, Some, None, refl, ap, ◌∙◌, arith, length-append}
 use Rattle.std.specs.Prelude.{nat_lt}
 use Rattle.std.specs.Int.{w32, to_le_bytes}
 use Rattle.std.proofs.lemmas.Bool.{le-ltb, ltb-false}
 use Rattle.std.proofs.lemmas.List.{append-nil}
 use Rattle.std.proofs.lemmas.Grind.{flat_map-append}
-use Rattle.graph_model.specs.History.{Account}
 use Rattle.graph_model.specs.declared.reply.Refusal.{Refusal}
 use Rattle.graph_model.specs.declared.reply.Refusal.TheVariants.{LogFull}
 use Rattle.log_records.specs.declared.Record.{Record}
@@ -14,8 +13,7 @@ use Rattle.log_machine.specs.Machine.{abort_records, undo_bytes}
 use Rattle.log_machine.specs.AbortLaws.{abort_length}
 use Rattle.log_records.specs.Record.{spelling, spellings}
 use Rattle.gated_log.specs.Log.{framed, batch, batches_bytes, records_of, hand, with_batch}
-use Rattle.heap_model.specs.ListLaws.{sum-first}
-use Rattle.heap_model.specs.Core.{Core, need, sessions, kept_for, reserved, full_log, forced}
+use Rattle.heap_model.specs.Core.{Core, need, full_log, forced}
 
 -- the records of batches with one more
 pub records_of-append : (bs : List (List Record)) (b : List Record) → records_of (bs ++ b ∷ []) ≡ records_of bs ++ b
@@ -68,11 +66,6 @@ no_room false why e = refl
 -- a log that isn't full has that much room
 pub full_log-room : (room used more kept : ℕ) → full_log room used more kept ≡ None → used + more + kept ≤ room
 full_log-room room used more kept e = ltb-false room (used + more + kept) (no_room (nat_lt room (used + more + kept)) (LogFull used more kept) e)
-
--- what is kept is kept for the one session that has a transaction
-pub reserved-one : (undo : ℕ → List UndoEntry) (a : Account) → ((s : ℕ) → s ≢ 1 → a.active s ≡ None) → reserved undo a ≡ kept_for undo (a.active 1)
-unfolding sessions
-reserved-one undo a idle = sum-first (λ s. kept_for undo (a.active s)) 1 31 (λ s other. ap (kept_for undo) (idle s other))
 
 -- what the records take that take writes back and end their transaction, with a batch's gate and length where none waits
 pub need-abort_records : (pending : List Record) (t : ℕ) (us : List UndoEntry) → need pending (abort_records t us) ≤ undo_bytes us

@@ -4,9 +4,9 @@ use Rattle.std.specs.List.{flat_map}
 use Rattle.graph_model.specs.declared.event.Event.{Event}
 use Rattle.graph_model.specs.declared.event.Event.TheVariants.{Abort, Force}
 use Rattle.graph_model.specs.Transaction.{Transaction}
-use Rattle.graph_model.specs.History.{account}
+use Rattle.graph_model.specs.History.{account, sessions}
 use Rattle.log_records.specs.declared.Record.{Record}
-use Rattle.heap_model.specs.Core.{Core, sessions}
+use Rattle.heap_model.specs.Core.{Core}
 use Rattle.heap_model.specs.CoreRuns.{after_events}
 
 -- the abort of a session's transaction, if it has one

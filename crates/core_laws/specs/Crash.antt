@@ -11,16 +11,19 @@ use Rattle.gated_log.specs.Log.{batches_bytes, records_of}
 use Rattle.log_machine.specs.Machine.{State, reserve}
 use Rattle.graph_words.specs.Places.{Places}
 use Rattle.heap_model.specs.Core.{Core}
-pub use Rattle.heap_model.specs.CoreCrash.{IsOnDisk, IsSuperOf}
-use Rattle.heap_model.specs.CoreValid.{IsTold, IsSound}
-use Rattle.heap_model.specs.CoreLawsGoes.{undo_fits, known_on}
-use Rattle.heap_model.specs.CoreLawsGranted.{all_on_disk}
+use Rattle.heap_model.specs.CoreCrash.{IsOnDisk, IsSuperOf}
+use Rattle.heap_model.specs.CoreTold.{IsTold}
+use Rattle.heap_model.specs.CoreLawsGoes.{told_sound}
 use Rattle.heap_model.specs.CoreLawsLegal.{told_says, told_shaped}
 use Rattle.heap_model.specs.CoreLawsRoom.{records_of-with_batch, length-with_batch}
-use Rattle.heap_model.specs.CoreLawsRun.{sound_agrees}
 use Rattle.heap_model.specs.Image.{IsShapedLog, Says}
 use Rattle.heap_model.specs.Opening.{next_of, next_in}
-use Rattle.heap_model.specs.Theorems.{CrashTheorem}
+use Rattle.core_laws.specs.Goes.{known_on}
+use Rattle.core_laws.specs.GrantedEnds.{all_on_disk}
+use Rattle.core_laws.specs.Reserved.{reserve_reserved}
+use Rattle.core_laws.specs.Sound.{sound_agrees}
+use Rattle.core_laws.specs.Theorems.{CrashTheorem}
+use Rattle.core_laws.specs.Valid.{IsSound}
 
 -- Records tell the first k commits of a core since its opening, and all that was acknowledged is among them; the log has room to
 -- take back what else they hold.
@@ -69,7 +72,7 @@ tell_first c batches h (inr is) =
     let told = all_on_disk a c batches b (ap records_of is ∙ records_of-with_batch c.batches c.pending) in
     let size = ap (λ (bs : List (List Record)). length (batches_bytes bs)) is in
     let whole = length-with_batch c.batches c.pending in
-    let fits = undo_fits a c b in
+    let fits = reserve_reserved a b.behind b.in_sessions (told_sound b.told) b.losers in
     let room = b.room in
     let known = known_on a c b in
     (all, tell_sealed c all batches c.places b.behind h told (omega arith) known (omega arith) (omega arith))

@@ -1,24 +1,27 @@
--- What a reached core says of the records and words in memory.
-use Rattle.std.proofs.Common.{◌≡◌, ◌≢◌, Some, None, sym, ap, ◌∙◌, subst, append_assoc}
+-- What a sound core says of the records and words in memory.
+use Rattle.std.proofs.Common.{◌≡◌, ◌≢◌, ℕ, Some, None, sym, ap, ◌∙◌, subst, append_assoc}
 use Rattle.graph_model.specs.declared.event.Event.{Event}
 use Rattle.graph_model.specs.declared.event.Event.TheVariants.{Force}
 use Rattle.graph_model.specs.Transaction.{Transaction, serial}
 use Rattle.graph_model.specs.History.{account, account_after, sealed}
+use Rattle.graph_model.specs.Locking.{locks_of}
 use Rattle.graph_model.specs.Plain as Plain
 use Rattle.graph_model.specs.Plain.{view}
-use Rattle.graph_model.specs.SlowHeap.{IsSingleSession}
+use Rattle.graph_model.specs.SlowHeap.{IsOfSession}
 use Rattle.gated_log.specs.Log.{records_of}
-use Rattle.log_machine.specs.Machine.{State, start, after_all, words, committed_words}
+use Rattle.log_machine.specs.CommittedLaws.{committed_words_at}
+use Rattle.log_machine.specs.Machine.{State, start, after_all, words, all_taken_back, committed_words}
 use Rattle.log_machine.specs.MachineLaws.{after_all-append2}
 use Rattle.graph_words.specs.Stands.{StandsCommitted}
 use Rattle.graph_words.specs.StandsSeen.{stands_seen_at}
 use Rattle.graph_words.specs.Places.{name_at}
 use Rattle.object_layout.specs.Layout.{IsSeenAs}
 use Rattle.heap_model.specs.Core.{Core, next_number, all_records, event_records, core_refusal}
-use Rattle.heap_model.specs.CoreLawsGoes.{writer_as}
-use Rattle.heap_model.specs.CoreLawsRun.{sound_agrees}
-use Rattle.heap_model.specs.CoreLawsStep.{may_go, goes, done_records}
-use Rattle.heap_model.specs.CoreValid.{Agrees, IsWriting, IsValid, IsSound}
+use Rattle.core_laws.specs.Events.{done_records}
+use Rattle.core_laws.specs.Goes.{writing_of}
+use Rattle.core_laws.specs.Sound.{sound_agrees}
+use Rattle.core_laws.specs.Step.{may_go, goes}
+use Rattle.core_laws.specs.Valid.{RunsLocked, IsWriting, Agrees, IsValid, IsSound}
 
 module _ (c : Core) (sound : IsSound c) where
   -- the state behind all records
@@ -33,7 +36,11 @@ module _ (c : Core) (sound : IsSound c) where
   pub core_base : core_state.base ≡ 0
   core_base = (sound_agrees c sound).told.base
 
-  -- the graph of the sealed transactions stands in the words without the writes of an active one
+  -- the words without the writes of active transactions
+  pub core_committed : committed_words c.pages c.lowest (all_records c) ≡ all_taken_back core_state (words c.pages (all_records c))
+  core_committed = committed_words_at core_state c.pages c.lowest (all_records c) core_reached
+
+  -- the graph of the sealed transactions stands in the words without the writes of active ones
   pub core_stands : StandsCommitted c.places (serial c.g0 (sealed c.history)) (committed_words c.pages c.lowest (all_records c)) core_state.base core_state.used
   core_stands = (sound_agrees c sound).told.stands
 
@@ -41,15 +48,16 @@ module _ (c : Core) (sound : IsSound c) where
   pub core_seen : IsSeenAs (name_at c.places) (committed_words c.pages c.lowest (all_records c)) 0 (serial c.g0 (sealed c.history))
   core_seen = subst (λ base. IsSeenAs (name_at c.places) (committed_words c.pages c.lowest (all_records c)) base (serial c.g0 (sealed c.history))) core_base (stands_seen_at core_stands)
 
-  -- what the active transaction sees stands in the words with its writes, and in its area
-  pub core_writing : (t : Transaction) → (account c.history).active 1 ≡ Some t → IsWriting c.places (view c.g0 (account c.history) t) t.number (words c.pages (all_records c)) core_state
-  core_writing t e = writer_as _ c (Some t) e (sound_agrees c sound)
+  -- what a session's transaction sees stands in the words without the writes of the others, and in its area
+  pub core_writing : (s : ℕ) (t : Transaction) → (account c.history).active s ≡ Some t
+      → IsWriting c.places (view c.g0 (account c.history) t) t.number (locks_of (serial c.g0 (sealed c.history)) t) (words c.pages (all_records c)) core_state
+  core_writing s t e = writing_of _ c s t e (sound_agrees c sound)
 
 -- the records that a granted event appends follow those before them
-pub event_follows : (c : Core) (event : Event) → (valid : IsValid c) → IsSingleSession event → core_refusal c event ≡ None → event ≢ Force
+pub event_follows : (c : Core) (event : Event) → (valid : IsValid c) → RunsLocked c.g0 c.first c.history → IsOfSession event → core_refusal c event ≡ None → event ≢ Force
     → (state : State) × (after_all valid.behind (event_records c event) ≡ Some state)
-event_follows c event valid one granted other =
-    let next = goes c event valid one (may_go c event valid granted) in
+event_follows c event valid runs one granted other =
+    let next = goes c event valid runs one (may_go c event valid.unfailed granted) in
     let left = subst (λ (d : Core). Agrees (account_after (account c.history) (record { event = event; reply = Plain.granted (next_number c) c.g0 (account c.history) event })) d) (done_records c event other) next in (
       left.behind,
       sym (after_all-append2 (start c.pages c.lowest) valid.behind (all_records c) (event_records c event) valid.told.reached)

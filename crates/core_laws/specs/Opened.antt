@@ -1,0 +1,119 @@
+-- A core that was opened on a shaped log is reached, whatever graph stands in its words, under whatever names.
+use Rattle.std.proofs.Common.{◌≡◌, ℕ, ◌+◌, ◌≤◌, inl, Bool, List, [], ◌∷◌, ◌++◌, Option, Some, None, refl, sym, subst, arith}
+use Rattle.std.specs.Prelude.{sum_by}
+use Rattle.std.proofs.lemmas.List.{append-nil}
+use Rattle.std.proofs.lemmas.List.Sums.{sum_by-cons}
+use Rattle.std.specs.FinMap.{get}
+use Rattle.graph_model.specs.declared.val.Val.{Val}
+use Rattle.graph_model.specs.Graph.{Graph}
+use Rattle.graph_model.specs.ClosedGraph.{AreBelow, IsUnused}
+use Rattle.graph_model.specs.History.{nothing_yet, sessions}
+use Rattle.image_plan.specs.declared.superblock.Super.{Super}
+use Rattle.log_records.specs.declared.Record.{Record}
+use Rattle.log_machine.specs.AbortLaws.{settled}
+use Rattle.log_machine.specs.Machine.{start, commits, undo_of}
+use Rattle.log_machine.specs.MapLaws.{each_empty}
+use Rattle.log_machine.specs.StateLaws.{leads_after_all, commits-start}
+use Rattle.log_machine.specs.declared.UndoEntry.{UndoEntry}
+use Rattle.gated_log.specs.Log.{records_of}
+use Rattle.commit_order.specs.PlaceLaws.{nothing_two_phase}
+use Rattle.graph_words.specs.Places.{Places}
+use Rattle.graph_words.specs.Stands.{AreNamedByBirth, StandsCommitted}
+use Rattle.graph_words.specs.StandsClosed.{stands_closed, placed_below}
+use Rattle.heap_model.specs.CoreLawsOpening.{next_is, rolled_reached, rolled_good, rolled_room, words_of-rolled_back, settled_reserve}
+use Rattle.heap_model.specs.CoreTold.{IsTold}
+use Rattle.heap_model.specs.Core.{kept_for}
+use Rattle.heap_model.specs.Image.{IsShapedLog}
+use Rattle.heap_model.specs.Opening.{rolled_back, next_of, opened, IsFound}
+use Rattle.core_laws.specs.Valid.{IsActive, RunsLocked, IsValid, IsReached}
+
+-- where each object is below a number, none is of a transaction from it on
+pub below_unused : (g : Graph) (next n : ℕ) → AreBelow g next → next ≤ n → IsUnused g n
+below_unused g next n below more id maker = none_there (get g id) refl where
+  none_there : (o : Option (List Val)) → get g id ≡ o → get g id ≡ None
+  none_there None is = is
+  none_there (Some vs) is = absurd (omega (arith, below id (vs, is), maker))
+
+no_entry : {X : Type 0} (xs : List X) (y : X) (ys : List X) → [] ≡ xs ++ y ∷ ys → ⊥
+no_entry [] y ys is = cc
+no_entry (x ∷ xs) y ys is = cc
+
+-- nothing is kept where no transaction is active
+none_kept : (undo : ℕ → List UndoEntry) (ss : List ℕ) → sum_by (λ s. kept_for undo (nothing_yet.active s)) ss ≡ 0
+none_kept undo [] = refl
+none_kept undo (s ∷ ss) =
+    let more = sum_by-cons (λ s. kept_for undo (nothing_yet.active s)) s ss in
+    let rest = none_kept undo ss in
+    omega arith
+
+module _ (s : Super) (batches : List (List Record)) (shaped : IsShapedLog s batches) (born : Bool) (places : Places) (g : Graph) (found : IsFound s batches shaped born places g) where
+  opened_told : IsTold s.pages s.first born places g (commits (records_of batches) + 0) (records_of (rolled_back s batches)) (settled shaped.state)
+  opened_told =
+      let count = commits-start s.pages s.first shaped.state (records_of batches) shaped.reached in
+      let same = sym (words_of-rolled_back s batches shaped) in
+      record {
+        good = rolled_good s batches shaped;
+        reached = rolled_reached s batches shaped;
+        count = omega arith;
+        base = (leads_after_all (start s.pages s.first) shaped.state (records_of batches) shaped.reached).base;
+        stands = subst (λ ws. StandsCommitted places g ws shaped.state.base shaped.state.used) same found.stands;
+        old = found.old;
+        births = λ by_birth. subst (AreNamedByBirth places) same (found.births by_birth);
+      }
+
+  -- the core is valid
+  pub opened_valid : IsValid (opened s batches born places g)
+  opened_valid =
+      let to = leads_after_all (start s.pages s.first) shaped.state (records_of batches) shaped.reached in
+      let next = next_is s batches shaped in
+      let some_first = shaped.limits.some_first in
+      let small_first = shaped.limits.small_first in
+      let grows = to.grows in
+      let fits = to.next_in_range (omega arith) in
+      let room = rolled_room s batches shaped in
+      let none = settled_reserve shaped.state in
+      let kept = none_kept (undo_of (settled shaped.state)) sessions in
+      record {
+        unfailed = refl;
+        certain = refl;
+        in_sessions = λ session t is. cc;
+        some_pages = shaped.limits.some_pages;
+        few_pages = shaped.limits.few_pages;
+        some_first = omega arith;
+        next_fits = omega arith;
+        numbered = λ session. tt;
+        durable = 0;
+        sealed_first = omega arith;
+        acknowledged_last = omega arith;
+        on_disk = settled shaped.state;
+        disk_places = places;
+        disk_told = opened_told;
+        first_known = omega arith;
+        disk_room = omega arith;
+        behind = settled shaped.state;
+        told = subst (λ rs. IsTold s.pages s.first born places g (commits (records_of batches) + 0) rs (settled shaped.state)) (sym (append-nil (records_of (rolled_back s batches)))) opened_told;
+        next_known = omega arith;
+        losers = each_empty (λ q us. IsActive nothing_yet q);
+        writers = λ session. tt;
+        room = omega arith;
+      }
+
+  -- no transaction to come can give a name that an object has
+  opened_unused : (n : ℕ) → next_of s batches ≤ n → IsUnused g n
+  opened_unused n more =
+      let next = next_is s batches shaped in
+      let grows = (leads_after_all (start s.pages s.first) shaped.state (records_of batches) shaped.reached).grows in
+      let some_first = shaped.limits.some_first in
+      below_unused g shaped.state.next n (placed_below places g shaped.state.next found.placed found.old (omega arith)) (omega arith)
+
+  opened_locked : RunsLocked g (next_of s batches) []
+  opened_locked = record {
+    two_phase = nothing_two_phase g (stands_closed found.stands found.placed);
+    fails = λ before e after is. absurd (no_entry before e after is);
+    begun_below = λ n there. absurd (omega (arith, there.1));
+    unused = opened_unused;
+  }
+
+  -- A core that was opened on a shaped log is reached.
+  pub opened_reached : IsReached (opened s batches born places g)
+  opened_reached = record { sound = inl opened_valid; locked = opened_locked }

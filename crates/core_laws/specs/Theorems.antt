@@ -1,0 +1,85 @@
+-- The theorems on the core of a heap whose sessions run side by side, and the files that prove their parts.
+--
+-- The steps, `StepsTheorem`. Whichever sessions make the events, and whichever event the disk cuts short, the core that they leave agrees with
+-- its history, and its transactions ran under strict two-phase locking.
+--   Valid                                          what holds of every core that is reached
+--   Apart, OthersLaws, Others                      transactions side by side write fields of different objects: none changes what another sees
+--   Sessions, Reserved                             what changes with one session: the transactions, and the room that is kept for their ends
+--   Told, Goes                                     what records tell with those of one event more, and what it takes for a core to go on
+--   Granted, GrantedWrites, GrantedEnds            each event leaves a core that agrees with its history,
+--   SealWords, SealTold, SealBeside, Beside, Seal  a seal too, which promotes what has become reachable
+--   Events, Step                                   so each event that is not refused does, by its form
+--   TwoPhase                                       each step refuses conflicts, and answers by what the transaction sees
+--   Sound, Run, Calls                              so steps reach such cores, those too that the disk cuts short: `steps_law`
+--
+-- The crash, `CrashTheorem`. Wherever a crash comes, the image is legal and stands for the graph that the first k committed
+-- transactions give when run one after another in the order of their seals, and k counts all that were acknowledged.
+--   Crash                                          the log on the disk is legal and says the first commits: `crash_law`
+--   Grow                                           an image of first commits stays one while the history grows
+-- That an image stands for one graph and one number of commits is `one_graph` of heap_model.
+--
+-- The replies, `RepliesTheorem`. Each committed transaction had, for its calls that were not refused, the replies of that serial run.
+--   Replies                                        `replies_law`, from the commit order of strict two-phase locking
+--
+-- The opening, `OpeningTheorem` and `AgainTheorem`. A heap that is opened on any shaped log goes on, and opened on what a crash left of a
+-- core it goes on from that core's first commits. That a legal log says its graph is `saying_law` of heap_model.
+--   Opened                                         the core that is opened is reached
+--   Again                                          `opening_law` and `opened_again`
+--
+-- Aborting and Ending are on the events that end a run, and CoreGraph and TakenBack are on what is in memory.
+use Rattle.std.specs.Prelude.{◌≡◌, ℕ, ◌+◌, ◌≤◌, Bool, true, IsTrue, List, length, take}
+use Rattle.std.specs.List.{AllByRecursion}
+use Rattle.graph_model.specs.declared.event.Event.{Event}
+use Rattle.graph_model.specs.SlowHeap.{IsOfSession}
+use Rattle.graph_model.specs.Canon.{canon}
+use Rattle.graph_model.specs.Graph.{Graph}
+use Rattle.graph_model.specs.History.{commits, acknowledged}
+use Rattle.graph_model.specs.Transaction.{serial, serial_replies}
+use Rattle.gated_log.specs.Log.{records_of}
+use Rattle.image_plan.specs.declared.superblock.Super.{Super}
+use Rattle.log_records.specs.declared.Record.{Record}
+use Rattle.commit_order.specs.Heard.{replies_of_commits}
+use Rattle.heap_model.specs.Core.{Core, IsRun}
+use Rattle.heap_model.specs.CoreCrash.{IsOnDisk, IsSuperOf, KeepsCommits}
+use Rattle.heap_model.specs.Image.{IsShapedLog, IsLegalLog, Holds}
+use Rattle.heap_model.specs.Opening.{next_behind, opened, IsFound}
+use Rattle.graph_words.specs.Places.{Places}
+use Rattle.core_laws.specs.Valid.{IsReached, IsSound}
+
+-- Events of sessions side by side reach a core from a core, whichever of them the disk cuts short.
+abbrev pub StepsTheorem : Type 0
+StepsTheorem = (c d : Core) (events : List Event) → IsReached c → AllByRecursion IsOfSession events → IsRun c events d → IsReached d
+
+-- Each image that holds what a crash leaves of a core keeps its commits, where births give the names. A core that is reached is sound.
+abbrev pub CrashTheorem : Type 0
+CrashTheorem = (c : Core) (s : Super) (batches : List (List Record)) → IsSound c → IsTrue c.born → IsOnDisk c batches → IsSuperOf s c → (image : List ℕ) → Holds s batches image → KeepsCommits c image
+
+-- The calls of each commit had the replies of the serial run, in which the commits follow one another in the order of their seals.
+abbrev pub RepliesTheorem : Type 0
+RepliesTheorem = (c : Core) → IsReached c → replies_of_commits c.history ≡ serial_replies c.g0 (commits c.history)
+
+-- What holds of an opening where the log held these batches and this graph stands at these places.
+pub record Opens (s : Super) (batches : List (List Record)) (born : Bool) (places : Places) (g : Graph) : Type 0 where
+  pub reached : IsReached (opened s batches born places g)
+  pub next : (opened s batches born places g).first ≡ next_behind s.first (records_of batches)  -- the number of the next transaction
+
+-- A heap that is opened on any shaped log goes on, under any names of its objects.
+abbrev pub OpeningTheorem : Type 0
+OpeningTheorem =
+    (s : Super) (batches : List (List Record)) (shaped : IsShapedLog s batches) (born : Bool) (places : Places) (g : Graph)
+    → IsFound s batches shaped born places g → Opens s batches born places g
+
+-- A core d goes on where a crash left the first k commits of c since its opening, and all that was acknowledged is among them.
+pub record GoesOnFrom (c : Core) (k : ℕ) (d : Core) : Type 0 where
+  pub reached : IsReached d
+  pub graph : canon d.g0 ≡ canon (serial c.g0 (take k (commits c.history)))
+  pub before : d.before ≡ c.before + k
+  pub kept : acknowledged c.history ≤ k
+  pub some : k ≤ length (commits c.history)
+
+-- A heap that is opened again on what a crash left of a core goes on from its first commits. So it may crash and go on any number of times.
+abbrev pub AgainTheorem : Type 0
+AgainTheorem =
+    (c : Core) (s : Super) (batches : List (List Record)) (places : Places) (g : Graph) → IsReached c → IsTrue c.born → IsSuperOf s c → IsOnDisk c batches
+    → (legal : IsLegalLog s batches) → IsFound s batches legal.shaped true places g
+    → (k : ℕ) × GoesOnFrom c k (opened s batches true places g)

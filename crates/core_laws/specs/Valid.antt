@@ -1,0 +1,110 @@
+-- What holds of every core that the events of sessions side by side reach from an opening.
+use Rattle.std.specs.Prelude.{◌≡◌, ◌≢◌, ◌⊎◌, ℕ, ◌+◌, ◌<◌, ◌≤◌, List, length, take, Option, None, Some}
+use Rattle.std.specs.List.{AllByRecursion, Contains}
+use Rattle.graph_model.specs.declared.id.Id.{Id}
+use Rattle.graph_model.specs.declared.reply.Entry.{Entry}
+use Rattle.graph_model.specs.Graph.{Graph}
+use Rattle.graph_model.specs.ClosedGraph.{IsUnused}
+use Rattle.graph_model.specs.Transaction.{View, Transaction, serial}
+use Rattle.graph_model.specs.History.{Account, AreInSessions, account}
+use Rattle.graph_model.specs.Locking.{Exclusive, Lock, locks_of}
+use Rattle.graph_model.specs.Plain.{view, no_number}
+use Rattle.commit_order.specs.OrderLaws.{IsBeside}
+use Rattle.commit_order.specs.SerialOrder.{EachEntry, EndsWithFailure, IsTwoPhase, numbers_begun}
+use Rattle.log_machine.specs.declared.UndoEntry.{UndoEntry}
+use Rattle.log_machine.specs.Apart.{others_taken_back}
+use Rattle.log_machine.specs.Machine.{State, words, undo_of, reserve}
+use Rattle.log_machine.specs.MapLaws as maps
+use Rattle.gated_log.specs.Log.{records_of, batches_bytes}
+use Rattle.graph_words.specs.Places.{Places, address_of}
+use Rattle.graph_words.specs.Area.{HasMade}
+use Rattle.graph_words.specs.Stands.{Stands, AreWritten, AreOfFields}
+use Rattle.heap_model.specs.Core.{Core, all_records, used, reserved}
+use Rattle.heap_model.specs.CoreTold.{IsTold, HoldsAtHand, IsNumbered}
+
+-- A write of a field of an object that is locked exclusively.
+pub record IsLocked (places : Places) (locks : List Lock) (u : UndoEntry) : Type 0 where
+  pub id : Id
+  pub object : address_of places id ≡ Some u.object
+  pub lock : Contains locks (id, Exclusive)
+
+-- each of these writes is such
+abbrev pub AreLocked : Places → List Lock → List UndoEntry → Type 0
+AreLocked places locks undo = AllByRecursion (IsLocked places locks) undo
+
+-- What a transaction with these locks sees stands in the words when the writes of all others are taken back, and in its area.
+pub record IsWriting (places : Places) (v : View) (t : ℕ) (locks : List Lock) (words : List ℕ) (state : State) : Type 0 where
+  pub stands : Stands t v.made places v.graph (others_taken_back state t words) state.base state.used
+  pub made : HasMade places v.graph t v.made
+  pub written : AreWritten places v.graph (undo_of state t)
+  pub fields : AreOfFields places v.graph (undo_of state t)
+  pub locked : AreLocked places locks (undo_of state t)
+  pub handles : AllByRecursion (HoldsAtHand places t v.made) v.registers
+
+-- so does what a session's transaction sees, if it has one
+abbrev pub IsWriter : Places → Graph → Account → Option Transaction → List ℕ → State → Type 0
+IsWriter places g0 a None words state = Unit {0}
+IsWriter places g0 a (Some t) words state = IsWriting places (view g0 a t) t.number (locks_of (serial g0 a.sealed) t) words state
+
+-- A transaction of that number is active.
+pub record IsActive (a : Account) (n : ℕ) : Type 0 where
+  pub session : ℕ
+  pub transaction : Transaction
+  pub active : a.active session ≡ Some transaction
+  pub number : transaction.number ≡ n
+
+-- the transactions of two sessions have different numbers, and hold nothing in conflict
+abbrev pub AreBeside : Graph → Account → Type 0
+AreBeside g0 a = (s r : ℕ) (t u : Transaction) → s ≢ r → a.active s ≡ Some t → a.active r ≡ Some u → IsBeside (serial g0 a.sealed) t u
+
+-- A core agrees with what its history says.
+pub record Agrees (a : Account) (c : Core) : Type 0 where
+  pub unfailed : a.failed ≡ None  -- the disk has done what it was asked
+  pub certain : a.in_doubt ≡ None  -- a seal asks nothing of the disk
+  pub in_sessions : AreInSessions a
+  pub some_pages : 1 ≤ c.pages
+  pub few_pages : c.pages ≤ 16384
+  pub some_first : 1 ≤ c.first
+  pub next_fits : c.first + a.begun ≤ no_number
+  pub numbered : (s : ℕ) → IsNumbered (c.first + a.begun) (a.active s)
+  pub durable : ℕ  -- how many commits since the opening are on the disk
+  pub sealed_first : durable ≤ length a.sealed
+  pub acknowledged_last : a.acknowledged ≤ durable  -- what was answered `durable` is
+  pub on_disk : State
+  pub disk_places : Places
+  pub disk_told : IsTold c.pages c.lowest c.born disk_places (serial c.g0 (take durable a.sealed)) (c.before + durable) (records_of c.batches) on_disk  -- the disk tells those commits
+  pub first_known : c.first ≤ on_disk.next  -- an opening of it goes on with no number below the first of this one
+  pub disk_room : length (batches_bytes c.batches) + 1 + reserve on_disk ≤ c.room  -- and has room to take back what else it holds
+  pub behind : State
+  pub told : IsTold c.pages c.lowest c.born c.places (serial c.g0 a.sealed) (c.before + length a.sealed) (all_records c) behind  -- all records tell all that was sealed
+  pub next_known : behind.next ≤ c.first + a.begun  -- no transaction to come has written yet
+  pub losers : maps.EachEntry (λ q us. IsActive a q) behind.undo  -- only active transactions have writes that may be taken back
+  pub writers : (s : ℕ) → IsWriter c.places c.g0 a (a.active s) (words c.pages (all_records c)) behind  -- and each sees what it wrote
+  pub room : used c + reserved (undo_of behind) a ≤ c.room  -- the log has room for the ends of all active transactions
+
+-- A valid core agrees with its own history.
+abbrev pub IsValid : Core → Type 0
+IsValid c = Agrees (account c.history) c
+
+-- The disk stopped or failed in an event, and all but the history is as it was before.
+pub record HasFailed (a : Account) (c : Core) : Type 0 where
+  pub entry : ℕ
+  pub failed : a.failed ≡ Some entry
+  pub before : Agrees (record a { failed = None }) c
+
+-- A core is valid, or the disk stopped or failed in an event.
+abbrev pub IsSound : Core → Type 0
+IsSound c = IsValid c ⊎ HasFailed (account c.history) c
+
+-- A history since an opening with this graph, whose first transaction since then has the number `first`: its transactions ran under strict
+-- two-phase locking, each with a number of its own, until the disk failed.
+pub record RunsLocked (g0 : Graph) (first : ℕ) (history : List Entry) : Type 0 where
+  pub two_phase : IsTwoPhase g0 history
+  pub fails : EachEntry EndsWithFailure history
+  pub begun_below : (n : ℕ) → Contains (numbers_begun history) n → n < first + (account history).begun
+  pub unused : (n : ℕ) → first ≤ n → IsUnused g0 n
+
+-- A core that is reached is sound, and its transactions ran under strict two-phase locking.
+pub record IsReached (c : Core) : Type 0 where
+  pub sound : IsSound c
+  pub locked : RunsLocked c.g0 c.first c.history
