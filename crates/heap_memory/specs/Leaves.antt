@@ -1,5 +1,6 @@
 -- What an event of a session leaves in memory.
-use Rattle.std.specs.Prelude.{◌≡◌, ℕ, ◌+◌, List, [], ◌∷◌, ◌++◌, length, Option, None, Some, Result, Ok, slice_set, slice_index, fold}
+use Rattle.std.specs.Prelude.{◌≡◌, ℕ, ◌+◌, List, [], ◌∷◌, ◌++◌, length, Option, Some, Ok, slice_set, slice_index, fold}
+use Rattle.std.specs.FinSet as set
 use Rattle.gated_log.specs.declared.Log.{Log}
 use Rattle.gated_log.specs.LogState.{IsPlaced, IsSameLog, Keeps}
 use Rattle.heap_words.specs.declared.Word.{Word}
@@ -11,11 +12,14 @@ use Rattle.log_machine.specs.Machine.{field_at, put_record, abort_records}
 use Rattle.volatile_area.specs.Area as area
 use Rattle.volatile_area.specs.Area.{with_object}
 use Rattle.heap_spaces.specs.Spaces.{SpacesState, with_taken}
+use Rattle.object_locks.specs.declared.holding.Mode.{Mode}
+use Rattle.object_locks.specs.declared.holding.Mode.TheVariants.{Shared, Exclusive}
+use Rattle.object_locks.specs.Holdings.{Holdings, without}
 use Rattle.txn_table.specs.declared.place.Place.{Place}
 use Rattle.txn_table.specs.declared.place.Place.TheVariants.{Stable, Volatile}
 use Rattle.txn_table.specs.Table.{TransactionState, TableState, with_transaction, with_begun, with_ended}
 use Rattle.heap_memory.specs.Memory.{Memory, own, place_word, held_place}
-use Rattle.heap_memory.specs.Refusals.{sealing_records, sealing_need}
+use Rattle.heap_memory.specs.Refusals.{asked, sealing_records, sealing_need}
 use Rattle.heap_memory.specs.Replies.{meant_held}
 
 -- The log has these records more in hand, and is where it was.
@@ -24,10 +28,11 @@ pub record Adds (old new : Log) (records : List Record) : Type 0 where
   pub kept : (batches : List (List Record)) (pending : List Record) → Keeps old batches pending → Keeps new batches (pending ++ records)
 
 -- What an event leaves: these records more wait, and their effect is in the words; the rest is this.
-pub record Leaves (old new : Memory) (records : List Record) (transactions : TableState) (current : SpacesState) (count : ℕ) : Type 0 where
+pub record Leaves (old new : Memory) (records : List Record) (transactions : TableState) (held : Holdings) (current : SpacesState) (count : ℕ) : Type 0 where
   pub log : Adds old.log new.log records
   pub words : new.words ≡ fold put_record old.words records
   pub table : new.table ≡ transactions
+  pub locks : new.locks ≡ held
   pub spaces : new.spaces ≡ current
   pub sealed : new.sealed ≡ count
 
@@ -36,36 +41,37 @@ pub record IsAsItWas (old new : Memory) : Type 0 where
   pub log : IsSameLog old.log new.log
   pub words : new.words ≡ old.words
   pub table : new.table ≡ old.table
+  pub locks : new.locks ≡ old.locks
   pub spaces : new.spaces ≡ old.spaces
   pub sealed : new.sealed ≡ old.sealed
 
--- What an event leaves that appends these records, and of the session's transaction this.
-abbrev pub LeavesOwn : Memory → Memory → List Record → TransactionState → Type 0
-LeavesOwn old new records t = Leaves old new records (with_transaction old.table 1 t) old.spaces old.sealed
+-- What an event of session s leaves that appends these records: of its transaction this, and these locks.
+abbrev pub LeavesOwn : Memory → Memory → ℕ → List Record → TransactionState → Holdings → Type 0
+LeavesOwn old new s records t held = Leaves old new records (with_transaction old.table s t) held old.spaces old.sealed
 
--- A transaction began.
-abbrev pub Begins : Memory → Memory → Type 0
-Begins old new = Leaves old new [] (with_begun old.table 1) old.spaces old.sealed
+-- A transaction of session s began.
+abbrev pub Begins : Memory → Memory → ℕ → Type 0
+Begins old new s = Leaves old new [] (with_begun old.table s) old.locks old.spaces old.sealed
 
 -- the transaction with this in one of its handles
 abbrev pub with_handle : TransactionState → ℕ → Option Place → TransactionState
 with_handle t h o = record t { handles = slice_set t.handles h o }
 
 -- A handle holds this.
-pub record SetsHandle (old new : Memory) (h : ℕ) (o : Option Place) : Type 0 where
+pub record SetsHandle (old new : Memory) (s h : ℕ) (o : Option Place) : Type 0 where
   pub transaction : TransactionState
-  pub was : own old ≡ Some transaction
-  pub left : LeavesOwn old new [] (with_handle transaction h o)
+  pub was : own old s ≡ Some transaction
+  pub left : LeavesOwn old new s [] (with_handle transaction h o) old.locks
 
 -- the transaction with an object more in its area, which a handle holds
 abbrev pub with_made : TransactionState → ℕ → ℕ → TransactionState
 with_made t h len = record t { handles = slice_set t.handles h (Some (Volatile (length t.area.words))); area = with_object t.area len }
 
 -- An object was made.
-pub record Makes (old new : Memory) (h len : ℕ) : Type 0 where
+pub record Makes (old new : Memory) (s h len : ℕ) : Type 0 where
   pub transaction : TransactionState
-  pub was : own old ≡ Some transaction
-  pub left : LeavesOwn old new [] (with_made transaction h len)
+  pub was : own old s ≡ Some transaction
+  pub left : LeavesOwn old new s [] (with_made transaction h len) old.locks
 
 -- the transaction when a word was put into a field of the object at a place
 abbrev pub with_written : List ℕ → TransactionState → Place → ℕ → ℕ → TransactionState
@@ -77,23 +83,28 @@ abbrev pub write_records : List ℕ → TransactionState → Place → ℕ → �
 write_records words t (Stable at) i w = Update t.number at i (slice_index words (field_at at i)) w ∷ []
 write_records words t (Volatile at) i w = []
 
+-- the locks when the object at a place is used in a mode: one of the transaction's own area needs none
+abbrev pub with_lock : Holdings → TransactionState → Mode → Place → Holdings
+with_lock locks t mode (Stable at) = set.insert locks (asked t.number mode at)
+with_lock locks t mode (Volatile at) = locks
+
 -- A word was put into a field of the object at a place.
-pub record Writes (old new : Memory) (p : Place) (i w : ℕ) : Type 0 where
+pub record Writes (old new : Memory) (s : ℕ) (p : Place) (i w : ℕ) : Type 0 where
   pub transaction : TransactionState
-  pub was : own old ≡ Some transaction
-  pub left : LeavesOwn old new (write_records old.words transaction p i w) (with_written old.words transaction p i w)
+  pub was : own old s ≡ Some transaction
+  pub left : LeavesOwn old new s (write_records old.words transaction p i w) (with_written old.words transaction p i w) (with_lock old.locks transaction Exclusive p)
 
 -- A word was put into a field of the object that a handle holds.
-pub record WritesHeld (old new : Memory) (h i w : ℕ) : Type 0 where
+pub record WritesHeld (old new : Memory) (s h i w : ℕ) : Type 0 where
   pub place : Place
-  pub held : held_place (own old) h ≡ Ok place
-  pub writes : Writes old new place i w
+  pub held : held_place (own old s) h ≡ Ok place
+  pub writes : Writes old new s place i w
 
 -- A reference to the object that handle h2 holds was put into a field of the one that h holds.
-pub record Links (old new : Memory) (h i h2 : ℕ) : Type 0 where
+pub record Links (old new : Memory) (s h i h2 : ℕ) : Type 0 where
   pub target : Place
-  pub held : held_place (own old) h2 ≡ Ok target
-  pub writes : WritesHeld old new h i (bits (place_word target))
+  pub held : held_place (own old s) h2 ≡ Ok target
+  pub writes : WritesHeld old new s h i (bits (place_word target))
 
 -- the transaction when a word of that meaning was read: a handle holds what it refers to
 abbrev pub with_read : TransactionState → ℕ → Option Word → TransactionState
@@ -102,19 +113,21 @@ with_read t h (Some (word.Volatile at)) = with_handle t h (Some (Volatile at))
 with_read t h meant = t
 
 -- A field of the object that handle h holds was read, and h2 holds what it refers to.
-pub record Gets (old new : Memory) (h i h2 : ℕ) : Type 0 where
+pub record Gets (old new : Memory) (s h i h2 : ℕ) : Type 0 where
+  pub place : Place
+  pub held : held_place (own old s) h ≡ Ok place
   pub transaction : TransactionState
-  pub was : own old ≡ Some transaction
-  pub left : LeavesOwn old new [] (with_read transaction h2 (meant_held old h i))
+  pub was : own old s ≡ Some transaction
+  pub left : LeavesOwn old new s [] (with_read transaction h2 (meant_held old s h i)) (with_lock old.locks transaction Shared place)
 
--- The transaction was sealed: what it promotes takes words of the current space.
-pub record Seals (old new : Memory) : Type 0 where
+-- The transaction was sealed: what it promotes takes words of the current space, and its locks are free.
+pub record Seals (old new : Memory) (s : ℕ) : Type 0 where
   pub transaction : TransactionState
-  pub was : own old ≡ Some transaction
-  pub left : Leaves old new (sealing_records old transaction) (with_ended old.table 1) (with_taken old.spaces (sealing_need old transaction)) (old.sealed + 1)
+  pub was : own old s ≡ Some transaction
+  pub left : Leaves old new (sealing_records old transaction) (with_ended old.table s) (without old.locks transaction.number) (with_taken old.spaces (sealing_need old transaction)) (old.sealed + 1)
 
--- The transaction was aborted: what it wrote is taken back.
-pub record Aborts (old new : Memory) : Type 0 where
+-- The transaction was aborted: what it wrote is taken back, and its locks are free.
+pub record Aborts (old new : Memory) (s : ℕ) : Type 0 where
   pub transaction : TransactionState
-  pub was : own old ≡ Some transaction
-  pub left : Leaves old new (abort_records transaction.number transaction.undo) (with_ended old.table 1) old.spaces old.sealed
+  pub was : own old s ≡ Some transaction
+  pub left : Leaves old new (abort_records transaction.number transaction.undo) (with_ended old.table s) (without old.locks transaction.number) old.spaces old.sealed

@@ -1,14 +1,17 @@
 -- What an open heap keeps in memory.
-use Rattle.std.specs.Prelude.{ℕ, ◌==◌, nat_eq, nat_lt, List, [], Bool, false, Option, None, Some, Result, Ok, Err, slice_get, slice_index, option_and_then, if◌then◌else◌}
+use Rattle.std.specs.Prelude.{ℕ, ◌==◌, nat_eq, nat_lt, List, [], Bool, false, Option, None, Some, Result, Ok, Err, length, slice_get, sum_by, option_and_then, if◌then◌else◌}
 use Rattle.std.specs.List.{list_any}
 use Rattle.gated_log.specs.declared.Log.{Log}
+use Rattle.graph_model.specs.History.{sessions}
 use Rattle.graph_model.specs.declared.reply.Refusal.{Refusal}
 use Rattle.graph_model.specs.declared.reply.Refusal.TheVariants.{NotActive, BadHandle}
 use Rattle.heap_words.specs.declared.Word.{Word}
 use Rattle.heap_words.specs.declared.Word.TheVariants as word
+use Rattle.log_machine.specs.Machine.{end_bytes}
 use Rattle.object_layout.specs.Layout.{field_words}
 use Rattle.volatile_area.specs.Area.{AreaState, starts_of}
 use Rattle.heap_spaces.specs.Spaces.{SpacesState}
+use Rattle.object_locks.specs.Holdings.{Holdings}
 use Rattle.txn_table.specs.declared.place.Place.{Place}
 use Rattle.txn_table.specs.declared.place.Place.TheVariants.{Stable, Volatile}
 use Rattle.txn_table.specs.Table.{TransactionState, TableState, transaction_of}
@@ -18,12 +21,22 @@ pub record Memory : Type 0 where
   pub log : Log  -- with the records that wait
   pub words : List ℕ  -- those of both spaces, by address
   pub spaces : SpacesState  -- which words of the current space are taken
-  pub table : TableState  -- the transactions that have not ended, and the number of the next
+  pub table : TableState  -- the transactions of the sessions that have not ended, and the number of the next
+  pub locks : Holdings  -- the locks that these hold on objects of the current space
   pub sealed : ℕ  -- how many transactions were sealed since the heap was opened
 
--- the transaction of the session that the heap serves
-abbrev pub own : Memory → Option TransactionState
-own m = transaction_of m.table 1
+-- the transaction of a session, if it has one
+abbrev pub own : Memory → ℕ → Option TransactionState
+own m s = transaction_of m.table s
+
+-- the log's bytes that are kept for the end of a transaction, if there is one
+abbrev pub kept_for_end : Option TransactionState → ℕ
+kept_for_end None = 0
+kept_for_end (Some t) = end_bytes (length t.undo)
+
+-- those for the ends of all transactions
+abbrev pub reserved : TableState → ℕ
+reserved table = sum_by (λ s. kept_for_end (transaction_of table s)) sessions
 
 -- where the root object stands
 abbrev pub root_place : Place

@@ -1,5 +1,5 @@
 -- What an event of a session is answered that is not refused, by what is kept in memory.
-use Rattle.std.specs.Prelude.{ℕ, length, Option, None, Some, Result, Ok, Err, slice_index, if◌then◌else◌}
+use Rattle.std.specs.Prelude.{ℕ, length, Option, Some, Result, Ok, slice_index, if◌then◌else◌}
 use Rattle.graph_model.specs.declared.reply.Refusal.{Refusal}
 use Rattle.graph_model.specs.declared.reply.Reply.{Reply}
 use Rattle.graph_model.specs.declared.reply.Reply.TheVariants as answer
@@ -17,23 +17,23 @@ word_reply (Some (word.Volatile at)) = answer.Reference
 word_reply meant = answer.Null
 
 -- what is meant by the word of a field of the object that a handle holds
-abbrev pub meant_held : Memory → ℕ → ℕ → Option Word
-meant_held m h i = meaning (slice_index (fields_held m (own m) (held_place (own m) h)) i)
+abbrev pub meant_held : Memory → ℕ → ℕ → ℕ → Option Word
+meant_held m s h i = meaning (slice_index (fields_held m (own m s) (held_place (own m s) h)) i)
 
-abbrev pub get_reply : Memory → ℕ → ℕ → Reply
-get_reply m h i = word_reply (meant_held m h i)
+abbrev pub get_reply : Memory → ℕ → ℕ → ℕ → Reply
+get_reply m s h i = word_reply (meant_held m s h i)
 
 abbrev pub same_reply_of : Result Place Refusal → Result Place Refusal → Reply
 same_reply_of (Ok p) (Ok q) = if is_same_place p q then answer.Yes else answer.No
 same_reply_of one other = answer.No
 
 -- whether two handles hold one object
-abbrev pub same_reply : Memory → ℕ → ℕ → Reply
-same_reply m h h2 = same_reply_of (held_place (own m) h) (held_place (own m) h2)
+abbrev pub same_reply : Memory → ℕ → ℕ → ℕ → Reply
+same_reply m s h h2 = same_reply_of (held_place (own m s) h) (held_place (own m s) h2)
 
 -- how many fields the object has that a handle holds
-abbrev pub len_reply : Memory → ℕ → Reply
-len_reply m h = answer.Length (length (fields_held m (own m) (held_place (own m) h)))
+abbrev pub len_reply : Memory → ℕ → ℕ → Reply
+len_reply m s h = answer.Length (length (fields_held m (own m s) (held_place (own m s) h)))
 
 -- The event was not refused.
 abbrev pub IsGranted : Reply → Type 0

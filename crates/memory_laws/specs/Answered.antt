@@ -13,8 +13,10 @@ use Rattle.heap_model.specs.Core.{Core, next_number, core_refusal, answer, with_
 use Rattle.heap_model.specs.CoreLawsStep.{core_refusal-HasNoFault, done_history}
 use Rattle.heap_memory.specs.Leaves.{IsAsItWas}
 use Rattle.heap_memory.specs.Memory.{Memory}
-use Rattle.memory_laws.specs.Follows.{IsMemory, Does}
+use Rattle.memory_laws.specs.Follows.{AreHeld, IsMemory, Does}
+use Rattle.memory_laws.specs.LockLaws.{held_alike}
 use Rattle.memory_laws.specs.LogLaws.{keeps_same}
+use Rattle.object_locks.specs.Holdings.{Holdings}
 use Rattle.txn_table.specs.Table.{TableState, transaction_of}
 
 -- Another history, and one entry more, change nothing of memory.
@@ -28,7 +30,8 @@ memory_with m a c event reply h = record {
   state = h.state;
   reached = h.reached;
   spaces = h.spaces;
-  transaction = h.transaction;
+  transactions = h.transactions;
+  locks = h.locks;
   next = h.next;
   sealed = h.sealed;
 }
@@ -50,7 +53,8 @@ memory_counted m a c entries h = record {
   state = h.state;
   reached = h.reached;
   spaces = h.spaces;
-  transaction = h.transaction;
+  transactions = h.transactions;
+  locks = held_alike m.locks c.places c.g0 a (record a { entries = entries }) refl refl h.locks;
   next = h.next;
   sealed = h.sealed;
 }
@@ -98,7 +102,8 @@ as_it_was m n c is same = record {
   state = is.state;
   reached = is.reached;
   spaces = same.spaces ∙ is.spaces;
-  transaction = ap (λ (t : TableState). transaction_of t 1) same.table ∙ is.transaction;
+  transactions = λ s. ap (λ (t : TableState). transaction_of t s) same.table ∙ is.transactions s;
+  locks = subst (λ (l : Holdings). AreHeld l c.places c.g0 (account c.history)) (sym same.locks) is.locks;
   next = ap (λ (t : TableState). t.next) same.table ∙ is.next;
   sealed = same.sealed ∙ is.sealed;
 }

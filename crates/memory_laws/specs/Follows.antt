@@ -1,5 +1,7 @@
 -- When what an open heap keeps in memory is what a core says.
-use Rattle.std.specs.Prelude.{◌≡◌, ℕ, ◌+◌, List, length, map, Option, None, Some}
+use Rattle.std.specs.Prelude.{◌≡◌, ◌↔◌, ℕ, ◌+◌, true, List, length, map, Option, None, Some}
+use Rattle.std.specs.FinSet as set
+use Rattle.std.specs.List.{Contains}
 use Rattle.std.specs.Option.{option_map}
 use Rattle.gated_log.specs.LogState.{Keeps, log_place, log_room}
 use Rattle.graph_model.specs.declared.event.Event.{Event}
@@ -7,12 +9,17 @@ use Rattle.graph_model.specs.declared.id.Id.{Id}
 use Rattle.graph_model.specs.declared.reply.Reply.{Reply}
 use Rattle.graph_model.specs.Graph.{Graph}
 use Rattle.graph_model.specs.History.{Account, account}
+use Rattle.graph_model.specs.Locking.{Mode, Shared, Exclusive, locks_of}
 use Rattle.graph_model.specs.Plain.{view}
-use Rattle.graph_model.specs.Transaction.{View, Transaction}
+use Rattle.graph_model.specs.Transaction.{View, Transaction, serial}
 use Rattle.heap_spaces.specs.Spaces.{SpacesState}
 use Rattle.image_plan.specs.Plan.{log_offset}
 use Rattle.log_machine.specs.declared.UndoEntry.{UndoEntry}
 use Rattle.log_machine.specs.Machine.{State, words}
+use Rattle.object_locks.specs.declared.holding.Holding.{Holding}
+use Rattle.object_locks.specs.declared.holding.Mode as table
+use Rattle.object_locks.specs.declared.holding.Mode.TheVariants as locked
+use Rattle.object_locks.specs.Holdings.{Holdings}
 use Rattle.txn_table.specs.declared.place.Place.{Place}
 use Rattle.txn_table.specs.declared.place.Place.TheVariants.{Stable, Volatile}
 use Rattle.txn_table.specs.Table.{TransactionState}
@@ -38,9 +45,28 @@ abbrev pub kept_of : Ground → Graph → Account → Option Transaction → Opt
 kept_of ground g0 a None = None
 kept_of ground g0 a (Some t) = Some (kept ground.places (view g0 a t) t.number (undo_with ground.state t.number))
 
+-- a mode of the table, as the model names it
+abbrev pub mode_of : table.Mode → Mode
+mode_of locked.Shared = Shared
+mode_of locked.Exclusive = Exclusive
+
 -- the spaces of a heap in that state; nothing is owed to a collection
 abbrev pub spaces_of : State → SpacesState
 spaces_of s = record { pages = s.pages; base = s.base; used = s.used; owed = 0 }
+
+-- A lock of the table is one that the model knows: an active transaction of that number needs it for the object at that address.
+pub record IsHeld (places : Places) (g0 : Graph) (a : Account) (h : Holding) : Type 0 where
+  pub session : ℕ
+  pub transaction : Transaction
+  pub active : a.active session ≡ Some transaction
+  pub number : transaction.number ≡ h.transaction
+  pub id : Id
+  pub place : address_of places id ≡ Some h.key.address
+  pub lock : Contains (locks_of (serial g0 a.sealed) transaction) (id, mode_of h.mode)
+
+-- The locks that are held are just these. Those on objects of a transaction's own area are not among them: no other can use these.
+abbrev pub AreHeld : Holdings → Places → Graph → Account → Type 0
+AreHeld locks places g0 a = (h : Holding) → (set.contains locks h ≡ true) ↔ IsHeld places g0 a h
 
 -- What is kept in memory is that of a core whose history tells this account.
 pub record IsMemory (m : Memory) (a : Account) (c : Core) : Type 0 where
@@ -51,7 +77,8 @@ pub record IsMemory (m : Memory) (a : Account) (c : Core) : Type 0 where
   pub state : State
   pub reached : state_behind c (all_records c) ≡ Some state
   pub spaces : m.spaces ≡ spaces_of state
-  pub transaction : own m ≡ kept_of (ground c) c.g0 a (a.active 1)
+  pub transactions : (s : ℕ) → own m s ≡ kept_of (ground c) c.g0 a (a.active s)
+  pub locks : AreHeld m.locks c.places c.g0 a
   pub next : m.table.next ≡ c.first + a.begun
   pub sealed : m.sealed ≡ length a.sealed
 

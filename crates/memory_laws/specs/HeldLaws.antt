@@ -1,36 +1,45 @@
 -- What the handles of a transaction hold in memory, and the fields of it: those of the objects that the core's handles hold.
 use Rattle.std.proofs.Common.{◌≡◌, inl, inr, ℕ, zero, suc, ◌<◌, true, false, cond, List, [], ◌∷◌, length, map, Option, Some, None, refl, sym, ap, ◌∙◌, subst, arith, Contains, get_or}
-use Rattle.std.specs.Prelude.{nat_lt, nat_eq, slice_get, option_and_then}
 use Rattle.std.specs.List.{list_any}
 use Rattle.std.specs.Option.{option_map}
+use Rattle.std.specs.Prelude.{nat_lt, nat_eq, slice_get, option_and_then}
 use Rattle.std.proofs.lemmas.Bool.{ltb-true, eq-eqb}
-use Rattle.std.proofs.lemmas.List.{length-map}
 use Rattle.std.proofs.lemmas.List.Folds.{list_any_at}
+use Rattle.std.proofs.lemmas.List.{length-map}
 use Rattle.graph_model.specs.declared.id.Id.{Id}
 use Rattle.graph_model.specs.Graph.{Graph, fields}
-use Rattle.graph_model.specs.Transaction.{Registers, View, Transaction, held, run}
+use Rattle.graph_model.specs.History.{account, Account}
 use Rattle.graph_model.specs.HistoryLaws.{held-past, length-registers-run}
+use Rattle.graph_model.specs.Locking.{IsFree}
+use Rattle.graph_model.specs.Locking.{Shared}
+use Rattle.graph_model.specs.Plain.{view}
+use Rattle.graph_model.specs.Transaction.{Registers, View, Transaction, held, run}
+use Rattle.commit_order.specs.OrderLaws.{two_phase_ordered}
 use Rattle.object_layout.specs.Layout.{field_words}
-use Rattle.volatile_area.specs.Area.{starts_of}
+use Rattle.volatile_area.specs.Area.{starts_of, AreaState}
 use Rattle.log_machine.specs.declared.UndoEntry.{UndoEntry}
-use Rattle.txn_table.specs.declared.place.Place.{Place}
+use Rattle.log_machine.specs.Machine.{words}
 use Rattle.txn_table.specs.declared.place.Place.TheVariants.{Stable, Volatile}
-use Rattle.graph_words.specs.Places.{Places, address_of, index_of, standing, place_of, bits_of, IsAtHand, IsOwn}
-use Rattle.graph_words.specs.PlacesLaws.{some_address}
+use Rattle.txn_table.specs.declared.place.Place.{Place}
 use Rattle.graph_words.specs.Area.{HasMade, area_of, area_starts}
 use Rattle.graph_words.specs.AreaLaws.{area_starts_Contains}
 use Rattle.graph_words.specs.AreaState.{starts_of-area_of, own_words}
 use Rattle.graph_words.specs.MadeLaws.{own_apart}
-use Rattle.graph_words.specs.Stands.{Stands}
-use Rattle.graph_words.specs.StandsLaws.{stands_words}
-use Rattle.heap_memory.specs.Memory.{place_word, fields_at, held_in, held_or, held_place}
-use Rattle.memory_laws.specs.Follows.{standing_place, place_in, kept}
+use Rattle.graph_words.specs.Places.{Places, address_of, index_of, standing, place_of, bits_of, IsAtHand, IsOwn}
+use Rattle.graph_words.specs.PlacesLaws.{some_address}
+use Rattle.heap_model.specs.Core.{Core, all_records, area_in}
+use Rattle.core_laws.specs.Apart.{length_now, fields_now}
+use Rattle.core_laws.specs.Goes.{writing_of}
+use Rattle.core_laws.specs.Valid.{IsValid, RunsLocked}
+use Rattle.heap_memory.specs.Memory.{place_word, fields_at, held_in, held_or, held_place, Memory}
+use Rattle.memory_laws.specs.Follows.{standing_place, place_in, kept, IsMemory}
 
 -- the word of a reference to a place is that of the object there
 pub standing_word : (o : Option ℕ) (index : ℕ) → place_word (standing_place o index) ≡ standing o index
 standing_word (Some address) index = refl
 standing_word None index = refl
 
+-- so it is for the place of an object of a graph
 pub place_in_word : (places : Places) (g : Graph) (id : Id) → place_word (place_in places g id) ≡ place_of places g id
 place_in_word places g id = standing_word (address_of places id) (index_of g id)
 
@@ -69,24 +78,51 @@ own_listed : {places : Places} {g : Graph} {t made : ℕ} → HasMade places g t
 own_listed {places} {g} {t} {made} has id own =
     subst (λ (xs : List ℕ). list_any (nat_eq (index_of g id)) xs ≡ true) (sym (starts_of-area_of has)) (listed (area_starts g t made) (index_of g id) (area_starts_Contains g t made id own))
 
--- the fields of an object at hand have the words of its values
-pub fields_at_hand : {t made : ℕ} {places : Places} {g : Graph} {words : List ℕ} {base used : ℕ} → Stands t made places g words base used → HasMade places g t made
-    → (id : Id) → IsAtHand places t made id → fields_at words (area_of (place_of places g) g t made) (place_in places g id) ≡ map (bits_of (place_of places g)) (fields g id)
-fields_at_hand {t} {made} {places} {g} {words} stands has id (inl there) =
-    let place = some_address (address_of places id) there in
-    ap (fields_at words (area_of (place_of places g) g t made)) (place_in-placed places g id place.0 place.1) ∙ stands_words stands id place.0 place.1
-fields_at_hand {t} {made} {places} {g} {words} stands has id (inr own) =
+-- the fields of an object that the transaction made have the words of its values
+own_fields_at : {places : Places} {g : Graph} {t made : ℕ} → HasMade places g t made → (words : List ℕ) (id : Id) → IsOwn t made id
+    → fields_at words (area_of (place_of places g) g t made) (place_in places g id) ≡ map (bits_of (place_of places g)) (fields g id)
+own_fields_at {places} {g} {t} {made} has words id own =
     let area = area_of (place_of places g) g t made in
     ap (fields_at words area) (place_in-apart places g id (own_apart has own))
     ∙ ap (λ b. cond b (field_words area.words (index_of g id)) []) (own_listed has id own)
     ∙ own_words has id own
 
--- and there are as many
-pub length-fields_at_hand : {t made : ℕ} {places : Places} {g : Graph} {words : List ℕ} {base used : ℕ} → Stands t made places g words base used → HasMade places g t made
-    → (id : Id) → IsAtHand places t made id → length (fields_at words (area_of (place_of places g) g t made) (place_in places g id)) ≡ length (fields g id)
-length-fields_at_hand {places = places} {g = g} stands has id at_hand = ap (λ (ws : List ℕ). length ws) (fields_at_hand stands has id at_hand) ∙ length-map (fields g id) (bits_of (place_of places g))
-
 -- the place that a handle holds
 pub held_place-kept : (places : Places) (g : Graph) (t : Transaction) (undo : List UndoEntry) (h : ℕ)
     → held_place (Some (kept places (run g t) t.number undo)) h ≡ held_or (option_map (place_in places (run g t).graph) (held (run g t).registers h))
 held_place-kept places g t undo h = ap held_or (held_in-kept places (run g t) t.number undo h (length-registers-run g t))
+
+module _ (m : Memory) (c : Core) (valid : IsValid c) (runs : RunsLocked c.g0 c.first c.history) (is : IsMemory m (account c.history) c) (s : ℕ) (t : Transaction)
+    (active : (account c.history).active s ≡ Some t) where
+  -- what the history says
+  abbrev a : Account
+  a = account c.history
+
+  -- what the transaction sees
+  abbrev v : View
+  v = view c.g0 a t
+
+  -- its area
+  abbrev area : AreaState
+  area = area_in c.places v t.number
+
+  -- the object as the words of memory have it
+  stored_at : (id : Id) (at : ℕ) → address_of c.places id ≡ Some at → fields_at m.words area (place_in c.places v.graph id) ≡ field_words (words c.pages (all_records c)) at
+  stored_at id at place = ap (fields_at m.words area) (place_in-placed c.places v.graph id at place) ∙ ap (λ (ws : List ℕ). field_words ws at) is.stored
+
+  -- an object at hand has as many fields in memory as the transaction sees
+  pub length-fields_at_hand : (id : Id) → IsAtHand c.places t.number v.made id → length (fields_at m.words area (place_in c.places v.graph id)) ≡ length (fields v.graph id)
+  length-fields_at_hand id (inl there) =
+      let place = some_address (address_of c.places id) there in
+      ap (λ (ws : List ℕ). length ws) (stored_at id place.0 place.1)
+      ∙ length_now a c valid (two_phase_ordered c.g0 c.history runs.two_phase) s t active id place.0 place.1
+  length-fields_at_hand id (inr own) =
+      ap (λ (ws : List ℕ). length ws) (own_fields_at (writing_of a c s t active valid).made m.words id own) ∙ length-map (fields v.graph id) (bits_of (place_of c.places v.graph))
+
+  -- where no other transaction holds it exclusively, the fields have the words of its values
+  pub fields_at_hand : (id : Id) → IsAtHand c.places t.number v.made id → IsFree c.g0 a t.number (Some (id, Shared))
+      → fields_at m.words area (place_in c.places v.graph id) ≡ map (bits_of (place_of c.places v.graph)) (fields v.graph id)
+  fields_at_hand id (inl there) free =
+      let place = some_address (address_of c.places id) there in
+      stored_at id place.0 place.1 ∙ fields_now a c valid (two_phase_ordered c.g0 c.history runs.two_phase) s t active id place.0 place.1 free
+  fields_at_hand id (inr own) free = own_fields_at (writing_of a c s t active valid).made m.words id own

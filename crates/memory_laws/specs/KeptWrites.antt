@@ -15,7 +15,6 @@ use Rattle.graph_words.specs.AreaState.{own_write_area, write_area}
 use Rattle.graph_words.specs.Places.{Places, IsOwn, address_of, index_of, made_by, place_of, bits_of}
 use Rattle.graph_words.specs.VisibleLaws.{index_of-same, length-with_field}
 use Rattle.heap_model.specs.Core.{area_in}
-use Rattle.heap_memory.specs.Memory.{own}
 use Rattle.heap_memory.specs.Leaves.{with_written}
 use Rattle.memory_laws.specs.Follows.{standing_place, place_in, kept}
 

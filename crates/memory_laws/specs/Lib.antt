@@ -2,7 +2,10 @@ pub mod Answered
 pub mod Appended
 pub mod Follows
 pub mod HeldLaws
+pub mod KeptBeside
 pub mod KeptWrites
+pub mod LockLaws
+pub mod LockRefusal
 pub mod LogLaws
 pub mod RefusalEnds
 pub mod RefusalHandles
@@ -15,4 +18,5 @@ pub mod StepHeld
 pub mod StepNew
 pub mod StepReads
 pub mod StepSame
+pub mod StepSeal
 pub mod StepWrites

@@ -13,6 +13,7 @@ use Rattle.log_records.specs.RecordLaws.{some_spelling}
 use Rattle.heap_model.specs.Core.{need}
 use Rattle.heap_model.specs.CoreLawsRoom.{length-hand-append}
 
+-- records take some bytes
 pub some_spellings : (r : Record) (rs : List Record) → 0 < length (spellings (r ∷ rs))
 some_spellings r rs = omega (arith, some_spelling r, length-append (spelling r) (spellings rs))
 

@@ -3,15 +3,15 @@ use Rattle.std.proofs.Common.{◌≡◌, ℕ, Bool, true, false, cond, Option, N
 use Rattle.graph_model.specs.declared.event.Event.{Event}
 use Rattle.graph_model.specs.declared.event.Event.TheVariants.{Begin, Root, New, Put, Clear, Link, Drop, Get, Same, Len, Seal, Abort, Force}
 use Rattle.graph_model.specs.declared.reply.Refusal.{Refusal}
-use Rattle.graph_model.specs.declared.reply.Refusal.TheVariants.{NotActive}
 use Rattle.graph_model.specs.Graph.{Graph}
 use Rattle.graph_model.specs.Transaction.{Transaction, IsCall}
 use Rattle.graph_model.specs.History.{Account, account, session_of}
-use Rattle.graph_model.specs.Plain.{call_refusal}
+use Rattle.graph_model.specs.Plain.{call_refusal, call_conflict, first_of_two}
 use Rattle.graph_model.specs.PlainLaws.{event_refusal-call}
-use Rattle.heap_model.specs.Core.{Core, Ground, ground, next_number, full_log, first_of_two, room_refusal, words_refusal, log_refusal, core_refusal}
-use Rattle.heap_model.specs.CoreValid.{IsValid}
-use Rattle.heap_model.specs.CoreLawsStep.{is_write, is_new, unfailed_refusal, log_quiet}
+use Rattle.heap_model.specs.Core.{Core, Ground, ground, next_number, full_log, room_refusal, words_refusal, log_refusal, core_refusal}
+use Rattle.core_laws.specs.Events.{is_write, is_new}
+use Rattle.core_laws.specs.Step.{unfailed_refusal, log_quiet}
+use Rattle.core_laws.specs.Valid.{IsValid}
 
 -- a second reason where the first is none
 pub second_same : (o p q : Option Refusal) → (o ≡ None → p ≡ q) → first_of_two o p ≡ first_of_two o q
@@ -23,6 +23,7 @@ pub first_none : (o : Option Refusal) → first_of_two o None ≡ o
 first_none None = refl
 first_none (Some why) = refl
 
+-- the first of three reasons
 pub first_assoc : (o p q : Option Refusal) → first_of_two (first_of_two o p) q ≡ first_of_two o (first_of_two p q)
 first_assoc None p q = refl
 first_assoc (Some why) p q = refl
@@ -54,32 +55,30 @@ words_quiet g g0 a (Some t) (Seal s) is old = absurd is
 words_quiet g g0 a (Some t) (Abort s) is old = refl
 words_quiet g g0 a (Some t) Force is old = refl
 
-module _ (c : Core) (event : Event) (valid : IsValid c) (call : IsCall event) (one : session_of event ≡ 1) where
+module _ (c : Core) (event : Event) (valid : IsValid c) (call : IsCall event) where
+  -- what the history says
   abbrev a : Account
   a = account c.history
 
-  -- a call of session 1 is refused by what its transaction sees, for its words or for the log
-  pub call_refused : core_refusal c event ≡ first_of_two (call_refusal c.g0 a (a.active 1) event) (first_of_two (room_refusal (ground c) c.g0 a (a.active 1) event) (log_refusal c event))
+  -- the transaction of the event's session
+  abbrev own : Option Transaction
+  own = a.active (session_of event)
+
+  -- for what its transaction sees, or for what others hold
+  abbrev asked : Option Refusal
+  asked = first_of_two (call_refusal c.g0 a own event) (call_conflict c.g0 a own event)
+
+  -- a call of a session is refused so, for its words or for the log
+  pub call_refused : core_refusal c event ≡ first_of_two asked (first_of_two (room_refusal (ground c) c.g0 a own event) (log_refusal c event))
   call_refused =
       unfailed_refusal c event valid.unfailed
-      ∙ ap (λ (o : Option Refusal). first_of_two o (first_of_two (words_refusal c event) (log_refusal c event))) (event_refusal-call (next_number c) c.g0 a event call)
-      ∙ ap (λ (s : ℕ). first_of_two (call_refusal c.g0 a (a.active s) event) (first_of_two (room_refusal (ground c) c.g0 a (a.active s) event) (log_refusal c event))) one
+      ∙ ap (λ (o : Option Refusal). first_of_two (first_of_two o (call_conflict c.g0 a own event)) (first_of_two (words_refusal c event) (log_refusal c event)))
+      (event_refusal-call (next_number c) c.g0 a event call)
 
-  -- one that makes no object is refused by what its transaction sees, or for the log
-  pub old_refused : is_new event ≡ false → core_refusal c event ≡ first_of_two (call_refusal c.g0 a (a.active 1) event) (log_refusal c event)
-  old_refused old =
-      call_refused
-      ∙ ap (λ (o : Option Refusal). first_of_two (call_refusal c.g0 a (a.active 1) event) (first_of_two o (log_refusal c event))) (words_quiet (ground c) c.g0 a (a.active 1) event call old)
+  -- one that makes no object is refused so, or for the log
+  pub old_refused : is_new event ≡ false → core_refusal c event ≡ first_of_two asked (log_refusal c event)
+  old_refused old = call_refused ∙ ap (λ (o : Option Refusal). first_of_two asked (first_of_two o (log_refusal c event))) (words_quiet (ground c) c.g0 a own event call old)
 
-  -- and one that writes nothing either by what its transaction sees
-  pub quiet_refused : is_write event ≡ false → is_new event ≡ false → core_refusal c event ≡ call_refusal c.g0 a (a.active 1) event
-  quiet_refused quiet old =
-      old_refused old
-      ∙ ap (first_of_two (call_refusal c.g0 a (a.active 1) event)) (log_quiet c event valid call one quiet)
-      ∙ first_none (call_refusal c.g0 a (a.active 1) event)
-
-  -- where no transaction is active it is refused for that
-  pub none_refused : a.active 1 ≡ None → core_refusal c event ≡ Some NotActive
-  none_refused none =
-      call_refused
-      ∙ ap (λ (o : Option Transaction). first_of_two (call_refusal c.g0 a o event) (first_of_two (room_refusal (ground c) c.g0 a o event) (log_refusal c event))) none
+  -- and one that writes nothing either is refused so
+  pub quiet_refused : is_write event ≡ false → is_new event ≡ false → core_refusal c event ≡ asked
+  quiet_refused quiet old = old_refused old ∙ ap (first_of_two asked) (log_quiet c event valid call quiet) ∙ first_none asked

@@ -1,5 +1,5 @@
 -- A call that makes an object is answered as the core answers it, and leaves memory as the core is then.
-use Rattle.std.proofs.Common.{◌≡◌, ℕ, ◌+◌, List, [], ◌∷◌, length, map, Option, Some, None, Result, Ok, Err, refl, sym, ap, ◌∙◌}
+use Rattle.std.proofs.Common.{◌≡◌, ℕ, ◌+◌, List, length, map, Option, Some, Result, Ok, Err, refl, sym, ap, ◌∙◌}
 use Rattle.std.specs.declared.alloc.AllocError.{AllocError}
 use Rattle.std.specs.Prelude.{IfOk, slice_set}
 use Rattle.std.specs.Option.{option_map}
@@ -26,17 +26,18 @@ use Rattle.graph_words.specs.AreaState.{new_area}
 use Rattle.graph_words.specs.Places.{Places, IsAtHand, made_by, place_of}
 use Rattle.graph_words.specs.StandsOwn.{with_new, new_index, new_places}
 use Rattle.heap_model.specs.Core.{Core, area_in, core_refusal}
-use Rattle.heap_model.specs.CoreValid.{HoldsAtHand, IsValid}
-use Rattle.heap_model.specs.CoreLawsGoes.{writer_as}
+use Rattle.core_laws.specs.Goes.{writing_of}
+use Rattle.core_laws.specs.Valid.{IsValid}
 use Rattle.heap_model.specs.CoreLawsHandles.{HoldAllAtHand}
-use Rattle.heap_model.specs.CoreLawsStep.{quiet_records}
+use Rattle.core_laws.specs.Events.{quiet_records}
 use Rattle.heap_memory.specs.Memory.{Memory, own, place_word}
 use Rattle.heap_memory.specs.Refusals.{new_refusal}
 use Rattle.heap_memory.specs.Leaves.{Makes, with_made}
 use Rattle.memory_laws.specs.Follows.{place_in, kept, IsMemory, Does}
+use Rattle.memory_laws.specs.KeptBeside.{handles_same}
 use Rattle.memory_laws.specs.HeldLaws.{place_in_word, place_in-apart}
 use Rattle.memory_laws.specs.Answered.{Goes, does}
-use Rattle.memory_laws.specs.Appended.{mine, stays, reached_still, call_goes}
+use Rattle.memory_laws.specs.Appended.{mine, no_lock, quiet_goes, stays}
 
 -- places whose words are one are one
 one_word : (p q : Place) → place_word p ≡ place_word q → p ≡ q
@@ -51,18 +52,10 @@ new_place_in places g t made len id at_hand =
     one_word (place_in places (with_new g t made len) id) (place_in places g id)
     (place_in_word places (with_new g t made len) id ∙ new_places places g t made len id at_hand ∙ sym (place_in_word places g id))
 
-one_handle : (places : Places) (g : Graph) (t made len : ℕ) (o : Option Id) → HoldsAtHand places t made o
-    → option_map (place_in places (with_new g t made len)) o ≡ option_map (place_in places g) o
-one_handle places g t made len None at_hand = refl
-one_handle places g t made len (Some id) at_hand = ap (λ (p : Place). Some p) (new_place_in places g t made len id at_hand)
-
 -- so all handles hold what they held
 new_handles : (places : Places) (g : Graph) (t made len : ℕ) (rs : Registers) → HoldAllAtHand places t made rs
     → map (option_map (place_in places (with_new g t made len))) rs ≡ map (option_map (place_in places g)) rs
-new_handles places g t made len [] all = refl
-new_handles places g t made len (r ∷ rs) all =
-    ap (λ (o : Option Place). o ∷ map (option_map (place_in places (with_new g t made len))) rs) (one_handle places g t made len r all.0)
-    ∙ ap (λ (os : List (Option Place)). option_map (place_in places g) r ∷ os) (new_handles places g t made len rs all.1)
+new_handles places g t made len rs all = handles_same places t made (place_in places (with_new g t made len)) (place_in places g) (new_place_in places g t made len) rs all
 
 -- the new object stands behind the words of the area
 new_stands_in : (places : Places) (g : Graph) (t made len : ℕ) → HasMade places g t made
@@ -86,27 +79,32 @@ kept_made places v t undo h len has all =
     ap (λ (os : List (Option Place)). record { number = t; handles = os; undo = undo; area = area_in places (make v t h len).view t }) handles
     ∙ ap (λ (made : AreaState). record (with_made (kept places v t undo) h len) { area = made }) (new_area has len)
 
-module _ (m n : Memory) (c : Core) (valid : IsValid c) (is : IsMemory m (account c.history) c) where
+module _ (m n : Memory) (c : Core) (valid : IsValid c) (is : IsMemory m (account c.history) c) (s : ℕ) where
+  -- what the history says
   abbrev a : Account
   a = account c.history
 
-  abbrev s : State
-  s = valid.behind
+  -- the state behind all records
+  abbrev behind : State
+  behind = valid.behind
 
-  made_goes : (h len : ℕ) → Makes m n h len → Goes n c (New 1 h len)
+  -- what it leaves is the memory of the core then
+  made_goes : (h len : ℕ) → Makes m n s h len → Goes n c (New s h len)
   made_goes h len makes =
-      let t = mine m n c valid is makes.transaction makes.was in
+      let t = mine m n c valid is s makes.transaction makes.was in
       let v = view c.g0 a t.0 in
-      let w = writer_as a c (Some t.0) t.1 valid in
-      let undo = undo_of s t.0.number in
-      call_goes m n c valid is t.0 (New 1 h len) [] s (with_made makes.transaction h len) t.1 tt refl (quiet_records c (New 1 h len) tt refl) makes.left (reached_still m n c valid is) refl
-      (ap (λ y. with_made y h len) t.2 ∙ sym (kept_made c.places v t.0.number undo h len w.made w.handles))
+      let w = writing_of a c s t.0 t.1 valid in
+      let undo = undo_of behind t.0.number in
+      quiet_goes m n c valid is s t.0 (New s h len) m.locks (with_made makes.transaction h len) t.1 tt refl (quiet_records c (New s h len) tt refl) makes.left
+      (ap (λ y. with_made y h len) t.2 ∙ sym (kept_made c.places v t.0.number undo h len w.made w.handles)) (no_lock m n c valid is s t.0 (New s h len) t.1 refl)
 
-  pub new_does : (h len : ℕ) → core_refusal c (New 1 h len) ≡ new_refusal (own m) h len → (result : Result Reply AllocError) → IfOk result (λ reply. reply ≡ reply_of (new_refusal (own m) h len) Done)
-      → (result ≡ Ok Done → Makes m n h len) → ((why : Refusal) → result ≡ Ok (Refused why) → n ≡ m) → IfOk result (λ reply. Does c (New 1 h len) reply n)
+  -- a call that makes an object is answered as the core answers it, and the object is in the area then
+  pub new_does : (h len : ℕ) → core_refusal c (New s h len) ≡ new_refusal (own m s) h len → (result : Result Reply AllocError) → IfOk result (λ reply. reply ≡ reply_of (new_refusal (own m s) h len) Done)
+      → (result ≡ Ok Done → Makes m n s h len) → ((why : Refusal) → result ≡ Ok (Refused why) → n ≡ m)
+      → IfOk result (λ reply. Does c (New s h len) reply n)
   new_does h len same (Err e) replied made_it stayed = tt
   new_does h len same (Ok reply) replied made_it stayed =
-      let event : Event = New 1 h len in
-      does c event (new_refusal (own m) h len) Done reply n same replied (λ e. call_reply-done c.g0 a (a.active 1) event tt)
+      let event : Event = New s h len in
+      does c event (new_refusal (own m s) h len) Done reply n same replied (λ e. call_reply-done c.g0 a (a.active s) event tt)
       (λ e done_it. made_goes h len (made_it (ap Ok done_it)))
       (λ why e. stays m n c valid is (stayed why (ap Ok e)))

@@ -1,4 +1,4 @@
--- The orders of holdings: the derived ones are those of the definitions, total, and tell all holdings apart.
+-- The orders of holdings: the derived ones are those of the definitions, and the one by transactions is total and tells all apart too.
 use Rattle.std.proofs.Common.{◌≡◌, ℕ, ◌<◌, ◌≤◌, ◌^◌, Bool, false, Less, Equal, Greater, refl, sym, ap, ◌∙◌, subst, arith}
 use Rattle.std.specs.BTreeSet.{BTreeSet, Updates}
 use Rattle.std.specs.Ordering.{nat_cmp, ordering_then, is_gt}
@@ -17,7 +17,9 @@ use Rattle.object_locks.specs.contracts.holding.HoldingOrd.TheImpl as holding_or
 use Rattle.object_locks.specs.contracts.holding.ModeOrd.TheImpl as mode_ord
 use Rattle.object_locks.specs.contracts.lock_table.OwnedOrd.TheImpl as owned_ord
 use Rattle.object_locks.specs.Holdings.{holding_cmp, mode_number}
+use Rattle.object_locks.specs.HoldingOrder.{both_tie, mode_exact}
 use Rattle.object_locks.specs.Table.{owned_cmp, owned}
+pub use Rattle.object_locks.specs.HoldingOrder.{holding_total, holding_exact}
 
 same_mode : (a b : Mode) → mode_ord.cmp-value.it a b ≡ nat_cmp (mode_number a) (mode_number b)
 same_mode Shared Shared = refl
@@ -33,36 +35,10 @@ by_object_is i a b = ordering_then (nat_cmp a.key.address b.key.address) (orderi
 pub by_transaction_is : owned_ord.cmp-value.it ≡ owned_cmp
 by_transaction_is i a b = ordering_then (nat_cmp a.transaction b.transaction) (ordering_then (nat_cmp a.key.address b.key.address) (same_mode a.mode b.mode i))
 
-pub holding_total : IsTotalOrder holding_cmp
-holding_total =
-    then_total (on_total (λ (h : Holding). h.key.address) nat_cmp_total)
-    (then_total (on_total (λ (h : Holding). h.transaction) nat_cmp_total) (on_total (λ (h : Holding). mode_number h.mode) nat_cmp_total))
-
 pub owned_total : IsTotalOrder owned_cmp
 owned_total =
     then_total (on_total (λ (h : Owned). h.transaction) nat_cmp_total)
     (then_total (on_total (λ (h : Owned). h.key.address) nat_cmp_total) (on_total (λ (h : Owned). mode_number h.mode) nat_cmp_total))
-
-mode_exact : (a b : Mode) → mode_number a ≡ mode_number b → a ≡ b
-mode_exact Shared Shared e = refl
-mode_exact Shared Exclusive e = cc
-mode_exact Exclusive Shared e = cc
-mode_exact Exclusive Exclusive e = refl
-
--- both parts tie where both orders in turn do
-both_tie : (x y : Ordering) → ordering_then x y ≡ Equal → (x ≡ Equal) × (y ≡ Equal)
-both_tie Less y e = cc
-both_tie Equal y e = (refl, e)
-both_tie Greater y e = cc
-
-pub holding_exact : IsAntisymmetric holding_cmp
-holding_exact a b e =
-    let first = both_tie (nat_cmp a.key.address b.key.address) _ e in
-    let others = both_tie (nat_cmp a.transaction b.transaction) _ first.1 in
-    let k = exact_unsigned _ _ first.0 in
-    let t = exact_unsigned _ _ others.0 in
-    let m = mode_exact a.mode b.mode (exact_unsigned _ _ others.1) in
-    λ i. record { key = record { address = k i }; transaction = t i; mode = m i }
 
 pub owned_exact : IsAntisymmetric owned_cmp
 owned_exact a b e =
