@@ -19,21 +19,22 @@ adds_nothing log = record {
 }
 
 -- nothing is other than it was
-pub leaves_all : (m : Memory) (t : TransactionState) → own m ≡ Some t → LeavesOwn m m [] t
-leaves_all m t is = record {
+pub leaves_all : (m : Memory) (s : ℕ) (t : TransactionState) → own m s ≡ Some t → LeavesOwn m m s [] t m.locks
+leaves_all m s t is = record {
   log = adds_nothing m.log;
   words = refl;
-  table = sym (with_transaction_known m.table 1 t is);
+  table = sym (with_transaction_known m.table s t is);
+  locks = refl;
   spaces = refl;
   sealed = refl;
 }
 
 -- so it is where what was read is no reference
-pub reads_nothing : (m : Memory) (h : ℕ) (meant other : Option Word) → meant ≡ other → ((t : TransactionState) → with_read t h other ≡ t)
-    → IfSome (own m) (λ t. LeavesOwn m m [] (with_read t h meant))
-reads_nothing m h meant other is same =
-    subst (λ (w : Option Word). IfSome (own m) (λ t. LeavesOwn m m [] (with_read t h w))) (sym is) (cases (own m) refl)
+pub reads_nothing : (m : Memory) (s h : ℕ) (meant other : Option Word) → meant ≡ other → ((t : TransactionState) → with_read t h other ≡ t)
+    → IfSome (own m s) (λ t. LeavesOwn m m s [] (with_read t h meant) m.locks)
+reads_nothing m s h meant other is same =
+    subst (λ (w : Option Word). IfSome (own m s) (λ t. LeavesOwn m m s [] (with_read t h w) m.locks)) (sym is) (cases (own m s) refl)
   where
-    cases : (o : Option TransactionState) → own m ≡ o → IfSome o (λ t. LeavesOwn m m [] (with_read t h other))
+    cases : (o : Option TransactionState) → own m s ≡ o → IfSome o (λ t. LeavesOwn m m s [] (with_read t h other) m.locks)
     cases None has = tt
-    cases (Some t) has = subst (λ (u : TransactionState). LeavesOwn m m [] u) (sym (same t)) (leaves_all m t has)
+    cases (Some t) has = subst (λ (u : TransactionState). LeavesOwn m m s [] u m.locks) (sym (same t)) (leaves_all m s t has)

@@ -1,7 +1,8 @@
-pub mod Tables
+pub mod Committed
+pub mod Found
+pub mod Left
+pub mod Made
+pub mod ObjectFields
 pub mod Room
 pub mod SealLaws
-pub mod Found
-pub mod ObjectFields
-pub mod Made
-pub mod Left
+pub mod Tables

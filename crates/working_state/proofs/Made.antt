@@ -3,10 +3,9 @@ use Rattle.std.proofs.Common.{◌≡◌, ℕ, ◌+◌, ◌<◌, ◌≤◌, Bool,
 use Rattle.std.specs.Prelude.{IsSomeAnd, ◌↔◌, if◌then◌else◌}
 use Rattle.std.proofs.lemmas.Bool.{le-ltb, ltb-false, lt-ltb, ltb-true}
 use Rattle.graph_model.specs.declared.reply.Refusal.TheVariants.{Range, VolatileFull}
-use Rattle.graph_model.specs.Plain.{most_fields}
+use Rattle.graph_model.specs.Plain.{most_fields, first_of_two}
 use Rattle.volatile_area.specs.declared.area_error.AreaError.{AreaError}
 use Rattle.volatile_area.specs.declared.area_error.AreaError.TheVariants as area
-use Rattle.heap_model.specs.Core.{first_of_two}
 use Rattle.txn_table.specs.declared.place.Place.TheVariants.{Volatile}
 use Rattle.txn_table.specs.Table.{TransactionState}
 use Rattle.heap_memory.specs.Refusals.{handle_refusal, area_refusal, new_refusal}

@@ -36,10 +36,10 @@ used_with_need log k = used_need (log_tail log) (hand_size log) k
 pub need_little : (log : Log) (k : ℕ) → log_need log k ≤ k + 5
 need_little log k = need_few (hand_size log) k
 
--- the log has room for the records that take these writes back
-pub abort_room : (log : Log) (number : ℕ) (undo : List UndoEntry) → log_used log + end_bytes (length undo) ≤ log_room log
-    → log_used_with log (length (spellings (abort_records number undo))) ≤ log_room log
-abort_room log number undo kept =
+-- the log has room for the records that take these writes back, and for what is kept for other transactions
+pub abort_room : (log : Log) (number others : ℕ) (undo : List UndoEntry) → log_used log + (others + end_bytes (length undo)) ≤ log_room log
+    → log_used_with log (length (spellings (abort_records number undo))) + others ≤ log_room log
+abort_room log number others undo kept =
     let size : length (spellings (abort_records number undo)) + 5 ≡ end_bytes (length undo) = abort_length number undo in
     let more = used_more (log_tail log) (hand_size log) (length (spellings (abort_records number undo))) in
     omega arith

@@ -1,3 +1,5 @@
 pub mod Reserve
+pub mod ReserveLaws
 pub mod Seal
 pub mod State
+pub mod StateLaws

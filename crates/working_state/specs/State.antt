@@ -1,21 +1,27 @@
 -- The working state, as contracts see it.
-use Rattle.std.specs.Prelude.{List, ℕ}
+use Rattle.std.specs.Prelude.{List, ℕ, fold}
+use Rattle.std.specs.FinSet as set
 use Rattle.gated_log.specs.declared.Log.{Log}
+use Rattle.graph_model.specs.History.{sessions}
 use Rattle.log_machine.specs.Machine.{taken_back}
 use Rattle.heap_spaces.specs.Spaces.{SpacesState}
-use Rattle.txn_table.specs.Table.{new_table}
+use Rattle.txn_table.specs.Table.{TableState, new_table, transaction_of}
 use Rattle.heap_memory.specs.Memory.{Memory}
-use Rattle.working_state.specs.Reserve.{active_undo}
+use Rattle.working_state.specs.Reserve.{undo_if}
 use Rattle.working_state.specs.declared.working.Working.{Working}
 
 -- what it keeps
 abbrev pub memory : Working → Memory
-memory w = record { log = w.log; words = w.words; spaces = w.spaces; table = w.table; sealed = w.sealed }
+memory w = record { log = w.log; words = w.words; spaces = w.spaces; table = w.table; locks = w.locks; sealed = w.sealed }
 
 -- what that of a heap keeps that was just opened
 abbrev pub opened : Log → List ℕ → SpacesState → ℕ → Memory
-opened log words spaces next = record { log = log; words = words; spaces = spaces; table = new_table next; sealed = 0 }
+opened log words spaces next = record { log = log; words = words; spaces = spaces; table = new_table next; locks = set.empty; sealed = 0 }
 
--- the words without what an active transaction wrote
+-- the words without what the transactions of these sessions wrote: the writes of each are taken back, session after session
+abbrev pub without_writes : TableState → List ℕ → List ℕ → List ℕ
+without_writes table words ss = fold (λ now s. taken_back (undo_if (transaction_of table s)) now) words ss
+
+-- the words without what active transactions wrote
 abbrev pub committed : Working → List ℕ
-committed w = taken_back (active_undo w.table) w.words
+committed w = without_writes w.table w.words sessions

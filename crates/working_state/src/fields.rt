@@ -7,12 +7,14 @@ ghost use Rattle.object_layout.specs.Layout.{field_words};
 ghost use Rattle.heap_memory.specs.Memory.{own, own_fields, fields_at as words_at};
 ghost use Rattle.working_state.specs.Reserve.{can_refer};
 
-use crate::log_room::log_refusal;
-use crate::working::{SESSION, Working, refused};
+use crate::locking::{keep_write, lock_refusal};
+use crate::log_room::{UNDO_BYTES, log_refusal};
+use crate::working::{Working, refused};
 use graph_model::{Refusal, Reply};
 use heap_words::{Header, Word, decode, encode, header_of};
-use log_machine::{UndoEntry, end_bytes};
+use log_machine::UndoEntry;
 use log_records::Record;
+use object_locks::Mode;
 use std::alloc::AllocError;
 use txn_table::Place;
 
@@ -43,22 +45,22 @@ impl Working {
     ghost use Rattle.working_state.specs.State.{memory};
 
     /// The words of the fields of the object at a place, in order, and none where no object stands.
-    pub(crate) fn fields(&self, place: Place) -> &[u64]
-        requires { IsSome (own (memory self.now)) }
-        ensures { IfSome (own (memory self.now)) (λ t. result.now ≡ words_at self.now.words t.area place) }
+    pub(crate) fn fields(&self, session: u32, place: Place) -> &[u64]
+        requires { IsSome (own (memory self.now) session) }
+        ensures { IfSome (own (memory self.now) session) (λ t. result.now ≡ words_at self.now.words t.area place) }
     {
         match place {
             Place::Stable(at) => fields_at(self.words.as_slice(), at),
-            Place::Volatile(at) => self.own_fields(at),
+            Place::Volatile(at) => self.own_fields(session, at),
         }
     }
 
     /// The same of an object that the transaction has made.
-    fn own_fields(&self, at: u32) -> &[u64]
-        requires { IsSome (own (memory self.now)) }
-        ensures { IfSome (own (memory self.now)) (λ t. result.now ≡ own_fields t.area at) }
+    fn own_fields(&self, session: u32, at: u32) -> &[u64]
+        requires { IsSome (own (memory self.now) session) }
+        ensures { IfSome (own (memory self.now) session) (λ t. result.now ≡ own_fields t.area at) }
     {
-        let area = self.table.area(SESSION);
+        let area = self.table.area(session);
         if area.is_object(at) {
             area.fields(at)
         } else {
@@ -67,39 +69,51 @@ impl Working {
     }
 
     /// Puts a word into a field of the object at a place.
-    pub(crate) fn write(&mut self, place: Place, i: u64, word: Word) -> Result<Reply, AllocError>
-        requires active { IsSome (own (memory self.old)) }
+    pub(crate) fn write(
+        &mut self,
+        session: u32,
+        place: Place,
+        i: u64,
+        word: Word,
+    ) -> Result<Reply, AllocError>
+        requires active { IsSome (own (memory self.old) session) }
         requires meant { IsWord word }
-        ensures reply { IfOk result (λ reply. reply ≡ reply_of (write_refusal (memory self.old) place i) Done) }
-        ensures done { result ≡ Ok Done → Writes (memory self.old) (memory self.new) place i (bits word) }
+        ensures reply { IfOk result (λ reply. reply ≡ reply_of (write_refusal (memory self.old) session place i) Done) }
+        ensures done { result ≡ Ok Done → Writes (memory self.old) (memory self.new) session place i (bits word) }
         ensures refused { (why : _) → result ≡ Ok (Reply.Refused why) → IsAsItWas (memory self.old) (memory self.new) }
         ensures err { OnErr result (IsAsItWas (memory self.old) (memory self.new)) }
     {
-        if i >= self.fields(place).len() as u64 {
+        if i >= self.fields(session, place).len() as u64 {
             return Ok(refused(Refusal::BadField));
         }
         match place {
-            Place::Stable(at) => self.write_stable(at, i as u16, encode(word)),
+            Place::Stable(at) => self.write_stable(session, at, i as u16, encode(word)),
             Place::Volatile(at) => {
-                self.table.set_field(SESSION, at, i as u32, encode(word));
+                self.table.set_field(session, at, i as u32, encode(word));
                 Ok(Reply::Done)
             }
         }
     }
 
-    /// Puts a word into a field of an object that stands in the current space: the before-image goes to the log.
-    fn write_stable(&mut self, object: u32, field: u16, word: u64) -> Result<Reply, AllocError>
-        requires active { IsSome (own (memory self.old)) }
+    /// Puts a word into a field of an object that stands in the current space: it is locked, and the before-image goes to the log.
+    fn write_stable(
+        &mut self,
+        session: u32,
+        object: u32,
+        field: u16,
+        word: u64,
+    ) -> Result<Reply, AllocError>
+        requires active { IsSome (own (memory self.old) session) }
         requires there { field < length (field_words self.old.words object) }
-        ensures reply { IfOk result (λ reply. reply ≡ reply_of (write_refusal (memory self.old) (Place.Stable object) field) Done) }
-        ensures done { result ≡ Ok Done → Writes (memory self.old) (memory self.new) (Place.Stable object) field word }
+        ensures reply { IfOk result (λ reply. reply ≡ reply_of (write_refusal (memory self.old) session (Place.Stable object) field) Done) }
+        ensures done { result ≡ Ok Done → Writes (memory self.old) (memory self.new) session (Place.Stable object) field word }
         ensures refused { (why : _) → result ≡ Ok (Reply.Refused why) → IsAsItWas (memory self.old) (memory self.new) }
         ensures err { OnErr result (IsAsItWas (memory self.old) (memory self.new)) }
     {
         let was = self
             .words
             .word(object + FIELDS_AT as u32 + u32::from(field));
-        let t = self.table.number(SESSION);
+        let t = self.table.number(session);
         let rec = Record::Update {
             t,
             object,
@@ -107,42 +121,46 @@ impl Working {
             was,
             word,
         };
-        let writes = self.table.undo(SESSION).len() as u64 + 1;
-        if let Some(why) = log_refusal(&self.log, self.log.need(&rec), end_bytes(writes)) {
+        if let Some(why) = lock_refusal(&self.locks, t, Mode::Exclusive, object) {
+            return Ok(refused(why));
+        }
+        let reserved = self.reserved + UNDO_BYTES;
+        if let Some(why) = log_refusal(&self.log, self.log.need(&rec), reserved) {
             return Ok(refused(why));
         }
         self.log.reserve(log_records::length(&rec) as usize)?;
         let entry = UndoEntry { object, field, was };
-        self.table.push_undo(SESSION, entry)?;
+        keep_write(&mut self.table, &mut self.locks, session, entry)?;
         self.log.append(&rec)?;
         self.words.apply(&rec);
+        self.reserved = reserved;
         Ok(Reply::Done)
     }
 
     /// What a field is answered that was read; a handle holds what it refers to.
-    pub(crate) fn read_into(&mut self, h: u64, word: u64) -> Reply
-        requires active { IsSome (own (memory self.old)) }
+    pub(crate) fn read_into(&mut self, session: u32, h: u64, word: u64) -> Reply
+        requires active { IsSome (own (memory self.old) session) }
         requires within { h < 64 }
         ensures reply { result ≡ word_reply (meaning word) }
-        ensures left { IfSome (own (memory self.old)) (λ t. LeavesOwn (memory self.old) (memory self.new) [] (with_read t h (meaning word))) }
+        ensures left { IfSome (own (memory self.old) session) (λ t. LeavesOwn (memory self.old) (memory self.new) session [] (with_read t h (meaning word)) self.old.locks) }
     {
         match decode(word) {
             Some(Word::Int(v)) => Reply::Int { v },
-            Some(Word::Stable(at)) => self.refer(h, Place::Stable(at)),
-            Some(Word::Volatile(at)) => self.refer(h, Place::Volatile(at)),
+            Some(Word::Stable(at)) => self.refer(session, h, Place::Stable(at)),
+            Some(Word::Volatile(at)) => self.refer(session, h, Place::Volatile(at)),
             Some(Word::Null) => Reply::Null,
             None => Reply::Null,
         }
     }
 
-    fn refer(&mut self, h: u64, to: Place) -> Reply
-        requires active { IsSome (own (memory self.old)) }
+    fn refer(&mut self, session: u32, h: u64, to: Place) -> Reply
+        requires active { IsSome (own (memory self.old) session) }
         requires within { h < 64 }
         requires meant { can_refer (Some to) ≡ true }
         ensures reply { result ≡ Reply.Reference }
-        ensures left { IfSome (own (memory self.old)) (λ t. LeavesOwn (memory self.old) (memory self.new) [] (with_handle t h (Some to))) }
+        ensures left { IfSome (own (memory self.old) session) (λ t. LeavesOwn (memory self.old) (memory self.new) session [] (with_handle t h (Some to)) self.old.locks) }
     {
-        self.table.set_handle(SESSION, h as u32, Some(to));
+        self.table.set_handle(session, h as u32, Some(to));
         Reply::Reference
     }
 }

@@ -1,15 +1,22 @@
 //! What the log has room for.
-ghost use Rattle.std.specs.Prelude.{◌≡◌, ◌+◌, ◌<◌, ◌^◌, length};
+ghost use Rattle.std.specs.Prelude.{◌≡◌, ◌+◌, ◌<◌, ◌^◌, length, IfSome, IsSome};
 ghost use Rattle.gated_log.specs.LogState.{log_need};
 ghost use Rattle.log_records.specs.Record.{spellings};
+ghost use Rattle.log_machine.specs.Machine.{end_bytes};
+ghost use Rattle.heap_memory.specs.Memory.{own};
 ghost use Rattle.heap_memory.specs.Refusals.{no_room};
 
+use crate::working::Working;
 use gated_log::Log;
 use graph_model::Refusal;
+use log_machine::end_bytes;
 use log_records::Record;
 
 /// The bytes that a batch takes beside its records: its length, and the gate behind it.
 const BATCH_BYTES: u64 = 5;
+
+/// The bytes that are kept to take a write back.
+pub(crate) const UNDO_BYTES: u64 = 19;
 
 /// Why the log has no room for an event, if it hasn't: by the bytes that the event needs, and those kept after it.
 pub(crate) fn log_refusal(log: &Log, need: u64, reserved: u64) -> Option<Refusal>
@@ -39,6 +46,21 @@ pub(crate) fn need_of(log: &Log, records: &[Record]) -> u64
         own
     } else {
         own + BATCH_BYTES
+    }
+}
+
+impl Working {
+    ghost use Rattle.heap_memory.specs.Refusals.{reserved_without};
+    ghost use Rattle.working_state.specs.State.{memory};
+
+    /// The bytes that are kept for the ends of all transactions but that of the session, when it ends.
+    pub(crate) fn reserved_without(&self, session: u32) -> u64
+        requires { IsSome (own (memory self.now) session) }
+        ensures without { IfSome (own (memory self.now) session) (λ t. result ≡ reserved_without self.now.table t) }
+        ensures kept { IfSome (own (memory self.now) session) (λ t. result + end_bytes (length t.undo) ≡ self.now.reserved) }
+    {
+        let writes = self.table.undo(session).len() as u64;
+        self.reserved - end_bytes(writes)
     }
 }
 

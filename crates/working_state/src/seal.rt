@@ -10,7 +10,7 @@ ghost use Rattle.log_records.specs.Record.{spellings};
 ghost use Rattle.working_state.specs.Seal.{IsFound};
 
 use crate::log_room::{log_refusal, need_of};
-use crate::working::{SESSION, Working, refused};
+use crate::working::{Working, refused};
 use graph_model::{Refusal, Reply};
 use heap_spaces::Spaces;
 use log_records::Record;
@@ -39,52 +39,61 @@ impl Working {
     ghost use Rattle.heap_memory.specs.Leaves.{IsAsItWas, Seals};
     ghost use Rattle.working_state.specs.State.{memory};
 
-    /// Seals the transaction: what its writes have made reachable from the objects of the current space is promoted.
-    pub fn seal(&mut self, alloc: Global) -> Result<Reply, AllocError>
-        ensures reply { IfOk result (λ reply. reply ≡ reply_of (seal_refusal (memory self.old)) (Sealed (self.old.sealed + 1))) }
-        ensures sealed { (number : _) → result ≡ Ok (Sealed number) → Seals (memory self.old) (memory self.new) }
+    /// Seals the transaction, and tells how many have been sealed since the heap was opened. What its writes have made reachable from the
+    /// objects of the current space is promoted, and its locks are free again.
+    pub fn seal(&mut self, session: u32, alloc: Global) -> Result<Reply, AllocError>
+        ensures reply { IfOk result (λ reply. reply ≡ reply_of (seal_refusal (memory self.old) session) (Sealed (self.old.sealed + 1))) }
+        ensures sealed { (number : _) → result ≡ Ok (Sealed number) → Seals (memory self.old) (memory self.new) session }
         ensures refused { (why : _) → result ≡ Ok (Reply.Refused why) → IsAsItWas (memory self.old) (memory self.new) }
         ensures err { OnErr result (IsAsItWas (memory self.old) (memory self.new)) }
     {
-        if !self.table.active(SESSION) {
+        if !self.table.active(session) {
             return Ok(refused(Refusal::NotActive));
         }
-        let sealing = self.sealing(alloc)?;
+        let sealing = self.sealing(session, alloc)?;
         if let Some(why) = space_refusal(&self.spaces, sealing.need()) {
             return Ok(refused(why));
         }
-        let records = self.seal_records(alloc, &sealing)?;
-        if let Some(why) = log_refusal(&self.log, need_of(&self.log, &records), 0) {
+        let records = self.seal_records(session, alloc, &sealing)?;
+        let others = self.reserved_without(session);
+        if let Some(why) = log_refusal(&self.log, need_of(&self.log, &records), others) {
             return Ok(refused(why));
         }
         self.log.append_all(&records)?;
         self.words.apply_all(&records);
         let _taken = self.spaces.take(sealing.need());
-        self.table.end(SESSION);
+        self.locks.release(self.table.number(session));
+        self.table.end(session);
+        self.reserved = others;
         self.sealed += 1;
         Ok(Reply::Sealed { n: self.sealed })
     }
 
     /// What the seal of the transaction promotes.
-    fn sealing(&self, alloc: Global) -> Result<Sealing, AllocError>
-        requires { IsSome (own (memory self.now)) }
-        ensures { IfOk result (λ found. IfSome (own (memory self.now)) (λ t. IsFound (memory self.now) t found)) }
+    fn sealing(&self, session: u32, alloc: Global) -> Result<Sealing, AllocError>
+        requires { IsSome (own (memory self.now) session) }
+        ensures { IfOk result (λ found. IfSome (own (memory self.now) session) (λ t. IsFound (memory self.now) t found)) }
     {
-        let area = self.table.area(SESSION);
-        let undo = self.table.undo(SESSION);
+        let area = self.table.area(session);
+        let undo = self.table.undo(session);
         Sealing::new(alloc, area, self.words.as_slice(), undo)
     }
 
     /// The records of the seal of the transaction, which promotes this.
-    fn seal_records(&self, alloc: Global, sealing: &Sealing) -> Result<Vec<Record>, AllocError>
-        requires active { IsSome (own (memory self.now)) }
-        requires found { IfSome (own (memory self.now)) (λ t. IsFound (memory self.now) t sealing.now) }
+    fn seal_records(
+        &self,
+        session: u32,
+        alloc: Global,
+        sealing: &Sealing,
+    ) -> Result<Vec<Record>, AllocError>
+        requires active { IsSome (own (memory self.now) session) }
+        requires found { IfSome (own (memory self.now) session) (λ t. IsFound (memory self.now) t sealing.now) }
         requires room { sealing.now.need ≤ open_words self.now.spaces }
-        ensures records { IfOk result (λ records. IfSome (own (memory self.now)) (λ t. records.items ≡ sealing_records (memory self.now) t)) }
+        ensures records { IfOk result (λ records. IfSome (own (memory self.now) session) (λ t. records.items ≡ sealing_records (memory self.now) t)) }
         ensures inside { IfOk result (λ records. EachWritesBelow (length self.now.words) records.items) }
         ensures few { IfOk result (λ records. length (spellings records.items) < 2 ^ 32 + 2 ^ 24) }
     {
-        let area = self.table.area(SESSION);
+        let area = self.table.area(session);
         let address = self.spaces.next_free();
         sealing.records(alloc, area, self.words.as_slice(), address)
     }

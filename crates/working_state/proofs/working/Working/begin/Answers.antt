@@ -1,28 +1,21 @@
-use Rattle.std.proofs.Common.{length, sym, ap, ◌∙◌, subst, arith, List, Option}
-use Rattle.txn_table.specs.declared.place.Place.{Place}
-use Rattle.txn_table.specs.Table.{TableState, transaction_of}
-use Rattle.txn_table.specs.TableLaws.{with_begun_same}
-use Rattle.log_machine.specs.declared.UndoEntry.{UndoEntry}
-use Rattle.working_state.specs.Reserve.{kept_for_end, undo_if, handles_if, WroteBelow, HoldPlaces}
-use Rattle.working_state.proofs.Tables.{held_new}
+use Rattle.std.proofs.Common.{◌+◌, ◌<◌, ◌^◌, length, refl, sym, ◌∙◌, arith}
+use Rattle.log_machine.specs.Machine.{end_bytes}
+use Rattle.txn_table.specs.Table.{transaction_of, with_begun}
+use Rattle.working_state.proofs.Tables.{idle, sound_same, sound_begun}
 use Rattle.working_state.proofs.Room.{room_left}
 use Rattle.working_state.proofs.working.Working.begin.Goals as goal
 
-pub invariant_of-self-clause-inside : goal.invariant_of-self-clause-inside
-invariant_of-self-clause-inside c =
+pub invariant_of-self-clause-sound : goal.invariant_of-self-clause-sound
+invariant_of-self-clause-sound c =
     let old = c.args.self.now in
-    let now = ap (λ (table : TableState). transaction_of table 1) c.begin-number.ensures.begun ∙ with_begun_same old.table 1 in
-    subst (λ (us : List UndoEntry). WroteBelow (length old.words) us) (sym (ap undo_if now)) (λ k d within. absurd (omega arith))
+    let none = idle (transaction_of old.table c.args.session) c.active.result c.active.ensures c.if-active.false in
+    let small : old.table.next + 1 < 2 ^ 32 = omega arith in
+    let begun = sound_begun old.table (length old.words) old.reserved old.sealed c.args.session old.sound (c.requires.first, c.requires.last) none small in
+    sound_same (with_begun old.table c.args.session) c.begin-number.new.self (length old.words) (length old.words) (old.reserved + end_bytes 0) (old.reserved + c.end_bytes.result) old.sealed
+    begun c.begin-number.ensures.begun refl (omega (arith, c.end_bytes.ensures))
 
-pub invariant_of-self-clause-held : goal.invariant_of-self-clause-held
-invariant_of-self-clause-held c =
+pub invariant_of-self-clause-room : goal.invariant_of-self-clause-room
+invariant_of-self-clause-room c =
     let old = c.args.self.now in
-    let now = ap (λ (table : TableState). transaction_of table 1) c.begin-number.ensures.begun ∙ with_begun_same old.table 1 in
-    subst (λ (hs : List (Option Place)). HoldPlaces hs) (sym (ap handles_if now)) (held_new old.table.next)
-
-pub invariant_of-self-clause-reserve : goal.invariant_of-self-clause-reserve
-invariant_of-self-clause-reserve c =
-    let old = c.args.self.now in
-    let now = ap kept_for_end (ap (λ (table : TableState). transaction_of table 1) c.begin-number.ensures.begun ∙ with_begun_same old.table 1) in
-    let left = room_left old.log 0 _ (sym c.log_refusal.ensures ∙ c.in_default.is) in
-    omega (arith, now, left, c.end_bytes.ensures)
+    let left = room_left old.log 0 (old.reserved + c.end_bytes.result) (sym c.log_refusal.ensures ∙ c.in_default.is) in
+    omega (arith, left)

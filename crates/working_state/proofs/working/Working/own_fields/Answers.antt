@@ -9,7 +9,7 @@ use Rattle.working_state.proofs.working.Working.own_fields.Goals as goal
 pub returns-else-is_object : goal.returns-else-is_object
 returns-else-is_object c =
     let at = c.args.at in
-    map_some (transaction_of c.args.self.now.table 1) (λ (t : TransactionState). c.area-area.result.now ≡ t.area) (λ (t : TransactionState). [] ≡ own_fields t.area at)
+    map_some (transaction_of c.args.self.now.table c.args.session) (λ (t : TransactionState). c.area-area.result.now ≡ t.area) (λ (t : TransactionState). [] ≡ own_fields t.area at)
     (λ t is. own_none t.area at (λ has.
     let yes : c.is_object.result ≡ true = c.is_object.ensures.1 (subst (λ (a : AreaState). Contains (starts_of a) at) (sym is) has) in
     absurd (cc (yes, c.if-is_object.false))))

@@ -1,18 +1,18 @@
-use Rattle.std.proofs.Common.{◌≡◌, ℕ, ◌+◌, ◌<◌, ◌++◌, List, length, Option, refl, sym, ap, ◌∙◌, subst, arith}
-use Rattle.std.specs.Prelude.{◌^◌, IfSome, fold}
+use Rattle.std.proofs.Common.{◌≡◌, ◌+◌, ◌<◌, ◌++◌, List, length, refl, sym, ap, ◌∙◌, subst, arith}
+use Rattle.std.specs.Prelude.{◌^◌, fold}
 use Rattle.gated_log.specs.LogState.{log_need, Keeps}
 use Rattle.heap_spaces.specs.Spaces.{SpacesState, with_taken}
 use Rattle.log_records.specs.declared.Record.{Record}
 use Rattle.log_records.specs.Record.{spellings}
-use Rattle.log_machine.specs.Machine.{words_in, put_record}
+use Rattle.log_machine.specs.Machine.{words_in, put_record, end_bytes}
 use Rattle.log_machine.specs.Effect.{EachWritesBelow}
 use Rattle.graph_words.specs.SealingWords.{length-records}
-use Rattle.txn_table.specs.Table.{TransactionState, TableState, transaction_of}
+use Rattle.object_locks.specs.Holdings.{without}
+use Rattle.txn_table.specs.Table.{transaction_of, with_ended}
 use Rattle.heap_memory.specs.Refusals.{sealing_records}
-use Rattle.working_state.specs.Reserve.{kept_for_end, one_if}
 use Rattle.working_state.specs.Seal.{IsFound}
 use Rattle.working_state.specs.State.{memory}
-use Rattle.working_state.proofs.Tables.{there, count_one, ended, inside_ended, held_ended}
+use Rattle.working_state.proofs.Tables.{there, told, sound_same, sound_ended}
 use Rattle.working_state.proofs.Room.{room_left, need_little, used_with_need, space_left, taken_is}
 use Rattle.working_state.proofs.working.Working.seal.Goals as goal
 
@@ -30,52 +30,60 @@ pub apply_all-requires : goal.apply_all-requires
 apply_all-requires c =
     subst (λ (rs : List Record). EachWritesBelow (length c.args.self.now.words) rs) (sym c.deref-3.ensures.value) c.in_ok-records.ensures.inside
 
+pub log_refusal-requires-clause-reserved : goal.log_refusal-requires-clause-reserved
+log_refusal-requires-clause-reserved c =
+    let s = c.args.self.now in
+    let o = transaction_of s.table c.args.session in
+    let t = there o (c.active.ensures.0 c.if-not-active.false) in
+    let kept = told o t.0 (λ v. c.reserved_without-others.result + end_bytes (length v.undo) ≡ s.reserved) t.1 c.reserved_without-others.ensures.kept in
+    omega (arith, kept, s.room, s.log.small)
+
 pub overflow_add-self : goal.overflow_add-self
 overflow_add-self c =
     let s = c.args.self.now in
-    omega (arith, s.counted, s.numbered)
+    omega (arith, s.sound.counted, s.sound.numbered)
 
-pub invariant_of-self-2-clause-reserve : goal.invariant_of-self-2-clause-reserve
-invariant_of-self-2-clause-reserve c =
+pub invariant_of-self-3-clause-room : goal.invariant_of-self-3-clause-room
+invariant_of-self-3-clause-room c =
     let s = c.args.self.now in
-    let left = room_left s.log c.need_of.result 0 (sym c.log_refusal.ensures ∙ c.in_default-log_refusal.is) in
+    let left = room_left s.log c.need_of.result c.reserved_without-others.result (sym c.log_refusal.ensures ∙ c.in_default-log_refusal.is) in
     let same = ap (λ (rs : List Record). length (spellings rs)) (c.deref.ensures.value ∙ sym c.deref-2.ensures.value) in
     let need = c.need_of.ensures ∙ ap (log_need s.log) same in
     let more = used_with_need s.log (length (spellings c.deref-2.result.now)) in
-    omega (arith, left, need, more, c.in_ok-append_all.ensures.used, c.in_ok-append_all.ensures.place.room, ap kept_for_end (ended s.table c.end.new.self c.end.ensures))
+    omega (arith, left, need, more, c.in_ok-append_all.ensures.used, c.in_ok-append_all.ensures.place.room)
 
-pub invariant_of-self-2-clause-counted : goal.invariant_of-self-2-clause-counted
-invariant_of-self-2-clause-counted c =
+pub invariant_of-self-3-clause-sound : goal.invariant_of-self-3-clause-sound
+invariant_of-self-3-clause-sound c =
     let s = c.args.self.now in
-    let is = ended s.table c.end.new.self c.end.ensures in
-    let next = ap (λ (t : TableState). t.next) c.end.ensures in
-    omega (arith, s.counted, count_one s.table (c.active.ensures.0 c.if-not-active.false), ap one_if is, next)
+    let others = c.reserved_without-others.result in
+    let o = transaction_of s.table c.args.session in
+    let t = there o (c.active.ensures.0 c.if-not-active.false) in
+    let kept = told o t.0 (λ v. others + end_bytes (length v.undo) ≡ s.reserved) t.1 c.reserved_without-others.ensures.kept in
+    let ended = sound_ended s.table (length s.words) s.reserved others s.sealed (s.sealed + 1) c.args.session t.0 s.sound t.1 kept (omega arith) in
+    let long : length c.apply_all.new.self ≡ length s.words = ap length c.apply_all.ensures ∙ length-records c.deref-3.result.now s.words in
+    sound_same (with_ended s.table c.args.session) c.end.new.self (length s.words) (length c.apply_all.new.self) others others (s.sealed + 1) ended c.end.ensures long refl
 
-pub invariant_of-self-2-clause-sized : goal.invariant_of-self-2-clause-sized
-invariant_of-self-2-clause-sized c =
+pub invariant_of-self-3-clause-sized : goal.invariant_of-self-3-clause-sized
+invariant_of-self-3-clause-sized c =
     let s = c.args.self.now in
-    let long : length c.apply_all.new.self ≡ length s.words = ap (λ (ws : List ℕ). length ws) c.apply_all.ensures ∙ length-records c.deref-3.result.now s.words in
+    let long : length c.apply_all.new.self ≡ length s.words = ap length c.apply_all.ensures ∙ length-records c.deref-3.result.now s.words in
     let room = space_left s.spaces c.need.result (sym c.space_refusal.ensures ∙ c.in_default.is) in
     let taken = taken_is c.take-taken.result s.spaces c.take-taken.new.self c.need.result c.need-2.result c.take-taken.ensures.exhausted c.take-taken.ensures.taken (c.need-2.ensures ∙ sym c.need.ensures) room in
     long ∙ s.sized ∙ sym (ap (λ (spaces : SpacesState). words_in spaces.pages) taken)
 
-pub invariant_of-self-2-clause-few : goal.invariant_of-self-2-clause-few
-invariant_of-self-2-clause-few c =
+pub invariant_of-self-3-clause-few : goal.invariant_of-self-3-clause-few
+invariant_of-self-3-clause-few c =
     let s = c.args.self.now in
-    omega (arith, s.few, ap (λ (ws : List ℕ). length ws) c.apply_all.ensures ∙ length-records c.deref-3.result.now s.words)
-
-pub invariant_of-self-2-clause-inside : goal.invariant_of-self-2-clause-inside
-invariant_of-self-2-clause-inside c = inside_ended (length c.apply_all.new.self) c.end.new.self (ended c.args.self.now.table c.end.new.self c.end.ensures)
-
-pub invariant_of-self-2-clause-held : goal.invariant_of-self-2-clause-held
-invariant_of-self-2-clause-held c = held_ended c.end.new.self (ended c.args.self.now.table c.end.new.self c.end.ensures)
+    omega (arith, s.few, ap length c.apply_all.ensures ∙ length-records c.deref-3.result.now s.words)
 
 pub returns-clause-sealed : goal.returns-clause-sealed
 returns-clause-sealed c number is =
     let s = c.args.self.now in
-    let t = there (transaction_of s.table 1) (c.active.ensures.0 c.if-not-active.false) in
-    let found = subst (λ (o : Option TransactionState). IfSome o (λ v. IsFound (memory s) v c.in_ok-sealing.sealing)) t.1 c.in_ok-sealing.ensures in
-    let same = subst (λ (o : Option TransactionState). IfSome o (λ v. c.in_ok-records.records.items ≡ sealing_records (memory s) v)) t.1 c.in_ok-records.ensures.records in
+    let o = transaction_of s.table c.args.session in
+    let t = there o (c.active.ensures.0 c.if-not-active.false) in
+    let found = told o t.0 (λ v. IsFound (memory s) v c.in_ok-sealing.sealing) t.1 c.in_ok-sealing.ensures in
+    let same = told o t.0 (λ v. c.in_ok-records.records.items ≡ sealing_records (memory s) v) t.1 c.in_ok-records.ensures.records in
+    let as_number = told o t.0 (λ v. c.number.result ≡ v.number) t.1 c.number.ensures in
     let room = space_left s.spaces c.need.result (sym c.space_refusal.ensures ∙ c.in_default.is) in
     let taken = taken_is c.take-taken.result s.spaces c.take-taken.new.self c.need.result c.need-2.result c.take-taken.ensures.exhausted c.take-taken.ensures.taken (c.need-2.ensures ∙ sym c.need.ensures) room in
     record {
@@ -88,6 +96,7 @@ returns-clause-sealed c number is =
         };
         words = c.apply_all.ensures ∙ ap (λ (rs : List Record). fold put_record s.words rs) (c.deref-3.ensures.value ∙ same);
         table = c.end.ensures;
+        locks = c.release.ensures ∙ ap (without s.locks) as_number;
         spaces = taken ∙ ap (with_taken s.spaces) (c.need.ensures ∙ found.need);
         sealed = refl;
       };

@@ -1,6 +1,5 @@
-use Rattle.std.proofs.Common.{◌≡◌, length, List, Option, Some, sym, ap, ◌∙◌, subst, arith}
+use Rattle.std.proofs.Common.{◌≡◌, ℕ, length, List, Option, Some, sym, ap, ◌∙◌, subst, arith}
 use Rattle.std.specs.Prelude.{IsSome, IfSome}
-use Rattle.log_machine.specs.declared.UndoEntry.{UndoEntry}
 use Rattle.gated_log.specs.LogState.{log_room, log_used}
 use Rattle.log_machine.specs.Effect.{EachWritesBelow}
 use Rattle.log_records.specs.declared.Record.{Record}
@@ -10,53 +9,50 @@ use Rattle.volatile_area.specs.Area.{AreaState}
 use Rattle.sealing.specs.declared.sealing.Sealing.{Sealing}
 use Rattle.heap_memory.specs.Refusals.{sealing_records}
 use Rattle.working_state.specs.declared.working.Working.{Working}
-use Rattle.working_state.specs.Reserve.{kept_for_end, undo_if, WroteBelow}
 use Rattle.working_state.specs.Seal.{IsFound}
 use Rattle.working_state.specs.State.{memory}
-use Rattle.working_state.proofs.Tables.{there}
+use Rattle.working_state.proofs.Tables.{there, told, kept_own}
 use Rattle.working_state.proofs.Found.{map_ok, records_are, fields_inside, objects_there, objects_ascend, records_below, records_few}
 use Rattle.working_state.proofs.working.Working.seal_records.Goals as goal
 
-found : (s : Working) (x : Sealing) (area : AreaState) → IsSome (transaction_of s.table 1) → IfSome (transaction_of s.table 1) (λ t. IsFound (memory s) t x)
-    → IfSome (transaction_of s.table 1) (λ t. area ≡ t.area)
-    → (t : TransactionState) × (transaction_of s.table 1 ≡ Some t) × IsFound (memory s) t x × (area ≡ t.area)
-found s x area active is ea =
-    let t = there (transaction_of s.table 1) active in
-    (t.0, t.1, subst (λ (o : Option TransactionState). IfSome o (λ t. IsFound (memory s) t x)) t.1 is, subst (λ (o : Option TransactionState). IfSome o (λ t. area ≡ t.area)) t.1 ea)
-
-below : (s : Working) (t : TransactionState) → transaction_of s.table 1 ≡ Some t → WroteBelow (length s.words) t.undo
-below s t is = subst (λ (us : List UndoEntry). WroteBelow (length s.words) us) (ap undo_if is) s.inside
+found : (s : Working) (session : ℕ) (x : Sealing) (area : AreaState) → IsSome (transaction_of s.table session) → IfSome (transaction_of s.table session) (λ t. IsFound (memory s) t x)
+    → IfSome (transaction_of s.table session) (λ t. area ≡ t.area)
+    → (t : TransactionState) × (transaction_of s.table session ≡ Some t) × IsFound (memory s) t x × (area ≡ t.area)
+found s session x area active is ea =
+    let o = transaction_of s.table session in
+    let t = there o active in
+    (t.0, t.1, told o t.0 (λ v. IsFound (memory s) v x) t.1 is, told o t.0 (λ v. area ≡ v.area) t.1 ea)
 
 pub records-requires-clause-inside : goal.records-requires-clause-inside
 records-requires-clause-inside c =
-    let f = found c.args.self.now c.args.sealing.now c.area-area.result.now c.requires.active c.requires.found c.area-area.ensures in
-    fields_inside (memory c.args.self.now) f.0 c.args.sealing.now c.as_slice.result.now f.2 c.as_slice.ensures (below c.args.self.now f.0 f.1)
+    let f = found c.args.self.now c.args.session c.args.sealing.now c.area-area.result.now c.requires.active c.requires.found c.area-area.ensures in
+    fields_inside (memory c.args.self.now) f.0 c.args.sealing.now c.as_slice.result.now f.2 c.as_slice.ensures (c.args.self.now.sound.each c.args.session f.0 f.1).inside
 
 pub records-requires-clause-there : goal.records-requires-clause-there
-records-requires-clause-there c = let f = found c.args.self.now c.args.sealing.now c.area-area.result.now c.requires.active c.requires.found c.area-area.ensures in objects_there (memory c.args.self.now) f.0 c.args.sealing.now c.area-area.result.now f.2 f.3
+records-requires-clause-there c = let f = found c.args.self.now c.args.session c.args.sealing.now c.area-area.result.now c.requires.active c.requires.found c.area-area.ensures in objects_there (memory c.args.self.now) f.0 c.args.sealing.now c.area-area.result.now f.2 f.3
 
 pub records-requires-clause-ascend : goal.records-requires-clause-ascend
-records-requires-clause-ascend c = let f = found c.args.self.now c.args.sealing.now c.area-area.result.now c.requires.active c.requires.found c.area-area.ensures in objects_ascend (memory c.args.self.now) f.0 c.args.sealing.now f.2
+records-requires-clause-ascend c = let f = found c.args.self.now c.args.session c.args.sealing.now c.area-area.result.now c.requires.active c.requires.found c.area-area.ensures in objects_ascend (memory c.args.self.now) f.0 c.args.sealing.now f.2
 
 pub returns-clause-records : goal.returns-clause-records
 returns-clause-records c =
     let s = c.args.self.now in
-    let f = found c.args.self.now c.args.sealing.now c.area-area.result.now c.requires.active c.requires.found c.area-area.ensures in
+    let f = found c.args.self.now c.args.session c.args.sealing.now c.area-area.result.now c.requires.active c.requires.found c.area-area.ensures in
     let same = records_are (memory s) f.0 c.args.sealing.now c.area-area.result.now c.as_slice.result.now c.next_free-address.result f.2 f.3 c.as_slice.ensures c.next_free-address.ensures.address in
     map_ok c.records.result _ _ (λ records is. subst (λ (o : Option TransactionState). IfSome o (λ t. records.items ≡ sealing_records (memory s) t)) (sym f.1) (is ∙ same)) c.records.ensures
 
 pub returns-clause-inside : goal.returns-clause-inside
 returns-clause-inside c =
     let s = c.args.self.now in
-    let f = found c.args.self.now c.args.sealing.now c.area-area.result.now c.requires.active c.requires.found c.area-area.ensures in
+    let f = found c.args.self.now c.args.session c.args.sealing.now c.area-area.result.now c.requires.active c.requires.found c.area-area.ensures in
     let same = records_are (memory s) f.0 c.args.sealing.now c.area-area.result.now c.as_slice.result.now c.next_free-address.result f.2 f.3 c.as_slice.ensures c.next_free-address.ensures.address in
-    let all = records_below (memory s) f.0 c.args.sealing.now f.2 c.next_free-address.ensures.sound s.sized c.requires.room (below c.args.self.now f.0 f.1) in
+    let all = records_below (memory s) f.0 c.args.sealing.now f.2 c.next_free-address.ensures.sound s.sized c.requires.room (c.args.self.now.sound.each c.args.session f.0 f.1).inside in
     map_ok c.records.result _ (λ records. EachWritesBelow (length s.words) records.items) (λ records is. subst (λ (rs : List Record). EachWritesBelow (length s.words) rs) (sym (is ∙ same)) all) c.records.ensures
 
 pub returns-clause-few : goal.returns-clause-few
 returns-clause-few c =
     let s = c.args.self.now in
-    let f = found c.args.self.now c.args.sealing.now c.area-area.result.now c.requires.active c.requires.found c.area-area.ensures in
+    let f = found c.args.self.now c.args.session c.args.sealing.now c.area-area.result.now c.requires.active c.requires.found c.area-area.ensures in
     let same = records_are (memory s) f.0 c.args.sealing.now c.area-area.result.now c.as_slice.result.now c.next_free-address.result f.2 f.3 c.as_slice.ensures c.next_free-address.ensures.address in
-    let few = records_few (memory s) f.0 c.args.sealing.now (log_used s.log) (log_room s.log) f.2 c.next_free-address.ensures.sound c.requires.room (omega (arith, s.reserve, ap kept_for_end f.1)) s.log.small in
+    let few = records_few (memory s) f.0 c.args.sealing.now (log_used s.log) (log_room s.log) f.2 c.next_free-address.ensures.sound c.requires.room (omega (arith, s.room, kept_own s.table (length s.words) s.reserved s.sealed c.args.session f.0 s.sound f.1)) s.log.small in
     map_ok c.records.result _ _ (λ records is. omega (arith, few, ap (λ (rs : List Record). length (spellings rs)) (is ∙ same))) c.records.ensures

@@ -1,18 +1,21 @@
+use Rattle.std.proofs.Common.{length}
 use Rattle.txn_table.specs.Table.{transaction_of}
-use Rattle.working_state.specs.Reserve.{active_undo}
+use Rattle.working_state.specs.Reserve.{undo_if}
 use Rattle.working_state.specs.State.{memory}
-use Rattle.working_state.proofs.Tables.{told_undo}
+use Rattle.working_state.proofs.Tables.{told_undo, inside_of}
 use Rattle.working_state.proofs.Found.{written_inside, found_is}
 use Rattle.working_state.proofs.working.Working.sealing.Goals as goal
 
 pub new-requires : goal.new-requires
 new-requires c =
     let s = c.args.self.now in
-    let is = told_undo (transaction_of s.table 1) c.undo-undo.result.now c.requires c.undo-undo.ensures in
-    record { inside = written_inside s.words c.as_slice.result.now c.undo-undo.result.now (active_undo s.table) is c.as_slice.ensures s.inside }
+    let o = transaction_of s.table c.args.session in
+    let is = told_undo o c.undo-undo.result.now c.requires c.undo-undo.ensures in
+    let inside = inside_of s.table (length s.words) s.reserved s.sealed c.args.session s.sound in
+    record { inside = written_inside s.words c.as_slice.result.now c.undo-undo.result.now (undo_if o) is c.as_slice.ensures inside }
 
 pub returns : goal.returns
 returns c =
     let s = c.args.self.now in
-    found_is c.new.result (memory s) (transaction_of s.table 1) c.area-area.result.now c.as_slice.result.now c.undo-undo.result.now
+    found_is c.new.result (memory s) (transaction_of s.table c.args.session) c.area-area.result.now c.as_slice.result.now c.undo-undo.result.now
     c.area-area.ensures c.undo-undo.ensures c.as_slice.ensures c.new.ensures.fields c.new.ensures.objects c.new.ensures.need

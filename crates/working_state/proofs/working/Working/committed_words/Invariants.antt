@@ -1,0 +1,5 @@
+use Rattle.working_state.proofs.Committed.{IsLeft}
+use Rattle.working_state.proofs.working.Working.committed_words.Given as goal
+
+abbrev pub invariant-loop-session : goal.invariant-loop-session
+invariant-loop-session l = IsLeft l.self.table l.self.words l.session l.words
