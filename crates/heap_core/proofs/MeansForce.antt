@@ -1,7 +1,6 @@
 -- A force, and what the disk holds behind an event.
 use Rattle.std.proofs.Common.{lit<, ◌<◌, ◌≡◌, ◌≢◌, ◌⊎◌, inl, inr, ℕ, ◌+◌, List, [], ◌∷◌, ◌++◌, length, Option, Some, None, Result, Ok, Err, is_some, refl, sym, ap, ◌∙◌, subst, ⊎_elim}
-use Rattle.std.specs.Prelude.{IfOk, IsTrue}
-use Rattle.std.specs.declared.alloc.AllocError.{AllocError}
+use Rattle.std.specs.Prelude.{IsTrue}
 use Rattle.std.proofs.lemmas.List.{append-nil}
 use Rattle.disk_model.specs.Disk.{part, Only, SameOutside}
 use Rattle.disk_model.specs.declared.disk.DiskError.{DiskError}
@@ -16,34 +15,39 @@ use Rattle.graph_model.specs.declared.reply.Refusal.{Refusal}
 use Rattle.graph_model.specs.declared.reply.Refusal.TheVariants.{Failed, DiskFault, Stopped}
 use Rattle.graph_model.specs.declared.reply.Reply.{Reply}
 use Rattle.graph_model.specs.declared.reply.Reply.TheVariants.{Durable, Refused}
-use Rattle.graph_model.specs.SlowHeap.{IsSingleSession}
+use Rattle.graph_model.specs.SlowHeap.{IsOfSession}
 use Rattle.graph_model.specs.Transaction.{Transaction}
 use Rattle.graph_model.specs.History.{Account, account, account_after, first_failure}
 use Rattle.graph_model.specs.HistoryLaws.{account-append, entries-account}
 use Rattle.graph_model.specs.Plain.{granted, reply_of}
 use Rattle.graph_model.specs.PlainLaws.{account_after-refused}
+use Rattle.core_laws.specs.Crash.{crash_law}
+use Rattle.core_laws.specs.Events.{done_records}
+use Rattle.core_laws.specs.Run.{calls-forced, force_granted}
+use Rattle.core_laws.specs.Sound.{sound_valid}
+use Rattle.core_laws.specs.Step.{valid_after}
+use Rattle.core_laws.specs.Valid.{RunsLocked, IsValid, IsSound, IsReached}
 use Rattle.image_plan.specs.declared.superblock.Super.{Super}
 use Rattle.log_records.specs.declared.Record.{Record}
 use Rattle.log_records.specs.Record.{spellings}
 use Rattle.heap_model.specs.Core.{Core, ground, state_behind, next_number, core_refusal, answer, with_entry, after_refusal, after, force_calls}
 use Rattle.heap_model.specs.CoreCrash.{IsSuperOf, IsOnDisk, KeepsCommits}
-use Rattle.heap_model.specs.CoreValid.{IsValid, IsSound, IsReached}
-use Rattle.heap_model.specs.CoreLawsCrash.{crash_law}
 use Rattle.heap_model.specs.CoreLawsRoom.{forced-with_batch, records_of-with_batch}
 use Rattle.heap_model.specs.CoreLawsHeld.{held_with}
-use Rattle.heap_model.specs.CoreLawsRun.{sound_valid, failed_refusal, failed_after, calls-force, calls-unfailed, calls-forced, force_granted, after_history, step_history, same_step}
-use Rattle.heap_model.specs.CoreLawsStep.{done_records, valid_after}
+use Rattle.heap_model.specs.CoreLawsRun.{failed_refusal, failed_after, calls-force, calls-unfailed, after_history, step_history, same_step}
 use Rattle.heap_model.specs.Image.{Holds}
 use Rattle.log_machine.specs.Machine.{words}
 use Rattle.heap_core.specs.Means.{OnDisk, Remembers, DiskHolds, Steps, StepsOn}
 use Rattle.heap_core.proofs.MeansLeft.{keeps_refused, keeps_cut}
 use Rattle.memory_laws.specs.LogLaws.{keeps_same}
 use Rattle.heap_memory.specs.Memory.{Memory}
-use Rattle.memory_laws.specs.Follows.{IsMemory, Does, kept_of}
+use Rattle.memory_laws.specs.Follows.{AreHeld, IsMemory, Does, kept_of}
+use Rattle.memory_laws.specs.LockLaws.{held_alike}
 use Rattle.memory_laws.specs.Answered.{does, as_it_was}
 use Rattle.heap_memory.specs.Leaves.{IsAsItWas}
 use Rattle.heap_core.proofs.MeansMemory.{is_some_own}
-use Rattle.txn_table.specs.Table.{transaction_of}
+use Rattle.object_locks.specs.Holdings.{Holdings}
+use Rattle.txn_table.specs.Table.{TableState, transaction_of}
 use Rattle.working_state.specs.declared.working.Working.{Working}
 use Rattle.working_state.specs.State.{memory}
 
@@ -52,9 +56,9 @@ records_forced bs p = append-nil (records_of (with_batch bs p)) ∙ records_of-w
 
 -- what waited is on the disk
 pub force_does : (m new : Memory) (c : Core) (reply : Reply) → IsValid c → IsMemory m (account c.history) c → Keeps new.log (with_batch c.batches c.pending) []
-    → log_place new.log ≡ log_place m.log → log_room new.log ≡ log_room m.log → new.words ≡ m.words → new.spaces ≡ m.spaces → new.table ≡ m.table → new.sealed ≡ m.sealed → reply ≡ Durable m.sealed
+    → log_place new.log ≡ log_place m.log → log_room new.log ≡ log_room m.log → new.words ≡ m.words → new.spaces ≡ m.spaces → new.table ≡ m.table → new.locks ≡ m.locks → new.sealed ≡ m.sealed → reply ≡ Durable m.sealed
     → Does c Force reply new
-force_does m new c reply valid is keeps at room stored spaces table sealed replied =
+force_does m new c reply valid is keeps at room stored spaces table locks sealed replied =
     let a = account c.history in
     let same = records_forced c.batches c.pending in
     let d = record c { batches = with_batch c.batches c.pending; pending = [] } in
@@ -69,7 +73,8 @@ force_does m new c reply valid is keeps at room stored spaces table sealed repli
       state = is.state;
       reached = ap (state_behind c) same ∙ is.reached;
       spaces = spaces ∙ is.spaces;
-      transaction = ap (λ t. transaction_of t 1) table ∙ is.transaction ∙ ap (λ h. kept_of h c.g0 a (a.active 1)) (sym here);
+      transactions = λ s. ap (λ (t : TableState). transaction_of t s) table ∙ is.transactions s ∙ ap (λ h. kept_of h c.g0 a (a.active s)) (sym here);
+      locks = held_alike new.locks c.places c.g0 a _ refl refl (subst (λ (l : Holdings). AreHeld l c.places c.g0 a) (sym locks) is.locks);
       next = ap (λ t. t.next) table ∙ is.next;
       sealed = sealed ∙ is.sealed;
     }))
@@ -145,9 +150,9 @@ pub cut_sealed : (a : Account) (reply : Reply) → (reply ≡ Refused DiskFault)
 cut_sealed a reply (inl is) = ap (λ (r : Reply). (account_after a (record { event = Force; reply = r })).sealed) is
 cut_sealed a reply (inr is) = ap (λ (r : Reply). (account_after a (record { event = Force; reply = r })).sealed) is
 
-pub cut_active : (a : Account) (reply : Reply) → (reply ≡ Refused DiskFault) ⊎ (reply ≡ Refused Stopped) → (account_after a (record { event = Force; reply = reply })).active 1 ≡ a.active 1
-cut_active a reply (inl is) = ap (λ (r : Reply). (account_after a (record { event = Force; reply = r })).active 1) is
-cut_active a reply (inr is) = ap (λ (r : Reply). (account_after a (record { event = Force; reply = r })).active 1) is
+pub cut_active : (a : Account) (reply : Reply) → (reply ≡ Refused DiskFault) ⊎ (reply ≡ Refused Stopped) → (account_after a (record { event = Force; reply = reply })).active ≡ a.active
+cut_active a reply (inl is) = ap (λ (r : Reply). (account_after a (record { event = Force; reply = r })).active) is
+cut_active a reply (inr is) = ap (λ (r : Reply). (account_after a (record { event = Force; reply = r })).active) is
 
 -- a force of what waits makes calls
 pub some_calls : (p : List Record) → p ≢ [] → 0 < force_calls p
@@ -170,8 +175,9 @@ cut_steps c reply w new entries failed valid works waits told count is sealed ta
         works = λ none. let never : None ≡ Some (entries + 1) = sym none ∙ is in cc;
         lost = λ e. some;
         sealed = sealed ∙ works.sealed ∙ ap (λ (ts : List Transaction). length ts) (sym (cut_sealed a reply told)) ∙ ap (λ (b : Account). length b.sealed) (sym said);
-        active = ap (λ t. is_some (transaction_of t 1)) table ∙ is_some_own (memory w) _ c works
-            ∙ ap (λ (o : Option Transaction). is_some o) (sym (cut_active a reply told)) ∙ ap (λ (b : Account). is_some (b.active 1)) (sym said);
+        active = λ s.
+            ap (λ (t : TableState). is_some (transaction_of t s)) table ∙ is_some_own (memory w) _ c works s
+            ∙ ap (λ (f : ℕ → Option Transaction). is_some (f s)) (sym (cut_active a reply told)) ∙ ap (λ (b : Account). is_some (b.active s)) (sym said);
       };
     }
 
@@ -191,7 +197,7 @@ failed_steps c event entry w failed memory is =
         works = λ none. let never : None ≡ Some entry = sym none ∙ is in cc;
         lost = λ some. subst (λ (x : Core). x.pending ≢ []) (sym (failed_after c event entry fails)) (memory.lost some);
         sealed = memory.sealed ∙ ap (λ (b : Account). length b.sealed) (sym said);
-        active = memory.active ∙ ap (λ (b : Account). is_some (b.active 1)) (sym said);
+        active = λ s. memory.active s ∙ ap (λ (b : Account). is_some (b.active s)) (sym said);
       };
     }
 
@@ -212,21 +218,16 @@ failed_on s c event reply entry w failed image may_leave fails holds steps =
     subst (λ (x : Core). DiskHolds s x image may_leave) (sym next_is) here
 
 -- the disk that an event leaves alone
-pub quiet_on : (s : Super) (c : Core) (event : Event) (reply : Reply) (w : Working) (failed : Option ℕ) (image : List ℕ) (may_leave : List ℕ → Type 0) → IsValid c → IsSingleSession event → (event ≡ Force → ⊥)
-    → DiskHolds s c image may_leave → (steps : Steps c event reply w failed) → StepsOn s c event reply w failed image may_leave
-quiet_on s c event reply w failed image may_leave valid one other holds steps =
+pub quiet_on : (s : Super) (c : Core) (event : Event) (reply : Reply) (w : Working) (failed : Option ℕ) (image : List ℕ) (may_leave : List ℕ → Type 0) → IsValid c → RunsLocked c.g0 c.first c.history → IsOfSession event
+    → (event ≡ Force → ⊥) → DiskHolds s c image may_leave → (steps : Steps c event reply w failed) → StepsOn s c event reply w failed image may_leave
+quiet_on s c event reply w failed image may_leave valid runs one other holds steps =
     let next_is : steps.next ≡ after c event = ⊎_elim (λ whole. whole.1) (λ cut. absurd (other (calls-force c event cut.0.some).0)) steps.step in
     let here : DiskHolds s (after c event) image may_leave = record {
       born = born_after c event holds.born;
       unfailed = λ none. disk_stays s c event image may_leave other (holds.unfailed valid.unfailed);
-      failed = λ some. absurd (some (valid_after c event valid one).unfailed);
+      failed = λ some. absurd (some (valid_after c event valid runs one).unfailed);
     } in
     record { steps = steps; disk = subst (λ (x : Core). DiskHolds s x image may_leave) (sym next_is) here }
-
-pub quiet_result_on : (s : Super) (c : Core) (event : Event) (result : Result Reply AllocError) (w : Working) (failed : Option ℕ) (image : List ℕ) (may_leave : List ℕ → Type 0) → IsValid c → IsSingleSession event
-    → (event ≡ Force → ⊥) → DiskHolds s c image may_leave → IfOk result (λ reply. Steps c event reply w failed) → IfOk result (λ reply. StepsOn s c event reply w failed image may_leave)
-quiet_result_on s c event (Ok reply) w failed image may_leave valid one other holds steps = quiet_on s c event reply w failed image may_leave valid one other holds steps
-quiet_result_on s c event (Err e) w failed image may_leave valid one other holds steps = tt
 
 -- a heap that has not failed is a valid core
 pub unfailed_valid : (c : Core) (failed : Option ℕ) → failed ≡ (account c.history).failed → failed ≡ None → IsReached c → IsValid c
@@ -238,12 +239,12 @@ module _ (c : Core) (w : Working) (log : Log) (works : IsMemory (memory w) (acco
   keeps = keeps_same w.log log c.batches c.pending same works.log
 
   -- a force that the disk did
-  abbrev pub ok_steps : (new : Working) (reply : Reply) (failed : Option ℕ) → IsValid c → failed ≡ None → Keeps new.log (with_batch c.batches c.pending) []
-      → log_place new.log ≡ log_place log → log_room new.log ≡ log_room log → new.words ≡ w.words → new.spaces ≡ w.spaces → new.table ≡ w.table → new.sealed ≡ w.sealed → reply ≡ Durable w.sealed
+  abbrev pub ok_steps : (new : Working) (reply : Reply) (failed : Option ℕ) → IsValid c → RunsLocked c.g0 c.first c.history → failed ≡ None → Keeps new.log (with_batch c.batches c.pending) []
+      → log_place new.log ≡ log_place log → log_room new.log ≡ log_room log → new.words ≡ w.words → new.spaces ≡ w.spaces → new.table ≡ w.table → new.locks ≡ w.locks → new.sealed ≡ w.sealed → reply ≡ Durable w.sealed
       → Steps c Force reply new failed
-  ok_steps new reply failed valid none kept new_at new_room stored spaces table sealed replied =
-      whole_steps c Force reply new failed (valid_after c Force valid tt) none
-      (force_does (memory w) (memory new) c reply valid works kept (new_at ∙ same.place.at) (new_room ∙ same.place.room) stored spaces table sealed replied)
+  ok_steps new reply failed valid runs none kept new_at new_room stored spaces table locks sealed replied =
+      whole_steps c Force reply new failed (valid_after c Force valid runs tt) none
+      (force_does (memory w) (memory new) c reply valid works kept (new_at ∙ same.place.at) (new_room ∙ same.place.room) stored spaces table locks sealed replied)
 
   -- and one that it cut short
   abbrev pub err_steps : (new : Working) (reply : Reply) (entries : ℕ) (result : Result (Unit {0}) DiskError) (e : DiskError) (now : Option ℕ) → IsValid c
@@ -267,19 +268,19 @@ module _ (c : Core) (w : Working) (log : Log) (works : IsMemory (memory w) (acco
     holds = let P : ℕ → ℕ → Type 0 = λ n m. HoldsBatches (part old n m) c.batches in
         let Q : ℕ → Type 0 = λ n. P n (log_room log) in subst Q (sym at) (subst (P 64) (sym room) disk.held.log)
 
-    pub ok_on : (image : List ℕ) (may_leave : List ℕ → Type 0) (reply : Reply) (new : Working) (failed : Option ℕ) → IsValid c → failed ≡ None → Keeps new.log (with_batch c.batches c.pending) []
+    pub ok_on : (image : List ℕ) (may_leave : List ℕ → Type 0) (reply : Reply) (new : Working) (failed : Option ℕ) → IsValid c → RunsLocked c.g0 c.first c.history → failed ≡ None → Keeps new.log (with_batch c.batches c.pending) []
         → HoldsBatches (part image (log_place log) (log_room log)) (with_batch c.batches c.pending) → SameOutside (log_place log) (log_place log + log_room log) old image → Only image may_leave
-        → log_place new.log ≡ log_place log → log_room new.log ≡ log_room log → new.words ≡ w.words → new.spaces ≡ w.spaces → new.table ≡ w.table → new.sealed ≡ w.sealed → reply ≡ Durable w.sealed
+        → log_place new.log ≡ log_place log → log_room new.log ≡ log_room log → new.words ≡ w.words → new.spaces ≡ w.spaces → new.table ≡ w.table → new.locks ≡ w.locks → new.sealed ≡ w.sealed → reply ≡ Durable w.sealed
         → StepsOn s c Force reply new failed image may_leave
-    ok_on image may_leave reply new failed valid none kept held outside only new_at new_room stored spaces table sealed replied = record {
-      steps = ok_steps new reply failed valid none kept new_at new_room stored spaces table sealed replied;
+    ok_on image may_leave reply new failed valid runs none kept held outside only new_at new_room stored spaces table locks sealed replied = record {
+      steps = ok_steps new reply failed valid runs none kept new_at new_room stored spaces table locks sealed replied;
       disk = record {
         born = born_after c Force born;
         unfailed = λ e. disk_forced s c old image may_have_left may_leave valid disk
             (let P : ℕ → ℕ → Type 0 = λ n m. SameOutside n (n + m) old image in in_log P outside)
             (let P : ℕ → ℕ → Type 0 = λ n m. HoldsBatches (part image n m) (with_batch c.batches c.pending) in in_log P held)
             only;
-        failed = λ some. absurd (some (valid_after c Force valid tt).unfailed);
+        failed = λ some. absurd (some (valid_after c Force valid runs tt).unfailed);
       };
     }
 
@@ -316,10 +317,10 @@ with_history c event reply w failed old new was is steps =
     is ∙ ap (λ (l : List Entry). l ++ record { event = event; reply = reply } ∷ []) was ∙ sym (step_history c steps.next event reply steps.step)
 
 -- an event that is answered in memory alone is a step of the core
-pub memory_steps : (c : Core) (event : Event) (reply : Reply) (w new : Working) (failed : Option ℕ) → Remembers c w failed → failed ≡ None → IsReached c → IsSingleSession event
+pub memory_steps : (c : Core) (event : Event) (reply : Reply) (w new : Working) (failed : Option ℕ) → Remembers c w failed → failed ≡ None → IsReached c → IsOfSession event
     → Does c event reply (memory new) → Steps c event reply new failed
 memory_steps c event reply w new failed remembers none reached one done =
-    whole_steps c event reply new failed (valid_after c event (unfailed_valid c failed remembers.failure none reached) one) none done
+    whole_steps c event reply new failed (valid_after c event (unfailed_valid c failed remembers.failure none reached) reached.locked one) none done
 
 -- what had no memory is as it was
 pub kept_as : (c : Core) (w new : Working) (failed : Option ℕ) → Remembers c w failed → IsAsItWas (memory w) (memory new) → Remembers c new failed
@@ -328,5 +329,5 @@ kept_as c w new failed remembers same = record {
   works = λ none. as_it_was (memory w) (memory new) c (remembers.works none) same;
   lost = remembers.lost;
   sealed = same.sealed ∙ remembers.sealed;
-  active = ap (λ t. is_some (transaction_of t 1)) same.table ∙ remembers.active;
+  active = λ s. ap (λ (t : TableState). is_some (transaction_of t s)) same.table ∙ remembers.active s;
 }

@@ -1,38 +1,53 @@
--- The graph in memory: the words without what an active transaction wrote are those in which the sealed transactions' graph is seen.
-use Rattle.std.proofs.Common.{◌≡◌, ℕ, List, Option, Some, None, refl, sym, ap, ◌∙◌, subst}
-use Rattle.graph_model.specs.History.{account, sealed}
+-- The graph in memory: the words without what active transactions wrote are those in which the sealed transactions' graph is seen.
+use Rattle.std.proofs.Common.{◌≡◌, ℕ, List, [], ◌∷◌, length, Option, Some, None, refl, sym, ap, ◌∙◌, subst}
+use Rattle.commit_order.specs.OrderLaws.{two_phase_ordered}
+use Rattle.core_laws.specs.CoreGraph.{core_seen}
+use Rattle.core_laws.specs.TakenBack.{session_undo, taken_by, committed_by_session}
+use Rattle.core_laws.specs.Valid.{RunsLocked, IsValid, IsSound}
+use Rattle.graph_model.specs.Graph.{Graph}
+use Rattle.graph_model.specs.History.{Account, account, sealed, sessions}
 use Rattle.graph_model.specs.Transaction.{Transaction, serial}
-use Rattle.log_machine.specs.CommittedLaws.{committed_words-only}
-use Rattle.log_machine.specs.Machine.{words, taken_back, committed_words}
+use Rattle.log_machine.specs.declared.UndoEntry.{UndoEntry}
+use Rattle.log_machine.specs.Machine.{State, undo_of, taken_back, committed_words}
+use Rattle.log_machine.specs.WordsLaws.{length-taken_back}
 use Rattle.object_layout.specs.Layout.{IsSeenAs}
 use Rattle.graph_words.specs.Places.{name_at}
-use Rattle.heap_model.specs.Core.{Core, ground, all_records}
-use Rattle.heap_model.specs.CoreLawsGoes.{writer_as, undo_active, told_sound}
-use Rattle.heap_model.specs.CoreLawsGraph.{core_seen}
-use Rattle.heap_model.specs.CoreLawsTold.{told_words_none}
-use Rattle.heap_model.specs.CoreValid.{IsValid, IsSound}
+use Rattle.heap_model.specs.Core.{Core, Ground, ground, all_records, undo_with}
 use Rattle.memory_laws.specs.Follows.{IsMemory, kept_of}
+use Rattle.txn_table.specs.Table.{TableState, transaction_of}
 use Rattle.working_state.specs.declared.working.Working.{Working}
 use Rattle.working_state.specs.Reserve.{undo_if}
-use Rattle.working_state.specs.State.{memory, committed}
+use Rattle.working_state.specs.State.{memory, without_writes, committed}
 
--- what the core's transaction wrote, taken back from the words that all records leave
-core_committed : (c : Core) (o : Option Transaction) → (valid : IsValid c) → (account c.history).active 1 ≡ o
-    → taken_back (undo_if (kept_of (ground c) c.g0 (account c.history) o)) (words c.pages (all_records c)) ≡ committed_words c.pages c.lowest (all_records c)
-core_committed c None valid e = sym (told_words_none valid.told (writer_as (account c.history) c None e valid))
-core_committed c (Some t) valid e =
-    let ws = words c.pages (all_records c) in
-    ap (λ us. taken_back us ws) (undo_active (account c.history) c t.number valid)
-    ∙ sym (committed_words-only valid.behind c.pages c.lowest (all_records c) t.number valid.told.reached (told_sound valid.told) (writer_as (account c.history) c (Some t) e valid).alone)
+-- of a session's transaction its writes are kept
+undo_kept : (g : Ground) (s : State) (g0 : Graph) (a : Account) (o : Option Transaction) → g.state ≡ Some s → undo_if (kept_of g g0 a o) ≡ session_undo (undo_of s) o
+undo_kept g s g0 a None is = refl
+undo_kept g s g0 a (Some t) is = ap (λ (o : Option State). undo_with o t.number) is
+
+-- so that what is taken back of the sessions in memory is what their transactions wrote
+taken_same : (table : TableState) (undo : ℕ → List UndoEntry) (a : Account) → ((s : ℕ) → undo_if (transaction_of table s) ≡ session_undo undo (a.active s)) → (ss now : List ℕ)
+    → without_writes table now ss ≡ taken_by undo a ss now
+taken_same table undo a same [] now = refl
+taken_same table undo a same (s ∷ ss) now =
+    taken_same table undo a same ss (taken_back (undo_if (transaction_of table s)) now) ∙ ap (λ (us : List UndoEntry). taken_by undo a ss (taken_back us now)) (same s)
 
 -- what is in memory without it
-memory_committed : (c : Core) (w : Working) → IsValid c → IsMemory (memory w) (account c.history) c → committed w ≡ committed_words c.pages c.lowest (all_records c)
-memory_committed c w valid is =
-    ap (λ o. taken_back (undo_if o) w.words) is.transaction
-    ∙ ap (taken_back (undo_if (kept_of (ground c) c.g0 (account c.history) ((account c.history).active 1)))) is.stored
-    ∙ core_committed c ((account c.history).active 1) valid refl
+memory_committed : (c : Core) (w : Working) → (valid : IsValid c) → RunsLocked c.g0 c.first c.history → IsMemory (memory w) (account c.history) c → committed w ≡ committed_words c.pages c.lowest (all_records c)
+memory_committed c w valid runs is =
+    let a = account c.history in
+    let undo = undo_of valid.behind in
+    taken_same w.table undo a (λ s. ap undo_if (is.transactions s) ∙ undo_kept (ground c) valid.behind c.g0 a (a.active s) valid.told.reached) sessions w.words
+    ∙ ap (taken_by undo a sessions) is.stored
+    ∙ committed_by_session a c valid (two_phase_ordered c.g0 c.history runs.two_phase)
 
 -- the graph of the sealed transactions is seen in it
-pub memory_seen : (c : Core) (w : Working) → IsSound c → IsValid c → IsMemory (memory w) (account c.history) c → IsSeenAs (name_at c.places) (committed w) 0 (serial c.g0 (sealed c.history))
-memory_seen c w sound valid is =
-    subst (λ (ws : List ℕ). IsSeenAs (name_at c.places) ws 0 (serial c.g0 (sealed c.history))) (sym (memory_committed c w valid is)) (core_seen c sound)
+pub memory_seen : (c : Core) (w : Working) → IsSound c → IsValid c → RunsLocked c.g0 c.first c.history → IsMemory (memory w) (account c.history) c
+    → IsSeenAs (name_at c.places) (committed w) 0 (serial c.g0 (sealed c.history))
+memory_seen c w sound valid runs is =
+    subst (λ (ws : List ℕ). IsSeenAs (name_at c.places) ws 0 (serial c.g0 (sealed c.history))) (sym (memory_committed c w valid runs is)) (core_seen c sound)
+
+-- taking back changes words where they are
+pub length-without_writes : (table : TableState) (ss now : List ℕ) → length (without_writes table now ss) ≡ length now
+length-without_writes table [] now = refl
+length-without_writes table (s ∷ ss) now =
+    length-without_writes table ss (taken_back (undo_if (transaction_of table s)) now) ∙ length-taken_back (undo_if (transaction_of table s)) now

@@ -1,8 +1,7 @@
 -- What a crash leaves of a heap, and how many device calls an event makes.
 use Rattle.std.proofs.Common.{◌≡◌, ◌⊎◌, inl, inr, ℕ, ◌+◌, ◌≤◌, cond, List, [], ◌∷◌, ◌++◌, length, take, Option, Some, None, Result, Ok, Err, refl, sym, ap, ◌∙◌, subst, arith}
-use Rattle.std.specs.Prelude.{IfOk, OnOk, OnErr, nat_lt, if◌then◌else◌}
+use Rattle.std.specs.Prelude.{OnOk, OnErr, nat_lt, if◌then◌else◌}
 use Rattle.std.specs.Option.{option_to_list}
-use Rattle.std.specs.declared.alloc.AllocError.{AllocError}
 use Rattle.std.proofs.lemmas.Bool.{lt-ltb}
 use Rattle.counts.specs.Count.{counted}
 use Rattle.disk_model.specs.Moments.{LeavesOnly, begins}
@@ -27,8 +26,9 @@ use Rattle.log_records.specs.Record.{spellings}
 use Rattle.heap_core.specs.Causes.{reply_device}
 use Rattle.heap_model.specs.Core.{Core, core_refusal, with_entry, force_calls, calls_if, calls}
 use Rattle.heap_model.specs.CoreCrash.{KeepsCommits}
-use Rattle.heap_model.specs.CoreLawsRun.{failed_refusal, calls-forced}
-use Rattle.heap_model.specs.CoreValid.{IsValid}
+use Rattle.heap_model.specs.CoreLawsRun.{failed_refusal}
+use Rattle.core_laws.specs.Run.{calls-forced}
+use Rattle.core_laws.specs.Valid.{IsValid}
 use Rattle.heap_model.specs.Image.{Says}
 use Rattle.memory_laws.specs.LogLaws.{some_spellings}
 
@@ -105,10 +105,6 @@ quiet_calls None c Force other = absurd (other refl)
 
 pub quiet_passes : (c : Core) (event : Event) (before : ℕ) (reply : Reply) → (event ≡ Force → ⊥) → Passes (calls c event) before before (reply_device reply)
 quiet_passes c event before reply other = none_pass (calls c event) before (reply_device reply) (quiet_calls (core_refusal c event) c event other)
-
-pub quiet_passes_result : (c : Core) (event : Event) (before : ℕ) (result : Result Reply AllocError) → (event ≡ Force → ⊥) → IfOk result (λ reply. Passes (calls c event) before before (reply_device reply))
-quiet_passes_result c event before (Ok reply) other = quiet_passes c event before reply other
-quiet_passes_result c event before (Err e) other = tt
 
 -- nor does an event that a heap refuses since it has failed
 pub failed_passes : (c : Core) (event : Event) (entry before : ℕ) (reply : Reply) → (account c.history).failed ≡ Some entry → Passes (calls c event) before before (reply_device reply)

@@ -1,5 +1,5 @@
--- What is kept in memory of a core's transaction.
-use Rattle.std.proofs.Common.{◌≡◌, Option, None, Some, is_some, refl, ap, ◌∙◌}
+-- What is kept in memory of a core's transactions.
+use Rattle.std.proofs.Common.{◌≡◌, ℕ, Option, None, Some, is_some, refl, ap, ◌∙◌}
 use Rattle.graph_model.specs.Graph.{Graph}
 use Rattle.graph_model.specs.History.{Account}
 use Rattle.graph_model.specs.Transaction.{Transaction}
@@ -11,6 +11,6 @@ is_some_kept : (g : Ground) (g0 : Graph) (a : Account) (o : Option Transaction) 
 is_some_kept g g0 a None = refl
 is_some_kept g g0 a (Some t) = refl
 
--- one is kept where there is one
-pub is_some_own : (m : Memory) (a : Account) (c : Core) → IsMemory m a c → is_some (own m) ≡ is_some (a.active 1)
-is_some_own m a c is = ap is_some is.transaction ∙ is_some_kept (ground c) c.g0 a (a.active 1)
+-- one is kept of a session that has one
+pub is_some_own : (m : Memory) (a : Account) (c : Core) → IsMemory m a c → (s : ℕ) → is_some (own m s) ≡ is_some (a.active s)
+is_some_own m a c is s = ap is_some (is.transactions s) ∙ is_some_kept (ground c) c.g0 a (a.active s)

@@ -1,12 +1,14 @@
 -- A heap that has just been opened.
-use Rattle.std.proofs.Common.{◌≡◌, inl, ℕ, ◌≤◌, Bool, true, List, length, None, is_some, refl, sym, ap, ◌∙◌, arith}
+use Rattle.std.proofs.Common.{◌≡◌, inl, ℕ, ◌≤◌, Bool, true, false, List, length, None, is_some, refl, sym, ap, ◌∙◌, arith}
 use Rattle.std.specs.FinMap.{get-empty}
+use Rattle.std.specs.FinSet as set
+use Rattle.std.specs.FinSet.{contains-empty}
 use Rattle.std.specs.Ordering.{nat_cmp}
 use Rattle.std.proofs.lemmas.List.{append-nil}
 use Rattle.disk_model.specs.Disk.{Only}
 use Rattle.gated_log.specs.Log.{records_of}
 use Rattle.graph_model.specs.Graph.{Graph}
-use Rattle.graph_model.specs.History.{account}
+use Rattle.graph_model.specs.History.{account, nothing_yet}
 use Rattle.heap_spaces.specs.Spaces.{SpacesState, IsSpaces}
 use Rattle.image_plan.specs.declared.superblock.Super.{Super}
 use Rattle.image_plan.specs.Super.{IsSuper}
@@ -23,7 +25,8 @@ use Rattle.heap_model.specs.Opening.{rolled_back, opened, used_in}
 use Rattle.heap_recovery.specs.declared.recovery.Recovered.{Recovered}
 use Rattle.heap_recovery.specs.Recovered.{IsRecovered}
 use Rattle.heap_memory.specs.Memory.{Memory}
-use Rattle.memory_laws.specs.Follows.{IsMemory}
+use Rattle.memory_laws.specs.Follows.{AreHeld, IsMemory}
+use Rattle.object_locks.specs.Holdings.{Holdings, holding_cmp}
 use Rattle.txn_table.specs.Table.{TransactionState, TableState, transaction_of, new_table}
 use Rattle.working_state.specs.declared.working.Working.{Working}
 use Rattle.working_state.specs.State as state
@@ -35,16 +38,24 @@ used_found : (s : Super) (batches : List (List Record)) (found : Recovered) (sha
 used_found s batches found shaped recovered = sym recovered.used ∙ ap used_in shaped.reached
 
 -- a new table has no transaction
-none_begun : (table : TableState) (next : ℕ) → table ≡ new_table next → transaction_of table 1 ≡ None
-none_begun table next is = ap (λ t. transaction_of t 1) is ∙ get-empty {X = TransactionState} nat_cmp 1
+none_begun : (table : TableState) (next : ℕ) → table ≡ new_table next → (s : ℕ) → transaction_of table s ≡ None
+none_begun table next is s = ap (λ (t : TableState). transaction_of t s) is ∙ get-empty {X = TransactionState} nat_cmp s
 
--- What a heap just opened keeps in memory: the log and the words that were found, a space of which the objects' words are taken, and no
--- transaction.
+-- where no session has a transaction nothing is locked
+none_held : (locks : Holdings) (places : Places) (g : Graph) → locks ≡ set.empty → AreHeld locks places g nothing_yet
+none_held locks places g is h = (
+  λ there. let never : false ≡ true = sym (contains-empty holding_cmp h) ∙ ap (λ (l : Holdings). set.contains l h) (sym is) ∙ there in cc never,
+  λ held. let never = held.active in cc never,
+)
+
+-- What a heap just opened keeps in memory: the log and the words that were found, a space of which the objects' words are taken, no
+-- transaction, and no lock.
 pub record IsFresh (found : Recovered) (m : Memory) : Type 0 where
   pub log : m.log ≡ found.log
   pub words : m.words ≡ found.words
   pub spaces : m.spaces ≡ record { pages = found.pages; base = 0; used = found.used; owed = 0 }
   pub table : m.table ≡ new_table found.next
+  pub locks : m.locks ≡ set.empty
   pub sealed : m.sealed ≡ 0
 
 pub is_fresh : (found : Recovered) (spaces : SpacesState) (table first : TableState) (m : Memory) → m ≡ state.opened found.log found.words spaces table.next
@@ -54,6 +65,7 @@ is_fresh found spaces table first m is space transactions = record {
   words = ap (λ x. x.words) is;
   spaces = ap (λ x. x.spaces) is ∙ space;
   table = ap (λ x. x.table) is ∙ ap (λ t. new_table t.next) transactions;
+  locks = ap (λ x. x.locks) is;
   sealed = ap (λ x. x.sealed) is;
 }
 
@@ -74,7 +86,8 @@ fresh_memory s batches born places g found m shaped recovered fresh =
       spaces = fresh.spaces ∙ ap (λ n. record { pages = n; base = 0; used = found.used; owed = 0 }) (recovered.pages ∙ sym to.pages)
           ∙ ap (λ n. record { pages = shaped.state.pages; base = n; used = found.used; owed = 0 }) (sym to.base)
           ∙ ap (λ n. record { pages = shaped.state.pages; base = shaped.state.base; used = n; owed = 0 }) (used_found s batches found shaped recovered);
-      transaction = none_begun m.table found.next fresh.table;
+      transactions = none_begun m.table found.next fresh.table;
+      locks = none_held m.locks places g fresh.locks;
       next = ap (λ t. t.next) fresh.table ∙ omega (arith, recovered.next);
       sealed = fresh.sealed;
     }
@@ -86,7 +99,7 @@ opened_memory s batches born places g found w shaped recovered fresh = record {
   works = λ none. fresh_memory s batches born places g found (memory w) shaped recovered fresh;
   lost = λ some. absurd (some refl);
   sealed = fresh.sealed;
-  active = ap is_some (none_begun (memory w).table found.next fresh.table);
+  active = λ s. ap is_some (none_begun (memory w).table found.next fresh.table s);
 }
 
 -- the disk of such a heap holds it

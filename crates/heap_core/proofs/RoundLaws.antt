@@ -3,15 +3,16 @@ use Rattle.std.proofs.Common.{◌≡◌, ◌∙◌, true, ℕ, zero, suc, ◌+�
 use Rattle.std.specs.List.{AllByRecursion}
 use Rattle.std.proofs.lemmas.List.{take_more}
 use Rattle.disk_model.specs.declared.disk.Disk.{Ghosts}
+use Rattle.core_laws.specs.Opened.{opened_reached}
+use Rattle.core_laws.specs.Run.{step_reached}
 use Rattle.graph_model.specs.declared.event.Event.{Event}
 use Rattle.graph_model.specs.declared.reply.Reply.{Reply}
 use Rattle.graph_model.specs.Graph.{Graph}
-use Rattle.graph_model.specs.SlowHeap.{IsSingleSession}
+use Rattle.graph_model.specs.SlowHeap.{IsOfSession}
 use Rattle.heap_model.specs.Core.{Core, IsStep}
 use Rattle.heap_model.specs.CoreCrash.{KeepsCommits}
 use Rattle.heap_model.specs.CoreLawsCalls.{run_step}
-use Rattle.heap_model.specs.CoreLawsOpened.{opened_reached, saying_law}
-use Rattle.heap_model.specs.CoreLawsReplies.{step_reached}
+use Rattle.heap_model.specs.CoreLawsOpened.{saying_law}
 use Rattle.heap_model.specs.Image.{IsLegal, StandsFor}
 use Rattle.heap_model.specs.Opening.{opened, IsFound}
 use Rattle.heap_model.specs.Theorems.{SaysOn}
@@ -48,7 +49,7 @@ going_opened g k image stands =
     }
 
 -- one event more
-pub going_on : (g : Graph) (k : ℕ) (events : List Event) (c d : Core) (event : Event) (reply : Reply) → IsGoing g k events c → IsSingleSession event → IsStep c event reply d → IsGoing g k (events ++ event ∷ []) d
+pub going_on : (g : Graph) (k : ℕ) (events : List Event) (c d : Core) (event : Event) (reply : Reply) → IsGoing g k events c → IsOfSession event → IsStep c event reply d → IsGoing g k (events ++ event ∷ []) d
 going_on g k events c d event reply going one step = record {
   start = going.start;
   opened = going.opened;
@@ -67,18 +68,18 @@ round_ends g k events c image going kept = (
   kept.1.stands,
 )
 
-pub single_at : (events : List Event) (i : ℕ) (d : Event) → i < length events → AllByRecursion IsSingleSession events → IsSingleSession (get_or events i d)
-single_at [] i d lt all = absurd (omega arith)
-single_at (e ∷ es) zero d lt all = all.0
-single_at (e ∷ es) (suc i) d lt all = single_at es i d (omega arith) all.1
+pub of_session_at : (events : List Event) (i : ℕ) (d : Event) → i < length events → AllByRecursion IsOfSession events → IsOfSession (get_or events i d)
+of_session_at [] i d lt all = absurd (omega arith)
+of_session_at (e ∷ es) zero d lt all = all.0
+of_session_at (e ∷ es) (suc i) d lt all = of_session_at es i d (omega arith) all.1
 
 module _ {D : Type 0} {ghosts : Ghosts D} where
   -- a heap on which one event more was made
-  pub gone_on : (g : Graph) (k : ℕ) (events : List Event) (i : ℕ) (d : Event) (old new : Heap D ghosts) (reply : Reply) → i < length events → AllByRecursion IsSingleSession events
+  pub gone_on : (g : Graph) (k : ℕ) (events : List Event) (i : ℕ) (d : Event) (old new : Heap D ghosts) (reply : Reply) → i < length events → AllByRecursion IsOfSession events
       → (gone : HasGone g k (take i events) old) → (next : Core) × IsStep gone.core (get_or events i d) reply next × IsHeap gone.super next new → HasGone g k (take (i + 1) events) new
   gone_on g k events i d old new reply lt all gone stepped =
       let event = get_or events i d in
-      let going = going_on g k (take i events) gone.core stepped.0 event reply gone.going (single_at events i d lt all) stepped.1 in
+      let going = going_on g k (take i events) gone.core stepped.0 event reply gone.going (of_session_at events i d lt all) stepped.1 in
       record {
         super = gone.super;
         core = stepped.0;

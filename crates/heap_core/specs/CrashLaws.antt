@@ -4,8 +4,8 @@ use Rattle.graph_model.specs.History.{account}
 use Rattle.image_plan.specs.declared.superblock.Super.{Super}
 use Rattle.heap_model.specs.Core.{Core}
 use Rattle.heap_model.specs.CoreCrash.{KeepsCommits}
-use Rattle.heap_model.specs.CoreLawsCrash.{crash_law}
-use Rattle.heap_model.specs.CoreValid.{IsSound}
+use Rattle.core_laws.specs.Crash.{crash_law}
+use Rattle.core_laws.specs.Valid.{IsSound}
 use Rattle.heap_model.specs.Image.{Holds}
 use Rattle.heap_core.specs.Means.{DiskHolds}
 

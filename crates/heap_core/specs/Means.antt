@@ -27,7 +27,7 @@ pub record Remembers (c : Core) (w : Working) (failed : Option ℕ) : Type 0 whe
   pub works : failed ≡ None → IsMemory (memory w) (account c.history) c
   pub lost : failed ≢ None → c.pending ≢ []
   pub sealed : w.sealed ≡ length (account c.history).sealed
-  pub active : is_some (own (memory w)) ≡ is_some ((account c.history).active 1)
+  pub active : (s : ℕ) → is_some (own (memory w) s) ≡ is_some ((account c.history).active s)
 
 -- The disk holds what a core has on the disk, until it stops or fails at an entry. From then on a crash leaves the core's
 -- first commits. The names of its objects are their births.

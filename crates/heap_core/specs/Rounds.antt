@@ -8,7 +8,7 @@ use Rattle.graph_model.specs.Transaction.{serial}
 use Rattle.graph_model.specs.History.{commits, acknowledged}
 use Rattle.image_plan.specs.declared.superblock.Super.{Super}
 use Rattle.heap_model.specs.Core.{Core, IsRun}
-use Rattle.heap_model.specs.CoreValid.{IsReached}
+use Rattle.core_laws.specs.Valid.{IsReached}
 use Rattle.heap_core.specs.declared.heap.Heap.{Heap}
 use Rattle.heap_core.specs.Means.{IsHeap}
 

@@ -9,7 +9,7 @@ ghost use Rattle.gated_log.specs.LogState.{log_place, log_room, IsPlaced};
 ghost use Rattle.graph_model.specs.Graph.{Graph};
 ghost use Rattle.graph_model.specs.Canon.{canon};
 ghost use Rattle.graph_model.specs.Text.{canon_text};
-ghost use Rattle.graph_model.specs.SlowHeap.{IsSingleSession};
+ghost use Rattle.graph_model.specs.SlowHeap.{IsOfSession};
 ghost use Rattle.graph_model.specs.History.{account, sealed};
 ghost use Rattle.graph_model.specs.Transaction.{serial};
 ghost use Rattle.graph_model.specs.declared.event.Event.TheVariants.{Force};
@@ -24,7 +24,7 @@ ghost use Rattle.heap_model.specs.Opening.{opened, rollback_of, opening_calls, I
 ghost use Rattle.heap_core.specs.Causes.{step_device, reply_device, opened_device, IsFromOutside, OpenedPasses};
 ghost use Rattle.heap_model.specs.Core.{Core, IsStep, calls};
 ghost use Rattle.heap_model.specs.CoreCrash.{KeepsCommits};
-ghost use Rattle.heap_model.specs.CoreValid.{IsReached, IsValid};
+ghost use Rattle.core_laws.specs.Valid.{IsReached, IsValid, RunsLocked};
 ghost use Rattle.heap_memory.specs.Leaves.{IsAsItWas};
 ghost use Rattle.memory_laws.specs.Follows.{IsMemory, Does};
 ghost use Rattle.working_state.specs.State.{memory};
@@ -44,7 +44,7 @@ use working_state::{Working, refused};
 /// The word address of the root object.
 const ROOT_AT: u32 = 0;
 
-/// A heap on a disk, for one session.
+/// A heap on a disk, for sessions 1 to 32 side by side.
 #[derive(Debug, Drop)]
 pub struct Heap<D: Disk> {
     disk: D,
@@ -74,7 +74,8 @@ fn reply_in_memory(
     alloc: Global,
     event: Event,
 ) -> Result<Option<Reply>, AllocError>
-    ensures does { (c : Core) → IsMemory (memory working.old) (account c.history) c → IsValid c → IsSingleSession event → IfOk result (λ o. (reply : Reply) → o ≡ Some reply → Does c event reply (memory working.new)) }
+    requires { IsOfSession event }
+    ensures does { (c : Core) → IsMemory (memory working.old) (account c.history) c → IsValid c → RunsLocked c.g0 c.first c.history → IfOk result (λ o. (reply : Reply) → o ≡ Some reply → Does c event reply (memory working.new)) }
     ensures replied { IfOk result (λ o. (reply : Reply) → o ≡ Some reply → event ≢ Force) }
     ensures quiet { IfOk result (λ o. (reply : Reply) → o ≡ Some reply → reply_device reply ≡ Ok tt) }
     ensures forced { IfOk result (λ o. o ≡ None → (event ≡ Force) × (working.new ≡ working.old)) }
@@ -82,18 +83,18 @@ fn reply_in_memory(
     ensures err { OnErr result (IsAsItWas (memory working.old) (memory working.new)) }
 {
     match event {
-        Event::Begin { .. } => Ok(Some(working.begin())),
-        Event::Root { h, .. } => Ok(Some(working.root(h))),
-        Event::New { h, len, .. } => Ok(Some(working.make(h, len)?)),
-        Event::Put { h, i, v, .. } => Ok(Some(working.put(h, i, v)?)),
-        Event::Clear { h, i, .. } => Ok(Some(working.clear(h, i)?)),
-        Event::Link { h, i, h2, .. } => Ok(Some(working.link(h, i, h2)?)),
-        Event::Drop { h, .. } => Ok(Some(working.drop_handle(h))),
-        Event::Get { h, i, h2, .. } => Ok(Some(working.get(h, i, h2))),
-        Event::Same { h, h2, .. } => Ok(Some(working.same(h, h2))),
-        Event::Len { h, .. } => Ok(Some(working.len(h))),
-        Event::Seal { .. } => Ok(Some(working.seal(alloc)?)),
-        Event::Abort { .. } => Ok(Some(working.abort(alloc)?)),
+        Event::Begin { s } => Ok(Some(working.begin(s))),
+        Event::Root { s, h } => Ok(Some(working.root(s, h))),
+        Event::New { s, h, len } => Ok(Some(working.make(s, h, len)?)),
+        Event::Put { s, h, i, v } => Ok(Some(working.put(s, h, i, v)?)),
+        Event::Clear { s, h, i } => Ok(Some(working.clear(s, h, i)?)),
+        Event::Link { s, h, i, h2 } => Ok(Some(working.link(s, h, i, h2)?)),
+        Event::Drop { s, h } => Ok(Some(working.drop_handle(s, h))),
+        Event::Get { s, h, i, h2 } => Ok(Some(working.get(s, h, i, h2)?)),
+        Event::Same { s, h, h2 } => Ok(Some(working.same(s, h, h2))),
+        Event::Len { s, h } => Ok(Some(working.len(s, h))),
+        Event::Seal { s } => Ok(Some(working.seal(s, alloc)?)),
+        Event::Abort { s } => Ok(Some(working.abort(s, alloc)?)),
         Event::Force => Ok(None),
     }
 }
@@ -150,7 +151,7 @@ impl<D: Disk> Heap<D> {
                 } = found;
                 table.set_next(next);
                 let spaces = Spaces::new(pages, 0, used, 0);
-                let working = Working::new(log, words, spaces, table);
+                let working = Working::new(alloc, log, words, spaces, table);
                 Ok(Heap {
                     disk,
                     working,
@@ -163,17 +164,18 @@ impl<D: Disk> Heap<D> {
         }
     }
 
-    /// Makes one step, and answers the event. Want of memory changes nothing.
+    /// Makes one step, and answers the event, whose session, if it has one, is from 1 to 32. Want of memory changes nothing.
     pub fn step(&mut self, event: Event) -> Result<Reply, AllocError>
+        requires { IsOfSession event }
         ensures disk { KeepsDisk D.Disk self.old.disk self.new.disk (step_device result) }
 
         // Each event is a step of the core that the heap is.
-        ensures core { (c : Core) → IsCore c self.old → IsReached c → IsSingleSession event → IfOk result (λ reply. (d : Core) × IsStep c event reply d × IsCore d self.new) }
+        ensures core { (c : Core) → IsCore c self.old → IsReached c → IfOk result (λ reply. (d : Core) × IsStep c event reply d × IsCore d self.new) }
         ensures kept { (c : Core) → IsCore c self.old → OnErr result (IsCore c self.new) }
         ensures untouched { OnErr result (self.new.disk ≡ self.old.disk) }
 
         // So is what a disk that tells holds.
-        ensures holds { IsTrue D.tells → (s : Super) (c : Core) → IsHeap s c self.old → IsReached c → IsSingleSession event → IfOk result (λ reply. (d : Core) × IsStep c event reply d × IsHeap s d self.new) }
+        ensures holds { IsTrue D.tells → (s : Super) (c : Core) → IsHeap s c self.old → IsReached c → IfOk result (λ reply. (d : Core) × IsStep c event reply d × IsHeap s d self.new) }
         // At each moment of it a crash leaves first commits, among them all that were acknowledged before.
         ensures moments { IsTrue D.tells → (s : Super) (c : Core) → IsHeap s c self.old → IsReached c → LeavesOnly D.moment D.left_since self.old.disk self.new.disk (KeepsCommits c) }
         ensures passes { IsTrue D.tells → (c : Core) → IsCore c self.old → IsReached c → IfOk result (λ reply. Passes (calls c event) (D.passed self.old.disk) (D.passed self.new.disk) (reply_device reply)) }
@@ -185,10 +187,11 @@ impl<D: Disk> Heap<D> {
     }
 
     fn reply_to(&mut self, event: Event) -> Result<Reply, AllocError>
+        requires { IsOfSession event }
         ensures disk { KeepsDisk D.Disk self.old.disk self.new.disk (step_device result) }
         ensures history { self.new.history ≡ self.old.history }
-        ensures core { (c : Core) → IsCore c self.old → IsReached c → IsSingleSession event → IfOk result (λ reply. Steps c event reply self.new.working self.new.failed) }
-        ensures holds { IsTrue D.tells → (s : Super) (c : Core) → IsHeap s c self.old → IsReached c → IsSingleSession event → IfOk result (λ reply. StepsOn s c event reply self.new.working self.new.failed (D.bytes self.new.disk) (D.may_leave self.new.disk)) }
+        ensures core { (c : Core) → IsCore c self.old → IsReached c → IfOk result (λ reply. Steps c event reply self.new.working self.new.failed) }
+        ensures holds { IsTrue D.tells → (s : Super) (c : Core) → IsHeap s c self.old → IsReached c → IfOk result (λ reply. StepsOn s c event reply self.new.working self.new.failed (D.bytes self.new.disk) (D.may_leave self.new.disk)) }
         ensures kept { (c : Core) → IsCore c self.old → OnErr result (IsCore c self.new) }
         ensures before { self.new.before ≡ self.old.before }
         ensures untouched { OnErr result (self.new.disk ≡ self.old.disk) }
@@ -202,9 +205,10 @@ impl<D: Disk> Heap<D> {
     }
 
     fn answer(&mut self, event: Event) -> Result<Reply, AllocError>
+        requires { IsOfSession event }
         ensures disk { KeepsDisk D.Disk self.old.disk self.new.disk (step_device result) }
-        ensures core { (c : Core) → IsCore c self.old → self.old.failed ≡ None → IsReached c → IsSingleSession event → IfOk result (λ reply. Steps c event reply self.new.working self.new.failed) }
-        ensures holds { IsTrue D.tells → (s : Super) (c : Core) → IsHeap s c self.old → self.old.failed ≡ None → IsReached c → IsSingleSession event → IfOk result (λ reply. StepsOn s c event reply self.new.working self.new.failed (D.bytes self.new.disk) (D.may_leave self.new.disk)) }
+        ensures core { (c : Core) → IsCore c self.old → self.old.failed ≡ None → IsReached c → IfOk result (λ reply. Steps c event reply self.new.working self.new.failed) }
+        ensures holds { IsTrue D.tells → (s : Super) (c : Core) → IsHeap s c self.old → self.old.failed ≡ None → IsReached c → IfOk result (λ reply. StepsOn s c event reply self.new.working self.new.failed (D.bytes self.new.disk) (D.may_leave self.new.disk)) }
         ensures kept { (c : Core) → IsCore c self.old → OnErr result (IsCore c self.new) }
         ensures before { self.new.before ≡ self.old.before }
         ensures history { self.new.history ≡ self.old.history }
@@ -272,14 +276,14 @@ impl<D: Disk> Heap<D> {
         self.failed.is_some() || self.working.log.pending()
     }
 
-    /// Whether a transaction is active.
-    pub fn active(&self) -> bool
-        ensures { (c : Core) → IsCore c self.now → result ≡ is_some ((account c.history).active 1) }
+    /// Whether a session, of 1 to 32, has a transaction. No other number has one.
+    pub fn active(&self, session: u32) -> bool
+        ensures { (c : Core) → IsCore c self.now → result ≡ is_some ((account c.history).active session) }
     {
-        self.working.active()
+        self.working.active(session)
     }
 
-    /// The text of the graph, without what an active transaction wrote. It asks that the disk has neither failed nor stopped.
+    /// The text of the graph, without what active transactions wrote. It asks that the disk has neither failed nor stopped.
     pub fn graph(&self, alloc: Global) -> Result<Vec<u8>, GraphError>
         requires unfailed { failed_at self.now ≡ None }
         ensures text { (c : Core) → IsCore c self.now → IsReached c → IfOk result (λ text. text.items ≡ canon_text (canon (serial c.g0 (sealed c.history)))) }

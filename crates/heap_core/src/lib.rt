@@ -1,4 +1,7 @@
-//! The stable heap as a library: it is formatted, opened, and changed by events, each of them one atomic step.
+//! The stable heap as a library: it is formatted, opened, and changed by events of its sessions, each of them one atomic step.
+//!
+//! A session is a number from 1 to 32, and has one transaction at most. Those of different sessions run side by side under strict two-phase
+//! locking: an event that needs an object which another transaction holds in conflict is refused as `busy`, and nothing waits.
 #![tactic(auto)]
 
 mod errors;
@@ -17,3 +20,5 @@ mod library_tests;
 mod object_tests;
 #[cfg(test)]
 mod opening_tests;
+#[cfg(test)]
+mod session_tests;

@@ -1,10 +1,10 @@
-//! A program that stands on the heap as a library: it opens a heap, makes events, crashes, and goes on, for any number of rounds. What it
-//! promises follows from the public clauses of the heap.
+//! A program that stands on the heap as a library: it opens a heap, makes events of any sessions, crashes, and goes on, for any number of
+//! rounds. What it promises follows from the public clauses of the heap.
 ghost use Rattle.std.specs.Prelude.{◌≡◌, ℕ, IsTrue, IfOk};
 ghost use Rattle.std.specs.List.{AllByRecursion};
 ghost use Rattle.disk_model.specs.Disk.{Only};
 ghost use Rattle.graph_model.specs.Graph.{Graph};
-ghost use Rattle.graph_model.specs.SlowHeap.{IsSingleSession};
+ghost use Rattle.graph_model.specs.SlowHeap.{IsOfSession};
 ghost use Rattle.heap_model.specs.Image.{StandsFor};
 ghost use Rattle.heap_core.specs.Rounds.{IsRound, Rounds};
 
@@ -33,7 +33,7 @@ impl From<AllocError> for Halt {
 /// Opens the heap on the disk, makes these events, and crashes: the disk is started again. It then stands for the first of the
 /// commits that were made, among them all that were acknowledged.
 fn round<D: Disk + Drop>(alloc: Global, disk: D, events: &[Event]) -> Result<D, Halt>
-    requires { AllByRecursion IsSingleSession events.now }
+    requires { AllByRecursion IsOfSession events.now }
     ensures { IsTrue D.tells → Only (D.bytes disk) (D.may_leave disk) → (g : Graph) (k : ℕ) → StandsFor g k (D.bytes disk)
         → IfOk result (λ left. Only (D.bytes left) (D.may_leave left) × (h : Graph) × (j : ℕ) × IsRound g k events.now h j × StandsFor h j (D.bytes left)) }
 {
@@ -56,7 +56,7 @@ fn rounds<D: Disk + Drop>(
     events: &[Event],
     count: u32,
 ) -> Result<D, Halt>
-    requires { AllByRecursion IsSingleSession events.now }
+    requires { AllByRecursion IsOfSession events.now }
     ensures { IsTrue D.tells → Only (D.bytes disk) (D.may_leave disk) → (g : Graph) (k : ℕ) → StandsFor g k (D.bytes disk)
         → IfOk result (λ left. Only (D.bytes left) (D.may_leave left) × (h : Graph) × (j : ℕ) × Rounds g k events.now count h j × StandsFor h j (D.bytes left)) }
 {
@@ -66,8 +66,9 @@ fn rounds<D: Disk + Drop>(
     Ok(disk)
 }
 
-/// A transaction that is on the disk, and one that no force has reached.
-const EVENTS: [Event; 7] = [
+/// A transaction of session 1 that is on the disk, and one of session 2 beside it that no force has reached.
+const EVENTS: [Event; 9] = [
+    Event::Begin { s: 2 },
     Event::Begin { s: 1 },
     Event::Root { s: 1, h: 0 },
     Event::Put {
@@ -78,8 +79,9 @@ const EVENTS: [Event; 7] = [
     },
     Event::Seal { s: 1 },
     Event::Force,
-    Event::Begin { s: 1 },
-    Event::Seal { s: 1 },
+    Event::Root { s: 2, h: 0 },
+    Event::Clear { s: 2, h: 0, i: 0 },
+    Event::Seal { s: 2 },
 ];
 
 #[test]

@@ -8,9 +8,10 @@ use std::alloc::{AllocError, Global};
 use std::process::Abort;
 use std::test::Fail;
 
-const LOG_BYTES: u32 = 1024;
+pub const LOG_BYTES: u32 = 1024;
 
-type Step = (Event, Reply);
+/// An event and what it is answered.
+pub type Step = (Event, Reply);
 
 fn begin(n: u64) -> Step {
     (Event::Begin { s: 1 }, Reply::Begun { n })
@@ -93,7 +94,7 @@ fn second_session() -> [Step; 12] {
 }
 
 /// Makes these steps, which get these answers, and stops the disk and starts it again.
-fn play(
+pub fn play(
     rt: &impl Abort,
     alloc: Global,
     disk: MemoryDisk,
@@ -101,6 +102,7 @@ fn play(
 ) -> Result<MemoryDisk, AllocError> {
     let mut heap = open(rt, alloc, disk);
     for (event, reply) in steps {
+        assert!(rt; event.is_of_session());
         assert_eq!(rt; heap.step(*event)?, *reply, "{event}");
     }
     let mut disk = heap.close();

@@ -102,6 +102,7 @@ fn make_unended(rt: &impl Abort, alloc: Global, pick: Pick) -> Result<MemoryDisk
     };
     let mut heap = open(rt, alloc, disk);
     for event in EVENTS {
+        assert!(rt; event.is_of_session());
         heap.step(event)?;
     }
     let mut disk = heap.close();

@@ -2,6 +2,7 @@ mod Causes
 mod CommandLaws
 mod Counts
 mod Lines
+mod PlayAborts
 mod PlayCore
 mod PlayEnding
 mod PlayEnds

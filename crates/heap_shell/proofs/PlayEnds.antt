@@ -1,7 +1,6 @@
 -- How a play tells what a run promises.
 use Rattle.std.proofs.Common.{◌≡◌, ◌≢◌, ◌⊎◌, inl, inr, ⊎_elim, ℕ, ◌+◌, ◌≤◌, min, Bool, List, [], ◌++◌, ◌∷◌, length, take, Option, Some, None, Result, Ok, Err, refl, sym, ap, ◌∙◌, subst, arith, length-append}
 use Rattle.std.specs.Prelude.{IsTrue}
-use Rattle.std.specs.List.{AllByRecursion}
 use Rattle.std.proofs.lemmas.List.{append-nil, take_all}
 use Rattle.counts.specs.Count.{Rose, counted}
 use Rattle.disk_model.specs.declared.disk.Disk.{Ghosts}
@@ -12,7 +11,6 @@ use Rattle.graph_model.specs.declared.reply.Entry.{Entry}
 use Rattle.graph_model.specs.declared.reply.Refusal.TheVariants.{DiskFault, Stopped}
 use Rattle.graph_model.specs.declared.reply.Reply.{Reply}
 use Rattle.graph_model.specs.declared.reply.Reply.TheVariants.{Refused}
-use Rattle.graph_model.specs.SlowHeap.{IsSingleSession}
 use Rattle.graph_model.specs.Transaction.{Transaction, serial, serial_replies}
 use Rattle.graph_model.specs.History.{sealed, commits, acknowledged}
 use Rattle.image_plan.specs.declared.superblock.Super.{Super}
@@ -27,14 +25,14 @@ use Rattle.heap_core.specs.Causes.{reply_device}
 use Rattle.heap_model.specs.Core.{Core, with_entry, IsRun}
 use Rattle.heap_model.specs.CoreCrash.{KeepsCommits}
 use Rattle.heap_model.specs.CoreLawsCalls.{total_calls-append}
-use Rattle.heap_model.specs.CoreLawsCrash.{commits-sealed}
+use Rattle.core_laws.specs.Crash.{commits-sealed}
 use Rattle.heap_model.specs.CoreLawsEnding.{total_few}
-use Rattle.heap_shell.specs.CoreLawsPlay.{ready_front, makes_run}
-use Rattle.heap_model.specs.CoreLawsReplies.{replies_law}
-use Rattle.heap_model.specs.CoreLawsRun.{reached_agrees}
-use Rattle.heap_model.specs.CoreReplies.{call_replies_of}
+use Rattle.heap_shell.specs.CoreLawsPlay.{makes_run}
+use Rattle.core_laws.specs.Replies.{replies_law}
+use Rattle.core_laws.specs.Sound.{reached_agrees}
+use Rattle.commit_order.specs.Heard.{replies_of_commits}
 use Rattle.heap_model.specs.CoreRuns.{after_events, total_calls}
-use Rattle.heap_model.specs.CoreValid.{IsReached}
+use Rattle.core_laws.specs.Valid.{IsReached}
 use Rattle.heap_shell.specs.declared.command.Stop.{Stop}
 use Rattle.heap_shell.specs.Headline.{graph_text, end_text, stop_after, let_through, HasMade, StopsLast, IsExact, IsEndOfPlay, MakesEvents, KeepsThroughout, IsFollowed, Reopens, StartsAgain, EndsUnopened, Prints, IsPlayed}
 use Rattle.heap_shell.specs.Playable.{IsPlayable}
@@ -59,7 +57,7 @@ module _ {D : Type 0} {g : Ghosts D} (s : Super) (c : Core) (running : IsRunning
   made = plays.made
 
   ready : AreReady c (made ++ plays.behind)
-  ready = subst (AreReady c) plays.parts (record { running = running; single = playable.single })
+  ready = subst (AreReady c) plays.parts (record { running = running; sessions = playable.sessions })
 
   makes : Makes c made core old new
   makes = ends_makes c made plays.behind core old new result plays.ends
@@ -68,10 +66,7 @@ module _ {D : Type 0} {g : Ghosts D} (s : Super) (c : Core) (running : IsRunning
   pub run_reached : IsRun c made core × IsReached core
   run_reached = makes_run c made plays.behind core old new ready makes
 
-  made_single : AllByRecursion IsSingleSession made
-  made_single = (ready_front c made plays.behind ready).single
-
-  replies : call_replies_of core.history ≡ serial_replies core.g0 (commits core.history)
+  replies : replies_of_commits core.history ≡ serial_replies core.g0 (commits core.history)
   replies = replies_law core run_reached.1
 
   -- what a crash leaves now
@@ -235,7 +230,7 @@ module _ {D : Type 0} {g : Ghosts D} (s : Super) (c : Core) (running : IsRunning
         end = recovers.end;
       }
 
-  few : total_calls c made ≤ 8388616
+  few : total_calls c made ≤ 8388740
   few =
       let all : length events ≡ length made + length plays.behind = ap (λ (l : List Event). length l) plays.parts ∙ length-append made plays.behind in
       let each = total_few c made in

@@ -23,10 +23,10 @@ use Rattle.heap_shell.specs.declared.output.WriteError.{WriteError}
 use Rattle.heap_core.specs.Causes.{reply_device}
 use Rattle.heap_model.specs.Core.{Core, next_number, answer, with_entry, after, IsCutShort, IsStep, calls}
 use Rattle.heap_model.specs.CoreCrash.{KeepsCommits}
-use Rattle.heap_model.specs.CoreLawsReplies.{step_reached}
+use Rattle.core_laws.specs.Run.{step_reached}
 use Rattle.heap_model.specs.CoreLawsRun.{step_history}
 use Rattle.heap_model.specs.CoreLawsStep.{core_refusal-HasNoFault}
-use Rattle.heap_model.specs.CoreValid.{IsReached}
+use Rattle.core_laws.specs.Valid.{IsReached}
 use Rattle.heap_core.specs.Means.{DiskHolds, IsCore, IsHeap}
 use Rattle.heap_shell.specs.Play.{AreReady, MakesAll, MakesShort, Makes, Ends, Plays, ended_by, lines_text, Wrote, WroteFront, WroteLines}
 use Rattle.heap_shell.specs.StatusOf.{write_halt}
@@ -111,7 +111,7 @@ module _ {D : Type 0} {g : Ghosts D} (s : Super) (c d : Core) (event : Event) (r
   -- it is a step on the heap's disk
   pub one_steps : AreSteps (HeapStep g) c old.disk one d new.disk
   one_steps =
-      let next = step_reached c d event reply ready.running.reached ready.single.0 step in
+      let next = step_reached c d event reply ready.running.reached ready.sessions.0 step in
       let made : HeapStep g c old.disk event d new.disk =
       record { reply = reply; step = step; moments = moments; kept = heap_leaves s d new heap next; passes = passes; disk = keeps } in
       (d, new.disk, made, (refl, refl))

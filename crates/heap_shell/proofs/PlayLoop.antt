@@ -2,13 +2,17 @@
 use Rattle.std.proofs.Common.{◌≡◌, ℕ, ◌+◌, ◌<◌, ◌≤◌, Bool, List, [], ◌∷◌, ◌++◌, length, get_or, take, drop, Result, Ok, sym, ap, ◌∙◌, subst, append_assoc, take-append-drop}
 use Rattle.std.proofs.lemmas.List.{append-nil, take_more, drop_more}
 use Rattle.std.proofs.lemmas.Grind.{flat_map-append}
+use Rattle.std.specs.List.{AllByRecursion}
 use Rattle.disk_model.specs.declared.disk.Disk.{Ghosts}
 use Rattle.graph_model.specs.declared.event.Event.{Event}
 use Rattle.image_plan.specs.declared.superblock.Super.{Super}
 use Rattle.heap_core.specs.declared.heap.Heap.{Heap}
 use Rattle.heap_shell.specs.declared.play.Halt.{Halt}
 use Rattle.script_text.specs.declared.line.Line.{Line}
+use Rattle.graph_model.specs.SlowHeap.{IsOfSession}
+use Rattle.core_laws.specs.Calls.{of_session_front}
 use Rattle.heap_model.specs.Core.{Core}
+use Rattle.heap_model.specs.ListLaws.{AllByRecursion-behind}
 use Rattle.heap_shell.specs.CoreLawsPlay.{ready_front}
 use Rattle.heap_core.specs.Means.{IsHeap}
 use Rattle.heap_shell.specs.Play.{AreReady, Plays}
@@ -26,6 +30,12 @@ events_parts lines i d lt =
     ap events (sym (take-append-drop i lines) ∙ ap (λ (l : List Line). take i lines ++ l) (drop_more lines i d lt))
     ∙ flat_map-append line_events (take i lines) (get_or lines i d ∷ drop (i + 1) lines)
     ∙ sym (append_assoc (events (take i lines)) (line_events (get_or lines i d)) (events (drop (i + 1) lines)))
+
+-- the events of each line are of sessions where all are
+pub line_sessions : (lines : List Line) (i : ℕ) (d : Line) → i < length lines → AllByRecursion IsOfSession (events lines) → AllByRecursion IsOfSession (line_events (get_or lines i d))
+line_sessions lines i d lt all =
+    let front = of_session_front (events (take i lines) ++ line_events (get_or lines i d)) (events (drop (i + 1) lines)) (subst (AllByRecursion IsOfSession) (events_parts lines i d lt) all) in
+    AllByRecursion-behind IsOfSession (events (take i lines)) (line_events (get_or lines i d)) front
 
 module _ {D : Type 0} {g : Ghosts D} (s : Super) (c : Core) (lines : List Line) (i : ℕ) (d : Line) (lt : i < length lines) (ready : AreReady c (events lines))
     (old mid new : Heap D g) (told : Bool) (before between after : List ℕ) (result : Result (Unit {0}) Halt)

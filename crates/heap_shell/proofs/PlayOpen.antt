@@ -17,7 +17,8 @@ use Rattle.heap_shell.specs.declared.status.Status.{Status}
 use Rattle.heap_shell.specs.declared.status.Status.TheVariants.{Done}
 use Rattle.heap_model.specs.CoreCrash.{KeepsCommits}
 use Rattle.heap_model.specs.CoreLawsNew.{root_place, new_legal, new_found}
-use Rattle.heap_model.specs.CoreLawsOpened.{address_found, opened_keeps, opened_reached}
+use Rattle.core_laws.specs.Opened.{opened_reached}
+use Rattle.heap_model.specs.CoreLawsOpened.{address_found, opened_keeps}
 use Rattle.heap_shell.specs.CoreLawsPlay.{running_after, all_playable}
 use Rattle.heap_model.specs.CoreRuns.{after_events}
 use Rattle.heap_model.specs.Ending.{all_events}
@@ -181,5 +182,5 @@ played_unfailed c lines heap told before after running is plays =
     let es = all_events None c (events lines) in
     let same : es ≡ plays.made = plays.parts ∙ ap (λ (l : List Event). plays.made ++ l) plays.ends.0 ∙ append-nil plays.made in
     let whole : plays.core ≡ after_events c es = subst (λ (l : List Event). plays.core ≡ after_events c l) (sym same) plays.ends.1 in
-    let after_all = running_after c es (record { running = running; single = (all_playable None c lines running.reached is).single }) in
+    let after_all = running_after c es (record { running = running; sessions = (all_playable None c lines is).sessions }) in
     plays.is.memory.failure ∙ ap (λ (x : Core). (account x.history).failed) whole ∙ after_all.unfailed

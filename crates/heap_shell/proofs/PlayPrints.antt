@@ -7,13 +7,13 @@ use Rattle.disk_model.specs.declared.disk.Disk.{Ghosts}
 use Rattle.graph_model.specs.declared.reply.Entry.{Entry}
 use Rattle.graph_model.specs.Graph.{Graph}
 use Rattle.graph_model.specs.History.{sealed}
-use Rattle.graph_model.specs.SlowHeap.{IsSingleSession}
+use Rattle.graph_model.specs.SlowHeap.{IsOfSession}
 use Rattle.graph_model.specs.Transaction.{serial}
 use Rattle.heap_core.specs.declared.heap.Heap.{Heap}
 use Rattle.heap_model.specs.Core.{Core}
-use Rattle.heap_model.specs.CoreLawsEnding.{single_front}
-use Rattle.heap_model.specs.CoreLawsReplies.{run_reached}
-use Rattle.heap_model.specs.CoreValid.{IsReached}
+use Rattle.core_laws.specs.Calls.{of_session_front}
+use Rattle.core_laws.specs.Run.{run_reached}
+use Rattle.core_laws.specs.Valid.{IsReached}
 use Rattle.heap_model.specs.Ending.{all_events}
 use Rattle.heap_shell.specs.declared.output.WriteError.{WriteError}
 use Rattle.heap_shell.specs.declared.play.Halt.{Halt}
@@ -67,8 +67,8 @@ module _ {D : Type 0} {g : Ghosts D} (stop : Option ℕ) (c : Core) (new : IsNew
   -- the core that was reached
   pub reached : IsReached core
   reached =
-      let single = (all_playable stop c script new.running.reached is_script).single in
-      run_reached c core plays.made new.running.reached (single_front plays.made plays.behind (subst (AllByRecursion IsSingleSession) plays.parts single)) plays.run
+      let sessions = (all_playable stop c script is_script).sessions in
+      run_reached c core plays.made new.running.reached (of_session_front plays.made plays.behind (subst (AllByRecursion IsOfSession) plays.parts sessions)) plays.run
 
   wrote : Wrote result before core.history after
   wrote = plays.written tells before (sym (ap (λ (h : List Entry). before ++ lines_text h) new.nothing ∙ append-nil before))

@@ -11,13 +11,14 @@ use Rattle.disk_model.specs.Moments.{LeavesOnly, joined, weaker}
 use Rattle.gate_slot.specs.Passing.{Passes}
 use Rattle.graph_model.specs.declared.event.Event.{Event}
 use Rattle.graph_model.specs.History.{acknowledged}
-use Rattle.graph_model.specs.SlowHeap.{IsSingleSession}
+use Rattle.graph_model.specs.SlowHeap.{IsOfSession}
 use Rattle.heap_model.specs.Core.{Core}
 use Rattle.heap_model.specs.CoreCrash.{KeepsCommits, HasAtLeast}
-use Rattle.heap_model.specs.CoreLawsGrow.{has_at_least_on, keeps_at_least}
-use Rattle.heap_model.specs.CoreLawsEnding.{single_front}
-use Rattle.heap_model.specs.CoreLawsReplies.{run_reached}
-use Rattle.heap_model.specs.CoreValid.{IsReached}
+use Rattle.core_laws.specs.Calls.{of_session_front}
+use Rattle.core_laws.specs.Grow.{has_at_least_on}
+use Rattle.core_laws.specs.Run.{run_reached}
+use Rattle.heap_model.specs.CoreLawsGrow.{keeps_at_least}
+use Rattle.core_laws.specs.Valid.{IsReached}
 use Rattle.heap_shell.specs.CrashSafe.{IsCrashSafe}
 use Rattle.heap_shell.specs.StepsLaws.{steps_run, last_until, lasting_steps}
 use Rattle.image_plan.specs.declared.superblock.Super.{Super}
@@ -98,13 +99,13 @@ module _ {D : Type 0} (g : Ghosts D) (s : Super) (old new : D) where
 
 -- What a run says of crashes in short.
 module _ {D : Type 0} (g : Ghosts D) (now : (disk : D) (image : List ℕ) → g.left_since disk (g.moment disk) image → g.may_leave disk image) (start final : D) where
-  pub crash_safe : (stop : Option Stop) (c : Core) (events : List Event) (result : Status) (told : Bool) (before after : List ℕ) → IsReached c → AllByRecursion IsSingleSession events
+  pub crash_safe : (stop : Option Stop) (c : Core) (events : List Event) (result : Status) (told : Bool) (before after : List ℕ) → IsReached c → AllByRecursion IsOfSession events
       → IsPlayed g stop c events start final result told before after → IsCrashSafe g (stop_after stop) c start final result told before after
-  crash_safe stop c events result told before after reached single played =
+  crash_safe stop c events result told before after reached sessions played =
       let made = played.run.made in
       let core = played.run.core in
       let disk = played.disk in
-      let one = single_front made played.run.behind (subst (AllByRecursion IsSingleSession) played.run.parts single) in
+      let one = of_session_front made played.run.behind (subst (AllByRecursion IsOfSession) played.run.parts sessions) in
       let run = steps_run g (stop_after stop) start final c core disk.opened disk.stopped made disk.steps in
       let at_end = run_reached c core made reached one run in
       let least = acknowledged c.history in

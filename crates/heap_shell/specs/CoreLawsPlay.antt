@@ -3,23 +3,23 @@ use Rattle.std.proofs.Common.{◌≡◌, true, inl, inr, ℕ, ◌≤◌, List, [
 use Rattle.disk_model.specs.declared.disk.Disk.{Ghosts}
 use Rattle.graph_model.specs.declared.event.Event.{Event}
 use Rattle.graph_model.specs.Graph.{new_graph}
-use Rattle.graph_model.specs.SlowHeap.{IsSingleSession}
+use Rattle.graph_model.specs.SlowHeap.{IsOfSession}
 use Rattle.script_text.specs.declared.line.Line.{Line}
 use Rattle.script_text.specs.Line.{events}
 use Rattle.script_text.specs.Script.{script}
-use Rattle.script_text.specs.ScriptLaws.{script_single, script_few}
+use Rattle.script_text.specs.ScriptLaws.{script_sessions, script_few}
 use Rattle.image_plan.specs.Super.{IsSuper}
 use Rattle.heap_core.specs.declared.heap.Heap.{Heap}
 use Rattle.heap_model.specs.Core.{Core, IsStep, IsRun}
 use Rattle.heap_model.specs.CoreRuns.{after_events}
-use Rattle.heap_model.specs.CoreValid.{IsValid, IsReached}
-use Rattle.heap_model.specs.CoreLawsCalls.{whole_run, run_step, valid_events, reached_events}
+use Rattle.core_laws.specs.Calls.{reached_events, unfailed_events, of_session_front}
+use Rattle.core_laws.specs.Ending.{all_few, all_of_session}
+use Rattle.core_laws.specs.Opened.{opened_reached}
+use Rattle.core_laws.specs.Run.{step_reached}
+use Rattle.core_laws.specs.Valid.{IsReached}
+use Rattle.heap_model.specs.CoreLawsCalls.{whole_run, run_step}
 use Rattle.heap_model.specs.CoreLawsNew.{root_place, new_legal, new_found}
-use Rattle.heap_model.specs.CoreLawsOpened.{opened_reached}
-use Rattle.heap_model.specs.CoreLawsReplies.{step_reached}
-use Rattle.heap_model.specs.CoreLawsEnding.{single_front, all_single, all_few}
 use Rattle.heap_model.specs.ListLaws.{AllByRecursion-behind}
-use Rattle.heap_model.specs.CoreLawsRun.{sound_valid}
 use Rattle.heap_model.specs.Ending.{all_events}
 use Rattle.heap_shell.specs.Headline.{made_super, made_core}
 use Rattle.heap_shell.specs.Play.{IsRunning, AreReady, Makes}
@@ -35,24 +35,20 @@ made_reached pages limits = opened_reached (made_super pages) [] (new_legal (mad
 
 -- a core may be asked the first of the events that it may be asked
 pub ready_front : (c : Core) (before behind : List Event) → AreReady c (before ++ behind) → AreReady c before
-ready_front c before behind ready = record { running = ready.running; single = single_front before behind ready.single }
-
--- a running core is valid
-pub running_valid : (c : Core) → IsRunning c → IsValid c
-running_valid c running = sound_valid c running.reached.sound running.unfailed
+ready_front c before behind ready = record { running = ready.running; sessions = of_session_front before behind ready.sessions }
 
 -- it runs on behind events that the disk did
 pub running_after : (c : Core) (events : List Event) → AreReady c events → IsRunning (after_events c events)
 running_after c events ready = record {
-  reached = reached_events c events ready.running.reached ready.single;
-  unfailed = (valid_events c events (running_valid c ready.running) ready.single).unfailed;
+  reached = reached_events c events ready.running.reached ready.sessions;
+  unfailed = unfailed_events c events ready.running.reached ready.running.unfailed ready.sessions;
 }
 
 -- behind the first events the core may be asked the others
 pub ready_behind : (c : Core) (before behind : List Event) → AreReady c (before ++ behind) → AreReady (after_events c before) behind
 ready_behind c before behind ready = record {
   running = running_after c before (ready_front c before behind ready);
-  single = AllByRecursion-behind IsSingleSession before behind ready.single;
+  sessions = AllByRecursion-behind IsOfSession before behind ready.sessions;
 }
 
 -- The events that were made are a run, and what they left is reached.
@@ -67,7 +63,7 @@ makes_run c made behind d old new ready (inr short) =
     let step : IsStep mid cut.event short.0 d = inr (cut.cut, cut.reached) in
     let run = run_step c mid d cut.before cut.event short.0 (whole_run c cut.before) step in
     let last = ready_behind c cut.before (cut.event ∷ []) (subst (AreReady c) cut.parts (ready_front c made behind ready)) in
-    (subst (λ (l : List Event). IsRun c l d) (sym cut.parts) run, step_reached mid d cut.event short.0 last.running.reached last.single.0 step)
+    (subst (λ (l : List Event). IsRun c l d) (sym cut.parts) run, step_reached mid d cut.event short.0 last.running.reached last.sessions.0 step)
 
 -- a new heap runs
 pub made_running : (pages : ℕ) → IsSuper (made_super pages) → IsRunning (made_core pages)
@@ -75,15 +71,11 @@ made_running pages limits = record { reached = made_reached pages limits; unfail
 
 -- A script that was read is one.
 pub script_is : (bytes : List ℕ) (lines : List Line) → script bytes ≡ Ok lines → IsScript lines
-script_is bytes lines is = record { single = script_single bytes lines is; few = script_few bytes lines is }
+script_is bytes lines is = record { sessions = script_sessions bytes lines is; few = script_few bytes lines is }
 
 -- Its events may be played, with those that end a run.
-pub all_playable : (stop : Option ℕ) (c : Core) (lines : List Line) → IsReached c → IsScript lines → IsPlayable (all_events stop c (events lines))
-all_playable stop c lines reached is = record {
-  single = all_single stop c (events lines) reached is.single;
-  few = omega (arith, is.few, all_few stop c (events lines) reached is.single);
+pub all_playable : (stop : Option ℕ) (c : Core) (lines : List Line) → IsScript lines → IsPlayable (all_events stop c (events lines))
+all_playable stop c lines is = record {
+  sessions = all_of_session stop c (events lines) is.sessions;
+  few = omega (arith, is.few, all_few stop c (events lines));
 }
-
--- a heap that runs may be asked them
-pub script_ready : (c : Core) (lines : List Line) → IsRunning c → IsScript lines → AreReady c (events lines)
-script_ready c lines running is = record { running = running; single = is.single }

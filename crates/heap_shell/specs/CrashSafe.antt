@@ -6,7 +6,7 @@ use Rattle.graph_model.specs.declared.event.Event.{Event}
 use Rattle.graph_model.specs.History.{commits, acknowledged}
 use Rattle.graph_model.specs.Transaction.{serial, serial_replies}
 use Rattle.heap_model.specs.Core.{Core}
-use Rattle.heap_model.specs.CoreReplies.{call_replies_of}
+use Rattle.commit_order.specs.Heard.{replies_of_commits}
 use Rattle.heap_shell.specs.declared.command.Play.{Play}
 use Rattle.heap_shell.specs.declared.status.Status.{Status}
 use Rattle.heap_shell.specs.declared.status.Status.TheVariants as status
@@ -32,7 +32,7 @@ module _ {D : Type 0} (g : Ghosts D) where
     pub stopped : D
     pub steps : AreSteps (LastingStep stop core start final) c opened made core stopped
     -- Each commit had the replies that the commits have one after another.
-    pub replies : call_replies_of core.history ≡ serial_replies core.g0 (commits core.history)
+    pub replies : replies_of_commits core.history ≡ serial_replies core.g0 (commits core.history)
     -- What is printed of a run that is done is the graph of the first k commits, for the k that is printed.
     pub printed : result ≡ status.Done → IsTrue told → (k : ℕ) × (k ≤ length (commits core.history)) × (after ≡ before ++ (lines_text core.history ++ end_text stop k (serial core.g0 (take k (commits core.history)))))
 

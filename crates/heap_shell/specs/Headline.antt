@@ -21,10 +21,10 @@ use Rattle.image_plan.specs.declared.superblock.Super.{Super}
 use Rattle.image_plan.specs.Plan.{image_size}
 use Rattle.heap_core.specs.Format.{IsFormatting, format_calls}
 use Rattle.heap_model.specs.Core.{Core, with_entry, IsRun}
-use Rattle.heap_model.specs.CoreValid.{IsReached}
+use Rattle.core_laws.specs.Valid.{IsReached}
 use Rattle.heap_model.specs.CoreCrash.{StandsForFirst, KeepsCommits}
 use Rattle.heap_model.specs.CoreLawsNew.{root_place}
-use Rattle.heap_model.specs.CoreReplies.{call_replies_of}
+use Rattle.commit_order.specs.Heard.{replies_of_commits}
 use Rattle.heap_model.specs.CoreRuns.{after_events, total_calls, StopsAt}
 use Rattle.heap_model.specs.Ending.{all_events}
 use Rattle.heap_model.specs.Image.{IsLegal}
@@ -234,7 +234,7 @@ module _ {D : Type 0} (g : Ghosts D) where
     -- the disk behind the last event has counted the writes and syncs of these events, or no more than those
     pub calls : Unharmed g start final → g.passed disk.stopped ≡ counted (let_through (stop_after stop) (total_calls c run.made)) (g.passed start)
     pub most : g.passed disk.stopped ≤ counted (let_through (stop_after stop) (total_calls c run.made)) (g.passed start)
-    pub replies : call_replies_of run.core.history ≡ serial_replies run.core.g0 (commits run.core.history)
+    pub replies : replies_of_commits run.core.history ≡ serial_replies run.core.g0 (commits run.core.history)
     pub prints : Prints stop run.core disk.stopped final result told before after
     pub end : IsEndOfPlay result
 

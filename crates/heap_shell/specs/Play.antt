@@ -10,7 +10,7 @@ use Rattle.graph_model.specs.declared.reply.Refusal.TheVariants.{DiskFault, Stop
 use Rattle.graph_model.specs.declared.reply.Reply.{Reply}
 use Rattle.graph_model.specs.declared.reply.Reply.TheVariants.{Refused}
 use Rattle.graph_model.specs.History.{account}
-use Rattle.graph_model.specs.SlowHeap.{IsSingleSession}
+use Rattle.graph_model.specs.SlowHeap.{IsOfSession}
 use Rattle.graph_model.specs.Text.{line}
 use Rattle.image_plan.specs.declared.superblock.Super.{Super}
 use Rattle.heap_core.specs.declared.heap.Heap.{Heap}
@@ -19,7 +19,7 @@ use Rattle.heap_shell.specs.declared.play.Halt.TheVariants as halt
 use Rattle.heap_core.specs.Causes.{reply_device}
 use Rattle.heap_model.specs.Core.{Core, with_entry, IsCutShort, IsRun, calls}
 use Rattle.heap_model.specs.CoreRuns.{after_events, total_calls}
-use Rattle.heap_model.specs.CoreValid.{IsReached}
+use Rattle.core_laws.specs.Valid.{IsReached}
 use Rattle.heap_core.specs.Means.{IsCore, IsHeap}
 use Rattle.heap_shell.specs.Steps.{HeapStep, AreSteps}
 
@@ -32,10 +32,10 @@ pub record IsRunning (c : Core) : Type 0 where
   pub reached : IsReached c
   pub unfailed : (account c.history).failed ≡ None
 
--- Events that a core may be asked one after another: they are session 1's.
+-- Events that a core may be asked one after another: each is of a session, or of none.
 pub record AreReady (c : Core) (events : List Event) : Type 0 where
   pub running : IsRunning c
-  pub single : AllByRecursion IsSingleSession events
+  pub sessions : AllByRecursion IsOfSession events
 
 -- A first part of a text was written.
 abbrev pub WroteFront : List ℕ → List ℕ → List ℕ → Type 0

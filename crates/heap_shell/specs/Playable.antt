@@ -1,18 +1,25 @@
 -- What a play needs of its events.
-use Rattle.std.specs.Prelude.{◌≤◌, List, length}
+use Rattle.std.specs.Prelude.{◌≡◌, ℕ, ◌≤◌, Bool, IsTrue, List, length, Ok}
 use Rattle.std.specs.List.{AllByRecursion}
 use Rattle.graph_model.specs.declared.event.Event.{Event}
-use Rattle.graph_model.specs.SlowHeap.{IsSingleSession}
+use Rattle.graph_model.specs.SlowHeap.{IsOfSession}
 use Rattle.script_text.specs.declared.line.Line.{Line}
 use Rattle.script_text.specs.Line.{events}
+use Rattle.script_text.specs.Script.{script}
 
--- The events of these lines are session 1's, and no more than those of the longest script.
+-- Each event of these lines is of a session, or of none, and they are no more than those of the longest script.
 pub record IsScript (lines : List Line) : Type 0 where
-  pub single : AllByRecursion IsSingleSession (events lines)
+  pub sessions : AllByRecursion IsOfSession (events lines)
   pub few : length (events lines) ≤ 2097152
 
--- The events are session 1's, and no more than those of the longest script and two that end a run: they make fewer device calls
--- than can be counted.
+-- Each event is of a session, or of none, and they are no more than those of the longest script and the 33 that may end a run, one for
+-- each session and a force: they make fewer device calls than can be counted.
 pub record IsPlayable (events : List Event) : Type 0 where
-  pub single : AllByRecursion IsSingleSession events
-  pub few : length events ≤ 2097154
+  pub sessions : AllByRecursion IsOfSession events
+  pub few : length events ≤ 2097185
+
+-- The lines are those of a script that was read: of the bytes that were left in the source, where it tells them.
+pub record IsReadFrom (told : Bool) (left : List ℕ) (lines : List Line) : Type 0 where
+  pub bytes : List ℕ
+  pub script : script bytes ≡ Ok lines
+  pub own : IsTrue told → bytes ≡ left

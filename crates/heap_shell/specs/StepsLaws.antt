@@ -11,13 +11,14 @@ use Rattle.graph_model.specs.declared.reply.Reply.{Reply}
 use Rattle.graph_model.specs.declared.reply.Reply.TheVariants.{Begun, Sealed, Aborted, Durable, Refused}
 use Rattle.graph_model.specs.History.{Account, account, done, cut_short, answered, acknowledged}
 use Rattle.graph_model.specs.HistoryLaws.{account-append}
-use Rattle.graph_model.specs.SlowHeap.{IsSingleSession}
+use Rattle.graph_model.specs.SlowHeap.{IsOfSession}
 use Rattle.heap_model.specs.Core.{Core, IsStep, IsRun}
 use Rattle.heap_model.specs.CoreCrash.{KeepsCommits, HasAtLeast}
-use Rattle.heap_model.specs.CoreLawsGrow.{has_at_least_on, keeps_at_least, has_fewer}
+use Rattle.core_laws.specs.Grow.{has_at_least_on}
+use Rattle.heap_model.specs.CoreLawsGrow.{keeps_at_least, has_fewer}
 use Rattle.heap_model.specs.CoreLawsRun.{step_history}
-use Rattle.heap_model.specs.CoreLawsReplies.{run_reached}
-use Rattle.heap_model.specs.CoreValid.{IsReached}
+use Rattle.core_laws.specs.Run.{run_reached}
+use Rattle.core_laws.specs.Valid.{IsReached}
 use Rattle.heap_shell.specs.CrashSafe.{LastingStep}
 use Rattle.heap_shell.specs.Steps.{Step, AreSteps}
 
@@ -71,22 +72,22 @@ module _ {D : Type 0} (g : Ghosts D) (stop : Option ℕ) (start final : D) where
 
   module _ (only_now : (disk : D) (c : List ℕ) → g.left_since disk (g.moment disk) c → g.may_leave disk c) where
     -- From the moment of the first disk on each image holds at least the commits that were acknowledged by then.
-    pub steps_last : (c d : Core) (old new : D) (events : List Event) → IsReached c → AllByRecursion IsSingleSession events → ((image : List ℕ) → g.may_leave old image → KeepsCommits c image)
+    pub steps_last : (c d : Core) (old new : D) (events : List Event) → IsReached c → AllByRecursion IsOfSession events → ((image : List ℕ) → g.may_leave old image → KeepsCommits c image)
         → AreSteps (Step g stop start final) c old events d new → LeavesOnly g.moment g.left_since old new (HasAtLeast d (acknowledged c.history))
-    steps_last c d old new [] reached single here steps =
+    steps_last c d old new [] reached sessions here steps =
         let P : Core → D → Type 0 = λ x disk. LeavesOnly g.moment g.left_since old disk (HasAtLeast x (acknowledged c.history)) in
         subst (λ (x : Core). P x new) (sym steps.0) (subst (λ disk. P c disk) (sym steps.1)
         (begins g.moment g.left_since old (HasAtLeast c (acknowledged c.history)) (λ image left. keeps_at_least c image (here image (only_now old image left)))))
-    steps_last c d old new (event ∷ events) reached single here steps =
+    steps_last c d old new (event ∷ events) reached sessions here steps =
         let mid = steps.0 in
         let between = steps.1 in
         let step = steps.2 in
         let run = steps_run c d old new (event ∷ events) steps in
         let one : IsRun c (event ∷ []) mid = (step.reply, mid, step.step, refl) in
-        let at_mid = run_reached c mid (event ∷ []) reached (single.0, tt) one in
-        let at_end = run_reached c d (event ∷ events) reached single run in
+        let at_mid = run_reached c mid (event ∷ []) reached (sessions.0, tt) one in
+        let at_end = run_reached c d (event ∷ events) reached sessions run in
         let more = run_acknowledges c mid (event ∷ []) one in
-        let rest = steps_last mid d between new events at_mid single.1 step.kept steps.3 in
+        let rest = steps_last mid d between new events at_mid sessions.1 step.kept steps.3 in
         let least = acknowledged c.history in
         weaker g.moment g.left_since old new _ (HasAtLeast d least)
         (joined g.moment g.left_since old between new (KeepsCommits c) (HasAtLeast d (acknowledged mid.history)) step.moments rest)
@@ -96,25 +97,25 @@ module _ {D : Type 0} (g : Ghosts D) (stop : Option ℕ) (start final : D) where
         either)
 
     -- So do they until a later moment, up to which a crash keeps all commits that were acknowledged at the end.
-    pub last_until : (c d : Core) (old new : D) (events : List Event) → IsReached c → AllByRecursion IsSingleSession events → ((image : List ℕ) → g.may_leave old image → KeepsCommits c image)
+    pub last_until : (c d : Core) (old new : D) (events : List Event) → IsReached c → AllByRecursion IsOfSession events → ((image : List ℕ) → g.may_leave old image → KeepsCommits c image)
         → AreSteps (Step g stop start final) c old events d new → LeavesOnly g.moment g.left_since new final (KeepsCommits d) → LeavesOnly g.moment g.left_since old final (HasAtLeast d (acknowledged c.history))
-    last_until c d old new events reached single here steps rest =
+    last_until c d old new events reached sessions here steps rest =
         let least = acknowledged c.history in
         let more = run_acknowledges c d events (steps_run c d old new events steps) in
         weaker g.moment g.left_since old final _ (HasAtLeast d least)
-        (joined g.moment g.left_since old new final (HasAtLeast d least) (KeepsCommits d) (steps_last c d old new events reached single here steps) rest)
+        (joined g.moment g.left_since old new final (HasAtLeast d least) (KeepsCommits d) (steps_last c d old new events reached sessions here steps) rest)
         (λ image either. ⊎_elim
         (λ (has : HasAtLeast d least image). has)
         (λ (keeps : KeepsCommits d image). has_fewer d (acknowledged d.history) least image more (keeps_at_least d image keeps))
         either)
 
     -- Each step of a chain lasts: from its answer on each image holds at least the commits that were acknowledged by then.
-    pub lasting_steps : (c d : Core) (old new : D) (events : List Event) → IsReached c → AllByRecursion IsSingleSession events
+    pub lasting_steps : (c d : Core) (old new : D) (events : List Event) → IsReached c → AllByRecursion IsOfSession events
         → AreSteps (Step g stop start final) c old events d new → LeavesOnly g.moment g.left_since new final (KeepsCommits d) → AreSteps (LastingStep g stop d start final) c old events d new
-    lasting_steps c d old new [] reached single steps rest = steps
-    lasting_steps c d old new (event ∷ events) reached single steps rest =
+    lasting_steps c d old new [] reached sessions steps rest = steps
+    lasting_steps c d old new (event ∷ events) reached sessions steps rest =
         let mid = steps.0 in
         let step = steps.2 in
-        let at_mid = run_reached c mid (event ∷ []) reached (single.0, tt) (step.reply, mid, step.step, refl) in
-        let here : LastingStep g stop d start final c old event mid steps.1 = record { made = step; lasts = last_until mid d steps.1 new events at_mid single.1 step.kept steps.3 rest } in
-        (mid, steps.1, here, lasting_steps mid d steps.1 new events at_mid single.1 steps.3 rest)
+        let at_mid = run_reached c mid (event ∷ []) reached (sessions.0, tt) (step.reply, mid, step.step, refl) in
+        let here : LastingStep g stop d start final c old event mid steps.1 = record { made = step; lasts = last_until mid d steps.1 new events at_mid sessions.1 step.kept steps.3 rest } in
+        (mid, steps.1, here, lasting_steps mid d steps.1 new events at_mid sessions.1 steps.3 rest)

@@ -7,7 +7,7 @@ ghost use Rattle.graph_model.specs.Transaction.{serial};
 ghost use Rattle.heap_core.specs.HeapState.{failed_at};
 ghost use Rattle.heap_core.specs.Means.{IsCore};
 ghost use Rattle.heap_model.specs.Core.{Core};
-ghost use Rattle.heap_model.specs.CoreValid.{IsReached};
+ghost use Rattle.core_laws.specs.Valid.{IsReached};
 ghost use Rattle.heap_shell.specs.declared.output.WriteError.TheVariants.{NoMemory, SinkFailed};
 ghost use Rattle.heap_shell.specs.Causes.{StreamCause};
 ghost use Rattle.heap_shell.specs.Headline.{graph_text, recovered_line};

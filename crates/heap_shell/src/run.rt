@@ -11,7 +11,7 @@ ghost use Rattle.heap_shell.specs.Causes.{DiskRose, StreamCause, RunsDisk, IsInp
 ghost use Rattle.heap_shell.specs.Command.{command};
 ghost use Rattle.heap_shell.specs.CrashSafe.{RunsSafely};
 ghost use Rattle.heap_shell.specs.Headline.{made_super, made_core, OfTold, IsPlayed, PrintsRun, PrintsSome, Runs, IsSound, IsUntouching, EndsUnread, EndsUnmade, RestartsDisk, restarts_asked, starts_asked, stop_after};
-ghost use Rattle.heap_shell.specs.Playable.{IsScript};
+ghost use Rattle.heap_shell.specs.Playable.{IsScript, IsReadFrom};
 ghost use Rattle.heap_model.specs.Ending.{all_events};
 ghost use Rattle.heap_model.specs.Image.{IsLegal};
 ghost use Rattle.heap_shell.specs.Output.{early_end};
@@ -69,11 +69,11 @@ pub fn run<D: Disk, S: Source, K: Sink>(
         → RunsSafely D.Disk play disk result.1 result.0 K.tells (K.written sink.old) (K.written sink.new)) }
     // The sentence that the stable heap is for, whole: either no heap was made, or the script was played on a new one.
     ensures headline { OfTold D.tells (D.bytes disk) (D.may_leave disk) ((play : Play) → command (map string_bytes words.now) ≡ Some play
-        → Runs D.Disk play (λ lines. IsTrue S.tells → script (S.left source.old) ≡ Ok lines) disk result.1 result.0 K.tells (K.written sink.old) (K.written sink.new)) }
+        → Runs D.Disk play (IsReadFrom S.tells (S.left source.old)) disk result.1 result.0 K.tells (K.written sink.old) (K.written sink.new)) }
 
     // On any disk, what was written are lines of one history, a number of commits and a graph.
     ensures prints { IsTrue K.tells → (play : Play) → command (map string_bytes words.now) ≡ Some play
-        → ((result.0 ≢ Status.Done) × (K.written sink.new ≡ K.written sink.old)) ⊎ ((lines : List Line) × (IsTrue S.tells → script (S.left source.old) ≡ Ok lines) × PrintsRun (stop_after play.stop) lines result.0 (K.written sink.old) (K.written sink.new)) }
+        → ((result.0 ≢ Status.Done) × (K.written sink.new ≡ K.written sink.old)) ⊎ ((lines : List Line) × IsReadFrom S.tells (S.left source.old) lines × PrintsRun (stop_after play.stop) lines result.0 (K.written sink.old) (K.written sink.new)) }
 
     // The heap that it made is never damaged, and without a fault it is done.
     ensures sound { OfTold D.tells (D.bytes disk) (D.may_leave disk) (IsSound result.0) }

@@ -53,14 +53,14 @@ const OBJECTS: &str =
 const OBJECTS_FORCED_INSIDE: &str =
     "1 begin\n1 root 0\n1 new 1 1\n1 link 0 0 1\nforce\n1 link 1 0 0\n1 commit\n1 begin\n1 root 0\n1 new 2 1\n1 link 0 1 2\nforce\n1 abort\n";
 
-/// A script, what the slow heap answers to it, and of each force whether something was sealed since the one before.
+/// A script, what the slow heap answers to it, and of each force how many were sealed since the one before.
 #[derive(Drop)]
 struct Told<'a> {
     script: &'a str,
     heap: SlowHeap,
     lines: String,
     forced: usize,
-    forces: Vec<bool>,
+    forces: Vec<usize>,
 }
 
 impl<'a> Told<'a> {
@@ -85,12 +85,12 @@ impl<'a> Told<'a> {
     }
 
     fn ask(&mut self, rt: &impl Abort, event: Event) -> Result<(), AllocError> {
-        assert!(rt; event.is_single_session());
+        assert!(rt; event.is_of_session());
         let reply = self.heap.step(event)?;
         writeln!(self.lines, "{}", Entry { event, reply })?;
         if event == Event::Force {
             let sealed = self.heap.sealed();
-            self.forces.push(sealed != self.forced)?;
+            self.forces.push(sealed.saturating_sub(self.forced))?;
             self.forced = sealed;
         }
         Ok(())
@@ -116,8 +116,8 @@ fn read_restarted(output: &[u8]) -> Option<Restarted<'_>> {
     })
 }
 
-fn count_lines(text: &str, front: &str) -> usize {
-    text.lines().filter(|line| line.starts_with(front)).count()
+fn count_lines(text: &str, part: &str) -> usize {
+    text.lines().filter(|line| line.contains(part)).count()
 }
 
 /// How many commits the lines acknowledge.
@@ -184,7 +184,7 @@ fn check_played(
         "{pick:?}, {calls}"
     );
     assert!(rt;
-        found.recovered <= count_lines(found.lines, "1 seal -> sealed "),
+        found.recovered <= count_lines(found.lines, " seal -> sealed "),
         "{pick:?}, {calls}"
     );
     assert!(rt; found.recovered <= told.heap.sealed());
@@ -231,18 +231,13 @@ fn expect_whole(rt: &impl Abort, alloc: Global, told: &Told<'_>, ending: &str) -
     Ok(())
 }
 
-/// Only a stop of the last call of a force of a commit leaves it to the pick whether the commit comes back.
-fn expect_doubt(rt: &impl Abort, forces: &[bool], lost: &[usize], kept: &[usize]) {
+/// Only a stop of the last call of a force leaves it to the pick whether the commits that it forces come back.
+fn expect_doubt(rt: &impl Abort, forces: &[usize], lost: &[usize], kept: &[usize]) {
     for (calls, (lost, kept)) in lost.iter().zip(kept.iter()).enumerate() {
         let last = calls % FORCE_CALLS == FORCE_CALLS - 1;
-        let commits = forces
-            .get(calls / FORCE_CALLS)
-            .is_some_and(|commits| *commits);
-        assert_eq!(rt;
-            *kept,
-            lost.saturating_add(usize::from(last && commits)),
-            "{calls}"
-        );
+        let forced = forces.get(calls / FORCE_CALLS).copied().unwrap_or(0);
+        let doubt = if last { forced } else { 0 };
+        assert_eq!(rt; *kept, lost.saturating_add(doubt), "{calls}");
     }
 }
 
@@ -327,77 +322,123 @@ fn volatile_words_that_were_forced_are_taken_back(rt: HostRuntime) -> Result<(),
     check_script(&rt, rt.alloc(), OBJECTS_FORCED_INSIDE, ending, FILLED)
 }
 
-/// A script that is drawn by a seed: objects are made, linked, let go and looked at, in transactions that are sealed or taken back.
-fn draw_script(alloc: Global, seed: u64) -> Result<String, AllocError> {
-    let mut script = format!(in alloc; "{NEXT}\n")?;
+/// Four sessions side by side, two of them at the end of their numbers, and one alone.
+const FOUR: [u32; 4] = [1, 2, 3, 4];
+
+const LAST_TWO: [u32; 4] = [31, 32, 31, 32];
+
+const ONE: [u32; 4] = [1, 1, 1, 1];
+
+/// How many lines of a script are drawn.
+const DRAWN_LINES: usize = 100;
+
+/// More calls than a drawn script makes.
+const MOST_DRAWN_CALLS: usize = 4 * DRAWN_LINES;
+
+/// A commit of objects for all: each of them is met from the root, and two of them from another one.
+const SHARED: &str =
+    "1 begin\n1 root 0\n1 new 1 2\n1 new 2 3\n1 link 0 0 1\n1 link 0 1 2\n1 link 1 1 2\n1 link 2 0 1\n1 commit\n";
+
+fn write_begin(script: &mut String, s: u32) -> Result<(), AllocError> {
+    writeln!(script, "{s} begin\n{s} root 0")
+}
+
+/// A script that is drawn by a seed: in transactions of these sessions, which are sealed or taken back, objects are made, linked, let go and
+/// looked at. Each session has a transaction at its end.
+fn draw_script(alloc: Global, seed: u64, sessions: [u32; 4]) -> Result<String, AllocError> {
+    let mut script = String::from_str(alloc, SHARED)?;
+    for s in sessions.iter().rev() {
+        write_begin(&mut script, *s)?;
+    }
     let mut state = seed;
     for _ in 0..DRAWN_LINES {
         state = state
             .wrapping_mul(6_364_136_223_846_793_005)
             .wrapping_add(1_442_695_040_888_963_407);
+        let s = sessions[(state >> 51) as usize % 4];
         let h = (state >> 33) % 3;
         let h2 = (state >> 37) % 3;
         let i = (state >> 41) % 3;
-        match (state >> 45) % 12 {
-            0 => writeln!(script, "1 len {h}")?,
-            1 => writeln!(script, "1 drop {h}")?,
-            2 | 3 => writeln!(script, "1 new {h} {i}")?,
-            4 | 5 | 6 => writeln!(script, "1 link {h} {i} {h2}")?,
-            7 => writeln!(script, "1 put {h} {i} {h2}")?,
-            8 => writeln!(script, "1 get {h} {i} {h2}")?,
-            9 => writeln!(script, "1 same {h} {h2}")?,
-            10 => writeln!(script, "1 clear {h} {i}")?,
-            _ if i == 0 => writeln!(script, "1 abort\n{NEXT}")?,
-            _ if i == 1 => writeln!(script, "1 seal\n{NEXT}")?,
-            _ => writeln!(script, "1 commit\n{NEXT}")?,
+        match (state >> 45) % 16 {
+            0 => writeln!(script, "{s} len {h}")?,
+            1 => writeln!(script, "{s} drop {h}")?,
+            2 | 3 => writeln!(script, "{s} new {h} {i}")?,
+            4 | 5 | 6 | 7 => writeln!(script, "{s} link {h} {i} {h2}")?,
+            8 | 9 => writeln!(script, "{s} put {h} {i} {h2}")?,
+            10 | 11 | 12 => writeln!(script, "{s} get {h} {i} {h2}")?,
+            13 => writeln!(script, "{s} same {h} {h2}")?,
+            14 => writeln!(script, "{s} clear {h} {i}")?,
+            _ => write_end(&mut script, s, i)?,
         }
     }
     Ok(script)
 }
 
-/// How the next transaction of a drawn script begins.
-const NEXT: &str = "1 begin\n1 root 0";
-
-/// The lines of a drawn script, but for those that begin the next transaction.
-const DRAWN_LINES: usize = 60;
-
-/// How many scripts are drawn.
-const DRAWN: u64 = 16;
-
-// What a run appends that its script left open or waiting.
-fn ending_of(alloc: Global, told: &Told<'_>, output: &[u8]) -> Result<String, Fail> {
-    let text = str::from_utf8(output)?;
-    let rest = text.strip_prefix(told.lines.as_str()).unwrap_or(text);
-    let ending = rest.split_once("graph ").map_or(rest, |parts| parts.0);
-    Ok(String::from_str(alloc, ending)?)
+/// Ends the transaction of a session in one of three ways, and begins the next one.
+fn write_end(script: &mut String, s: u32, way: u64) -> Result<(), AllocError> {
+    match way {
+        0 => writeln!(script, "{s} abort")?,
+        1 => writeln!(script, "{s} seal")?,
+        _ => writeln!(script, "{s} commit")?,
+    }
+    write_begin(script, s)
 }
 
-#[test]
-fn drawn_scripts_are_answered_as_by_the_slow_heap(rt: HostRuntime) -> Result<(), Fail> {
-    let alloc = rt.alloc();
+/// What a run appends to a drawn script: the abort of each session, ascending, and a force of what that leaves.
+fn ending_of(alloc: Global, told: &Told<'_>, sessions: [u32; 4]) -> Result<String, AllocError> {
+    let mut ending = String::new(alloc);
+    for s in 1..33u32 {
+        if sessions.contains(&s) {
+            writeln!(ending, "{s} abort -> aborted")?;
+        }
+    }
+    let sealed = told.heap.sealed();
+    writeln!(ending, "force -> durable {sealed}")?;
+    Ok(ending)
+}
+
+/// How many scripts are drawn of each kind.
+const DRAWN: u64 = 12;
+
+/// Plays drawn scripts of these sessions without a stop.
+fn check_whole(rt: &impl Abort, alloc: Global, sessions: [u32; 4]) -> Result<(), Fail> {
     for seed in 0..DRAWN {
-        let script = draw_script(alloc, seed)?;
-        let told = Told::of(&rt, alloc, script.as_str())?;
-        let played = play_by(alloc, FRESH, script.as_str(), Pick::Newest)?;
-        let ending = ending_of(alloc, &told, &played.output)?;
-        assert!(rt; ending.len() <= ENDING_BYTES, "{seed}");
-        expect_whole(&rt, alloc, &told, ending.as_str())?;
+        let script = draw_script(alloc, seed, sessions)?;
+        let told = Told::of(rt, alloc, script.as_str())?;
+        let ending = ending_of(alloc, &told, sessions)?;
+        expect_whole(rt, alloc, &told, ending.as_str())?;
     }
     Ok(())
 }
 
-/// The drawn script that is stopped at each call: of the first ones it has the most commits.
-const STOPPED_SEED: u64 = 3;
+#[test]
+fn drawn_scripts_are_answered_as_by_the_slow_heap(rt: HostRuntime) -> Result<(), Fail> {
+    check_whole(&rt, rt.alloc(), ONE)
+}
 
-/// More calls than a drawn script makes.
-const MOST_DRAWN_CALLS: usize = 4 * DRAWN_LINES;
+#[test]
+fn four_drawn_sessions_are_answered_as_by_the_slow_heap(rt: HostRuntime) -> Result<(), Fail> {
+    check_whole(&rt, rt.alloc(), FOUR)
+}
 
-/// Stops a drawn script at each of its calls.
-fn check_drawn(rt: &impl Abort, alloc: Global, pick: Pick) -> Result<(), Fail> {
-    let script = draw_script(alloc, STOPPED_SEED)?;
+#[test]
+fn the_last_drawn_sessions_are_answered_as_by_the_slow_heap(rt: HostRuntime) -> Result<(), Fail> {
+    check_whole(&rt, rt.alloc(), LAST_TWO)
+}
+
+/// The drawn scripts that are stopped at each call: of the first ones those have the most commits in few forces.
+const STOPPED_SEED: u64 = 6;
+
+/// Stops a drawn script at each of its calls, and at every third one the recovery behind that too.
+fn check_drawn(rt: &impl Abort, alloc: Global, sessions: [u32; 4], pick: Pick) -> Result<(), Fail> {
+    let script = draw_script(alloc, STOPPED_SEED, sessions)?;
     let told = Told::of(rt, alloc, script.as_str())?;
     for calls in 0..MOST_DRAWN_CALLS {
-        let (stopped, _) = check_stop(rt, alloc, &told, pick, calls)?;
+        let once = play_to(alloc, told.script, pick, calls)?;
+        let (stopped, _) = check_played(rt, &told, &once, pick, calls)?;
+        if calls % 3 == 0 {
+            expect_same(rt, alloc, &once, &told, pick, (calls, calls % 5))?;
+        }
         if !stopped {
             break;
         }
@@ -406,19 +447,44 @@ fn check_drawn(rt: &impl Abort, alloc: Global, pick: Pick) -> Result<(), Fail> {
 }
 
 #[test]
-fn drawn_scripts_that_stop_come_back_from_written_bytes(rt: HostRuntime) -> Result<(), Fail> {
-    check_drawn(&rt, rt.alloc(), Pick::Synced)?;
-    check_drawn(&rt, rt.alloc(), Pick::Newest)
+fn four_drawn_sessions_come_back_from_synced_bytes(rt: HostRuntime) -> Result<(), Fail> {
+    check_drawn(&rt, rt.alloc(), FOUR, Pick::Synced)
 }
 
 #[test]
-fn drawn_scripts_that_stop_come_back_from_filled_bytes(rt: HostRuntime) -> Result<(), Fail> {
-    check_drawn(&rt, rt.alloc(), Pick::AllOnes)?;
-    check_drawn(&rt, rt.alloc(), Pick::AllOpen)
+fn four_drawn_sessions_come_back_from_newest_bytes(rt: HostRuntime) -> Result<(), Fail> {
+    check_drawn(&rt, rt.alloc(), FOUR, Pick::Newest)
 }
 
-/// The bytes of the longest ending: an abort and a force.
-const ENDING_BYTES: usize = "1 abort -> aborted\nforce -> durable 00\n".len();
+#[test]
+fn four_drawn_sessions_come_back_from_bytes_of_ones(rt: HostRuntime) -> Result<(), Fail> {
+    check_drawn(&rt, rt.alloc(), FOUR, Pick::AllOnes)
+}
+
+#[test]
+fn four_drawn_sessions_come_back_from_open_gates(rt: HostRuntime) -> Result<(), Fail> {
+    check_drawn(&rt, rt.alloc(), FOUR, Pick::AllOpen)
+}
+
+#[test]
+fn the_last_drawn_sessions_come_back_from_synced_bytes(rt: HostRuntime) -> Result<(), Fail> {
+    check_drawn(&rt, rt.alloc(), LAST_TWO, Pick::Synced)
+}
+
+#[test]
+fn the_last_drawn_sessions_come_back_from_newest_bytes(rt: HostRuntime) -> Result<(), Fail> {
+    check_drawn(&rt, rt.alloc(), LAST_TWO, Pick::Newest)
+}
+
+#[test]
+fn the_last_drawn_sessions_come_back_from_bytes_of_ones(rt: HostRuntime) -> Result<(), Fail> {
+    check_drawn(&rt, rt.alloc(), LAST_TWO, Pick::AllOnes)
+}
+
+#[test]
+fn the_last_drawn_sessions_come_back_from_open_gates(rt: HostRuntime) -> Result<(), Fail> {
+    check_drawn(&rt, rt.alloc(), LAST_TWO, Pick::AllOpen)
+}
 
 const TAKEN_BACK: &str = "1 abort -> aborted\nforce -> durable 1\n";
 
@@ -432,7 +498,27 @@ fn an_open_transaction_is_taken_back_from_filled_bytes(rt: HostRuntime) -> Resul
     check_script(&rt, rt.alloc(), FORCED_AT_END, TAKEN_BACK, FILLED)
 }
 
-/// A stop inside of the recovery, at each of its calls and behind them, changes nothing of what is printed.
+/// A recovery that is stopped after so many calls changes nothing of what is printed behind a stop.
+fn expect_same(
+    rt: &impl Abort,
+    alloc: Global,
+    once: &Played,
+    told: &Told<'_>,
+    pick: Pick,
+    (calls, again): (usize, usize),
+) -> Result<(), Fail> {
+    let line = format!(in alloc; "{FRESH} --stop {calls} --again {again}")?;
+    let twice = play_by(alloc, line.as_str(), told.script, pick)?;
+    assert_eq!(rt; twice.status, Status::Done);
+    assert_eq!(rt;
+        twice.output.as_slice(),
+        once.output.as_slice(),
+        "{pick:?}, {calls}, {again}"
+    );
+    Ok(())
+}
+
+/// Stops the recovery at each of its calls and behind them.
 fn check_again(
     rt: &impl Abort,
     alloc: Global,
@@ -445,14 +531,7 @@ fn check_again(
         let once = play_to(alloc, script, pick, *calls)?;
         check_played(rt, &told, &once, pick, *calls)?;
         for again in 0..=FORCE_CALLS {
-            let line = format!(in alloc; "{FRESH} --stop {calls} --again {again}")?;
-            let twice = play_by(alloc, line.as_str(), script, pick)?;
-            assert_eq!(rt; twice.status, Status::Done);
-            assert_eq!(rt;
-                twice.output.as_slice(),
-                once.output.as_slice(),
-                "{pick:?}, {calls}, {again}"
-            );
+            expect_same(rt, alloc, &once, &told, pick, (*calls, again))?;
         }
     }
     Ok(())

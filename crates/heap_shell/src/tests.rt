@@ -6,7 +6,8 @@ use std::alloc::{AllocError, Global};
 use std::process::Abort;
 use std::test::Fail;
 
-const DISK_BYTES: usize = 4_194_304;
+/// The bytes of a heap of one page a space.
+const DISK_BYTES: usize = 1_050_752;
 
 const RECORD_BYTES: usize = 4_194_304;
 
@@ -91,15 +92,17 @@ fn a_commit_is_printed(rt: HostRuntime) -> Result<(), Fail> {
 const BEFORE_FORCE: &str =
     "1 begin -> begun 1\n1 root 0 -> done\n1 put 0 0 7 -> done\n1 seal -> sealed 1\n";
 
+/// Plays a script on a disk that is to stop, and compares what it prints with the lines of its events and what follows them.
 fn expect_stopped(
     rt: &impl Abort,
     alloc: Global,
     line: &str,
+    script: &str,
     pick: Pick,
-    end: &str,
+    (lines, end): (&str, &str),
 ) -> Result<(), AllocError> {
-    let played = play(alloc, line, ONE_COMMIT, pick)?;
-    let mut output = String::from_str(alloc, BEFORE_FORCE)?;
+    let played = play(alloc, line, script, pick)?;
+    let mut output = String::from_str(alloc, lines)?;
     output.push_str(end)?;
     expect_done(rt, &played, output.as_str());
     Ok(())
@@ -113,22 +116,63 @@ fn a_stop_in_a_force_leaves_the_commit_or_not(rt: HostRuntime) -> Result<(), Fai
     let durable = "force -> durable 1\nrecovered 1\ngraph 1\n0: 7 - - -\n";
     let in_doubt = [gone, kept, gone, kept];
     for (pick, end) in PICKS.iter().zip(in_doubt.iter()) {
-        expect_stopped(&rt, alloc, "heap play --fresh 1 --stop 3", *pick, end)?;
+        expect_stopped(
+            &rt,
+            alloc,
+            "heap play --fresh 1 --stop 3",
+            ONE_COMMIT,
+            *pick,
+            (BEFORE_FORCE, end),
+        )?;
     }
     expect_stopped(
         &rt,
         alloc,
         "heap play --fresh 1 --stop 2",
+        ONE_COMMIT,
         Pick::AllOpen,
-        gone,
+        (BEFORE_FORCE, gone),
     )?;
     expect_stopped(
         &rt,
         alloc,
         "heap play --fresh 1 --stop 4",
+        ONE_COMMIT,
         Pick::Synced,
-        durable,
+        (BEFORE_FORCE, durable),
     )?;
+    Ok(())
+}
+
+/// Two transactions of different sessions that are sealed one after the other, and forced together.
+const FORCED_TOGETHER: &str =
+    "1 begin\n1 root 0\n1 put 0 0 7\n1 seal\n2 begin\n2 root 0\n2 get 0 0 1\n2 put 0 1 8\n2 seal\nforce\n";
+
+const FORCED_TOGETHER_LINES: &str =
+    "1 begin -> begun 1\n1 root 0 -> done\n1 put 0 0 7 -> done\n1 seal -> sealed 1\n2 begin -> begun 2\n2 root 0 -> done\n2 get 0 0 1 -> int 7\n2 put 0 1 8 -> done\n2 seal -> sealed 2\n";
+
+#[test]
+fn two_sessions_commits_come_back_together_or_not(rt: HostRuntime) -> Result<(), Fail> {
+    let gone = "force -> stopped\nrecovered 0\ngraph 1\n0: - - - -\n";
+    let kept = "force -> stopped\nrecovered 2\ngraph 1\n0: 7 8 - -\n";
+    let durable = "force -> durable 2\nrecovered 2\ngraph 1\n0: 7 8 - -\n";
+    let in_doubt = [gone, kept, gone, kept];
+    for (pick, doubt) in PICKS.iter().zip(in_doubt.iter()) {
+        for (line, end) in [
+            ("heap play --fresh 1 --stop 0", gone),
+            ("heap play --fresh 1 --stop 3", *doubt),
+            ("heap play --fresh 1 --stop 4", durable),
+        ] {
+            expect_stopped(
+                &rt,
+                rt.alloc(),
+                line,
+                FORCED_TOGETHER,
+                *pick,
+                (FORCED_TOGETHER_LINES, end),
+            )?;
+        }
+    }
     Ok(())
 }
 
@@ -223,6 +267,85 @@ fn a_run_forces_what_was_sealed(rt: HostRuntime) -> Result<(), Fail> {
 }
 
 #[test]
+fn a_run_aborts_its_sessions_ascending(rt: HostRuntime) -> Result<(), Fail> {
+    let script = "3 begin\n1 begin\n2 begin\n3 new 0 1\n2 root 0\n2 put 0 0 4\n";
+    let played = play(rt.alloc(), "heap play --fresh 1", script, Pick::Newest)?;
+    expect_done(
+        &rt,
+        &played,
+        "3 begin -> begun 1\n1 begin -> begun 2\n2 begin -> begun 3\n3 new 0 1 -> done\n2 root 0 -> done\n2 put 0 0 4 -> done\n1 abort -> aborted\n2 abort -> aborted\n3 abort -> aborted\nforce -> durable 0\ngraph 1\n0: - - - -\n",
+    );
+    Ok(())
+}
+
+#[test]
+fn a_write_gives_way_to_a_reader(rt: HostRuntime) -> Result<(), Fail> {
+    let alloc = rt.alloc();
+    let cases = [
+        (
+            "1 begin\n1 root 0\n1 get 0 0 1\n2 begin\n2 root 0\n2 put 0 0 5\n1 abort\n2 put 0 0 5\n2 commit\n",
+            "1 begin -> begun 1\n1 root 0 -> done\n1 get 0 0 1 -> null\n2 begin -> begun 2\n2 root 0 -> done\n2 put 0 0 5 -> busy 1\n1 abort -> aborted\n2 put 0 0 5 -> done\n2 seal -> sealed 1\nforce -> durable 1\ngraph 1\n0: 5 - - -\n",
+        ),
+        (
+            "1 begin\n2 begin\n1 root 0\n2 root 0\n1 get 0 0 1\n2 get 0 0 1\n1 put 0 0 3\n2 abort\n1 put 0 0 3\n",
+            "1 begin -> begun 1\n2 begin -> begun 2\n1 root 0 -> done\n2 root 0 -> done\n1 get 0 0 1 -> null\n2 get 0 0 1 -> null\n1 put 0 0 3 -> busy 2\n2 abort -> aborted\n1 put 0 0 3 -> done\n1 abort -> aborted\nforce -> durable 0\ngraph 1\n0: - - - -\n",
+        ),
+    ];
+    for (script, output) in cases.iter() {
+        let played = play(alloc, "heap play --fresh 1", script, Pick::Newest)?;
+        expect_done(&rt, &played, output);
+    }
+    Ok(())
+}
+
+/// Three objects are committed, and then three transactions of as many sessions write into one of them each, one of them also a reference to
+/// an object that it makes; all of that is forced.
+const LOSERS: &str =
+    "1 begin\n1 root 0\n1 new 1 1\n1 new 2 1\n1 new 3 2\n1 link 0 0 1\n1 link 0 1 2\n1 link 0 2 3\n1 put 1 0 11\n1 put 2 0 12\n1 put 3 1 13\n1 commit\n2 begin\n1 begin\n3 begin\n2 root 0\n1 root 0\n3 root 0\n2 get 0 0 1\n1 get 0 1 1\n3 get 0 2 1\n3 put 1 0 33\n2 put 1 0 22\n1 put 1 0 21\n2 put 1 0 23\n3 new 2 1\n3 link 1 1 2\nforce\n";
+
+const LOSERS_LINES: &str =
+    "1 begin -> begun 1\n1 root 0 -> done\n1 new 1 1 -> done\n1 new 2 1 -> done\n1 new 3 2 -> done\n1 link 0 0 1 -> done\n1 link 0 1 2 -> done\n1 link 0 2 3 -> done\n1 put 1 0 11 -> done\n1 put 2 0 12 -> done\n1 put 3 1 13 -> done\n1 seal -> sealed 1\nforce -> durable 1\n2 begin -> begun 2\n1 begin -> begun 3\n3 begin -> begun 4\n2 root 0 -> done\n1 root 0 -> done\n3 root 0 -> done\n2 get 0 0 1 -> ref\n1 get 0 1 1 -> ref\n3 get 0 2 1 -> ref\n3 put 1 0 33 -> done\n2 put 1 0 22 -> done\n1 put 1 0 21 -> done\n2 put 1 0 23 -> done\n3 new 2 1 -> done\n3 link 1 1 2 -> done\n";
+
+const LOSERS_GONE: &str = "recovered 1\ngraph 4\n0: @1 @2 @3 -\n1: 11\n2: 12\n3: - 13\n";
+
+/// Stops the disk behind the force of what the losers wrote, or in it, and recovery after so many calls.
+fn expect_losers_gone(rt: &impl Abort, alloc: Global, pick: Pick) -> Result<(), Fail> {
+    let durable = "force -> durable 1\n";
+    for (stop, again, reply) in [
+        (7, 2, "force -> stopped\n"),
+        (8, 0, durable),
+        (8, 1, durable),
+        (8, 2, durable),
+        (8, 3, durable),
+        (8, 4, durable),
+    ] {
+        let line = format!(in alloc; "heap play --fresh 1 --stop {stop} --again {again}")?;
+        let end = format!(in alloc; "{reply}{LOSERS_GONE}")?;
+        expect_stopped(
+            rt,
+            alloc,
+            line.as_str(),
+            LOSERS,
+            pick,
+            (LOSERS_LINES, end.as_str()),
+        )?;
+    }
+    Ok(())
+}
+
+#[test]
+fn losers_side_by_side_are_taken_back_from_written_bytes(rt: HostRuntime) -> Result<(), Fail> {
+    expect_losers_gone(&rt, rt.alloc(), Pick::Synced)?;
+    expect_losers_gone(&rt, rt.alloc(), Pick::Newest)
+}
+
+#[test]
+fn losers_side_by_side_are_taken_back_from_filled_bytes(rt: HostRuntime) -> Result<(), Fail> {
+    expect_losers_gone(&rt, rt.alloc(), Pick::AllOnes)?;
+    expect_losers_gone(&rt, rt.alloc(), Pick::AllOpen)
+}
+
+#[test]
 fn lines_come_in_any_order(rt: HostRuntime) -> Result<(), Fail> {
     let alloc = rt.alloc();
     let cases = [
@@ -312,7 +435,8 @@ fn a_bad_script_leaves_the_disk(rt: HostRuntime) -> Result<(), Fail> {
     let alloc = rt.alloc();
     let cases = [
         ("1 begin\n1 root 0\n1 pu", 3),
-        ("1 begin\n2 root 0\n", 2),
+        ("1 begin\n33 root 0\n", 2),
+        ("0 begin\n", 1),
         ("\n\nforce 1\n", 3),
         ("1 begin\n1 root 18446744073709551616\n", 2),
         (" 1 begin\n", 1),

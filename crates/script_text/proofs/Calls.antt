@@ -8,18 +8,18 @@ use Rattle.script_text.specs.Line.{numbers, call_of}
 abbrev onto : Option (List ℕ) → Option ℕ → Option (List ℕ)
 onto more n = option_and_then (λ (m : ℕ). option_map (λ (ns : List ℕ). m ∷ ns) more) n
 
-four : (verb : List ℕ) (a b c d : Option ℕ) (more : Option (List ℕ)) → option_and_then (call_of verb) (onto (onto (onto (onto more d) c) b) a) ≡ None
-four verb None b c d more = refl
-four verb (Some a) None c d more = refl
-four verb (Some a) (Some b) None d more = refl
-four verb (Some a) (Some b) (Some c) None more = refl
-four verb (Some a) (Some b) (Some c) (Some d) None = refl
-four verb (Some a) (Some b) (Some c) (Some d) (Some more) = refl
+four : (s : ℕ) (verb : List ℕ) (a b c d : Option ℕ) (more : Option (List ℕ)) → option_and_then (call_of s verb) (onto (onto (onto (onto more d) c) b) a) ≡ None
+four s verb None b c d more = refl
+four s verb (Some a) None c d more = refl
+four s verb (Some a) (Some b) None d more = refl
+four s verb (Some a) (Some b) (Some c) None more = refl
+four s verb (Some a) (Some b) (Some c) (Some d) None = refl
+four s verb (Some a) (Some b) (Some c) (Some d) (Some more) = refl
 
 -- no verb takes four numbers or more
-pub no_call : {A : Type 0} (verb : List ℕ) (bytes : A → List ℕ) (words : List A) → 4 ≤ length words → option_and_then (call_of verb) (numbers (map bytes words)) ≡ None
-no_call verb bytes [] many = absurd (omega arith)
-no_call verb bytes (a ∷ []) many = absurd (omega arith)
-no_call verb bytes (a ∷ b ∷ []) many = absurd (omega arith)
-no_call verb bytes (a ∷ b ∷ c ∷ []) many = absurd (omega arith)
-no_call verb bytes (a ∷ b ∷ c ∷ d ∷ rest) many = four verb (number (bytes a)) (number (bytes b)) (number (bytes c)) (number (bytes d)) (numbers (map bytes rest))
+pub no_call : {A : Type 0} (s : ℕ) (verb : List ℕ) (bytes : A → List ℕ) (words : List A) → 4 ≤ length words → option_and_then (call_of s verb) (numbers (map bytes words)) ≡ None
+no_call s verb bytes [] many = absurd (omega arith)
+no_call s verb bytes (a ∷ []) many = absurd (omega arith)
+no_call s verb bytes (a ∷ b ∷ []) many = absurd (omega arith)
+no_call s verb bytes (a ∷ b ∷ c ∷ []) many = absurd (omega arith)
+no_call s verb bytes (a ∷ b ∷ c ∷ d ∷ rest) many = four s verb (number (bytes a)) (number (bytes b)) (number (bytes c)) (number (bytes d)) (numbers (map bytes rest))

@@ -1,5 +1,5 @@
 -- The lines of a script: the words of each, and what they ask for.
-use Rattle.std.specs.Prelude.{ℕ, ◌-◌, ◌==◌, ◌||◌, not, Bool, false, List, [], ◌∷◌, length, filter, find, slice_index, Option, None, Some, option_map, option_and_then, bytes_eq, codes, if◌then◌else◌}
+use Rattle.std.specs.Prelude.{ℕ, ◌-◌, ◌==◌, ◌||◌, ◌&&◌, not, nat_le, Bool, List, [], ◌∷◌, length, filter, find, slice_index, Option, None, Some, option_map, option_and_then, bytes_eq, codes, if◌then◌else◌}
 use Rattle.std.specs.List.{slice_split, flat_map}
 use Rattle.graph_model.specs.declared.event.Event.{Event}
 use Rattle.graph_model.specs.declared.event.Event.TheVariants.{Begin, Root, New, Put, Clear, Link, Drop, Get, Same, Len, Seal, Abort, Force}
@@ -19,37 +19,39 @@ pieces text = filter (λ piece. not (length piece == 0)) (slice_split (λ b. b =
 abbrev pub words : List ℕ → Option (List (List ℕ))
 words text = if has_outer_blank text then None else Some (pieces text)
 
--- the word spells that number
-abbrev pub is_number : Option ℕ → ℕ → Bool
-is_number None n = false
-is_number (Some m) n = m == n
+-- a session is a number from 1 to 32
+abbrev pub is_session : ℕ → Bool
+is_session s = nat_le 1 s && nat_le s 32
+
+-- the session that the word spells, as every number is spelled
+abbrev pub session : List ℕ → Option ℕ
+session word = option_and_then (λ s. if is_session s then Some s else None) (number word)
 
 -- the numbers that the words spell, if each spells one
 abbrev pub numbers : List (List ℕ) → Option (List ℕ)
 numbers [] = Some []
 numbers (word ∷ words) = option_and_then (λ n. option_map (λ more. n ∷ more) (numbers words)) (number word)
 
--- the verbs that take these numbers, and what each asks of session 1
-abbrev pub calls : List ℕ → List (List ℕ × Line)
-calls [] =
-    (codes "begin", One (Begin 1)) ∷ (codes "seal", One (Seal 1)) ∷ (codes "abort", One (Abort 1)) ∷ (codes "commit", Commit 1) ∷ []
-calls (h ∷ []) = (codes "root", One (Root 1 h)) ∷ (codes "drop", One (Drop 1 h)) ∷ (codes "len", One (Len 1 h)) ∷ []
-calls (h ∷ second ∷ []) =
-    (codes "new", One (New 1 h second)) ∷ (codes "clear", One (Clear 1 h second)) ∷ (codes "same", One (Same 1 h second)) ∷ []
-calls (h ∷ i ∷ third ∷ []) =
-    (codes "put", One (Put 1 h i third)) ∷ (codes "link", One (Link 1 h i third)) ∷ (codes "get", One (Get 1 h i third)) ∷ []
-calls more = []
+-- the verbs that take these numbers, and what each asks of session s
+abbrev pub calls : ℕ → List ℕ → List (List ℕ × Line)
+calls s [] =
+    (codes "begin", One (Begin s)) ∷ (codes "seal", One (Seal s)) ∷ (codes "abort", One (Abort s)) ∷ (codes "commit", Commit s) ∷ []
+calls s (h ∷ []) = (codes "root", One (Root s h)) ∷ (codes "drop", One (Drop s h)) ∷ (codes "len", One (Len s h)) ∷ []
+calls s (h ∷ second ∷ []) =
+    (codes "new", One (New s h second)) ∷ (codes "clear", One (Clear s h second)) ∷ (codes "same", One (Same s h second)) ∷ []
+calls s (h ∷ i ∷ third ∷ []) =
+    (codes "put", One (Put s h i third)) ∷ (codes "link", One (Link s h i third)) ∷ (codes "get", One (Get s h i third)) ∷ []
+calls s more = []
 
--- what a verb asks for with these numbers
-abbrev pub call_of : List ℕ → List ℕ → Option Line
-call_of verb given = option_map (λ call. call.1) (find (λ call. bytes_eq verb call.0) (calls given))
+-- what a verb asks of session s with these numbers
+abbrev pub call_of : ℕ → List ℕ → List ℕ → Option Line
+call_of s verb given = option_map (λ call. call.1) (find (λ call. bytes_eq verb call.0) (calls s given))
 
 -- the line that the words spell
 abbrev pub line_of : List (List ℕ) → Option Line
 line_of [] = None
 line_of (word ∷ []) = if bytes_eq word (codes "force") then Some (One Force) else None
-line_of (session ∷ verb ∷ rest) =
-    if is_number (number session) 1 then option_and_then (call_of verb) (numbers rest) else None
+line_of (first ∷ verb ∷ rest) = option_and_then (λ s. option_and_then (call_of s verb) (numbers rest)) (session first)
 
 -- the line that the text spells
 abbrev pub read_text : List ℕ → Option Line

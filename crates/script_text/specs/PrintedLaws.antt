@@ -10,11 +10,12 @@ use Rattle.std.proofs.lemmas.List.{get_or-append-add}
 use Rattle.std.proofs.lemmas.Str.Parse.{IsNumeralModel, numerals_by_fold}
 use Rattle.graph_model.specs.declared.event.Event.{Event}
 use Rattle.graph_model.specs.declared.event.Event.TheVariants.{Begin, Root, New, Put, Clear, Link, Drop, Get, Same, Len, Seal, Abort, Force}
-use Rattle.graph_model.specs.SlowHeap.{IsSingleSession}
+use Rattle.graph_model.specs.History.{IsSession}
+use Rattle.graph_model.specs.SlowHeap.{IsOfSession}
 use Rattle.graph_model.specs.Text.{event_text}
 use Rattle.script_text.specs.declared.line.Line.TheVariants.{One}
 use Rattle.script_text.specs.Number.{value_from, value, number}
-use Rattle.script_text.specs.Line.{pieces, words, numbers, call_of, read_text}
+use Rattle.script_text.specs.Line.{pieces, words, session, numbers, call_of, read_text}
 
 -- the numbers behind an event's verb
 abbrev pub numbers_of : Event → List ℕ
@@ -43,6 +44,10 @@ number-decimal n spelled =
     let few : length (decimal n) ≤ 20 = length-decimal-le 20 n (omega arith) (omega arith) spelled in
     let value-is : value (decimal n) ≡ n = digits_value-decimal model n spelled in
     rw (lt-ltb 0 (length (decimal n)) (decimal_nonempty n spelled), le-leb (length (decimal n)) 20 few, digits_decimal model n spelled, value-is, lt-ltb n (2 ^ 64) spelled) refl
+
+-- a printed session is read as what it was
+pub session-decimal : (s : ℕ) → IsSession s → session (decimal s) ≡ Some s
+session-decimal s own = rw (number-decimal s (omega (arith, own.1)), le-leb 1 s own.0, le-leb s 32 own.1) refl
 
 -- printed numbers are read as what they were
 pub numbers-decimal : (ns : List ℕ) → AreSpellable ns → numbers (map decimal ns) ≡ Some ns
@@ -148,23 +153,23 @@ words-join word more each =
     let trimmed = join_trimmed word more each in
     rw (trimmed.first, trimmed.last, pieces-join (word ∷ more) each) refl
 
-event_read : (event : Event) (verb : List ℕ) (ns : List ℕ) → event_text event ≡ join_with_byte 32 (decimal 1 ∷ verb ∷ map decimal ns) → is_word verb ≡ true → AreSpellable ns → call_of verb ns ≡ Some (One event) → read_text (event_text event) ≡ Some (One event)
-event_read event verb ns text word spelled call =
-    let each = and_from _ _ (decimal_word 1 (omega arith)) (and_from _ _ word (decimal_words ns spelled)) in
-    rw (text, words-join (decimal 1) (verb ∷ map decimal ns) each, number-decimal 1 (omega arith), numbers-decimal ns spelled) call
+event_read : (event : Event) (s : ℕ) (verb : List ℕ) (ns : List ℕ) → IsSession s → event_text event ≡ join_with_byte 32 (decimal s ∷ verb ∷ map decimal ns) → is_word verb ≡ true → AreSpellable ns → call_of s verb ns ≡ Some (One event) → read_text (event_text event) ≡ Some (One event)
+event_read event s verb ns own text word spelled call =
+    let each = and_from _ _ (decimal_word s (omega (arith, own.1))) (and_from _ _ word (decimal_words ns spelled)) in
+    rw (text, words-join (decimal s) (verb ∷ map decimal ns) each, session-decimal s own, numbers-decimal ns spelled) call
 
 -- A printed event is a line of a script, and is read as what it was.
-pub read_text-event_text : (event : Event) → IsSingleSession event → AreSpellable (numbers_of event) → read_text (event_text event) ≡ Some (One event)
-read_text-event_text (Begin s) single spelled = rw single (event_read (Begin 1) (codes "begin") [] refl refl spelled refl)
-read_text-event_text (Root s h) single spelled = rw single (event_read (Root 1 h) (codes "root") (h ∷ []) (simp append_assoc) refl spelled refl)
-read_text-event_text (New s h len) single spelled = rw single (event_read (New 1 h len) (codes "new") (h ∷ len ∷ []) (simp append_assoc) refl spelled refl)
-read_text-event_text (Put s h i v) single spelled = rw single (event_read (Put 1 h i v) (codes "put") (h ∷ i ∷ v ∷ []) (simp append_assoc) refl spelled refl)
-read_text-event_text (Clear s h i) single spelled = rw single (event_read (Clear 1 h i) (codes "clear") (h ∷ i ∷ []) (simp append_assoc) refl spelled refl)
-read_text-event_text (Link s h i h2) single spelled = rw single (event_read (Link 1 h i h2) (codes "link") (h ∷ i ∷ h2 ∷ []) (simp append_assoc) refl spelled refl)
-read_text-event_text (Drop s h) single spelled = rw single (event_read (Drop 1 h) (codes "drop") (h ∷ []) (simp append_assoc) refl spelled refl)
-read_text-event_text (Get s h i h2) single spelled = rw single (event_read (Get 1 h i h2) (codes "get") (h ∷ i ∷ h2 ∷ []) (simp append_assoc) refl spelled refl)
-read_text-event_text (Same s h h2) single spelled = rw single (event_read (Same 1 h h2) (codes "same") (h ∷ h2 ∷ []) (simp append_assoc) refl spelled refl)
-read_text-event_text (Len s h) single spelled = rw single (event_read (Len 1 h) (codes "len") (h ∷ []) (simp append_assoc) refl spelled refl)
-read_text-event_text (Seal s) single spelled = rw single (event_read (Seal 1) (codes "seal") [] refl refl spelled refl)
-read_text-event_text (Abort s) single spelled = rw single (event_read (Abort 1) (codes "abort") [] refl refl spelled refl)
-read_text-event_text Force single spelled = refl
+pub read_text-event_text : (event : Event) → IsOfSession event → AreSpellable (numbers_of event) → read_text (event_text event) ≡ Some (One event)
+read_text-event_text (Begin s) own spelled = event_read (Begin s) s (codes "begin") [] own refl refl spelled refl
+read_text-event_text (Root s h) own spelled = event_read (Root s h) s (codes "root") (h ∷ []) own (simp append_assoc) refl spelled refl
+read_text-event_text (New s h len) own spelled = event_read (New s h len) s (codes "new") (h ∷ len ∷ []) own (simp append_assoc) refl spelled refl
+read_text-event_text (Put s h i v) own spelled = event_read (Put s h i v) s (codes "put") (h ∷ i ∷ v ∷ []) own (simp append_assoc) refl spelled refl
+read_text-event_text (Clear s h i) own spelled = event_read (Clear s h i) s (codes "clear") (h ∷ i ∷ []) own (simp append_assoc) refl spelled refl
+read_text-event_text (Link s h i h2) own spelled = event_read (Link s h i h2) s (codes "link") (h ∷ i ∷ h2 ∷ []) own (simp append_assoc) refl spelled refl
+read_text-event_text (Drop s h) own spelled = event_read (Drop s h) s (codes "drop") (h ∷ []) own (simp append_assoc) refl spelled refl
+read_text-event_text (Get s h i h2) own spelled = event_read (Get s h i h2) s (codes "get") (h ∷ i ∷ h2 ∷ []) own (simp append_assoc) refl spelled refl
+read_text-event_text (Same s h h2) own spelled = event_read (Same s h h2) s (codes "same") (h ∷ h2 ∷ []) own (simp append_assoc) refl spelled refl
+read_text-event_text (Len s h) own spelled = event_read (Len s h) s (codes "len") (h ∷ []) own (simp append_assoc) refl spelled refl
+read_text-event_text (Seal s) own spelled = event_read (Seal s) s (codes "seal") [] own refl refl spelled refl
+read_text-event_text (Abort s) own spelled = event_read (Abort s) s (codes "abort") [] own refl refl spelled refl
+read_text-event_text Force own spelled = refl

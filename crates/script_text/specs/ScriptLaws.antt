@@ -1,33 +1,34 @@
--- Laws of scripts: whose events they ask for, and how many.
+-- Laws of scripts: the sessions of their events, and how many events there are.
 use Rattle.std.proofs.Common.{◌≡◌, ℕ, ◌+◌, ◌*◌, ◌≤◌, Bool, true, false, List, [], ◌∷◌, ◌++◌, length, fold, Option, Some, None, Result, Ok, Err, refl, subst, arith, length-append}
-use Rattle.std.specs.Prelude.{◌==◌, nat_lt, IfSome, IfOk, option_map, option_and_then, find, bytes_eq, codes, if◌then◌else◌}
+use Rattle.std.specs.Prelude.{◌==◌, nat_lt, nat_le, IfSome, IfOk, option_map, option_and_then, find, bytes_eq, codes, if◌then◌else◌}
 use Rattle.std.specs.List.{AllByRecursion, onto_first}
-use Rattle.std.proofs.lemmas.Bool.{ltb-false}
+use Rattle.std.proofs.lemmas.Bool.{ltb-false, leb-true, and_parts}
 use Rattle.graph_model.specs.declared.event.Event.TheVariants.{Force}
-use Rattle.graph_model.specs.SlowHeap.{IsSingleSession}
+use Rattle.graph_model.specs.History.{IsSession}
+use Rattle.graph_model.specs.SlowHeap.{IsOfSession}
 use Rattle.script_text.specs.declared.line.Line.{Line}
 use Rattle.script_text.specs.declared.line.Line.TheVariants.{One}
 use Rattle.script_text.specs.declared.script.ScriptError.{ScriptError}
 use Rattle.script_text.specs.declared.script.ScriptError.TheVariants.{Fault}
 use Rattle.script_text.specs.Number.{number}
-use Rattle.script_text.specs.Line.{words, is_number, numbers, calls, call_of, line_of, read_text, line_events, events}
+use Rattle.script_text.specs.Line.{words, is_session, session, numbers, calls, call_of, line_of, read_text, line_events, events}
 use Rattle.script_text.specs.Script.{lines as text_lines, Reading, start, with_line, read_line, take_line, finish, script}
 
--- The events of a line are session 1's, and there are at most two.
+-- The events of a line are of sessions, and there are at most two.
 abbrev IsSound : Line → Type 0
-IsSound line = AllByRecursion IsSingleSession (line_events line) × (length (line_events line) ≤ 2)
+IsSound line = AllByRecursion IsOfSession (line_events line) × (length (line_events line) ≤ 2)
 
 -- The line is sound, if there is one.
 abbrev IsSoundIn : Option Line → Type 0
 IsSoundIn found = IfSome found IsSound
 
-calls_sound : (given : List ℕ) → AllByRecursion (λ (call : List ℕ × Line). IsSound call.1) (calls given)
-calls_sound [] =
-    (((refl, tt), omega arith), (((refl, tt), omega arith), (((refl, tt), omega arith), (((refl, (tt, tt)), omega arith), tt))))
-calls_sound (h ∷ []) = (((refl, tt), omega arith), (((refl, tt), omega arith), (((refl, tt), omega arith), tt)))
-calls_sound (h ∷ second ∷ []) = (((refl, tt), omega arith), (((refl, tt), omega arith), (((refl, tt), omega arith), tt)))
-calls_sound (h ∷ i ∷ third ∷ []) = (((refl, tt), omega arith), (((refl, tt), omega arith), (((refl, tt), omega arith), tt)))
-calls_sound (a ∷ b ∷ c ∷ d ∷ more) = tt
+calls_sound : (s : ℕ) → IsSession s → (given : List ℕ) → AllByRecursion (λ (call : List ℕ × Line). IsSound call.1) (calls s given)
+calls_sound s own [] =
+    (((own, tt), omega arith), (((own, tt), omega arith), (((own, tt), omega arith), (((own, (tt, tt)), omega arith), tt))))
+calls_sound s own (h ∷ []) = (((own, tt), omega arith), (((own, tt), omega arith), (((own, tt), omega arith), tt)))
+calls_sound s own (h ∷ second ∷ []) = (((own, tt), omega arith), (((own, tt), omega arith), (((own, tt), omega arith), tt)))
+calls_sound s own (h ∷ i ∷ third ∷ []) = (((own, tt), omega arith), (((own, tt), omega arith), (((own, tt), omega arith), tt)))
+calls_sound s own (a ∷ b ∷ c ∷ d ∷ more) = tt
 
 find_sound : (verb : List ℕ) (from : List (List ℕ × Line)) → AllByRecursion (λ (call : List ℕ × Line). IsSound call.1) from → IsSoundIn (option_map (λ (call : List ℕ × Line). call.1) (find (λ (call : List ℕ × Line). bytes_eq verb call.0) from))
 find_sound verb [] sound = tt
@@ -37,23 +38,33 @@ find_sound verb (call ∷ more) sound =
       | false ↦ find_sound verb more sound.1
     ]
 
-then_sound : {X : Type 0} (f : X → Option Line) (o : Option X) → ((x : X) → IsSoundIn (f x)) → IsSoundIn (option_and_then f o)
-then_sound f None sound = tt
-then_sound f (Some x) sound = sound x
+then_holds : {X Y : Type 0} (P : Y → Type 0) (f : X → Option Y) (o : Option X) → ((x : X) → IfSome (f x) P) → IfSome (option_and_then f o) P
+then_holds P f None holds = tt
+then_holds P f (Some x) holds = holds x
 
 if_sound : (b : Bool) (found : Option Line) → IsSoundIn found → IsSoundIn (if b then found else None)
 if_sound true found sound = sound
 if_sound false found sound = tt
 
+number_own : (s : ℕ) (inside : Bool) → is_session s ≡ inside → IfSome (if inside then Some s else None) IsSession
+number_own s true is = let both = and_parts (nat_le 1 s) (nat_le s 32) is in (leb-true 1 s both.0, leb-true s 32 both.1)
+number_own s false is = tt
+
+session_own : (word : List ℕ) → IfSome (session word) IsSession
+session_own word = then_holds IsSession (λ s. if is_session s then Some s else None) (number word) (λ s. number_own s (is_session s) refl)
+
+call_sound : (found : Option ℕ) (verb : List ℕ) (rest : List (List ℕ)) → IfSome found IsSession → IsSoundIn (option_and_then (λ s. option_and_then (call_of s verb) (numbers rest)) found)
+call_sound None verb rest own = tt
+call_sound (Some s) verb rest own =
+    then_holds IsSound (call_of s verb) (numbers rest) (λ given. find_sound verb (calls s given) (calls_sound s own given))
+
 line_sound : (words : List (List ℕ)) → IsSoundIn (line_of words)
 line_sound [] = tt
 line_sound (word ∷ []) = if_sound (bytes_eq word (codes "force")) (Some (One Force)) ((tt, tt), omega arith)
-line_sound (session ∷ verb ∷ rest) =
-    if_sound (is_number (number session) 1) (option_and_then (call_of verb) (numbers rest))
-    (then_sound (call_of verb) (numbers rest) (λ given. find_sound verb (calls given) (calls_sound given)))
+line_sound (first ∷ verb ∷ rest) = call_sound (session first) verb rest (session_own first)
 
 text_sound : (text : List ℕ) → IsSoundIn (read_text text)
-text_sound text = then_sound line_of (words text) line_sound
+text_sound text = then_holds IsSound line_of (words text) line_sound
 
 -- Of what was read of n lines: each line found is sound, and there are no more than n.
 abbrev IsRead : ℕ → Result Reading ScriptError → Type 0
@@ -108,17 +119,17 @@ script_sound bytes lines is =
     let read = finish_read (0 + length (text_lines bytes)) _ lines (all_read 0 (Ok start) (text_lines bytes) (tt, omega arith)) short.1 in
     (read.0, omega (arith, read.1, lines_few bytes, ltb-false _ _ short.0))
 
-single_lines : (lines : List Line) → AllByRecursion IsSound lines → AllByRecursion IsSingleSession (events lines)
-single_lines [] sound = tt
-single_lines (line ∷ lines) sound = AllByRecursion-append IsSingleSession (line_events line) (events lines) sound.0.0 (single_lines lines sound.1)
+events_sound : (lines : List Line) → AllByRecursion IsSound lines → AllByRecursion IsOfSession (events lines)
+events_sound [] sound = tt
+events_sound (line ∷ lines) sound = AllByRecursion-append IsOfSession (line_events line) (events lines) sound.0.0 (events_sound lines sound.1)
 
 events_few : (lines : List Line) → AllByRecursion IsSound lines → length (events lines) ≤ 2 * length lines
 events_few [] sound = omega arith
 events_few (line ∷ lines) sound = omega (arith, length-append (line_events line) (events lines), sound.0.1, events_few lines sound.1)
 
--- The events of a script are session 1's.
-pub script_single : (bytes : List ℕ) (lines : List Line) → script bytes ≡ Ok lines → AllByRecursion IsSingleSession (events lines)
-script_single bytes lines is = single_lines lines (script_sound bytes lines is).0
+-- Each event of a script is of a session, from 1 to 32, or of none.
+pub script_sessions : (bytes : List ℕ) (lines : List Line) → script bytes ≡ Ok lines → AllByRecursion IsOfSession (events lines)
+script_sessions bytes lines is = events_sound lines (script_sound bytes lines is).0
 
 -- A line has a byte or a newline, and stands for at most two events.
 pub script_few : (bytes : List ℕ) (lines : List Line) → script bytes ≡ Ok lines → length (events lines) ≤ 2097152

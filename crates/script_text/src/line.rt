@@ -1,14 +1,10 @@
 //! The lines of a script: the words of each, and what they ask for.
 ghost use Rattle.std.specs.Prelude.{◌≡◌, ◌∷◌, [], ◌==◌, Some, IfOk, map, option_map, option_and_then};
-ghost use Rattle.script_text.specs.Line.{has_outer_blank, pieces, words, is_number, call_of, numbers, line_of, read_text};
-ghost use Rattle.script_text.specs.Number.{number};
+ghost use Rattle.script_text.specs.Line.{has_outer_blank, pieces, words, session, call_of, numbers, line_of, read_text};
 
 use crate::number::read_number;
-use graph_model::Event;
+use graph_model::{Event, FIRST_SESSION, LAST_SESSION};
 use std::alloc::{AllocError, Global};
-
-/// The one session that a script may name.
-const SESSION: u32 = 1;
 
 /// A line of a script.
 #[derive(Clone, Copy, Debug, PartialEq, Eq)]
@@ -45,11 +41,10 @@ fn words_of(alloc: Global, text: &[u8]) -> Result<Option<Vec<&[u8]>>, AllocError
     Ok(Some(pieces_of(alloc, text)?))
 }
 
-/// What a verb asks for alone.
-fn bare_call_of(verb: &[u8]) -> Option<Line>
-    ensures { result ≡ call_of verb.now [] }
+/// What a verb asks of session `s` alone.
+fn bare_call_of(s: u32, verb: &[u8]) -> Option<Line>
+    ensures { result ≡ call_of s verb.now [] }
 {
-    let s = SESSION;
     match verb {
         b"begin" => Some(Line::One(Event::Begin { s })),
         b"seal" => Some(Line::One(Event::Seal { s })),
@@ -59,11 +54,10 @@ fn bare_call_of(verb: &[u8]) -> Option<Line>
     }
 }
 
-/// What a verb asks for with one number.
-fn handle_call_of(verb: &[u8], h: u64) -> Option<Line>
-    ensures { result ≡ call_of verb.now (h ∷ []) }
+/// What a verb asks of session `s` with one number.
+fn handle_call_of(s: u32, verb: &[u8], h: u64) -> Option<Line>
+    ensures { result ≡ call_of s verb.now (h ∷ []) }
 {
-    let s = SESSION;
     match verb {
         b"root" => Some(Line::One(Event::Root { s, h })),
         b"drop" => Some(Line::One(Event::Drop { s, h })),
@@ -72,11 +66,10 @@ fn handle_call_of(verb: &[u8], h: u64) -> Option<Line>
     }
 }
 
-/// What a verb asks for with two numbers.
-fn pair_call_of(verb: &[u8], h: u64, second: u64) -> Option<Line>
-    ensures { result ≡ call_of verb.now (h ∷ second ∷ []) }
+/// What a verb asks of session `s` with two numbers.
+fn pair_call_of(s: u32, verb: &[u8], h: u64, second: u64) -> Option<Line>
+    ensures { result ≡ call_of s verb.now (h ∷ second ∷ []) }
 {
-    let s = SESSION;
     match verb {
         b"new" => Some(Line::One(Event::New { s, h, len: second })),
         b"clear" => Some(Line::One(Event::Clear { s, h, i: second })),
@@ -85,11 +78,10 @@ fn pair_call_of(verb: &[u8], h: u64, second: u64) -> Option<Line>
     }
 }
 
-/// What a verb asks for with three numbers.
-fn field_call_of(verb: &[u8], h: u64, i: u64, third: u64) -> Option<Line>
-    ensures { result ≡ call_of verb.now (h ∷ i ∷ third ∷ []) }
+/// What a verb asks of session `s` with three numbers.
+fn field_call_of(s: u32, verb: &[u8], h: u64, i: u64, third: u64) -> Option<Line>
+    ensures { result ≡ call_of s verb.now (h ∷ i ∷ third ∷ []) }
 {
-    let s = SESSION;
     match verb {
         b"put" => Some(Line::One(Event::Put { s, h, i, v: third })),
         b"link" => Some(Line::One(Event::Link { s, h, i, h2: third })),
@@ -98,26 +90,31 @@ fn field_call_of(verb: &[u8], h: u64, i: u64, third: u64) -> Option<Line>
     }
 }
 
-/// What a verb asks for with the numbers that the words spell.
-fn call_of(verb: &[u8], words: &[&[u8]]) -> Option<Line>
-    ensures { result ≡ option_and_then (call_of verb.now) (numbers (map (λ word. word.now) words.now)) }
+/// What a verb asks of session `s` with the numbers that the words spell.
+fn call_of(s: u32, verb: &[u8], words: &[&[u8]]) -> Option<Line>
+    ensures { result ≡ option_and_then (call_of s verb.now) (numbers (map (λ word. word.now) words.now)) }
 {
     match words {
-        [] => bare_call_of(verb),
-        [h] => handle_call_of(verb, read_number(h)?),
-        [h, second] => pair_call_of(verb, read_number(h)?, read_number(second)?),
-        [h, i, third] => {
-            field_call_of(verb, read_number(h)?, read_number(i)?, read_number(third)?)
-        }
+        [] => bare_call_of(s, verb),
+        [h] => handle_call_of(s, verb, read_number(h)?),
+        [h, second] => pair_call_of(s, verb, read_number(h)?, read_number(second)?),
+        [h, i, third] => field_call_of(
+            s,
+            verb,
+            read_number(h)?,
+            read_number(i)?,
+            read_number(third)?,
+        ),
         _ => None,
     }
 }
 
-/// Whether the word spells the session's number.
-fn is_session(word: &[u8]) -> bool
-    ensures { result ≡ is_number (number word.now) 1 }
+/// The session that the word spells.
+fn read_session(word: &[u8]) -> Option<u32>
+    ensures { result ≡ session word.now }
 {
-    read_number(word) == Some(u64::from(SESSION))
+    let s = u32::try_from(read_number(word)?).ok()?;
+    (FIRST_SESSION..=LAST_SESSION).contains(&s).then_some(s)
 }
 
 /// The line that the words spell.
@@ -126,7 +123,7 @@ fn line_of(words: &[&[u8]]) -> Option<Line>
 {
     match words {
         [b"force"] => Some(Line::One(Event::Force)),
-        [session, verb, rest @ ..] if is_session(session) => call_of(verb, rest),
+        [session, verb, rest @ ..] => call_of(read_session(session)?, verb, rest),
         _ => None,
     }
 }

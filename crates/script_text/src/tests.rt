@@ -4,44 +4,48 @@ use graph_model::{Entry, Event, Refusal, Reply};
 use std::alloc::{AllocError, Global};
 use std::test::Fail;
 
-/// A line of each form, with blank lines, more blanks between words, leading zeros and the greatest number.
+/// A line of each form, each of another session, with blank lines, more blanks between words, leading zeros and the
+/// greatest number.
 const EACH_FORM: &str =
-    "1 begin\n1 root 0\n1 new 1  18446744073709551615\n\n1   put 64 4 4611686018427387904\n01 clear 0 3\n1 link 0 3 01\n1 drop 63\n\
-    1 get 0 18446744073709551615 64\n1 same 0 00000000000000000001\n1 len 0\n1 seal\n\n1 abort\n1 commit\nforce";
+    "1 begin\n2 root 0\n32 new 1  18446744073709551615\n\n31   put 64 4 4611686018427387904\n030 clear 0 3\n4 link 0 3 01\n5 drop 63\n\
+    6 get 0 18446744073709551615 64\n7 same 0 00000000000000000001\n8 len 0\n00000000000000000009 seal\n\n10 abort\n11 commit\nforce";
 
 #[test]
 fn each_form_of_a_line_is_read(rt: HostRuntime) -> Result<(), Fail> {
-    let s = 1;
     let most = 18_446_744_073_709_551_615;
     let want = [
-        Line::One(Event::Begin { s }),
-        Line::One(Event::Root { s, h: 0 }),
-        Line::One(Event::New { s, h: 1, len: most }),
+        Line::One(Event::Begin { s: 1 }),
+        Line::One(Event::Root { s: 2, h: 0 }),
+        Line::One(Event::New {
+            s: 32,
+            h: 1,
+            len: most,
+        }),
         Line::One(Event::Put {
-            s,
+            s: 31,
             h: 64,
             i: 4,
             v: 4_611_686_018_427_387_904,
         }),
-        Line::One(Event::Clear { s, h: 0, i: 3 }),
+        Line::One(Event::Clear { s: 30, h: 0, i: 3 }),
         Line::One(Event::Link {
-            s,
+            s: 4,
             h: 0,
             i: 3,
             h2: 1,
         }),
-        Line::One(Event::Drop { s, h: 63 }),
+        Line::One(Event::Drop { s: 5, h: 63 }),
         Line::One(Event::Get {
-            s,
+            s: 6,
             h: 0,
             i: most,
             h2: 64,
         }),
-        Line::One(Event::Same { s, h: 0, h2: 1 }),
-        Line::One(Event::Len { s, h: 0 }),
-        Line::One(Event::Seal { s }),
-        Line::One(Event::Abort { s }),
-        Line::Commit { s },
+        Line::One(Event::Same { s: 7, h: 0, h2: 1 }),
+        Line::One(Event::Len { s: 8, h: 0 }),
+        Line::One(Event::Seal { s: 9 }),
+        Line::One(Event::Abort { s: 10 }),
+        Line::Commit { s: 11 },
         Line::One(Event::Force),
     ];
     let found = read_script(rt.alloc(), EACH_FORM.as_bytes());
@@ -68,8 +72,6 @@ fn the_first_bad_line_is_told(rt: HostRuntime) -> Result<(), Fail> {
         ("1 commit\n\n1 commit", Ok(2)),
         ("1 begin\n1 root 0\n1 pu", Err(3)),
         ("1 begin\n1 pu\n1 pu\n", Err(2)),
-        ("2 begin", Err(1)),
-        ("0 begin", Err(1)),
         ("begin", Err(1)),
         ("1", Err(1)),
         ("1 force", Err(1)),
@@ -104,6 +106,44 @@ fn the_first_bad_line_is_told(rt: HostRuntime) -> Result<(), Fail> {
 }
 
 #[test]
+fn a_session_is_a_number_from_1_to_32(rt: HostRuntime) -> Result<(), Fail> {
+    let cases = [
+        ("1 begin", Ok(1)),
+        ("2 begin", Ok(1)),
+        ("32 begin", Ok(1)),
+        ("032 begin", Ok(1)),
+        ("00000000000000000032 begin", Ok(1)),
+        ("1 begin\n32 begin\n2 commit\nforce", Ok(4)),
+        ("1 begin\n32 begin\n33 commit\nforce", Err(3)),
+        ("0 begin", Err(1)),
+        ("00 begin", Err(1)),
+        ("33 begin", Err(1)),
+        ("033 begin", Err(1)),
+        ("257 begin", Err(1)),
+        ("4294967297 begin", Err(1)),
+        ("18446744073709551615 begin", Err(1)),
+        ("18446744073709551617 begin", Err(1)),
+        ("000000000000000000001 begin", Err(1)),
+        ("100000000000000000000 begin", Err(1)),
+        ("-1 begin", Err(1)),
+        ("+1 begin", Err(1)),
+        ("one begin", Err(1)),
+        (" 1 begin", Err(1)),
+        ("  32 begin", Err(1)),
+        ("32", Err(1)),
+        ("2 2 begin", Err(1)),
+        ("begin 2", Err(1)),
+        ("2 force", Err(1)),
+        ("33 force", Err(1)),
+    ];
+    for (script, want) in cases {
+        let found = outcome(rt.alloc(), script.as_bytes())?;
+        assert!(rt; found == want, "at {script}");
+    }
+    Ok(())
+}
+
+#[test]
 fn a_long_script_is_a_fault_at_line_0(rt: HostRuntime) -> Result<(), Fail> {
     let alloc = rt.alloc();
     let mut newlines = vec![in alloc; b'\n'; MOST_BYTES]?;
@@ -118,7 +158,7 @@ fn an_event_is_printed_with_its_reply(rt: HostRuntime) -> Result<(), Fail> {
     let alloc = rt.alloc();
     let put = Entry {
         event: Event::Put {
-            s: 1,
+            s: 32,
             h: 64,
             i: 0,
             v: 7,
@@ -133,7 +173,7 @@ fn an_event_is_printed_with_its_reply(rt: HostRuntime) -> Result<(), Fail> {
     };
     assert_eq!(rt;
         reply_line(alloc, &put)?.as_str(),
-        "1 put 64 0 7 -> badhandle\n"
+        "32 put 64 0 7 -> badhandle\n"
     );
     assert_eq!(rt; reply_line(alloc, &force)?.as_str(), "force -> durable 2\n");
     Ok(())

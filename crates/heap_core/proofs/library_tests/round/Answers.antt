@@ -3,7 +3,7 @@ use Rattle.std.proofs.lemmas.List.{take_all}
 use Rattle.graph_model.specs.declared.event.Event.{Event}
 use Rattle.heap_core.specs.CrashLaws.{heap_keeps}
 use Rattle.heap_core.specs.Rounds.{IsGoing}
-use Rattle.heap_core.proofs.RoundLaws.{legal_of, found_of, core_of, going_opened, single_at, gone_on, round_ends}
+use Rattle.heap_core.proofs.RoundLaws.{legal_of, found_of, core_of, going_opened, of_session_at, gone_on, round_ends}
 use Rattle.heap_core.proofs.library_tests.round.Goals as goal
 
 pub loop-event-init : goal.loop-event-init
@@ -23,7 +23,10 @@ loop-event-preserved g c tells only gr k stands =
     let events = c.args.events.now in
     let i = c.loop-event.event-index in
     gone_on gr k events i _ c.loop-event.heap c.step.new.self _ c.loop-event-test.true c.requires gone
-    (c.in_ok-step.ensures.holds tells gone.super gone.core gone.is gone.going.reached (single_at events i _ c.loop-event-test.true c.requires))
+    (c.in_ok-step.ensures.holds tells gone.super gone.core gone.is gone.going.reached)
+
+pub step-requires : goal.step-requires
+step-requires g c = of_session_at c.args.events.now c.loop-event.event-index _ c.loop-event-test.true c.requires
 
 pub returns : goal.returns
 returns g c tells only gr k stands =

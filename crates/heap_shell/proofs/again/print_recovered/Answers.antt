@@ -7,7 +7,8 @@ use Rattle.graph_model.specs.Text.{canon_text}
 use Rattle.log_machine.specs.Machine as machine
 use Rattle.heap_model.specs.CoreCrash.{StandsForFirst}
 use Rattle.heap_model.specs.CoreLawsHeld.{left_first}
-use Rattle.heap_model.specs.CoreLawsOpened.{opened_reached, saying_law}
+use Rattle.core_laws.specs.Opened.{opened_reached}
+use Rattle.heap_model.specs.CoreLawsOpened.{saying_law}
 use Rattle.heap_model.specs.Opening.{opened, opening_calls, IsLeftByOpening}
 use Rattle.heap_model.specs.Image.{shaped_image}
 use Rattle.heap_shell.specs.Headline.{recovered_line, graph_text, Reopens, FailsToOpen}

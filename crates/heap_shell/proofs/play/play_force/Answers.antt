@@ -7,7 +7,7 @@ use Rattle.heap_shell.proofs.PlayCore.{core_none}
 use Rattle.heap_shell.proofs.play.play_force.Goals as goal
 
 pub returns-then-not-pending-clause-plays : goal.returns-then-not-pending-clause-plays
-returns-then-not-pending-clause-plays g c tells of core heap valid =
+returns-then-not-pending-clause-plays g c tells of core heap running =
     let k = g.K.Sink in
     let old = c.args.heap.now in
     let before = k.written c.args.sink.now in
@@ -16,12 +16,12 @@ returns-then-not-pending-clause-plays g c tells of core heap valid =
     subst (λ (l : List Event). Plays of core l old old k.tells before before (Ok tt)) (sym none) (plays_none of core old k.tells before heap)
 
 pub returns-clause-plays : goal.returns-clause-plays
-returns-clause-plays g c tells of core heap valid =
+returns-clause-plays g c tells of core heap running =
     let k = g.K.Sink in
     let on : c.pending.result ≡ true = search rules in
     let some = force_of-some core.pending c.pending.result (c.pending.ensures core heap.core) on in
     subst (λ (l : List Event). Plays of core l c.args.heap.now c.play_event.new.heap k.tells (k.written c.args.sink.now) (k.written c.play_event.new.sink) c.play_event.result) (sym some)
-    (c.play_event.ensures.plays tells of core heap (record { running = valid; single = (tt, tt) }))
+    (c.play_event.ensures.plays tells of core heap running)
 
 pub returns-then-not-pending-clause-core : goal.returns-then-not-pending-clause-core
 returns-then-not-pending-clause-core g c core is running =
@@ -37,4 +37,4 @@ returns-clause-core g c core is running =
     let on : c.pending.result ≡ true = search rules in
     let some = force_of-some core.pending c.pending.result (c.pending.ensures core is) on in
     subst (λ (l : List Event). PlaysCore core l c.play_event.new.heap k.tells (k.written c.args.sink.now) (k.written c.play_event.new.sink) c.play_event.result) (sym some)
-    (c.play_event.ensures.core core is (record { running = running; single = (tt, tt) }))
+    (c.play_event.ensures.core core is running)

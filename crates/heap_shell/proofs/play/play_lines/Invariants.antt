@@ -6,7 +6,7 @@ use Rattle.image_plan.specs.declared.superblock.Super.{Super}
 use Rattle.heap_model.specs.Core.{Core}
 use Rattle.heap_core.specs.HeapState.{heap_disk}
 use Rattle.heap_core.specs.Means.{IsCore, IsHeap}
-use Rattle.heap_shell.specs.Play.{AreReady, PlaysCore, Plays}
+use Rattle.heap_shell.specs.Play.{IsRunning, PlaysCore, Plays}
 use Rattle.script_text.specs.Line.{events}
 use Rattle.heap_shell.proofs.play.play_lines.Given as goal
 
@@ -18,6 +18,6 @@ invariant-loop-line g l =
     record {
       disk : KeepsDisk g.D.Disk (heap_disk l.fn.heap) (heap_disk l.heap) well;
       sink : k.faults l.fn.sink ≤ k.faults l.sink;
-      core : (c : Core) → IsCore c l.fn.heap → AreReady c (events l.lines) → PlaysCore c (events (take l.line-index l.lines)) l.heap k.tells (k.written l.fn.sink) (k.written l.sink) (Ok tt);
-      plays : IsTrue g.D.Disk.tells → (of : Super) (c : Core) → IsHeap of c l.fn.heap → AreReady c (events l.lines) → Plays of c (events (take l.line-index l.lines)) l.fn.heap l.heap k.tells (k.written l.fn.sink) (k.written l.sink) (Ok tt);
+      core : (c : Core) → IsCore c l.fn.heap → IsRunning c → PlaysCore c (events (take l.line-index l.lines)) l.heap k.tells (k.written l.fn.sink) (k.written l.sink) (Ok tt);
+      plays : IsTrue g.D.Disk.tells → (of : Super) (c : Core) → IsHeap of c l.fn.heap → IsRunning c → Plays of c (events (take l.line-index l.lines)) l.fn.heap l.heap k.tells (k.written l.fn.sink) (k.written l.sink) (Ok tt);
     }

@@ -9,7 +9,7 @@ use Rattle.heap_core.specs.Causes.{error_device}
 use Rattle.heap_model.specs.CoreCrash.{KeepsCommits}
 use Rattle.heap_model.specs.CoreLawsRun.{same_run}
 use Rattle.heap_model.specs.CoreRuns.{total_calls}
-use Rattle.heap_shell.specs.CoreLawsPlay.{made_running, all_playable, script_ready}
+use Rattle.heap_shell.specs.CoreLawsPlay.{made_running, all_playable}
 use Rattle.graph_model.specs.Graph.{new_graph}
 use Rattle.heap_model.specs.CoreLawsNew.{root_place, new_found}
 use Rattle.heap_shell.specs.Headline.{made_super, made_core, IsExact, KeepsThroughout, Reopens, StartsAgain, EndsUnopened}
@@ -37,7 +37,7 @@ returns-in-Err-clause-played g c tells pages legal only =
     let legal_f = subst (λ x. IsLegal s [] (d.bytes x)) (sym inner) legal in
     let limits = legal_f.log.shaped.limits in
     let running = made_running pages limits in
-    let playable = all_playable (Some c.args.stop.after) (made_core pages) c.args.script.now running.reached c.requires in
+    let playable = all_playable (Some c.args.stop.after) (made_core pages) c.args.script.now c.requires in
     let only_f = subst (λ x. Only (d.bytes x) (d.may_leave x)) (sym inner) only in
     let opened = fuse_since c.new.result c.in-Err.fuse _ (c.in-Err.ensures.moments tells only_f (made_super pages) [] (shaped_image legal_f)) in
     let began = same_disk _ _ (c.in-Err.ensures.disk.origin ∙ c.new.ensures.origin) ∙ sym inner in
@@ -76,9 +76,9 @@ returns-in-None-clause-played g c tells pages legal only =
     let legal_f = subst (λ x. IsLegal s [] (d.bytes x)) (sym inner) legal in
     let limits = legal_f.log.shaped.limits in
     let running = made_running pages limits in
-    let playable = all_playable (Some c.args.stop.after) (made_core pages) c.args.script.now running.reached c.requires in
+    let playable = all_playable (Some c.args.stop.after) (made_core pages) c.args.script.now c.requires in
     let only_f = subst (λ x. Only (d.bytes x) (d.may_leave x)) (sym inner) only in
-    let plays = c.play_lines-played.ensures.plays tells s (made_core pages) (c.in-Ok.ensures.holds tells s [] (empty_image pages bytes legal_f) only_f root_place new_graph (new_found s limits)) (script_ready (made_core pages) c.args.script.now running c.requires) in
+    let plays = c.play_lines-played.ensures.plays tells s (made_core pages) (c.in-Ok.ensures.holds tells s [] (empty_image pages bytes legal_f) only_f root_place new_graph (new_found s limits)) running in
     let heap = c.in-Ok.ensures.holds tells s [] (empty_image pages bytes legal_f) only_f root_place new_graph (new_found s limits) in
     let keep = kept s (made_core pages) (made_running pages limits) refl es playable old new k.tells before after c.play_lines-played.result plays in
     let opening = same_run (made_core pages) plays.core plays.made (run_reached s (made_core pages) running refl es playable old new k.tells before after c.play_lines-played.result plays).0 in
@@ -149,9 +149,9 @@ returns-in-Some-clause-played g c tells pages legal only =
     let legal_f = subst (λ x. IsLegal s [] (d.bytes x)) (sym inner) legal in
     let limits = legal_f.log.shaped.limits in
     let running = made_running pages limits in
-    let playable = all_playable (Some c.args.stop.after) (made_core pages) c.args.script.now running.reached c.requires in
+    let playable = all_playable (Some c.args.stop.after) (made_core pages) c.args.script.now c.requires in
     let only_f = subst (λ x. Only (d.bytes x) (d.may_leave x)) (sym inner) only in
-    let plays = c.play_lines-played.ensures.plays tells s (made_core pages) (c.in-Ok.ensures.holds tells s [] (empty_image pages bytes legal_f) only_f root_place new_graph (new_found s limits)) (script_ready (made_core pages) c.args.script.now running c.requires) in
+    let plays = c.play_lines-played.ensures.plays tells s (made_core pages) (c.in-Ok.ensures.holds tells s [] (empty_image pages bytes legal_f) only_f root_place new_graph (new_found s limits)) running in
     let heap = c.in-Ok.ensures.holds tells s [] (empty_image pages bytes legal_f) only_f root_place new_graph (new_found s limits) in
     let keep = kept s (made_core pages) (made_running pages limits) refl es playable old new k.tells before after c.play_lines-played.result plays in
     let halted = early_some c.play_lines-played.result c.in-Some.status (sym c.early_end.ensures ∙ c.in-Some.is) in
@@ -210,7 +210,7 @@ pub returns-in-None-clause-prints : goal.returns-in-None-clause-prints
 returns-in-None-clause-prints g c tells =
     let k = g.K.Sink in
     let some = opened_core c.in-Ok.heap c.in-Ok.ensures.opens in
-    let plays = c.play_lines-played.ensures.core some.0 some.2 (script_ready some.0 c.args.script.now some.1.running c.requires) in
+    let plays = c.play_lines-played.ensures.core some.0 some.2 some.1.running in
     let ended = early_none c.play_lines-played.result (sym c.early_end.ensures ∙ c.in-None.is) in
     prints_again c.args.stop.after some.0 some.1 c.args.script.now c.requires c.play_lines-played.new.heap k.tells (k.written c.args.sink.now) (k.written c.play_lines-played.new.sink) c.play_lines-played.result plays tells ended
     c.start_again-in-None.result.0 (k.written c.start_again-in-None.new.sink) (c.start_again-in-None.ensures.again tells)
@@ -219,7 +219,7 @@ pub returns-in-Some-clause-prints : goal.returns-in-Some-clause-prints
 returns-in-Some-clause-prints g c tells =
     let k = g.K.Sink in
     let some = opened_core c.in-Ok.heap c.in-Ok.ensures.opens in
-    let plays = c.play_lines-played.ensures.core some.0 some.2 (script_ready some.0 c.args.script.now some.1.running c.requires) in
+    let plays = c.play_lines-played.ensures.core some.0 some.2 some.1.running in
     let halted = early_some c.play_lines-played.result c.in-Some.status (sym c.early_end.ensures ∙ c.in-Some.is) in
     rw halted.3 (prints_early (Some c.args.stop.after) some.0 some.1 c.args.script.now c.requires c.play_lines-played.new.heap k.tells (k.written c.args.sink.now) (k.written c.play_lines-played.new.sink) c.play_lines-played.result plays tells halted.0 halted.1)
 

@@ -4,7 +4,7 @@ use Rattle.heap_model.specs.Image.{shaped_image}
 use Rattle.heap_shell.specs.declared.play.Halt.{Halt}
 use Rattle.heap_model.specs.CoreRuns.{total_calls}
 use Rattle.heap_model.specs.Ending.{all_events}
-use Rattle.heap_shell.specs.CoreLawsPlay.{made_running, all_playable, script_ready}
+use Rattle.heap_shell.specs.CoreLawsPlay.{made_running, all_playable}
 use Rattle.graph_model.specs.Graph.{new_graph}
 use Rattle.heap_model.specs.CoreLawsNew.{root_place, new_found}
 use Rattle.heap_shell.specs.Headline.{made_super, made_core}
@@ -36,14 +36,14 @@ returns-in-Ok-play_all-clause-played g c tells pages legal only =
     let s = made_super pages in
     let limits = legal.log.shaped.limits in
     let running = made_running pages limits in
-    let playable = all_playable None (made_core pages) c.args.script.now running.reached c.requires in
+    let playable = all_playable None (made_core pages) c.args.script.now c.requires in
     let es = all_events None (made_core pages) (events c.args.script.now) in
     let old = c.in-Ok.heap in
     let new = c.play_all.new.heap in
     let before = k.written c.args.sink.now in
     let after = k.written c.play_all.new.sink in
     let bytes = d.bytes c.args.disk in
-    let plays = c.in-Ok-play_all.ensures.plays tells s (made_core pages) (c.in-Ok.ensures.holds tells s [] (empty_image pages bytes legal) only root_place new_graph (new_found s limits)) (script_ready (made_core pages) c.args.script.now running c.requires) in
+    let plays = c.in-Ok-play_all.ensures.plays tells s (made_core pages) (c.in-Ok.ensures.holds tells s [] (empty_image pages bytes legal) only root_place new_graph (new_found s limits)) running in
     let whole = plays.ends in
     let nothing = new_passes s _ _ (c.in-Ok.ensures.passes tells s [] (shaped_image legal)).ok in
     let keeps = keeps_own s (made_core pages) (made_running pages limits) refl es playable old new k.tells before after (Ok tt) plays tells c.args.disk (λ disk image since. g.met.D.Disk.only_now tells disk image since)
@@ -61,7 +61,7 @@ returns-in-Err-play_all-clause-played g c tells pages legal only =
     let s = made_super pages in
     let limits = legal.log.shaped.limits in
     let running = made_running pages limits in
-    let playable = all_playable None (made_core pages) c.args.script.now running.reached c.requires in
+    let playable = all_playable None (made_core pages) c.args.script.now c.requires in
     let es = all_events None (made_core pages) (events c.args.script.now) in
     let old = c.in-Ok.heap in
     let new = c.play_all.new.heap in
@@ -72,7 +72,7 @@ returns-in-Err-play_all-clause-played g c tells pages legal only =
     let nothing = new_passes s _ _ (c.in-Ok.ensures.passes tells s [] (shaped_image legal)).ok in
     let unharmed = λ (u : Unharmed d c.args.disk new.disk) (rose : DiskRose (d.faults old.disk) (d.stops old.disk) (d.faults new.disk) (d.stops new.disk)).
     u (disk_rose_since _ _ _ _ _ _ c.in-Ok.ensures.disk.cause.faults_kept c.in-Ok.ensures.disk.cause.stops_kept c.play_all.ensures.disk.cause.faults_kept c.play_all.ensures.disk.cause.stops_kept rose) in
-    let plays = c.in-Err-play_all.ensures.plays tells s (made_core pages) (c.in-Ok.ensures.holds tells s [] (empty_image pages bytes legal) only root_place new_graph (new_found s limits)) (script_ready (made_core pages) c.args.script.now running c.requires) in
+    let plays = c.in-Err-play_all.ensures.plays tells s (made_core pages) (c.in-Ok.ensures.holds tells s [] (empty_image pages bytes legal) only root_place new_graph (new_found s limits)) running in
     let keeps = keeps_own s (made_core pages) (made_running pages limits) refl es playable old new k.tells before after (Err h) plays tells c.args.disk (λ disk image since. g.met.D.Disk.only_now tells disk image since)
     (opening_keeps d.moment d.left_since c.args.disk old.disk pages bytes legal (c.in-Ok.ensures.moments tells only (made_super pages) [] (shaped_image legal))) (λ image left. opened_commits pages bytes legal image (c.in-Ok.ensures.crash tells only (made_super pages) [] (shaped_image legal) image left)) nothing (c.in-Ok.ensures.disk.restarts tells) in
     let all = total_calls (made_core pages) plays.made in
@@ -90,7 +90,7 @@ write_graph-requires g c =
     let k = g.K.Sink in
     let some = opened_core c.in-Ok.heap c.in-Ok.ensures.opens in
     let running = some.1.running in
-    let plays = c.in-Ok-play_all.ensures.core some.0 some.2 (script_ready some.0 c.args.script.now running c.requires) in
+    let plays = c.in-Ok-play_all.ensures.core some.0 some.2 running in
     record { unfailed = played_unfailed some.0 c.args.script.now c.play_all.new.heap k.tells (k.written c.args.sink.now) (k.written c.play_all.new.sink) running c.requires plays }
 
 pub returns-in-Err-clause-prints : goal.returns-in-Err-clause-prints
@@ -103,7 +103,7 @@ returns-in-Ok-play_all-clause-prints g c tells =
     let before = k.written c.args.sink.now in
     let after = k.written c.play_all.new.sink in
     let new = c.play_all.new.heap in
-    let plays = c.in-Ok-play_all.ensures.core some.0 some.2 (script_ready some.0 c.args.script.now some.1.running c.requires) in
+    let plays = c.in-Ok-play_all.ensures.core some.0 some.2 some.1.running in
     let at_end = reached None some.0 some.1 c.args.script.now c.requires new k.tells before after (Ok tt) plays tells in
     rw c.status_after-status.ensures (prints_whole some.0 some.1 c.args.script.now c.requires new k.tells before after plays tells c.write_graph.result (k.written c.write_graph.new.sink) (c.write_graph.ensures.wrote tells plays.core plays.is at_end))
 
@@ -112,5 +112,5 @@ returns-in-Err-play_all-clause-prints g c tells =
     let k = g.K.Sink in
     let some = opened_core c.in-Ok.heap c.in-Ok.ensures.opens in
     let h : Halt = c.in-Err-play_all.halt in
-    let plays = c.in-Err-play_all.ensures.core some.0 some.2 (script_ready some.0 c.args.script.now some.1.running c.requires) in
+    let plays = c.in-Err-play_all.ensures.core some.0 some.2 some.1.running in
     rw c.from-in-Err-play_all.ensures (prints_early None some.0 some.1 c.args.script.now c.requires c.play_all.new.heap k.tells (k.written c.args.sink.now) (k.written c.play_all.new.sink) (Err h) plays tells h refl)

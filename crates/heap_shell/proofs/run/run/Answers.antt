@@ -4,7 +4,7 @@ use Rattle.heap_core.specs.declared.errors.FormatError.{FormatError}
 use Rattle.heap_model.specs.Ending.{all_events}
 use Rattle.heap_shell.specs.CoreLawsPlay.{made_limits, made_reached, script_is, all_playable}
 use Rattle.heap_shell.specs.Headline.{made_super, made_core}
-use Rattle.heap_shell.specs.Playable.{IsScript}
+use Rattle.heap_shell.specs.Playable.{IsScript, IsReadFrom}
 use Rattle.script_text.specs.Line.{events}
 use Rattle.script_text.specs.Script.{script}
 use Rattle.disk_model.specs.KeepsLaws.{rose_since}
@@ -33,7 +33,7 @@ returns-in-None-clause-headline g c tells only play is =
     let same : play ≡ c.in-Some.play = cc (is, c.in-Some.is, c.read_words.ensures) in
     rw same (inr (record {
       lines = c.deref.result.now;
-      script = λ t. ap script (sym (read.2 t)) ∙ read.1 ∙ ap (λ (ls : List Line). Ok ls) (sym c.deref.ensures.value);
+      script = record { bytes = read.0; script = read.1 ∙ ap (λ (ls : List Line). Ok ls) (sym c.deref.ensures.value); own = read.2 };
       made = c.in-Ok-format.disk;
       format = record { moments = c.in-Ok-format.ensures.moments tells only; empty = made.0; only = made.1; passed = (c.in-Ok-format.ensures.passes tells (large_made _ _ c.in-Ok-format.ensures.small)).ok; restarts = c.in-Ok-format.ensures.disk.restarts tells };
       played = rw c.in-None.is played;
@@ -64,7 +64,7 @@ returns-clause-headline g c tells only play is =
     let same : play ≡ c.in-Some.play = cc (is, c.in-Some.is, c.read_words.ensures) in
     rw same (inr (record {
       lines = c.deref-in-Some-stop.result.now;
-      script = λ t. ap script (sym (read.2 t)) ∙ read.1 ∙ ap (λ (ls : List Line). Ok ls) (sym c.deref-in-Some-stop.ensures.value);
+      script = record { bytes = read.0; script = read.1 ∙ ap (λ (ls : List Line). Ok ls) (sym c.deref-in-Some-stop.ensures.value); own = read.2 };
       made = c.in-Ok-format.disk;
       format = record { moments = c.in-Ok-format.ensures.moments tells only; empty = made.0; only = made.1; passed = (c.in-Ok-format.ensures.passes tells (large_made _ _ c.in-Ok-format.ensures.small)).ok; restarts = c.in-Ok-format.ensures.disk.restarts tells };
       played = rw c.in-Some-stop.is played;
@@ -102,7 +102,7 @@ returns-in-None-clause-crash_safe g c tells only play is =
     let es = all_events None (made_core c.in-Some.play.pages) (events c.deref.result.now) in
     let played = c.play_whole.ensures.played tells c.in-Some.play.pages made.0 made.1 in
     let same : play ≡ c.in-Some.play = cc (is, c.in-Some.is, c.read_words.ensures) in
-    let safe = crash_safe g.D.Disk (λ disk image since. g.met.D.Disk.only_now tells disk image since) c.in-Ok-format.disk c.play_whole.result.1 None (made_core c.in-Some.play.pages) es c.play_whole.result.0 k.tells (k.written c.args.sink.now) (k.written c.play_whole.new.sink) (made_reached c.in-Some.play.pages made.0.log.shaped.limits) (all_playable None (made_core c.in-Some.play.pages) c.deref.result.now (made_reached c.in-Some.play.pages made.0.log.shaped.limits) (subst IsScript (sym c.deref.ensures.value) (script_is read.0 c.in-Ok.script.items read.1))).single played in
+    let safe = crash_safe g.D.Disk (λ disk image since. g.met.D.Disk.only_now tells disk image since) c.in-Ok-format.disk c.play_whole.result.1 None (made_core c.in-Some.play.pages) es c.play_whole.result.0 k.tells (k.written c.args.sink.now) (k.written c.play_whole.new.sink) (made_reached c.in-Some.play.pages made.0.log.shaped.limits) (all_playable None (made_core c.in-Some.play.pages) c.deref.result.now (subst IsScript (sym c.deref.ensures.value) (script_is read.0 c.in-Ok.script.items read.1))).sessions played in
     rw (same, c.in-None.is) (inr (c.in-Ok-format.disk, safe))
 
 pub returns-clause-crash_safe : goal.returns-clause-crash_safe
@@ -113,7 +113,7 @@ returns-clause-crash_safe g c tells only play is =
     let es = events c.deref-in-Some-stop.result.now in
     let played = c.play_stopped.ensures.played tells c.in-Some.play.pages made.0 made.1 in
     let same : play ≡ c.in-Some.play = cc (is, c.in-Some.is, c.read_words.ensures) in
-    let safe = crash_safe g.D.Disk (λ disk image since. g.met.D.Disk.only_now tells disk image since) c.in-Ok-format.disk c.play_stopped.result.1 (Some c.in-Some-stop.stop) (made_core c.in-Some.play.pages) es c.play_stopped.result.0 k.tells (k.written c.args.sink.now) (k.written c.play_stopped.new.sink) (made_reached c.in-Some.play.pages made.0.log.shaped.limits) (all_playable (Some c.in-Some-stop.stop.after) (made_core c.in-Some.play.pages) c.deref-in-Some-stop.result.now (made_reached c.in-Some.play.pages made.0.log.shaped.limits) (subst IsScript (sym c.deref-in-Some-stop.ensures.value) (script_is read.0 c.in-Ok.script.items read.1))).single played in
+    let safe = crash_safe g.D.Disk (λ disk image since. g.met.D.Disk.only_now tells disk image since) c.in-Ok-format.disk c.play_stopped.result.1 (Some c.in-Some-stop.stop) (made_core c.in-Some.play.pages) es c.play_stopped.result.0 k.tells (k.written c.args.sink.now) (k.written c.play_stopped.new.sink) (made_reached c.in-Some.play.pages made.0.log.shaped.limits) (all_playable (Some c.in-Some-stop.stop.after) (made_core c.in-Some.play.pages) c.deref-in-Some-stop.result.now (subst IsScript (sym c.deref-in-Some-stop.ensures.value) (script_is read.0 c.in-Ok.script.items read.1))).sessions played in
     rw (same, c.in-Some-stop.is) (inr (c.in-Ok-format.disk, safe))
 
 pub format-requires : goal.format-requires
@@ -131,14 +131,14 @@ pub returns-in-None-clause-prints : goal.returns-in-None-clause-prints
 returns-in-None-clause-prints g c tells play is =
     let read = c.in-Ok.ensures.script in
     let same : play ≡ c.in-Some.play = cc (is, c.in-Some.is, c.read_words.ensures) in
-    let said = λ (t : IsTrue g.S.Source.tells). ap script (sym (read.2 t)) ∙ read.1 ∙ ap (λ (ls : List Line). Ok ls) (sym c.deref.ensures.value) in
+    let said : IsReadFrom g.S.Source.tells (g.S.Source.left c.args.source.now) c.deref.result.now = record { bytes = read.0; script = read.1 ∙ ap (λ (ls : List Line). Ok ls) (sym c.deref.ensures.value); own = read.2 } in
     rw (same, c.in-None.is) (⊎_elim inl (λ (run : PrintsRun None c.deref.result.now c.play_whole.result.0 (g.K.Sink.written c.args.sink.now) (g.K.Sink.written c.play_whole.new.sink)). inr (c.deref.result.now, said, run)) (c.play_whole.ensures.prints tells))
 
 pub returns-clause-prints : goal.returns-clause-prints
 returns-clause-prints g c tells play is =
     let read = c.in-Ok.ensures.script in
     let same : play ≡ c.in-Some.play = cc (is, c.in-Some.is, c.read_words.ensures) in
-    let said = λ (t : IsTrue g.S.Source.tells). ap script (sym (read.2 t)) ∙ read.1 ∙ ap (λ (ls : List Line). Ok ls) (sym c.deref-in-Some-stop.ensures.value) in
+    let said : IsReadFrom g.S.Source.tells (g.S.Source.left c.args.source.now) c.deref-in-Some-stop.result.now = record { bytes = read.0; script = read.1 ∙ ap (λ (ls : List Line). Ok ls) (sym c.deref-in-Some-stop.ensures.value); own = read.2 } in
     rw (same, c.in-Some-stop.is) (⊎_elim inl (λ (run : PrintsRun (Some c.in-Some-stop.stop.after) c.deref-in-Some-stop.result.now c.play_stopped.result.0 (g.K.Sink.written c.args.sink.now) (g.K.Sink.written c.play_stopped.new.sink)).
     inr (c.deref-in-Some-stop.result.now, said, run)) (c.play_stopped.ensures.prints tells))
 

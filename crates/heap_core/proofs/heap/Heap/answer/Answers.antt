@@ -3,7 +3,7 @@ use Rattle.std.specs.Prelude.{IfOk}
 use Rattle.disk_model.specs.Keeps.{KeepsDisk}
 use Rattle.disk_model.specs.KeepsLaws.{keeps_none}
 use Rattle.gate_slot.specs.Passing.{Passes}
-use Rattle.heap_core.specs.Means.{Remembers}
+use Rattle.heap_core.specs.Means.{Remembers, StepsOn}
 use Rattle.graph_model.specs.declared.event.Event.{Event}
 use Rattle.heap_core.specs.Causes.{reply_device}
 use Rattle.heap_model.specs.Core.{calls}
@@ -32,15 +32,15 @@ returns-in-Some-clause-disk g c =
     subst (KeepsDisk g.D.Disk disk disk) (sym (c.in_ok-reply.ensures.quiet c.in-Some.reply c.in-Some.is)) (keeps_none g.D.Disk disk tt)
 
 pub returns-in-Some-clause-core : goal.returns-in-Some-clause-core
-returns-in-Some-clause-core g c core heap none reached one =
+returns-in-Some-clause-core g c core heap none reached =
     let valid = unfailed_valid core _ heap.memory.failure none reached in
-    memory_steps core c.args.event c.in-Some.reply c.args.self.now.working c.reply_in_memory.new.working c.args.self.now.failed heap.memory none reached one
-    (c.in_ok-reply.ensures.does core (heap.memory.works none) valid one c.in-Some.reply c.in-Some.is)
+    memory_steps core c.args.event c.in-Some.reply c.args.self.now.working c.reply_in_memory.new.working c.args.self.now.failed heap.memory none reached c.requires
+    (c.in_ok-reply.ensures.does core (heap.memory.works none) valid reached.locked c.in-Some.reply c.in-Some.is)
 
 pub returns-in-Some-clause-holds : goal.returns-in-Some-clause-holds
-returns-in-Some-clause-holds g c tells s core heap none reached one =
-    quiet_on s core c.args.event c.in-Some.reply _ _ _ _ (unfailed_valid core _ heap.core.memory.failure none reached) one (c.in_ok-reply.ensures.replied c.in-Some.reply c.in-Some.is)
-    heap.disk (returns-in-Some-clause-core g c core heap.core none reached one)
+returns-in-Some-clause-holds g c tells s core heap none reached =
+    quiet_on s core c.args.event c.in-Some.reply _ _ _ _ (unfailed_valid core _ heap.core.memory.failure none reached) reached.locked c.requires (c.in_ok-reply.ensures.replied c.in-Some.reply c.in-Some.is)
+    heap.disk (returns-in-Some-clause-core g c core heap.core none reached)
 
 pub returns-in-Some-clause-moments : goal.returns-in-Some-clause-moments
 returns-in-Some-clause-moments g c tells s core heap none reached =
@@ -51,6 +51,17 @@ returns-in-Some-clause-moments g c tells s core heap none reached =
 pub returns-in-Some-clause-passes : goal.returns-in-Some-clause-passes
 returns-in-Some-clause-passes g c tells core heap reached none =
     quiet_passes core c.args.event (g.D.Disk.passed c.args.self.now.disk) c.in-Some.reply (c.in_ok-reply.ensures.replied c.in-Some.reply c.in-Some.is)
+
+pub returns-in-None-clause-holds : goal.returns-in-None-clause-holds
+returns-in-None-clause-holds g c tells s core heap none reached =
+    let forced = c.in_ok-reply.ensures.forced c.in-None.is in
+    let image = g.D.Disk.bytes c.force.new.self.disk in
+    let may_leave = g.D.Disk.may_leave c.force.new.self.disk in
+    let P : Event → Type 0 = λ e. IfOk c.force.result (λ reply. StepsOn s core e reply c.force.new.self.working c.force.new.self.failed image may_leave) in
+    subst P (sym forced.0) (c.force.ensures.holds tells s core (record {
+      core = record { history = heap.core.history; before = heap.core.before; memory = subst (λ w. Remembers core w c.args.self.now.failed) (sym forced.1) heap.core.memory };
+      disk = heap.disk;
+    }) none reached)
 
 pub returns-in-None-clause-moments : goal.returns-in-None-clause-moments
 returns-in-None-clause-moments g c tells s core heap none reached =

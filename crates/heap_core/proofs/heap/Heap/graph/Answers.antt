@@ -1,18 +1,16 @@
 use Rattle.std.proofs.Common.{List, ℕ, length, sym, ap, ◌∙◌, subst, arith}
 use Rattle.graph_model.specs.Transaction.{serial}
-use Rattle.graph_model.specs.History.{sealed}
+use Rattle.graph_model.specs.History.{sealed, sessions}
 use Rattle.graph_words.specs.Places.{name_at}
-use Rattle.log_machine.specs.WordsLaws.{length-taken_back}
 use Rattle.object_layout.specs.Layout.{IsSeenAs}
-use Rattle.working_state.specs.Reserve.{active_undo}
 use Rattle.heap_core.proofs.MeansForce.{unfailed_valid}
-use Rattle.heap_core.proofs.MeansGraph.{memory_seen}
+use Rattle.heap_core.proofs.MeansGraph.{memory_seen, length-without_writes}
 use Rattle.heap_core.proofs.heap.Heap.graph.Goals as goal
 
 pub print-requires : goal.print-requires
 print-requires g c =
     let w = c.args.self.now.working in
-    let same = ap (λ (ws : List ℕ). length ws) c.in_ok-words.ensures ∙ length-taken_back (active_undo w.table) w.words in
+    let same = ap (λ (ws : List ℕ). length ws) c.in_ok-words.ensures ∙ length-without_writes w.table sessions w.words in
     omega (arith, same, w.few)
 
 pub returns-clause-text : goal.returns-clause-text
@@ -20,11 +18,11 @@ returns-clause-text g c core heap reached =
     let valid = unfailed_valid core _ heap.memory.failure c.requires.unfailed reached in
     let gr = serial core.g0 (sealed core.history) in
     c.print.ensures.text (name_at core.places) gr
-    (subst (λ (ws : List ℕ). IsSeenAs (name_at core.places) ws 0 gr) (sym c.in_ok-words.ensures) (memory_seen core c.args.self.now.working reached.sound valid (heap.memory.works c.requires.unfailed)))
+    (subst (λ (ws : List ℕ). IsSeenAs (name_at core.places) ws 0 gr) (sym c.in_ok-words.ensures) (memory_seen core c.args.self.now.working reached.sound valid reached.locked (heap.memory.works c.requires.unfailed)))
 
 pub returns-clause-error : goal.returns-clause-error
 returns-clause-error g c core heap reached =
     let valid = unfailed_valid core _ heap.memory.failure c.requires.unfailed reached in
     let gr = serial core.g0 (sealed core.history) in
     c.print.ensures.error (name_at core.places) gr
-    (subst (λ (ws : List ℕ). IsSeenAs (name_at core.places) ws 0 gr) (sym c.in_ok-words.ensures) (memory_seen core c.args.self.now.working reached.sound valid (heap.memory.works c.requires.unfailed)))
+    (subst (λ (ws : List ℕ). IsSeenAs (name_at core.places) ws 0 gr) (sym c.in_ok-words.ensures) (memory_seen core c.args.self.now.working reached.sound valid reached.locked (heap.memory.works c.requires.unfailed)))

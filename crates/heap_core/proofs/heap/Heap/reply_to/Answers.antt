@@ -8,13 +8,13 @@ use Rattle.heap_core.proofs.MeansForce.{failed_steps, failed_on}
 use Rattle.heap_core.proofs.heap.Heap.reply_to.Goals as goal
 
 pub returns-in-Some-clause-core : goal.returns-in-Some-clause-core
-returns-in-Some-clause-core g c core heap reached one =
+returns-in-Some-clause-core g c core heap reached =
     let P : Reply → Type 0 = λ r. Steps core c.args.event r c.args.self.now.working c.args.self.now.failed in
     subst P (sym c.refused.ensures) (failed_steps core c.args.event c.in-Some.entry _ _ heap.memory c.in-Some.is)
 
 pub returns-in-Some-clause-holds : goal.returns-in-Some-clause-holds
-returns-in-Some-clause-holds g c tells s core heap reached one =
-    let steps = returns-in-Some-clause-core g c core heap.core reached one in
+returns-in-Some-clause-holds g c tells s core heap reached =
+    let steps = returns-in-Some-clause-core g c core heap.core reached in
     record { steps = steps; disk = failed_on s core c.args.event _ c.in-Some.entry _ _ _ _ (sym heap.core.memory.failure ∙ c.in-Some.is) heap.disk steps }
 
 pub returns-in-Some-clause-moments : goal.returns-in-Some-clause-moments
@@ -28,10 +28,10 @@ returns-in-Some-clause-passes g c tells core heap reached =
     failed_passes core c.args.event c.in-Some.entry (g.D.Disk.passed c.args.self.now.disk) c.refused.result (sym heap.memory.failure ∙ c.in-Some.is)
 
 pub returns-in-None-clause-core : goal.returns-in-None-clause-core
-returns-in-None-clause-core g c core heap reached one = c.answer.ensures.core core heap c.in-None.is reached one
+returns-in-None-clause-core g c core heap reached = c.answer.ensures.core core heap c.in-None.is reached
 
 pub returns-in-None-clause-holds : goal.returns-in-None-clause-holds
-returns-in-None-clause-holds g c tells s core heap reached one = c.answer.ensures.holds tells s core heap c.in-None.is reached one
+returns-in-None-clause-holds g c tells s core heap reached = c.answer.ensures.holds tells s core heap c.in-None.is reached
 
 pub returns-in-None-clause-moments : goal.returns-in-None-clause-moments
 returns-in-None-clause-moments g c tells s core heap reached = c.answer.ensures.moments tells s core heap c.in-None.is reached

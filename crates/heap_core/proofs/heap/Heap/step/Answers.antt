@@ -9,8 +9,8 @@ use Rattle.heap_core.proofs.MeansForce.{with_history}
 use Rattle.heap_core.proofs.heap.Heap.step.Goals as goal
 
 pub returns-clause-core : goal.returns-clause-core
-returns-clause-core g c core heap reached one =
-    let steps = c.in_ok-reply.ensures.core core (record { history = c.reserve.ensures.same ∙ heap.history; before = heap.before; memory = heap.memory }) reached one in
+returns-clause-core g c core heap reached =
+    let steps = c.in_ok-reply.ensures.core core (record { history = c.reserve.ensures.same ∙ heap.history; before = heap.before; memory = heap.memory }) reached in
     let entry : Entry = record { event = c.args.event; reply = c.in_ok-reply.reply } in (
       steps.next,
       steps.step,
@@ -23,8 +23,8 @@ returns-clause-core g c core heap reached one =
     )
 
 pub returns-clause-holds : goal.returns-clause-holds
-returns-clause-holds g c tells s core heap reached one =
-    let on = c.in_ok-reply.ensures.holds tells s core (record { core = record { history = c.reserve.ensures.same ∙ heap.core.history; before = heap.core.before; memory = heap.core.memory }; disk = heap.disk }) reached one in
+returns-clause-holds g c tells s core heap reached =
+    let on = c.in_ok-reply.ensures.holds tells s core (record { core = record { history = c.reserve.ensures.same ∙ heap.core.history; before = heap.core.before; memory = heap.core.memory }; disk = heap.disk }) reached in
     let steps = on.steps in
     let entry : Entry = record { event = c.args.event; reply = c.in_ok-reply.reply } in (
       steps.next,

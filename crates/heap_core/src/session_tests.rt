@@ -1,0 +1,98 @@
+//! Two sessions side by side, on a disk that is stopped and started again: what the one has sealed is there, and what the other wrote is not.
+use crate::heap::Heap;
+use crate::object_tests::{LOG_BYTES, Step, play};
+use crate::opening_tests::{PICKS, make_disk, open};
+use graph_model::{Event, Refusal, Reply};
+use std::test::Fail;
+
+fn begin(s: u32, n: u64) -> Step {
+    (Event::Begin { s }, Reply::Begun { n })
+}
+
+fn root(s: u32) -> Step {
+    (Event::Root { s, h: 0 }, Reply::Done)
+}
+
+fn new(s: u32, h: u64) -> Step {
+    (Event::New { s, h, len: 1 }, Reply::Done)
+}
+
+fn link(s: u32, i: u64, h2: u64) -> Step {
+    (Event::Link { s, h: 0, i, h2 }, Reply::Done)
+}
+
+fn put(s: u32, h: u64, v: u64, reply: Reply) -> Step {
+    (Event::Put { s, h, i: 0, v }, reply)
+}
+
+fn get(s: u32, h: u64, i: u64, h2: u64, reply: Reply) -> Step {
+    (Event::Get { s, h, i, h2 }, reply)
+}
+
+fn seal(s: u32, n: u64) -> Step {
+    (Event::Seal { s }, Reply::Sealed { n })
+}
+
+/// Transaction 1 makes two objects. Then session 1 writes the first and session 2 the second, and session 2 gives way where it asks for what
+/// session 1 holds, until that is sealed. A force brings the writes of both to the disk.
+fn side_by_side() -> [Step; 21] {
+    let busy = Reply::Refused {
+        why: Refusal::Busy { holder: 2 },
+    };
+    [
+        begin(1, 1),
+        root(1),
+        new(1, 1),
+        new(1, 2),
+        link(1, 0, 1),
+        link(1, 1, 2),
+        seal(1, 1),
+        begin(1, 2),
+        begin(2, 3),
+        root(1),
+        root(2),
+        get(1, 0, 0, 1, Reply::Reference),
+        get(2, 0, 1, 1, Reply::Reference),
+        put(1, 1, 5, Reply::Done),
+        put(2, 1, 6, Reply::Done),
+        get(2, 0, 0, 2, Reply::Reference),
+        get(2, 2, 0, 3, busy),
+        put(2, 0, 9, busy),
+        seal(1, 2),
+        get(2, 2, 0, 3, Reply::Int { v: 5 }),
+        (Event::Force, Reply::Durable { n: 2 }),
+    ]
+}
+
+#[test]
+fn what_the_other_session_wrote_is_taken_back(rt: HostRuntime) -> Result<(), Fail> {
+    let alloc = rt.alloc();
+    for pick in PICKS {
+        let disk = match Heap::format(make_disk(alloc, pick)?, 1, LOG_BYTES, 1) {
+            Ok(disk) => disk,
+            Err((e, _)) => panic!(rt; "not made: {e:?}"),
+        };
+        let disk = play(&rt, alloc, disk, &side_by_side())?;
+        let heap = open(&rt, alloc, disk);
+        assert_eq!(rt; heap.commits(), 2);
+        let graph = b"graph 3\n0: @1 @2 - -\n1: 5\n2: -\n".as_slice();
+        assert_eq!(rt; heap.graph(alloc)?.as_slice(), graph);
+    }
+    Ok(())
+}
+
+#[test]
+fn the_last_session_is_one(rt: HostRuntime) -> Result<(), Fail> {
+    let alloc = rt.alloc();
+    let disk = match Heap::format(make_disk(alloc, PICKS[0])?, 1, LOG_BYTES, 1) {
+        Ok(disk) => disk,
+        Err((e, _)) => panic!(rt; "not made: {e:?}"),
+    };
+    let mut heap = open(&rt, alloc, disk);
+    assert_eq!(rt; heap.step(Event::Begin { s: 32 })?, Reply::Begun { n: 1 });
+    assert!(rt; heap.active(32));
+    for s in [0, 1, 31, 33] {
+        assert!(rt; !heap.active(s));
+    }
+    Ok(())
+}
