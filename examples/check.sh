@@ -90,6 +90,12 @@ example cycle.out cycle.script
 example lost.out lost.script
 example volatile_full.out volatile_full.script
 example exhausted.out exhausted.script
+example conflict.out conflict.script
+example early_read.out early_read.script
+example early_read_stopped.out early_read.script --stop 2
+example losers.out losers.script
+example losers_rolled_back.out losers.script --stop 8
+example losers_stopped_twice.out losers.script --stop 7 --again 2
 made every_stop.out examples/every_stop.sh
 made refused.out examples/refused.sh
 
@@ -113,6 +119,9 @@ quotes README.md first.out --notes
 quotes README.md every_stop.out
 quotes examples/README.md transfer.script
 quotes examples/README.md stopped_twice.out
+quotes examples/README.md conflict.out --from "1 begin -> begun 2"
+quotes examples/README.md early_read.out
+quotes examples/README.md losers_stopped_twice.out --from "1 begin -> begun 2"
 quotes examples/README.md list.out --from "1 begin -> begun 3"
 quotes examples/README.md cycle.out --from "graph 3"
 quotes examples/README.md refused.out

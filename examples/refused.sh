@@ -18,6 +18,11 @@ refused() {
     row "$1" "$2" "$(printf '1 begin\n1 root 0\n%s\n' "$2" | "$heap" play --fresh 1 | sed -n '3s/.*-> //p')"
 }
 
+# locked WHY LINE: plays the line in session 2, whose handle 0 holds the root, into which session 1 has written.
+locked() {
+    row "$1" "$2" "$(printf '1 begin\n1 root 0\n1 put 0 0 7\n2 begin\n2 root 0\n%s\n' "$2" | "$heap" play --fresh 1 | sed -n '6s/.*-> //p')"
+}
+
 bad 'a blank at the end' '1 begin '
 bad 'a blank in front' ' 1 begin'
 bad 'blanks alone' '  '
@@ -26,7 +31,8 @@ bad 'a carriage return' '1 begin\r'
 bad 'a comment' '# transfer'
 bad 'a comment at the end' '1 begin # transfer'
 bad 'a capital letter' '1 Begin'
-bad 'a second session' '2 begin'
+bad 'session 0' '0 begin'
+bad 'a session above 32' '33 begin'
 bad 'a word too few' '1 put 0 0'
 bad 'a sign' '1 put 0 0 -7'
 bad 'more than 20 digits' '1 put 0 0 000000000000000000007'
@@ -39,3 +45,5 @@ refused 'a handle that holds nothing' '1 put 1 0 7'
 refused 'a handle above 63' '1 root 64'
 refused 'a link to nothing' '1 link 0 0 1'
 refused 'too many fields' '1 new 1 511'
+refused 'a session with no begin' '2 root 0'
+locked 'an object that is locked' '2 get 0 0 1'
