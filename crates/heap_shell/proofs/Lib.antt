@@ -1,5 +1,4 @@
 mod Causes
-mod CommandLaws
 mod Counts
 mod Lines
 mod PlayAborts

@@ -1,5 +1,5 @@
 -- How a play tells what a run promises.
-use Rattle.std.proofs.Common.{◌≡◌, ◌≢◌, ◌⊎◌, inl, inr, ⊎_elim, ℕ, ◌+◌, ◌≤◌, min, Bool, List, [], ◌++◌, ◌∷◌, length, take, Option, Some, None, Result, Ok, Err, refl, sym, ap, ◌∙◌, subst, arith, length-append}
+use Rattle.std.proofs.Common.{◌≡◌, ◌≢◌, ◌⊎◌, inl, inr, ⊎_elim, ℕ, ◌+◌, ◌-◌, ◌≤◌, min, Bool, List, [], ◌++◌, ◌∷◌, length, take, Option, Some, None, Result, Ok, Err, refl, sym, ap, ◌∙◌, subst, arith, length-append}
 use Rattle.std.specs.Prelude.{IsTrue}
 use Rattle.std.proofs.lemmas.List.{append-nil, take_all}
 use Rattle.counts.specs.Count.{Rose, counted}
@@ -33,7 +33,7 @@ use Rattle.core_laws.specs.Sound.{reached_agrees}
 use Rattle.commit_order.specs.Heard.{replies_of_commits}
 use Rattle.heap_model.specs.CoreRuns.{after_events, total_calls}
 use Rattle.core_laws.specs.Valid.{IsReached}
-use Rattle.heap_shell.specs.declared.command.Stop.{Stop}
+use Rattle.command_words.specs.declared.commands.Stop.{Stop}
 use Rattle.heap_shell.specs.Headline.{graph_text, end_text, stop_after, let_through, HasMade, StopsLast, IsExact, IsEndOfPlay, MakesEvents, KeepsThroughout, IsFollowed, Reopens, StartsAgain, EndsUnopened, Prints, IsPlayed}
 use Rattle.heap_shell.specs.Playable.{IsPlayable}
 use Rattle.heap_shell.specs.Output.{WroteText, Recovers, WroteRecovered, WroteNothing, status_after}
@@ -43,7 +43,7 @@ use Rattle.heap_shell.proofs.Causes.{disk_rose}
 use Rattle.heap_shell.proofs.Counts.{counted-sum, counted_mono}
 use Rattle.heap_shell.proofs.PlayEvent.{heap_leaves}
 use Rattle.heap_shell.proofs.Lines as lines
-use Rattle.heap_shell.proofs.PlayFuse.{own_steps}
+use Rattle.heap_shell.proofs.PlayFuse.{rose_some, own_steps}
 use Rattle.heap_shell.proofs.PlayLaws.{ends_makes}
 use Rattle.heap_shell.proofs.Statuses.{written_end, wrote_all}
 use Rattle.heap_shell.proofs.Written.{whole_front, wrote_some}
@@ -118,13 +118,14 @@ module _ {D : Type 0} {g : Ghosts D} (s : Super) (c : Core) (running : IsRunning
       makes
 
   -- What a crash leaves of the heap's own disk since it was opened.
-  abbrev pub keeps_own : IsTrue g.tells → (start : D) → ((disk : D) (image : List ℕ) → g.left_since disk (g.moment disk) image → g.may_leave disk image) → LeavesOnly g.moment g.left_since start old.disk (KeepsCommits c)
-      → ((image : List ℕ) → g.may_leave old.disk image → KeepsCommits c image) → g.passed old.disk ≡ g.passed start → g.restarts old.disk ≡ g.restarts start → KeepsThroughout g None c made core start new.disk
-  keeps_own tells start now opening here passed restarts = record {
+  abbrev pub keeps_own : IsTrue g.tells → (at_opening : ℕ) (start : D) → ((disk : D) (image : List ℕ) → g.left_since disk (g.moment disk) image → g.may_leave disk image) → LeavesOnly g.moment g.left_since start old.disk (KeepsCommits c)
+      → ((image : List ℕ) → g.may_leave old.disk image → KeepsCommits c image) → g.passed old.disk ≡ counted at_opening (g.passed start) → g.restarts old.disk ≡ g.restarts start → KeepsThroughout g None at_opening c made core start new.disk
+  keeps_own tells at_opening start now opening here passed restarts = record {
     opened = old.disk;
     opening = opening;
     here = here;
-    passed = passed;
+    passed = λ u some. passed;
+    few = omega (arith, passed);
     restarts = restarts;
     stopped = new.disk;
     steps = own_steps g start new.disk tells c core old.disk new.disk made plays.steps;
@@ -133,20 +134,22 @@ module _ {D : Type 0} {g : Ghosts D} (s : Super) (c : Core) (running : IsRunning
   }
 
   -- the events that were made, as a run tells them
-  abbrev pub events_made : (stop : Option ℕ) (by : Status) (unharmed : Type 0) → (by ≡ status.Done → HasMade stop c made plays.behind core) → (unharmed → IsExact stop c made core) → MakesEvents stop c events by unharmed
-  events_made stop by unharmed done place = record { made = made; behind = plays.behind; parts = plays.parts; core = core; last = last_made; done = done; exact = place }
+  abbrev pub events_made : (stop : Option ℕ) (at_opening : ℕ) (by : Status) (unharmed : Type 0) → (by ≡ status.Done → HasMade stop c made plays.behind core) → (unharmed → IsExact stop at_opening c made core) → MakesEvents stop at_opening c events by unharmed
+  events_made stop at_opening by unharmed done place = record { made = made; behind = plays.behind; parts = plays.parts; core = core; last = last_made; done = λ is. inl (done is); exact = place }
 
   -- The disk that was handed in, at the start and at the end, what a crash left of it, and how many calls it has let through.
-  module _ {B : Type 0} (h : Ghosts B) (start final : B) (stop : Option Stop) (keeps : KeepsThroughout h (stop_after stop) c made core start final)
-      (calls : Unharmed h start final → h.passed keeps.stopped ≡ counted (let_through (stop_after stop) (total_calls c made)) (h.passed start)) (few_calls : h.passed keeps.stopped ≤ counted (let_through (stop_after stop) (total_calls c made)) (h.passed start)) where
+  module _ {B : Type 0} (h : Ghosts B) (start final : B) (stop : Option Stop) (at_opening : ℕ) (keeps : KeepsThroughout h (stop_after stop) at_opening c made core start final)
+      (calls : Unharmed h start final → h.passed keeps.stopped ≡ counted (let_through (stop_after stop) (at_opening + total_calls c made)) (h.passed start)) (few_calls : h.passed keeps.stopped ≤ counted (let_through (stop_after stop) (at_opening + total_calls c made)) (h.passed start)) where
     -- The play ended before more than lines were to be written.
     pub ends_early : (by : Status) → IsEndOfPlay by → (by ≡ status.Done → ⊥) → (IsTrue told → WroteFront before (lines_text core.history) after × WroteLines before core.history after)
         → (IsTrue told → by ≡ status.DiskFault → after ≡ before ++ lines_text core.history)
-        → (Unharmed h start final → IsExact (stop_after stop) c made core) → IsFollowed h stop core all keeps.stopped final by (IsTrue told → WroteFront before (lines_text core.history) after)
-        → IsPlayed h stop c events start final by told before after
+        → (Unharmed h start final → IsExact (stop_after stop) at_opening c made core) → IsFollowed h stop core all keeps.stopped final by (IsTrue told → WroteFront before (lines_text core.history) after)
+        → IsPlayed h stop at_opening c events start final by told before after
     ends_early by is_end not_done part whole place follows = record {
-      run = events_made (stop_after stop) by (Unharmed h start final) (λ is. absurd (not_done is)) place;
+      run = events_made (stop_after stop) at_opening by (Unharmed h start final) (λ is. absurd (not_done is)) place;
       disk = keeps;
+      counts = at_opening;
+      opens = inl refl;
       calls = calls;
       most = few_calls;
       replies = replies;
@@ -162,16 +165,18 @@ module _ {D : Type 0} {g : Ghosts D} (s : Super) (c : Core) (running : IsRunning
     }
 
   -- The graph of all commits was to be written.
-  pub ends_whole : {B : Type 0} (h : Ghosts B) (start final : B) (keeps : KeepsThroughout h None c made core start final) (output : Result (Unit {0}) WriteError) (after' : List ℕ) → plays.behind ≡ [] → IsWhole c made core
+  pub ends_whole : {B : Type 0} (h : Ghosts B) (start final : B) (at_opening : ℕ) (keeps : KeepsThroughout h None at_opening c made core start final) (output : Result (Unit {0}) WriteError) (after' : List ℕ) → plays.behind ≡ [] → IsWhole c made core
       → (IsTrue told → after ≡ before ++ lines_text core.history) → (IsTrue told → WroteText output after (graph_text (serial core.g0 (sealed core.history))) after') → final ≡ keeps.stopped
-      → h.passed keeps.stopped ≡ counted (total_calls c made) (h.passed start) → IsPlayed h None c events start final (status_after output) told before after'
-  ends_whole h start final keeps output after' nothing reached out wrote same calls =
+      → h.passed keeps.stopped ≡ counted (at_opening + total_calls c made) (h.passed start) → IsPlayed h None at_opening c events start final (status_after output) told before after'
+  ends_whole h start final at_opening keeps output after' nothing reached out wrote same calls =
       let P : List ℕ → Type 0 = λ text. WroteText output after text after' in
       let full = λ (t : IsTrue told). subst P all_graph (wrote t) in
       let text = graph_text (serial core.g0 (take all (commits core.history))) in
       record {
-        run = events_made None (status_after output) (Unharmed h start final) (λ is. (nothing, reached)) (λ u. reached);
+        run = events_made None at_opening (status_after output) (Unharmed h start final) (λ is. (nothing, reached)) (λ u. reached);
         disk = keeps;
+        counts = at_opening;
+        opens = inl refl;
         calls = λ u. calls;
         most = omega (arith, calls);
         replies = replies;
@@ -187,8 +192,8 @@ module _ {D : Type 0} {g : Ghosts D} (s : Super) (c : Core) (running : IsRunning
       }
 
   -- The heap was to be opened again, and what came back to be written.
-  module _ {B : Type 0} (h : Ghosts B) (start final : B) (stop : Stop) (keeps : KeepsThroughout h (Some stop.after) c made core start final)
-      (calls : Unharmed h start final → h.passed keeps.stopped ≡ counted (min stop.after (total_calls c made)) (h.passed start)) (few_calls : h.passed keeps.stopped ≤ counted (min stop.after (total_calls c made)) (h.passed start)) where
+  module _ {B : Type 0} (h : Ghosts B) (start final : B) (stop : Stop) (at_opening : ℕ) (keeps : KeepsThroughout h (Some stop.after) at_opening c made core start final)
+      (calls : Unharmed h start final → h.passed keeps.stopped ≡ counted (min stop.after (at_opening + total_calls c made)) (h.passed start)) (few_calls : h.passed keeps.stopped ≤ counted (min stop.after (at_opening + total_calls c made)) (h.passed start)) where
     abbrev opens : ℕ → Type 0
     opens k = StartsAgain h stop.again core k (Reopens h core k) keeps.stopped final
 
@@ -219,10 +224,12 @@ module _ {D : Type 0} {g : Ghosts D} (s : Super) (c : Core) (running : IsRunning
                 (lines.lines_more core.history before after after' [] (out t) (nothing.nothing t ∙ sym (append-nil after))) (λ is. out_after t);
           }
 
-      pub ends_recovered : HasMade (Some stop.after) c made plays.behind core → (Unharmed h start final → IsExact (Some stop.after) c made core) → IsPlayed h (Some stop) c events start final by told before after'
+      pub ends_recovered : HasMade (Some stop.after) c made plays.behind core → (Unharmed h start final → IsExact (Some stop.after) at_opening c made core) → IsPlayed h (Some stop) at_opening c events start final by told before after'
       ends_recovered has place = record {
-        run = events_made (Some stop.after) by (Unharmed h start final) (λ is. has) place;
+        run = events_made (Some stop.after) at_opening by (Unharmed h start final) (λ is. has) place;
         disk = keeps;
+        counts = at_opening;
+        opens = inl refl;
         calls = calls;
         most = few_calls;
         replies = replies;
@@ -262,7 +269,7 @@ module _ {D : Type 0} {g : Ghosts D} (s : Super) (c : Core) (running : IsRunning
         (λ (is : reply ≡ Refused Stopped). disk_rose _ _ _ _ (reply_device reply) device.Stopped short.cause (ap reply_device is))
         short.cut.told
 
-    pub exact_none : IsExact None c made core
+    pub exact_none : IsWhole c made core
     exact_none = ⊎_elim
         (λ (all : MakesAll c made core old new). all.reached)
         (λ (some : (reply : Reply) × MakesShort c made core old new reply). absurd (unharmed (short_harm some.0 some.1)))
@@ -275,57 +282,59 @@ module _ {D : Type 0} {g : Ghosts D} (s : Super) (c : Core) (running : IsRunning
         (λ (some : (reply : Reply) × MakesShort c made core old new reply). absurd (unharmed (short_harm some.0 some.1)))
         makes
 
-  -- So it was where no more than a limit was to be let through.
-  pub passes_within : (n : ℕ) → g.passed old.disk ≡ 0 → g.passed new.disk ≤ n → g.passed new.disk ≤ min n (total_calls c made)
-  passes_within n none within =
-      let all = subst (λ (k : ℕ). g.passed new.disk ≤ counted (total_calls c made) k) none passes_most in
-      let sum = counted-sum (total_calls c made) 0 (omega (arith, few)) in
+  -- So it was where no more than a limit was to be let through, and some had been let through before.
+  pub passes_within : (n p : ℕ) → p ≤ 4 → g.passed old.disk ≡ p → g.passed new.disk ≤ n → g.passed new.disk ≤ min n (p + total_calls c made)
+  passes_within n p few_before begun within =
+      let all = subst (λ (k : ℕ). g.passed new.disk ≤ counted (total_calls c made) k) begun passes_most in
+      let sum = counted-sum (total_calls c made) p (omega (arith, few, few_before)) in
       omega (arith, all, sum, within)
 
   -- The disk does what it is asked up to a limit.
-  module _ (n : ℕ) (none : g.passed old.disk ≡ 0) (still : g.stops old.disk ≡ 0) (within : g.passed new.disk ≤ n) (at : g.stops new.disk ≢ 0 → g.passed new.disk ≡ n) (unharmed : Rose (g.faults old.disk) (g.faults new.disk) → ⊥) where
-    passes_all : MakesAll c made core old new → g.passed new.disk ≡ total_calls c made
+  module _ (n p : ℕ) (few_before : p ≤ 4) (begun : g.passed old.disk ≡ p) (within : g.passed new.disk ≤ n) (at : g.stops new.disk ≢ 0 → g.passed new.disk ≡ n) (unharmed : Rose (g.faults old.disk) (g.faults new.disk) → ⊥) where
+    passes_all : MakesAll c made core old new → g.passed new.disk ≡ p + total_calls c made
     passes_all all =
-        all.passes ∙ ap (counted (total_calls c made)) none ∙ counted-sum (total_calls c made) 0 (omega (arith, few)) ∙ omega arith
+        all.passes ∙ ap (counted (total_calls c made)) begun ∙ counted-sum (total_calls c made) p (omega (arith, few, few_before)) ∙ omega arith
 
     module _ (reply : Reply) (short : MakesShort c made core old new reply) where
       is_stopped : reply ≡ Refused Stopped
       is_stopped = ⊎_elim (λ (is : reply ≡ Refused DiskFault). absurd (unharmed (short.cause.failed (ap reply_device is)))) (λ (is : reply ≡ Refused Stopped). is) short.cut.told
 
       has_stopped : g.stops new.disk ≢ 0
-      has_stopped none_yet = elim (short.cause.stopped (ap reply_device is_stopped)) [ inl up ↦ omega arith | inr full ↦ omega arith ]
+      has_stopped = rose_some (g.stops old.disk) (g.stops new.disk) short.cause.stops_kept (short.cause.stopped (ap reply_device is_stopped))
 
       total : total_calls c made ≡ total_calls c short.before + total_calls (after_events c short.before) (short.event ∷ [])
       total = total_of reply short
 
-      here : n ≡ total_calls c short.before + (short.passes is_stopped).0
+      here : n ≡ p + (total_calls c short.before + (short.passes is_stopped).0)
       here =
           let passes = short.passes is_stopped in
-          sym (at has_stopped) ∙ passes.2 ∙ ap (counted (total_calls c short.before + passes.0)) none
-          ∙ counted-sum (total_calls c short.before + passes.0) 0 (omega (arith, few, total, passes.1)) ∙ omega arith
+          sym (at has_stopped) ∙ passes.2 ∙ ap (counted (total_calls c short.before + passes.0)) begun
+          ∙ counted-sum (total_calls c short.before + passes.0) p (omega (arith, few, few_before, total, passes.1)) ∙ omega arith
 
-      stopped_last : StopsLast n c made core
+      stopped_last : (p ≤ n) × StopsLast (n - p) c made core
       stopped_last =
           let below = (short.passes is_stopped).1 in
-          let place = here in
-          record {
-            at = record { before = short.before; event = short.event; behind = []; parts = short.parts; made = omega arith; short = omega arith };
-            last = refl;
-            reached = short.reached ∙ ap (λ (r : Reply). with_entry (after_events c short.before) short.event r) is_stopped;
-          }
+          let place = here in (
+            omega arith,
+            record {
+              at = record { before = short.before; event = short.event; behind = []; parts = short.parts; made = omega arith; short = omega arith };
+              last = refl;
+              reached = short.reached ∙ ap (λ (r : Reply). with_entry (after_events c short.before) short.event r) is_stopped;
+            },
+          )
 
-      passes_few : g.passed new.disk ≡ min n (total_calls c made)
+      passes_few : g.passed new.disk ≡ min n (p + total_calls c made)
       passes_few = omega (arith, at has_stopped, here, total, (short.passes is_stopped).1)
 
     -- It stops in the event that has more calls than are left.
-    pub exact_some : IsExact (Some n) c made core
+    pub exact_some : IsExact (Some n) p c made core
     exact_some = ⊎_elim
         (λ (all : MakesAll c made core old new). inl (all.reached, omega (arith, passes_all all)))
-        (λ (some : (reply : Reply) × MakesShort c made core old new reply). inr (stopped_last some.0 some.1))
+        (λ (some : (reply : Reply) × MakesShort c made core old new reply). inr (inl (stopped_last some.0 some.1)))
         makes
 
     -- It lets through the calls of all events, or as many as it was to.
-    pub passes_some : g.passed new.disk ≡ min n (total_calls c made)
+    pub passes_some : g.passed new.disk ≡ min n (p + total_calls c made)
     passes_some = ⊎_elim
         (λ (all : MakesAll c made core old new). omega (arith, passes_all all))
         (λ (some : (reply : Reply) × MakesShort c made core old new reply). passes_few some.0 some.1)

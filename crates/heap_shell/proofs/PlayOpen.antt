@@ -1,15 +1,14 @@
 -- A play opens the heap that was made for it.
-use Rattle.std.proofs.Common.{◌≡◌, inl, inr, ⊎_elim, ℕ, Bool, false, List, [], ◌++◌, Option, Some, None, Result, Ok, refl, sym, ap, ◌∙◌, subst, arith}
+use Rattle.std.proofs.Common.{◌≡◌, ◌≢◌, inl, inr, ⊎_elim, ℕ, ◌+◌, ◌<◌, ◌≤◌, min, Bool, false, true, List, [], ◌∷◌, ◌++◌, take, Option, Some, None, Result, Ok, refl, sym, ap, ◌∙◌, subst, arith}
+use Rattle.std.proofs.lemmas.Bool.{cases_lt}
 use Rattle.std.specs.Prelude.{◌⊎◌, IsTrue}
 use Rattle.std.proofs.lemmas.List.{append-nil}
 use Rattle.disk_model.specs.declared.disk.Disk.{Ghosts}
-use Rattle.disk_model.specs.declared.disk.DiskError.{DiskError}
 use Rattle.disk_model.specs.Moments.{LeavesOnly, begins, joined, weaker}
-use Rattle.gate_slot.specs.Passing.{Passes}
 use Rattle.graph_model.specs.declared.event.Event.{Event}
 use Rattle.graph_model.specs.Graph.{Graph, new_graph}
 use Rattle.graph_model.specs.History.{account}
-use Rattle.heap_core.specs.Causes.{IsFromOutside, ErrorPasses, error_device}
+use Rattle.heap_core.specs.Causes.{IsFromOutside}
 use Rattle.heap_core.specs.declared.errors.OpenError.{OpenError}
 use Rattle.heap_core.specs.declared.errors.OpenError.TheVariants as opening
 use Rattle.heap_model.specs.Core.{Core}
@@ -17,13 +16,19 @@ use Rattle.heap_shell.specs.declared.status.Status.{Status}
 use Rattle.heap_shell.specs.declared.status.Status.TheVariants.{Done}
 use Rattle.heap_model.specs.CoreCrash.{KeepsCommits}
 use Rattle.heap_model.specs.CoreLawsNew.{root_place, new_legal, new_found}
+use Rattle.heap_shell.specs.Stored.{IsStored, stored_core, stored_calls}
 use Rattle.core_laws.specs.Opened.{opened_reached}
 use Rattle.heap_model.specs.CoreLawsOpened.{address_found, opened_keeps}
 use Rattle.heap_shell.specs.CoreLawsPlay.{running_after, all_playable}
 use Rattle.heap_model.specs.CoreRuns.{after_events}
 use Rattle.heap_model.specs.Ending.{all_events}
-use Rattle.heap_shell.specs.declared.command.Stop.{Stop}
-use Rattle.heap_shell.specs.Headline.{made_super, made_core, end_text, stop_after, let_through, IsExact, IsEndOfPlay, EndsUnopened, IsFollowed, IsPlayed}
+use Rattle.command_words.specs.declared.commands.Stop.{Stop}
+use Rattle.heap_shell.specs.Headline.{IsOpened, made_super, end_text, stop_after, let_through, IsExact, CountsOpening, IsEndOfPlay, StartsAgain, Reopens, EndsUnopened, IsFollowed, Prints, IsPlayed}
+use Rattle.heap_shell.specs.Causes.{Unharmed}
+use Rattle.heap_shell.specs.Output.{Recovers, WroteRecovered, WroteNothing}
+use Rattle.heap_shell.proofs.Counts.{counted_mono}
+use Rattle.heap_shell.proofs.Lines.{some_writes, all_writes, lines_more}
+use Rattle.graph_model.specs.Transaction.{serial}
 use Rattle.heap_shell.specs.Playable.{IsScript}
 use Rattle.heap_model.specs.Image.{IsShapedLog, IsLegal}
 use Rattle.counts.specs.Count.{counted}
@@ -43,28 +48,32 @@ use Rattle.script_text.specs.Line.{events}
 use Rattle.heap_shell.specs.Play.{IsRunning, PlaysCore, WroteFront}
 use Rattle.heap_shell.specs.StatusOf.{open_status}
 use Rattle.heap_shell.proofs.Statuses.{open_end, open_not_done}
-use Rattle.heap_shell.proofs.Written.{none_written}
+use Rattle.heap_shell.proofs.Written.{none_written, whole_front}
 
--- an image that holds a new heap has its commits, of which there are none
-pub new_image : (pages : ℕ) (image : List ℕ) → IsLegal (made_super pages) [] image → KeepsCommits (made_core pages) image
-new_image pages image legal =
+-- A new heap, as one that is there.
+pub new_stored : (pages : ℕ) (image : List ℕ) → IsLegal (made_super pages) [] image → IsStored image
+new_stored pages image legal =
     let limits = legal.log.shaped.limits in
-    opened_keeps (made_super pages) [] (new_legal (made_super pages) limits) root_place new_graph (new_found (made_super pages) limits) image (inl legal.held)
+    record {
+      super = made_super pages;
+      batches = [];
+      legal = record { log = new_legal (made_super pages) limits; held = legal.held };
+      places = root_place;
+      graph = new_graph;
+      found = new_found (made_super pages) limits;
+    }
 
--- the heap of such an image is that of an empty log
-abbrev pub empty_image : (pages : ℕ) (image : List ℕ) → IsLegal (made_super pages) [] image → IsLegal (made_super pages) [] image
-empty_image pages image legal = record { log = new_legal (made_super pages) legal.log.shaped.limits; held = legal.held }
-
--- in a new heap there is nothing to be taken back
-pub no_rollback : (s : Super) → rollback_of s [] ≡ []
-no_rollback s = ap abort_each (entries_empty (List UndoEntry))
-
+-- in a new heap there is nothing to be taken back, so its opening makes no write and no sync
 pub no_calls : (s : Super) → opening_calls s [] ≡ 0
-no_calls s = ap force_calls (no_rollback s)
+no_calls s = ap force_calls (ap abort_each (entries_empty (List UndoEntry)))
 
--- so its opening makes no write and no sync
-pub new_passes : (s : Super) (before now : ℕ) → now ≡ counted (opening_calls s []) before → now ≡ before
-new_passes s before now passed = passed ∙ ap (λ (n : ℕ). counted n before) (no_calls s)
+-- no opening makes more than four
+pub few_calls : (s : Super) (batches : List (List Record)) → opening_calls s batches ≤ 4
+few_calls s batches = few_forced (rollback_of s batches)
+  where
+    few_forced : (rs : List Record) → force_calls rs ≤ 4
+    few_forced [] = omega arith
+    few_forced (r ∷ rs) = omega arith
 
 -- two runs, of which the second leaves what the first may leave too
 pub opening_then : {D : Type 0} (moment : D → ℕ) (left_since : D → ℕ → List ℕ → Type 0) (old mid new : D) (first all : List ℕ → Type 0) → LeavesOnly moment left_since old mid first → LeavesOnly moment left_since mid new all
@@ -72,15 +81,13 @@ pub opening_then : {D : Type 0} (moment : D → ℕ) (left_since : D → ℕ →
 opening_then moment left_since old mid new first all before behind implies =
     weaker moment left_since old new (λ image. first image ⊎ all image) all (joined moment left_since old mid new first all before behind) (λ image either. ⊎_elim (implies image) (λ p. p) either)
 
-no_passes : (n before now : ℕ) (answer : Result (Unit {0}) DiskError) → n ≡ 0 → Passes n before now answer → now ≡ before
-no_passes n before now answer none passes =
-    let some = passes.some in
-    let zero_calls : some.0 ≡ 0 = omega (arith, none, some.1) in
-    some.2 ∙ ap (λ (k : ℕ). counted k before) zero_calls
-
-nothing_exact : (stop : Option ℕ) (c : Core) → IsExact stop c [] c
-nothing_exact None c = refl
-nothing_exact (Some n) c = inl (refl, omega arith)
+-- An opening that makes no event is exact: the disk stopped in it, or was to stop behind it.
+exact_unopened : (stop : Option ℕ) (at_opening : ℕ) (c : Core) → IsExact stop at_opening c [] c
+exact_unopened None at_opening c = refl
+exact_unopened (Some n) at_opening c = ⊎_elim
+    (λ (less : n < at_opening). inr (inr (less, refl)))
+    (λ (most : at_opening ≤ n). inl (refl, omega arith))
+    (cases_lt n at_opening)
 
 -- the disk was not started again
 pub unstarted : {D : Type 0} (g : Ghosts D) (again : Option ℕ) (c : Core) (k : ℕ) (disk : D) (by : Status) → EndsUnopened g again c k disk disk by
@@ -91,76 +98,152 @@ nothing_follows : {D : Type 0} (g : Ghosts D) (stop : Option Stop) (c : Core) (d
 nothing_follows g None c disk by told before early = refl
 nothing_follows g (Some stop) c disk by told before early = inr (unstarted g stop.again c 0 disk by, early, λ t. none_written before [])
 
--- an opening that writes nothing makes no call that passes, whatever its error
-pub error_passes : (n before now : ℕ) (e : OpenError) → n ≡ 0 → ErrorPasses n before now e → now ≡ before
-error_passes n before now opening.NoMemory none passes = passes
-error_passes n before now opening.NotHeap none passes = no_passes n before now (error_device opening.NotHeap) none passes
-error_passes n before now (opening.Damaged at) none passes = no_passes n before now (error_device (opening.Damaged at)) none passes
-error_passes n before now opening.DiskFault none passes = no_passes n before now (error_device opening.DiskFault) none passes
-error_passes n before now opening.Stopped none passes = no_passes n before now (error_device opening.Stopped) none passes
-
--- the calls of no events are none
+-- it lets through no call where it makes none
 none_through : (stop : Option ℕ) → let_through stop 0 ≡ 0
 none_through None = refl
 none_through (Some n) = omega arith
 
--- The heap was not opened: no event was made, and nothing was written.
-pub ends_unopened : {D : Type 0} (g : Ghosts D) (pages : ℕ) (stop : Option Stop) (events : List Event) (e : OpenError) (by : Status) (start final : D) (told : Bool) (before : List ℕ) → by ≡ open_status e → IsFromOutside e
-    → LeavesOnly g.moment g.left_since start final (KeepsCommits (made_core pages)) → ((image : List ℕ) → g.may_leave final image → KeepsCommits (made_core pages) image)
-    → ((image : List ℕ) → g.left_since final (g.moment final) image → g.may_leave final image) → g.passed final ≡ g.passed start → g.restarts final ≡ g.restarts start
-    → IsPlayed g stop (made_core pages) events start final by told before before
-ends_unopened g pages stop events e by start final told before is outside moments left now still restarts =
-    let early = λ (done : by ≡ Done). open_not_done e (sym is ∙ done) in
-    let nothing : before ≡ before ++ [] = sym (append-nil before) in
-    let none : g.passed final ≡ counted (let_through (stop_after stop) 0) (g.passed start) = still ∙ ap (λ (n : ℕ). counted n (g.passed start)) (sym (none_through (stop_after stop))) in
-    record {
-      run = record { made = []; behind = events; parts = refl; core = made_core pages; last = inl refl; done = λ done. absurd (early done); exact = λ u. nothing_exact (stop_after stop) (made_core pages) };
-      disk = record {
-        opened = final;
-        opening = moments;
-        here = left;
-        passed = still;
-        restarts = restarts;
-        stopped = final;
-        steps = (refl, refl);
-        rest = begins g.moment g.left_since final (KeepsCommits (made_core pages)) (λ image since. left image (now image since));
-        kept = left;
-      };
-      calls = λ u. none;
-      most = omega (arith, none);
-      replies = refl;
-      prints = record {
-        count = 0;
-        least = omega arith;
-        most = omega arith;
-        all = λ none. refl;
-        behind = nothing_follows g stop (made_core pages) final by told before early;
-        written = λ t. record {
-          front = none_written before (end_text (stop_after stop) 0 new_graph);
-          lines = ([], [], [], refl, omega arith, sym (append-nil (before ++ []) ∙ append-nil before));
-          fault = λ fault. ([], sym (append-nil (before ++ []) ∙ append-nil before));
-          whole = λ done. absurd (early done);
+-- The calls of an opening that failed: none where memory was refused, and else the disk failed in it.
+unopened_calls : (stop : Option ℕ) (at_opening before now : ℕ) (unharmed : Type 0) (e : OpenError) (by : Status) → by ≡ open_status e → IsFromOutside e → (e ≡ opening.NoMemory → now ≡ before) → (e ≢ opening.NoMemory → unharmed → ⊥)
+    → (counts : ℕ) × CountsOpening at_opening by [] counts × (unharmed → now ≡ counted (let_through stop (counts + 0)) before)
+unopened_calls stop at_opening before now unharmed opening.NoMemory by is outside same harm = (0, inr (is, refl, refl), λ u. same refl ∙ ap (λ (n : ℕ). counted n before) (sym (none_through stop)))
+unopened_calls stop at_opening before now unharmed opening.NotHeap by is outside same harm = absurd outside
+unopened_calls stop at_opening before now unharmed (opening.Damaged at) by is outside same harm = absurd outside
+unopened_calls stop at_opening before now unharmed opening.DiskFault by is outside same harm = (at_opening, inl refl, λ u. absurd (harm (λ other. cc) u))
+unopened_calls stop at_opening before now unharmed opening.Stopped by is outside same harm = (at_opening, inl refl, λ u. absurd (harm (λ other. cc) u))
+
+module _ {D : Type 0} (g : Ghosts D) {bytes : List ℕ} (stored : IsStored bytes) where
+  abbrev c : Core
+  c = stored_core stored
+
+  abbrev n : ℕ
+  n = stored_calls stored
+
+  -- a heap that is there runs when it is opened
+  pub stored_running : IsRunning c
+  stored_running = record { reached = opened_reached stored.super stored.batches stored.legal.log.shaped true stored.places stored.graph stored.found; unfailed = refl }
+
+  -- an opening of its image leaves one of its first commits
+  pub stored_keeps : (image : List ℕ) → IsLeftByOpening stored.super stored.batches image → KeepsCommits c image
+  stored_keeps image left = opened_keeps stored.super stored.batches stored.legal.log stored.places stored.graph stored.found image left
+
+  -- so it does at each moment
+  pub stored_moments : (old new : D) → LeavesOnly g.moment g.left_since old new (IsLeftByOpening stored.super stored.batches) → LeavesOnly g.moment g.left_since old new (KeepsCommits c)
+  stored_moments old new moments = weaker g.moment g.left_since old new (IsLeftByOpening stored.super stored.batches) (KeepsCommits c) moments stored_keeps
+
+  -- The heap was not opened: no event was made, and nothing was written.
+  pub ends_unopened : (stop : Option Stop) (events : List Event) (e : OpenError) (by : Status) (start final : D) (told : Bool) (before : List ℕ) → by ≡ open_status e → IsFromOutside e
+      → LeavesOnly g.moment g.left_since start final (KeepsCommits c) → ((image : List ℕ) → g.may_leave final image → KeepsCommits c image)
+      → ((image : List ℕ) → g.left_since final (g.moment final) image → g.may_leave final image) → g.restarts final ≡ g.restarts start
+      → (e ≡ opening.NoMemory → g.passed final ≡ g.passed start) → (e ≢ opening.NoMemory → Unharmed g start final → ⊥)
+      → g.passed final ≤ counted n (g.passed start) → g.passed final ≤ counted (let_through (stop_after stop) (n + 0)) (g.passed start)
+      → IsPlayed g stop n c events start final by told before before
+  ends_unopened stop events e by start final told before is outside moments left now restarts same harm few most =
+      let early = λ (done : by ≡ Done). open_not_done e (sym is ∙ done) in
+      let calls = unopened_calls (stop_after stop) n (g.passed start) (g.passed final) (Unharmed g start final) e by is outside same harm in
+      record {
+        run = record { made = []; behind = events; parts = refl; core = c; last = inl refl; done = λ done. absurd (early done); exact = λ u. exact_unopened (stop_after stop) n c };
+        disk = record {
+          opened = final;
+          opening = moments;
+          here = left;
+          passed = λ u some. absurd (some refl);
+          few = few;
+          restarts = restarts;
+          stopped = final;
+          steps = (refl, refl);
+          rest = begins g.moment g.left_since final (KeepsCommits c) (λ image since. left image (now image since));
+          kept = left;
         };
-      };
-      end = subst IsEndOfPlay (sym is) (open_end e outside);
+        counts = calls.0;
+        opens = calls.1;
+        calls = calls.2;
+        most = most;
+        replies = refl;
+        prints = record {
+          count = 0;
+          least = omega arith;
+          most = omega arith;
+          all = λ none. refl;
+          behind = nothing_follows g stop c final by told before early;
+          written = λ t. record {
+            front = none_written before (end_text (stop_after stop) 0 stored.graph);
+            lines = ([], [], [], refl, omega arith, sym (append-nil (before ++ []) ∙ append-nil before));
+            fault = λ fault. ([], sym (append-nil (before ++ []) ∙ append-nil before));
+            whole = λ done. absurd (early done);
+          };
+        };
+        end = subst IsEndOfPlay (sym is) (open_end e outside);
+      }
+
+  -- The disk behind the last event was started again, and what came back printed, or nothing was.
+  module _ (stop : Stop) (stopped final : D) (k : ℕ) (by : Status) (told : Bool) (before after : List ℕ) where
+    abbrev opens : Type 0
+    opens = StartsAgain g stop.again c k (Reopens g c k) stopped final
+
+    abbrev fails : Type 0
+    fails = EndsUnopened g stop.again c k stopped final by
+
+    found_unplayed : 0 ≤ k → k ≤ 0 → WroteRecovered c k opens by told before after → Prints g (Some stop) c stopped final by told before after
+    found_unplayed least most found = record {
+      count = k;
+      least = least;
+      most = most;
+      all = λ none. cc;
+      behind = inl found.opened;
+      written = λ t. all_writes [] before before by (end_text (Some stop.after) k (serial stored.graph (take k []))) after (sym (append-nil before)) (found.written t) (found.whole t);
     }
 
--- an opening of a new heap's image leaves an image of a new heap
-pub opened_commits : (pages : ℕ) (bytes : List ℕ) → IsLegal (made_super pages) [] bytes → (image : List ℕ) → IsLeftByOpening (made_super pages) [] image → KeepsCommits (made_core pages) image
-opened_commits pages bytes legal image left =
-    let limits = legal.log.shaped.limits in
-    opened_keeps (made_super pages) [] (new_legal (made_super pages) limits) root_place new_graph (new_found (made_super pages) limits) image left
+    nothing_unplayed : 0 ≤ k → k ≤ 0 → WroteNothing fails by told before after → Prints g (Some stop) c stopped final by told before after
+    nothing_unplayed least most nothing =
+        let out = λ (t : IsTrue told). nothing.nothing t ∙ sym (append-nil before) in
+        record {
+          count = k;
+          least = least;
+          most = most;
+          all = λ none. cc;
+          behind = inr (nothing.failed, nothing.early, λ t. whole_front before [] after (out t));
+          written = λ t. some_writes [] before after by (end_text (Some stop.after) k (serial stored.graph (take k []))) after nothing.early (whole_front before [] after (out t))
+              (lines_more [] before before after [] (sym (append-nil before)) (out t)) (λ is. out t);
+        }
 
--- so it does at each moment
-pub opening_keeps : {D : Type 0} (moment : D → ℕ) (left_since : D → ℕ → List ℕ → Type 0) (old new : D) (pages : ℕ) (bytes : List ℕ) (legal : IsLegal (made_super pages) [] bytes)
-    → LeavesOnly moment left_since old new (IsLeftByOpening (made_super pages) []) → LeavesOnly moment left_since old new (KeepsCommits (made_core pages))
-opening_keeps moment left_since old new pages bytes legal opened =
-    weaker moment left_since old new (IsLeftByOpening (made_super pages) []) (KeepsCommits (made_core pages)) opened (opened_commits pages bytes legal)
+    -- The disk stopped in the opening: no event was made.
+    pub ends_stopped : (events : List Event) (start : D) → LeavesOnly g.moment g.left_since start stopped (KeepsCommits c) → ((image : List ℕ) → g.may_leave stopped image → KeepsCommits c image)
+        → LeavesOnly g.moment g.left_since stopped final (KeepsCommits c) → g.restarts stopped ≡ g.restarts start → stop.after < n
+        → g.passed stopped ≤ counted stop.after (g.passed start) → (Unharmed g start final → g.passed stopped ≡ counted stop.after (g.passed start))
+        → Recovers c k opens fails (g.may_leave final) by told before after
+        → IsPlayed g (Some stop) n c events start final by told before after
+    ends_stopped events start moments left rest restarts less most exact recovers =
+        let through : min stop.after (n + 0) ≡ stop.after = omega arith in
+        let more = counted_mono stop.after n (g.passed start) (omega arith) in
+        record {
+          run = record { made = []; behind = events; parts = refl; core = c; last = inl refl; done = λ done. inr (less, refl); exact = λ u. inr (inr (less, refl)) };
+          disk = record {
+            opened = stopped;
+            opening = moments;
+            here = left;
+            passed = λ u some. absurd (some refl);
+            few = omega (arith, most, more);
+            restarts = restarts;
+            stopped = stopped;
+            steps = (refl, refl);
+            rest = rest;
+            kept = λ image may. (k, recovers.kept image may);
+          };
+          counts = n;
+          opens = inl refl;
+          calls = λ u. exact u ∙ ap (λ (m : ℕ). counted m (g.passed start)) (sym through);
+          most = subst (λ (m : ℕ). g.passed stopped ≤ counted m (g.passed start)) (sym through) most;
+          replies = refl;
+          prints = ⊎_elim (found_unplayed recovers.least recovers.most) (nothing_unplayed recovers.least recovers.most) recovers.found;
+          end = recovers.end;
+        }
 
 -- What is opened on any disk is a core that runs, whatever its graph.
 pub record IsNew (c : Core) : Type 0 where
   pub running : IsRunning c
   pub nothing : c.history ≡ []
+  pub opened : IsOpened c
 
 pub opened_core : {D : Type 0} {g : Ghosts D} (heap : Heap D g)
     → (s : Super) × (batches : List (List Record)) × (shaped : IsShapedLog s batches) × ((born : Bool) (places : Places) (graph : Graph) → IsFound s batches shaped born places graph → IsCore (opened s batches born places graph) heap)
@@ -169,7 +252,8 @@ opened_core heap is =
     let found = address_found is.0 is.1 is.2 in
     let c = opened is.0 is.1 false found.0 found.1 in
     let running : IsRunning c = record { reached = opened_reached is.0 is.1 is.2 false found.0 found.1 found.2; unfailed = refl } in
-    (c, record { running = running; nothing = refl }, is.3 false found.0 found.1 found.2)
+    let new : IsOpened c = record { super = is.0; batches = is.1; shaped = is.2; born = false; places = found.0; graph = found.1; found = found.2; is = refl } in
+    (c, record { running = running; nothing = refl; opened = new }, is.3 false found.0 found.1 found.2)
 
 -- it has not failed
 pub opened_unfailed : {D : Type 0} {g : Ghosts D} (heap : Heap D g) (c : Core) → IsNew c → IsCore c heap → failed_at heap ≡ None

@@ -1,11 +1,11 @@
 -- What a run prints on any disk.
-use Rattle.std.proofs.Common.{◌≡◌, ◌≢◌, ◌⊎◌, inl, inr, ⊎_elim, ℕ, Bool, List, [], ◌++◌, Option, Some, None, Result, Ok, Err, refl, sym, ap, ◌∙◌, subst, arith}
+use Rattle.std.proofs.Common.{◌≡◌, ◌≢◌, ◌⊎◌, inl, inr, ⊎_elim, ℕ, Bool, true, List, [], ◌++◌, Option, Some, None, Result, Ok, Err, refl, sym, ap, ◌∙◌, subst, arith}
 use Rattle.std.specs.Prelude.{IsTrue}
 use Rattle.std.specs.List.{AllByRecursion}
 use Rattle.std.proofs.lemmas.List.{append-nil}
 use Rattle.disk_model.specs.declared.disk.Disk.{Ghosts}
 use Rattle.graph_model.specs.declared.reply.Entry.{Entry}
-use Rattle.graph_model.specs.Graph.{Graph}
+use Rattle.graph_model.specs.Graph.{Graph, new_graph}
 use Rattle.graph_model.specs.History.{sealed}
 use Rattle.graph_model.specs.SlowHeap.{IsOfSession}
 use Rattle.graph_model.specs.Transaction.{serial}
@@ -14,14 +14,15 @@ use Rattle.heap_model.specs.Core.{Core}
 use Rattle.core_laws.specs.Calls.{of_session_front}
 use Rattle.core_laws.specs.Run.{run_reached}
 use Rattle.core_laws.specs.Valid.{IsReached}
+use Rattle.heap_model.specs.CoreLawsNew.{root_place, new_legal, new_found}
 use Rattle.heap_model.specs.Ending.{all_events}
 use Rattle.heap_shell.specs.declared.output.WriteError.{WriteError}
 use Rattle.heap_shell.specs.declared.play.Halt.{Halt}
 use Rattle.heap_shell.specs.declared.play.Halt.TheVariants as halt
 use Rattle.heap_shell.specs.declared.status.Status.{Status}
 use Rattle.heap_shell.specs.declared.status.Status.TheVariants as status
-use Rattle.heap_shell.specs.CoreLawsPlay.{made_limits, made_reached, all_playable}
-use Rattle.heap_shell.specs.Headline.{made_core, graph_text, end_text, recovered_line, HasMade, PrintsSome, Writes}
+use Rattle.heap_shell.specs.CoreLawsPlay.{made_limits, all_playable}
+use Rattle.heap_shell.specs.Headline.{made_super, made_core, graph_text, end_text, recovered_line, HasMade, PrintsSome, Writes}
 use Rattle.heap_shell.specs.Output.{WroteText, WroteGraph, WroteAgain, status_after}
 use Rattle.heap_shell.specs.Play.{EndsAs, PlaysCore, Wrote, lines_text}
 use Rattle.heap_shell.specs.Playable.{IsScript}
@@ -42,11 +43,11 @@ pub prints_unplayed : (n : ℕ) (script : List Line) (by : Status) (before after
 prints_unplayed n script by before after (inl nothing) = inl nothing
 prints_unplayed n script by before after (inr again) =
     let c = made_core 1 in
+    let limits = made_limits 1 (omega arith) (omega arith) in
     let wrote = again.2 in
     inr (record {
       first = c;
-      reached = made_reached 1 (made_limits 1 (omega arith) (omega arith));
-      new = refl;
+      opened = record { super = made_super 1; batches = []; shaped = (new_legal (made_super 1) limits).shaped; born = true; places = root_place; graph = new_graph; found = new_found (made_super 1) limits; is = refl };
       made = [];
       behind = events script;
       parts = refl;
@@ -77,8 +78,7 @@ module _ {D : Type 0} {g : Ghosts D} (stop : Option ℕ) (c : Core) (new : IsNew
       → Writes by core.history (end_text stop k graph) before after' → PrintsSome stop script by before after'
   prints by after' k graph done own written = inr (record {
     first = c;
-    reached = new.running.reached;
-    new = new.nothing;
+    opened = new.opened;
     made = plays.made;
     behind = plays.behind;
     parts = plays.parts;

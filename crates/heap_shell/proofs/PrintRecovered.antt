@@ -1,8 +1,8 @@
 -- How the end of a stopped run comes out: the heap is opened again, and what came back is printed.
-use Rattle.std.proofs.Common.{◌≡◌, ◌≢◌, inl, inr, ⊎_elim, ℕ, ◌+◌, ◌≤◌, min, List, [], ◌∷◌, ◌++◌, length, take, Bool, Option, Some, None, Result, refl, sym, ◌∙◌, subst, arith, length-append}
+use Rattle.std.proofs.Common.{◌≡◌, ◌≢◌, inl, inr, ⊎_elim, ℕ, ◌+◌, ◌≤◌, min, List, [], ◌∷◌, ◌++◌, length, take, Bool, Option, Some, None, Result, refl, sym, ap, ◌∙◌, subst, arith, length-append}
 use Rattle.std.specs.Int.{w32, to_le_bytes}
 use Rattle.std.specs.Prelude.{◌⊎◌, IsTrue}
-use Rattle.counts.specs.Count.{Rose, counted}
+use Rattle.counts.specs.Count.{Rose, greatest, counted}
 use Rattle.disk_model.specs.declared.disk.Disk.{Ghosts}
 use Rattle.disk_model.specs.declared.disk.DiskError.{DiskError}
 use Rattle.disk_model.specs.declared.disk.DiskError.TheVariants as device
@@ -10,6 +10,7 @@ use Rattle.disk_model.specs.Moments.{LeavesOnly, weaker}
 use Rattle.disk_model.specs.Disk.{HasCause}
 use Rattle.gate_slot.specs.Passing.{Passes}
 use Rattle.gated_log.specs.Log.{batch, batches_bytes, records_of}
+use Rattle.graph_model.specs.declared.reply.Entry.{Entry}
 use Rattle.graph_model.specs.Transaction.{serial}
 use Rattle.graph_model.specs.History as history
 use Rattle.image_plan.specs.declared.superblock.Super.{Super}
@@ -32,7 +33,7 @@ use Rattle.heap_model.specs.CoreLawsHeld.{left_first}
 use Rattle.heap_model.specs.Opening.{IsLeftByOpening}
 use Rattle.heap_shell.specs.Causes.{DiskRose}
 use Rattle.heap_shell.specs.Headline.{recovered_line, graph_text, IsEndOfPlay, KeepsFirst, calls_to_open, Reopens, FailsToOpen, Restarts, IsCutBefore, StartsAgain, EndsUnopened}
-use Rattle.heap_shell.specs.Output.{WroteText, Recovers, WroteRecovered, WroteNothing, status_after}
+use Rattle.heap_shell.specs.Output.{IsBefore, commits_since, WroteText, Recovers, WroteRecovered, WroteNothing, status_after}
 use Rattle.heap_shell.specs.StatusOf.{open_status}
 use Rattle.heap_shell.proofs.Causes.{disk_rose}
 use Rattle.heap_shell.proofs.Counts.{counted-sum}
@@ -73,6 +74,13 @@ few_commits s bs legal =
     let small = legal.shaped.limits.small_log in
     omega arith
 
+-- The commits since a core's opening: what was told of those before leaves k of them.
+pub since_before : (before : Option ℕ) (c : Core) (n k : ℕ) → IsBefore before c → n ≡ c.before + k → k ≤ length (history.commits c.history) → n ≤ 1073741824 → commits_since before (min (n + 0) greatest) ≡ k
+since_before None c n k same count most few =
+    let none : length (history.commits c.history) ≡ 0 = ap (λ (h : List Entry). length (history.commits h)) same in
+    omega arith
+since_before (Some before) c n k same count most few = omega arith
+
 -- Why an opening of a legal image fails.
 fails_reason : (f s f' s' : ℕ) (e : OpenError) → IsFromOutside e → HasCause {T = Unit {0}} f f' s s' (error_device e) → (open_status e ≡ NoMemory) ⊎ ((open_status e ≡ DiskFault) × DiskRose f s f' s')
 fails_reason f s f' s' opening.NoMemory outside cause = inl refl
@@ -82,14 +90,14 @@ fails_reason f s f' s' opening.DiskFault outside cause = inr (refl, disk_rose f 
 fails_reason f s f' s' opening.Stopped outside cause = inr (refl, disk_rose f s f' s' (error_device opening.Stopped) device.Stopped cause refl)
 
 -- It made no more calls than one that succeeds.
-fails_most : (n before now : ℕ) (e : OpenError) → ErrorPasses n before now e → (k : ℕ) × (k ≤ n) × (now ≡ counted k before)
+pub fails_most : (n before now : ℕ) (e : OpenError) → ErrorPasses n before now e → (k : ℕ) × (k ≤ n) × (now ≡ counted k before)
 fails_most n before now opening.NoMemory passes = (0, omega arith, passes)
 fails_most n before now opening.NotHeap passes = passes.some
 fails_most n before now (opening.Damaged at) passes = passes.some
 fails_most n before now opening.DiskFault passes = passes.some
 fails_most n before now opening.Stopped passes = passes.some
 
-fails_none : (n before now : ℕ) (e : OpenError) → open_status e ≡ NoMemory → ErrorPasses n before now e → now ≡ before
+pub fails_none : (n before now : ℕ) (e : OpenError) → open_status e ≡ NoMemory → ErrorPasses n before now e → now ≡ before
 fails_none n before now opening.NoMemory is passes = passes
 fails_none n before now opening.NotHeap is passes = cc
 fails_none n before now (opening.Damaged at) is passes = cc
@@ -197,6 +205,28 @@ recovers_no_memory g m c k stopped first new told before started fails = record 
 pub few_to_open : (rs : List Record) → force_calls rs ≤ 4
 few_to_open [] = omega arith
 few_to_open (r ∷ rs) = omega arith
+
+-- from none on, an opening of n counts as many
+pub whole_count : (n now : ℕ) → n ≤ 4 → now ≡ counted n 0 → now ≡ n
+whole_count n now few all = let same = counted-sum n 0 (omega arith) in omega (arith, same, all)
+
+-- one that fails no more
+pub fails_few : (n now : ℕ) → n ≤ 4 → (e : OpenError) → ErrorPasses n 0 now e → now ≤ n
+fails_few n now few e passes = let some = fails_most n 0 now e passes in let same = counted-sum some.0 0 (omega (arith, some.1)) in omega (arith, same, some.1, some.2)
+
+-- an opening that makes none takes nothing back
+pub no_rollback : (rs : List Record) → force_calls rs ≡ 0 → rs ≡ []
+no_rollback [] none = refl
+no_rollback (r ∷ rs) none = cc
+
+-- and one that is stopped fewer
+pub stops_before : (n now : ℕ) → n ≤ 4 → (n ≡ 0 → ⊥) → (e : OpenError) → e ≡ opening.Stopped → ErrorPasses n 0 now e → now < n
+stops_before n now few any e is passes =
+    let stopped = subst (λ x. ErrorPasses n 0 now x) is passes in
+    let some : 0 < n = omega (arith, any) in
+    let short = stopped.stopped refl some in
+    let same = counted-sum short.0 0 (omega (arith, short.1)) in
+    omega (arith, same, short.1, short.2)
 
 -- How many calls a disk lets through that stops behind m, in an opening of n that succeeds, and in one that does not.
 pub whole_passes : (m n now : ℕ) → n ≤ 4 → now ≤ m → now ≡ counted n 0 → now ≡ min m n

@@ -1,6 +1,6 @@
 -- What a run promises, from what its parts promise.
-use Rattle.std.proofs.Common.{◌≡◌, ◌⊎◌, inl, inr, ⊎_elim, ℕ, ◌<◌, ◌≤◌, Bool, List, Option, refl, sym, subst, arith}
-use Rattle.std.specs.Prelude.{IsTrue}
+use Rattle.std.proofs.Common.{◌≡◌, ◌⊎◌, inl, inr, ⊎_elim, ℕ, ◌<◌, ◌≤◌, Bool, List, Option, None, Some, refl, sym, subst, arith}
+use Rattle.std.specs.Prelude.{IsTrue, IfSome}
 use Rattle.std.specs.List.{AllByRecursion}
 use Rattle.std.proofs.lemmas.Bool.{cases_lt}
 use Rattle.counts.specs.Count.{counted}
@@ -19,7 +19,14 @@ use Rattle.core_laws.specs.Grow.{has_at_least_on}
 use Rattle.core_laws.specs.Run.{run_reached}
 use Rattle.heap_model.specs.CoreLawsGrow.{keeps_at_least}
 use Rattle.core_laws.specs.Valid.{IsReached}
-use Rattle.heap_shell.specs.CrashSafe.{IsCrashSafe}
+use Rattle.command_words.specs.Limits.{IsPages}
+use Rattle.heap_model.specs.Ending.{all_events}
+use Rattle.script_text.specs.Line.{events}
+use Rattle.heap_shell.specs.CoreLawsPlay.{made_limits, made_reached, script_is, all_playable}
+use Rattle.heap_shell.specs.CrashSafe.{IsCrashSafe, RunsSafely}
+use Rattle.heap_shell.specs.Playable.{IsReadFrom}
+use Rattle.heap_shell.specs.Stored.{stored_core, stored_calls}
+use Rattle.heap_shell.proofs.PlayOpen.{stored_running}
 use Rattle.heap_shell.specs.StepsLaws.{steps_run, last_until, lasting_steps}
 use Rattle.image_plan.specs.declared.superblock.Super.{Super}
 use Rattle.image_plan.specs.Plan.{image_size}
@@ -29,8 +36,8 @@ use Rattle.heap_core.specs.Format.{IsFormatting, format_calls}
 use Rattle.heap_core.specs.GivenBack.{format_device, IsFromDisk}
 use Rattle.heap_shell.specs.declared.status.Status.{Status}
 use Rattle.heap_shell.specs.declared.status.Status.TheVariants as status
-use Rattle.heap_shell.specs.declared.command.Stop.{Stop}
-use Rattle.heap_shell.specs.Headline.{IsEndOfPlay, IsSound, IsUnmade, IsNotMade, IsPlayed, RestartsDisk, stop_after}
+use Rattle.command_words.specs.declared.commands.Stop.{Stop}
+use Rattle.heap_shell.specs.Headline.{made_core, IsEndOfPlay, IsSound, IsUnmade, IsNotMade, IsPlayed, PlaysScript, Runs, RestartsDisk, stop_after}
 use Rattle.heap_shell.specs.StatusOf.{format_status}
 
 -- a play says nothing against the image
@@ -99,9 +106,9 @@ module _ {D : Type 0} (g : Ghosts D) (s : Super) (old new : D) where
 
 -- What a run says of crashes in short.
 module _ {D : Type 0} (g : Ghosts D) (now : (disk : D) (image : List ℕ) → g.left_since disk (g.moment disk) image → g.may_leave disk image) (start final : D) where
-  pub crash_safe : (stop : Option Stop) (c : Core) (events : List Event) (result : Status) (told : Bool) (before after : List ℕ) → IsReached c → AllByRecursion IsOfSession events
-      → IsPlayed g stop c events start final result told before after → IsCrashSafe g (stop_after stop) c start final result told before after
-  crash_safe stop c events result told before after reached sessions played =
+  pub crash_safe : (stop : Option Stop) (at_opening : ℕ) (c : Core) (events : List Event) (result : Status) (told : Bool) (before after : List ℕ) → IsReached c → AllByRecursion IsOfSession events
+      → IsPlayed g stop at_opening c events start final result told before after → IsCrashSafe g (stop_after stop) c start final result told before after
+  crash_safe stop at_opening c events result told before after reached sessions played =
       let made = played.run.made in
       let core = played.run.core in
       let disk = played.disk in
@@ -123,8 +130,26 @@ module _ {D : Type 0} (g : Ghosts D) (now : (disk : D) (image : List ℕ) → g.
         stopped = disk.stopped;
         steps = lasting_steps g (stop_after stop) start final now c core disk.opened disk.stopped made reached one disk.steps disk.rest;
         replies = played.replies;
-        printed = λ done t. (played.prints.count, played.prints.most, (played.prints.written t).whole done);
+        lines = λ t. (played.prints.written t).lines;
+        printed = λ done t. (played.prints.count, played.prints.least, played.prints.most, (played.prints.written t).whole done);
       }
+
+-- So it says in short of a play on a new heap and on one that was there, once the script is read.
+module _ {D : Type 0} (g : Ghosts D) (now : (disk : D) (image : List ℕ) → g.left_since disk (g.moment disk) image → g.may_leave disk image) (reads : Bool) (left : List ℕ) where
+  script_safe : (start final : D) (stop : Option Stop) (at_opening : ℕ) (c : Core) (result : Status) (told : Bool) (before after : List ℕ) → IsReached c
+      → PlaysScript g stop (IsReadFrom reads left) at_opening c start final result told before after → IsCrashSafe g (stop_after stop) c start final result told before after
+  script_safe start final stop at_opening c result told before after reached plays =
+      let sessions = (all_playable (stop_after stop) c plays.lines (script_is plays.script.bytes plays.lines plays.script.script)).sessions in
+      crash_safe g now start final stop at_opening c (all_events (stop_after stop) c (events plays.lines)) result told before after reached sessions plays.played
+
+  pub runs_safely : (fresh : Option ℕ) (stop : Option Stop) (old new : D) (result : Status) (told : Bool) (before after : List ℕ) → IfSome fresh IsPages
+      → Runs g fresh stop (IsReadFrom reads left) old new result told before after → RunsSafely g fresh stop old new result told before after
+  runs_safely (Some pages) stop old new result told before after within (inl none) = inl none
+  runs_safely (Some pages) stop old new result told before after within (inr plays) =
+      inr (plays.made, plays.format, script_safe plays.made new stop 0 (made_core pages) result told before after (made_reached pages (made_limits pages within.0 within.1)) plays.plays)
+  runs_safely None stop old new result told before after within (inl none) = inl none
+  runs_safely None stop old new result told before after within (inr plays) =
+      inr (λ stored. script_safe old new stop (stored_calls stored) (stored_core stored) result told before after (stored_running g stored).reached (plays stored))
 
 -- How often a run that was asked to has started the disk again.
 pub restarts_none : (asked : ℕ) (result : Status) (before now : ℕ) → (result ≡ status.Done → asked ≡ 0) → now ≡ before → RestartsDisk asked result before now

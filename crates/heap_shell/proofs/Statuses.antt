@@ -8,8 +8,10 @@ use Rattle.heap_shell.specs.declared.play.Halt.TheVariants as halt
 use Rattle.heap_shell.specs.declared.status.Status.{Status}
 use Rattle.heap_shell.specs.declared.status.Status.TheVariants.{Done, DiskFault}
 use Rattle.disk_model.specs.declared.disk.DiskError.TheVariants as device
-use Rattle.heap_shell.specs.Causes.{played_device}
-use Rattle.heap_core.specs.Causes.{IsFromOutside}
+use Rattle.disk_model.specs.Disk.{HasCause}
+use Rattle.heap_shell.specs.Causes.{DiskRose, played_device}
+use Rattle.heap_shell.proofs.Causes.{disk_rose}
+use Rattle.heap_core.specs.Causes.{IsFromOutside, error_device}
 use Rattle.heap_core.specs.declared.errors.OpenError.{OpenError}
 use Rattle.heap_core.specs.declared.errors.OpenError.TheVariants as opening
 use Rattle.heap_shell.specs.Headline.{IsEndOfPlay}
@@ -95,7 +97,18 @@ open_not_done (opening.Damaged at) is = cc
 open_not_done opening.DiskFault is = cc
 open_not_done opening.Stopped is = cc
 
--- a disk that has not stopped has not answered so
-pub no_stop : (s s' : ℕ) → s ≡ 0 → s' ≡ 0 → Rose s s' → ⊥
-no_stop s s' none still (inl up) = omega arith
-no_stop s s' none still (inr full) = omega arith
+-- one that was refused by the disk was so since a count of the disk rose
+pub open_harm : (f s f' s' : ℕ) (e : OpenError) → IsFromOutside e → e ≢ opening.NoMemory → HasCause {T = Unit {0}} f f' s s' (error_device e) → DiskRose f s f' s'
+open_harm f s f' s' opening.NoMemory outside other cause = absurd (other refl)
+open_harm f s f' s' opening.NotHeap outside other cause = absurd outside
+open_harm f s f' s' (opening.Damaged at) outside other cause = absurd outside
+open_harm f s f' s' opening.DiskFault outside other cause = disk_rose f s f' s' (error_device opening.DiskFault) device.Failed cause refl
+open_harm f s f' s' opening.Stopped outside other cause = disk_rose f s f' s' (error_device opening.Stopped) device.Stopped cause refl
+
+-- and so its faults did, if it had not stopped
+pub open_fault : (f f' s s' : ℕ) (e : OpenError) → IsFromOutside e → e ≢ opening.NoMemory → e ≢ opening.Stopped → HasCause {T = Unit {0}} f f' s s' (error_device e) → Rose f f'
+open_fault f f' s s' opening.NoMemory outside some other cause = absurd (some refl)
+open_fault f f' s s' opening.NotHeap outside some other cause = absurd outside
+open_fault f f' s s' (opening.Damaged at) outside some other cause = absurd outside
+open_fault f f' s s' opening.DiskFault outside some other cause = cause.failed refl
+open_fault f f' s s' opening.Stopped outside some other cause = absurd (other refl)

@@ -1,5 +1,5 @@
 -- What a run promises of crashes, in short: it follows from the headline.
-use Rattle.std.specs.Prelude.{◌≡◌, ◌⊎◌, ℕ, ◌≤◌, List, ◌++◌, length, take, Bool, IsTrue, Option}
+use Rattle.std.specs.Prelude.{◌≡◌, ◌⊎◌, ℕ, ◌≤◌, List, ◌++◌, length, take, Bool, IsTrue, Option, None, Some}
 use Rattle.disk_model.specs.declared.disk.Disk.{Ghosts}
 use Rattle.disk_model.specs.Moments.{LeavesOnly}
 use Rattle.graph_model.specs.declared.event.Event.{Event}
@@ -7,12 +7,13 @@ use Rattle.graph_model.specs.History.{commits, acknowledged}
 use Rattle.graph_model.specs.Transaction.{serial, serial_replies}
 use Rattle.heap_model.specs.Core.{Core}
 use Rattle.commit_order.specs.Heard.{replies_of_commits}
-use Rattle.heap_shell.specs.declared.command.Play.{Play}
+use Rattle.command_words.specs.declared.commands.Stop.{Stop}
 use Rattle.heap_shell.specs.declared.status.Status.{Status}
 use Rattle.heap_shell.specs.declared.status.Status.TheVariants as status
-use Rattle.heap_shell.specs.Headline.{made_super, made_core, end_text, stop_after, IsNotMade}
-use Rattle.heap_shell.specs.Play.{lines_text}
+use Rattle.heap_shell.specs.Headline.{made_super, made_core, end_text, stop_after, IsFormatted, IsNotMade, IsNotBegun}
+use Rattle.heap_shell.specs.Play.{lines_text, WroteLines}
 use Rattle.heap_shell.specs.Steps.{Step, AreSteps}
+use Rattle.heap_shell.specs.Stored.{IsStored, stored_core}
 use Rattle.heap_model.specs.CoreCrash.{HasAtLeast}
 
 module _ {D : Type 0} (g : Ghosts D) where
@@ -33,10 +34,14 @@ module _ {D : Type 0} (g : Ghosts D) where
     pub steps : AreSteps (LastingStep stop core start final) c opened made core stopped
     -- Each commit had the replies that the commits have one after another.
     pub replies : replies_of_commits core.history ≡ serial_replies core.g0 (commits core.history)
-    -- What is printed of a run that is done is the graph of the first k commits, for the k that is printed.
-    pub printed : result ≡ status.Done → IsTrue told → (k : ℕ) × (k ≤ length (commits core.history)) × (after ≡ before ++ (lines_text core.history ++ end_text stop k (serial core.g0 (take k (commits core.history)))))
+    -- The lines of all events but perhaps the last one are printed, however the run ends.
+    pub lines : IsTrue told → WroteLines before core.history after
+    -- What is printed of a run that is done is the graph of the first k commits, for the k that is printed; all that was acknowledged is among them.
+    pub printed : result ≡ status.Done → IsTrue told → (k : ℕ) × (acknowledged core.history ≤ k) × (k ≤ length (commits core.history)) × (after ≡ before ++ (lines_text core.history ++ end_text stop k (serial core.g0 (take k (commits core.history)))))
 
-  -- Either no heap was made, or it is crash safe from then on.
-  abbrev pub RunsSafely : Play → D → D → Status → Bool → List ℕ → List ℕ → Type 0
-  RunsSafely play old new result told before after =
-      IsNotMade g (made_super play.pages) old new result told before after ⊎ ((made : D) × IsCrashSafe (stop_after play.stop) (made_core play.pages) made new result told before after)
+  -- Either no heap was made, or it is crash safe from then on; or the heap that was there is crash safe, or the run did not begin.
+  abbrev pub RunsSafely : Option ℕ → Option Stop → D → D → Status → Bool → List ℕ → List ℕ → Type 0
+  RunsSafely (Some pages) stop old new result told before after =
+      IsNotMade g (made_super pages) old new result told before after ⊎ ((made : D) × IsFormatted g (made_super pages) old made × IsCrashSafe (stop_after stop) (made_core pages) made new result told before after)
+  RunsSafely None stop old new result told before after =
+      IsNotBegun g old new result told before after ⊎ ((stored : IsStored (g.bytes old)) → IsCrashSafe (stop_after stop) (stored_core stored) old new result told before after)

@@ -1,5 +1,5 @@
 -- What a run of the program promises.
-use Rattle.std.specs.Prelude.{◌≡◌, ◌≢◌, ◌⊎◌, ℕ, ◌≤◌, min, List, [], ◌∷◌, ◌++◌, length, take, codes, Bool, true, IsTrue, Option, None, Some, Err}
+use Rattle.std.specs.Prelude.{◌≡◌, ◌≢◌, ◌⊎◌, ℕ, ◌+◌, ◌-◌, ◌<◌, ◌≤◌, min, List, [], ◌∷◌, ◌++◌, length, take, codes, Bool, true, IsTrue, Option, None, Some, Err}
 use Rattle.std.specs.Fmt.{decimal}
 use Rattle.counts.specs.Count.{raised, counted}
 use Rattle.disk_model.specs.declared.disk.Disk.{Ghosts}
@@ -21,23 +21,24 @@ use Rattle.image_plan.specs.declared.superblock.Super.{Super}
 use Rattle.image_plan.specs.Plan.{image_size}
 use Rattle.heap_core.specs.Format.{IsFormatting, format_calls}
 use Rattle.heap_model.specs.Core.{Core, with_entry, IsRun}
-use Rattle.core_laws.specs.Valid.{IsReached}
 use Rattle.heap_model.specs.CoreCrash.{StandsForFirst, KeepsCommits}
 use Rattle.heap_model.specs.CoreLawsNew.{root_place}
 use Rattle.commit_order.specs.Heard.{replies_of_commits}
 use Rattle.heap_model.specs.CoreRuns.{after_events, total_calls, StopsAt}
 use Rattle.heap_model.specs.Ending.{all_events}
-use Rattle.heap_model.specs.Image.{IsLegal}
-use Rattle.heap_model.specs.Opening.{opened, opening_calls}
+use Rattle.graph_words.specs.Places.{Places}
+use Rattle.log_records.specs.declared.Record.{Record}
+use Rattle.heap_model.specs.Image.{IsShapedLog, IsLegal}
+use Rattle.heap_model.specs.Opening.{opened, opening_calls, IsFound}
 use Rattle.script_text.specs.declared.line.Line.{Line}
 use Rattle.script_text.specs.Line.{events}
-use Rattle.heap_shell.specs.Causes.{DiskRose, Unharmed}
-use Rattle.heap_shell.specs.declared.command.Play.{Play}
-use Rattle.heap_shell.specs.declared.command.Stop.{Stop}
+use Rattle.heap_shell.specs.Causes.{DiskRose, Unharmed, IsInputError}
+use Rattle.command_words.specs.declared.commands.Stop.{Stop}
 use Rattle.heap_shell.specs.declared.status.Status.{Status}
 use Rattle.heap_shell.specs.declared.status.Status.TheVariants as status
 use Rattle.heap_shell.specs.Play.{lines_text, WroteFront, WroteLines, IsWhole, IsCutBy}
 use Rattle.heap_shell.specs.Steps.{Step, AreSteps}
+use Rattle.heap_shell.specs.Stored.{IsStored, stored_core, stored_calls}
 
 -- A claim of a disk that tells its bytes and keeps the disk model, and on which nothing waits.
 abbrev pub OfTold : Bool → List ℕ → (List ℕ → Type 0) → Type 0 → Type 0
@@ -93,18 +94,35 @@ pub record StopsLast (n : ℕ) (c : Core) (made : List Event) (d : Core) : Type 
   pub last : at.behind ≡ []
   pub reached : d ≡ with_entry (after_events c at.before) at.event (Refused Stopped)
 
--- Where the disk does what it is asked until it is to stop, the place at which it stops is exact.
-abbrev pub IsExact : Option ℕ → Core → List Event → Core → Type 0
-IsExact None c made d = IsWhole c made d
-IsExact (Some n) c made d = (IsWhole c made d × (total_calls c made ≤ n)) ⊎ StopsLast n c made d
+-- The disk stopped in the opening, which makes so many calls: no event was made.
+abbrev pub StopsOpening : Option ℕ → ℕ → List Event → Type 0
+StopsOpening None at_opening made = ⊥
+StopsOpening (Some n) at_opening made = (n < at_opening) × (made ≡ [])
+
+-- Where the disk does what it is asked until it is to stop, the place at which it stops is exact: none, one of the events, or the opening, which
+-- makes so many calls itself.
+abbrev pub IsExact : Option ℕ → ℕ → Core → List Event → Core → Type 0
+IsExact None at_opening c made d = IsWhole c made d
+IsExact (Some n) at_opening c made d =
+    (IsWhole c made d × (at_opening + total_calls c made ≤ n)) ⊎ ((at_opening ≤ n) × StopsLast (n - at_opening) c made d) ⊎ StopsOpening (Some n) at_opening made
+
+-- A core that is opened on a shaped log, with a graph that stands in it.
+pub record IsOpened (c : Core) : Type 0 where
+  pub super : Super
+  pub batches : List (List Record)
+  pub shaped : IsShapedLog super batches
+  pub born : Bool
+  pub places : Places
+  pub graph : Graph
+  pub found : IsFound super batches shaped born places graph
+  pub is : c ≡ opened super batches born places graph
 
 -- On any disk: a heap was opened with some graph, the events that were made are a run of that core, and what was written is a first
 -- part of the lines of its history, of how many commits came back where a stop was asked, and of a graph. Of a run that is done it is
 -- all of that; and without a stop the graph is the core's.
 pub record PrintsRun (stop : Option ℕ) (lines : List Line) (result : Status) (before after : List ℕ) : Type 0 where
   pub first : Core
-  pub reached : IsReached first
-  pub new : first.history ≡ []
+  pub opened : IsOpened first
   pub made : List Event
   pub behind : List Event
   pub parts : all_events stop first (events lines) ≡ made ++ behind
@@ -129,24 +147,29 @@ IsEndOfPlay status.WriteFault = Unit {0}
 IsEndOfPlay status.DiskFault = Unit {0}
 IsEndOfPlay s = ⊥
 
--- Of the events that were asked of a core these were made, and led to this one.
-pub record MakesEvents (stop : Option ℕ) (c : Core) (events : List Event) (result : Status) (unharmed : Type 0) : Type 0 where
+-- Of the events that were asked of a core these were made, and led to this one. The opening makes so many calls before.
+pub record MakesEvents (stop : Option ℕ) (at_opening : ℕ) (c : Core) (events : List Event) (result : Status) (unharmed : Type 0) : Type 0 where
   pub made : List Event
   pub behind : List Event
   pub parts : events ≡ made ++ behind
   pub core : Core
   pub last : IsWhole c made core ⊎ ((reply : Reply) × IsCutBy reply c made core)
-  pub done : result ≡ status.Done → HasMade stop c made behind core
-  pub exact : unharmed → IsExact stop c made core
+  pub done : result ≡ status.Done → HasMade stop c made behind core ⊎ StopsOpening stop at_opening made
+  pub exact : unharmed → IsExact stop at_opening c made core
+
+-- The calls of an opening that count: all that it makes, or none where memory was refused in it.
+abbrev pub CountsOpening : ℕ → Status → List Event → ℕ → Type 0
+CountsOpening at_opening result made counts = (counts ≡ at_opening) ⊎ ((result ≡ status.NoMemory) × (made ≡ []) × (counts ≡ 0))
 
 module _ {D : Type 0} (g : Ghosts D) where
   -- At each moment a crash left first commits: while the heap was opened as the core c, in each step, and from then on until the
-  -- end, also while it was opened again. Always they held all that had been acknowledged. The opening of a new heap makes no write and no sync.
-  pub record KeepsThroughout (stop : Option ℕ) (c : Core) (made : List Event) (d : Core) (start final : D) : Type 0 where
+  -- end, also while it was opened again. Always they held all that had been acknowledged. The opening makes so many calls, if it is not cut short.
+  pub record KeepsThroughout (stop : Option ℕ) (at_opening : ℕ) (c : Core) (made : List Event) (d : Core) (start final : D) : Type 0 where
     pub opened : D
     pub opening : LeavesOnly g.moment g.left_since start opened (KeepsCommits c)
     pub here : (image : List ℕ) → g.may_leave opened image → KeepsCommits c image
-    pub passed : g.passed opened ≡ g.passed start
+    pub passed : Unharmed g start final → made ≢ [] → g.passed opened ≡ counted at_opening (g.passed start)
+    pub few : g.passed opened ≤ counted at_opening (g.passed start)
     pub restarts : g.restarts opened ≡ g.restarts start
     pub stopped : D
     pub steps : AreSteps (Step g stop start final) c opened made d stopped
@@ -227,13 +250,15 @@ module _ {D : Type 0} (g : Ghosts D) where
     pub behind : IsFollowed stop c count stopped final result (IsTrue told → WroteFront before (lines_text c.history) after)
     pub written : IsTrue told → Writes result c.history (end_text (stop_after stop) count (serial c.g0 (take count (commits c.history)))) before after
 
-  -- Events were played on a disk whose heap was opened as the core c.
-  pub record IsPlayed (stop : Option Stop) (c : Core) (events : List Event) (start final : D) (result : Status) (told : Bool) (before after : List ℕ) : Type 0 where
-    pub run : MakesEvents (stop_after stop) c events result (Unharmed g start final)
-    pub disk : KeepsThroughout (stop_after stop) c run.made run.core start final
-    -- the disk behind the last event has counted the writes and syncs of these events, or no more than those
-    pub calls : Unharmed g start final → g.passed disk.stopped ≡ counted (let_through (stop_after stop) (total_calls c run.made)) (g.passed start)
-    pub most : g.passed disk.stopped ≤ counted (let_through (stop_after stop) (total_calls c run.made)) (g.passed start)
+  -- Events were played on a disk whose heap was opened as the core c, with so many calls at the opening.
+  pub record IsPlayed (stop : Option Stop) (at_opening : ℕ) (c : Core) (events : List Event) (start final : D) (result : Status) (told : Bool) (before after : List ℕ) : Type 0 where
+    pub run : MakesEvents (stop_after stop) at_opening c events result (Unharmed g start final)
+    pub disk : KeepsThroughout (stop_after stop) at_opening c run.made run.core start final
+    -- the disk behind the last event has counted the writes and syncs of the opening and of these events, or no more than those
+    pub counts : ℕ
+    pub opens : CountsOpening at_opening result run.made counts
+    pub calls : Unharmed g start final → g.passed disk.stopped ≡ counted (let_through (stop_after stop) (counts + total_calls c run.made)) (g.passed start)
+    pub most : g.passed disk.stopped ≤ counted (let_through (stop_after stop) (at_opening + total_calls c run.made)) (g.passed start)
     pub replies : replies_of_commits run.core.history ≡ serial_replies run.core.g0 (commits run.core.history)
     pub prints : Prints stop run.core disk.stopped final result told before after
     pub end : IsEndOfPlay result
@@ -268,18 +293,37 @@ module _ {D : Type 0} (g : Ghosts D) where
     pub moments : LeavesOnly g.moment g.left_since old new (IsFormatting s (g.bytes old))
     pub restarts : g.restarts new ≡ g.restarts old
 
-  -- A heap was made, and a script was played on it, with the events that end a run.
-  pub record PlaysOnNew (play : Play) (is_script : List Line → Type 0) (old new : D) (result : Status) (told : Bool) (before after : List ℕ) : Type 0 where
+  -- A script was played on a disk whose heap was opened as the core c, with the events that end a run.
+  pub record PlaysScript (stop : Option Stop) (is_script : List Line → Type 0) (at_opening : ℕ) (c : Core) (start final : D) (result : Status) (told : Bool) (before after : List ℕ) : Type 0 where
     pub lines : List Line
     pub script : is_script lines
-    pub made : D
-    pub format : IsFormatted (made_super play.pages) old made
-    pub played : IsPlayed play.stop (made_core play.pages) (all_events (stop_after play.stop) (made_core play.pages) (events lines)) made new result told before after
+    pub played : IsPlayed stop at_opening c (all_events (stop_after stop) c (events lines)) start final result told before after
 
-  -- Either no heap was made, or a script was played on a new one.
-  abbrev pub Runs : Play → (List Line → Type 0) → D → D → Status → Bool → List ℕ → List ℕ → Type 0
-  Runs play is_script old new result told before after =
-      IsNotMade (made_super play.pages) old new result told before after ⊎ PlaysOnNew play is_script old new result told before after
+  -- A heap was made, and a script was played on it. The opening of a new heap makes no call.
+  pub record PlaysOnNew (pages : ℕ) (stop : Option Stop) (is_script : List Line → Type 0) (old new : D) (result : Status) (told : Bool) (before after : List ℕ) : Type 0 where
+    pub made : D
+    pub format : IsFormatted (made_super pages) old made
+    pub plays : PlaysScript stop is_script 0 (made_core pages) made new result told before after
+
+  -- The run ended before it did anything with the disk, and nothing was written.
+  pub record IsNotBegun (old new : D) (result : Status) (told : Bool) (before after : List ℕ) : Type 0 where
+    pub reason : IsInputError result
+    pub same : new ≡ old
+    pub nothing : IsTrue told → after ≡ before
+
+  -- Either a heap was made and a script was played on it, or none was made; or a script was played on the heap that was there, for each
+  -- graph that stands in it, or that run did not begin.
+  abbrev pub Runs : Option ℕ → Option Stop → (List Line → Type 0) → D → D → Status → Bool → List ℕ → List ℕ → Type 0
+  Runs (Some pages) stop is_script old new result told before after =
+      IsNotMade (made_super pages) old new result told before after ⊎ PlaysOnNew pages stop is_script old new result told before after
+  Runs None stop is_script old new result told before after =
+      IsNotBegun old new result told before after
+      ⊎ ((stored : IsStored (g.bytes old)) → PlaysScript stop is_script (stored_calls stored) (stored_core stored) old new result told before after)
+
+-- What a play can be made on: a disk that is large enough for a new heap, or one that holds a heap.
+abbrev pub CanPlay : Option ℕ → ℕ → List ℕ → Type 0
+CanPlay (Some pages) extent image = image_size pages 1048576 ≤ extent
+CanPlay None extent image = IsStored image
 
 -- The statuses with which a run leaves the disk and the sink as they were.
 abbrev pub IsUntouching : Status → Type 0

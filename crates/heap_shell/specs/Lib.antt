@@ -1,5 +1,5 @@
 pub mod Causes
-pub mod Command
+pub mod Commands
 pub mod CoreLawsPlay
 pub mod CrashSafe
 pub mod Headline
@@ -10,3 +10,4 @@ pub mod Status
 pub mod StatusOf
 pub mod Steps
 pub mod StepsLaws
+pub mod Stored

@@ -1,5 +1,6 @@
 -- What is written of a text, and of a heap that is opened again.
-use Rattle.std.specs.Prelude.{◌≡◌, ◌≢◌, ◌⊎◌, ℕ, ◌≤◌, List, ◌++◌, length, take, Bool, IsTrue, Option, None, Some, Result, Ok, Err}
+use Rattle.std.specs.Prelude.{◌≡◌, ◌≢◌, ◌⊎◌, ℕ, ◌-◌, ◌≤◌, min, List, [], ◌++◌, length, take, Bool, IsTrue, Option, None, Some, Result, Ok, Err}
+use Rattle.counts.specs.Count.{greatest}
 use Rattle.graph_model.specs.Graph.{Graph}
 use Rattle.graph_model.specs.History.{commits, acknowledged}
 use Rattle.graph_model.specs.Transaction.{serial}
@@ -13,6 +14,16 @@ use Rattle.heap_model.specs.CoreCrash.{StandsForFirst}
 use Rattle.heap_shell.specs.Headline.{IsEndOfPlay, recovered_line, graph_text}
 use Rattle.heap_shell.specs.Play.{WroteFront}
 use Rattle.heap_shell.specs.StatusOf.{write_status, halt_status}
+
+-- how many of the commits that a log holds came since it held those before; none where no event was made
+abbrev pub commits_since : Option ℕ → ℕ → ℕ
+commits_since None now = 0
+commits_since (Some before) now = now - before
+
+-- What is told of the commits before a core's opening, as far as 64 bits count. Where nothing is told it has made no event.
+abbrev pub IsBefore : Option ℕ → Core → Type 0
+IsBefore None c = c.history ≡ []
+IsBefore (Some before) c = before ≡ min c.before greatest
 
 -- All of a text was written, or a first part of it where that ended in an error.
 abbrev pub WroteText : Result (Unit {0}) WriteError → List ℕ → List ℕ → List ℕ → Type 0

@@ -1,4 +1,6 @@
 -- The status that an error ends a run with.
+use Rattle.command_words.specs.declared.commands.CommandError.{CommandError}
+use Rattle.command_words.specs.declared.commands.CommandError.TheVariants as asking
 use Rattle.heap_io.specs.declared.reading.TakeAllError.{TakeAllError}
 use Rattle.heap_io.specs.declared.reading.TakeAllError.TheVariants as taking
 use Rattle.heap_core.specs.declared.errors.FormatError.{FormatError}
@@ -12,7 +14,11 @@ use Rattle.heap_shell.specs.declared.output.WriteError.TheVariants as writing
 use Rattle.heap_shell.specs.declared.play.Halt.{Halt}
 use Rattle.heap_shell.specs.declared.play.Halt.TheVariants as halt
 use Rattle.heap_shell.specs.declared.status.Status.{Status}
-use Rattle.heap_shell.specs.declared.status.Status.TheVariants.{NoMemory, Script, ReadFault, WriteFault, DiskFault, NotHeap, Damaged, TooSmall}
+use Rattle.heap_shell.specs.declared.status.Status.TheVariants.{NoMemory, Usage, Script, ReadFault, WriteFault, DiskFault, NotHeap, Damaged, TooSmall}
+
+abbrev pub command_status : CommandError → Status
+command_status asking.NoMemory = NoMemory
+command_status asking.Usage = Usage
 
 abbrev pub script_status : ScriptError → Status
 script_status reading.NoMemory = NoMemory

@@ -1,6 +1,5 @@
 //! A disk that was stopped is started again: the heap is opened once more, and what came back is printed.
 ghost use Rattle.std.specs.Prelude.{◌≡◌, ℕ, List, min, MatchResult, IsTrue};
-ghost use Rattle.counts.specs.Count.{greatest};
 ghost use Rattle.disk_model.specs.Disk.{Only};
 ghost use Rattle.disk_model.specs.Fuse.{fuse_inner};
 ghost use Rattle.disk_model.specs.Moments.{LeavesOnly};
@@ -8,7 +7,7 @@ ghost use Rattle.heap_model.specs.Core.{Core};
 ghost use Rattle.heap_model.specs.CoreCrash.{StandsForFirst, KeepsCommits};
 ghost use Rattle.heap_shell.specs.Causes.{StreamCause, RunsDisk, IsOpenedEnd, either_disk};
 ghost use Rattle.heap_shell.specs.Headline.{Restarts, Reopens, FailsToOpen, IsCutOff, StartsAgain, EndsUnopened, RestartsDisk, starts_asked};
-ghost use Rattle.heap_shell.specs.Output.{Recovers, WroteAgain};
+ghost use Rattle.heap_shell.specs.Output.{IsBefore, Recovers, WroteAgain};
 
 use crate::output::write_recovered;
 use crate::status::{Status, status_after};
@@ -17,12 +16,13 @@ use heap_core::{Heap, OpenError};
 use heap_io::Sink;
 use std::alloc::Global;
 
-/// Starts the disk behind the fuse again, and prints what came back. If it is to stop once more, it does so in an opening before.
+/// Starts the disk behind the fuse again, and prints what came back: how many commits the log then holds more than `before`, which is left out if
+/// the disk was stopped before the first event. If it is to stop once more, it does so in an opening before.
 pub fn start_again<D: Disk, K: Sink>(
     alloc: Global,
     fuse: FuseDisk<D>,
     again: Option<u64>,
-    before: u64,
+    before: Option<u64>,
     sink: &mut K,
 ) -> (Status, D)
     ensures end { IsOpenedEnd result.0 }
@@ -31,7 +31,7 @@ pub fn start_again<D: Disk, K: Sink>(
     ensures restarts { IsTrue D.tells → RestartsDisk (starts_asked again) result.0 (D.restarts (fuse_inner fuse)) (D.restarts result.1) }
     ensures again { IsTrue K.tells → WroteAgain result.0 (K.written sink.old) (K.written sink.new) }
     ensures moments { IsTrue D.tells → (c : Core) → ((image : List ℕ) → D.may_leave (fuse_inner fuse) image → KeepsCommits c image) → LeavesOnly D.moment D.left_since (fuse_inner fuse) result.1 (KeepsCommits c) }
-    ensures recovers { IsTrue D.tells → (c : Core) → ((image : List ℕ) → D.may_leave (fuse_inner fuse) image → KeepsCommits c image) → before ≡ min c.before greatest
+    ensures recovers { IsTrue D.tells → (c : Core) → ((image : List ℕ) → D.may_leave (fuse_inner fuse) image → KeepsCommits c image) → IsBefore before c
         → (k : ℕ) × Recovers c k (StartsAgain D.Disk again c k (Reopens D.Disk c k) (fuse_inner fuse) result.1) (EndsUnopened D.Disk again c k (fuse_inner fuse) result.1 result.0) (D.may_leave result.1) result.0 K.tells (K.written sink.old) (K.written sink.new) }
 {
     let disk = restart(fuse.into_inner());
@@ -77,7 +77,7 @@ fn open_cut_off<D: Disk>(alloc: Global, disk: D, calls: u64) -> Result<D, D>
 fn print_recovered<D: Disk, K: Sink>(
     alloc: Global,
     disk: D,
-    before: u64,
+    before: Option<u64>,
     sink: &mut K,
 ) -> (Status, D)
     ensures end { IsOpenedEnd result.0 }
@@ -86,7 +86,7 @@ fn print_recovered<D: Disk, K: Sink>(
     ensures restarts { IsTrue D.tells → D.restarts result.1 ≡ D.restarts disk }
     ensures again { IsTrue K.tells → WroteAgain result.0 (K.written sink.old) (K.written sink.new) }
     ensures moments { IsTrue D.tells → (c : Core) (k : ℕ) → StandsForFirst c k (D.bytes disk) → Only (D.bytes disk) (D.may_leave disk) → LeavesOnly D.moment D.left_since disk result.1 (StandsForFirst c k) }
-    ensures recovers { IsTrue D.tells → (c : Core) (k : ℕ) → StandsForFirst c k (D.bytes disk) → Only (D.bytes disk) (D.may_leave disk) → before ≡ min c.before greatest
+    ensures recovers { IsTrue D.tells → (c : Core) (k : ℕ) → StandsForFirst c k (D.bytes disk) → Only (D.bytes disk) (D.may_leave disk) → IsBefore before c
         → Recovers c k (Reopens D.Disk c k disk result.1) (FailsToOpen D.Disk c k result.0 disk result.1) (D.may_leave result.1) result.0 K.tells (K.written sink.old) (K.written sink.new) }
 {
     let heap = match Heap::open(alloc, disk) {

@@ -11,7 +11,7 @@ ghost use Rattle.core_laws.specs.Valid.{IsReached};
 ghost use Rattle.heap_shell.specs.declared.output.WriteError.TheVariants.{NoMemory, SinkFailed};
 ghost use Rattle.heap_shell.specs.Causes.{StreamCause};
 ghost use Rattle.heap_shell.specs.Headline.{graph_text, recovered_line};
-ghost use Rattle.heap_shell.specs.Output.{WroteText};
+ghost use Rattle.heap_shell.specs.Output.{WroteText, commits_since};
 
 use disk_model::Disk;
 use graph_model::Entry;
@@ -77,18 +77,28 @@ pub fn write_graph<D: Disk, K: Sink>(
     Ok(put_all(sink, &text)?)
 }
 
-/// Writes how many commits the heap's log holds more than `before`, and the graph.
+/// How many of the commits that a log holds now came since it held those `before`: none where that is left out, since no event was made.
+fn count_since(before: Option<u64>, now: u64) -> u64
+    ensures { result ≡ commits_since before now }
+{
+    match before {
+        Some(before) => now.saturating_sub(before),
+        None => 0,
+    }
+}
+
+/// Writes how many commits the heap's log holds more than `before`, and the graph. If that is left out, none were made.
 pub fn write_recovered<D: Disk, K: Sink>(
     alloc: Global,
     heap: &Heap<D>,
-    before: u64,
+    before: Option<u64>,
     sink: &mut K,
 ) -> Result<(), WriteError>
     requires unfailed { failed_at heap.now ≡ None }
     ensures sink { StreamCause (K.faults sink.old) (K.faults sink.new) (result ≡ Err SinkFailed) }
-    ensures wrote { IsTrue K.tells → (c : Core) → IsCore c heap.now → IsReached c → WroteText result (K.written sink.old) (recovered_line (min (c.before + length (sealed c.history)) greatest - before) ++ graph_text (serial c.g0 (sealed c.history))) (K.written sink.new) }
+    ensures wrote { IsTrue K.tells → (c : Core) → IsCore c heap.now → IsReached c → WroteText result (K.written sink.old) (recovered_line (commits_since before (min (c.before + length (sealed c.history)) greatest)) ++ graph_text (serial c.g0 (sealed c.history))) (K.written sink.new) }
 {
-    let commits = heap.commits().saturating_sub(before);
+    let commits = count_since(before, heap.commits());
     let line = format!(in alloc; "recovered {commits}\n")?;
     put_all(sink, line.as_bytes())?;
     write_graph(alloc, heap, sink)

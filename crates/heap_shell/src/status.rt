@@ -2,10 +2,11 @@
 ghost use Rattle.std.specs.Prelude.{◌≡◌, Some};
 ghost use Rattle.heap_shell.specs.Status.{status_text, status_code};
 ghost use Rattle.heap_shell.specs.Output.{status_after};
-ghost use Rattle.heap_shell.specs.StatusOf.{script_status, input_status, format_status, open_status, write_status, halt_status};
+ghost use Rattle.heap_shell.specs.StatusOf.{command_status, script_status, input_status, format_status, open_status, write_status, halt_status};
 
 use crate::output::WriteError;
 use crate::play::Halt;
+use command_words::CommandError;
 use heap_core::{FormatError, OpenError};
 use heap_io::TakeAllError;
 use heap_recovery::At;
@@ -73,6 +74,17 @@ impl fmt::Display for Status {
             Status::NotHeap => f.write_str("not a heap"),
             Status::Damaged { at } => write!(f, "damaged at {at}"),
             Status::TooSmall { size, need } => write!(f, "too small: {size} of {need}"),
+        }
+    }
+}
+
+impl From<CommandError> for Status {
+    ghost from_gives = { λ e s. s ≡ command_status e };
+
+    fn from(e: CommandError) -> Self {
+        match e {
+            CommandError::NoMemory => Status::NoMemory,
+            CommandError::Usage => Status::Usage,
         }
     }
 }

@@ -12,11 +12,11 @@ use Rattle.heap_model.specs.CoreLawsOpened.{saying_law}
 use Rattle.heap_model.specs.Opening.{opened, opening_calls, IsLeftByOpening}
 use Rattle.heap_model.specs.Image.{shaped_image}
 use Rattle.heap_shell.specs.Headline.{recovered_line, graph_text, Reopens, FailsToOpen}
-use Rattle.heap_shell.specs.Output.{WroteText}
+use Rattle.heap_shell.specs.Output.{WroteText, commits_since}
 use Rattle.heap_shell.proofs.PlayOpen.{opened_core, opened_unfailed}
 use Rattle.heap_shell.proofs.PlayPrints.{wrote_again}
 use Rattle.heap_shell.proofs.Statuses.{open_not_done}
-use Rattle.heap_shell.proofs.PrintRecovered.{Left, legal_of, keeps_first, few_commits, recovers_nothing, recovers_first}
+use Rattle.heap_shell.proofs.PrintRecovered.{Left, legal_of, keeps_first, few_commits, since_before, recovers_nothing, recovers_first}
 use Rattle.heap_shell.proofs.again.print_recovered.Goals as goal
 
 -- an opening leaves the same commits at each moment
@@ -58,7 +58,7 @@ returns-clause-recovers g c = λ tells core k first only same.
     let reached = opened_reached s batches says.legal.shaped true found.0 found.1 found.2 in
     let few = few_commits s batches says.legal in
     let count = says.count in
-    let since : min (machine.commits (records_of batches) + 0) greatest - c.args.before ≡ k = omega (arith, count, few, same) in
+    let since : commits_since c.args.before (min (machine.commits (records_of batches) + 0) greatest) ≡ k = since_before c.args.before core (machine.commits (records_of batches)) k same count first.some few in
     let moments = subst (λ x. LeavesOnly d.moment d.left_since c.args.disk x (IsLeftByOpening s batches)) (sym c.close.ensures) (c.in-Ok.ensures.moments tells only s batches (shaped_image legal)) in
     let leaves = λ (left : List ℕ) (may : d.may_leave final left). c.in-Ok.ensures.crash tells only s batches (shaped_image legal) left (subst (λ x. d.may_leave x left) c.close.ensures may) in
     let keeps = keeps_first d core k c.args.disk final first moments leaves (ap d.restarts c.close.ensures ∙ c.in-Ok.ensures.disk.restarts tells) in

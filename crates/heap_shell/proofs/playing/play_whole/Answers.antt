@@ -1,0 +1,130 @@
+use Rattle.std.proofs.Common.{◌≡◌, ◌+◌, ◌≤◌, ℕ, inl, [], None, Ok, Err, refl, sym, ap, ◌∙◌, subst, arith}
+use Rattle.counts.specs.Count.{counted}
+use Rattle.heap_model.specs.Image.{shaped_image}
+use Rattle.heap_shell.specs.declared.play.Halt.{Halt}
+use Rattle.heap_model.specs.CoreRuns.{total_calls}
+use Rattle.heap_model.specs.Ending.{all_events}
+use Rattle.heap_shell.specs.CoreLawsPlay.{all_playable}
+use Rattle.heap_shell.specs.Stored.{stored_core, stored_calls}
+use Rattle.heap_shell.specs.StatusOf.{open_status}
+use Rattle.script_text.specs.Line.{events}
+use Rattle.heap_shell.specs.Causes.{DiskRose, Unharmed}
+use Rattle.heap_shell.proofs.Causes.{disk_rose_since}
+use Rattle.gate_slot.specs.Passing.{counted-add}
+use Rattle.heap_shell.proofs.Counts.{counted_mono}
+use Rattle.heap_shell.proofs.PlayEnds.{run_reached, lines_wrote, halt_part, halt_lines, keeps_own, ends_early, ends_whole, exact_none, exact_passes, passes_most}
+use Rattle.heap_shell.proofs.PlayOpen.{stored_running, stored_keeps, stored_moments, ends_unopened, opened_core, played_unfailed}
+use Rattle.heap_shell.proofs.PrintRecovered.{fails_most, fails_none}
+use Rattle.heap_shell.proofs.Statuses.{halt_end, halt_not_done, open_not_done, open_harm}
+use Rattle.heap_shell.proofs.PlayPrints.{reached, prints_early, prints_whole}
+use Rattle.heap_shell.proofs.playing.play_whole.Goals as goal
+
+pub returns-in-Err-clause-played : goal.returns-in-Err-clause-played
+returns-in-Err-clause-played g c tells stored only =
+    let d = g.D.Disk in
+    let e = c.in-Err.ensures in
+    let shaped = shaped_image stored.legal in
+    let passes = e.passes tells stored.super stored.batches shaped in
+    let outside = e.shaped tells stored.super stored.batches shaped in
+    let few = fails_most (stored_calls stored) (d.passed c.args.disk) (d.passed c.in-Err.disk) c.in-Err.e passes in
+    let most = counted_mono few.0 (stored_calls stored) (d.passed c.args.disk) few.1 in
+    let total = counted_mono few.0 (stored_calls stored + 0) (d.passed c.args.disk) (omega (arith, few.1)) in
+    ends_unopened d stored None (all_events None (stored_core stored) (events c.args.script.now)) c.in-Err.e c.from.result c.args.disk c.in-Err.disk g.K.Sink.tells (g.K.Sink.written c.args.sink.now) c.from.ensures outside
+    (stored_moments d stored c.args.disk c.in-Err.disk (e.moments tells only stored.super stored.batches shaped))
+    (λ image left. stored_keeps d stored image (e.crash tells only stored.super stored.batches shaped image left))
+    (λ image since. g.met.D.Disk.only_now tells c.in-Err.disk image since) (e.disk.restarts tells)
+    (λ none. fails_none (stored_calls stored) (d.passed c.args.disk) (d.passed c.in-Err.disk) c.in-Err.e (ap open_status none) passes)
+    (λ other u. u (open_harm _ _ _ _ c.in-Err.e outside other e.disk.cause))
+    (omega (arith, few.2, most)) (omega (arith, few.2, total))
+
+pub returns-in-Ok-play_all-clause-played : goal.returns-in-Ok-play_all-clause-played
+returns-in-Ok-play_all-clause-played g c tells stored only =
+    let d = g.D.Disk in
+    let k = g.K.Sink in
+    let s = stored.super in
+    let first = stored_core stored in
+    let n = stored_calls stored in
+    let shaped = shaped_image stored.legal in
+    let running = stored_running d stored in
+    let playable = all_playable None first c.args.script.now c.requires in
+    let es = all_events None first (events c.args.script.now) in
+    let old = c.in-Ok.heap in
+    let new = c.play_all.new.heap in
+    let before = k.written c.args.sink.now in
+    let after = k.written c.play_all.new.sink in
+    let e = c.in-Ok.ensures in
+    let plays = c.in-Ok-play_all.ensures.plays tells s first (e.holds tells s stored.batches stored.legal only stored.places stored.graph stored.found) running in
+    let whole = plays.ends in
+    let passed : d.passed old.disk ≡ counted n (d.passed c.args.disk) = (e.passes tells s stored.batches shaped).ok in
+    let keeps = keeps_own s first running refl es playable old new k.tells before after (Ok tt) plays tells n c.args.disk (λ disk image since. g.met.D.Disk.only_now tells disk image since)
+    (stored_moments d stored c.args.disk old.disk (e.moments tells only s stored.batches shaped)) (λ image left. stored_keeps d stored image (e.crash tells only s stored.batches shaped image left)) passed (e.disk.restarts tells) in
+    let all = total_calls first plays.made in
+    let calls : d.passed new.disk ≡ counted (n + all) (d.passed c.args.disk) = whole.1.passes ∙ ap (counted all) passed ∙ counted-add all n (d.passed c.args.disk) in
+    rw (c.close.ensures, c.status_after-status.ensures) (ends_whole s first running refl es playable old new k.tells before after (Ok tt) plays d c.args.disk new.disk n keeps
+    c.write_graph.result (k.written c.write_graph.new.sink) whole.0 whole.1.reached
+    (lines_wrote s first running refl es playable old new k.tells before after (Ok tt) plays (Ok tt) refl)
+    (λ t. c.write_graph.ensures.wrote t plays.core plays.heap.core (run_reached s first running refl es playable old new k.tells before after (Ok tt) plays).1) refl calls)
+
+pub returns-in-Err-play_all-clause-played : goal.returns-in-Err-play_all-clause-played
+returns-in-Err-play_all-clause-played g c tells stored only =
+    let d = g.D.Disk in
+    let k = g.K.Sink in
+    let s = stored.super in
+    let first = stored_core stored in
+    let n = stored_calls stored in
+    let shaped = shaped_image stored.legal in
+    let running = stored_running d stored in
+    let playable = all_playable None first c.args.script.now c.requires in
+    let es = all_events None first (events c.args.script.now) in
+    let old = c.in-Ok.heap in
+    let new = c.play_all.new.heap in
+    let before = k.written c.args.sink.now in
+    let after = k.written c.play_all.new.sink in
+    let h : Halt = c.in-Err-play_all.halt in
+    let e = c.in-Ok.ensures in
+    let unharmed = λ (u : Unharmed d c.args.disk new.disk) (rose : DiskRose (d.faults old.disk) (d.stops old.disk) (d.faults new.disk) (d.stops new.disk)).
+    u (disk_rose_since _ _ _ _ _ _ e.disk.cause.faults_kept e.disk.cause.stops_kept c.play_all.ensures.disk.cause.faults_kept c.play_all.ensures.disk.cause.stops_kept rose) in
+    let plays = c.in-Err-play_all.ensures.plays tells s first (e.holds tells s stored.batches stored.legal only stored.places stored.graph stored.found) running in
+    let passed : d.passed old.disk ≡ counted n (d.passed c.args.disk) = (e.passes tells s stored.batches shaped).ok in
+    let keeps = keeps_own s first running refl es playable old new k.tells before after (Err h) plays tells n c.args.disk (λ disk image since. g.met.D.Disk.only_now tells disk image since)
+    (stored_moments d stored c.args.disk old.disk (e.moments tells only s stored.batches shaped)) (λ image left. stored_keeps d stored image (e.crash tells only s stored.batches shaped image left)) passed (e.disk.restarts tells) in
+    let all = total_calls first plays.made in
+    let sum = counted-add all n (d.passed c.args.disk) in
+    let whole = λ (u : Unharmed d c.args.disk new.disk). exact_passes s first running refl es playable old new k.tells before after (Err h) plays (unharmed u) ∙ ap (counted all) passed ∙ sum in
+    let most = subst (λ (m : ℕ). d.passed new.disk ≤ m) (ap (counted all) passed ∙ sum) (passes_most s first running refl es playable old new k.tells before after (Err h) plays) in
+    rw (c.close-in-Err-play_all.ensures, c.from-in-Err-play_all.ensures) (ends_early s first running refl es playable old new k.tells before after (Err h) plays d c.args.disk new.disk None n keeps whole most
+    _ (halt_end h) (halt_not_done h)
+    (halt_part s first running refl es playable old new k.tells before after (Err h) plays h refl)
+    (halt_lines s first running refl es playable old new k.tells before after (Err h) plays h refl)
+    (λ u. exact_none s first running refl es playable old new k.tells before after (Err h) plays (unharmed u))
+    refl)
+
+pub write_graph-requires : goal.write_graph-requires
+write_graph-requires g c =
+    let k = g.K.Sink in
+    let some = opened_core c.in-Ok.heap c.in-Ok.ensures.opens in
+    let running = some.1.running in
+    let plays = c.in-Ok-play_all.ensures.core some.0 some.2 running in
+    record { unfailed = played_unfailed some.0 c.args.script.now c.play_all.new.heap k.tells (k.written c.args.sink.now) (k.written c.play_all.new.sink) running c.requires plays }
+
+pub returns-in-Err-clause-prints : goal.returns-in-Err-clause-prints
+returns-in-Err-clause-prints g c tells = inl ((λ done. open_not_done c.in-Err.e (sym c.from.ensures ∙ done)), refl)
+
+pub returns-in-Ok-play_all-clause-prints : goal.returns-in-Ok-play_all-clause-prints
+returns-in-Ok-play_all-clause-prints g c tells =
+    let k = g.K.Sink in
+    let some = opened_core c.in-Ok.heap c.in-Ok.ensures.opens in
+    let before = k.written c.args.sink.now in
+    let after = k.written c.play_all.new.sink in
+    let new = c.play_all.new.heap in
+    let plays = c.in-Ok-play_all.ensures.core some.0 some.2 some.1.running in
+    let at_end = reached None some.0 some.1 c.args.script.now c.requires new k.tells before after (Ok tt) plays tells in
+    rw c.status_after-status.ensures (prints_whole some.0 some.1 c.args.script.now c.requires new k.tells before after plays tells c.write_graph.result (k.written c.write_graph.new.sink) (c.write_graph.ensures.wrote tells plays.core plays.is at_end))
+
+pub returns-in-Err-play_all-clause-prints : goal.returns-in-Err-play_all-clause-prints
+returns-in-Err-play_all-clause-prints g c tells =
+    let k = g.K.Sink in
+    let some = opened_core c.in-Ok.heap c.in-Ok.ensures.opens in
+    let h : Halt = c.in-Err-play_all.halt in
+    let plays = c.in-Err-play_all.ensures.core some.0 some.2 some.1.running in
+    rw c.from-in-Err-play_all.ensures (prints_early None some.0 some.1 c.args.script.now c.requires c.play_all.new.heap k.tells (k.written c.args.sink.now) (k.written c.play_all.new.sink) (Err h) plays tells h refl)
