@@ -115,8 +115,11 @@ module _ (s : Super) (batches : List (List Record)) (read : Reading) (is : IsRea
   to_log P h = let Q : ℕ → Type 0 = λ n. P n (log_room read.log) in subst Q (sym is.place) (subst (P log_offset) (sym is.room) h)
 
   -- the batches stand where the log was read
+  pub held_there : (image now : List ℕ) → HoldsBatches (part image log_offset s.log_bytes) batches → now ≡ image → HoldsBatches (part now (log_place read.log) (log_room read.log)) batches
+  held_there image now holds same = to_log (λ n m. HoldsBatches (part now n m) batches) (subst (λ (l : List ℕ). HoldsBatches (part l log_offset s.log_bytes) batches) (sym same) holds)
+
   pub held : (image now : List ℕ) → Holds s batches image → now ≡ image → HoldsBatches (part now (log_place read.log) (log_room read.log)) batches
-  held image now holds same = to_log (λ n m. HoldsBatches (part now n m) batches) (subst (λ (l : List ℕ). HoldsBatches (part l log_offset s.log_bytes) batches) (sym same) holds.log)
+  held image now holds same = held_there image now holds.log same
 
   pub outside_log : (image now new : List ℕ) → now ≡ image → SameOutside (log_place read.log) (log_place read.log + log_room read.log) now new → SameOutside log_offset (log_offset + s.log_bytes) image new
   outside_log image now new same outside = subst (λ (l : List ℕ). SameOutside log_offset (log_offset + s.log_bytes) l new) same (in_log (λ n m. SameOutside n (n + m) now new) outside)
