@@ -1,5 +1,5 @@
 -- What an opening tells of an image that it refuses, and what it leaves of it.
-use Rattle.std.proofs.Common.{inl, inr, ◌≡◌, ◌≢◌, ◌⊎◌, ⊎_elim, ℕ, ◌+◌, ◌<◌, ◌≤◌, List, [], ◌++◌, length, take, Option, None, Some, Result, Ok, Err, refl, sym, ap, ◌∙◌, subst, arith}
+use Rattle.std.proofs.Common.{inl, inr, ◌≡◌, ◌≢◌, ◌⊎◌, ⊎_elim, ℕ, ◌+◌, ◌≤◌, List, Option, None, Some, Result, Ok, Err, refl, sym, ap, ◌∙◌, subst, arith}
 use Rattle.std.specs.Prelude.{IfOk, IfErr, IsOk, IsErrAnd}
 use Rattle.std.specs.List.{AllByRecursion}
 use Rattle.disk_model.specs.Disk.{part, Only, Narrows, SameOutside}
@@ -8,7 +8,7 @@ use Rattle.gate_slot.specs.Images.{same_part}
 use Rattle.gated_log.specs.declared.Log.{Log}
 use Rattle.gated_log.specs.declared.LogError.{LogError}
 use Rattle.gated_log.specs.declared.LogError.TheVariants as logging
-use Rattle.gated_log.specs.Log.{records_of, with_batch, HoldsBatches, BreaksAt, batches_bytes}
+use Rattle.gated_log.specs.Log.{records_of, with_batch, HoldsBatches, BreaksAt}
 use Rattle.gated_log.specs.LogState.{log_place, log_room, log_used, Keeps}
 use Rattle.image_plan.specs.declared.superblock.Super.{Super}
 use Rattle.image_plan.specs.Plan.{log_offset}
@@ -19,10 +19,10 @@ use Rattle.log_machine.specs.declared.replaying.ReplayError.TheVariants as repla
 use Rattle.log_machine.specs.Machine.{State, start, after_all, all_taken_back, rollback, reserve}
 use Rattle.log_machine.specs.Replay.{IsFirstUnshaped}
 use Rattle.object_layout.specs.Walk.{IsWalked, IsWalkFault}
-use Rattle.heap_model.specs.Image.{words_of, IsShapedLog}
+use Rattle.heap_model.specs.Image.{IsShapedLog}
 use Rattle.heap_model.specs.Opening.{rolled_back}
 use Rattle.heap_recovery.specs.declared.at.At.{At}
-use Rattle.heap_recovery.specs.declared.at.At.TheVariants.{Batch, Rec, Reserve, Address}
+use Rattle.heap_recovery.specs.declared.at.At.TheVariants.{Address}
 use Rattle.heap_recovery.specs.declared.error.RecoverError.{RecoverError}
 use Rattle.heap_recovery.specs.declared.error.RecoverError.TheVariants.{NoMemory, NotHeap, Damaged, Disk}
 use Rattle.heap_recovery.specs.declared.reading.Reading.{Reading}
@@ -30,7 +30,7 @@ use Rattle.heap_recovery.specs.declared.recovery.Recovered.{Recovered}
 use Rattle.heap_recovery.specs.Faults.{HasSuper, IsNoHeap, HoldsLog, IsReplayed, IsReadable, IsFaultAt, IsToldOf, IsErrorOrOutside, ComesBeforeWrites, IsLogLeft}
 use Rattle.heap_recovery.specs.FaultLaws.{one_numbers, one_batches, shaped_log_whole, told_not_heap, told_damaged, left_fault, rolled_spelled}
 use Rattle.heap_recovery.specs.Recovered.{IsRead, IsRecovered, IsFromOutside, log_error, replay_error}
-use Rattle.heap_recovery.proofs.Opening.{committed, only_still, in_log, held_there, outside_log, rolled_held, placed_there, read_shaped, used_of}
+use Rattle.heap_recovery.proofs.Opening.{committed, only_still, in_log, held_there, outside_log, rolled_held, placed_there, read_shaped}
 
 -- no numbers are those of an image of which an opening tells no damage, if none lets it end so but the outside
 pub numbers_told : (e : RecoverError) (image : List ℕ) → ((at : At) → e ≢ Damaged at) → ((s : Super) → HasSuper s image → IsFromOutside e) → IsToldOf e image

@@ -1,10 +1,10 @@
 -- Laws of faults: an image has one at most, and none if it is no heap or is shaped; a rollback keeps one that is at an address.
-use Rattle.std.proofs.Common.{◌≡◌, ◌⊎◌, inl, inr, ⊎_elim, ℕ, zero, suc, ◌+◌, ◌-◌, ◌<◌, ◌≤◌, ◌^◌, List, [], ◌∷◌, ◌++◌, length, take, Option, None, Some, true, is_some, refl, sym, ap, ◌∙◌, subst, arith}
+use Rattle.std.proofs.Common.{◌≡◌, inl, inr, ⊎_elim, ℕ, zero, suc, ◌+◌, ◌-◌, ◌<◌, ◌≤◌, ◌^◌, List, [], ◌∷◌, ◌++◌, length, take, None, Some, true, is_some, refl, sym, ap, ◌∙◌, subst, arith}
 use Rattle.std.proofs.lemmas.Bool.{cases_order}
 use Rattle.std.specs.List.{AllByRecursion}
 use Rattle.disk_model.specs.Disk.{part}
 use Rattle.gate_slot.specs.Images.{length_part}
-use Rattle.gated_log.specs.Log.{HoldsBatches, BreaksAt, batches_bytes, records_of}
+use Rattle.gated_log.specs.Log.{BreaksAt, batches_bytes, records_of}
 use Rattle.gated_log.specs.LogLaws.{holds_once, holds_or_breaks, breaks_once}
 use Rattle.image_plan.specs.declared.superblock.Super.{Super}
 use Rattle.image_plan.specs.Plan.{log_offset}
