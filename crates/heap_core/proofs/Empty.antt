@@ -14,7 +14,7 @@ use Rattle.image_plan.specs.declared.superblock.Super.{Super}
 use Rattle.image_plan.specs.Plan.{image_size, frame_offset}
 use Rattle.image_plan.specs.Super.{IsSuper, superblock}
 use Rattle.heap_core.proofs.Calls.{then_err}
-use Rattle.heap_core.specs.Format.{AreZero, IsFormatting, zero_writes, format_calls}
+use Rattle.heap_core.specs.Format.{AreZero, IsEmptyHeap, IsFormatting, zero_writes, format_calls}
 use Rattle.heap_model.specs.CoreLawsNew.{new_legal}
 use Rattle.heap_model.specs.Image.{IsLegal}
 
@@ -72,6 +72,13 @@ module _ (s : Super) (image : List ℕ) (large : image_size s.pages s.log_bytes 
           let there : 64 + s.log_bytes + (2 * p + f) * 528 < image_size s.pages s.log_bytes = omega arith in
           absurd (omega (arith, is_open, behind_at (frame_offset s.log_bytes p f) (omega arith), zero (frame_offset s.log_bytes p f) (omega arith) there));
     };
+  }
+
+  -- and nothing else stands there
+  pub empty_heap : AreZero 64 (image_size s.pages s.log_bytes) image → IsEmptyHeap s (filled 0 1 (drop 1 (superblock s)) image)
+  empty_heap zero = record {
+    super = ap (λ (l : List ℕ). take 64 l) front ∙ take_at (superblock s) (drop 64 image) 64 size;
+    zero = λ i low high. behind_at i low ∙ zero i low high;
   }
 
 -- an image with the gate of another open and all else equal to it is that image

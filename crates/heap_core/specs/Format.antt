@@ -1,7 +1,9 @@
 -- What is made of a disk's image while an empty heap is written over it.
-use Rattle.std.specs.Prelude.{◌≡◌, ◌⊎◌, ℕ, ◌+◌, ◌-◌, ◌/◌, ◌<◌, ◌≤◌, ◌==◌, List, [], slice_index, if◌then◌else◌}
+use Rattle.std.specs.Prelude.{◌≡◌, ◌⊎◌, ℕ, ◌+◌, ◌-◌, ◌/◌, ◌<◌, ◌≤◌, ◌==◌, List, [], take, slice_index, if◌then◌else◌}
 use Rattle.gate_slot.specs.Gate.{IsClosed}
 use Rattle.image_plan.specs.declared.superblock.Super.{Super}
+use Rattle.image_plan.specs.Plan.{image_size}
+use Rattle.image_plan.specs.Super.{superblock}
 use Rattle.heap_model.specs.Image.{IsLegal}
 
 -- the numbers of a heap
@@ -11,6 +13,11 @@ heap_of pages log_bytes first = record { pages = pages; log_bytes = log_bytes; f
 -- the bytes from `from` to `end` are zero
 abbrev pub AreZero : ℕ → ℕ → List ℕ → Type 0
 AreZero from end image = (i : ℕ) → from ≤ i → i < end → slice_index image i ≡ 0
+
+-- An empty heap: its superblock, and zeros in its log and in all of its frames.
+pub record IsEmptyHeap (s : Super) (image : List ℕ) : Type 0 where
+  pub super : take 64 image ≡ superblock s
+  pub zero : AreZero 64 (image_size s.pages s.log_bytes) image
 
 -- While an empty heap is made over an old image, a crash leaves no heap, the old image, or the new empty heap.
 abbrev pub IsFormatting : Super → List ℕ → List ℕ → Type 0

@@ -4,4 +4,5 @@ pub mod Format
 pub mod GivenBack
 pub mod HeapState
 pub mod Means
+pub mod Refusals
 pub mod Rounds

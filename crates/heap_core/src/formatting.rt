@@ -7,7 +7,7 @@ ghost use Rattle.gate_slot.specs.Passing.{Passes};
 ghost use Rattle.image_plan.specs.Plan.{image_size};
 ghost use Rattle.image_plan.specs.Super.{IsSuper};
 ghost use Rattle.heap_core.specs.declared.errors.FormatError.TheVariants.{TooSmall};
-ghost use Rattle.heap_core.specs.Format.{AreZero, IsFormatting, heap_of, zero_writes, format_calls};
+ghost use Rattle.heap_core.specs.Format.{AreZero, IsEmptyHeap, IsFormatting, heap_of, zero_writes, format_calls};
 ghost use Rattle.heap_core.specs.GivenBack.{given_back, made_device, device_result, IsFromDisk};
 ghost use Rattle.heap_model.specs.Image.{IsLegal};
 
@@ -39,6 +39,7 @@ impl<D: Disk> Heap<D> {
         ensures large { image_size pages log_bytes ≤ D.extent disk → IfErr result (λ e. IsFromDisk e.0) }
 
         ensures made { IsTrue D.tells → IfOk result (λ made. IsLegal (heap_of pages log_bytes first) [] (D.bytes made) × Only (D.bytes made) (D.may_leave made)) }
+        ensures empty { IsTrue D.tells → IfOk result (λ made. IsEmptyHeap (heap_of pages log_bytes first) (D.bytes made)) }
         // A crash at any moment leaves no heap, the old image, or the new empty heap.
         ensures moments { IsTrue D.tells → Only (D.bytes disk) (D.may_leave disk) → LeavesOnly D.moment D.left_since disk (given_back result) (IsFormatting (heap_of pages log_bytes first) (D.bytes disk)) }
         ensures passes { IsTrue D.tells → image_size pages log_bytes ≤ D.extent disk → Passes (format_calls (image_size pages log_bytes) (D.bytes disk)) (D.passed disk) (D.passed (given_back result)) (device_result result) }
@@ -64,6 +65,7 @@ fn make_empty<D: Disk>(disk: &mut D, of: &Super) -> Result<(), FormatError>
     ensures large { image_size of.now.pages of.now.log_bytes ≤ D.extent disk.old → IfErr result IsFromDisk }
 
     ensures made { IsTrue D.tells → OnOk result (IsLegal of.now [] (D.bytes disk.new)) }
+    ensures empty { IsTrue D.tells → OnOk result (IsEmptyHeap of.now (D.bytes disk.new)) }
     ensures durable { IsTrue D.tells → OnOk result (Only (D.bytes disk.new) (D.may_leave disk.new)) }
     ensures moments { IsTrue D.tells → Only (D.bytes disk.old) (D.may_leave disk.old) → LeavesOnly D.moment D.left_since disk.old disk.new (IsFormatting of.now (D.bytes disk.old)) }
     ensures passes { IsTrue D.tells → image_size of.now.pages of.now.log_bytes ≤ D.extent disk.old → Passes (format_calls (image_size of.now.pages of.now.log_bytes) (D.bytes disk.old)) (D.passed disk.old) (D.passed disk.new) (made_device result) }
@@ -82,6 +84,7 @@ fn write_empty<D: Disk>(disk: &mut D, of: &Super) -> Result<(), DiskError>
     requires inside { image_size of.now.pages of.now.log_bytes ≤ D.extent disk.old }
 
     ensures made { IsTrue D.tells → OnOk result (IsLegal of.now [] (D.bytes disk.new)) }
+    ensures empty { IsTrue D.tells → OnOk result (IsEmptyHeap of.now (D.bytes disk.new)) }
     ensures durable { IsTrue D.tells → OnOk result (Only (D.bytes disk.new) (D.may_leave disk.new)) }
     ensures moments { IsTrue D.tells → Only (D.bytes disk.old) (D.may_leave disk.old) → LeavesOnly D.moment D.left_since disk.old disk.new (IsFormatting of.now (D.bytes disk.old)) }
     ensures passes { IsTrue D.tells → Passes (format_calls (image_size of.now.pages of.now.log_bytes) (D.bytes disk.old)) (D.passed disk.old) (D.passed disk.new) result }

@@ -1,8 +1,8 @@
 //! The heap: events on an image, each of them one step.
-ghost use Rattle.std.specs.Prelude.{◌≡◌, ◌≢◌, ◌⊎◌, ◌↔◌, ◌+◌, ◌≤◌, ◌^◌, ◌<◌, ℕ, List, [], length, min, is_some, Bool, true, None, Some, Ok, Err, IsTrue, IfOk, IfErr, OnErr};
+ghost use Rattle.std.specs.Prelude.{◌≡◌, ◌≢◌, ◌⊎◌, ◌↔◌, ◌+◌, ◌≤◌, ◌^◌, ◌<◌, ℕ, List, [], length, min, is_some, Bool, true, None, Some, Ok, Err, IsTrue, IfOk, IfErr, IsErrAnd, OnErr};
 ghost use Rattle.counts.specs.Count.{greatest};
 ghost use Rattle.disk_model.specs.Disk.{Only};
-ghost use Rattle.disk_model.specs.Keeps.{KeepsDisk};
+ghost use Rattle.disk_model.specs.Keeps.{KeepsDisk, OnlyReads};
 ghost use Rattle.disk_model.specs.Moments.{LeavesOnly};
 ghost use Rattle.gate_slot.specs.Passing.{Passes};
 ghost use Rattle.gated_log.specs.LogState.{log_place, log_room, IsPlaced};
@@ -112,6 +112,10 @@ fn print(alloc: Global, words: &PageWords) -> Result<Vec<u8>, GraphError>
 impl<D: Disk> Heap<D> {
     ghost use Rattle.heap_core.specs.HeapState.{opened_disk, heap_disk, failed_at, entries_of};
     ghost use Rattle.heap_core.specs.Means.{IsCore, IsHeap, Steps, StepsOn};
+    ghost use Rattle.heap_core.specs.Refusals.{IsToldOf, IsErrorOrOutside, ComesBeforeWrites};
+    ghost use Rattle.heap_core.specs.declared.errors.OpenError.TheVariants.{NotHeap, Damaged};
+    ghost use Rattle.heap_recovery.specs.declared.at.At.{At};
+    ghost use Rattle.heap_recovery.specs.Faults.{IsNoHeap, HoldsLog, IsFaultAt};
 
     /// Opens the heap on the disk.
     pub fn open(alloc: Global, mut disk: D) -> Result<Heap<D>, (OpenError, D)>
@@ -122,7 +126,17 @@ impl<D: Disk> Heap<D> {
 
         ensures unfailed { IfOk result (λ heap. failed_at heap ≡ None) }
 
-        // Of a disk that tells it is the log that the disk holds; where that is legal the disk then holds the core.
+        // Of a disk that tells it is the log of its image. An error tells what is wrong with the image, and what is wrong is told.
+        ensures sound { IsTrue D.tells → IfOk result (λ heap. (s : Super) × (batches : List (List Record)) × HoldsLog s batches (D.bytes disk) × (shaped : IsShapedLog s batches) × ((born : Bool) (places : Places) (g : Graph) → IsFound s batches shaped born places g → IsCore (opened s batches born places g) heap)) }
+        ensures refused { IsTrue D.tells → IfErr result (λ e. IsToldOf e.0 (D.bytes disk)) }
+        ensures not_heap { IsTrue D.tells → IsNoHeap (D.bytes disk) → IsErrAnd result (λ e. IsErrorOrOutside NotHeap e.0) }
+        ensures damaged { IsTrue D.tells → (at : At) → IsFaultAt at (D.bytes disk) → IsErrAnd result (λ e. IsErrorOrOutside (Damaged at) e.0) }
+        ensures left_alone { IfErr result (λ e. ComesBeforeWrites e.0 → OnlyReads D.Disk disk (opened_disk result) (opened_device result)) }
+        // A crash at any moment leaves an image that is refused as this one is.
+        ensures moments_not_heap { IsTrue D.tells → Only (D.bytes disk) (D.may_leave disk) → IsNoHeap (D.bytes disk) → LeavesOnly D.moment D.left_since disk (opened_disk result) IsNoHeap }
+        ensures moments_damaged { IsTrue D.tells → Only (D.bytes disk) (D.may_leave disk) → (at : At) → IsFaultAt at (D.bytes disk) → LeavesOnly D.moment D.left_since disk (opened_disk result) (IsFaultAt at) }
+
+        // Of a shaped image it is the log that the disk holds; where that is legal the disk then holds the core.
         ensures found { IsTrue D.tells → (s : Super) (batches : List (List Record)) → (shaped : IsShaped s batches (D.bytes disk)) → IfOk result (λ heap. (born : Bool) (places : Places) (g : Graph) → IsFound s batches shaped.log born places g → IsCore (opened s batches born places g) heap) }
         ensures holds { IsTrue D.tells → (s : Super) (batches : List (List Record)) → (legal : IsLegal s batches (D.bytes disk)) → Only (D.bytes disk) (D.may_leave disk) → IfOk result (λ heap. (places : Places) (g : Graph) → IsFound s batches legal.log.shaped true places g → IsHeap s (opened s batches true places g) heap) }
         // A shaped image is refused only for want of memory or by the disk.

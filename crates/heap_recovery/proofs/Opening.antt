@@ -13,7 +13,6 @@ use Rattle.gated_log.specs.Log.{records_of, with_batch, HoldsBatches, batches_by
 use Rattle.gated_log.specs.LogLaws.{hand_size-Keeps}
 use Rattle.gated_log.specs.LogRoom.{used_bytes}
 use Rattle.gated_log.specs.LogState.{log_place, log_room, log_tail, hand_size, log_used, log_used_with, IsHandEmpty, IsSameLog, Keeps}
-use Rattle.graph_model.specs.Graph.{Graph}
 use Rattle.image_plan.specs.declared.superblock.Super.{Super}
 use Rattle.image_plan.specs.Plan.{log_offset}
 use Rattle.log_records.specs.declared.Record.{Record}
@@ -115,8 +114,11 @@ module _ (s : Super) (batches : List (List Record)) (read : Reading) (is : IsRea
   to_log P h = let Q : ℕ → Type 0 = λ n. P n (log_room read.log) in subst Q (sym is.place) (subst (P log_offset) (sym is.room) h)
 
   -- the batches stand where the log was read
+  pub held_there : (image now : List ℕ) → HoldsBatches (part image log_offset s.log_bytes) batches → now ≡ image → HoldsBatches (part now (log_place read.log) (log_room read.log)) batches
+  held_there image now holds same = to_log (λ n m. HoldsBatches (part now n m) batches) (subst (λ (l : List ℕ). HoldsBatches (part l log_offset s.log_bytes) batches) (sym same) holds)
+
   pub held : (image now : List ℕ) → Holds s batches image → now ≡ image → HoldsBatches (part now (log_place read.log) (log_room read.log)) batches
-  held image now holds same = to_log (λ n m. HoldsBatches (part now n m) batches) (subst (λ (l : List ℕ). HoldsBatches (part l log_offset s.log_bytes) batches) (sym same) holds.log)
+  held image now holds same = held_there image now holds.log same
 
   pub outside_log : (image now new : List ℕ) → now ≡ image → SameOutside (log_place read.log) (log_place read.log + log_room read.log) now new → SameOutside log_offset (log_offset + s.log_bytes) image new
   outside_log image now new same outside = subst (λ (l : List ℕ). SameOutside log_offset (log_offset + s.log_bytes) l new) same (in_log (λ n m. SameOutside n (n + m) now new) outside)

@@ -1,5 +1,5 @@
 //! What an image says before anything is rolled back: its superblock, its log, and the words that the records leave.
-ghost use Rattle.std.specs.Prelude.{◌≡◌, ℕ, ◌+◌, ◌≤◌, List, take, IsTrue, IfOk, IfErr};
+ghost use Rattle.std.specs.Prelude.{◌≡◌, ◌≢◌, ℕ, ◌+◌, ◌≤◌, List, take, Err, IsTrue, IfOk, IfErr};
 ghost use Rattle.disk_model.specs.Disk.{part};
 ghost use Rattle.disk_model.specs.Keeps.{OnlyReads};
 ghost use Rattle.gated_log.specs.Log.{HoldsBatches};
@@ -10,7 +10,10 @@ ghost use Rattle.image_plan.specs.Super.{IsSuper, superblock};
 ghost use Rattle.log_records.specs.declared.Record.{Record};
 ghost use Rattle.log_machine.specs.Machine.{reserve};
 ghost use Rattle.heap_model.specs.Image.{IsShapedLog, IsShaped};
+ghost use Rattle.heap_recovery.specs.declared.at.At.{At};
+ghost use Rattle.heap_recovery.specs.declared.error.RecoverError.TheVariants.{Damaged};
 ghost use Rattle.heap_recovery.specs.Causes.{open_device};
+ghost use Rattle.heap_recovery.specs.Faults.{HasSuper, IsReadable, IsToldOf};
 ghost use Rattle.heap_recovery.specs.Recovered.{IsRead, IsFromOutside};
 
 use crate::at::At;
@@ -29,6 +32,10 @@ pub fn read_image<D: Disk>(alloc: Global, disk: &mut D) -> Result<Reading, Recov
     ensures inside { IfOk result (λ read. log_place read.log + log_room read.log ≤ D.extent disk.new) }
     ensures room { IfOk result (λ read. log_used read.log + reserve read.state ≤ log_room read.log) }
 
+    // They are the image's own, and an error tells what is wrong with it.
+    ensures sound { IsTrue D.tells → IfOk result (λ read. (batches : List (List Record)) × IsRead read.of batches read × IsReadable read.of batches read.state (D.bytes disk.old)) }
+    ensures refused { IsTrue D.tells → IfErr result (λ e. IsToldOf e (D.bytes disk.old)) }
+
     // Of a shaped image its own are read.
     ensures found { IsTrue D.tells → (s : Super) (batches : List (List Record)) → IsShaped s batches (D.bytes disk.old) → IfOk result (IsRead s batches) }
     ensures shaped { IsTrue D.tells → (s : Super) (batches : List (List Record)) → IsShaped s batches (D.bytes disk.old) → IfErr result IsFromOutside }
@@ -42,6 +49,8 @@ pub fn read_image<D: Disk>(alloc: Global, disk: &mut D) -> Result<Reading, Recov
 fn read_numbers<D: Disk>(disk: &mut D) -> Result<Super, RecoverError>
     ensures good { IfOk result IsSuper }
     ensures fits { IfOk result (λ s. image_size s.pages s.log_bytes ≤ D.extent disk.new) }
+    ensures sound { IsTrue D.tells → IfOk result (λ s. HasSuper s (D.bytes disk.old)) }
+    ensures undamaged { (at : At) → result ≢ Err (Damaged at) }
     ensures found { IsTrue D.tells → (s : Super) → IsSuper s → take 64 (D.bytes disk.old) ≡ superblock s → image_size s.pages s.log_bytes ≤ D.extent disk.old → IfOk result (λ found. found ≡ s) }
     ensures shaped { IsTrue D.tells → (s : Super) → IsSuper s → take 64 (D.bytes disk.old) ≡ superblock s → image_size s.pages s.log_bytes ≤ D.extent disk.old → IfErr result IsFromOutside }
     ensures disk { OnlyReads D.Disk disk.old disk.new (open_device result) }
@@ -66,6 +75,8 @@ fn read_log<D: Disk>(alloc: Global, disk: &mut D, of: Super) -> Result<Reading, 
     ensures read { IfOk result (λ read. (batches : List (List Record)) × IsRead of batches read) }
     ensures inside { IfOk result (λ read. log_place read.log + log_room read.log ≤ D.extent disk.new) }
     ensures room { IfOk result (λ read. log_used read.log + reserve read.state ≤ log_room read.log) }
+    ensures sound { IsTrue D.tells → HasSuper of (D.bytes disk.old) → IfOk result (λ read. (batches : List (List Record)) × IsRead read.of batches read × IsReadable read.of batches read.state (D.bytes disk.old)) }
+    ensures refused { IsTrue D.tells → HasSuper of (D.bytes disk.old) → IfErr result (λ e. IsToldOf e (D.bytes disk.old)) }
     ensures found { IsTrue D.tells → (batches : List (List Record)) → HoldsBatches (part (D.bytes disk.old) log_offset of.log_bytes) batches → IsShapedLog of batches → IfOk result (IsRead of batches) }
     ensures shaped { IsTrue D.tells → (batches : List (List Record)) → HoldsBatches (part (D.bytes disk.old) log_offset of.log_bytes) batches → IsShapedLog of batches → IfErr result IsFromOutside }
     ensures disk { OnlyReads D.Disk disk.old disk.new (open_device result) }

@@ -1,18 +1,20 @@
 //! An image is opened, and the writes of unfinished transactions are rolled back.
-ghost use Rattle.std.specs.Prelude.{◌≡◌, ◌+◌, ◌≤◌, ℕ, List, [], None, Some, Ok, Err, IsTrue, IsOk, IfOk, IfErr, OnOk};
+ghost use Rattle.std.specs.Prelude.{◌≡◌, ◌+◌, ◌≤◌, ℕ, List, [], None, Some, Ok, Err, IsTrue, IsOk, IfOk, IfErr, OnOk, IsErrAnd};
 ghost use Rattle.disk_model.specs.Disk.{Only};
-ghost use Rattle.disk_model.specs.Keeps.{KeepsDisk};
+ghost use Rattle.disk_model.specs.Keeps.{KeepsDisk, OnlyReads};
 ghost use Rattle.disk_model.specs.Moments.{LeavesOnly};
 ghost use Rattle.gated_log.specs.LogState.{log_place, log_room, log_used, IsReady, Keeps};
 ghost use Rattle.image_plan.specs.declared.superblock.Super.{Super};
 ghost use Rattle.log_records.specs.declared.Record.{Record};
-ghost use Rattle.log_machine.specs.Machine.{rollback, all_taken_back, reserve};
+ghost use Rattle.log_machine.specs.Machine.{State, rollback, all_taken_back, reserve};
 ghost use Rattle.object_layout.specs.Walk.{IsWalked, IsWalkFault};
 ghost use Rattle.heap_model.specs.Image.{IsShapedLog, Holds, IsShaped};
 ghost use Rattle.heap_model.specs.Opening.{rollback_of, rolled_back, opening_calls, IsLeftByOpening};
 ghost use Rattle.heap_recovery.specs.Causes.{open_device};
+ghost use Rattle.heap_recovery.specs.declared.at.At.{At};
 ghost use Rattle.heap_recovery.specs.declared.at.At.TheVariants.{Address};
-ghost use Rattle.heap_recovery.specs.declared.error.RecoverError.TheVariants.{NoMemory, Damaged};
+ghost use Rattle.heap_recovery.specs.declared.error.RecoverError.TheVariants.{NoMemory, NotHeap, Damaged};
+ghost use Rattle.heap_recovery.specs.Faults.{IsNoHeap, HoldsLog, IsReadable, IsFaultAt, IsToldOf, IsErrorOrOutside, ComesBeforeWrites, IsLogLeft};
 ghost use Rattle.heap_recovery.specs.Recovered.{IsRecovered, IsFromOutside, OpenPasses};
 
 use crate::at::At;
@@ -49,6 +51,18 @@ pub fn recover<D: Disk>(alloc: Global, disk: &mut D) -> Result<Recovered, Recove
     ensures opens { IfOk result (λ found. (s : Super) × (batches : List (List Record)) × IsShapedLog s batches × IsRecovered s batches found) }
     ensures inside { IfOk result (λ found. log_place found.log + log_room found.log ≤ D.extent disk.new) }
     ensures disk { KeepsDisk D.Disk disk.old disk.new (open_device result) }
+
+    // It is the log of the image. An error tells what is wrong with the image, and what is wrong is told.
+    ensures sound { IsTrue D.tells → IfOk result (λ found. (s : Super) × (batches : List (List Record)) × HoldsLog s batches (D.bytes disk.old) × IsShapedLog s batches × IsRecovered s batches found) }
+    ensures refused { IsTrue D.tells → IfErr result (λ e. IsToldOf e (D.bytes disk.old)) }
+    ensures not_heap { IsTrue D.tells → IsNoHeap (D.bytes disk.old) → IsErrAnd result (IsErrorOrOutside NotHeap) }
+    ensures damaged { IsTrue D.tells → (at : At) → IsFaultAt at (D.bytes disk.old) → IsErrAnd result (IsErrorOrOutside (Damaged at)) }
+    ensures left_alone { IfErr result (λ e. ComesBeforeWrites e → OnlyReads D.Disk disk.old disk.new (open_device result)) }
+
+    // A crash at any moment leaves an image with the same log, or that log rolled back; where it is wrong, with the same fault.
+    ensures moments_readable { IsTrue D.tells → Only (D.bytes disk.old) (D.may_leave disk.old) → (s : Super) (batches : List (List Record)) (state : State) → IsReadable s batches state (D.bytes disk.old) → LeavesOnly D.moment D.left_since disk.old disk.new (IsLogLeft s batches) }
+    ensures moments_not_heap { IsTrue D.tells → Only (D.bytes disk.old) (D.may_leave disk.old) → IsNoHeap (D.bytes disk.old) → LeavesOnly D.moment D.left_since disk.old disk.new IsNoHeap }
+    ensures moments_damaged { IsTrue D.tells → Only (D.bytes disk.old) (D.may_leave disk.old) → (at : At) → IsFaultAt at (D.bytes disk.old) → LeavesOnly D.moment D.left_since disk.old disk.new (IsFaultAt at) }
 
     // A shaped image is opened as it is, and the disk then holds it rolled back.
     ensures found { IsTrue D.tells → (s : Super) (batches : List (List Record)) → IsShaped s batches (D.bytes disk.old) → IfOk result (IsRecovered s batches) }

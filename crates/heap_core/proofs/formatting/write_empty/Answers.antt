@@ -7,9 +7,9 @@ use Rattle.gate_slot.specs.Passing.{Passes}
 use Rattle.image_plan.specs.declared.plan.Plan.{Plan}
 use Rattle.image_plan.specs.Super.{superblock}
 use Rattle.image_plan.specs.Plan.{image_size}
-use Rattle.heap_core.specs.Format.{AreZero, IsFormatting, zero_writes}
+use Rattle.heap_core.specs.Format.{AreZero, IsEmptyHeap, IsFormatting, zero_writes}
 use Rattle.heap_model.specs.Image.{IsLegal}
-use Rattle.heap_core.proofs.Empty.{empty, zeroing, filling, closing_run, run_then, made_calls, gate_calls, zero_calls}
+use Rattle.heap_core.proofs.Empty.{empty, empty_heap, zeroing, filling, closing_run, run_then, made_calls, gate_calls, zero_calls}
 use Rattle.heap_core.proofs.formatting.write_empty.Goals as goal
 
 pub returns-clause-made : goal.returns-clause-made
@@ -24,6 +24,19 @@ returns-clause-made g c tells =
     let zero_all : AreZero 64 (image_size s.pages s.log_bytes) seen = subst (λ (n : ℕ). AreZero 64 n seen) end zero in
     let made : d.bytes c.fill_and_open.new.disk ≡ filled 0 1 (take 63 (drop 1 c.write_super-bytes.result)) seen → IsLegal s [] (d.bytes c.fill_and_open.new.disk) =
     λ is. subst (λ (x : List ℕ). IsLegal s [] x) (sym (is ∙ ap (λ (l : List ℕ). filled 0 1 (take 63 (drop 1 l)) seen) c.write_super-bytes.ensures)) (empty s seen large c.requires.good zero_all) in
+    on_ok_weaker c.fill_and_open.result made (c.fill_and_open.ensures.filled tells)
+
+pub returns-clause-empty : goal.returns-clause-empty
+returns-clause-empty g c tells =
+    let d = g.D.Disk in
+    let s = c.args.of.now in
+    let seen = d.bytes c.write_zeros.new.disk in
+    let whole = g.met.D.Disk.same_size tells c.write_zeros.new.disk seen (g.met.D.Disk.reads_an_image tells c.write_zeros.new.disk) in
+    let large : image_size s.pages s.log_bytes ≤ length seen = omega (arith, whole, c.write_zeros.ensures.disk.extent, c.close_gate.ensures.disk.extent, c.requires.inside) in
+    let end : c.size.result ≡ image_size s.pages s.log_bytes = c.size.ensures ∙ ap (λ (p : Plan). image_size p.pages p.log_bytes) c.plan.ensures in
+    let zero_all : AreZero 64 (image_size s.pages s.log_bytes) seen = subst (λ (n : ℕ). AreZero 64 n seen) end (c.in_ok-write_zeros.ensures.zero tells) in
+    let made : d.bytes c.fill_and_open.new.disk ≡ filled 0 1 (take 63 (drop 1 c.write_super-bytes.result)) seen → IsEmptyHeap s (d.bytes c.fill_and_open.new.disk) =
+    λ is. subst (λ (x : List ℕ). IsEmptyHeap s x) (sym (is ∙ ap (λ (l : List ℕ). filled 0 1 (take 63 (drop 1 l)) seen) c.write_super-bytes.ensures)) (empty_heap s seen large zero_all) in
     on_ok_weaker c.fill_and_open.result made (c.fill_and_open.ensures.filled tells)
 
 pub returns-clause-moments : goal.returns-clause-moments

@@ -1,4 +1,4 @@
-use Rattle.std.proofs.Common.{◌≡◌, ℕ, ◌≤◌, List, Err, sym, subst, arith, rules}
+use Rattle.std.proofs.Common.{◌≡◌, ℕ, ◌≤◌, List, Err, sym, ap, subst, arith, rules}
 use Rattle.std.specs.Prelude.{IfOk}
 use Rattle.disk_model.specs.Disk.{part}
 use Rattle.gated_log.specs.Log.{HoldsBatches}
@@ -6,7 +6,10 @@ use Rattle.image_plan.specs.declared.superblock.Super.{Super}
 use Rattle.image_plan.specs.Plan.{log_offset, image_size}
 use Rattle.log_records.specs.declared.Record.{Record}
 use Rattle.heap_model.specs.Image.{IsShapedLog, Holds}
+use Rattle.heap_recovery.specs.declared.error.RecoverError.{RecoverError}
+use Rattle.heap_recovery.specs.Faults.{HasSuper, IsReadable}
 use Rattle.heap_recovery.specs.Recovered.{IsRead}
+use Rattle.heap_recovery.proofs.Refusals.{numbers_told}
 use Rattle.heap_recovery.proofs.read_image.read_image.Goals as goal
 
 pub returns-in_err-of-clause-shaped : goal.returns-in_err-of-clause-shaped
@@ -16,6 +19,21 @@ returns-in_err-of-clause-shaped g c tells s batches shaped =
     let fits : image_size s.pages s.log_bytes ≤ g.D.Disk.extent c.args.disk.now = omega (arith, whole, shaped.held.size) in
     let err : c.from_residual.result ≡ Err c.in_err-of.field-0.0 = search rules in
     rw err (c.in_err-of.ensures.shaped tells s shaped.log.limits shaped.held.super fits)
+
+pub returns-in_err-of-clause-refused : goal.returns-in_err-of-clause-refused
+returns-in_err-of-clause-refused g c tells =
+    let old = g.D.Disk.bytes c.args.disk.now in
+    let whole = g.met.D.Disk.same_size tells c.args.disk.now old (g.met.D.Disk.reads_an_image tells c.args.disk.now) in
+    let e = c.in_err-of.field-0.0 in
+    let err : c.from_residual.result ≡ Err e = search rules in
+    rw err (numbers_told e old (λ at is. c.in_err-of.ensures.undamaged at (ap (λ (x : RecoverError). Err x) is)) (λ s has. c.in_err-of.ensures.shaped tells s has.limits has.super (omega (arith, whole, has.size))))
+
+pub returns-clause-sound : goal.returns-clause-sound
+returns-clause-sound g c tells =
+    let of = c.in_ok-of.of in
+    let still = (c.read_numbers.ensures.disk.contents tells).bytes in
+    let has = subst (λ (l : List ℕ). HasSuper of l) (sym still) (c.in_ok-of.ensures.sound tells) in
+    subst (λ (l : List ℕ). IfOk c.read_log.result (λ read. (batches : List (List Record)) × IsRead read.of batches read × IsReadable read.of batches read.state l)) still (c.read_log.ensures.sound tells has)
 
 -- the log of an image with these numbers
 module _ (old now : List ℕ) (s of : Super) (batches : List (List Record)) (same : of ≡ s) (still : now ≡ old) where

@@ -1,4 +1,4 @@
-use Rattle.std.proofs.Common.{◌≡◌, ◌⊎◌, ◌+◌, Err, sym, ◌∙◌, rules}
+use Rattle.std.proofs.Common.{◌≡◌, ◌⊎◌, inl, ◌+◌, Err, sym, ◌∙◌, rules}
 use Rattle.disk_model.specs.Disk.{part, SameOutside}
 use Rattle.disk_model.specs.Moments.{LeavesOnly}
 use Rattle.gated_log.specs.Log.{with_batch, HoldsBatches}
@@ -6,6 +6,9 @@ use Rattle.log_machine.specs.Machine.{rollback}
 use Rattle.heap_model.specs.CoreLawsHeld.{held_with}
 use Rattle.heap_model.specs.Opening.{opening_calls, rolled_back}
 use Rattle.heap_recovery.proofs.Opening.{error_passes, only_still, held, outside_log, rolled_held, recovered, opened_shaped, shaped_walk, no_fault, ok_outside, if_ok, placed_there, opening_moments}
+use Rattle.heap_recovery.specs.Faults.{IsNoHeap, IsLogLeft}
+use Rattle.heap_recovery.specs.FaultLaws.{told_not_heap, told_damaged}
+use Rattle.heap_recovery.proofs.Refusals.{not_heap_told, damaged_told, finish_told, walk_told, found_on, still_moments, forced_run, left_readable, left_no_heap, left_damaged}
 use Rattle.heap_recovery.proofs.recovery.recover.Goals as goal
 
 pub returns-in_err-read-clause-shaped : goal.returns-in_err-read-clause-shaped
@@ -99,3 +102,146 @@ returns-clause-moments g c tells only s batches shaped =
     let there = placed_there read.log log
     (λ n m. LeavesOnly d.moment d.left_since c.read_image.new.disk c.force.new.disk (λ c'. SameOutside n (n + m) now c' × (HoldsBatches (part c' n m) batches ⊎ HoldsBatches (part c' n m) (with_batch batches taken)))) roll.place roll.same_room forcing in
     opening_moments d.moment d.left_since c.args.disk.now c.read_image.new.disk c.force.new.disk (d.may_leave c.args.disk.now) now image s batches shaped.held read is only contents.bytes contents.moments there
+
+-- What is told of an image that can't be read.
+
+pub returns-in_err-read-clause-not_heap : goal.returns-in_err-read-clause-not_heap
+returns-in_err-read-clause-not_heap g c tells none =
+    let e = c.in_err-read.field-0.0 in
+    let err : c.from_residual.result ≡ Err e = search rules in
+    rw err (told_not_heap e (g.D.Disk.bytes c.args.disk.now) (c.in_err-read.ensures.refused tells) none)
+
+pub returns-in_err-read-clause-damaged : goal.returns-in_err-read-clause-damaged
+returns-in_err-read-clause-damaged g c tells at fault =
+    let e = c.in_err-read.field-0.0 in
+    let err : c.from_residual.result ≡ Err e = search rules in
+    rw err (told_damaged e (g.D.Disk.bytes c.args.disk.now) at (c.in_err-read.ensures.refused tells) fault)
+
+-- Until the force the disk is only read.
+
+pub returns-in_err-read-clause-moments_not_heap : goal.returns-in_err-read-clause-moments_not_heap
+returns-in_err-read-clause-moments_not_heap g c tells only none =
+    let d = g.D.Disk in
+    still_moments d.moment d.left_since c.args.disk.now c.read_image.new.disk (d.bytes c.args.disk.now) (d.may_leave c.args.disk.now) IsNoHeap only none (c.read_image.ensures.disk.contents tells).moments
+
+pub returns-in_err-roll_back-clause-moments_readable : goal.returns-in_err-roll_back-clause-moments_readable
+returns-in_err-roll_back-clause-moments_readable g c tells only s batches state readable =
+    let d = g.D.Disk in
+    still_moments d.moment d.left_since c.args.disk.now c.read_image.new.disk (d.bytes c.args.disk.now) (d.may_leave c.args.disk.now) (IsLogLeft s batches) only (inl readable.replayed.log) (c.read_image.ensures.disk.contents tells).moments
+
+pub returns-in_err-roll_back-clause-moments_not_heap : goal.returns-in_err-roll_back-clause-moments_not_heap
+returns-in_err-roll_back-clause-moments_not_heap g c tells only none =
+    let d = g.D.Disk in
+    still_moments d.moment d.left_since c.args.disk.now c.read_image.new.disk (d.bytes c.args.disk.now) (d.may_leave c.args.disk.now) IsNoHeap only none (c.read_image.ensures.disk.contents tells).moments
+
+pub returns-in_err-fault-clause-moments_readable : goal.returns-in_err-fault-clause-moments_readable
+returns-in_err-fault-clause-moments_readable g c tells only s batches state readable =
+    let d = g.D.Disk in
+    still_moments d.moment d.left_since c.args.disk.now c.read_image.new.disk (d.bytes c.args.disk.now) (d.may_leave c.args.disk.now) (IsLogLeft s batches) only (inl readable.replayed.log) (c.read_image.ensures.disk.contents tells).moments
+
+pub returns-in_err-fault-clause-moments_not_heap : goal.returns-in_err-fault-clause-moments_not_heap
+returns-in_err-fault-clause-moments_not_heap g c tells only none =
+    let d = g.D.Disk in
+    still_moments d.moment d.left_since c.args.disk.now c.read_image.new.disk (d.bytes c.args.disk.now) (d.may_leave c.args.disk.now) IsNoHeap only none (c.read_image.ensures.disk.contents tells).moments
+
+-- Behind it a crash has left the log, or the log rolled back.
+
+pub returns-in_err-force-clause-moments_readable : goal.returns-in_err-force-clause-moments_readable
+returns-in_err-force-clause-moments_readable g c tells only s batches state readable =
+    let d = g.D.Disk in
+    let read = c.in_ok-read.read in
+    let found = c.in_ok-read.ensures.sound tells in
+    let roll = c.in_ok-roll_back.ensures in
+    let old = c.args.disk.now in
+    let mid = c.read_image.new.disk in
+    let contents = c.read_image.ensures.disk.contents tells in
+    let run = forced_run d.moment d.left_since read.of found.0 read found.1 (d.bytes old) found.2 old mid c.force.new.disk (d.may_leave old) (d.may_leave mid) (d.bytes mid) c.roll_back.new.self.log roll.place roll.same_room (roll.kept found.0 found.1.log) only contents.bytes contents.crash contents.moments (c.force.ensures.moments tells) in
+    left_readable d.moment d.left_since read.of found.0 read found.1 (d.bytes old) found.2 old mid c.force.new.disk run s batches state readable
+
+pub returns-in_err-force-clause-moments_not_heap : goal.returns-in_err-force-clause-moments_not_heap
+returns-in_err-force-clause-moments_not_heap g c tells only none =
+    let d = g.D.Disk in
+    let read = c.in_ok-read.read in
+    let found = c.in_ok-read.ensures.sound tells in
+    let roll = c.in_ok-roll_back.ensures in
+    let old = c.args.disk.now in
+    let mid = c.read_image.new.disk in
+    let contents = c.read_image.ensures.disk.contents tells in
+    let run = forced_run d.moment d.left_since read.of found.0 read found.1 (d.bytes old) found.2 old mid c.force.new.disk (d.may_leave old) (d.may_leave mid) (d.bytes mid) c.roll_back.new.self.log roll.place roll.same_room (roll.kept found.0 found.1.log) only contents.bytes contents.crash contents.moments (c.force.ensures.moments tells) in
+    left_no_heap d.moment d.left_since read.of found.0 read found.1 (d.bytes old) found.2 old mid c.force.new.disk run none
+
+pub returns-in_err-force-clause-moments_damaged : goal.returns-in_err-force-clause-moments_damaged
+returns-in_err-force-clause-moments_damaged g c tells only at fault =
+    let d = g.D.Disk in
+    let read = c.in_ok-read.read in
+    let found = c.in_ok-read.ensures.sound tells in
+    let roll = c.in_ok-roll_back.ensures in
+    let old = c.args.disk.now in
+    let mid = c.read_image.new.disk in
+    let contents = c.read_image.ensures.disk.contents tells in
+    let run = forced_run d.moment d.left_since read.of found.0 read found.1 (d.bytes old) found.2 old mid c.force.new.disk (d.may_leave old) (d.may_leave mid) (d.bytes mid) c.roll_back.new.self.log roll.place roll.same_room (roll.kept found.0 found.1.log) only contents.bytes contents.crash contents.moments (c.force.ensures.moments tells) in
+    left_damaged d.moment d.left_since read.of found.0 read found.1 (d.bytes old) found.2 old mid c.force.new.disk run at fault
+
+pub returns-clause-moments_readable : goal.returns-clause-moments_readable
+returns-clause-moments_readable g c tells only s batches state readable =
+    let d = g.D.Disk in
+    let read = c.in_ok-read.read in
+    let found = c.in_ok-read.ensures.sound tells in
+    let roll = c.in_ok-roll_back.ensures in
+    let old = c.args.disk.now in
+    let mid = c.read_image.new.disk in
+    let contents = c.read_image.ensures.disk.contents tells in
+    let run = forced_run d.moment d.left_since read.of found.0 read found.1 (d.bytes old) found.2 old mid c.force.new.disk (d.may_leave old) (d.may_leave mid) (d.bytes mid) c.roll_back.new.self.log roll.place roll.same_room (roll.kept found.0 found.1.log) only contents.bytes contents.crash contents.moments (c.force.ensures.moments tells) in
+    left_readable d.moment d.left_since read.of found.0 read found.1 (d.bytes old) found.2 old mid c.force.new.disk run s batches state readable
+
+pub returns-clause-moments_not_heap : goal.returns-clause-moments_not_heap
+returns-clause-moments_not_heap g c tells only none =
+    let d = g.D.Disk in
+    let read = c.in_ok-read.read in
+    let found = c.in_ok-read.ensures.sound tells in
+    let roll = c.in_ok-roll_back.ensures in
+    let old = c.args.disk.now in
+    let mid = c.read_image.new.disk in
+    let contents = c.read_image.ensures.disk.contents tells in
+    let run = forced_run d.moment d.left_since read.of found.0 read found.1 (d.bytes old) found.2 old mid c.force.new.disk (d.may_leave old) (d.may_leave mid) (d.bytes mid) c.roll_back.new.self.log roll.place roll.same_room (roll.kept found.0 found.1.log) only contents.bytes contents.crash contents.moments (c.force.ensures.moments tells) in
+    left_no_heap d.moment d.left_since read.of found.0 read found.1 (d.bytes old) found.2 old mid c.force.new.disk run none
+
+pub returns-clause-moments_damaged : goal.returns-clause-moments_damaged
+returns-clause-moments_damaged g c tells only at fault =
+    let d = g.D.Disk in
+    let read = c.in_ok-read.read in
+    let found = c.in_ok-read.ensures.sound tells in
+    let roll = c.in_ok-roll_back.ensures in
+    let old = c.args.disk.now in
+    let mid = c.read_image.new.disk in
+    let contents = c.read_image.ensures.disk.contents tells in
+    let run = forced_run d.moment d.left_since read.of found.0 read found.1 (d.bytes old) found.2 old mid c.force.new.disk (d.may_leave old) (d.may_leave mid) (d.bytes mid) c.roll_back.new.self.log roll.place roll.same_room (roll.kept found.0 found.1.log) only contents.bytes contents.crash contents.moments (c.force.ensures.moments tells) in
+    left_damaged d.moment d.left_since read.of found.0 read found.1 (d.bytes old) found.2 old mid c.force.new.disk run at fault
+
+-- What is opened is the image's log, and what the walk finds is told of it.
+
+pub returns-clause-sound : goal.returns-clause-sound
+returns-clause-sound g c tells =
+    let read = c.in_ok-read.read in
+    let found = c.in_ok-read.ensures.sound tells in
+    let batches = found.0 in
+    let is = found.1 in
+    let roll = c.in_ok-roll_back.ensures in
+    let keeps = c.in_ok-force.ensures.kept batches (rollback read.state) (roll.kept batches is.log) in
+    let opened = recovered read.of batches read is c.finish.result c.force.new.self c.roll_back.new.self.words c.roll_back.new.self.of c.roll_back.new.self.state roll.state roll.of (c.force.ensures.at ∙ roll.place) (c.force.ensures.same_room ∙ roll.same_room) roll.words keeps c.finish.ensures.log c.finish.ensures.words c.finish.ensures.pages c.finish.ensures.used c.finish.ensures.commits c.finish.ensures.next in
+    found_on read.of batches read is (g.D.Disk.bytes c.args.disk.now) found.2 c.finish.result c.roll_back.new.self.words c.roll_back.new.self.state c.in_ok-fault.fault c.in_ok-read.ensures.room roll.state roll.words c.in_ok-fault.ensures.passes c.finish.ensures.walked opened
+
+pub returns-clause-refused : goal.returns-clause-refused
+returns-clause-refused g c tells =
+    let read = c.in_ok-read.read in
+    let found = c.in_ok-read.ensures.sound tells in
+    let roll = c.in_ok-roll_back.ensures in
+    let image = g.D.Disk.bytes c.args.disk.now in
+    finish_told c.finish.result c.in_ok-fault.fault c.finish.ensures.damaged c.finish.ensures.whole image
+    (λ at is. walk_told read.of found.0 read found.1 image found.2 c.roll_back.new.self.state roll.state c.roll_back.new.self.words roll.words at (c.in_ok-fault.ensures.fault at is))
+
+pub returns-clause-not_heap : goal.returns-clause-not_heap
+returns-clause-not_heap g c tells none = not_heap_told c.finish.result (g.D.Disk.bytes c.args.disk.now) (returns-clause-refused g c tells) (returns-clause-sound g c tells) none
+
+pub returns-clause-damaged : goal.returns-clause-damaged
+returns-clause-damaged g c tells at fault = damaged_told c.finish.result (g.D.Disk.bytes c.args.disk.now) (returns-clause-refused g c tells) (returns-clause-sound g c tells) at fault

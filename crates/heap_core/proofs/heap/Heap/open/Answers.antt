@@ -1,5 +1,7 @@
 use Rattle.log_machine.specs.Machine.{words_in}
 use Rattle.std.proofs.Common.{◌≤◌, true, sym, ap, ◌∙◌, subst}
+use Rattle.disk_model.specs.Moments.{begins}
+use Rattle.heap_recovery.specs.Faults.{IsNoHeap}
 use Rattle.heap_model.specs.Image.{shaped_image}
 use Rattle.heap_model.specs.Opening.{opening_calls}
 use Rattle.heap_core.specs.Causes.{IsFromOutside, ErrorPasses}
@@ -40,6 +42,26 @@ returns-in-Ok-recover-clause-opens g c =
         memory = opened_memory found.0 found.1 born places gr c.in-Ok-recover.found _ found.2 found.3 fresh;
       },
     )
+
+pub returns-in-Ok-recover-clause-sound : goal.returns-in-Ok-recover-clause-sound
+returns-in-Ok-recover-clause-sound g c tells =
+    let found = c.in-Ok-recover.ensures.sound tells in
+    let fresh = is_fresh c.in-Ok-recover.found c.new-spaces.result c.set_next.new.self c.in-Ok.table _ c.new-working.ensures c.new-spaces.ensures c.set_next.ensures in (
+      found.0,
+      found.1,
+      found.2,
+      found.3,
+      λ born places gr stands. record {
+        history = c.new-in-Ok-recover.ensures;
+        before = found.4.commits;
+        memory = opened_memory found.0 found.1 born places gr c.in-Ok-recover.found _ found.3 found.4 fresh;
+      },
+    )
+
+pub returns-in-Err-clause-moments_not_heap : goal.returns-in-Err-clause-moments_not_heap
+returns-in-Err-clause-moments_not_heap g c tells only none =
+    let d = g.D.Disk in
+    begins d.moment d.left_since c.args.disk IsNoHeap (λ image left. subst IsNoHeap (sym (only image (g.met.D.Disk.only_now tells c.args.disk image left))) none)
 
 pub returns-in-Ok-recover-clause-found : goal.returns-in-Ok-recover-clause-found
 returns-in-Ok-recover-clause-found g c tells s batches shaped born places gr stands =

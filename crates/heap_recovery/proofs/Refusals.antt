@@ -1,0 +1,171 @@
+-- What an opening tells of an image that it refuses, and what it leaves of it.
+use Rattle.std.proofs.Common.{inl, inr, ◌≡◌, ◌≢◌, ◌⊎◌, ⊎_elim, ℕ, ◌+◌, ◌≤◌, List, Option, None, Some, Result, Ok, Err, refl, sym, ap, ◌∙◌, subst, arith}
+use Rattle.std.specs.Prelude.{IfOk, IfErr, IsOk, IsErrAnd}
+use Rattle.std.specs.List.{AllByRecursion}
+use Rattle.disk_model.specs.Disk.{part, Only, Narrows, SameOutside}
+use Rattle.disk_model.specs.Moments.{LeavesOnly, joined, weaker}
+use Rattle.gate_slot.specs.Images.{same_part}
+use Rattle.gated_log.specs.declared.Log.{Log}
+use Rattle.gated_log.specs.declared.LogError.{LogError}
+use Rattle.gated_log.specs.declared.LogError.TheVariants as logging
+use Rattle.gated_log.specs.Log.{records_of, with_batch, HoldsBatches, BreaksAt}
+use Rattle.gated_log.specs.LogState.{log_place, log_room, log_used, Keeps}
+use Rattle.image_plan.specs.declared.superblock.Super.{Super}
+use Rattle.image_plan.specs.Plan.{log_offset}
+use Rattle.log_records.specs.declared.Record.{Record}
+use Rattle.log_records.specs.Record.{IsRecord}
+use Rattle.log_machine.specs.declared.replaying.ReplayError.{ReplayError}
+use Rattle.log_machine.specs.declared.replaying.ReplayError.TheVariants as replaying
+use Rattle.log_machine.specs.Machine.{State, start, after_all, all_taken_back, rollback, reserve}
+use Rattle.log_machine.specs.Replay.{IsFirstUnshaped}
+use Rattle.object_layout.specs.Walk.{IsWalked, IsWalkFault}
+use Rattle.heap_model.specs.Image.{IsShapedLog}
+use Rattle.heap_model.specs.Opening.{rolled_back}
+use Rattle.heap_recovery.specs.declared.at.At.{At}
+use Rattle.heap_recovery.specs.declared.at.At.TheVariants.{Address}
+use Rattle.heap_recovery.specs.declared.error.RecoverError.{RecoverError}
+use Rattle.heap_recovery.specs.declared.error.RecoverError.TheVariants.{NoMemory, NotHeap, Damaged, Disk}
+use Rattle.heap_recovery.specs.declared.reading.Reading.{Reading}
+use Rattle.heap_recovery.specs.declared.recovery.Recovered.{Recovered}
+use Rattle.heap_recovery.specs.Faults.{HasSuper, IsNoHeap, HoldsLog, IsReplayed, IsReadable, IsFaultAt, IsToldOf, IsErrorOrOutside, ComesBeforeWrites, IsLogLeft}
+use Rattle.heap_recovery.specs.FaultLaws.{one_numbers, one_batches, shaped_log_whole, told_not_heap, told_damaged, left_fault, rolled_spelled}
+use Rattle.heap_recovery.specs.Recovered.{IsRead, IsRecovered, IsFromOutside, log_error, replay_error}
+use Rattle.heap_recovery.proofs.Opening.{committed, only_still, in_log, held_there, outside_log, rolled_held, placed_there, read_shaped}
+
+-- no numbers are those of an image of which an opening tells no damage, if none lets it end so but the outside
+pub numbers_told : (e : RecoverError) (image : List ℕ) → ((at : At) → e ≢ Damaged at) → ((s : Super) → HasSuper s image → IsFromOutside e) → IsToldOf e image
+numbers_told NoMemory image never outside = tt
+numbers_told NotHeap image never outside = outside
+numbers_told (Damaged at) image never outside = absurd (never at refl)
+numbers_told (Disk e) image never outside = tt
+
+-- a batch that is told breaks the log
+pub log_told : (s : Super) (image : List ℕ) (at : ℕ) (e : LogError) → HasSuper s image → at ≡ log_offset → ((offset : ℕ) → e ≡ logging.BadBatch offset → BreaksAt (part image at s.log_bytes) offset) → IsToldOf (log_error e) image
+log_told s image at logging.NoMemory has same bad = tt
+log_told s image at (logging.BadBatch offset) has same bad = (s, has, (let P : ℕ → Type 0 = λ n. BreaksAt (part image n s.log_bytes) offset in subst P same (bad offset refl)))
+log_told s image at (logging.Disk e) has same bad = tt
+
+-- the log that was opened is the image's
+pub log_held : (s : Super) (image : List ℕ) (at : ℕ) (records : List Record) (batches : List (List Record)) → HasSuper s image → at ≡ log_offset → HoldsBatches (part image at s.log_bytes) batches → records ≡ records_of batches
+    → AllByRecursion IsRecord records → HoldsLog s batches image
+log_held s image at records batches has same holds are good = record {
+  super = has;
+  held = (let P : ℕ → Type 0 = λ n. HoldsBatches (part image n s.log_bytes) batches in subst P same holds);
+  good = subst (λ (rs : List Record). AllByRecursion IsRecord rs) are good;
+}
+
+-- a record that is told is the first that can't follow
+pub replay_told : (s : Super) (batches : List (List Record)) (image : List ℕ) (records : List Record) (e : ReplayError) → HoldsLog s batches image → records ≡ records_of batches
+    → ((lsn : ℕ) → e ≡ replaying.Unshaped lsn → IsFirstUnshaped (start s.pages s.first) records lsn) → IsToldOf (replay_error e) image
+replay_told s batches image records replaying.NoMemory log are first = tt
+replay_told s batches image records (replaying.Unshaped lsn) log are first =
+    (s, batches, log, subst (λ (rs : List Record). IsFirstUnshaped (start s.pages s.first) rs lsn) are (first lsn refl))
+
+-- where they all follow
+pub replayed : (s : Super) (batches : List (List Record)) (image : List ℕ) (records : List Record) (state : State) → HoldsLog s batches image → records ≡ records_of batches
+    → after_all (start s.pages s.first) records ≡ Some state → IsReplayed s batches state image
+replayed s batches image records state log are reached = record { log = log; reached = ap (λ (rs : List Record). after_all (start s.pages s.first) rs) (sym are) ∙ reached }
+
+-- What is opened is a shaped log, and the image's.
+abbrev pub IsFoundOn : List ℕ → Recovered → Type 0
+IsFoundOn image found = (s : Super) × (batches : List (List Record)) × HoldsLog s batches image × IsShapedLog s batches × IsRecovered s batches found
+
+-- of what is no heap nothing is opened, and an error tells that
+pub not_heap_told : (r : Result Recovered RecoverError) (image : List ℕ) → IfErr r (λ e. IsToldOf e image) → IfOk r (IsFoundOn image) → IsNoHeap image → IsErrAnd r (IsErrorOrOutside NotHeap)
+not_heap_told (Ok found) image told sound none = absurd (none sound.0 sound.2.super)
+not_heap_told (Err e) image told sound none = told_not_heap e image told none
+
+-- nor of what is damaged
+pub damaged_told : (r : Result Recovered RecoverError) (image : List ℕ) → IfErr r (λ e. IsToldOf e image) → IfOk r (IsFoundOn image) → (at : At) → IsFaultAt at image → IsErrAnd r (IsErrorOrOutside (Damaged at))
+damaged_told (Ok found) image told sound at fault = absurd (shaped_log_whole sound.0 sound.1 image at sound.2 sound.3 fault)
+damaged_told (Err e) image told sound at fault = told_damaged e image at told fault
+
+-- Where the walk has found a fault, or none.
+module _ (r : Result Recovered RecoverError) (fault : Option ℕ) (damaged : (at : ℕ) → fault ≡ Some at → r ≡ Err (Damaged (Address at))) (whole : fault ≡ None → IsOk r) where
+  ended : (o : Option ℕ) (P : RecoverError → Type 0) → fault ≡ o → ((at : ℕ) → fault ≡ Some at → P (Damaged (Address at))) → IfErr r P
+  ended None P is told = ok_none r (whole is)
+    where
+      ok_none : (x : Result Recovered RecoverError) → IsOk x → IfErr x P
+      ok_none (Ok found) ok = tt
+      ok_none (Err e) ok = cc ok
+  ended (Some at) P is told = subst (λ x. IfErr x P) (sym (damaged at is)) (told at is)
+
+  -- an error tells that fault
+  pub finish_told : (image : List ℕ) → ((at : ℕ) → fault ≡ Some at → IsFaultAt (Address at) image) → IfErr r (λ e. IsToldOf e image)
+  finish_told image told = ended fault (λ e. IsToldOf e image) refl told
+
+  -- and does not come before the writes
+  pub finish_late : (P : Type 0) → IfErr r (λ e. ComesBeforeWrites e → P)
+  finish_late P = ended fault (λ e. ComesBeforeWrites e → P) refl (λ at is early. absurd early)
+
+module _ (s : Super) (batches : List (List Record)) (read : Reading) (is : IsRead s batches read) (image : List ℕ) (readable : IsReadable s batches read.state image) where
+  -- a fault of the walk is the image's
+  pub walk_told : (state : State) → state ≡ read.state → (now : List ℕ) → now ≡ all_taken_back read.state read.words → (address : ℕ) → IsWalkFault now state.base state.used address → IsFaultAt (Address address) image
+  walk_told state same now rolled address fault =
+      let P : State → Type 0 = λ x. IsWalkFault now x.base x.used address in
+      (s, batches, read.state, readable, subst (λ (ws : List ℕ). IsWalkFault ws read.state.base read.state.used address) (rolled ∙ committed s batches read is) (subst P same fault))
+
+  -- what was opened is the image's log
+  pub found_on : (r : Result Recovered RecoverError) (now : List ℕ) (state : State) (fault : Option ℕ)
+      → log_used read.log + reserve read.state ≤ log_room read.log → state ≡ read.state → now ≡ all_taken_back read.state read.words
+      → (fault ≡ None → IsWalked now state.base state.used) → IfOk r (λ found. fault ≡ None) → IfOk r (IsRecovered s batches) → IfOk r (IsFoundOn image)
+  found_on (Err e) now state fault room same taken passes none found = tt
+  found_on (Ok f) now state fault room same taken passes none found =
+      let walked = subst (λ (x : State). IsWalked now x.base x.used) same (passes none) in
+      (s, batches, readable.replayed.log, read_shaped s batches read is room now taken walked, found)
+
+-- an image with the same bytes outside of the log, whose log holds other batches
+log_with : (s : Super) (batches others : List (List Record)) (old new : List ℕ) → HoldsLog s batches old → SameOutside log_offset (log_offset + s.log_bytes) old new
+    → HoldsBatches (part new log_offset s.log_bytes) others → AllByRecursion IsRecord (records_of others) → HoldsLog s others new
+log_with s batches others old new log outside holds good =
+    let size = log.super.size in
+    let same = outside.size in
+    record {
+      super = record {
+        limits = log.super.limits;
+        super = same_part 0 64 old new outside.size (λ i low high. outside.before i (omega arith)) ∙ log.super.super;
+        size = omega arith;
+      };
+      held = holds;
+      good = good;
+    }
+
+module _ {D : Type 0} (moment : D → ℕ) (left_since : D → ℕ → List ℕ → Type 0) where
+  -- where the disk is only read a crash leaves the image
+  pub still_moments : (old new : D) (image : List ℕ) (may_leave P : List ℕ → Type 0) → Only image may_leave → P image → LeavesOnly moment left_since old new may_leave → LeavesOnly moment left_since old new P
+  still_moments old new image may_leave P only here run = weaker moment left_since old new may_leave P run (λ c left. subst P (sym (only c left)) here)
+
+  -- A crash at any moment of a rollback leaves an image with the log that was read, or with that log rolled back.
+  module _ (s : Super) (batches : List (List Record)) (read : Reading) (is : IsRead s batches read) (image : List ℕ) (readable : IsReadable s batches read.state image) (old mid new : D) where
+    pub forced_run : (before between : List ℕ → Type 0) (now : List ℕ) (log : Log) → log_place log ≡ log_place read.log → log_room log ≡ log_room read.log → Keeps log batches (rollback read.state)
+        → Only image before → now ≡ image → Narrows before between → LeavesOnly moment left_since old mid before
+        → (Only now between → (bs : List (List Record)) (ps : List Record) → Keeps log bs ps → HoldsBatches (part now (log_place log) (log_room log)) bs → LeavesOnly moment left_since mid new (λ c. SameOutside (log_place log) (log_place log + log_room log) now c × (HoldsBatches (part c (log_place log) (log_room log)) bs ⊎ HoldsBatches (part c (log_place log) (log_room log)) (with_batch bs ps))))
+        → LeavesOnly moment left_since old new (IsLogLeft s batches)
+    forced_run before between now log place room keeps only same narrows first forcing =
+        let here = readable.replayed.log in
+        let spelled = rolled_spelled s batches read.state image readable in
+        let stand = placed_there log read.log (λ n m. HoldsBatches (part now n m) batches) (sym place) (sym room) (held_there s batches read is image now here.held same) in
+        let Left : ℕ → ℕ → List ℕ → Type 0 = λ n m c. SameOutside n (n + m) now c × (HoldsBatches (part c n m) batches ⊎ HoldsBatches (part c n m) (with_batch batches (rollback read.state))) in
+        let second = placed_there read.log log (λ n m. LeavesOnly moment left_since mid new (Left n m)) place room (forcing (only_still image now before between only same narrows) batches (rollback read.state) keeps stand) in
+        weaker moment left_since old new _ (IsLogLeft s batches) (joined moment left_since old mid new _ _ first second)
+        (λ c. ⊎_elim (λ left. inl (subst (HoldsLog s batches) (sym (only c left)) here))
+        (λ found. ⊎_elim (λ holds. inl (log_with s batches batches image c here (outside_log s batches read is image now c same found.0) (in_log s batches read is (λ n m. HoldsBatches (part c n m) batches) holds) here.good))
+        (λ holds. inr (log_with s batches (rolled_back s batches) image c here (outside_log s batches read is image now c same found.0) (rolled_held s batches read is c holds) spelled)) found.1))
+
+    module _ (run : LeavesOnly moment left_since old new (IsLogLeft s batches)) where
+      -- whatever the log is called
+      pub left_readable : (r : Super) (bs : List (List Record)) (state : State) → IsReadable r bs state image → LeavesOnly moment left_since old new (IsLogLeft r bs)
+      left_readable r bs state other =
+          let numbers = one_numbers s r image readable.replayed.log.super other.replayed.log.super in
+          let mine = (let P : Super → Type 0 = λ x. HoldsLog x batches image in subst P numbers readable.replayed.log) in
+          let Q : Super → Type 0 = λ x. LeavesOnly moment left_since old new (IsLogLeft x batches) in
+          let R : List (List Record) → Type 0 = λ l. LeavesOnly moment left_since old new (IsLogLeft r l) in
+          subst R (one_batches r batches bs image mine other.replayed.log) (subst Q numbers run)
+
+      -- an image whose log can be read is a heap
+      pub left_no_heap : IsNoHeap image → LeavesOnly moment left_since old new IsNoHeap
+      left_no_heap none = absurd (none s readable.replayed.log.super)
+
+      -- a fault stays
+      pub left_damaged : (at : At) → IsFaultAt at image → LeavesOnly moment left_since old new (IsFaultAt at)
+      left_damaged at fault = weaker moment left_since old new (IsLogLeft s batches) (IsFaultAt at) run (left_fault s batches read.state image readable at fault)

@@ -1,0 +1,77 @@
+-- What is wrong with an image, and where: what an opening looks for, in this order, is numbers of a heap, batches in the log, records that follow
+-- one another, room for their rollback, and objects in the words. Frames are not read, so nothing is said of them.
+use Rattle.std.specs.Prelude.{◌≡◌, ◌⊎◌, ℕ, ◌+◌, ◌<◌, ◌≤◌, List, length, take, Some}
+use Rattle.std.specs.List.{AllByRecursion}
+use Rattle.disk_model.specs.Disk.{part}
+use Rattle.gated_log.specs.Log.{HoldsBatches, BreaksAt, batches_bytes, records_of}
+use Rattle.image_plan.specs.declared.superblock.Super.{Super}
+use Rattle.image_plan.specs.Plan.{log_offset, image_size}
+use Rattle.image_plan.specs.Super.{IsSuper, superblock}
+use Rattle.log_records.specs.declared.Record.{Record}
+use Rattle.log_records.specs.Record.{IsRecord}
+use Rattle.log_machine.specs.Machine.{State, start, after_all, reserve}
+use Rattle.log_machine.specs.Replay.{IsFirstUnshaped}
+use Rattle.object_layout.specs.Walk.{IsWalkFault}
+use Rattle.heap_model.specs.Image.{words_of}
+use Rattle.heap_model.specs.Opening.{rolled_back}
+use Rattle.heap_recovery.specs.declared.at.At.{At}
+use Rattle.heap_recovery.specs.declared.at.At.TheVariants.{Batch, Rec, Reserve, Page, Address}
+use Rattle.heap_recovery.specs.declared.error.RecoverError.{RecoverError}
+use Rattle.heap_recovery.specs.declared.error.RecoverError.TheVariants.{NoMemory, NotHeap, Damaged, Disk}
+use Rattle.heap_recovery.specs.Recovered.{IsFromOutside}
+
+-- The image begins with the superblock of a heap with these numbers, and has the bytes of its plan.
+pub record HasSuper (s : Super) (image : List ℕ) : Type 0 where
+  pub limits : IsSuper s
+  pub super : take 64 image ≡ superblock s
+  pub size : image_size s.pages s.log_bytes ≤ length image
+
+-- no numbers are those of the image
+abbrev pub IsNoHeap : List ℕ → Type 0
+IsNoHeap image = (s : Super) → ¬ HasSuper s image
+
+-- Its log holds these batches, of whole records.
+pub record HoldsLog (s : Super) (batches : List (List Record)) (image : List ℕ) : Type 0 where
+  pub super : HasSuper s image
+  pub held : HoldsBatches (part image log_offset s.log_bytes) batches
+  pub good : AllByRecursion IsRecord (records_of batches)
+
+-- Their records follow one another, and leave this state.
+pub record IsReplayed (s : Super) (batches : List (List Record)) (state : State) (image : List ℕ) : Type 0 where
+  pub log : HoldsLog s batches image
+  pub reached : after_all (start s.pages s.first) (records_of batches) ≡ Some state
+
+-- And the log has room for the rollback of what has not ended.
+pub record IsReadable (s : Super) (batches : List (List Record)) (state : State) (image : List ℕ) : Type 0 where
+  pub replayed : IsReplayed s batches state image
+  pub room : length (batches_bytes batches) + 1 + reserve state ≤ s.log_bytes
+
+-- Where an image is damaged: what comes first in the order in which it is checked. No page is read.
+abbrev pub IsFaultAt : At → List ℕ → Type 0
+IsFaultAt (Batch offset) image = (s : Super) × HasSuper s image × BreaksAt (part image log_offset s.log_bytes) offset
+IsFaultAt (Rec lsn) image = (s : Super) × (batches : List (List Record)) × HoldsLog s batches image × IsFirstUnshaped (start s.pages s.first) (records_of batches) lsn
+IsFaultAt Reserve image = (s : Super) × (batches : List (List Record)) × (state : State) × IsReplayed s batches state image × (s.log_bytes < length (batches_bytes batches) + 1 + reserve state)
+IsFaultAt (Page page) image = ⊥
+IsFaultAt (Address address) image =
+    (s : Super) × (batches : List (List Record)) × (state : State) × IsReadable s batches state image × IsWalkFault (words_of s batches) state.base state.used address
+
+-- what an error tells of the image
+abbrev pub IsToldOf : RecoverError → List ℕ → Type 0
+IsToldOf NoMemory image = Unit {0}
+IsToldOf NotHeap image = IsNoHeap image
+IsToldOf (Damaged at) image = IsFaultAt at image
+IsToldOf (Disk e) image = Unit {0}
+
+-- the error is this one, or tells nothing of the image
+abbrev pub IsErrorOrOutside : RecoverError → RecoverError → Type 0
+IsErrorOrOutside this e = (e ≡ this) ⊎ IsFromOutside e
+
+-- An error that comes before a write. Damage at an address is told behind the rollback.
+abbrev pub ComesBeforeWrites : RecoverError → Type 0
+ComesBeforeWrites (Damaged (Address address)) = ⊥
+ComesBeforeWrites (Disk e) = ⊥
+ComesBeforeWrites e = Unit {0}
+
+-- An opening of an image that holds this log leaves one that holds it, or the log behind the opening.
+abbrev pub IsLogLeft : Super → List (List Record) → List ℕ → Type 0
+IsLogLeft s batches image = HoldsLog s batches image ⊎ HoldsLog s (rolled_back s batches) image
