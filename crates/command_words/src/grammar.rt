@@ -1,6 +1,7 @@
 //! The table of commands, as the parser of command lines takes it.
 ghost use Rattle.std.specs.Prelude.{◌≡◌, IfOk, Some, false};
-ghost use Rattle.clap.specs.Words.{app_of, fields_of, rule_of, shape_of};
+ghost use Rattle.clap.specs.Words.{app_of, rule_of, shape_of};
+ghost use Rattle.clap.specs.declared.builder.command.Command.TheViews.{out-Command};
 ghost use Rattle.command_words.specs.Table.{argument, between, format_row, option, play_row, program};
 
 use clap::builder::ValueParser;
@@ -28,7 +29,7 @@ fn option<'a>(alloc: Global, name: &'a str, parser: ValueParser<'a>) -> Arg<'a>
 
 fn format_command<'a>(alloc: Global) -> Result<Command<'a>, AllocError>
     ensures row { IfOk result (λ c. shape_of c ≡ format_row) }
-    ensures local { IfOk result (λ c. (fields_of c).has_globals ≡ false) }
+    ensures local { IfOk result (λ c. (out-Command c).has_globals ≡ false) }
 {
     let pages = value_parser!(u32).range(1..=MOST_PAGES);
     let log_bytes = value_parser!(u32).range(64..=1_073_741_824);
@@ -41,7 +42,7 @@ fn format_command<'a>(alloc: Global) -> Result<Command<'a>, AllocError>
 
 fn play_command<'a>(alloc: Global) -> Result<Command<'a>, AllocError>
     ensures row { IfOk result (λ c. shape_of c ≡ play_row) }
-    ensures local { IfOk result (λ c. (fields_of c).has_globals ≡ false) }
+    ensures local { IfOk result (λ c. (out-Command c).has_globals ≡ false) }
 {
     let pages = value_parser!(u32).range(1..=MOST_PAGES);
     Command::new(alloc, "play")
