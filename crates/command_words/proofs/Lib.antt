@@ -1,1 +1,2 @@
-
+mod NumberRead
+mod WordsRead

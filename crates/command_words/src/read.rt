@@ -1,6 +1,7 @@
 //! Reading a command off the matches of the words.
 ghost use Rattle.std.specs.Prelude.{◌≡◌, Err, IfOk, None, Some, map, string_bytes};
-ghost use Rattle.command_words.specs.Command.{command};
+ghost use Rattle.clap.specs.Words.{found_of, kind_of, rows_of};
+ghost use Rattle.command_words.specs.Command.{command, command_of, error_of, number_in, numbers_in, stop_in};
 ghost use Rattle.command_words.specs.Limits.{IsWithin};
 
 use crate::commands::{Command, CommandError, Numbers, Stop};
@@ -10,51 +11,71 @@ use clap::error::ErrorKind;
 use std::alloc::{AllocError, Global};
 
 impl From<AllocError> for CommandError {
+    ghost use Rattle.command_words.specs.declared.commands.CommandError.TheVariants.{NoMemory};
+
+    ghost from_gives = { λ e error. error ≡ NoMemory };
+
     fn from(_: AllocError) -> Self {
         CommandError::NoMemory
     }
 }
 
 impl From<clap::Error> for CommandError {
+    ghost from_gives = { λ e error. error ≡ error_of (kind_of e) };
+
     fn from(e: clap::Error) -> Self {
-        if e.kind() == ErrorKind::OutOfMemory {
-            return CommandError::NoMemory;
+        match e.kind() {
+            ErrorKind::OutOfMemory => CommandError::NoMemory,
+            _ => CommandError::Usage,
         }
-        CommandError::Usage
     }
+}
+
+fn read_u32(found: &ArgMatches, id: &str) -> Option<u32>
+    ensures { result ≡ number_in 32 (rows_of (found_of found.now)) id.now }
+{
+    found.get_one(id)
+}
+
+fn read_u64(found: &ArgMatches, id: &str) -> Option<u64>
+    ensures { result ≡ number_in 64 (rows_of (found_of found.now)) id.now }
+{
+    found.get_one(id)
 }
 
 /// The numbers of a `format`.
 fn read_numbers(format: &ArgMatches) -> Option<Numbers>
+    ensures { result ≡ numbers_in (rows_of (found_of format.now)) }
 {
     Some(Numbers {
-        pages: format.get_one::<u32>("pages")?,
-        log_bytes: format.get_one::<u32>("log_bytes")?,
-        first: format.get_one::<u32>("first")?,
+        pages: read_u32(format, "pages")?,
+        log_bytes: read_u32(format, "log_bytes")?,
+        first: read_u32(format, "first")?,
     })
 }
 
 /// How the disk of a `play` stops. If the second stop alone is asked for, the first never comes.
 fn read_stop(play: &ArgMatches) -> Option<Stop>
+    ensures { result ≡ stop_in (rows_of (found_of play.now)) }
 {
-    let again = play.get_one::<u64>("again");
-    match play.get_one::<u64>("stop") {
+    let again = read_u64(play, "again");
+    match read_u64(play, "stop") {
         Some(after) => Some(Stop { after, again }),
-        None if again.is_some() => Some(Stop {
+        None => Some(Stop {
             after: u64::MAX,
-            again,
+            again: Some(again?),
         }),
-        None => None,
     }
 }
 
 /// The command of that name with its matches.
 fn read_matches(name: &str, found: &ArgMatches) -> Option<Command>
+    ensures { result ≡ command_of name.now (rows_of (found_of found.now)) }
 {
     match name {
         "format" => Some(Command::Format(read_numbers(found)?)),
         "play" => Some(Command::Play {
-            fresh: found.get_one::<u32>("fresh"),
+            fresh: read_u32(found, "fresh"),
             stop: read_stop(found),
         }),
         "graph" => Some(Command::Graph),
