@@ -1,3 +1,5 @@
 pub mod Command
+pub mod LimitLaws
 pub mod Limits
+pub mod RowLaws
 pub mod Table

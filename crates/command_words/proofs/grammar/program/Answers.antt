@@ -1,8 +1,7 @@
 use Rattle.std.proofs.Common.{◌≡◌, ◌∙◌, ap, ap₂, rules, true, codes}
 use Rattle.std.proofs.lemmas.Result.{IfOk-weaker}
-use Rattle.clap.specs.Walk.{Rule}
 use Rattle.clap.specs.Simple.{App, Shape, app_of, new_app, on_top, shape_of, with_subcommand}
-use Rattle.command_words.specs.Table.{format_row, graph_row, play_row, program}
+use Rattle.command_words.specs.Table.{graph_row, program}
 use Rattle.command_words.proofs.grammar.program.Goals as goal
 
 abbrev settings : App → App

@@ -1,15 +1,12 @@
-use Rattle.std.proofs.Common.{rules, ◌≡◌, ◌∙◌, Err, None, Some, map, string_bytes, List, [], sym, ap, ℕ, option_map}
+use Rattle.std.proofs.Common.{◌≡◌, ◌∙◌, None, Some, map, string_bytes, sym, ap}
 use Rattle.std.specs.Result.{result_ok}
-use Rattle.std.specs.Borrow.{Bor}
 use Rattle.std.proofs.lemmas.Result.{IfOk-weaker}
-use Rattle.clap.specs.Faults.{fault_of}
-use Rattle.clap.specs.Kinds.{HasKind}
 use Rattle.clap.specs.Matches.{found_of, subcommand_name_of}
-use Rattle.clap.specs.Simple.{app_of, subcommand_of, subcommand_rows_of}
+use Rattle.clap.specs.Simple.{app_of}
 use Rattle.clap.specs.Walk.{rows_of}
 use Rattle.clap.specs.Values.{kind_of}
-use Rattle.command_words.specs.Command.{command, command_of, error_of}
-use Rattle.command_words.specs.Table.{program}
+use Rattle.command_words.specs.Command.{command, error_of}
+use Rattle.command_words.specs.LimitLaws.{command_within}
 use Rattle.command_words.specs.declared.commands.CommandError.TheVariants.{Usage}
 use Rattle.command_words.proofs.WordsRead.{fault_is_none, has_fault, met_is, met_none, met_some, no_fault, read_of}
 use Rattle.command_words.proofs.read.read_command.Goals as goal
@@ -49,4 +46,4 @@ returns-clause-usage c = λ usage.
     is ∙ sym c.read_matches.ensures ∙ c.ok_or-2.ensures.ok_part ∙ ap result_ok usage
 
 pub returns-clause-limits : goal.returns-clause-limits
-returns-clause-limits c = ?
+returns-clause-limits c = IfOk-weaker c.ok_or-2.result _ _ (λ r spelled. command_within (map string_bytes c.args.words.now) r spelled) (returns-clause-read c)
