@@ -92,9 +92,12 @@ set_good c a plain values rows passes all =
     new b e = (subst (λ (x : Rule). values_pass x values ≡ true) (own b e) passes, ap reading_by (own b e))
 
     changed : (r : Row) → bytes_eq r.id a.id ≡ true → Passes c r → AllByRecursion (Passes c) (more_values CommandLine values r)
-    changed r same p = ((λ b e.
-        let here : arg_by_id c a.id ≡ Some b = ap (arg_by_id c) (sym ((bytes_eq-Decides r.id a.id).0 same)) ∙ e in
-        (both_pass b r.values values (p b e).0 (new b here).0, (p b e).1)), tt)
+    changed r same p = (
+      (λ b e.
+          let here : arg_by_id c a.id ≡ Some b = ap (arg_by_id c) (sym ((bytes_eq-Decides r.id a.id).0 same)) ∙ e in
+          (both_pass b r.values values (p b e).0 (new b here).0, (p b e).1)),
+      tt,
+    )
 
 defaults_none : (c : List Rule) (xs : List Rule) (rows : List Row) → AllByRecursion (IsPlainRule c) xs → fold with_default rows xs ≡ rows
 defaults_none c [] rows plain = refl

@@ -27,15 +27,21 @@ fn option<'a>(alloc: Global, name: &'a str, parser: ValueParser<'a>) -> Arg<'a>
     Arg::new(alloc, name).long(name).value_parser(parser)
 }
 
+/// Numbers of pages.
+fn pages<'a>() -> ValueParser<'a>
+    ensures { result ≡ between 1 16384 }
+{
+    value_parser!(u32).range(1..=MOST_PAGES)
+}
+
 fn format_command<'a>(alloc: Global) -> Result<Command<'a>, AllocError>
     ensures row { IfOk result (λ c. shape_of c ≡ format_row) }
     ensures local { IfOk result (λ c. (out-Command c).has_globals ≡ false) }
 {
-    let pages = value_parser!(u32).range(1..=MOST_PAGES);
     let log_bytes = value_parser!(u32).range(64..=1_073_741_824);
     let first = value_parser!(u32).range(1..);
     Command::new(alloc, "format")
-        .arg(required_argument(alloc, "pages", pages))?
+        .arg(required_argument(alloc, "pages", pages()))?
         .arg(required_argument(alloc, "log_bytes", log_bytes))?
         .arg(required_argument(alloc, "first", first))
 }
@@ -44,9 +50,8 @@ fn play_command<'a>(alloc: Global) -> Result<Command<'a>, AllocError>
     ensures row { IfOk result (λ c. shape_of c ≡ play_row) }
     ensures local { IfOk result (λ c. (out-Command c).has_globals ≡ false) }
 {
-    let pages = value_parser!(u32).range(1..=MOST_PAGES);
     Command::new(alloc, "play")
-        .arg(option(alloc, "fresh", pages))?
+        .arg(option(alloc, "fresh", pages()))?
         .arg(option(alloc, "stop", value_parser!(u64)))?
         .arg(option(alloc, "again", value_parser!(u64)))
 }

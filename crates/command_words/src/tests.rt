@@ -36,7 +36,10 @@ fn commands_are_read(rt: HostRuntime) -> Result<(), Fail> {
     let never = 18_446_744_073_709_551_615;
     let lines = [
         ("format 1 64 1", format(1, 64, 1)),
-        ("format 16384 1073741824 4294967295", format(16384, 1_073_741_824, 4_294_967_295)),
+        (
+            "format 16384 1073741824 4294967295",
+            format(16384, 1_073_741_824, 4_294_967_295),
+        ),
         ("format 3 65536 7", format(3, 65536, 7)),
         ("format 003 065536 0007", format(3, 65536, 7)),
         ("format +3 +64 +7", format(3, 64, 7)),
@@ -45,12 +48,21 @@ fn commands_are_read(rt: HostRuntime) -> Result<(), Fail> {
         ("play --fresh 1", play(Some(1), None)),
         ("play --fresh=16384", play(Some(16384), None)),
         ("play --stop 0", play(None, stop(0, None))),
-        ("play --stop 18446744073709551615", play(None, stop(never, None))),
+        (
+            "play --stop 18446744073709551615",
+            play(None, stop(never, None)),
+        ),
         ("play --again 0", play(None, stop(never, Some(0)))),
-        ("play --again 0 --fresh 16384", play(Some(16384), stop(never, Some(0)))),
+        (
+            "play --again 0 --fresh 16384",
+            play(Some(16384), stop(never, Some(0))),
+        ),
         ("play --stop 4 --again 5", play(None, stop(4, Some(5)))),
         ("play --again 5 --stop 4", play(None, stop(4, Some(5)))),
-        ("play --stop 4 --fresh 2 --again 18446744073709551615", play(Some(2), stop(4, Some(never)))),
+        (
+            "play --stop 4 --fresh 2 --again 18446744073709551615",
+            play(Some(2), stop(4, Some(never))),
+        ),
         ("graph", Command::Graph),
     ];
     for (line, wanted) in lines {
