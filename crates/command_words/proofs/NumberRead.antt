@@ -11,19 +11,7 @@ use Rattle.clap.specs.Walk.{Text, rows_of}
 use Rattle.clap.specs.declared.parser.matches.ArgMatches.{ArgMatches}
 use Rattle.clap.proofs.WalkLemmas.{both, one_text-rows}
 use Rattle.command_words.specs.Command.{number_in, number_of}
-
-digits_from : (ds : List ℕ) → list_all (λ d. nat_lt (digit_value d) 10) ds ≡ true → AllDigits 10 ds
-digits_from [] e = tt
-digits_from (d ∷ ds) e =
-    let parts = both _ _ e in
-    (ltb-true _ _ parts.0, digits_from ds parts.1)
-
-digits_pass : (ds : List ℕ) → AllDigits 10 ds → list_all (λ d. nat_lt (digit_value d) 10) ds ≡ true
-digits_pass [] h = refl
-digits_pass (d ∷ ds) h = rw (lt-ltb (digit_value d) 10 h.0) (digits_pass ds h.1)
-
-abbrev is_number : ℕ → List ℕ → Bool
-is_number bits digits = is_numeral digits && nat_lt (digits_value 10 digits) (2 ^ bits)
+use Rattle.command_words.specs.NumberLaws.{digits_from, digits_pass, is_number}
 
 -- the number that `parse` gives is that of the text, if it is one
 abbrev MatchesNumber : {E : Type 0} → ℕ → Text → Result ℕ E → Type 0

@@ -24,6 +24,7 @@ use Rattle.clap.proofs.CallerReads.{signed_reads}
 use Rattle.clap.proofs.ValueTestLemmas.{accepts-Accepts}
 use Rattle.clap.proofs.WalkLemmas.{both}
 use Rattle.command_words.specs.Command.{command, command_of, number_in, number_of, numbers_of, stop_of, stop_in, without_fault}
+use Rattle.command_words.specs.NumberLaws.{number_fits, parses}
 use Rattle.command_words.specs.Limits.{IsPages, IsStop, IsWithin}
 use Rattle.command_words.specs.RowLaws.{IsPlainRule, Passes, found, level_good, neither}
 use Rattle.command_words.specs.Table.{program}
@@ -31,34 +32,6 @@ use Rattle.command_words.specs.declared.commands.Command.{Command}
 use Rattle.command_words.specs.declared.commands.Command.TheVariants.{Format, Graph, Play}
 
 -- ---- the number in a row
-
-digits_from : (ds : List ℕ) → list_all (λ d. nat_lt (digit_value d) 10) ds ≡ true → AllDigits 10 ds
-digits_from [] e = tt
-digits_from (d ∷ ds) e =
-    let parts = both _ _ e in
-    (ltb-true _ _ parts.0, digits_from ds parts.1)
-
--- a text that is a number parses as that number
-parses : (bits : ℕ) (text : Text) (n : ℕ) → number_of bits text ≡ Some n → ParsesUnsigned {E = ℕ} bits 10 text (Ok n)
-parses bits text n e = go (is_numeral (without_leading_plus text) && nat_lt (digits_value 10 (without_leading_plus text)) (2 ^ bits)) refl e
-  where
-    go : (b : Bool) → (is_numeral (without_leading_plus text) && nat_lt (digits_value 10 (without_leading_plus text)) (2 ^ bits)) ≡ b
-        → (if b then Some (digits_value 10 (without_leading_plus text)) else None) ≡ Some n → ParsesUnsigned {E = ℕ} bits 10 text (Ok n)
-    go false t none = cc
-    go true t some =
-        let is : n ≡ digits_value 10 (without_leading_plus text) = cc in
-        let outer = both _ _ t in
-        let inner = both _ _ outer.0 in
-        (((ltb-true _ _ inner.0, digits_from (without_leading_plus text) inner.1), ltb-true _ _ outer.1), is)
-
-number_fits : (bits : ℕ) (rows : List Row) (id : Text) (n : ℕ) → number_in bits rows id ≡ Some n → n < 2 ^ bits
-number_fits bits rows id n e = go (one_of id rows) e
-  where
-    go : (text : Option Text) → option_and_then (number_of bits) text ≡ Some n → n < 2 ^ bits
-    go None is = cc
-    go (Some text) is =
-        let parsed = parses bits text n is in
-        rw parsed.1 parsed.0.1
 
 -- the argument of that id takes the numbers from low to high
 abbrev IsNumber : List Rule → Text → ℕ → ℕ → Rule → Type 0
@@ -156,11 +129,11 @@ all_within : AllByRecursion SpellsWithin (built program).subs
 unfolding program
 all_within = (
   format_within _ _ _ _ refl
-      (record { own = refl; set = refl; no_default = refl }, (record { own = refl; set = refl; no_default = refl }, (record { own = refl; set = refl; no_default = refl }, tt)))
+      (record { own = refl; some_value = refl; set = refl; no_default = refl }, (record { own = refl; some_value = refl; set = refl; no_default = refl }, (record { own = refl; some_value = refl; set = refl; no_default = refl }, tt)))
       (λ x. refl) (refl, refl) (refl, refl) (refl, refl),
   (
     play_within _ _ refl
-        (record { own = refl; set = refl; no_default = refl }, (record { own = refl; set = refl; no_default = refl }, (record { own = refl; set = refl; no_default = refl }, tt)))
+        (record { own = refl; some_value = refl; set = refl; no_default = refl }, (record { own = refl; some_value = refl; set = refl; no_default = refl }, (record { own = refl; some_value = refl; set = refl; no_default = refl }, tt)))
         (λ x. refl) (refl, refl),
     (graph_within _ refl, tt),
   ),

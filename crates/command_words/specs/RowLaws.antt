@@ -1,19 +1,19 @@
 -- The rows of a parse with no fault hold only values that the parser of their argument lets through, where the arguments are plain options and positionals.
 use Rattle.std.proofs.Common.{◌≡◌, ◌∙◌, ◌&&◌, ◌++◌, ℕ, Bool, true, false, zero, suc, List, [], ◌∷◌, Option, Some, None, is_some, refl, sym, ap, subst, length, drop}
-use Rattle.std.specs.Prelude.{if◌then◌else◌, encode_utf8, find, fold, slice_get}
+use Rattle.std.specs.Prelude.{if◌then◌else◌, encode_utf8, find, fold, slice_get, ⊤}
 use Rattle.std.specs.List.{AllByRecursion}
 use Rattle.std.specs.Option.{option_map_or}
 use Rattle.std.specs.Str.{bytes_eq, chars}
 use Rattle.std.proofs.lemmas.Bool.{and_from}
 use Rattle.std.proofs.lemmas.Slice.Eq.{bytes_eq-Decides}
 use Rattle.clap.specs.Lexer.{long_of, short_of}
-use Rattle.clap.specs.Facts.{parser_of_value}
-use Rattle.clap.specs.Kinds.{Kinds, or_else, values_kinds}
+use Rattle.clap.specs.Facts.{parser_of_value, unwrap_or_range}
+use Rattle.clap.specs.Kinds.{Kinds, or_else, range_kinds, values_kinds}
 use Rattle.clap.specs.Simple.{Shape}
 use Rattle.clap.specs.Takes.{value_passes, values_pass}
 use Rattle.clap.specs.Walk as walk
 use Rattle.clap.specs.Walk.{Held, Outcome, Row, Rule, Step, Text, Waiting, Walk, action_of, after_flag, after_step, arg_by_id, arg_by_index, arg_by_long, arg_by_short}
-use Rattle.clap.specs.Walk.{at_row, attached_value, bundle_met, bundle_step, flag_met, has_row, is_pending, long_met, long_or_other, more_values, nothing_held}
+use Rattle.clap.specs.Walk.{at_row, attached_value, bundle_met, bundle_step, flag_met, has_row, is_pending, long_met, long_or_other, more_values, most_values, nothing_held}
 use Rattle.clap.specs.Walk.{option_met, plain_word, positional_held, reacted, reading_by, rows_after, settled, settled_rows, short_or_plain, subcommand_or_other, takes_several}
 use Rattle.clap.specs.Walk.{takes_values, to_positional, used, used_as, used_by_id, values_or_missing, walk_from, walked, walked_from, with_default, with_values, without, word_met}
 use Rattle.clap.specs.Faults.{action_fault, bundle_fault, bundle_step_fault, flag_word_fault, flags_fault, level_fault, long_fault, option_fault, other_fault}
@@ -43,15 +43,20 @@ all_in : {X : Type 0} (P : X → Type 0) (xs ys : List X) → AllByRecursion P x
 all_in P [] ys a b = b
 all_in P (x ∷ xs) ys a b = (a.0, all_in P xs ys a.1 b)
 
--- the argument is the one of its id, is set by its last use, and has no default
+-- the argument is the one of its id, takes one value or more, is set by its last use, and has no default
 pub record IsPlainRule (c : List Rule) (a : Rule) : Type 0 where
   pub own : arg_by_id c a.id ≡ Some a
+  pub some_value : (unwrap_or_range a.range).start_inclusive ≡ 1
   pub set : action_of a ≡ Set
   pub no_default : a.defaults ≡ []
 
--- the row holds values that its argument takes, and is read as its argument says
+abbrev pub HasValue : List Text → Type 0
+HasValue [] = ⊥
+HasValue (v ∷ vs) = ⊤
+
+-- the row holds a value or more, all of which its argument takes, and is read as its argument says
 abbrev pub Passes : List Rule → Row → Type 0
-Passes c r = (a : Rule) → arg_by_id c r.id ≡ Some a → (values_pass a r.values ≡ true) × (r.reading ≡ reading_by a)
+Passes c r = (a : Rule) → arg_by_id c r.id ≡ Some a → (values_pass a r.values ≡ true) × (r.reading ≡ reading_by a) × HasValue r.values
 
 accepted : (b : Bool) (k : ErrorKind) → (if b then [] else k ∷ []) ≡ [] → b ≡ true
 accepted true k e = refl
@@ -69,6 +74,17 @@ both_pass a (v ∷ vs) ys x y =
     let parts = both (value_passes a v) (values_pass a vs) x in
     and_from (value_passes a v) (values_pass a (vs ++ ys)) parts.0 (both_pass a vs ys parts.1 y)
 
+still_has_value : (xs ys : List Text) → HasValue xs → HasValue (xs ++ ys)
+still_has_value [] ys h = absurd h
+still_has_value (x ∷ xs) ys h = tt
+
+has_value : (a : Rule) (values : List Text) → (unwrap_or_range a.range).start_inclusive ≡ 1
+    → range_kinds (unwrap_or_range a.range).start_inclusive (most_values a) (length values) ≡ [] → HasValue (values_or_missing a values)
+has_value a [] one none =
+    let bad : kind.InvalidValue ∷ [] ≡ [] = subst (λ (n : ℕ). range_kinds n (most_values a) 0 ≡ []) one none in
+    cc
+has_value a (v ∷ vs) one none = tt
+
 at_row_good : (P : Row → Type 0) (id : Text) (change : Row → List Row) (missing rows : List Row) → ((r : Row) → bytes_eq r.id id ≡ true → P r → AllByRecursion P (change r))
     → AllByRecursion P missing → AllByRecursion P rows → AllByRecursion P (at_row id change missing rows)
 at_row_good P id change missing [] changed new all = new
@@ -79,23 +95,23 @@ at_row_good P id change missing (r ∷ rs) changed new all = go (bytes_eq r.id i
     go false other rest = (all.0, rest)
 
 -- one more use of an argument, with values that pass
-set_good : (c : List Rule) (a : Rule) → IsPlainRule c a → (values : List Text) (rows : List Row) → values_pass a values ≡ true → AllByRecursion (Passes c) rows
+set_good : (c : List Rule) (a : Rule) → IsPlainRule c a → (values : List Text) (rows : List Row) → values_pass a values ≡ true → HasValue values → AllByRecursion (Passes c) rows
     → AllByRecursion (Passes c) (with_values a.id (reading_by a) CommandLine values (without a.id rows))
-set_good c a plain values rows passes all =
+set_good c a plain values rows passes some all =
     at_row_good (Passes c) a.id (more_values CommandLine values) _ (without a.id rows) changed (new, tt)
     (at_row_good (Passes c) a.id (λ r. []) [] rows (λ r same p. tt) tt all)
   where
     own : (b : Rule) → arg_by_id c a.id ≡ Some b → a ≡ b
     own b e = let mine = plain.own in cc
 
-    new : (b : Rule) → arg_by_id c a.id ≡ Some b → (values_pass b values ≡ true) × (reading_by a ≡ reading_by b)
-    new b e = (subst (λ (x : Rule). values_pass x values ≡ true) (own b e) passes, ap reading_by (own b e))
+    new : (b : Rule) → arg_by_id c a.id ≡ Some b → (values_pass b values ≡ true) × (reading_by a ≡ reading_by b) × HasValue values
+    new b e = (subst (λ (x : Rule). values_pass x values ≡ true) (own b e) passes, ap reading_by (own b e), some)
 
     changed : (r : Row) → bytes_eq r.id a.id ≡ true → Passes c r → AllByRecursion (Passes c) (more_values CommandLine values r)
     changed r same p = (
       (λ b e.
           let here : arg_by_id c a.id ≡ Some b = ap (arg_by_id c) (sym ((bytes_eq-Decides r.id a.id).0 same)) ∙ e in
-          (both_pass b r.values values (p b e).0 (new b here).0, (p b e).1)),
+          (both_pass b r.values values (p b e).0 (new b here).0, (p b e).1, still_has_value r.values values (p b e).2)),
       tt,
     )
 
@@ -120,11 +136,11 @@ module _ (s : Shape) (plain : AllByRecursion (IsPlainRule s.rules) s.rules) (no_
 
   use_good : (a : Rule) (values : List Text) (rows : List Row) → IsPlainRule s.rules a → use_fault again a values rows ≡ [] → Good rows → Good (used a values rows)
   use_good a values rows is none good =
-      let acted = (neither _ (action_fault (action_of a) again a (values_or_missing a values) rows) none).1 in
-      let set : set_fault again a (values_or_missing a values) rows ≡ [] = ap (λ x. action_fault x again a (values_or_missing a values) rows) (sym is.set) ∙ acted in
+      let parts = neither (range_kinds (unwrap_or_range a.range).start_inclusive (most_values a) (length values)) (action_fault (action_of a) again a (values_or_missing a values) rows) none in
+      let set : set_fault again a (values_or_missing a values) rows ≡ [] = ap (λ x. action_fault x again a (values_or_missing a values) rows) (sym is.set) ∙ parts.1 in
       let passes = values_are a (values_or_missing a values) (neither _ (values_fault a (values_or_missing a values)) set).1 in
       subst Good (ap (λ x. used_as x a.id (reading_by a) (values_or_missing a values) rows) (sym is.set))
-      (set_good s.rules a is (values_or_missing a values) rows passes good)
+      (set_good s.rules a is (values_or_missing a values) rows passes (has_value a values is.some_value parts.0) good)
 
   by_id_good : (id : Text) (values : List Text) (rows : List Row) (of : Option Rule) → arg_by_id s.rules id ≡ of
       → option_map_or (λ a. use_fault again a values rows) of [] ≡ [] → Good rows → Good (used_by_id of values rows)
