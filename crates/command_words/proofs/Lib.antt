@@ -1,0 +1,2 @@
+mod NumberRead
+mod WordsRead

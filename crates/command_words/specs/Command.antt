@@ -1,0 +1,64 @@
+-- The command that the words of the command line spell: the parser's matches over the table of commands, and what is read off them.
+use Rattle.std.specs.Prelude.{ℕ, ◌^◌, ◌&&◌, nat_lt, List, [], ◌∷◌, Option, None, Some, option_map, option_and_then, bytes_eq, codes, if◌then◌else◌}
+use Rattle.std.specs.Str.Parse.{digits_value, without_leading_plus}
+use Rattle.clap.specs.Kinds.{Kinds}
+use Rattle.clap.specs.ValueTests.{is_numeral}
+use Rattle.clap.specs.Walk.{Row, Text, one_of}
+use Rattle.clap.specs.Simple.{subcommand_of}
+use Rattle.clap.specs.Faults.{fault_of}
+use Rattle.clap.specs.declared.error.kind.ErrorKind.{ErrorKind}
+use Rattle.clap.specs.declared.error.kind.ErrorKind.TheVariants as kind
+use Rattle.command_words.specs.Table.{program}
+use Rattle.command_words.specs.declared.commands.Command.{Command}
+use Rattle.command_words.specs.declared.commands.Command.TheVariants.{Format, Play, Graph}
+use Rattle.command_words.specs.declared.commands.CommandError.{CommandError}
+use Rattle.command_words.specs.declared.commands.CommandError.TheVariants.{NoMemory, Usage}
+use Rattle.command_words.specs.declared.commands.Numbers.{Numbers}
+use Rattle.command_words.specs.declared.commands.Stop.{Stop}
+
+-- the whole number of so many bits that a text is
+abbrev pub number_of : ℕ → Text → Option ℕ
+number_of bits text =
+    let digits = without_leading_plus text in
+    if is_numeral digits && nat_lt (digits_value 10 digits) (2 ^ bits) then Some (digits_value 10 digits) else None
+
+-- the number that was given under a name, if one was
+abbrev pub number_in : ℕ → List Row → Text → Option ℕ
+number_in bits rows id = option_and_then (number_of bits) (one_of id rows)
+
+abbrev pub numbers_of : Option ℕ → Option ℕ → Option ℕ → Option Numbers
+numbers_of (Some pages) (Some log_bytes) (Some first) = Some (record { pages = pages; log_bytes = log_bytes; first = first })
+numbers_of _ _ _ = None
+
+abbrev pub numbers_in : List Row → Option Numbers
+numbers_in rows = numbers_of (number_in 32 rows (codes "pages")) (number_in 32 rows (codes "log_bytes")) (number_in 32 rows (codes "first"))
+
+-- how the disk stops; where the second stop alone is asked for, the first one never comes
+abbrev pub stop_of : Option ℕ → Option ℕ → Option Stop
+stop_of (Some after) again = Some (record { after = after; again = again })
+stop_of None (Some again) = Some (record { after = 18446744073709551615; again = Some again })
+stop_of None None = None
+
+abbrev pub stop_in : List Row → Option Stop
+stop_in rows = stop_of (number_in 64 rows (codes "stop")) (number_in 64 rows (codes "again"))
+
+-- the command of that name, with what its matches hold
+abbrev pub command_of : Text → List Row → Option Command
+command_of name rows =
+    if bytes_eq name (codes "format") then option_map (λ numbers. Format numbers) (numbers_in rows)
+    else (if bytes_eq name (codes "play") then Some (Play (number_in 32 rows (codes "fresh")) (stop_in rows))
+    else (if bytes_eq name (codes "graph") then Some Graph else None))
+
+-- what an error of the parser is to the program
+abbrev pub error_of : ErrorKind → CommandError
+error_of kind.OutOfMemory = NoMemory
+error_of _ = Usage
+
+-- nothing, where the parser finds a fault
+abbrev pub without_fault : Kinds → Option Command → Option Command
+without_fault [] c = c
+without_fault (k ∷ ks) c = None
+
+-- the command that the words spell, of which the first is the program's name
+unfoldable pub command : List Text → Option Command
+command words = without_fault (fault_of program words) (option_and_then (λ p. command_of p.0 p.1) (subcommand_of program words))
