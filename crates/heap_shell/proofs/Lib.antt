@@ -12,6 +12,7 @@ mod PlayLoop
 mod PlayOpen
 mod PlayPrints
 mod PrintRecovered
+mod RefusalLaws
 mod RunLaws
 mod Statuses
 mod Written

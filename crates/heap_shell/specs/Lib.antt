@@ -6,6 +6,7 @@ pub mod Headline
 pub mod Output
 pub mod Play
 pub mod Playable
+pub mod Refusals
 pub mod Status
 pub mod StatusOf
 pub mod Steps

@@ -2,13 +2,15 @@
 ghost use Rattle.std.specs.Prelude.{◌≡◌, ◌≢◌, ◌⊎◌, ℕ, ◌<◌, ◌≤◌, List, [], None, Some, Ok, Err, IfOk, IfErr, IfSome, IsTrue, OnOk};
 ghost use Rattle.counts.specs.Count.{Rose};
 ghost use Rattle.disk_model.specs.Disk.{Only};
+ghost use Rattle.disk_model.specs.Keeps.{SameContents};
 ghost use Rattle.image_plan.specs.Plan.{image_size};
 ghost use Rattle.script_text.specs.declared.line.Line.{Line};
 ghost use Rattle.script_text.specs.declared.script.ScriptError.TheVariants.{Fault};
 ghost use Rattle.command_words.specs.Limits.{IsPages};
 ghost use Rattle.heap_shell.specs.Causes.{StreamCause, RunsDisk, IsInputError, IsOpenedEnd, FailsByScript};
-ghost use Rattle.heap_shell.specs.Headline.{OfTold, IsPlayed, IsEndOfPlay, PrintsRun, PrintsSome, Runs, CanPlay, IsUntouching, EndsUnread, EndsUnmade, RestartsDisk, restarts_asked, starts_asked, stop_after};
+ghost use Rattle.heap_shell.specs.Headline.{OfTold, IsPlayed, IsEndOfPlay, PrintsRun, PrintsSome, Runs, CanPlay, IsUntouching, EndsUnread, EndsUnmade, IsSound, RestartsDisk, restarts_asked, starts_asked, stop_after};
 ghost use Rattle.heap_shell.specs.Playable.{IsScript, IsReadFrom};
+ghost use Rattle.heap_shell.specs.Refusals.{IsFault, IsToldOf, EndsRefused};
 ghost use Rattle.heap_shell.specs.Stored.{IsStored, stored_core, stored_calls};
 ghost use Rattle.heap_model.specs.Ending.{all_events};
 ghost use Rattle.heap_shell.specs.Output.{early_end};
@@ -62,6 +64,12 @@ pub fn run_play<D: Disk, S: Source, K: Sink>(
     // Where a heap is there, or one was to be made on a disk that is large enough, and the script is good, the run ends as a play.
     ensures complete { OfTold D.tells (D.bytes disk) (D.may_leave disk) (CanPlay fresh (D.extent disk) (D.bytes disk)
         → IsTrue S.tells → (lines : List Line) → script (S.left source.old) ≡ Ok lines → ¬ Rose (S.faults source.old) (S.faults source.new) → IsEndOfPlay result.0) }
+    // An image that can't be opened gives its own status, and nothing is written then; without a stop each status against it tells what is so.
+    ensures refused { IsTrue D.tells → fresh ≡ None → stop ≡ None → IsToldOf result.0 (D.bytes disk) }
+    ensures refuses { OfTold D.tells (D.bytes disk) (D.may_leave disk) (fresh ≡ None → (expected : Status) → IsFault expected (D.bytes disk) → EndsRefused expected result.0 × (sink.new ≡ sink.old)) }
+    ensures left_alone { IsTrue D.tells → fresh ≡ None → stop ≡ None → result.0 ≡ Status.NotHeap → SameContents D.Disk disk result.1 }
+    // A heap that it made is never refused.
+    ensures sound { OfTold D.tells (D.bytes disk) (D.may_leave disk) ((pages : ℕ) → fresh ≡ Some pages → IsSound result.0) }
 {
     let script = match read_input(alloc, source) {
         Ok(script) => script,
@@ -93,6 +101,10 @@ fn play_script<D: Disk, K: Sink>(
     ensures prints { IsTrue K.tells → PrintsSome (stop_after stop) script.now result.0 (K.written sink.old) (K.written sink.new) }
     ensures played { IsTrue D.tells → (stored : IsStored (D.bytes disk)) → Only (D.bytes disk) (D.may_leave disk)
         → IsPlayed D.Disk stop (stored_calls stored) (stored_core stored) (all_events (stop_after stop) (stored_core stored) (events script.now)) disk result.1 result.0 K.tells (K.written sink.old) (K.written sink.new) }
+    // An image that can't be opened gives its own status, and nothing is written then; without a stop each status against it tells what is so.
+    ensures refused { IsTrue D.tells → stop ≡ None → IsToldOf result.0 (D.bytes disk) }
+    ensures refuses { IsTrue D.tells → Only (D.bytes disk) (D.may_leave disk) → (expected : Status) → IsFault expected (D.bytes disk) → EndsRefused expected result.0 × (sink.new ≡ sink.old) }
+    ensures left_alone { IsTrue D.tells → stop ≡ None → result.0 ≡ Status.NotHeap → SameContents D.Disk disk result.1 }
 {
     match stop {
         None => play_whole(alloc, disk, script, sink),
@@ -128,6 +140,9 @@ fn play_whole<D: Disk, K: Sink>(
     ensures prints { IsTrue K.tells → PrintsSome None script.now result.0 (K.written sink.old) (K.written sink.new) }
     ensures played { IsTrue D.tells → (stored : IsStored (D.bytes disk)) → Only (D.bytes disk) (D.may_leave disk)
         → IsPlayed D.Disk None (stored_calls stored) (stored_core stored) (all_events None (stored_core stored) (events script.now)) disk result.1 result.0 K.tells (K.written sink.old) (K.written sink.new) }
+    ensures refused { IsTrue D.tells → IsToldOf result.0 (D.bytes disk) }
+    ensures refuses { IsTrue D.tells → (expected : Status) → IsFault expected (D.bytes disk) → EndsRefused expected result.0 × (sink.new ≡ sink.old) }
+    ensures left_alone { IsTrue D.tells → result.0 ≡ Status.NotHeap → SameContents D.Disk disk result.1 }
 {
     let mut heap = match Heap::open(alloc, disk) {
         Ok(heap) => heap,
@@ -159,6 +174,7 @@ fn play_stopped<D: Disk, K: Sink>(
     ensures prints { IsTrue K.tells → PrintsSome (Some stop.after) script.now result.0 (K.written sink.old) (K.written sink.new) }
     ensures played { IsTrue D.tells → (stored : IsStored (D.bytes disk)) → Only (D.bytes disk) (D.may_leave disk)
         → IsPlayed D.Disk (Some stop) (stored_calls stored) (stored_core stored) (events script.now) disk result.1 result.0 K.tells (K.written sink.old) (K.written sink.new) }
+    ensures refuses { IsTrue D.tells → Only (D.bytes disk) (D.may_leave disk) → (expected : Status) → IsFault expected (D.bytes disk) → EndsRefused expected result.0 × (sink.new ≡ sink.old) }
 {
     let mut heap = match Heap::open(alloc, FuseDisk::new(disk, stop.after)) {
         Ok(heap) => heap,

@@ -1,6 +1,7 @@
 //! The commands that play no script: a heap is made, or its graph is printed.
 ghost use Rattle.std.specs.Prelude.{◌≡◌, ◌≢◌, ◌⊎◌, ℕ, ◌<◌, ◌≤◌, List, Bool, Some, IsTrue};
 ghost use Rattle.disk_model.specs.Disk.{Only};
+ghost use Rattle.disk_model.specs.Keeps.{SameContents};
 ghost use Rattle.graph_model.specs.Graph.{Graph};
 ghost use Rattle.graph_words.specs.Places.{Places};
 ghost use Rattle.image_plan.specs.declared.superblock.Super.{Super};
@@ -14,6 +15,7 @@ ghost use Rattle.heap_shell.specs.Causes.{StreamCause, RunsDisk, IsOpenedEnd};
 ghost use Rattle.heap_shell.specs.Commands.{RunsFormat, PrintsGraph, WritesText, formatted_line};
 ghost use Rattle.heap_shell.specs.Headline.{OfTold, IsEndOfPlay, graph_text};
 ghost use Rattle.heap_shell.specs.Output.{WroteText};
+ghost use Rattle.heap_shell.specs.Refusals.{IsFault, IsToldOf, EndsRefused};
 
 use crate::output::{WriteError, write_graph};
 use crate::status::{Status, status_after};
@@ -69,6 +71,10 @@ pub fn run_graph<D: Disk, K: Sink>(alloc: Global, disk: D, sink: &mut K) -> (Sta
         → PrintsGraph D.Disk s batches g disk result.1 result.0 K.tells (K.written sink.old) (K.written sink.new)) }
     ensures prints { IsTrue K.tells → ((result.0 ≢ Status.Done) × (K.written sink.new ≡ K.written sink.old)) ⊎ ((g : Graph) × WritesText result.0 (graph_text g) (K.written sink.old) (K.written sink.new)) }
     ensures restarts { IsTrue D.tells → D.restarts result.1 ≡ D.restarts disk }
+    // A status against the image tells what is so, and an image that can't be opened gives its own; nothing is written then.
+    ensures refused { IsTrue D.tells → IsToldOf result.0 (D.bytes disk) }
+    ensures refuses { IsTrue D.tells → (expected : Status) → IsFault expected (D.bytes disk) → EndsRefused expected result.0 × (sink.new ≡ sink.old) }
+    ensures left_alone { IsTrue D.tells → result.0 ≡ Status.NotHeap → SameContents D.Disk disk result.1 }
 {
     match Heap::open(alloc, disk) {
         Ok(heap) => {

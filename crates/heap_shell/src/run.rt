@@ -2,6 +2,7 @@
 ghost use Rattle.std.specs.Prelude.{◌≡◌, ◌≢◌, ◌⊎◌, ℕ, ◌<◌, ◌≤◌, [], List, Bool, None, Some, Ok, Err, Option, map, string_bytes, IsTrue};
 ghost use Rattle.counts.specs.Count.{Rose};
 ghost use Rattle.disk_model.specs.Disk.{Only};
+ghost use Rattle.disk_model.specs.Keeps.{SameContents};
 ghost use Rattle.graph_model.specs.Graph.{Graph};
 ghost use Rattle.graph_words.specs.Places.{Places};
 ghost use Rattle.image_plan.specs.declared.superblock.Super.{Super};
@@ -18,8 +19,9 @@ ghost use Rattle.heap_model.specs.Opening.{IsFound};
 ghost use Rattle.heap_shell.specs.Causes.{DiskRose, StreamCause, RunsDisk};
 ghost use Rattle.heap_shell.specs.Commands.{makes, numbers_of, restarts_of, IsPlay, CanRun, RunsFormat, PrintsGraph, WritesText, formatted_line};
 ghost use Rattle.heap_shell.specs.CrashSafe.{RunsSafely};
-ghost use Rattle.heap_shell.specs.Headline.{OfTold, PrintsRun, Runs, IsUntouching, EndsUnread, EndsUnmade, RestartsDisk, graph_text, stop_after};
+ghost use Rattle.heap_shell.specs.Headline.{OfTold, PrintsRun, Runs, IsUntouching, EndsUnread, EndsUnmade, IsSound, RestartsDisk, graph_text, stop_after};
 ghost use Rattle.heap_shell.specs.Playable.{IsReadFrom};
+ghost use Rattle.heap_shell.specs.Refusals.{IsFault, IsToldOf, EndsRefused};
 ghost use Rattle.script_text.specs.Script.{script};
 
 use crate::playing::run_play;
@@ -82,6 +84,14 @@ pub fn run<D: Disk, S: Source, K: Sink>(
         → ((result.0 ≢ Status.Done) × (K.written sink.new ≡ K.written sink.old)) ⊎ ((lines : List Line) × IsReadFrom S.tells (S.left source.old) lines × PrintsRun (stop_after stop) lines result.0 (K.written sink.old) (K.written sink.new)) }
     ensures prints_size { IsTrue K.tells → (s : Super) → command (map string_bytes words.now) ≡ Some (asked.Format (numbers_of s)) → WritesText result.0 (formatted_line s) (K.written sink.old) (K.written sink.new) }
     ensures prints_graph { IsTrue K.tells → command (map string_bytes words.now) ≡ Some asked.Graph → ((result.0 ≢ Status.Done) × (K.written sink.new ≡ K.written sink.old)) ⊎ ((g : Graph) × WritesText result.0 (graph_text g) (K.written sink.old) (K.written sink.new)) }
+
+    // Which images are no heap or damaged, and where: such an image gives its own status, with nothing written; without a stop each status against an
+    // image tells what is so. An image that is no heap is left as it was, and a heap that the run makes is never refused.
+    ensures refuses { OfTold D.tells (D.bytes disk) (D.may_leave disk) ((asked : Command) (expected : Status) → command (map string_bytes words.now) ≡ Some asked → makes asked ≡ None
+        → IsFault expected (D.bytes disk) → EndsRefused expected result.0 × (sink.new ≡ sink.old)) }
+    ensures refused { IsTrue D.tells → (asked : Command) → command (map string_bytes words.now) ≡ Some asked → makes asked ≡ None → restarts_of asked ≡ 0 → IsToldOf result.0 (D.bytes disk) }
+    ensures left_alone { IsTrue D.tells → (asked : Command) → command (map string_bytes words.now) ≡ Some asked → makes asked ≡ None → restarts_of asked ≡ 0 → result.0 ≡ Status.NotHeap → SameContents D.Disk disk result.1 }
+    ensures sound { OfTold D.tells (D.bytes disk) (D.may_leave disk) ((asked : Command) (s : Super) → command (map string_bytes words.now) ≡ Some asked → makes asked ≡ Some s → IsSound result.0) }
 
     // Without a fault it is done, on a disk that is large enough for a new heap, or holds a heap.
     ensures complete { OfTold D.tells (D.bytes disk) (D.may_leave disk) ((asked : Command) → command (map string_bytes words.now) ≡ Some asked → CanRun asked (D.extent disk) (D.bytes disk)

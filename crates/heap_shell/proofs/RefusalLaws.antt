@@ -1,0 +1,115 @@
+-- How what an opening tells of an image goes on to the status of a run.
+use Rattle.std.proofs.Common.{◌≡◌, ⊎_elim, ℕ, ◌≤◌, List, refl, subst, sym}
+use Rattle.std.specs.Prelude.{IsTrue}
+use Rattle.disk_model.specs.declared.disk.Disk.{Ghosts}
+use Rattle.disk_model.specs.Moments.{LeavesOnly}
+use Rattle.heap_recovery.specs.declared.at.At.{At}
+use Rattle.heap_recovery.specs.Faults.{IsNoHeap, IsFaultAt}
+use Rattle.heap_core.specs.Causes.{IsFromOutside}
+use Rattle.heap_core.specs.Refusals as opening_refusals
+use Rattle.heap_core.specs.declared.errors.OpenError.{OpenError}
+use Rattle.heap_core.specs.declared.errors.OpenError.TheVariants as opening
+use Rattle.heap_shell.specs.declared.status.Status.{Status}
+use Rattle.heap_shell.specs.declared.status.Status.TheVariants as status
+use Rattle.heap_shell.specs.Headline.{IsEndOfPlay}
+use Rattle.heap_shell.specs.Refusals.{IsFault, IsToldOf, EndsRefused}
+use Rattle.heap_shell.specs.StatusOf.{open_status}
+
+-- what the error of an opening tells, its status tells
+pub told_status : (e : OpenError) (image : List ℕ) → opening_refusals.IsToldOf e image → IsToldOf (open_status e) image
+told_status opening.NoMemory image told = tt
+told_status opening.NotHeap image told = told
+told_status (opening.Damaged at) image told = told
+told_status opening.DiskFault image told = tt
+told_status opening.Stopped image told = tt
+
+-- the end of a play says nothing of the image
+pub end_told : (s : Status) (image : List ℕ) → IsEndOfPlay s → IsToldOf s image
+end_told status.Done image end = tt
+end_told status.NoMemory image end = tt
+end_told status.Usage image end = absurd end
+end_told (status.Script line) image end = absurd end
+end_told status.ReadFault image end = absurd end
+end_told status.WriteFault image end = tt
+end_told status.DiskFault image end = tt
+end_told status.NotHeap image end = absurd end
+end_told (status.Damaged at) image end = absurd end
+end_told (status.TooSmall size need) image end = absurd end
+
+-- nor is it that of an image that is no heap
+pub end_no_heap : (s : Status) → IsEndOfPlay s → s ≡ status.NotHeap → ⊥
+end_no_heap status.Done end is = cc
+end_no_heap status.NoMemory end is = cc
+end_no_heap status.Usage end is = absurd end
+end_no_heap (status.Script line) end is = absurd end
+end_no_heap status.ReadFault end is = absurd end
+end_no_heap status.WriteFault end is = cc
+end_no_heap status.DiskFault end is = cc
+end_no_heap status.NotHeap end is = absurd end
+end_no_heap (status.Damaged at) end is = absurd end
+end_no_heap (status.TooSmall size need) end is = absurd end
+
+outside_ends : (expected : Status) (e : OpenError) → IsFromOutside e → EndsRefused expected (open_status e)
+outside_ends expected opening.NoMemory outside = tt
+outside_ends expected opening.NotHeap outside = absurd outside
+outside_ends expected (opening.Damaged at) outside = absurd outside
+outside_ends expected opening.DiskFault outside = tt
+outside_ends expected opening.Stopped outside = tt
+
+either_ends : (this e : OpenError) → opening_refusals.IsErrorOrOutside this e → EndsRefused (open_status this) (open_status this) → EndsRefused (open_status this) (open_status e)
+either_ends this e is same = ⊎_elim (λ (one : e ≡ this). subst (λ (x : OpenError). EndsRefused (open_status this) (open_status x)) (sym one) same) (λ (outside : IsFromOutside e). outside_ends (open_status this) e outside) is
+
+-- An opening of an image that is to be refused gives its status.
+pub refused_by : (expected : Status) (image : List ℕ) (e : OpenError) → IsFault expected image → (IsNoHeap image → opening_refusals.IsErrorOrOutside opening.NotHeap e)
+    → ((at : At) → IsFaultAt at image → opening_refusals.IsErrorOrOutside (opening.Damaged at) e) → EndsRefused expected (open_status e)
+refused_by status.Done image e fault no_heap damaged = absurd fault
+refused_by status.NoMemory image e fault no_heap damaged = absurd fault
+refused_by status.Usage image e fault no_heap damaged = absurd fault
+refused_by (status.Script line) image e fault no_heap damaged = absurd fault
+refused_by status.ReadFault image e fault no_heap damaged = absurd fault
+refused_by status.WriteFault image e fault no_heap damaged = absurd fault
+refused_by status.DiskFault image e fault no_heap damaged = absurd fault
+refused_by status.NotHeap image e fault no_heap damaged = either_ends opening.NotHeap e (no_heap fault) refl
+refused_by (status.Damaged at) image e fault no_heap damaged = either_ends (opening.Damaged at) e (damaged at fault) refl
+refused_by (status.TooSmall size need) image e fault no_heap damaged = absurd fault
+
+-- And it is not opened.
+pub not_opened : (expected : Status) (image : List ℕ) → IsFault expected image → (IsNoHeap image → ⊥) → ((at : At) → IsFaultAt at image → ⊥) → ⊥
+not_opened status.Done image fault no_heap damaged = fault
+not_opened status.NoMemory image fault no_heap damaged = fault
+not_opened status.Usage image fault no_heap damaged = fault
+not_opened (status.Script line) image fault no_heap damaged = fault
+not_opened status.ReadFault image fault no_heap damaged = fault
+not_opened status.WriteFault image fault no_heap damaged = fault
+not_opened status.DiskFault image fault no_heap damaged = fault
+not_opened status.NotHeap image fault no_heap damaged = no_heap fault
+not_opened (status.Damaged at) image fault no_heap damaged = damaged at fault
+not_opened (status.TooSmall size need) image fault no_heap damaged = fault
+
+-- An error that only tells of the image came before a write.
+pub no_heap_early : (e : OpenError) → open_status e ≡ status.NotHeap → opening_refusals.ComesBeforeWrites e
+no_heap_early opening.NoMemory is = tt
+no_heap_early opening.NotHeap is = tt
+no_heap_early (opening.Damaged at) is = cc
+no_heap_early opening.DiskFault is = cc
+no_heap_early opening.Stopped is = cc
+
+module _ {D : Type 0} (g : Ghosts D) where
+  -- At each moment of an opening the fault stays.
+  pub fault_moments : (expected : Status) (image : List ℕ) (old new : D) → IsFault expected image → (IsNoHeap image → LeavesOnly g.moment g.left_since old new IsNoHeap)
+      → ((at : At) → IsFaultAt at image → LeavesOnly g.moment g.left_since old new (IsFaultAt at)) → LeavesOnly g.moment g.left_since old new (IsFault expected)
+  fault_moments status.Done image old new fault no_heap damaged = absurd fault
+  fault_moments status.NoMemory image old new fault no_heap damaged = absurd fault
+  fault_moments status.Usage image old new fault no_heap damaged = absurd fault
+  fault_moments (status.Script line) image old new fault no_heap damaged = absurd fault
+  fault_moments status.ReadFault image old new fault no_heap damaged = absurd fault
+  fault_moments status.WriteFault image old new fault no_heap damaged = absurd fault
+  fault_moments status.DiskFault image old new fault no_heap damaged = absurd fault
+  fault_moments status.NotHeap image old new fault no_heap damaged = no_heap fault
+  fault_moments (status.Damaged at) image old new fault no_heap damaged = damaged at fault
+  fault_moments (status.TooSmall size need) image old new fault no_heap damaged = absurd fault
+
+  -- what holds at each moment holds at the end
+  pub at_end : (old new : D) (P : List ℕ → Type 0) → LeavesOnly g.moment g.left_since old new P → ((t : ℕ) (image : List ℕ) → t ≤ g.moment new → g.may_leave new image → g.left_since new t image)
+      → (image : List ℕ) → g.may_leave new image → P image
+  at_end old new P moments counts image may = moments.each image (counts (g.moment old) image moments.later may)

@@ -1,0 +1,63 @@
+use Rattle.std.proofs.Common.{◌≡◌, inl, inr, ⊎_elim, ℕ, List, Some, None, Ok, sym, ap, ◌∙◌, subst}
+use Rattle.script_text.specs.declared.line.Line.{Line}
+use Rattle.heap_core.specs.declared.errors.FormatError.{FormatError}
+use Rattle.heap_shell.specs.CoreLawsPlay.{made_limits, script_is}
+use Rattle.heap_model.specs.Ending.{all_events}
+use Rattle.script_text.specs.Line.{events}
+use Rattle.heap_shell.specs.Headline.{made_super, PrintsRun, stop_after, IsPlayed, made_core}
+use Rattle.heap_shell.specs.Playable.{IsScript, IsReadFrom}
+use Rattle.heap_shell.proofs.PlayOpen.{new_stored, no_calls}
+use Rattle.heap_shell.proofs.RunLaws.{large_made, format_not_done, not_made, restarts_none, end_sound}
+use Rattle.heap_shell.proofs.playing.run_play.Goals as goal
+
+pub play_script-requires : goal.play_script-requires
+play_script-requires g c = let read = c.in-Ok.ensures.script in subst IsScript (sym c.deref.ensures.value) (script_is read.0 c.in-Ok.script.items read.1)
+
+pub returns-in-None-clause-headline : goal.returns-in-None-clause-headline
+returns-in-None-clause-headline g c tells only =
+    let read = c.in-Ok.ensures.script in
+    rw c.in-None.is (inr (λ stored. record {
+      lines = c.deref.result.now;
+      script = record { bytes = read.0; script = read.1 ∙ ap (λ (ls : List Line). Ok ls) (sym c.deref.ensures.value); own = read.2 };
+      played = c.play_script.ensures.played tells stored only;
+    }))
+
+pub play_script-requires-in-Ok-format : goal.play_script-requires-in-Ok-format
+play_script-requires-in-Ok-format g c = let read = c.in-Ok.ensures.script in subst IsScript (sym c.deref-in-Ok-format.ensures.value) (script_is read.0 c.in-Ok.script.items read.1)
+
+pub returns-in-Ok-format-clause-headline : goal.returns-in-Ok-format-clause-headline
+returns-in-Ok-format-clause-headline g c tells only =
+    let d = g.D.Disk in
+    let k = g.K.Sink in
+    let pages = c.in-Some.pages in
+    let read = c.in-Ok.ensures.script in
+    let lines = c.deref-in-Ok-format.result.now in
+    let final = c.play_script-in-Ok-format.result in
+    let e = c.in-Ok-format.ensures in
+    let made = e.made tells in
+    let stored = new_stored pages (d.bytes c.in-Ok-format.disk) made.0 in
+    let played = c.play_script-in-Ok-format.ensures.played tells stored made.1 in
+    let es = all_events (stop_after c.args.stop) (made_core pages) (events lines) in
+    rw c.in-Some.is (inr (record {
+      made = c.in-Ok-format.disk;
+      format = record { moments = e.moments tells only; empty = made.0; only = made.1; passed = (e.passes tells (large_made _ _ e.small)).ok; restarts = e.disk.restarts tells };
+      plays = record {
+        lines = lines;
+        script = record { bytes = read.0; script = read.1 ∙ ap (λ (ls : List Line). Ok ls) (sym c.deref-in-Ok-format.ensures.value); own = read.2 };
+        played = subst (λ (n : ℕ). IsPlayed d c.args.stop n (made_core pages) es c.in-Ok-format.disk final.1 final.0 k.tells (k.written c.args.sink.now) (k.written c.play_script-in-Ok-format.new.sink)) (no_calls (made_super pages)) played;
+      };
+    }))
+
+pub returns-in-Ok-format-clause-complete : goal.returns-in-Ok-format-clause-complete
+returns-in-Ok-format-clause-complete g c tells only can told lines good unharmed =
+    let d = g.D.Disk in
+    let made = c.in-Ok-format.ensures.made tells in
+    let stored = new_stored c.in-Some.pages (d.bytes c.in-Ok-format.disk) made.0 in
+    (c.play_script-in-Ok-format.ensures.played tells stored made.1).end
+
+pub returns-in-Ok-format-clause-sound : goal.returns-in-Ok-format-clause-sound
+returns-in-Ok-format-clause-sound g c tells only pages is =
+    let d = g.D.Disk in
+    let made = c.in-Ok-format.ensures.made tells in
+    let stored = new_stored c.in-Some.pages (d.bytes c.in-Ok-format.disk) made.0 in
+    end_sound _ (c.play_script-in-Ok-format.ensures.played tells stored made.1).end

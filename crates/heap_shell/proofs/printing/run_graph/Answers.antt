@@ -1,0 +1,84 @@
+use Rattle.std.proofs.Common.{◌≡◌, inl, inr, ℕ, List, refl, sym, ap, ◌∙◌, subst}
+use Rattle.counts.specs.Count.{counted}
+use Rattle.disk_model.specs.Moments.{LeavesOnly}
+use Rattle.graph_model.specs.Transaction.{serial}
+use Rattle.graph_model.specs.History.{sealed}
+use Rattle.core_laws.specs.Opened.{opened_reached}
+use Rattle.heap_model.specs.Opening.{opened, opening_calls, IsLeftByOpening}
+use Rattle.heap_shell.specs.Headline.{IsEndOfPlay, graph_text}
+use Rattle.heap_shell.proofs.PlayOpen.{opened_core, opened_unfailed}
+use Rattle.heap_shell.proofs.PrintRecovered.{fails_most}
+use Rattle.heap_shell.proofs.RefusalLaws.{told_status, end_told, end_no_heap, refused_by, not_opened, no_heap_early}
+use Rattle.heap_shell.proofs.Statuses.{open_end, open_not_done, written_end, wrote_all}
+use Rattle.heap_shell.proofs.Written.{none_written, wrote_some}
+use Rattle.heap_shell.proofs.printing.run_graph.Goals as goal
+
+pub returns-in-Ok-clause-graph : goal.returns-in-Ok-clause-graph
+returns-in-Ok-clause-graph g c tells only s batches shaped born places graph found =
+    let d = g.D.Disk in
+    let k = g.K.Sink in
+    let e = c.in-Ok.ensures in
+    let core = opened s batches born places graph in
+    let is = e.found tells s batches shaped born places graph found in
+    let reached = opened_reached s batches shaped.log born places graph found in
+    let before = k.written c.args.sink.now in
+    let after = k.written c.write_graph.new.sink in
+    let passed : d.passed c.in-Ok.heap.disk ≡ counted (opening_calls s batches) (d.passed c.args.disk) = (e.passes tells s batches shaped).ok in
+    rw (c.close.ensures, c.status_after-status.ensures) (record {
+      moments = e.moments tells only s batches shaped;
+      left = e.crash tells only s batches shaped;
+      calls = record { times = opening_calls s batches; most = omega arith; all = λ done. refl; told = passed };
+      restarts = e.disk.restarts tells;
+      written = λ t. record {
+        front = wrote_some c.write_graph.result before (graph_text graph) after (c.write_graph.ensures.wrote t core is reached);
+        whole = λ done. wrote_all c.write_graph.result before (graph_text graph) after done (c.write_graph.ensures.wrote t core is reached);
+      };
+      end = written_end c.write_graph.result;
+    })
+
+pub returns-in-Err-clause-graph : goal.returns-in-Err-clause-graph
+returns-in-Err-clause-graph g c tells only s batches shaped born places graph found =
+    let d = g.D.Disk in
+    let k = g.K.Sink in
+    let e = c.in-Err.ensures in
+    let most = fails_most (opening_calls s batches) (d.passed c.args.disk) (d.passed c.in-Err.disk) c.in-Err.e (e.passes tells s batches shaped) in
+    rw c.from.ensures (record {
+      moments = e.moments tells only s batches shaped;
+      left = e.crash tells only s batches shaped;
+      calls = record { times = most.0; most = most.1; all = λ done. absurd (open_not_done c.in-Err.e done); told = most.2 };
+      restarts = e.disk.restarts tells;
+      written = λ t. record { front = none_written (k.written c.args.sink.now) (graph_text graph); whole = λ done. absurd (open_not_done c.in-Err.e done) };
+      end = open_end c.in-Err.e (e.shaped tells s batches shaped);
+    })
+
+pub returns-in-Ok-clause-prints : goal.returns-in-Ok-clause-prints
+returns-in-Ok-clause-prints g c tells =
+    let k = g.K.Sink in
+    let some = opened_core c.in-Ok.heap c.in-Ok.ensures.opens in
+    let core = some.0 in
+    let before = k.written c.args.sink.now in
+    let after = k.written c.write_graph.new.sink in
+    let graph = serial core.g0 (sealed core.history) in
+    let wrote = c.write_graph.ensures.wrote tells core some.2 some.1.running.reached in
+    rw c.status_after-status.ensures (inr (graph, record {
+      front = wrote_some c.write_graph.result before (graph_text graph) after wrote;
+      whole = λ done. wrote_all c.write_graph.result before (graph_text graph) after done wrote;
+    }))
+
+pub returns-in-Ok-clause-refused : goal.returns-in-Ok-clause-refused
+returns-in-Ok-clause-refused g c tells = rw c.status_after-status.ensures (end_told _ (g.D.Disk.bytes c.args.disk) (written_end c.write_graph.result))
+
+pub returns-in-Err-clause-refused : goal.returns-in-Err-clause-refused
+returns-in-Err-clause-refused g c tells = rw c.from.ensures (told_status c.in-Err.e (g.D.Disk.bytes c.args.disk) (c.in-Err.ensures.refused tells))
+
+pub returns-in-Ok-clause-refuses : goal.returns-in-Ok-clause-refuses
+returns-in-Ok-clause-refuses g c tells expected fault = absurd (not_opened expected (g.D.Disk.bytes c.args.disk) fault (c.in-Ok.ensures.not_heap tells) (c.in-Ok.ensures.damaged tells))
+
+pub returns-in-Err-clause-refuses : goal.returns-in-Err-clause-refuses
+returns-in-Err-clause-refuses g c tells expected fault = (rw c.from.ensures (refused_by expected (g.D.Disk.bytes c.args.disk) c.in-Err.e fault (c.in-Err.ensures.not_heap tells) (c.in-Err.ensures.damaged tells)), refl)
+
+pub returns-in-Ok-clause-left_alone : goal.returns-in-Ok-clause-left_alone
+returns-in-Ok-clause-left_alone g c tells is = absurd (end_no_heap _ (written_end c.write_graph.result) (sym c.status_after-status.ensures ∙ is))
+
+pub returns-in-Err-clause-left_alone : goal.returns-in-Err-clause-left_alone
+returns-in-Err-clause-left_alone g c tells is = (c.in-Err.ensures.left_alone (no_heap_early c.in-Err.e (sym c.from.ensures ∙ is))).contents tells

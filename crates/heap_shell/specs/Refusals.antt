@@ -1,0 +1,25 @@
+-- What a run says against an image that can't be opened.
+use Rattle.std.specs.Prelude.{◌≡◌, List, ℕ}
+use Rattle.heap_recovery.specs.Faults.{IsNoHeap, IsFaultAt}
+use Rattle.heap_shell.specs.declared.status.Status.{Status}
+use Rattle.heap_shell.specs.declared.status.Status.TheVariants as status
+
+-- The image is to be refused with this status: it is no heap, or what comes first is damaged there.
+abbrev pub IsFault : Status → List ℕ → Type 0
+IsFault status.NotHeap image = IsNoHeap image
+IsFault (status.Damaged at) image = IsFaultAt at image
+IsFault s image = ⊥
+
+-- A status that speaks of the image tells what is so.
+abbrev pub IsToldOf : Status → List ℕ → Type 0
+IsToldOf status.NotHeap image = IsNoHeap image
+IsToldOf (status.Damaged at) image = IsFaultAt at image
+IsToldOf s image = Unit {0}
+
+-- A run ends so on an image that is to be refused, unless its script was bad or could not be read before, memory was refused, or the disk failed.
+abbrev pub EndsRefused : Status → Status → Type 0
+EndsRefused expected (status.Script line) = Unit {0}
+EndsRefused expected status.ReadFault = Unit {0}
+EndsRefused expected status.NoMemory = Unit {0}
+EndsRefused expected status.DiskFault = Unit {0}
+EndsRefused expected result = result ≡ expected
