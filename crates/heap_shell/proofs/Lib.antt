@@ -1,4 +1,5 @@
 mod Causes
+mod CommandLaws
 mod Counts
 mod Lines
 mod PlayAborts

@@ -11,6 +11,7 @@ use Rattle.heap_core.specs.declared.errors.OpenError.{OpenError}
 use Rattle.heap_core.specs.declared.errors.OpenError.TheVariants as opening
 use Rattle.heap_shell.specs.declared.status.Status.{Status}
 use Rattle.heap_shell.specs.declared.status.Status.TheVariants as status
+use Rattle.heap_shell.specs.Causes.{IsInputError}
 use Rattle.heap_shell.specs.Headline.{IsEndOfPlay}
 use Rattle.heap_shell.specs.Refusals.{IsFault, IsToldOf, EndsRefused}
 use Rattle.heap_shell.specs.StatusOf.{open_status}
@@ -113,3 +114,31 @@ module _ {D : Type 0} (g : Ghosts D) where
   pub at_end : (old new : D) (P : List ℕ → Type 0) → LeavesOnly g.moment g.left_since old new P → ((t : ℕ) (image : List ℕ) → t ≤ g.moment new → g.may_leave new image → g.left_since new t image)
       → (image : List ℕ) → g.may_leave new image → P image
   at_end old new P moments counts image may = moments.each image (counts (g.moment old) image moments.later may)
+
+-- A script that was bad or could not be read says nothing of the image.
+pub input_ends : (expected s : Status) → IsInputError s → EndsRefused expected s
+input_ends expected status.Done input = absurd input
+input_ends expected status.NoMemory input = tt
+input_ends expected status.Usage input = absurd input
+input_ends expected (status.Script line) input = tt
+input_ends expected status.ReadFault input = tt
+input_ends expected status.WriteFault input = absurd input
+input_ends expected status.DiskFault input = absurd input
+input_ends expected status.NotHeap input = absurd input
+input_ends expected (status.Damaged at) input = absurd input
+input_ends expected (status.TooSmall size need) input = absurd input
+
+pub input_told : (s : Status) (image : List ℕ) → IsInputError s → IsToldOf s image
+input_told status.Done image input = tt
+input_told status.NoMemory image input = tt
+input_told status.Usage image input = tt
+input_told (status.Script line) image input = tt
+input_told status.ReadFault image input = tt
+input_told status.WriteFault image input = tt
+input_told status.DiskFault image input = tt
+input_told status.NotHeap image input = absurd input
+input_told (status.Damaged at) image input = absurd input
+input_told (status.TooSmall size need) image input = tt
+
+pub input_no_heap : (s : Status) → IsInputError s → s ≡ status.NotHeap → ⊥
+input_no_heap s input is = subst IsInputError is input

@@ -11,6 +11,9 @@ use Rattle.heap_model.specs.Opening.{opening_calls, rollback_of}
 use Rattle.heap_shell.specs.Headline.{IsCutOff, FailsToOpen}
 use Rattle.heap_shell.proofs.PlayFuse.{same_disk, same_limit, fuse_since, fuse_passes, fuse_none, fuse_most}
 use Rattle.heap_shell.proofs.PrintRecovered.{keeps_first, few_to_open, whole_passes, error_cut}
+use Rattle.heap_recovery.specs.Faults.{IsNoHeap, IsFaultAt}
+use Rattle.heap_shell.specs.Refusals.{IsFault}
+use Rattle.heap_shell.proofs.RefusalLaws.{fault_moments, at_end}
 use Rattle.heap_shell.proofs.again.open_cut_off.Goals as goal
 
 -- the whole opening passed
@@ -92,3 +95,46 @@ returns-then-eq-clause-cut g c tells core k at_first at_only =
       none = λ refused. same;
     } in
     rw (c.into_inner-disk.ensures, sym inner) fails
+
+-- at each moment of such an opening the fault stays
+pub returns-in-Ok-clause-refuses : goal.returns-in-Ok-clause-refuses
+returns-in-Ok-clause-refuses g c tells only expected fault =
+    let d = g.D.Disk in
+    let inner = c.new.ensures.inner in
+    let first = fuse_inner c.new.result in
+    let cut = fuse_inner c.in-Ok.heap.disk in
+    let at = subst (λ x. IsFault expected (d.bytes x)) (sym inner) fault in
+    let only_f = subst (λ x. Only (d.bytes x) (d.may_leave x)) (sym inner) only in
+    let moments = fault_moments d expected (d.bytes first) first cut at
+    (λ none. fuse_since c.new.result c.in-Ok.heap.disk IsNoHeap (c.in-Ok.ensures.moments_not_heap tells only_f none))
+    (λ place damage. fuse_since c.new.result c.in-Ok.heap.disk (IsFaultAt place) (c.in-Ok.ensures.moments_damaged tells only_f place damage)) in
+    let left = at_end d first cut (IsFault expected) moments (λ t image le may. g.met.D.Disk.counts_now tells cut t image le may) in
+    rw (c.into_inner.ensures, c.close.ensures) left
+
+pub returns-else-eq-clause-refuses : goal.returns-else-eq-clause-refuses
+returns-else-eq-clause-refuses g c tells only expected fault =
+    let d = g.D.Disk in
+    let inner = c.new.ensures.inner in
+    let first = fuse_inner c.new.result in
+    let cut = fuse_inner c.in-Err.fuse in
+    let at = subst (λ x. IsFault expected (d.bytes x)) (sym inner) fault in
+    let only_f = subst (λ x. Only (d.bytes x) (d.may_leave x)) (sym inner) only in
+    let moments = fault_moments d expected (d.bytes first) first cut at
+    (λ none. fuse_since c.new.result c.in-Err.fuse IsNoHeap (c.in-Err.ensures.moments_not_heap tells only_f none))
+    (λ place damage. fuse_since c.new.result c.in-Err.fuse (IsFaultAt place) (c.in-Err.ensures.moments_damaged tells only_f place damage)) in
+    let left = at_end d first cut (IsFault expected) moments (λ t image le may. g.met.D.Disk.counts_now tells cut t image le may) in
+    rw c.into_inner-disk.ensures left
+
+pub returns-then-eq-clause-refuses : goal.returns-then-eq-clause-refuses
+returns-then-eq-clause-refuses g c tells only expected fault =
+    let d = g.D.Disk in
+    let inner = c.new.ensures.inner in
+    let first = fuse_inner c.new.result in
+    let cut = fuse_inner c.in-Err.fuse in
+    let at = subst (λ x. IsFault expected (d.bytes x)) (sym inner) fault in
+    let only_f = subst (λ x. Only (d.bytes x) (d.may_leave x)) (sym inner) only in
+    let moments = fault_moments d expected (d.bytes first) first cut at
+    (λ none. fuse_since c.new.result c.in-Err.fuse IsNoHeap (c.in-Err.ensures.moments_not_heap tells only_f none))
+    (λ place damage. fuse_since c.new.result c.in-Err.fuse (IsFaultAt place) (c.in-Err.ensures.moments_damaged tells only_f place damage)) in
+    let left = at_end d first cut (IsFault expected) moments (λ t image le may. g.met.D.Disk.counts_now tells cut t image le may) in
+    rw c.into_inner-disk.ensures left

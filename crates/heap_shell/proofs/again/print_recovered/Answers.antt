@@ -17,6 +17,7 @@ use Rattle.heap_shell.proofs.PlayOpen.{opened_core, opened_unfailed}
 use Rattle.heap_shell.proofs.PlayPrints.{wrote_again}
 use Rattle.heap_shell.proofs.Statuses.{open_not_done}
 use Rattle.heap_shell.proofs.PrintRecovered.{Left, legal_of, keeps_first, few_commits, since_before, recovers_nothing, recovers_first}
+use Rattle.heap_shell.proofs.RefusalLaws.{refused_by, not_opened}
 use Rattle.heap_shell.proofs.again.print_recovered.Goals as goal
 
 -- an opening leaves the same commits at each moment
@@ -82,3 +83,10 @@ returns-clause-again g c tells =
     let k = g.K.Sink in
     let some = opened_core c.in-Ok.heap c.in-Ok.ensures.opens in
     wrote_again c.write_recovered.result _ _ c.status_after-status.result (k.written c.args.sink.now) (k.written c.write_recovered.new.sink) c.status_after-status.ensures (c.write_recovered.ensures.wrote tells some.0 some.2 some.1.running.reached)
+
+pub returns-in-Err-clause-refuses : goal.returns-in-Err-clause-refuses
+returns-in-Err-clause-refuses g c tells expected fault = (rw c.from.ensures (refused_by expected (g.D.Disk.bytes c.args.disk) c.in-Err.e fault (c.in-Err.ensures.not_heap tells) (c.in-Err.ensures.damaged tells)), refl)
+
+-- what can't be opened is not printed
+pub returns-clause-refuses : goal.returns-clause-refuses
+returns-clause-refuses g c tells expected fault = absurd (not_opened expected (g.D.Disk.bytes c.args.disk) fault (c.in-Ok.ensures.not_heap tells) (c.in-Ok.ensures.damaged tells))

@@ -111,3 +111,18 @@ returns-in-Err-clause-restarts g c tells =
     let d = g.D.Disk in
     let started = subst (λ x. Restarts d x c.restart-disk.result) c.into_inner.ensures (c.restart-disk.ensures.restarts tells) in
     rw c.in-Some.is (record { times = 1; most = omega arith; all = λ is. cc; told = c.in-Err.ensures.restarts tells ∙ started.restarts })
+
+-- What a crash leaves has the fault of the image, so it is told again.
+pub returns-in-None-clause-refuses : goal.returns-in-None-clause-refuses
+returns-in-None-clause-refuses g c tells expected leaves =
+    let d = g.D.Disk in
+    let started = subst (λ x. Restarts d x c.restart-disk.result) c.into_inner.ensures (c.restart-disk.ensures.restarts tells) in
+    c.print_recovered.ensures.refuses tells expected (leaves (d.bytes c.restart-disk.result) started.left)
+
+pub returns-in-Ok-clause-refuses : goal.returns-in-Ok-clause-refuses
+returns-in-Ok-clause-refuses g c tells expected leaves =
+    let d = g.D.Disk in
+    let started = subst (λ x. Restarts d x c.restart-disk.result) c.into_inner.ensures (c.restart-disk.ensures.restarts tells) in
+    let again = c.restart.ensures.restarts tells in
+    let cut = c.in-Ok.ensures.refuses tells started.only expected (leaves (d.bytes c.restart-disk.result) started.left) in
+    c.print_recovered-in-Ok.ensures.refuses tells expected (cut (d.bytes c.restart.result) again.left)

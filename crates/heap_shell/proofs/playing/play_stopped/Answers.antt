@@ -25,6 +25,9 @@ use Rattle.heap_shell.proofs.PlayFuse.{same_disk, same_limit, rose_some, fuse_si
 use Rattle.heap_shell.proofs.PlayOpen.{few_calls, stored_running, stored_keeps, stored_moments, ends_unopened, ends_stopped, unstarted, opened_core}
 use Rattle.heap_shell.proofs.PrintRecovered.{whole_count, fails_few, fails_none, no_rollback, stops_before}
 use Rattle.heap_shell.proofs.Statuses.{early_none, early_some, halt_end, halt_not_done, open_not_done, open_fault}
+use Rattle.heap_recovery.specs.Faults.{IsNoHeap, IsFaultAt}
+use Rattle.heap_shell.specs.Refusals.{IsFault}
+use Rattle.heap_shell.proofs.RefusalLaws.{refused_by, not_opened, fault_moments, at_end}
 use Rattle.heap_shell.proofs.RunLaws.{restarts_none}
 use Rattle.heap_shell.proofs.PlayPrints.{prints_unplayed, prints_again, prints_early}
 use Rattle.heap_shell.proofs.playing.play_stopped.Goals as goal
@@ -296,3 +299,36 @@ returns-in-Some-clause-restarts g c tells =
     let halted = early_some c.play_lines-played.result c.in-Some.status (sym c.early_end.ensures ∙ c.in-Some.is) in
     restarts_none (starts_asked c.args.stop.again) _ _ _ (λ done. absurd (halt_not_done halted.0 (sym halted.3 ∙ done)))
     (ap r (c.into_inner-in-Some.ensures ∙ ap fuse_inner c.close-in-Some.ensures) ∙ c.play_lines-played.ensures.disk.restarts tells ∙ c.in-Ok.ensures.disk.restarts tells ∙ ap r c.new.ensures.inner)
+
+-- what can't be opened gives its own status
+pub returns-in-Err-clause-refuses : goal.returns-in-Err-clause-refuses
+returns-in-Err-clause-refuses g c tells only expected fault =
+    let d = g.D.Disk in
+    let at = subst (λ x. IsFault expected (d.bytes x)) (sym c.new.ensures.inner) fault in
+    (rw c.from.ensures (refused_by expected (d.bytes (fuse_inner c.new.result)) c.in-Err.e at (c.in-Err.ensures.not_heap tells) (c.in-Err.ensures.damaged tells)), refl)
+
+-- also where its opening was stopped
+pub returns-then-eq-clause-refuses : goal.returns-then-eq-clause-refuses
+returns-then-eq-clause-refuses g c tells only expected fault =
+    let d = g.D.Disk in
+    let inner = c.new.ensures.inner in
+    let first = fuse_inner c.new.result in
+    let stopped = fuse_inner c.in-Err.fuse in
+    let at = subst (λ x. IsFault expected (d.bytes x)) (sym inner) fault in
+    let only_f = subst (λ x. Only (d.bytes x) (d.may_leave x)) (sym inner) only in
+    let moments = fault_moments d expected (d.bytes first) first stopped at
+    (λ none. fuse_since c.new.result c.in-Err.fuse IsNoHeap (c.in-Err.ensures.moments_not_heap tells only_f none))
+    (λ place damage. fuse_since c.new.result c.in-Err.fuse (IsFaultAt place) (c.in-Err.ensures.moments_damaged tells only_f place damage)) in
+    c.start_again.ensures.refuses tells expected (at_end d first stopped (IsFault expected) moments (λ t image le may. g.met.D.Disk.counts_now tells stopped t image le may))
+
+pub returns-in-None-clause-refuses : goal.returns-in-None-clause-refuses
+returns-in-None-clause-refuses g c tells only expected fault =
+    let d = g.D.Disk in
+    let at = subst (λ x. IsFault expected (d.bytes x)) (sym c.new.ensures.inner) fault in
+    absurd (not_opened expected (d.bytes (fuse_inner c.new.result)) at (c.in-Ok.ensures.not_heap tells) (c.in-Ok.ensures.damaged tells))
+
+pub returns-in-Some-clause-refuses : goal.returns-in-Some-clause-refuses
+returns-in-Some-clause-refuses g c tells only expected fault =
+    let d = g.D.Disk in
+    let at = subst (λ x. IsFault expected (d.bytes x)) (sym c.new.ensures.inner) fault in
+    absurd (not_opened expected (d.bytes (fuse_inner c.new.result)) at (c.in-Ok.ensures.not_heap tells) (c.in-Ok.ensures.damaged tells))

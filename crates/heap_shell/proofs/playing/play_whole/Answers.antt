@@ -15,7 +15,8 @@ use Rattle.heap_shell.proofs.Counts.{counted_mono}
 use Rattle.heap_shell.proofs.PlayEnds.{run_reached, lines_wrote, halt_part, halt_lines, keeps_own, ends_early, ends_whole, exact_none, exact_passes, passes_most}
 use Rattle.heap_shell.proofs.PlayOpen.{stored_running, stored_keeps, stored_moments, ends_unopened, opened_core, played_unfailed}
 use Rattle.heap_shell.proofs.PrintRecovered.{fails_most, fails_none}
-use Rattle.heap_shell.proofs.Statuses.{halt_end, halt_not_done, open_not_done, open_harm}
+use Rattle.heap_shell.proofs.RefusalLaws.{told_status, end_told, end_no_heap, refused_by, not_opened, no_heap_early}
+use Rattle.heap_shell.proofs.Statuses.{written_end, halt_end, halt_not_done, open_not_done, open_harm}
 use Rattle.heap_shell.proofs.PlayPrints.{reached, prints_early, prints_whole}
 use Rattle.heap_shell.proofs.playing.play_whole.Goals as goal
 
@@ -128,3 +129,31 @@ returns-in-Err-play_all-clause-prints g c tells =
     let h : Halt = c.in-Err-play_all.halt in
     let plays = c.in-Err-play_all.ensures.core some.0 some.2 some.1.running in
     rw c.from-in-Err-play_all.ensures (prints_early None some.0 some.1 c.args.script.now c.requires c.play_all.new.heap k.tells (k.written c.args.sink.now) (k.written c.play_all.new.sink) (Err h) plays tells h refl)
+
+pub returns-in-Err-clause-refused : goal.returns-in-Err-clause-refused
+returns-in-Err-clause-refused g c tells = rw c.from.ensures (told_status c.in-Err.e (g.D.Disk.bytes c.args.disk) (c.in-Err.ensures.refused tells))
+
+pub returns-in-Ok-play_all-clause-refused : goal.returns-in-Ok-play_all-clause-refused
+returns-in-Ok-play_all-clause-refused g c tells = rw c.status_after-status.ensures (end_told _ (g.D.Disk.bytes c.args.disk) (written_end c.write_graph.result))
+
+pub returns-in-Err-play_all-clause-refused : goal.returns-in-Err-play_all-clause-refused
+returns-in-Err-play_all-clause-refused g c tells = rw c.from-in-Err-play_all.ensures (end_told _ (g.D.Disk.bytes c.args.disk) (halt_end c.in-Err-play_all.halt))
+
+pub returns-in-Err-clause-refuses : goal.returns-in-Err-clause-refuses
+returns-in-Err-clause-refuses g c tells expected fault = (rw c.from.ensures (refused_by expected (g.D.Disk.bytes c.args.disk) c.in-Err.e fault (c.in-Err.ensures.not_heap tells) (c.in-Err.ensures.damaged tells)), refl)
+
+-- what can't be opened is not played on
+pub returns-in-Ok-play_all-clause-refuses : goal.returns-in-Ok-play_all-clause-refuses
+returns-in-Ok-play_all-clause-refuses g c tells expected fault = absurd (not_opened expected (g.D.Disk.bytes c.args.disk) fault (c.in-Ok.ensures.not_heap tells) (c.in-Ok.ensures.damaged tells))
+
+pub returns-in-Err-play_all-clause-refuses : goal.returns-in-Err-play_all-clause-refuses
+returns-in-Err-play_all-clause-refuses g c tells expected fault = absurd (not_opened expected (g.D.Disk.bytes c.args.disk) fault (c.in-Ok.ensures.not_heap tells) (c.in-Ok.ensures.damaged tells))
+
+pub returns-in-Err-clause-left_alone : goal.returns-in-Err-clause-left_alone
+returns-in-Err-clause-left_alone g c tells is = (c.in-Err.ensures.left_alone (no_heap_early c.in-Err.e (sym c.from.ensures ∙ is))).contents tells
+
+pub returns-in-Ok-play_all-clause-left_alone : goal.returns-in-Ok-play_all-clause-left_alone
+returns-in-Ok-play_all-clause-left_alone g c tells is = absurd (end_no_heap _ (written_end c.write_graph.result) (sym c.status_after-status.ensures ∙ is))
+
+pub returns-in-Err-play_all-clause-left_alone : goal.returns-in-Err-play_all-clause-left_alone
+returns-in-Err-play_all-clause-left_alone g c tells is = absurd (end_no_heap _ (halt_end c.in-Err-play_all.halt) (sym c.from-in-Err-play_all.ensures ∙ is))

@@ -1,0 +1,58 @@
+use Rattle.std.proofs.Common.{◌≡◌, inl, ℕ, List, Option, Some, refl, sym, ap, ◌∙◌, subst}
+use Rattle.std.specs.Prelude.{IfSome}
+use Rattle.command_words.specs.declared.commands.Command.TheVariants as asked
+use Rattle.command_words.specs.declared.commands.CommandError.{CommandError}
+use Rattle.command_words.specs.declared.commands.CommandError.TheVariants as asking
+use Rattle.command_words.specs.declared.commands.Command.{Command}
+use Rattle.command_words.specs.declared.commands.Stop.{Stop}
+use Rattle.command_words.specs.Limits.{IsPages, IsWithin}
+use Rattle.heap_core.specs.Format.{heap_of}
+use Rattle.heap_model.specs.CoreLawsOpened.{address_found}
+use Rattle.heap_shell.specs.Commands.{makes, CanRun}
+use Rattle.heap_shell.specs.CrashSafe.{RunsSafely}
+use Rattle.heap_shell.specs.Headline.{made_super}
+use Rattle.heap_shell.proofs.CommandLaws.{same_play, graph_unread}
+use Rattle.heap_shell.proofs.RunLaws.{runs_safely, end_done}
+use Rattle.heap_shell.proofs.run.run.Goals as goal
+
+pub returns-in-Err-clause-graph : goal.returns-in-Err-clause-graph
+returns-in-Err-clause-graph g c tells only is s batches shaped born places graph found =
+    let d = g.D.Disk in
+    graph_unread d c.args.disk c.in-Err.e _ is c.in-Err.ensures.usage c.from.result c.from.ensures (λ image since. g.met.D.Disk.only_now tells c.args.disk image since) only s batches graph shaped.held g.K.Sink.tells (g.K.Sink.written c.args.sink.now)
+
+pub returns-in-Format-clause-too_small : goal.returns-in-Format-clause-too_small
+returns-in-Format-clause-too_small g c size need told asked is =
+    let same : asked ≡ asked.Format c.in-Format.field-0 = cc (is, c.in-Ok.ensures.read, c.in-Format.is) in
+    let small = c.run_format.ensures.too_small size need told in
+    let n = c.in-Format.field-0 in
+    (heap_of n.pages n.log_bytes n.first, ap makes same, small.2, small.3, small.4)
+
+pub returns-in-Play-clause-too_small : goal.returns-in-Play-clause-too_small
+returns-in-Play-clause-too_small g c size need told asked is =
+    let same : asked ≡ asked.Play c.in-Play.fresh c.in-Play.stop = cc (is, c.in-Ok.ensures.read, c.in-Play.is) in
+    let small = c.run_play.ensures.too_small size need told in
+    (made_super small.0, ap makes same ∙ ap (λ (fresh : Option ℕ). makes (asked.Play fresh c.in-Play.stop)) small.1, small.2, small.3, small.4)
+
+-- the script of a play is read
+pub returns-in-Play-clause-unread : goal.returns-in-Play-clause-unread
+returns-in-Play-clause-unread g c none = absurd (none (asked.Play c.in-Play.fresh c.in-Play.stop) (c.in-Ok.ensures.read ∙ ap (λ (x : Command). Some x) c.in-Play.is) tt)
+
+pub returns-in-Play-clause-crash_safe : goal.returns-in-Play-clause-crash_safe
+returns-in-Play-clause-crash_safe g c tells only fresh stop is =
+    let k = g.K.Sink in
+    let same = same_play fresh stop c.in-Play.fresh c.in-Play.stop (sym is ∙ c.in-Ok.ensures.read ∙ ap (λ (x : Command). Some x) c.in-Play.is) in
+    let within : IfSome c.in-Play.fresh IsPages = (subst IsWithin c.in-Play.is c.in-Ok.ensures.limits).0 in
+    let safe = runs_safely g.D.Disk (λ disk image since. g.met.D.Disk.only_now tells disk image since) g.S.Source.tells (g.S.Source.left c.args.source.now) c.in-Play.fresh c.in-Play.stop c.args.disk c.run_play.result.1 c.run_play.result.0
+    k.tells (k.written c.args.sink.now) (k.written c.run_play.new.sink) within (c.run_play.ensures.headline tells only) in
+    rw (same.0, same.1) safe
+
+pub returns-in-Graph-clause-graph : goal.returns-in-Graph-clause-graph
+returns-in-Graph-clause-graph g c tells only is s batches shaped born places graph found = c.run_graph.ensures.graph tells only s batches shaped born places graph found
+
+pub returns-in-Graph-clause-complete : goal.returns-in-Graph-clause-complete
+returns-in-Graph-clause-complete g c tells only asked is can script no_source no_sink no_disk =
+    let same : asked ≡ asked.Graph = cc (is, c.in-Ok.ensures.read, c.in-Graph.is) in
+    let shaped = subst (λ (x : Command). CanRun x (g.D.Disk.extent c.args.disk) (g.D.Disk.bytes c.args.disk)) same can in
+    let found = address_found shaped.0 shaped.1 shaped.2.log in
+    let printed = c.run_graph.ensures.graph tells only shaped.0 shaped.1 shaped.2 _ found.0 found.1 found.2 in
+    end_done _ _ c.run_graph.result.0 printed.end c.run_graph.ensures.disk.cause c.run_graph.ensures.sink.cause no_disk no_sink
