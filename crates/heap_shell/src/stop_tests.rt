@@ -6,6 +6,7 @@ use disk_model::Pick;
 use graph_model::{Entry, Event, SlowHeap};
 use script_text::{Line, read_script};
 use std::alloc::{AllocError, Global};
+use std::ops::Range;
 use std::process::Abort;
 use std::str;
 use std::test::Fail;
@@ -283,26 +284,17 @@ fn an_abort_leaves_nothing_in_filled_bytes(rt: HostRuntime) -> Result<(), Fail> 
     check_script(&rt, rt.alloc(), ABORT_BETWEEN, "", FILLED)
 }
 
+/// What a run appends where records wait behind one commit.
+const ONE_FORCED: &str = "force -> durable 1\n";
+
 #[test]
 fn forced_writes_are_taken_back_from_written_bytes(rt: HostRuntime) -> Result<(), Fail> {
-    check_script(
-        &rt,
-        rt.alloc(),
-        FORCED_INSIDE,
-        "force -> durable 1\n",
-        WRITTEN,
-    )
+    check_script(&rt, rt.alloc(), FORCED_INSIDE, ONE_FORCED, WRITTEN)
 }
 
 #[test]
 fn forced_writes_are_taken_back_from_filled_bytes(rt: HostRuntime) -> Result<(), Fail> {
-    check_script(
-        &rt,
-        rt.alloc(),
-        FORCED_INSIDE,
-        "force -> durable 1\n",
-        FILLED,
-    )
+    check_script(&rt, rt.alloc(), FORCED_INSIDE, ONE_FORCED, FILLED)
 }
 
 #[test]
@@ -316,10 +308,13 @@ fn objects_come_back_from_filled_bytes(rt: HostRuntime) -> Result<(), Fail> {
 }
 
 #[test]
-fn volatile_words_that_were_forced_are_taken_back(rt: HostRuntime) -> Result<(), Fail> {
-    let ending = "force -> durable 1\n";
-    check_script(&rt, rt.alloc(), OBJECTS_FORCED_INSIDE, ending, WRITTEN)?;
-    check_script(&rt, rt.alloc(), OBJECTS_FORCED_INSIDE, ending, FILLED)
+fn forced_volatile_words_are_taken_back_from_written_bytes(rt: HostRuntime) -> Result<(), Fail> {
+    check_script(&rt, rt.alloc(), OBJECTS_FORCED_INSIDE, ONE_FORCED, WRITTEN)
+}
+
+#[test]
+fn forced_volatile_words_are_taken_back_from_filled_bytes(rt: HostRuntime) -> Result<(), Fail> {
+    check_script(&rt, rt.alloc(), OBJECTS_FORCED_INSIDE, ONE_FORCED, FILLED)
 }
 
 /// Four sessions side by side, two of them at the end of their numbers, and one alone.
@@ -329,29 +324,36 @@ const LAST_TWO: [u32; 4] = [31, 32, 31, 32];
 
 const ONE: [u32; 4] = [1, 1, 1, 1];
 
-/// How many lines of a script are drawn.
+/// How many lines of a script are drawn that is played whole.
 const DRAWN_LINES: usize = 100;
-
-/// More calls than a drawn script makes.
-const MOST_DRAWN_CALLS: usize = 4 * DRAWN_LINES;
 
 /// A commit of objects for all: each of them is met from the root, and two of them from another one.
 const SHARED: &str =
     "1 begin\n1 root 0\n1 new 1 2\n1 new 2 3\n1 link 0 0 1\n1 link 0 1 2\n1 link 1 1 2\n1 link 2 0 1\n1 commit\n";
 
-fn write_begin(script: &mut String, s: u32) -> Result<(), AllocError> {
-    writeln!(script, "{s} begin\n{s} root 0")
+/// Begins a transaction, which first reads one of two fields of the root, or none and leaves it to others to write.
+fn write_begin(script: &mut String, s: u32, field: u64) -> Result<(), AllocError> {
+    writeln!(script, "{s} begin\n{s} root 0")?;
+    if field < 2 {
+        writeln!(script, "{s} get 0 {field} 1")?;
+    }
+    Ok(())
 }
 
-/// A script that is drawn by a seed: in transactions of these sessions, which are sealed or taken back, objects are made, linked, let go and
-/// looked at. Each session has a transaction at its end.
-fn draw_script(alloc: Global, seed: u64, sessions: [u32; 4]) -> Result<String, AllocError> {
+/// A script of which so many lines are drawn by a seed: in transactions of these sessions, which are sealed or taken back and forced in
+/// between, objects are made, linked, let go and looked at. Each session has a transaction at its end.
+fn draw_script(
+    alloc: Global,
+    seed: u64,
+    sessions: [u32; 4],
+    lines: usize,
+) -> Result<String, AllocError> {
     let mut script = String::from_str(alloc, SHARED)?;
-    for s in sessions.iter().rev() {
-        write_begin(&mut script, *s)?;
+    for (i, s) in sessions.iter().rev().enumerate() {
+        write_begin(&mut script, *s, i as u64 % 3)?;
     }
     let mut state = seed;
-    for _ in 0..DRAWN_LINES {
+    for _ in 0..lines {
         state = state
             .wrapping_mul(6_364_136_223_846_793_005)
             .wrapping_add(1_442_695_040_888_963_407);
@@ -363,25 +365,26 @@ fn draw_script(alloc: Global, seed: u64, sessions: [u32; 4]) -> Result<String, A
             0 => writeln!(script, "{s} len {h}")?,
             1 => writeln!(script, "{s} drop {h}")?,
             2 | 3 => writeln!(script, "{s} new {h} {i}")?,
-            4 | 5 | 6 | 7 => writeln!(script, "{s} link {h} {i} {h2}")?,
-            8 | 9 => writeln!(script, "{s} put {h} {i} {h2}")?,
-            10 | 11 | 12 => writeln!(script, "{s} get {h} {i} {h2}")?,
-            13 => writeln!(script, "{s} same {h} {h2}")?,
-            14 => writeln!(script, "{s} clear {h} {i}")?,
-            _ => write_end(&mut script, s, i)?,
+            4 | 5 | 6 => writeln!(script, "{s} link {h} {i} {h2}")?,
+            7 | 8 | 9 => writeln!(script, "{s} put {h} {i} {h2}")?,
+            10 | 11 => writeln!(script, "{s} get {h} {i} {h2}")?,
+            12 => writeln!(script, "{s} same {h} {h2}")?,
+            13 => writeln!(script, "{s} clear {h} {i}")?,
+            14 => writeln!(script, "force")?,
+            _ => write_end(&mut script, s, i, h)?,
         }
     }
     Ok(script)
 }
 
 /// Ends the transaction of a session in one of three ways, and begins the next one.
-fn write_end(script: &mut String, s: u32, way: u64) -> Result<(), AllocError> {
+fn write_end(script: &mut String, s: u32, way: u64, field: u64) -> Result<(), AllocError> {
     match way {
         0 => writeln!(script, "{s} abort")?,
         1 => writeln!(script, "{s} seal")?,
         _ => writeln!(script, "{s} commit")?,
     }
-    write_begin(script, s)
+    write_begin(script, s, field)
 }
 
 /// What a run appends to a drawn script: the abort of each session, ascending, and a force of what that leaves.
@@ -403,7 +406,7 @@ const DRAWN: u64 = 12;
 /// Plays drawn scripts of these sessions without a stop.
 fn check_whole(rt: &impl Abort, alloc: Global, sessions: [u32; 4]) -> Result<(), Fail> {
     for seed in 0..DRAWN {
-        let script = draw_script(alloc, seed, sessions)?;
+        let script = draw_script(alloc, seed, sessions, DRAWN_LINES)?;
         let told = Told::of(rt, alloc, script.as_str())?;
         let ending = ending_of(alloc, &told, sessions)?;
         expect_whole(rt, alloc, &told, ending.as_str())?;
@@ -426,64 +429,159 @@ fn the_last_drawn_sessions_are_answered_as_by_the_slow_heap(rt: HostRuntime) -> 
     check_whole(&rt, rt.alloc(), LAST_TWO)
 }
 
-/// The drawn scripts that are stopped at each call: of the first ones those have the most commits in few forces.
-const STOPPED_SEED: u64 = 6;
+/// Sessions, and a seed by which they commit before and behind a force at which two of them are losers, in few forces.
+type Table = ([u32; 4], u64);
 
-/// Stops a drawn script at each of its calls, and at every third one the recovery behind that too.
-fn check_drawn(rt: &impl Abort, alloc: Global, sessions: [u32; 4], pick: Pick) -> Result<(), Fail> {
-    let script = draw_script(alloc, STOPPED_SEED, sessions)?;
+const FOUR_LOSERS: Table = (FOUR, 291);
+
+const LAST_LOSERS: Table = (LAST_TWO, 306);
+
+/// How many lines are drawn of a script that is stopped at each of its calls.
+const STOPPED_LINES: usize = 24;
+
+/// The forces of these scripts. Behind the first one there may be losers.
+const FORCES: usize = 3;
+
+/// Stops a drawn script at each of these calls, and where there may be losers also the recovery at each of its own.
+fn check_table(
+    rt: &impl Abort,
+    alloc: Global,
+    (sessions, seed): Table,
+    pick: Pick,
+    stops: Range<usize>,
+) -> Result<(), Fail> {
+    let script = draw_script(alloc, seed, sessions, STOPPED_LINES)?;
     let told = Told::of(rt, alloc, script.as_str())?;
-    for calls in 0..MOST_DRAWN_CALLS {
+    assert_eq!(rt; told.forces.len(), FORCES);
+    for calls in stops {
         let once = play_to(alloc, told.script, pick, calls)?;
         let (stopped, _) = check_played(rt, &told, &once, pick, calls)?;
-        if calls % 3 == 0 {
-            expect_same(rt, alloc, &once, &told, pick, (calls, calls % 5))?;
-        }
-        if !stopped {
-            break;
+        assert_eq!(rt; stopped, calls < FORCES * FORCE_CALLS);
+        if calls >= FORCE_CALLS {
+            for again in 0..FORCE_CALLS {
+                expect_same(rt, alloc, &once, &told, pick, (calls, again))?;
+            }
         }
     }
     Ok(())
 }
 
+/// The stops in the first two forces.
+const EARLY: Range<usize> = 0..2 * FORCE_CALLS;
+
+/// Those in the last force, and behind it.
+const LATE: Range<usize> = 2 * FORCE_CALLS..FORCES * FORCE_CALLS + 1;
+
 #[test]
-fn four_drawn_sessions_come_back_from_synced_bytes(rt: HostRuntime) -> Result<(), Fail> {
-    check_drawn(&rt, rt.alloc(), FOUR, Pick::Synced)
+fn four_drawn_sessions_stop_early_and_come_back_from_synced_bytes(
+    rt: HostRuntime,
+) -> Result<(), Fail> {
+    check_table(&rt, rt.alloc(), FOUR_LOSERS, Pick::Synced, EARLY)
 }
 
 #[test]
-fn four_drawn_sessions_come_back_from_newest_bytes(rt: HostRuntime) -> Result<(), Fail> {
-    check_drawn(&rt, rt.alloc(), FOUR, Pick::Newest)
+fn four_drawn_sessions_stop_late_and_come_back_from_synced_bytes(
+    rt: HostRuntime,
+) -> Result<(), Fail> {
+    check_table(&rt, rt.alloc(), FOUR_LOSERS, Pick::Synced, LATE)
 }
 
 #[test]
-fn four_drawn_sessions_come_back_from_bytes_of_ones(rt: HostRuntime) -> Result<(), Fail> {
-    check_drawn(&rt, rt.alloc(), FOUR, Pick::AllOnes)
+fn four_drawn_sessions_stop_early_and_come_back_from_newest_bytes(
+    rt: HostRuntime,
+) -> Result<(), Fail> {
+    check_table(&rt, rt.alloc(), FOUR_LOSERS, Pick::Newest, EARLY)
 }
 
 #[test]
-fn four_drawn_sessions_come_back_from_open_gates(rt: HostRuntime) -> Result<(), Fail> {
-    check_drawn(&rt, rt.alloc(), FOUR, Pick::AllOpen)
+fn four_drawn_sessions_stop_late_and_come_back_from_newest_bytes(
+    rt: HostRuntime,
+) -> Result<(), Fail> {
+    check_table(&rt, rt.alloc(), FOUR_LOSERS, Pick::Newest, LATE)
 }
 
 #[test]
-fn the_last_drawn_sessions_come_back_from_synced_bytes(rt: HostRuntime) -> Result<(), Fail> {
-    check_drawn(&rt, rt.alloc(), LAST_TWO, Pick::Synced)
+fn four_drawn_sessions_stop_early_and_come_back_from_bytes_of_ones(
+    rt: HostRuntime,
+) -> Result<(), Fail> {
+    check_table(&rt, rt.alloc(), FOUR_LOSERS, Pick::AllOnes, EARLY)
 }
 
 #[test]
-fn the_last_drawn_sessions_come_back_from_newest_bytes(rt: HostRuntime) -> Result<(), Fail> {
-    check_drawn(&rt, rt.alloc(), LAST_TWO, Pick::Newest)
+fn four_drawn_sessions_stop_late_and_come_back_from_bytes_of_ones(
+    rt: HostRuntime,
+) -> Result<(), Fail> {
+    check_table(&rt, rt.alloc(), FOUR_LOSERS, Pick::AllOnes, LATE)
 }
 
 #[test]
-fn the_last_drawn_sessions_come_back_from_bytes_of_ones(rt: HostRuntime) -> Result<(), Fail> {
-    check_drawn(&rt, rt.alloc(), LAST_TWO, Pick::AllOnes)
+fn four_drawn_sessions_stop_early_and_come_back_from_open_gates(
+    rt: HostRuntime,
+) -> Result<(), Fail> {
+    check_table(&rt, rt.alloc(), FOUR_LOSERS, Pick::AllOpen, EARLY)
 }
 
 #[test]
-fn the_last_drawn_sessions_come_back_from_open_gates(rt: HostRuntime) -> Result<(), Fail> {
-    check_drawn(&rt, rt.alloc(), LAST_TWO, Pick::AllOpen)
+fn four_drawn_sessions_stop_late_and_come_back_from_open_gates(
+    rt: HostRuntime,
+) -> Result<(), Fail> {
+    check_table(&rt, rt.alloc(), FOUR_LOSERS, Pick::AllOpen, LATE)
+}
+
+#[test]
+fn the_last_drawn_sessions_stop_early_and_come_back_from_synced_bytes(
+    rt: HostRuntime,
+) -> Result<(), Fail> {
+    check_table(&rt, rt.alloc(), LAST_LOSERS, Pick::Synced, EARLY)
+}
+
+#[test]
+fn the_last_drawn_sessions_stop_late_and_come_back_from_synced_bytes(
+    rt: HostRuntime,
+) -> Result<(), Fail> {
+    check_table(&rt, rt.alloc(), LAST_LOSERS, Pick::Synced, LATE)
+}
+
+#[test]
+fn the_last_drawn_sessions_stop_early_and_come_back_from_newest_bytes(
+    rt: HostRuntime,
+) -> Result<(), Fail> {
+    check_table(&rt, rt.alloc(), LAST_LOSERS, Pick::Newest, EARLY)
+}
+
+#[test]
+fn the_last_drawn_sessions_stop_late_and_come_back_from_newest_bytes(
+    rt: HostRuntime,
+) -> Result<(), Fail> {
+    check_table(&rt, rt.alloc(), LAST_LOSERS, Pick::Newest, LATE)
+}
+
+#[test]
+fn the_last_drawn_sessions_stop_early_and_come_back_from_bytes_of_ones(
+    rt: HostRuntime,
+) -> Result<(), Fail> {
+    check_table(&rt, rt.alloc(), LAST_LOSERS, Pick::AllOnes, EARLY)
+}
+
+#[test]
+fn the_last_drawn_sessions_stop_late_and_come_back_from_bytes_of_ones(
+    rt: HostRuntime,
+) -> Result<(), Fail> {
+    check_table(&rt, rt.alloc(), LAST_LOSERS, Pick::AllOnes, LATE)
+}
+
+#[test]
+fn the_last_drawn_sessions_stop_early_and_come_back_from_open_gates(
+    rt: HostRuntime,
+) -> Result<(), Fail> {
+    check_table(&rt, rt.alloc(), LAST_LOSERS, Pick::AllOpen, EARLY)
+}
+
+#[test]
+fn the_last_drawn_sessions_stop_late_and_come_back_from_open_gates(
+    rt: HostRuntime,
+) -> Result<(), Fail> {
+    check_table(&rt, rt.alloc(), LAST_LOSERS, Pick::AllOpen, LATE)
 }
 
 const TAKEN_BACK: &str = "1 abort -> aborted\nforce -> durable 1\n";
@@ -533,17 +631,6 @@ fn check_again(
         for again in 0..=FORCE_CALLS {
             expect_same(rt, alloc, &once, &told, pick, (*calls, again))?;
         }
-    }
-    Ok(())
-}
-
-/// A transaction that is forced while it is active, and no more.
-const FORCED_ALONE: &str = "1 begin\n1 root 0\n1 put 0 0 7\nforce\n";
-
-#[test]
-fn a_recovery_that_is_stopped_takes_back_what_was_forced(rt: HostRuntime) -> Result<(), Fail> {
-    for pick in [Pick::Synced, Pick::Newest, Pick::AllOnes, Pick::AllOpen] {
-        check_again(&rt, rt.alloc(), FORCED_ALONE, &[8], pick)?;
     }
     Ok(())
 }

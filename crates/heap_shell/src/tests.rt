@@ -202,6 +202,25 @@ fn a_forced_write_is_taken_back_by_an_opening(rt: HostRuntime) -> Result<(), Fai
     Ok(())
 }
 
+#[test]
+fn a_recovery_that_is_stopped_takes_a_forced_write_back(rt: HostRuntime) -> Result<(), Fail> {
+    let alloc = rt.alloc();
+    for pick in PICKS.iter() {
+        for again in 0..5 {
+            let line = format!(in alloc; "heap play --fresh 1 --stop 8 --again {again}")?;
+            expect_stopped(
+                &rt,
+                alloc,
+                line.as_str(),
+                FORCED_INSIDE,
+                *pick,
+                (FORCED_INSIDE_LINES, "recovered 0\ngraph 1\n0: - - - -\n"),
+            )?;
+        }
+    }
+    Ok(())
+}
+
 /// The writes and syncs of a format and of a force.
 const CALLS_BEFORE_OPENING: u64 = 25;
 
