@@ -1,16 +1,14 @@
 -- What the getters of the parser read of a number.
-use Rattle.std.proofs.Common.{◌≡◌, ◌∙◌, ◌&&◌, ◌^◌, ℕ, Bool, true, false, List, [], ◌∷◌, length, Option, Some, None, Result, Ok, Err, refl, sym, ap, nat_lt}
+use Rattle.std.proofs.Common.{◌≡◌, ◌∙◌, ◌^◌, ℕ, Bool, true, false, List, length, Option, Some, None, Result, Ok, Err, refl, sym, ap}
 use Rattle.std.proofs.lemmas.Bool.{ltb-true, lt-ltb}
-use Rattle.std.specs.Prelude.{option_and_then}
-use Rattle.std.specs.List.{list_all}
-use Rattle.std.specs.Char.{digit_value}
-use Rattle.std.specs.Str.Parse.{AllDigits, ParsesUnsigned, digits_value, without_leading_plus}
-use Rattle.clap.specs.Matches.{ReadsOne, found_of, one_text}
-use Rattle.clap.specs.ValueTests.{is_numeral}
+use Rattle.std.specs.Result.{result_ok}
+use Rattle.std.specs.Prelude.{option_map, option_and_then}
+use Rattle.std.specs.Str.Parse.{ParsesUnsigned, digits_value, without_leading_plus}
+use Rattle.clap.specs.Matches.{ReadsOne, TriesOne, found_of, one_text}
 use Rattle.clap.specs.Walk.{Text, rows_of}
 use Rattle.clap.specs.declared.parser.matches.ArgMatches.{ArgMatches}
 use Rattle.clap.proofs.WalkLemmas.{both, one_text-rows}
-use Rattle.command_words.specs.Command.{number_in, number_of}
+use Rattle.command_words.specs.Command.{given_in, given_of, number_in, number_of}
 use Rattle.command_words.specs.NumberLaws.{digits_from, digits_pass, is_number}
 
 -- the number that `parse` gives is that of the text, if it is one
@@ -45,3 +43,19 @@ number_is G bits m id o only none some = go (one_text (found_of m) id) refl
     go : (found : Option Text) → one_text (found_of m) id ≡ found → o ≡ number_in bits (rows_of (found_of m)) id
     go None e = none e ∙ ap (option_and_then (number_of bits)) (sym e ∙ one_text-rows (found_of m) id)
     go (Some text) e = sym (one_is G bits text o (only text) (some text e)) ∙ ap (option_and_then (number_of bits)) (sym e ∙ one_text-rows (found_of m) id)
+
+tried_one : {E : Type 0} (G : List ℕ → Result ℕ E → Type 0) (bits : ℕ) (text : Text) (r : Result (Option ℕ) E) → ((x : Result ℕ E) → G text x → ParsesUnsigned bits 10 text x)
+    → TriesOne G text r → result_ok r ≡ given_of bits (Some text)
+tried_one {E} G bits text (Ok (Some n)) only tries = ap (option_map (λ k. Some k)) (sym (parse_is {E = E} bits text (Ok n) (only (Ok n) tries)))
+tried_one {E} G bits text (Ok None) only tries = absurd tries
+tried_one {E} G bits text (Err e) only tries = ap (option_map (λ k. Some k)) (sym (parse_is {E = E} bits text (Err e) (only (Err e) tries)))
+
+-- the getter that can fail gives the number that the row holds, if there is a row, and fails where that is none
+pub given_is : {E : Type 0} (G : List ℕ → Result ℕ E → Type 0) (bits : ℕ) (m : ArgMatches) (id : Text) (r : Result (Option ℕ) E)
+    → ((text : Text) (x : Result ℕ E) → G text x → ParsesUnsigned bits 10 text x) → (one_text (found_of m) id ≡ None → r ≡ Ok None)
+    → ((text : List ℕ) → one_text (found_of m) id ≡ Some text → TriesOne G text r) → result_ok r ≡ given_in bits (rows_of (found_of m)) id
+given_is G bits m id r only none some = go (one_text (found_of m) id) refl
+  where
+    go : (found : Option Text) → one_text (found_of m) id ≡ found → result_ok r ≡ given_in bits (rows_of (found_of m)) id
+    go None e = ap result_ok (none e) ∙ ap (given_of bits) (sym e ∙ one_text-rows (found_of m) id)
+    go (Some text) e = tried_one G bits text r (only text) (some text e) ∙ ap (given_of bits) (sym e ∙ one_text-rows (found_of m) id)

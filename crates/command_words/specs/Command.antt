@@ -1,5 +1,5 @@
 -- The command that the words of the command line spell: the parser's matches over the table of commands, and what is read off them.
-use Rattle.std.specs.Prelude.{ℕ, ◌^◌, ◌&&◌, nat_lt, List, [], ◌∷◌, Option, None, Some, option_map, option_and_then, bytes_eq, codes, if◌then◌else◌}
+use Rattle.std.specs.Prelude.{◌≡◌, ℕ, ◌^◌, ◌&&◌, nat_lt, List, [], ◌∷◌, Option, None, Some, option_map, option_and_then, bytes_eq, codes, if◌then◌else◌}
 use Rattle.std.specs.Str.Parse.{digits_value, without_leading_plus}
 use Rattle.clap.specs.Kinds.{Kinds}
 use Rattle.clap.specs.ValueTests.{is_numeral}
@@ -22,7 +22,7 @@ number_of bits text =
     let digits = without_leading_plus text in
     if is_numeral digits && nat_lt (digits_value 10 digits) (2 ^ bits) then Some (digits_value 10 digits) else None
 
--- the number that was given under a name, if one was
+-- the number of an argument
 abbrev pub number_in : ℕ → List Row → Text → Option ℕ
 number_in bits rows id = option_and_then (number_of bits) (one_of id rows)
 
@@ -33,21 +33,32 @@ numbers_of _ _ _ = None
 abbrev pub numbers_in : List Row → Option Numbers
 numbers_in rows = numbers_of (number_in 32 rows (codes "pages")) (number_in 32 rows (codes "log_bytes")) (number_in 32 rows (codes "first"))
 
+abbrev pub given_of : ℕ → Option Text → Option (Option ℕ)
+given_of bits None = Some None
+given_of bits (Some text) = option_map (λ n. Some n) (number_of bits text)
+
+-- the number of an option, if it is given; nothing, where what is given is no such number
+abbrev pub given_in : ℕ → List Row → Text → Option (Option ℕ)
+given_in bits rows id = given_of bits (one_of id rows)
+
 -- how the disk stops; where the second stop alone is asked for, the first one never comes
 abbrev pub stop_of : Option ℕ → Option ℕ → Option Stop
 stop_of (Some after) again = Some (record { after = after; again = again })
 stop_of None (Some again) = Some (record { after = 18446744073709551615; again = Some again })
 stop_of None None = None
 
-abbrev pub stop_in : List Row → Option Stop
-stop_in rows = stop_of (number_in 64 rows (codes "stop")) (number_in 64 rows (codes "again"))
+abbrev pub play_of : Option (Option ℕ) → Option (Option ℕ) → Option (Option ℕ) → Option Command
+play_of (Some fresh) (Some stop) (Some again) = Some (Play fresh (stop_of stop again))
+play_of _ _ _ = None
+
+abbrev pub play_in : List Row → Option Command
+play_in rows = play_of (given_in 32 rows (codes "fresh")) (given_in 64 rows (codes "stop")) (given_in 64 rows (codes "again"))
 
 -- the command of that name, with what its matches hold
 abbrev pub command_of : Text → List Row → Option Command
 command_of name rows =
     if bytes_eq name (codes "format") then option_map (λ numbers. Format numbers) (numbers_in rows)
-    else (if bytes_eq name (codes "play") then Some (Play (number_in 32 rows (codes "fresh")) (stop_in rows))
-    else (if bytes_eq name (codes "graph") then Some Graph else None))
+    else (if bytes_eq name (codes "play") then play_in rows else (if bytes_eq name (codes "graph") then Some Graph else None))
 
 -- what an error of the parser is to the program
 abbrev pub error_of : ErrorKind → CommandError
@@ -62,3 +73,7 @@ without_fault (k ∷ ks) c = None
 -- the command that the words spell, of which the first is the program's name
 unfoldable pub command : List Text → Option Command
 command words = without_fault (fault_of program words) (option_and_then (λ p. command_of p.0 p.1) (subcommand_of program words))
+
+-- the parser takes the words: it finds no fault in them
+unfoldable pub IsTaken : List Text → Type 0
+IsTaken words = fault_of program words ≡ []

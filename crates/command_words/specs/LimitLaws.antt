@@ -1,12 +1,10 @@
 -- Each command that words spell is within the limits of the table.
-use Rattle.std.proofs.Common.{◌≡◌, ◌∙◌, ◌&&◌, ◌<◌, ◌≤◌, ◌^◌, ℕ, Bool, true, false, List, [], ◌∷◌, Option, Some, None, Ok, refl, sym, ap, subst, codes, arith, nat_lt}
-use Rattle.std.specs.Prelude.{IfSome, if◌then◌else◌, find, option_and_then, option_map, pos, slice_get}
-use Rattle.std.specs.List.{AllByRecursion, list_all}
+use Rattle.std.proofs.Common.{◌≡◌, ◌∙◌, ◌<◌, ◌≤◌, ◌^◌, ℕ, true, false, List, [], ◌∷◌, Option, Some, None, refl, sym, ap, subst, codes, arith}
+use Rattle.std.specs.Prelude.{IfSome, find, option_and_then, option_map, pos, slice_get}
+use Rattle.std.specs.List.{AllByRecursion}
 use Rattle.std.specs.Option.{option_map_or}
 use Rattle.std.specs.Str.{bytes_eq}
-use Rattle.std.specs.Str.Parse.{AllDigits, ParsesUnsigned, digits_value, without_leading_plus}
-use Rattle.std.specs.Char.{digit_value}
-use Rattle.std.proofs.lemmas.Bool.{ltb-true}
+use Rattle.std.specs.Str.Parse.{ParsesUnsigned}
 use Rattle.std.proofs.lemmas.Slice.Eq.{bytes_eq-Decides}
 use Rattle.clap.specs.Facts.{parser_of_value}
 use Rattle.clap.specs.Faults.{entered_fault, fault_of, level_fault, walk_fault}
@@ -14,7 +12,7 @@ use Rattle.clap.specs.Kinds.{Kinds}
 use Rattle.clap.specs.Lexer.{without_minus}
 use Rattle.clap.specs.Simple.{App, Shape, argument_words, built, entered, label_of, names_of, rows_at, subcommand_of}
 use Rattle.clap.specs.Takes.{value_passes, values_pass}
-use Rattle.clap.specs.ValueTests.{accepts, is_numeral}
+use Rattle.clap.specs.ValueTests.{accepts}
 use Rattle.clap.specs.Values.{IsSignedIn, read_as, reading_of}
 use Rattle.clap.specs.Walk.{Row, Rule, Text, answers_to, arg_by_id, arg_by_short, nothing_held, one_of, row_text, rows_after, stop_after, walk_from}
 use Rattle.clap.specs.declared.builder.value_parser.Reading.{Reading}
@@ -23,7 +21,7 @@ use Rattle.clap.specs.declared.builder.value_parser.ValueParser.TheVariants as v
 use Rattle.clap.proofs.CallerReads.{signed_reads}
 use Rattle.clap.proofs.ValueTestLemmas.{accepts-Accepts}
 use Rattle.clap.proofs.WalkLemmas.{both}
-use Rattle.command_words.specs.Command.{command, command_of, number_in, number_of, numbers_of, stop_of, stop_in, without_fault}
+use Rattle.command_words.specs.Command.{command, command_of, given_in, given_of, number_in, number_of, numbers_of, play_of, stop_of, without_fault}
 use Rattle.command_words.specs.NumberLaws.{number_fits, parses}
 use Rattle.command_words.specs.Limits.{IsPages, IsStop, IsWithin}
 use Rattle.command_words.specs.RowLaws.{IsPlainRule, Passes, found, level_good, neither}
@@ -102,6 +100,17 @@ format_within s pages log first name plain letters are_pages are_bytes is_first 
           most_first = omega arith;
         })
 
+given_is_in : (bits : ℕ) (rows : List Row) (id : Text) (number : Option ℕ) → given_in bits rows id ≡ Some number → number_in bits rows id ≡ number
+given_is_in bits rows id number e = go (one_of id rows) e
+  where
+    there : (read : Option ℕ) → option_map (λ n. Some n) read ≡ Some number → read ≡ number
+    there None is = cc
+    there (Some n) is = cc
+
+    go : (text : Option Text) → given_of bits text ≡ Some number → option_and_then (number_of bits) text ≡ number
+    go None is = cc
+    go (Some text) is = there (number_of bits text) is
+
 stop_within : (rows : List Row) (after again : Option ℕ) → number_in 64 rows (codes "stop") ≡ after → number_in 64 rows (codes "again") ≡ again → IfSome (stop_of after again) IsStop
 stop_within rows None None a b = tt
 stop_within rows None (Some m) a b = (omega arith, number_fits 64 rows (codes "again") m b)
@@ -111,13 +120,25 @@ stop_within rows (Some n) (Some m) a b = (number_fits 64 rows (codes "stop") n a
 play_within : (s : Shape) (fresh : Rule) → s.name ≡ codes "play" → AllByRecursion (IsPlainRule s.rules) s.rules → ((x : ℕ) → arg_by_short s.rules x ≡ None)
     → IsNumber s.rules (codes "fresh") 1 16384 fresh → SpellsWithin s
 play_within s fresh name plain letters are_pages words none c e =
-    let rows = rows_after s.rules [] words in
-    let spelled : command_of (codes "play") rows ≡ Some c = ap (λ (t : Text). command_of t rows) (sym name) ∙ e in
-    let same : Play (number_in 32 rows (codes "fresh")) (stop_in rows) ≡ c = cc in
-    subst IsWithin same (
-      pages_within s.rules rows (codes "fresh") fresh (number_in 32 rows (codes "fresh")) are_pages (level_good s plain letters words none) refl,
-      stop_within rows (number_in 64 rows (codes "stop")) (number_in 64 rows (codes "again")) refl refl,
-    )
+    go (given_in 32 rows (codes "fresh")) (given_in 64 rows (codes "stop")) (given_in 64 rows (codes "again")) refl refl refl
+    (ap (λ (t : Text). command_of t rows) (sym name) ∙ e)
+  where
+    rows : List Row
+    rows = rows_after s.rules [] words
+
+    go : (p n m : Option (Option ℕ)) → given_in 32 (rows_after s.rules [] words) (codes "fresh") ≡ p → given_in 64 (rows_after s.rules [] words) (codes "stop") ≡ n
+        → given_in 64 (rows_after s.rules [] words) (codes "again") ≡ m → play_of p n m ≡ Some c → IsWithin c
+    go None n m a b d is = cc
+    go (Some p) None m a b d is = cc
+    go (Some p) (Some n) None a b d is = cc
+    go (Some p) (Some n) (Some m) a b d is =
+        let same : Play p (stop_of n m) ≡ c = cc in
+        subst IsWithin same (
+          pages_within s.rules (rows_after s.rules [] words) (codes "fresh") fresh p are_pages (level_good s plain letters words none)
+              (given_is_in 32 (rows_after s.rules [] words) (codes "fresh") p a),
+          stop_within (rows_after s.rules [] words) n m (given_is_in 64 (rows_after s.rules [] words) (codes "stop") n b)
+              (given_is_in 64 (rows_after s.rules [] words) (codes "again") m d),
+        )
 
 graph_within : (s : Shape) → s.name ≡ codes "graph" → SpellsWithin s
 graph_within s name words none c e =

@@ -1,7 +1,7 @@
 //! Reading a command off the matches of the words.
-ghost use Rattle.std.specs.Prelude.{◌≡◌, Err, IfOk, None, Some, map, string_bytes};
+ghost use Rattle.std.specs.Prelude.{◌≡◌, Err, IfOk, None, OnOk, Some, map, string_bytes};
 ghost use Rattle.clap.specs.Words.{found_of, kind_of, rows_of};
-ghost use Rattle.command_words.specs.Command.{command, command_of, error_of, number_in, numbers_in, stop_in};
+ghost use Rattle.command_words.specs.Command.{IsTaken, command, command_of, error_of, given_in, number_in, numbers_in, play_in, stop_of};
 ghost use Rattle.command_words.specs.Limits.{IsWithin};
 
 use crate::commands::{Command, CommandError, Numbers, Stop};
@@ -31,16 +31,25 @@ impl From<clap::Error> for CommandError {
     }
 }
 
+/// The number of an argument.
 fn read_u32(found: &ArgMatches, id: &str) -> Option<u32>
     ensures { result ≡ number_in 32 (rows_of (found_of found.now)) id.now }
 {
     found.get_one(id)
 }
 
-fn read_u64(found: &ArgMatches, id: &str) -> Option<u64>
-    ensures { result ≡ number_in 64 (rows_of (found_of found.now)) id.now }
+/// The number of an option, if it is given; nothing, if what is given is no such number.
+fn given_u32(found: &ArgMatches, id: &str) -> Option<Option<u32>>
+    ensures { result ≡ given_in 32 (rows_of (found_of found.now)) id.now }
 {
-    found.get_one(id)
+    found.try_get_one(id).ok()
+}
+
+/// The same of an option whose number has 64 bits.
+fn given_u64(found: &ArgMatches, id: &str) -> Option<Option<u64>>
+    ensures { result ≡ given_in 64 (rows_of (found_of found.now)) id.now }
+{
+    found.try_get_one(id).ok()
 }
 
 /// The numbers of a `format`.
@@ -54,12 +63,11 @@ fn read_numbers(format: &ArgMatches) -> Option<Numbers>
     })
 }
 
-/// How the disk of a `play` stops. If the second stop alone is asked for, the first never comes.
-fn read_stop(play: &ArgMatches) -> Option<Stop>
-    ensures { result ≡ stop_in (rows_of (found_of play.now)) }
+/// How the disk stops. If the second stop alone is asked for, the first never comes.
+fn stop_of(after: Option<u64>, again: Option<u64>) -> Option<Stop>
+    ensures { result ≡ stop_of after again }
 {
-    let again = read_u64(play, "again");
-    match read_u64(play, "stop") {
+    match after {
         Some(after) => Some(Stop { after, again }),
         None => Some(Stop {
             after: u64::MAX,
@@ -68,16 +76,25 @@ fn read_stop(play: &ArgMatches) -> Option<Stop>
     }
 }
 
+fn read_play(play: &ArgMatches) -> Option<Command>
+    ensures { result ≡ play_in (rows_of (found_of play.now)) }
+{
+    let fresh = given_u32(play, "fresh")?;
+    let stop = given_u64(play, "stop")?;
+    let again = given_u64(play, "again")?;
+    Some(Command::Play {
+        fresh,
+        stop: stop_of(stop, again),
+    })
+}
+
 /// The command of that name with its matches.
 fn read_matches(name: &str, found: &ArgMatches) -> Option<Command>
     ensures { result ≡ command_of name.now (rows_of (found_of found.now)) }
 {
     match name {
         "format" => Some(Command::Format(read_numbers(found)?)),
-        "play" => Some(Command::Play {
-            fresh: read_u32(found, "fresh"),
-            stop: read_stop(found),
-        }),
+        "play" => read_play(found),
         "graph" => Some(Command::Graph),
         _ => None,
     }
@@ -91,6 +108,9 @@ fn read_matches(name: &str, found: &ArgMatches) -> Option<Command>
 pub fn read_command(alloc: Global, words: &[String]) -> Result<Command, CommandError>
     ensures read { IfOk result (λ c. command (map string_bytes words.now) ≡ Some c) }
     ensures usage { result ≡ Err CommandError.Usage → command (map string_bytes words.now) ≡ None }
+    // It is just the words at which the parser finds a fault that are refused, but for want of memory.
+    ensures taken { OnOk result (IsTaken (map string_bytes words.now)) }
+    ensures refused { result ≡ Err CommandError.Usage → ¬ IsTaken (map string_bytes words.now) }
     ensures limits { IfOk result IsWithin }
 {
     let matches = program(alloc)?.try_get_matches_from(words)?;

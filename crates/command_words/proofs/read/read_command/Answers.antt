@@ -7,6 +7,7 @@ use Rattle.clap.specs.Walk.{rows_of}
 use Rattle.clap.specs.Values.{kind_of}
 use Rattle.command_words.specs.Command.{command, error_of}
 use Rattle.command_words.specs.LimitLaws.{command_within}
+use Rattle.command_words.specs.SpellLaws.{none_not_taken, spelled_taken}
 use Rattle.command_words.specs.declared.commands.CommandError.TheVariants.{Usage}
 use Rattle.command_words.proofs.WordsRead.{fault_is_none, has_fault, met_is, met_none, met_some, no_fault, read_of}
 use Rattle.command_words.proofs.read.read_command.Goals as goal
@@ -44,6 +45,18 @@ returns-clause-usage c = λ usage.
     let is = met_some (map string_bytes c.args.words.now) c.in_ok-matches.matches c.in_ok-name.name.now (rows_of (found_of c.in_ok-name.found.now))
     faultless met named held in
     is ∙ sym c.read_matches.ensures ∙ c.ok_or-2.ensures.ok_part ∙ ap result_ok usage
+
+pub returns-in_err-matches-clause-refused : goal.returns-in_err-matches-clause-refused
+returns-in_err-matches-clause-refused c = λ usage. none_not_taken (map string_bytes c.args.words.now) (returns-in_err-matches-clause-usage c usage)
+
+pub returns-in_err-name-clause-refused : goal.returns-in_err-name-clause-refused
+returns-in_err-name-clause-refused c = λ usage. none_not_taken (map string_bytes c.args.words.now) (returns-in_err-name-clause-usage c usage)
+
+pub returns-clause-taken : goal.returns-clause-taken
+returns-clause-taken c = IfOk-weaker c.ok_or-2.result _ _ (λ r spelled. spelled_taken (map string_bytes c.args.words.now) r spelled) (returns-clause-read c)
+
+pub returns-clause-refused : goal.returns-clause-refused
+returns-clause-refused c = λ usage. none_not_taken (map string_bytes c.args.words.now) (returns-clause-usage c usage)
 
 pub returns-clause-limits : goal.returns-clause-limits
 returns-clause-limits c = IfOk-weaker c.ok_or-2.result _ _ (λ r spelled. command_within (map string_bytes c.args.words.now) r spelled) (returns-clause-read c)
