@@ -1,6 +1,6 @@
 -- What the command says of a run.
-use Rattle.std.proofs.Common.{◌≡◌, inl, ℕ, List, Bool, Option, Some, None, Err, refl, sym, subst, arith}
-use Rattle.std.specs.Prelude.{IsTrue, Result}
+use Rattle.std.proofs.Common.{◌≡◌, inl, ℕ, List, Bool, Option, Some, None, refl, sym, subst, arith}
+use Rattle.std.specs.Prelude.{IsTrue}
 use Rattle.disk_model.specs.declared.disk.Disk.{Ghosts}
 use Rattle.disk_model.specs.Disk.{Only}
 use Rattle.disk_model.specs.Moments.{begins}
@@ -26,7 +26,7 @@ pub same_play : (a : Option ℕ) (s : Option Stop) (b : Option ℕ) (t : Option 
 same_play a s b t same = (cc, cc)
 
 -- Memory was refused while the words were read: nothing was done.
-pub graph_unread : {D : Type 0} (g : Ghosts D) (disk : D) (e : CommandError) (words : Option Command) → words ≡ Some asked.Graph → (Err {Command} e ≡ Err asking.Usage → words ≡ None) → (by : Status) → by ≡ command_status e
+pub graph_unread : {D : Type 0} (g : Ghosts D) (disk : D) (e : CommandError) (words : Option Command) → words ≡ Some asked.Graph → (e ≡ asking.Usage → words ≡ None) → (by : Status) → by ≡ command_status e
     → ((image : List ℕ) → g.left_since disk (g.moment disk) image → g.may_leave disk image) → Only (g.bytes disk) (g.may_leave disk) → (s : Super) (batches : List (List Record)) (graph : Graph) → Holds s batches (g.bytes disk)
     → (told : Bool) (before : List ℕ) → PrintsGraph g s batches graph disk disk by told before before
 graph_unread g disk asking.Usage words is usage by by_is now only s batches graph held told before = let none : words ≡ None = usage refl in cc

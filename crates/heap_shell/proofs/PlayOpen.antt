@@ -51,7 +51,7 @@ use Rattle.heap_shell.proofs.Statuses.{open_end, open_not_done}
 use Rattle.heap_shell.proofs.Written.{none_written, whole_front}
 
 -- A new heap, as one that is there.
-pub new_stored : (pages : ℕ) (image : List ℕ) → IsLegal (made_super pages) [] image → IsStored image
+abbrev pub new_stored : (pages : ℕ) (image : List ℕ) → IsLegal (made_super pages) [] image → IsStored image
 new_stored pages image legal =
     let limits = legal.log.shaped.limits in
     record {

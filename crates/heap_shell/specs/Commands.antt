@@ -8,7 +8,7 @@ use Rattle.graph_model.specs.Graph.{Graph}
 use Rattle.image_plan.specs.declared.superblock.Super.{Super}
 use Rattle.image_plan.specs.Plan.{image_size}
 use Rattle.log_records.specs.declared.Record.{Record}
-use Rattle.heap_core.specs.Format.{heap_of}
+use Rattle.heap_core.specs.Format.{heap_of, IsEmptyHeap}
 use Rattle.heap_model.specs.Image.{IsShaped}
 use Rattle.heap_model.specs.Opening.{opening_calls, IsLeftByOpening}
 use Rattle.command_words.specs.declared.commands.Command.{Command}
@@ -67,6 +67,8 @@ module _ {D : Type 0} (g : Ghosts D) where
   -- A heap was made, and its size written.
   pub record MakesHeap (s : Super) (old new : D) (result : Status) (told : Bool) (before after : List ℕ) : Type 0 where
     pub format : IsFormatted g s old new
+    -- a superblock with these numbers, and zeros up to the end of the plan
+    pub empty : IsEmptyHeap s (g.bytes new)
     pub written : IsTrue told → WritesText result (formatted_line s) before after
     pub end : IsEndOfPlay result
 

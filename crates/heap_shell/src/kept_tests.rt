@@ -2,9 +2,9 @@
 use crate::Status;
 use crate::tests::{ONE_COMMIT, Played, make_disk, play_on};
 use disk_model::{MemoryDisk, Pick};
+use graph_model::{Event, Refusal, Reply};
 use heap_core::{Heap, OpenError};
 use heap_recovery::At;
-use graph_model::{Event, Refusal, Reply};
 use std::alloc::Global;
 use std::process::Abort;
 use std::test::Fail;
@@ -20,7 +20,12 @@ const SMALL_FORMAT_LINE: &str = "heap format 1 65536 1";
 const RECORD_BYTES: usize = 1_048_576;
 
 /// Runs one command line on a disk with streams that don't fail, and gives the disk back.
-fn run_on(alloc: Global, line: &str, script: &str, disk: MemoryDisk) -> Result<(Played, MemoryDisk), Fail> {
+fn run_on(
+    alloc: Global,
+    line: &str,
+    script: &str,
+    disk: MemoryDisk,
+) -> Result<(Played, MemoryDisk), Fail> {
     let none = (Vec::new(alloc), Vec::new(alloc));
     Ok(play_on(alloc, line, script.as_bytes(), disk, none)?)
 }
@@ -41,25 +46,47 @@ fn expect(
 
 fn small_heap(rt: &impl Abort, alloc: Global) -> Result<MemoryDisk, Fail> {
     let disk = make_disk(alloc, SMALL_IMAGE, Pick::Newest)?;
-    expect(rt, alloc, (SMALL_FORMAT_LINE, ""), (Status::Done, "formatted 67712\n"), disk)
+    expect(
+        rt,
+        alloc,
+        (SMALL_FORMAT_LINE, ""),
+        (Status::Done, "formatted 67712\n"),
+        disk,
+    )
 }
 
 #[test]
 fn a_heap_is_made_played_on_and_printed(rt: HostRuntime) -> Result<(), Fail> {
     let alloc = rt.alloc();
-    let first = "1 begin -> begun 1\n1 root 0 -> done\n1 put 0 0 7 -> done\n1 seal -> sealed 1\nforce -> durable 1\ngraph 1\n0: 7 - - -\n";
+    let first =
+        "1 begin -> begun 1\n1 root 0 -> done\n1 put 0 0 7 -> done\n1 seal -> sealed 1\nforce -> durable 1\ngraph 1\n0: 7 - - -\n";
     // The next number follows the log's greatest, and seals are counted from the opening on.
-    let second = "1 begin -> begun 2\n1 root 0 -> done\n1 put 0 1 8 -> done\n1 seal -> sealed 1\nforce -> durable 1\ngraph 1\n0: 7 8 - -\n";
-    let stopped = "1 begin -> begun 3\n1 root 0 -> done\n1 put 0 2 9 -> done\n1 seal -> sealed 1\nforce -> stopped\nrecovered 0\ngraph 1\n0: 7 8 - -\n";
-    let unended = "1 begin -> begun 3\n1 root 0 -> done\n1 put 0 2 9 -> done\nforce -> durable 0\nrecovered 0\ngraph 1\n0: 7 8 - -\n";
+    let second =
+        "1 begin -> begun 2\n1 root 0 -> done\n1 put 0 1 8 -> done\n1 seal -> sealed 1\nforce -> durable 1\ngraph 1\n0: 7 8 - -\n";
+    let stopped =
+        "1 begin -> begun 3\n1 root 0 -> done\n1 put 0 2 9 -> done\n1 seal -> sealed 1\nforce -> stopped\nrecovered 0\ngraph 1\n0: 7 8 - -\n";
+    let unended =
+        "1 begin -> begun 3\n1 root 0 -> done\n1 put 0 2 9 -> done\nforce -> durable 0\nrecovered 0\ngraph 1\n0: 7 8 - -\n";
     let mut disk = small_heap(&rt, alloc)?;
     for (line, script, output) in [
         ("heap graph", "", "graph 1\n0: - - - -\n"),
         ("heap play", ONE_COMMIT, first),
         ("heap graph", "no script", "graph 1\n0: 7 - - -\n"),
-        ("heap play", "1 begin\n1 root 0\n1 put 0 1 8\n1 commit\n", second),
-        ("heap play --stop 1", "1 begin\n1 root 0\n1 put 0 2 9\n1 commit\n", stopped),
-        ("heap play --again 2 --stop 4", "1 begin\n1 root 0\n1 put 0 2 9\nforce\n", unended),
+        (
+            "heap play",
+            "1 begin\n1 root 0\n1 put 0 1 8\n1 commit\n",
+            second,
+        ),
+        (
+            "heap play --stop 1",
+            "1 begin\n1 root 0\n1 put 0 2 9\n1 commit\n",
+            stopped,
+        ),
+        (
+            "heap play --again 2 --stop 4",
+            "1 begin\n1 root 0\n1 put 0 2 9\nforce\n",
+            unended,
+        ),
         ("heap graph", "", "graph 1\n0: 7 8 - -\n"),
     ] {
         disk = expect(&rt, alloc, (line, script), (Status::Done, output), disk)?;
@@ -69,12 +96,38 @@ fn a_heap_is_made_played_on_and_printed(rt: HostRuntime) -> Result<(), Fail> {
 
 /// A loser is left in the log: a fault ends a run behind its force.
 fn heap_with_a_loser(rt: &impl Abort, alloc: Global) -> Result<Vec<u8>, Fail> {
-    let disk = expect(rt, alloc, ("heap play", ONE_COMMIT), (Status::Done, "1 begin -> begun 1\n1 root 0 -> done\n1 put 0 0 7 -> done\n1 seal -> sealed 1\nforce -> durable 1\ngraph 1\n0: 7 - - -\n"), small_heap(rt, alloc)?)?;
+    let disk = expect(
+        rt,
+        alloc,
+        ("heap play", ONE_COMMIT),
+        (
+            Status::Done,
+            "1 begin -> begun 1\n1 root 0 -> done\n1 put 0 0 7 -> done\n1 seal -> sealed 1\nforce -> durable 1\ngraph 1\n0: 7 - - -\n",
+        ),
+        small_heap(rt, alloc)?,
+    )?;
     let fails = vec![in alloc; 5u64]?;
     let bytes = disk.contents().to_vec(alloc)?;
-    let disk = MemoryDisk::of(alloc, bytes, Pick::Newest, RECORD_BYTES, fails, Vec::new(alloc))?;
-    let lines = "1 begin -> begun 2\n1 root 0 -> done\n1 put 0 0 8 -> done\nforce -> durable 0\n1 put 0 0 9 -> done\nforce -> diskfault\n";
-    let disk = expect(rt, alloc, ("heap play", "1 begin\n1 root 0\n1 put 0 0 8\nforce\n1 put 0 0 9\nforce\n"), (Status::DiskFault, lines), disk)?;
+    let disk = MemoryDisk::of(
+        alloc,
+        bytes,
+        Pick::Newest,
+        RECORD_BYTES,
+        fails,
+        Vec::new(alloc),
+    )?;
+    let lines =
+        "1 begin -> begun 2\n1 root 0 -> done\n1 put 0 0 8 -> done\nforce -> durable 0\n1 put 0 0 9 -> done\nforce -> diskfault\n";
+    let disk = expect(
+        rt,
+        alloc,
+        (
+            "heap play",
+            "1 begin\n1 root 0\n1 put 0 0 8\nforce\n1 put 0 0 9\nforce\n",
+        ),
+        (Status::DiskFault, lines),
+        disk,
+    )?;
     Ok(disk.contents().to_vec(alloc)?)
 }
 
@@ -84,10 +137,28 @@ fn an_opening_that_is_stopped_recovers_none_of_the_run(rt: HostRuntime) -> Resul
     let image = heap_with_a_loser(&rt, alloc)?;
     let text = "recovered 0\ngraph 1\n0: 7 - - -\n";
     for pick in [Pick::Synced, Pick::Newest, Pick::AllOnes, Pick::AllOpen] {
-        for line in ["heap play --stop 0", "heap play --stop 1", "heap play --stop 2", "heap play --stop 3 --again 1"] {
-            let disk = MemoryDisk::of(alloc, image.clone()?, pick, RECORD_BYTES, Vec::new(alloc), Vec::new(alloc))?;
+        for line in [
+            "heap play --stop 0",
+            "heap play --stop 1",
+            "heap play --stop 2",
+            "heap play --stop 3 --again 1",
+        ] {
+            let disk = MemoryDisk::of(
+                alloc,
+                image.clone()?,
+                pick,
+                RECORD_BYTES,
+                Vec::new(alloc),
+                Vec::new(alloc),
+            )?;
             let disk = expect(&rt, alloc, (line, ONE_COMMIT), (Status::Done, text), disk)?;
-            expect(&rt, alloc, ("heap graph", ""), (Status::Done, "graph 1\n0: 7 - - -\n"), disk)?;
+            expect(
+                &rt,
+                alloc,
+                ("heap graph", ""),
+                (Status::Done, "graph 1\n0: 7 - - -\n"),
+                disk,
+            )?;
         }
     }
     Ok(())
@@ -97,9 +168,21 @@ fn an_opening_that_is_stopped_recovers_none_of_the_run(rt: HostRuntime) -> Resul
 fn the_last_number_is_not_begun(rt: HostRuntime) -> Result<(), Fail> {
     let alloc = rt.alloc();
     let disk = make_disk(alloc, SMALL_IMAGE, Pick::Newest)?;
-    let disk = expect(&rt, alloc, ("heap format 1 65536 4294967295", ""), (Status::Done, "formatted 67712\n"), disk)?;
+    let disk = expect(
+        &rt,
+        alloc,
+        ("heap format 1 65536 4294967295", ""),
+        (Status::Done, "formatted 67712\n"),
+        disk,
+    )?;
     let output = "1 begin -> numbersspent\ngraph 1\n0: - - - -\n";
-    expect(&rt, alloc, ("heap play", "1 begin\n"), (Status::Done, output), disk)?;
+    expect(
+        &rt,
+        alloc,
+        ("heap play", "1 begin\n"),
+        (Status::Done, output),
+        disk,
+    )?;
     Ok(())
 }
 
@@ -107,7 +190,10 @@ fn the_last_number_is_not_begun(rt: HostRuntime) -> Result<(), Fail> {
 fn a_disk_has_the_bytes_of_the_image_or_is_left_alone(rt: HostRuntime) -> Result<(), Fail> {
     let alloc = rt.alloc();
     let small = make_disk(alloc, SMALL_IMAGE - 1, Pick::Newest)?;
-    let status = Status::TooSmall { size: 67_711, need: 67_712 };
+    let status = Status::TooSmall {
+        size: 67_711,
+        need: 67_712,
+    };
     let small = expect(&rt, alloc, (SMALL_FORMAT_LINE, ""), (status, ""), small)?;
     assert!(rt; small.contents().iter().all(|byte| *byte == 0));
     small_heap(&rt, alloc)?;
@@ -133,7 +219,14 @@ fn what_is_no_heap_or_damaged_is_refused(rt: HostRuntime) -> Result<(), Fail> {
         for line in ["heap graph", "heap play", "heap play --stop 0"] {
             let mut bytes = image.clone()?;
             bytes[at] = byte;
-            let disk = MemoryDisk::of(alloc, bytes, Pick::Newest, RECORD_BYTES, Vec::new(alloc), Vec::new(alloc))?;
+            let disk = MemoryDisk::of(
+                alloc,
+                bytes,
+                Pick::Newest,
+                RECORD_BYTES,
+                Vec::new(alloc),
+                Vec::new(alloc),
+            )?;
             let (played, _) = run_on(alloc, line, "", disk)?;
             assert_eq!(rt; played.status, status);
             if status != Status::Done {
@@ -144,8 +237,21 @@ fn what_is_no_heap_or_damaged_is_refused(rt: HostRuntime) -> Result<(), Fail> {
     let mut bytes = image.clone()?;
     bytes[64] = 1;
     bytes[65] = 1;
-    let disk = MemoryDisk::of(alloc, bytes, Pick::Newest, RECORD_BYTES, Vec::new(alloc), Vec::new(alloc))?;
-    expect(&rt, alloc, ("heap graph", ""), (Status::Damaged { at: At::Batch(0) }, ""), disk)?;
+    let disk = MemoryDisk::of(
+        alloc,
+        bytes,
+        Pick::Newest,
+        RECORD_BYTES,
+        Vec::new(alloc),
+        Vec::new(alloc),
+    )?;
+    expect(
+        &rt,
+        alloc,
+        ("heap graph", ""),
+        (Status::Damaged { at: At::Batch(0) }, ""),
+        disk,
+    )?;
     Ok(())
 }
 
@@ -154,20 +260,46 @@ fn a_fault_in_a_force_ends_the_run_and_fails_the_heap(rt: HostRuntime) -> Result
     let alloc = rt.alloc();
     let image = small_heap(&rt, alloc)?.contents().to_vec(alloc)?;
     let fails = vec![in alloc; 2u64]?;
-    let disk = MemoryDisk::of(alloc, image, Pick::Newest, RECORD_BYTES, fails, Vec::new(alloc))?;
-    let lines = "1 begin -> begun 1\n1 root 0 -> done\n1 put 0 0 7 -> done\n1 seal -> sealed 1\nforce -> diskfault\n";
-    let disk = expect(&rt, alloc, ("heap play", ONE_COMMIT), (Status::DiskFault, lines), disk)?;
+    let disk = MemoryDisk::of(
+        alloc,
+        image,
+        Pick::Newest,
+        RECORD_BYTES,
+        fails,
+        Vec::new(alloc),
+    )?;
+    let lines =
+        "1 begin -> begun 1\n1 root 0 -> done\n1 put 0 0 7 -> done\n1 seal -> sealed 1\nforce -> diskfault\n";
+    let disk = expect(
+        &rt,
+        alloc,
+        ("heap play", ONE_COMMIT),
+        (Status::DiskFault, lines),
+        disk,
+    )?;
     // A step behind the fifth entry tells it.
     let fails = vec![in alloc; 2u64]?;
     let bytes = disk.contents().to_vec(alloc)?;
-    let disk = MemoryDisk::of(alloc, bytes, Pick::Newest, RECORD_BYTES, fails, Vec::new(alloc))?;
+    let disk = MemoryDisk::of(
+        alloc,
+        bytes,
+        Pick::Newest,
+        RECORD_BYTES,
+        fails,
+        Vec::new(alloc),
+    )?;
     let Ok(mut heap) = Heap::open(alloc, disk) else {
         return Err(Fail);
     };
     for event in [
         Event::Begin { s: 1 },
         Event::Root { s: 1, h: 0 },
-        Event::Put { s: 1, h: 0, i: 0, v: 7 },
+        Event::Put {
+            s: 1,
+            h: 0,
+            i: 0,
+            v: 7,
+        },
         Event::Seal { s: 1 },
         Event::Force,
     ] {

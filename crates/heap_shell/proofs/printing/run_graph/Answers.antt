@@ -60,10 +60,13 @@ returns-in-Ok-clause-prints g c tells =
     let after = k.written c.write_graph.new.sink in
     let graph = serial core.g0 (sealed core.history) in
     let wrote = c.write_graph.ensures.wrote tells core some.2 some.1.running.reached in
-    rw c.status_after-status.ensures (inr (graph, record {
-      front = wrote_some c.write_graph.result before (graph_text graph) after wrote;
-      whole = λ done. wrote_all c.write_graph.result before (graph_text graph) after done wrote;
-    }))
+    rw c.status_after-status.ensures (inr (
+      graph,
+      record {
+        front = wrote_some c.write_graph.result before (graph_text graph) after wrote;
+        whole = λ done. wrote_all c.write_graph.result before (graph_text graph) after done wrote;
+      },
+    ))
 
 pub returns-in-Ok-clause-refused : goal.returns-in-Ok-clause-refused
 returns-in-Ok-clause-refused g c tells = rw c.status_after-status.ensures (end_told _ (g.D.Disk.bytes c.args.disk) (written_end c.write_graph.result))

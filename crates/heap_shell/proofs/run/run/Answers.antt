@@ -1,4 +1,4 @@
-use Rattle.std.proofs.Common.{◌≡◌, inl, ℕ, List, Option, Some, refl, sym, ap, ◌∙◌, subst}
+use Rattle.std.proofs.Common.{◌≡◌, inl, ℕ, List, Option, Some, Err, refl, sym, ap, ◌∙◌, subst}
 use Rattle.std.specs.Prelude.{IfSome}
 use Rattle.command_words.specs.declared.commands.Command.TheVariants as asked
 use Rattle.command_words.specs.declared.commands.CommandError.{CommandError}
@@ -18,18 +18,18 @@ use Rattle.heap_shell.proofs.run.run.Goals as goal
 pub returns-in-Err-clause-graph : goal.returns-in-Err-clause-graph
 returns-in-Err-clause-graph g c tells only is s batches shaped born places graph found =
     let d = g.D.Disk in
-    graph_unread d c.args.disk c.in-Err.e _ is c.in-Err.ensures.usage c.from.result c.from.ensures (λ image since. g.met.D.Disk.only_now tells c.args.disk image since) only s batches graph shaped.held g.K.Sink.tells (g.K.Sink.written c.args.sink.now)
+    graph_unread d c.args.disk c.in-Err.e _ is (λ (same : c.in-Err.e ≡ asking.Usage). c.in-Err.ensures.usage (ap (λ (x : CommandError). Err x) same)) c.from.result c.from.ensures (λ image since. g.met.D.Disk.only_now tells c.args.disk image since) only s batches graph shaped.held g.K.Sink.tells (g.K.Sink.written c.args.sink.now)
 
 pub returns-in-Format-clause-too_small : goal.returns-in-Format-clause-too_small
-returns-in-Format-clause-too_small g c size need told asked is =
-    let same : asked ≡ asked.Format c.in-Format.field-0 = cc (is, c.in-Ok.ensures.read, c.in-Format.is) in
+returns-in-Format-clause-too_small g c size need told which is =
+    let same : which ≡ asked.Format c.in-Format.field-0 = cc (is, c.in-Ok.ensures.read, c.in-Format.is) in
     let small = c.run_format.ensures.too_small size need told in
     let n = c.in-Format.field-0 in
     (heap_of n.pages n.log_bytes n.first, ap makes same, small.2, small.3, small.4)
 
 pub returns-in-Play-clause-too_small : goal.returns-in-Play-clause-too_small
-returns-in-Play-clause-too_small g c size need told asked is =
-    let same : asked ≡ asked.Play c.in-Play.fresh c.in-Play.stop = cc (is, c.in-Ok.ensures.read, c.in-Play.is) in
+returns-in-Play-clause-too_small g c size need told which is =
+    let same : which ≡ asked.Play c.in-Play.fresh c.in-Play.stop = cc (is, c.in-Ok.ensures.read, c.in-Play.is) in
     let small = c.run_play.ensures.too_small size need told in
     (made_super small.0, ap makes same ∙ ap (λ (fresh : Option ℕ). makes (asked.Play fresh c.in-Play.stop)) small.1, small.2, small.3, small.4)
 
@@ -50,8 +50,8 @@ pub returns-in-Graph-clause-graph : goal.returns-in-Graph-clause-graph
 returns-in-Graph-clause-graph g c tells only is s batches shaped born places graph found = c.run_graph.ensures.graph tells only s batches shaped born places graph found
 
 pub returns-in-Graph-clause-complete : goal.returns-in-Graph-clause-complete
-returns-in-Graph-clause-complete g c tells only asked is can script no_source no_sink no_disk =
-    let same : asked ≡ asked.Graph = cc (is, c.in-Ok.ensures.read, c.in-Graph.is) in
+returns-in-Graph-clause-complete g c tells only which is can script no_source no_sink no_disk =
+    let same : which ≡ asked.Graph = cc (is, c.in-Ok.ensures.read, c.in-Graph.is) in
     let shaped = subst (λ (x : Command). CanRun x (g.D.Disk.extent c.args.disk) (g.D.Disk.bytes c.args.disk)) same can in
     let found = address_found shaped.0 shaped.1 shaped.2.log in
     let printed = c.run_graph.ensures.graph tells only shaped.0 shaped.1 shaped.2 _ found.0 found.1 found.2 in
