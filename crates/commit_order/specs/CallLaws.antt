@@ -25,11 +25,6 @@ Conflict-sym Shared Exclusive c = refl
 Conflict-sym Exclusive Shared c = refl
 Conflict-sym Exclusive Exclusive c = refl
 
--- the exclusive mode conflicts with every other
-pub Conflict-Exclusive : (m : Mode) → Conflict m Exclusive
-Conflict-Exclusive Shared = refl
-Conflict-Exclusive Exclusive = refl
-
 -- one that may be there is in its list
 pub Contains-Some : {X : Type 0} (o : Option X) (x : X) → o ≡ Some x → Contains (option_to_list o) x
 Contains-Some None x is = cc

@@ -13,7 +13,7 @@ use Rattle.graph_model.specs.Transaction.{Transaction, replies, serial, serial_r
 use Rattle.graph_model.specs.History.{Account, account, account_after, session_of, first_failure, cut_short}
 use Rattle.graph_model.specs.HistoryLaws.{account-append}
 use Rattle.commit_order.specs.Heard.{Heard, hear_cut, hear, heard_in}
-use Rattle.commit_order.specs.SerialOrder.{EachEntry, EndsWithFailure, numbers_begun, IsTwoPhase, SerialOrderTheorem}
+use Rattle.commit_order.specs.SerialOrder.{EachEntry, EndsWithFailure, numbers_begun, IsTwoPhase, HasPlainReplies, SerialOrderTheorem}
 use Rattle.commit_order.specs.OrderLaws.{IsOrdered, nothing_ordered, ordered_append, heard-append, two_phase_ordered, serial_replies-append}
 
 -- The transaction in doubt had the replies that it would have behind the sealed ones, and there is none while the disk has not failed.
@@ -62,18 +62,18 @@ doubted_append g0 before e failed o d =
     (subst (IsDoubted g0 (account_after (account before) e)) (sym (heard-append before e))
     (entry_doubted g0 (numbers_begun before) (account before) (heard_in before) e.event e.reply failed o d))
 
-doubted_rest : (g0 : Graph) (history before rest : List Entry) → IsTwoPhase g0 history → EachEntry EndsWithFailure history → history ≡ before ++ rest → IsOrdered g0 (numbers_begun before) (account before) (heard_in before)
+doubted_rest : (g0 : Graph) (history before rest : List Entry) → HasPlainReplies g0 history → IsTwoPhase g0 history → EachEntry EndsWithFailure history → history ≡ before ++ rest → IsOrdered g0 (numbers_begun before) (account before) (heard_in before)
     → IsDoubted g0 (account before) (heard_in before) → IsDoubted g0 (account history) (heard_in history)
-doubted_rest g0 history before [] two_phase ends is o d =
+doubted_rest g0 history before [] plain two_phase ends is o d =
     subst (λ h. IsDoubted g0 (account h) (heard_in h)) (sym (is ∙ append-nil before)) d
-doubted_rest g0 history before (e ∷ rest) two_phase ends is o d =
-    doubted_rest g0 history (before ++ e ∷ []) rest two_phase ends (is ∙ sym (append_assoc before (e ∷ []) rest))
-    (ordered_append g0 before e (two_phase.locked before e rest is) (two_phase.answered before e rest is) (two_phase.numbered before e rest is) o)
+doubted_rest g0 history before (e ∷ rest) plain two_phase ends is o d =
+    doubted_rest g0 history (before ++ e ∷ []) rest plain two_phase ends (is ∙ sym (append_assoc before (e ∷ []) rest))
+    (ordered_append g0 before e (two_phase.locked before e rest is) (plain.answered before e rest is) (plain.numbered before e rest is) o)
     (doubted_append g0 before e (ends before e rest is) o d)
 
-two_phase_doubted : (g0 : Graph) (history : List Entry) → IsTwoPhase g0 history → EachEntry EndsWithFailure history → IsDoubted g0 (account history) (heard_in history)
-two_phase_doubted g0 history two_phase ends =
-    doubted_rest g0 history [] history two_phase ends refl (nothing_ordered g0 two_phase.closed) (record { told = refl; certain = λ unfailed. refl })
+two_phase_doubted : (g0 : Graph) (history : List Entry) → HasPlainReplies g0 history → IsTwoPhase g0 history → EachEntry EndsWithFailure history → IsDoubted g0 (account history) (heard_in history)
+two_phase_doubted g0 history plain two_phase ends =
+    doubted_rest g0 history [] history plain two_phase ends refl (nothing_ordered g0 plain.closed) (record { told = refl; certain = λ unfailed. refl })
 
 -- the replies of transactions and of one that may be behind them
 serial_replies-last : (g : Graph) (ts : List Transaction) (o : Option Transaction)
@@ -81,15 +81,15 @@ serial_replies-last : (g : Graph) (ts : List Transaction) (o : Option Transactio
 serial_replies-last g ts None = append-nil (serial_replies g ts) ∙ ap (serial_replies g) (sym (append-nil ts))
 serial_replies-last g ts (Some t) = sym (serial_replies-append g ts t)
 
--- Strict two-phase locking gives commit order.
+-- Strict two-phase locking gives commit order, where replies are plain.
 pub serial_order : SerialOrderTheorem
-serial_order g0 history two_phase =
-    let o = two_phase_ordered g0 history two_phase in
+serial_order g0 history plain two_phase =
+    let o = two_phase_ordered g0 history plain two_phase in
     let a = account history in
     record {
       certain = o.sealed;
       active = o.active;
       committed = λ ends. ap (λ l. l ++ option_to_list (heard_in history).in_doubt) o.sealed
-          ∙ ap (λ p. serial_replies g0 a.sealed ++ option_to_list p) (two_phase_doubted g0 history two_phase ends).told
+          ∙ ap (λ p. serial_replies g0 a.sealed ++ option_to_list p) (two_phase_doubted g0 history plain two_phase ends).told
           ∙ serial_replies-last g0 a.sealed a.in_doubt;
     }

@@ -20,7 +20,7 @@ use Rattle.graph_model.specs.Locking.{Mode, Lock, lock_of, locks_of, Holds}
 use Rattle.commit_order.specs.CallLaws.{Contains-Some, Contains-option}
 use Rattle.commit_order.specs.LockingLaws.{locks_of_calls-append, runs_alike}
 use Rattle.commit_order.specs.OrderLaws.{changed, two_phase_ordered}
-use Rattle.commit_order.specs.SerialOrder.{IsCallOf, IsTwoPhase}
+use Rattle.commit_order.specs.SerialOrder.{IsCallOf, IsTwoPhase, HasPlainReplies}
 
 -- in b transaction n holds what it holds in a and this lock, if there is one, and the others hold what they hold in a
 abbrev pub AddsLock : Graph → Account → Account → ℕ → Option Lock → Type 0
@@ -135,12 +135,12 @@ begin_holds g0 history event n none =
     ))
 
 -- A transaction that is aborted lets go of all that it holds, and of nothing else.
-pub abort_holds : (g0 : Graph) (history : List Entry) (event : Event) (t : Transaction) → IsTwoPhase g0 history → (account history).active (session_of event) ≡ Some t
+pub abort_holds : (g0 : Graph) (history : List Entry) (event : Event) (t : Transaction) → HasPlainReplies g0 history → IsTwoPhase g0 history → (account history).active (session_of event) ≡ Some t
     → Releases g0 (account history) (account (history ++ record { event = event; reply = Aborted } ∷ [])) t.number
-abort_holds g0 history event t two_phase is =
+abort_holds g0 history event t plain two_phase is =
     let a = account history in
     let s = session_of event in
-    let o = two_phase_ordered g0 history two_phase in
+    let o = two_phase_ordered g0 history plain two_phase in
     let e : Entry = record { event = event; reply = Aborted } in
     let P : Account → Type 0 = λ b. Releases g0 a b t.number in
     subst P (sym (account-append history e)) (λ m id mode. (
@@ -162,12 +162,12 @@ abort_holds g0 history event t two_phase is =
     ))
 
 -- So does one that is sealed: on what it leaves the others hold what they held.
-pub seal_holds : (g0 : Graph) (history : List Entry) (event : Event) (k : ℕ) (t : Transaction) → IsTwoPhase g0 history → (account history).active (session_of event) ≡ Some t
+pub seal_holds : (g0 : Graph) (history : List Entry) (event : Event) (k : ℕ) (t : Transaction) → HasPlainReplies g0 history → IsTwoPhase g0 history → (account history).active (session_of event) ≡ Some t
     → Releases g0 (account history) (account (history ++ record { event = event; reply = Sealed k } ∷ [])) t.number
-seal_holds g0 history event k t two_phase is =
+seal_holds g0 history event k t plain two_phase is =
     let a = account history in
     let s = session_of event in
-    let o = two_phase_ordered g0 history two_phase in
+    let o = two_phase_ordered g0 history plain two_phase in
     let g = serial g0 a.sealed in
     let e : Entry = record { event = event; reply = Sealed k } in
     let after : serial g0 (a.sealed ++ option_to_list (a.active s)) ≡ (run g t).graph = ap (λ x. serial g0 (a.sealed ++ option_to_list x)) is ∙ serial-append g0 a.sealed t in

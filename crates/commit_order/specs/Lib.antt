@@ -5,9 +5,7 @@ pub mod HoldsLaws
 pub mod LockingLaws
 pub mod OrderLaws
 pub mod PlaceLaws
-pub mod Present
-pub mod PresentLaws
-pub mod PresentSteps
 pub mod Recorded
 pub mod SerialOrder
+pub mod StrictLaws
 pub mod Told

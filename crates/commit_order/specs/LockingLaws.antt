@@ -1,16 +1,18 @@
 -- Laws of runs under locks: what a transaction leaves alone, and that one that is sealed changes nothing that another sees.
-use Rattle.std.proofs.Common.{◌≡◌, ◌≢◌, inl, inr, ℕ, arith, List, [], ◌∷◌, ◌++◌, refl, sym, ap, ◌∙◌, append_assoc}
+use Rattle.std.proofs.Common.{◌≡◌, ◌≢◌, ◌⊎◌, inl, inr, ℕ, arith, lit<, List, [], ◌∷◌, ◌++◌, Some, refl, sym, ap, ◌∙◌, append_assoc}
 use Rattle.std.specs.List.{Contains}
 use Rattle.std.specs.Option.{option_to_list}
 use Rattle.std.proofs.lemmas.List.{append-nil}
+use Rattle.std.proofs.lemmas.Option.{same_Some}
 use Rattle.std.proofs.lemmas.List.Elements.{Contains-append_left, Contains-append_right, Contains-append_cases}
 use Rattle.graph_model.specs.declared.id.Id.{Id}
 use Rattle.graph_model.specs.declared.event.Event.{Event}
 use Rattle.graph_model.specs.Graph.{Graph, fields}
+use Rattle.graph_model.specs.GraphLaws.{same_or_other}
 use Rattle.graph_model.specs.ClosedGraph.{IsClosed, SeesClosed, IsUnused}
 use Rattle.graph_model.specs.ClosedGraphLaws.{call-SeesClosed, fresh_view-SeesClosed, length-fields-run}
 use Rattle.graph_model.specs.Transaction.{View, Transaction, call, after_calls, call_replies, fresh_view, run}
-use Rattle.graph_model.specs.Locking.{Mode, Exclusive, Lock, lock_of, locks_of_calls, locks_of, Conflict}
+use Rattle.graph_model.specs.Locking.{Mode, Shared, Exclusive, Lock, lock_of, locks_of_calls, locks_of, Conflict}
 use Rattle.commit_order.specs.CallLaws.{Conflict-sym, Contains-Some, Contains-option, fields-call, there_other, call-IsUnused, locked_there, SeesAlike, IsUntouched, call-SeesAlike, reply-SeesAlike}
 
 -- the locks with one call more
@@ -97,3 +99,28 @@ runs_alike g t u closed other unused apart =
 -- what a transaction holds was not made by another one whose number is unused
 pub locks_of-other : (g : Graph) (u : Transaction) (n : ℕ) (id : Id) (mode : Mode) → IsClosed g → u.number ≢ n → IsUnused g n → Contains (locks_of g u) (id, mode) → id.t ≢ n
 locks_of-other g u n id mode closed other unused there = locks_other (fresh_view g) u.number u.calls n id mode other (fresh_view-SeesClosed g closed) unused there
+
+exclusive_lock : (lock : Lock) (q : Id) → (lock ≡ (q, Exclusive)) ⊎ (lock ≢ (q, Exclusive))
+exclusive_lock (id, Shared) q = inr (λ same. let modes = ap (λ (l : Lock). l.1) same in shared_or_not modes) where
+  shared_or_not : Shared ≡ Exclusive → ⊥
+  shared_or_not is = cc
+exclusive_lock (id, Exclusive) q =
+    elim (same_or_other id q) [
+      | inl same ↦ inl (ap (λ (x : Id). (x, Exclusive)) same)
+      | inr other ↦ inr (λ same. other (ap (λ (l : Lock). l.0) same))
+    ]
+
+-- a transaction holds an object exclusively, or does not
+pub exclusive_or_not : (ls : List Lock) (q : Id) → Contains ls (q, Exclusive) ⊎ (Contains ls (q, Exclusive) → ⊥)
+exclusive_or_not [] q = inr (λ there. absurd (omega (arith, there.1)))
+exclusive_or_not (l ∷ ls) q =
+    elim (exclusive_lock l q) [
+      | inl here ↦ inl (Contains-append_left (l ∷ []) ls (q, Exclusive) (0, lit< tt, here))
+      | inr other ↦ elim (exclusive_or_not ls q) [
+        | inl later ↦ inl (Contains-append_right (l ∷ []) ls (q, Exclusive) later)
+        | inr never ↦ inr (λ there. elim (Contains-append_cases (l ∷ []) ls (q, Exclusive) there) [
+          | inl here ↦ other (same_Some l (q, Exclusive) (Contains-option (Some l) (q, Exclusive) here))
+          | inr later ↦ never later
+        ])
+      ]
+    ]

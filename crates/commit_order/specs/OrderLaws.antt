@@ -26,7 +26,7 @@ use Rattle.commit_order.specs.Heard.{Heard, nothing_heard, with_replies, with_re
 use Rattle.graph_model.specs.Locking.{lock_of, locks_of, IsFree}
 use Rattle.commit_order.specs.CallLaws.{Conflict-sym, Contains-option}
 use Rattle.commit_order.specs.LockingLaws.{AreApart, AreApart-sym, locks_of_calls-append, runs_alike}
-use Rattle.commit_order.specs.SerialOrder.{RefusesConflicts, AnswersByView, BeginsAnew, begun_number, numbers_begun, IsTwoPhase}
+use Rattle.commit_order.specs.SerialOrder.{RefusesConflicts, AnswersByView, BeginsAnew, begun_number, numbers_begun, IsTwoPhase, HasPlainReplies}
 
 -- Two active transactions have different numbers, and hold nothing in conflict.
 pub record IsBeside (g : Graph) (t u : Transaction) : Type 0 where
@@ -324,14 +324,14 @@ ordered_append g0 before e locked answered numbered o =
     (subst (λ a. IsOrdered g0 (numbers_begun before ++ option_to_list (begun_number e.reply)) a (heard_in (before ++ e ∷ []))) (sym (account-append before e))
     (subst (λ heard. IsOrdered g0 (numbers_begun before ++ option_to_list (begun_number e.reply)) (account_after (account before) e) heard) (sym (heard-append before e)) next))
 
-ordered_rest : (g0 : Graph) (history before rest : List Entry) → IsTwoPhase g0 history → history ≡ before ++ rest → IsOrdered g0 (numbers_begun before) (account before) (heard_in before)
+ordered_rest : (g0 : Graph) (history before rest : List Entry) → HasPlainReplies g0 history → IsTwoPhase g0 history → history ≡ before ++ rest → IsOrdered g0 (numbers_begun before) (account before) (heard_in before)
     → IsOrdered g0 (numbers_begun history) (account history) (heard_in history)
-ordered_rest g0 history before [] two_phase is o =
+ordered_rest g0 history before [] plain two_phase is o =
     subst (λ h. IsOrdered g0 (numbers_begun h) (account h) (heard_in h)) (sym (is ∙ append-nil before)) o
-ordered_rest g0 history before (e ∷ rest) two_phase is o =
-    ordered_rest g0 history (before ++ e ∷ []) rest two_phase (is ∙ sym (append_assoc before (e ∷ []) rest))
-    (ordered_append g0 before e (two_phase.locked before e rest is) (two_phase.answered before e rest is) (two_phase.numbered before e rest is) o)
+ordered_rest g0 history before (e ∷ rest) plain two_phase is o =
+    ordered_rest g0 history (before ++ e ∷ []) rest plain two_phase (is ∙ sym (append_assoc before (e ∷ []) rest))
+    (ordered_append g0 before e (two_phase.locked before e rest is) (plain.answered before e rest is) (plain.numbered before e rest is) o)
 
 -- So it holds at the end of each history under two-phase locking.
-pub two_phase_ordered : (g0 : Graph) (history : List Entry) → IsTwoPhase g0 history → IsOrdered g0 (numbers_begun history) (account history) (heard_in history)
-two_phase_ordered g0 history two_phase = ordered_rest g0 history [] history two_phase refl (nothing_ordered g0 two_phase.closed)
+pub two_phase_ordered : (g0 : Graph) (history : List Entry) → HasPlainReplies g0 history → IsTwoPhase g0 history → IsOrdered g0 (numbers_begun history) (account history) (heard_in history)
+two_phase_ordered g0 history plain two_phase = ordered_rest g0 history [] history plain two_phase refl (nothing_ordered g0 plain.closed)

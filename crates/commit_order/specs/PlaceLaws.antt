@@ -1,16 +1,14 @@
 -- What a heap that locks so may rest on, at each place of its history.
-use Rattle.std.proofs.Common.{◌≡◌, ◌≢◌, ◌⊎◌, inl, inr, ℕ, List, [], ◌∷◌, ◌++◌, Some, refl, sym, ap, ◌∙◌, subst}
-use Rattle.std.proofs.lemmas.Option.{same_Some}
-use Rattle.graph_model.specs.declared.id.Id.{Id}
+use Rattle.std.proofs.Common.{◌≡◌, ◌⊎◌, inl, inr, ℕ, List, [], ◌∷◌, ◌++◌, Some, refl, sym, ap, ◌∙◌, subst, append_assoc}
 use Rattle.graph_model.specs.declared.reply.Entry.{Entry}
 use Rattle.graph_model.specs.Graph.{Graph}
 use Rattle.graph_model.specs.ClosedGraph.{IsClosed}
-use Rattle.graph_model.specs.Transaction.{Transaction, fresh_view, run, serial}
+use Rattle.graph_model.specs.Transaction.{Transaction, serial}
 use Rattle.graph_model.specs.History.{account, sealed}
-use Rattle.graph_model.specs.Locking.{Mode, Lock, Holds, Conflict, IsFree}
-use Rattle.commit_order.specs.LockingLaws.{IsExclusive, RunAlike, runs_alike, locks_of-other}
+use Rattle.graph_model.specs.Locking.{Lock, IsFree}
+use Rattle.commit_order.specs.LockingLaws.{locks_of-other}
 use Rattle.commit_order.specs.OrderLaws.{two_phase_ordered}
-use Rattle.commit_order.specs.SerialOrder.{EachEntry, RefusesConflicts, AnswersByView, BeginsAnew, IsTwoPhase}
+use Rattle.commit_order.specs.SerialOrder.{EachEntry, RefusesConflicts, AnswersByView, BeginsAnew, IsTwoPhase, HasPlainReplies}
 
 same_head : {X : Type 0} (x y : X) (xs ys : List X) → x ∷ xs ≡ y ∷ ys → x ≡ y
 same_head x y xs ys is = cc
@@ -43,49 +41,48 @@ EachEntry-append P history e each own before x after is =
       | inr earlier ↦ each before x earlier.0 earlier.1
     ]
 
--- A history in which nothing happened is under two-phase locking.
-pub nothing_two_phase : (g0 : Graph) → IsClosed g0 → IsTwoPhase g0 []
-nothing_two_phase g0 closed = record {
+-- what each entry of a history has is had by each of its first ones
+pub EachEntry-before : (P : List Entry → Entry → Type 0) (history before rest : List Entry) → history ≡ before ++ rest → EachEntry P history → EachEntry P before
+EachEntry-before P history before rest is each first x after here = each first x (after ++ rest) (is ∙ ap (λ h. h ++ rest) here ∙ append_assoc first (x ∷ after) rest)
+
+-- A history in which nothing happened has plain replies, and is under two-phase locking.
+pub nothing_plain : (g0 : Graph) → IsClosed g0 → HasPlainReplies g0 []
+nothing_plain g0 closed = record {
   closed = closed;
-  locked = λ before e after is. absurd (not_nil before e after is);
   answered = λ before e after is. absurd (not_nil before e after is);
   numbered = λ before e after is. absurd (not_nil before e after is);
 }
 
--- So is one with one entry more that refuses conflicts and was answered by what its transaction saw.
-pub two_phase_append : (g0 : Graph) (history : List Entry) (e : Entry) → RefusesConflicts g0 history e → AnswersByView g0 history e → BeginsAnew g0 history e → IsTwoPhase g0 history
-    → IsTwoPhase g0 (history ++ e ∷ [])
-two_phase_append g0 history e locked answered numbered two_phase = record {
-  closed = two_phase.closed;
-  locked = EachEntry-append (RefusesConflicts g0) history e two_phase.locked locked;
-  answered = EachEntry-append (AnswersByView g0) history e two_phase.answered answered;
-  numbered = EachEntry-append (BeginsAnew g0) history e two_phase.numbered numbered;
+pub nothing_two_phase : (g0 : Graph) → IsTwoPhase g0 []
+nothing_two_phase g0 = record { locked = λ before e after is. absurd (not_nil before e after is) }
+
+-- So does one with one entry more that was answered by what its transaction saw,
+pub plain_append : (g0 : Graph) (history : List Entry) (e : Entry) → AnswersByView g0 history e → BeginsAnew g0 history e → HasPlainReplies g0 history → HasPlainReplies g0 (history ++ e ∷ [])
+plain_append g0 history e answered numbered plain = record {
+  closed = plain.closed;
+  answered = EachEntry-append (AnswersByView g0) history e plain.answered answered;
+  numbered = EachEntry-append (BeginsAnew g0) history e plain.numbered numbered;
 }
 
-same_session : (history : List Entry) (s r : ℕ) (t u : Transaction) → (account history).active s ≡ Some t → (account history).active r ≡ Some u → t.number ≢ u.number → s ≢ r
-same_session history s r t u first second differ same =
-    differ (ap (λ (v : Transaction). v.number) (same_Some t u (sym first ∙ ap (λ q. (account history).active q) same ∙ second)))
+-- and is one that refuses conflicts.
+pub two_phase_append : (g0 : Graph) (history : List Entry) (e : Entry) → RefusesConflicts g0 history e → IsTwoPhase g0 history → IsTwoPhase g0 (history ++ e ∷ [])
+two_phase_append g0 history e locked two_phase = record { locked = EachEntry-append (RefusesConflicts g0) history e two_phase.locked locked }
 
--- What active transactions hold is never in conflict.
-pub holds_apart : (g0 : Graph) (history : List Entry) → IsTwoPhase g0 history → (n m : ℕ) (id : Id) (mode other : Mode) → n ≢ m → Holds g0 (account history) n id mode → Holds g0 (account history) m id other → Conflict mode other → ⊥
-holds_apart g0 history two_phase n m id mode other differ one two conflict =
-    let o = two_phase_ordered g0 history two_phase in
-    let numbers : one.transaction.number ≢ two.transaction.number = λ same. differ (sym one.number ∙ same ∙ two.number) in
-    let sessions = same_session history one.session two.session one.transaction two.transaction one.active two.active numbers in
-    (o.beside one.session two.session one.transaction two.transaction sessions one.active two.active).apart id mode other one.lock two.lock conflict
+-- The first entries of such a history are such a history.
+pub plain_before : (g0 : Graph) (history before rest : List Entry) → history ≡ before ++ rest → HasPlainReplies g0 history → HasPlainReplies g0 before
+plain_before g0 history before rest is plain = record {
+  closed = plain.closed;
+  answered = EachEntry-before (AnswersByView g0) history before rest is plain.answered;
+  numbered = EachEntry-before (BeginsAnew g0) history before rest is plain.numbered;
+}
+
+pub two_phase_before : (g0 : Graph) (history before rest : List Entry) → history ≡ before ++ rest → IsTwoPhase g0 history → IsTwoPhase g0 before
+two_phase_before g0 history before rest is two_phase = record { locked = EachEntry-before (RefusesConflicts g0) history before rest is two_phase.locked }
 
 -- No other transaction holds what an active one made. So a transaction needs no lock on what it made itself.
-pub made_is_free : (g0 : Graph) (history : List Entry) → IsTwoPhase g0 history → (s : ℕ) (t : Transaction) (lock : Lock) → (account history).active s ≡ Some t → lock.0.t ≡ t.number → IsFree g0 (account history) t.number (Some lock)
-made_is_free g0 history two_phase s t lock active own other way =
-    let o = two_phase_ordered g0 history two_phase in
+pub made_is_free : (g0 : Graph) (history : List Entry) → HasPlainReplies g0 history → IsTwoPhase g0 history → (s : ℕ) (t : Transaction) (lock : Lock) → (account history).active s ≡ Some t → lock.0.t ≡ t.number
+    → IsFree g0 (account history) t.number (Some lock)
+made_is_free g0 history plain two_phase s t lock active own other way =
+    let o = two_phase_ordered g0 history plain two_phase in
     let holds = way.holds in
     locks_of-other (serial g0 (sealed history)) holds.transaction t.number lock.0 way.mode o.closed (λ same. way.differs (sym holds.number ∙ same)) (o.unused s t active) holds.lock own
-
--- When a transaction is sealed, each other active one runs on what it leaves as it ran before: it sees alike, had the same replies and
--- holds the same.
-pub seal_alike : (g0 : Graph) (history : List Entry) → IsTwoPhase g0 history → (s r : ℕ) (t u : Transaction) → s ≢ r → (account history).active s ≡ Some t → (account history).active r ≡ Some u
-    → let g = serial g0 (sealed history) in RunAlike t.number (IsExclusive g t) (fresh_view g) (fresh_view (run g t).graph) u.number u.calls
-seal_alike g0 history two_phase s r t u other first second =
-    let o = two_phase_ordered g0 history two_phase in
-    let b = o.beside s r t u other first second in
-    runs_alike (serial g0 (sealed history)) t u o.closed (λ same. b.differ (sym same)) (o.unused s t first) b.apart

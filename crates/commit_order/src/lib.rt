@@ -1,12 +1,13 @@
 //! The order of transactions that run side by side under strict two-phase locking: they are serial in the order of their seals.
 //!
-//! `specs/SerialOrder.antt` has the theorem in its words, and `graph_model/specs/Locking.antt` what a transaction holds and what
-//! conflicts with that, without a lock table. It is proved in `specs/OrderLaws.antt` and, for the commit that a failing disk leaves in
-//! doubt, `specs/CommitLaws.antt`, from the laws of one call in `specs/CallLaws.antt` and of a run in `specs/LockingLaws.antt`.
+//! `specs/SerialOrder.antt` has the theorem in its words: what it is for a history to be under strict two-phase locking (`IsTwoPhase`),
+//! to have plain replies (`HasPlainReplies`), and to be serial in the order of the seals (`IsCommitOrdered`). What a transaction holds
+//! and what conflicts with that is said in `graph_model/specs/Locking.antt`, without a lock table. The theorem is proved in
+//! `specs/OrderLaws.antt` and, for the commit that a failing disk leaves in doubt, `specs/CommitLaws.antt`, from the laws of one call
+//! in `specs/CallLaws.antt` and of a run in `specs/LockingLaws.antt`.
 //!
-//! A heap that locks so may rest on the laws of each place of its history: `specs/PlaceLaws.antt`; `specs/HoldsLaws.antt`, how
-//! what is held changes as a table of locks does; and `specs/PresentSteps.antt`, how what stands in memory changes where each
-//! transaction writes in place.
+//! A heap that locks so may rest on the laws of each place of its history: `specs/PlaceLaws.antt`; and `specs/HoldsLaws.antt`, how
+//! what is held changes as a table of locks does. That locks are kept until a transaction ends is in `specs/StrictLaws.antt`.
 //!
 //! The code is `History`, the list of events and their replies, and what it tells of the commits.
 #![tactic(auto)]

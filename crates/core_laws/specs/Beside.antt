@@ -11,7 +11,7 @@ use Rattle.graph_model.specs.declared.val.Val.{Val}
 use Rattle.graph_model.specs.declared.val.Val.TheVariants.{Null, Int, Ref}
 use Rattle.graph_model.specs.Graph.{Graph, fields, root}
 use Rattle.graph_model.specs.Locking.{Exclusive, Lock}
-use Rattle.commit_order.specs.PresentLaws.{exclusive_or_not}
+use Rattle.commit_order.specs.LockingLaws.{exclusive_or_not}
 use Rattle.log_machine.specs.declared.UndoEntry.{UndoEntry}
 use Rattle.log_machine.specs.Apart.{written}
 use Rattle.log_machine.specs.ListLaws.{AllByRecursion-map}

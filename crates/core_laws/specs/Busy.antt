@@ -1,5 +1,5 @@
--- What a core answers with `busy`: the least of the transactions that stand in the way, and nothing else is answered so.
-use Rattle.std.proofs.Common.{◌≡◌, ℕ, ◌-◌, ◌*◌, Bool, true, false, length, Option, Some, None, is_some, refl, subst}
+-- When a core answers with `busy`, and whom it names: the least of the transactions that stand in the way, and just where one does.
+use Rattle.std.proofs.Common.{◌≡◌, ℕ, ◌-◌, ◌*◌, Bool, true, false, length, Option, Some, None, is_some, refl, ap, ◌∙◌, subst}
 use Rattle.std.specs.Prelude.{◌==◌, nat_lt, nat_le, if◌then◌else◌}
 use Rattle.graph_model.specs.declared.id.Id.{Id}
 use Rattle.graph_model.specs.declared.event.Event.{Event}
@@ -9,8 +9,8 @@ use Rattle.graph_model.specs.declared.reply.Refusal.TheVariants.{Failed, Already
 use Rattle.graph_model.specs.Graph.{Graph, fields}
 use Rattle.graph_model.specs.Transaction.{View, Transaction, held}
 use Rattle.graph_model.specs.History.{Account, AreInSessions, account, session_of}
-use Rattle.graph_model.specs.BusyLaws.{busy_law}
-use Rattle.graph_model.specs.Locking.{Lock, lock_of, busy_holder, IsBusy}
+use Rattle.graph_model.specs.BusyLaws.{free_law, busy_law, busy_found}
+use Rattle.graph_model.specs.Locking.{Lock, lock_of, busy_holder, IsInTheWay, IsBusy}
 use Rattle.graph_model.specs.Plain.{view, no_number, no_int, most_fields, handle_refusal, new_refusal, len_refusal, same_refusal, field_refusal, put_refusal, link_refusal, view_refusal, call_refusal, event_refusal, busy_with, call_conflict, conflict_refusal, first_of_two, model_refusal, refusal_of}
 use Rattle.log_machine.specs.Machine.{State}
 use Rattle.heap_model.specs.Core.{Core, Ground, ground, next_number, seal_need, space_refusal, room_refusal, words_refusal, log_refusal, core_refusal}
@@ -144,3 +144,50 @@ busy_told c event holder within is =
     let model = first_busy (model_refusal (next_number c) c.g0 a event) room holder
     (other_two (words_refusal c event) (log_refusal c event) (other_room (ground c) c.g0 a (a.active (session_of event)) event) (other_log c event)) alive in
     of_call c.g0 a event holder within (a.active (session_of event)) refl (second_busy asks (conflict_refusal c.g0 a event) holder (other_event (next_number c) c.g0 a event) model)
+
+-- And the other way.
+
+-- the refusal of an event that comes so far
+busy_now : (failed : Option ℕ) (asks conflict room : Option Refusal) (holder : ℕ) → failed ≡ None → asks ≡ None → conflict ≡ Some (Busy holder)
+    → refusal_of failed (first_of_two (first_of_two asks conflict) room) ≡ Some (Busy holder)
+busy_now None None conflict room holder unfailed asked is = ap (λ (o : Option Refusal). first_of_two o room) is
+busy_now None (Some why) conflict room holder unfailed asked is = cc
+busy_now (Some entry) asks conflict room holder unfailed asked is = cc
+
+-- Where the heap has not failed, and an event is not refused for what it asks, a call that has to give way is answered `busy`, with the least
+-- of those in its way. It comes before all refusals for want of room.
+pub busy_back : (c : Core) (event : Event) (holder : ℕ) → AreInSessions (account c.history) → (account c.history).failed ≡ None → event_refusal (next_number c) c.g0 (account c.history) event ≡ None
+    → GivesWay c.g0 (account c.history) event holder → core_refusal c event ≡ Some (Busy holder)
+busy_back c event holder within unfailed asks gives =
+    let a = account c.history in
+    let t = gives.transaction in
+    let conflict : conflict_refusal c.g0 a event ≡ Some (Busy holder) =
+    ap (λ (o : Option Transaction). call_conflict c.g0 a o event) gives.active
+    ∙ ap (λ (o : Option Lock). busy_with (busy_holder c.g0 a t.number o)) gives.needs
+    ∙ ap busy_with (busy_found c.g0 a t.number gives.lock holder within gives.busy) in
+    busy_now a.failed (event_refusal (next_number c) c.g0 a event) (conflict_refusal c.g0 a event) (first_of_two (words_refusal c event) (log_refusal c event)) holder unfailed asks conflict
+
+-- Another transaction is in the way of a call.
+pub record IsHindered (g0 : Graph) (a : Account) (event : Event) : Type 0 where
+  pub transaction : Transaction
+  pub active : a.active (session_of event) ≡ Some transaction
+  pub lock : Lock
+  pub needs : lock_of (view g0 a transaction).registers event ≡ Some lock
+  pub other : ℕ
+  pub in_the_way : IsInTheWay g0 a transaction.number lock other
+
+-- Of those in the way of a call one is the least: it gives way to that one.
+pub hindered_gives_way : (g0 : Graph) (a : Account) (event : Event) → AreInSessions a → IsHindered g0 a event → (holder : ℕ) × GivesWay g0 a event holder
+hindered_gives_way g0 a event within h = by_found (busy_holder g0 a h.transaction.number (Some h.lock)) refl where
+  by_found : (o : Option ℕ) → busy_holder g0 a h.transaction.number (Some h.lock) ≡ o → (holder : ℕ) × GivesWay g0 a event holder
+  by_found None none = absurd (free_law g0 a h.transaction.number (Some h.lock) within none h.other h.in_the_way)
+  by_found (Some holder) is = (
+    holder,
+    record {
+      transaction = h.transaction;
+      active = h.active;
+      lock = h.lock;
+      needs = h.needs;
+      busy = busy_law g0 a h.transaction.number h.lock holder within is;
+    },
+  )

@@ -16,6 +16,7 @@ pub mod Grow
 pub mod Opened
 pub mod Others
 pub mod OthersLaws
+pub mod PlainAnswers
 pub mod Replies
 pub mod Reserved
 pub mod Run

@@ -16,7 +16,7 @@ use Rattle.log_machine.specs.MapLaws.{each_empty}
 use Rattle.log_machine.specs.StateLaws.{leads_after_all, commits-start}
 use Rattle.log_machine.specs.declared.UndoEntry.{UndoEntry}
 use Rattle.gated_log.specs.Log.{records_of}
-use Rattle.commit_order.specs.PlaceLaws.{nothing_two_phase}
+use Rattle.commit_order.specs.PlaceLaws.{nothing_plain, nothing_two_phase}
 use Rattle.graph_words.specs.Places.{Places}
 use Rattle.graph_words.specs.Stands.{AreNamedByBirth, StandsCommitted}
 use Rattle.graph_words.specs.StandsClosed.{stands_closed, placed_below}
@@ -108,7 +108,8 @@ module _ (s : Super) (batches : List (List Record)) (shaped : IsShapedLog s batc
 
   opened_locked : RunsLocked g (next_of s batches) []
   opened_locked = record {
-    two_phase = nothing_two_phase g (stands_closed found.stands found.placed);
+    plain = nothing_plain g (stands_closed found.stands found.placed);
+    two_phase = nothing_two_phase g;
     fails = λ before e after is. absurd (no_entry before e after is);
     begun_below = λ n there. absurd (omega (arith, there.1));
     unused = opened_unused;

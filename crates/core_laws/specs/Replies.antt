@@ -7,7 +7,7 @@ use Rattle.core_laws.specs.Valid.{IsReached}
 
 -- The history of a core is serial in the order of the seals, also for the transactions that are active.
 pub ordered_law : (c : Core) → IsReached c → IsCommitOrdered c.g0 c.history
-ordered_law c reached = serial_order c.g0 c.history reached.locked.two_phase
+ordered_law c reached = serial_order c.g0 c.history reached.locked.plain reached.locked.two_phase
 
 -- The calls of each commit had the replies of the serial run.
 pub replies_law : RepliesTheorem

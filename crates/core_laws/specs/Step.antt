@@ -137,7 +137,7 @@ abort_is c s t valid e =
 pub log_abort : (c : Core) (s : ℕ) (t : Transaction) → IsValid c → RunsLocked c.g0 c.first c.history → (account c.history).active s ≡ Some t → log_refusal c (Abort s) ≡ None
 log_abort c s t valid runs e =
     let a = account c.history in
-    log_roomy c (Abort s) (abort_room a c (two_phase_ordered c.g0 c.history runs.two_phase) s t (event_records c (Abort s)) valid e (abort_is c s t valid e))
+    log_roomy c (Abort s) (abort_room a c (two_phase_ordered c.g0 c.history runs.plain runs.two_phase) s t (event_records c (Abort s)) valid e (abort_is c s t valid e))
 
 -- Events that are granted.
 
@@ -205,7 +205,7 @@ write_goes c t event hd i v valid runs is may e graph made seen within lock reco
     let s = session_of event in
     let room = subst (HasRoom c (event_records c event)) (call_account (next_number c) c.g0 a event is) (log_has_room c event may.log) in
     call_left c event (event_records c event) is refl
-    (write_agrees a c (two_phase_ordered c.g0 c.history runs.two_phase) s t event hd i v (event_records c event) valid e graph made seen within lock (write_free c event t hd valid e may.free lock) records room)
+    (write_agrees a c (two_phase_ordered c.g0 c.history runs.plain runs.two_phase) s t event hd i v (event_records c event) valid e graph made seen within lock (write_free c event t hd valid e may.free lock) records room)
 
 put_goes : (c : Core) (s h i v : ℕ) → IsValid c → RunsLocked c.g0 c.first c.history → IsGranted c (Put s h i v) → Goes c (Put s h i v)
 put_goes c s h i v valid runs may =
@@ -239,14 +239,14 @@ seal_goes c s valid runs may =
     let a = account c.history in
     let t = has_transaction c.g0 a (a.active s) (Seal s) may.asks in
     let space = ap (λ (o : Option Transaction). room_refusal (ground c) c.g0 a o (Seal s)) (sym t.1) ∙ may.words in
-    seal_agrees a c (two_phase_ordered c.g0 c.history runs.two_phase) s t.0 (length a.sealed + 1) (event_records c (Seal s)) (event_places c (Seal s)) valid t.1
+    seal_agrees a c (two_phase_ordered c.g0 c.history runs.plain runs.two_phase) s t.0 (length a.sealed + 1) (event_records c (Seal s)) (event_places c (Seal s)) valid t.1
     (ap (λ (o : Option Transaction). call_records (ground c) c.g0 a o (Seal s)) t.1) (ap (sealed_places (ground c) c.g0 a) t.1) space (log_has_room c (Seal s) may.log)
 
 abort_goes : (c : Core) (s : ℕ) → IsValid c → RunsLocked c.g0 c.first c.history → IsGranted c (Abort s) → Goes c (Abort s)
 abort_goes c s valid runs may =
     let a = account c.history in
     let t = has_transaction c.g0 a (a.active s) (Abort s) may.asks in
-    abort_agrees a c (two_phase_ordered c.g0 c.history runs.two_phase) s t.0 (event_records c (Abort s)) valid t.1 (abort_is c s t.0 valid t.1)
+    abort_agrees a c (two_phase_ordered c.g0 c.history runs.plain runs.two_phase) s t.0 (event_records c (Abort s)) valid t.1 (abort_is c s t.0 valid t.1)
 
 -- an event that isn't refused, by its form
 pub goes : (c : Core) (event : Event) → IsValid c → RunsLocked c.g0 c.first c.history → IsOfSession event → IsGranted c event → Goes c event

@@ -12,6 +12,11 @@
 --   TwoPhase                                       each step refuses conflicts, and answers by what the transaction sees
 --   Sound, Run, Calls                              so steps reach such cores, those too that the disk cuts short: `steps_law`
 --
+-- The answers, `AnswersTheorem`. Each event is answered as the plain heap of graph_model answers it, unless room is wanting.
+--   PlainAnswers                                   refusals are the plain heap's, in their order, and then those for want of
+--                                                  room: `answer_plain`, `refused_plain`, `refused_room`
+--   Busy                                           `busy` is answered just where a call has to give way: `busy_told`, `busy_back`
+--
 -- The crash, `CrashTheorem`. Wherever a crash comes, the image is legal and stands for the graph that the first k committed
 -- transactions give when run one after another in the order of their seals, and k counts all that were acknowledged.
 --   Crash                                          the log on the disk is legal and says the first commits: `crash_law`
@@ -27,19 +32,20 @@
 --   Again                                          `opening_law` and `opened_again`
 --
 -- Aborting and Ending are on the events that end a run, and CoreGraph and TakenBack are on what is in memory.
-use Rattle.std.specs.Prelude.{◌≡◌, ℕ, ◌+◌, ◌≤◌, Bool, true, IsTrue, List, length, take}
+use Rattle.std.specs.Prelude.{◌≡◌, ℕ, ◌+◌, ◌≤◌, Bool, true, IsTrue, List, length, take, None}
 use Rattle.std.specs.List.{AllByRecursion}
 use Rattle.graph_model.specs.declared.event.Event.{Event}
 use Rattle.graph_model.specs.SlowHeap.{IsOfSession}
 use Rattle.graph_model.specs.Canon.{canon}
 use Rattle.graph_model.specs.Graph.{Graph}
-use Rattle.graph_model.specs.History.{commits, acknowledged}
+use Rattle.graph_model.specs.History.{account, commits, acknowledged}
+use Rattle.graph_model.specs.Plain.{plain_reply}
 use Rattle.graph_model.specs.Transaction.{serial, serial_replies}
 use Rattle.gated_log.specs.Log.{records_of}
 use Rattle.image_plan.specs.declared.superblock.Super.{Super}
 use Rattle.log_records.specs.declared.Record.{Record}
 use Rattle.commit_order.specs.Heard.{replies_of_commits}
-use Rattle.heap_model.specs.Core.{Core, IsRun}
+use Rattle.heap_model.specs.Core.{Core, words_refusal, log_refusal, answer, IsRun}
 use Rattle.heap_model.specs.CoreCrash.{IsOnDisk, IsSuperOf, KeepsCommits}
 use Rattle.heap_model.specs.Image.{IsShapedLog, IsLegalLog, Holds}
 use Rattle.heap_model.specs.Opening.{next_behind, opened, IsFound}
@@ -49,6 +55,12 @@ use Rattle.core_laws.specs.Valid.{IsReached, IsSound}
 -- Events of sessions side by side reach a core from a core, whichever of them the disk cuts short.
 abbrev pub StepsTheorem : Type 0
 StepsTheorem = (c d : Core) (events : List Event) → IsReached c → AllByRecursion IsOfSession events → IsRun c events d → IsReached d
+
+-- A core answers what a plain heap of the same opening and history answers, where neither memory's spaces nor the log lack room.
+abbrev pub AnswersTheorem : Type 0
+AnswersTheorem =
+    (c : Core) (event : Event) → words_refusal c event ≡ None → log_refusal c event ≡ None
+    → answer c event ≡ plain_reply c.first c.g0 (account c.history) event
 
 -- Each image that holds what a crash leaves of a core keeps its commits, where births give the names. A core that is reached is sound.
 abbrev pub CrashTheorem : Type 0

@@ -1,5 +1,5 @@
--- Each step of a core refuses conflicts, answers by what the transaction sees, and begins transactions anew: its history is one under strict
--- two-phase locking.
+-- Each step of a core refuses conflicts, answers by what the transaction sees, and begins transactions anew: its history is one of plain
+-- replies under strict two-phase locking.
 use Rattle.std.proofs.Common.{◌≡◌, ◌≢◌, inl, inr, ℕ, ◌+◌, ◌<◌, ◌≤◌, List, [], ◌∷◌, ◌++◌, Option, Some, None, refl, sym, ap, ◌∙◌, subst, arith}
 use Rattle.std.specs.List.{Contains}
 use Rattle.std.specs.Option.{option_to_list}
@@ -22,7 +22,7 @@ use Rattle.graph_model.specs.Plain.{view, event_refusal, busy_with, call_conflic
 use Rattle.graph_model.specs.PlainLaws.{call_reply-IsCallReply, granted-call}
 use Rattle.commit_order.specs.CallLaws.{Contains-option}
 use Rattle.commit_order.specs.OrderLaws.{numbers-append}
-use Rattle.commit_order.specs.PlaceLaws.{EachEntry-append, two_phase_append}
+use Rattle.commit_order.specs.PlaceLaws.{EachEntry-append, plain_append, two_phase_append}
 use Rattle.commit_order.specs.SerialOrder.{EndsWithFailure, RefusesConflicts, AnswersByView, begun_number, numbers_begun}
 use Rattle.heap_model.specs.Core.{Core, next_number, words_refusal, log_refusal, core_refusal, answer, IsCutShort, IsStep}
 use Rattle.heap_model.specs.CoreLawsRun.{calls-unfailed, failed_refusal, same_step, step_history}
@@ -171,8 +171,9 @@ number_below g0 first history e runs next n there =
 -- a history that runs under two-phase locking does so with one entry more
 runs_on : (g0 : Graph) (first : ℕ) (history : List Entry) (e : Entry) → RunsLocked g0 first history → IsNext g0 first history e → RunsLocked g0 first (history ++ e ∷ [])
 runs_on g0 first history e runs next = record {
-  two_phase = two_phase_append g0 history e next.locked next.answered
-      (λ n is. (λ there. absurd (omega (arith, runs.begun_below n there, next.begun n is)), runs.unused n (omega (arith, next.begun n is)))) runs.two_phase;
+  plain = plain_append g0 history e next.answered
+      (λ n is. (λ there. absurd (omega (arith, runs.begun_below n there, next.begun n is)), runs.unused n (omega (arith, next.begun n is)))) runs.plain;
+  two_phase = two_phase_append g0 history e next.locked runs.two_phase;
   fails = EachEntry-append EndsWithFailure history e runs.fails next.failed;
   begun_below = number_below g0 first history e runs next;
   unused = runs.unused;

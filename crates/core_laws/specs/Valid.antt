@@ -10,7 +10,7 @@ use Rattle.graph_model.specs.History.{Account, AreInSessions, account}
 use Rattle.graph_model.specs.Locking.{Exclusive, Lock, locks_of}
 use Rattle.graph_model.specs.Plain.{view, no_number}
 use Rattle.commit_order.specs.OrderLaws.{IsBeside}
-use Rattle.commit_order.specs.SerialOrder.{EachEntry, EndsWithFailure, IsTwoPhase, numbers_begun}
+use Rattle.commit_order.specs.SerialOrder.{EachEntry, EndsWithFailure, IsTwoPhase, HasPlainReplies, numbers_begun}
 use Rattle.log_machine.specs.declared.UndoEntry.{UndoEntry}
 use Rattle.log_machine.specs.Apart.{others_taken_back}
 use Rattle.log_machine.specs.Machine.{State, words, undo_of, reserve}
@@ -97,8 +97,9 @@ abbrev pub IsSound : Core → Type 0
 IsSound c = IsValid c ⊎ HasFailed (account c.history) c
 
 -- A history since an opening with this graph, whose first transaction since then has the number `first`: its transactions ran under strict
--- two-phase locking, each with a number of its own, until the disk failed.
+-- two-phase locking and had plain replies, each with a number of its own, until the disk failed.
 pub record RunsLocked (g0 : Graph) (first : ℕ) (history : List Entry) : Type 0 where
+  pub plain : HasPlainReplies g0 history
   pub two_phase : IsTwoPhase g0 history
   pub fails : EachEntry EndsWithFailure history
   pub begun_below : (n : ℕ) → Contains (numbers_begun history) n → n < first + (account history).begun

@@ -38,7 +38,7 @@ memory_committed c w valid runs is =
     let undo = undo_of valid.behind in
     taken_same w.table undo a (λ s. ap undo_if (is.transactions s) ∙ undo_kept (ground c) valid.behind c.g0 a (a.active s) valid.told.reached) sessions w.words
     ∙ ap (taken_by undo a sessions) is.stored
-    ∙ committed_by_session a c valid (two_phase_ordered c.g0 c.history runs.two_phase)
+    ∙ committed_by_session a c valid (two_phase_ordered c.g0 c.history runs.plain runs.two_phase)
 
 -- the graph of the sealed transactions is seen in it
 pub memory_seen : (c : Core) (w : Working) → IsSound c → IsValid c → RunsLocked c.g0 c.first c.history → IsMemory (memory w) (account c.history) c

@@ -115,7 +115,7 @@ module _ (m : Memory) (c : Core) (valid : IsValid c) (runs : RunsLocked c.g0 c.f
   length-fields_at_hand id (inl there) =
       let place = some_address (address_of c.places id) there in
       ap (λ (ws : List ℕ). length ws) (stored_at id place.0 place.1)
-      ∙ length_now a c valid (two_phase_ordered c.g0 c.history runs.two_phase) s t active id place.0 place.1
+      ∙ length_now a c valid (two_phase_ordered c.g0 c.history runs.plain runs.two_phase) s t active id place.0 place.1
   length-fields_at_hand id (inr own) =
       ap (λ (ws : List ℕ). length ws) (own_fields_at (writing_of a c s t active valid).made m.words id own) ∙ length-map (fields v.graph id) (bits_of (place_of c.places v.graph))
 
@@ -124,5 +124,5 @@ module _ (m : Memory) (c : Core) (valid : IsValid c) (runs : RunsLocked c.g0 c.f
       → fields_at m.words area (place_in c.places v.graph id) ≡ map (bits_of (place_of c.places v.graph)) (fields v.graph id)
   fields_at_hand id (inl there) free =
       let place = some_address (address_of c.places id) there in
-      stored_at id place.0 place.1 ∙ fields_now a c valid (two_phase_ordered c.g0 c.history runs.two_phase) s t active id place.0 place.1 free
+      stored_at id place.0 place.1 ∙ fields_now a c valid (two_phase_ordered c.g0 c.history runs.plain runs.two_phase) s t active id place.0 place.1 free
   fields_at_hand id (inr own) free = own_fields_at (writing_of a c s t active valid).made m.words id own

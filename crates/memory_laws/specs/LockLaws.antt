@@ -23,7 +23,7 @@ use Rattle.graph_model.specs.Transaction.{serial, Transaction}
 use Rattle.commit_order.specs.HoldsLaws.{AddsLock, Releases, HoldAlike, same_holds, adds_lock, begin_holds, abort_holds, seal_holds}
 use Rattle.commit_order.specs.LockingLaws.{locks_of-other}
 use Rattle.commit_order.specs.OrderLaws.{two_phase_ordered}
-use Rattle.commit_order.specs.SerialOrder.{IsTwoPhase}
+use Rattle.commit_order.specs.SerialOrder.{IsTwoPhase, HasPlainReplies}
 use Rattle.log_machine.specs.declared.UndoEntry.{UndoEntry}
 use Rattle.object_locks.specs.declared.holding.Holding.{Holding}
 use Rattle.object_locks.specs.declared.holding.Mode as table
@@ -202,28 +202,28 @@ module _ (g0 : Graph) (history : List Entry) where
       held_as locks places g0 a (next (Begin s) (Begun n)) (subst P (account-append history (record { event = Begin s; reply = Begun n })) (begin_holds g0 history (Begin s) n none))
 
   -- no object that another transaction holds was made by an active one
-  others_made : IsTwoPhase g0 history → (s : ℕ) (t : Transaction) → a.active s ≡ Some t → (m : ℕ) (id : Id) (mode : Mode) → m ≢ t.number → Holds g0 a m id mode → id.t ≢ t.number
-  others_made two_phase s t active m id mode other holds =
-      let o = two_phase_ordered g0 history two_phase in
+  others_made : HasPlainReplies g0 history → IsTwoPhase g0 history → (s : ℕ) (t : Transaction) → a.active s ≡ Some t → (m : ℕ) (id : Id) (mode : Mode) → m ≢ t.number → Holds g0 a m id mode → id.t ≢ t.number
+  others_made plain two_phase s t active m id mode other holds =
+      let o = two_phase_ordered g0 history plain two_phase in
       locks_of-other (serial g0 a.sealed) holds.transaction t.number id mode o.closed (λ same. other (sym holds.number ∙ same)) (o.unused s t active) holds.lock
 
-  held_ended : (locks : Holdings) (places later : Places) (s : ℕ) (t : Transaction) (b : Account) → IsTwoPhase g0 history → a.active s ≡ Some t
+  held_ended : (locks : Holdings) (places later : Places) (s : ℕ) (t : Transaction) (b : Account) → HasPlainReplies g0 history → IsTwoPhase g0 history → a.active s ≡ Some t
       → ((id : Id) → id.t ≢ t.number → address_of later id ≡ address_of places id) → Releases g0 a b t.number → AreHeld locks places g0 a → AreHeld (without locks t.number) later g0 b
-  held_ended locks places later s t b two_phase active same releases =
-      held_released locks places later g0 a b t.number releases (λ m id mode other holds. same id (others_made two_phase s t active m id mode other holds))
+  held_ended locks places later s t b plain two_phase active same releases =
+      held_released locks places later g0 a b t.number releases (λ m id mode other holds. same id (others_made plain two_phase s t active m id mode other holds))
 
   -- a transaction is aborted; only objects that it made may come to have another address
-  pub held_aborted : (locks : Holdings) (places later : Places) (s : ℕ) (t : Transaction) → IsTwoPhase g0 history → a.active s ≡ Some t → ((id : Id) → id.t ≢ t.number → address_of later id ≡ address_of places id)
+  pub held_aborted : (locks : Holdings) (places later : Places) (s : ℕ) (t : Transaction) → HasPlainReplies g0 history → IsTwoPhase g0 history → a.active s ≡ Some t → ((id : Id) → id.t ≢ t.number → address_of later id ≡ address_of places id)
       → AreHeld locks places g0 a → AreHeld (without locks t.number) later g0 (next (Abort s) Aborted)
-  held_aborted locks places later s t two_phase active same =
+  held_aborted locks places later s t plain two_phase active same =
       let P : Account → Type 0 = λ b. Releases g0 a b t.number in
-      held_ended locks places later s t (next (Abort s) Aborted) two_phase active same
-      (subst P (account-append history (record { event = Abort s; reply = Aborted })) (abort_holds g0 history (Abort s) t two_phase active))
+      held_ended locks places later s t (next (Abort s) Aborted) plain two_phase active same
+      (subst P (account-append history (record { event = Abort s; reply = Aborted })) (abort_holds g0 history (Abort s) t plain two_phase active))
 
   -- or sealed
-  pub held_sealed : (locks : Holdings) (places later : Places) (s k : ℕ) (t : Transaction) → IsTwoPhase g0 history → a.active s ≡ Some t → ((id : Id) → id.t ≢ t.number → address_of later id ≡ address_of places id)
+  pub held_sealed : (locks : Holdings) (places later : Places) (s k : ℕ) (t : Transaction) → HasPlainReplies g0 history → IsTwoPhase g0 history → a.active s ≡ Some t → ((id : Id) → id.t ≢ t.number → address_of later id ≡ address_of places id)
       → AreHeld locks places g0 a → AreHeld (without locks t.number) later g0 (next (Seal s) (Sealed k))
-  held_sealed locks places later s k t two_phase active same =
+  held_sealed locks places later s k t plain two_phase active same =
       let P : Account → Type 0 = λ b. Releases g0 a b t.number in
-      held_ended locks places later s t (next (Seal s) (Sealed k)) two_phase active same
-      (subst P (account-append history (record { event = Seal s; reply = Sealed k })) (seal_holds g0 history (Seal s) k t two_phase active))
+      held_ended locks places later s t (next (Seal s) (Sealed k)) plain two_phase active same
+      (subst P (account-append history (record { event = Seal s; reply = Sealed k })) (seal_holds g0 history (Seal s) k t plain two_phase active))

@@ -138,7 +138,7 @@ module _ (m : Memory) (c : Core) (valid : IsValid c) (runs : RunsLocked c.g0 c.f
       let x : TransactionState = kept c.places v t.number undo in
       let lock = lock_in mode id in
       ap (lock_refusal m.locks x mode) (place_in-apart c.places v.graph id (own_apart (writing_of a c s t active valid).made own))
-      ∙ ap busy_with (sym (free_found c.g0 a t.number (Some lock) (made_is_free c.g0 c.history runs.two_phase s t lock active own.maker)))
+      ∙ ap busy_with (sym (free_found c.g0 a t.number (Some lock) (made_is_free c.g0 c.history runs.plain runs.two_phase s t lock active own.maker)))
 
   -- where memory refuses none, no other transaction is in the way
   pub lock_free : (id : Id) (mode : table.Mode) (undo : List UndoEntry) → IsAtHand c.places t.number v.made id

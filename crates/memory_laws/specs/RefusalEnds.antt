@@ -153,7 +153,7 @@ module _ (m : Memory) (c : Core) (valid : IsValid c) (runs : RunsLocked c.g0 c.f
   seal_kept : (t : Transaction) → a.active s ≡ Some t → space_refusal (ground c).state (seal_need (ground c) t.number (view c.g0 a t)) ≡ None
       → reserved_after c (Seal s) ≡ reserved_without m.table (transaction t)
   seal_kept t e space =
-      let o = two_phase_ordered c.g0 c.history runs.two_phase in
+      let o = two_phase_ordered c.g0 c.history runs.plain runs.two_phase in
       let b = account_after a (record { event = Seal s; reply = Sealed (length a.sealed + 1) }) in
       let records = seal.records a c valid o s t e in
       let last = seal.last a c valid o s t e in

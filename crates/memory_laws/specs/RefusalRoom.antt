@@ -94,7 +94,7 @@ module _ (m : Memory) (c : Core) (valid : IsValid c) (runs : RunsLocked c.g0 c.f
   written_told : (id : Id) (at i : ℕ) (x : Val) → IsWritten id at i x
       → IsTold c.pages c.lowest c.born c.places (serial c.g0 a.sealed) (c.before + length a.sealed) (all_records c ++ record_at id at i x ∷ []) (behind id at i)
   written_told id at i x w =
-      let o = two_phase_ordered c.g0 c.history runs.two_phase in
+      let o = two_phase_ordered c.g0 c.history runs.plain runs.two_phase in
       let writing = writing_of a c s t active valid in
       write_told c.pages c.lowest c.born c.places (serial c.g0 a.sealed) v.graph (c.before + length a.sealed) t.number v.made (all_records c) valid.behind id at i x (record {
         told = valid.told;
@@ -111,7 +111,7 @@ module _ (m : Memory) (c : Core) (valid : IsValid c) (runs : RunsLocked c.g0 c.f
   -- the bytes of one write more are kept
   written_more : (id : Id) (at i : ℕ) → reserved (undo_of valid.behind) a + 19 ≡ reserved (undo_of (behind id at i)) a
   written_more id at i =
-      let o = two_phase_ordered c.g0 c.history runs.two_phase in
+      let o = two_phase_ordered c.g0 c.history runs.plain runs.two_phase in
       let entry = entry_at id at i in
       let undo = undo_of valid.behind t.number in
       let more : undo_of (behind id at i) t.number ≡ entry ∷ undo = machine.undo_with valid.behind.undo t.number (entry ∷ undo) in

@@ -112,7 +112,7 @@ module _ (m n : Memory) (c : Core) (valid : IsValid c) (runs : RunsLocked c.g0 c
   -- the others keep their writes
   ended_others : (t : Transaction) → a.active s ≡ Some t → LeavesOthers m n c valid is s (ended t.number)
   ended_others t e r u other also =
-      let beside = (two_phase_ordered c.g0 c.history runs.two_phase).beside s r t u (λ same. other (sym same)) e also in
+      let beside = (two_phase_ordered c.g0 c.history runs.plain runs.two_phase).beside s r t u (λ same. other (sym same)) e also in
       undo_other behind t.number u.number [] 0 beside.differ
 
   -- the writes of the transaction that ends are taken back
@@ -123,12 +123,12 @@ module _ (m n : Memory) (c : Core) (valid : IsValid c) (runs : RunsLocked c.g0 c
       let table = with_ended m.table s in
       let left = subst (λ (y : TransactionState). Leaves m n (abort_records y.number y.undo) table (without m.locks y.number) m.spaces m.sealed) x aborts.left in
       let told = abort_told c.pages c.lowest c.born c.places (serial c.g0 a.sealed) (c.before + length a.sealed) t.number (all_records c) behind valid.told (numbered_as a c s t e valid)
-      (own_apart a c valid (two_phase_ordered c.g0 c.history runs.two_phase) s t e) in
+      (own_apart a c valid (two_phase_ordered c.g0 c.history runs.plain runs.two_phase) s t e) in
       let P : ℕ → Option Transaction → Type 0 = λ r o. transaction_of table r ≡ kept_of (ground_in c c.places (ended t.number)) c.g0 a o in
       let others = others_kept m n c valid is s table (ended t.number) (with_ended_other m.table s) (ended_others t e) in
       subst (λ (rs : List Record). IsMemory n aborted (record c { pending = c.pending ++ rs; places = c.places ++ [] })) (sym (abort_is c s t valid e))
       (appended_here m n c valid is aborted more table (without m.locks t.number) m.sealed (ended t.number) left told.reached refl
-      (each_session P a.active s None (with_ended_same m.table s) others) (held_aborted c.g0 c.history m.locks c.places c.places s t runs.two_phase e (λ id other. refl) is.locks) is.next is.sealed)
+      (each_session P a.active s None (with_ended_same m.table s) others) (held_aborted c.g0 c.history m.locks c.places c.places s t runs.plain runs.two_phase e (λ id other. refl) is.locks) is.next is.sealed)
 
   -- an abort is answered as the core answers it, and the session has no transaction then
   pub abort_does : core_refusal c (Abort s) ≡ end_refusal (own m s) → (result : Result Reply AllocError) → IfOk result (λ reply. reply ≡ reply_of (end_refusal (own m s)) Aborted)

@@ -159,7 +159,7 @@ module _ (m n : Memory) (c : Core) (valid : IsValid c) (runs : RunsLocked c.g0 c
         → IsWriteAt c.pages c.lowest c.born c.places (serial c.g0 a.sealed) v.graph (c.before + length a.sealed) t.number v.made (all_records c) behind id at i x
     write_at at place =
         let writing = writing_of a c s t write.active valid in
-        let order = two_phase_ordered c.g0 c.history runs.two_phase in
+        let order = two_phase_ordered c.g0 c.history runs.plain runs.two_phase in
         record {
           told = valid.told;
           number = numbered_as a c s t write.active valid;
@@ -175,7 +175,7 @@ module _ (m n : Memory) (c : Core) (valid : IsValid c) (runs : RunsLocked c.g0 c
     -- it is no write of another session's transaction
     leaves_others : (at : ℕ) → LeavesOthers m n c valid is s (later at)
     leaves_others at r u other also =
-        let beside = (two_phase_ordered c.g0 c.history runs.two_phase).beside s r t u (λ same. other (sym same)) write.active also in
+        let beside = (two_phase_ordered c.g0 c.history runs.plain runs.two_phase).beside s r t u (λ same. other (sym same)) write.active also in
         undo_other behind t.number u.number (entry at ∷ undo) 0 beside.differ
 
     -- so does one into an object that stands in the space
