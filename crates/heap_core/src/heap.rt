@@ -195,7 +195,7 @@ impl<D: Disk> Heap<D> {
         // At each moment of it a crash leaves first commits, among them all that were acknowledged before.
         ensures moments { IsTrue D.tells → (s : Super) (c : Core) → IsHeap s c self.old → IsReached c → LeavesOnly D.moment D.left_since self.old.disk self.new.disk (KeepsCommits c) }
         ensures passes { IsTrue D.tells → (c : Core) → IsCore c self.old → IsReached c → IfOk result (λ reply. Passes (calls c event) (D.passed self.old.disk) (D.passed self.new.disk) (reply_device reply)) }
-        // An event that makes no call leaves the disk alone: it does not read it either.
+        // An event that makes no write or sync leaves the disk alone, and does not read it either.
         ensures still { (c : Core) → IsCore c self.old → IsReached c → calls c event ≡ 0 → self.new.disk ≡ self.old.disk }
     {
         self.history.reserve()?;
@@ -271,9 +271,10 @@ impl<D: Disk> Heap<D> {
     pub fn history(&self) -> &History
         ensures entries { (c : Core) → IsCore c self.now → entries_of result.now ≡ c.history }
 
-        // However the sessions' events interleave, the replies are those of the run in which the transactions follow one another in the order
-        // of their seals: of each sealed transaction, of each active one so far, and of each commit, also where the disk cut its seal short.
+        // However the sessions' events interleave, each sealed transaction had the replies of the run in which these follow one another in the
+        // order of their seals, and each active one has had so far those that it would have as the next.
         ensures serial { (c : Core) → IsCore c self.now → IsReached c → IsCommitOrdered c.g0 (entries_of result.now) }
+        // So each commit had the replies of that run, also after the disk has failed.
         ensures committed { (c : Core) → IsCore c self.now → IsReached c → replies_of_commits (entries_of result.now) ≡ serial_replies c.g0 (commits (entries_of result.now)) }
     {
         &self.history
