@@ -9,7 +9,7 @@ use Rattle.disk_model.specs.declared.disk.DiskError.{DiskError}
 use Rattle.gate_slot.specs.Passing.{Passes}
 use Rattle.gated_log.specs.declared.Log.{Log}
 use Rattle.gated_log.specs.LogLaws.{hand_size-Keeps}
-use Rattle.gated_log.specs.LogState.{hand_size, is_waiting, Keeps}
+use Rattle.gated_log.specs.LogState.{hand_size, is_waiting, IsHandEmpty, Keeps}
 use Rattle.graph_model.specs.declared.event.Event.{Event}
 use Rattle.graph_model.specs.declared.event.Event.TheVariants.{Begin, Root, New, Put, Clear, Link, Drop, Get, Same, Len, Seal, Abort, Force}
 use Rattle.graph_model.specs.declared.reply.Entry.{Entry}
@@ -119,6 +119,15 @@ pub force_passes : (c : Core) (log : Log) (before now : ℕ) (result : Result (U
     → Passes (if is_waiting log then 4 else 0) before now result → Passes (calls c Force) before now result
 force_passes c log before now result valid keeps passes =
     subst (λ (n : ℕ). Passes n before now result) (hand_calls (hand_size log) c.pending (hand_size-Keeps log c.batches c.pending keeps) ∙ sym (calls-forced c valid)) passes
+
+nothing_pending : (p : List Record) → force_calls p ≡ 0 → p ≡ []
+nothing_pending [] none = refl
+nothing_pending (r ∷ rs) none = absurd (omega (arith, none))
+
+-- and finds an empty hand where it makes none
+pub no_calls_empty : (c : Core) (log : Log) → IsValid c → Keeps log c.batches c.pending → calls c Force ≡ 0 → IsHandEmpty log
+no_calls_empty c log valid keeps none =
+    hand_size-Keeps log c.batches c.pending keeps ∙ ap (λ (p : List Record). 4 + length (spellings p)) (nothing_pending c.pending (sym (calls-forced c valid) ∙ none))
 
 -- what holds anyway holds after an error
 pub on_error : {T E P : Type 0} (result : Result T E) → P → OnErr result P

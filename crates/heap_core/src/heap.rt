@@ -10,8 +10,8 @@ ghost use Rattle.graph_model.specs.Graph.{Graph};
 ghost use Rattle.graph_model.specs.Canon.{canon};
 ghost use Rattle.graph_model.specs.Text.{canon_text};
 ghost use Rattle.graph_model.specs.SlowHeap.{IsOfSession};
-ghost use Rattle.graph_model.specs.History.{account, sealed};
-ghost use Rattle.graph_model.specs.Transaction.{serial};
+ghost use Rattle.graph_model.specs.History.{account, commits, sealed};
+ghost use Rattle.graph_model.specs.Transaction.{serial, serial_replies};
 ghost use Rattle.graph_model.specs.declared.event.Event.TheVariants.{Force};
 ghost use Rattle.graph_model.specs.declared.reply.Refusal.TheVariants.{DiskFault, Stopped};
 ghost use Rattle.image_plan.specs.declared.superblock.Super.{Super};
@@ -25,6 +25,8 @@ ghost use Rattle.heap_core.specs.Causes.{step_device, reply_device, opened_devic
 ghost use Rattle.heap_model.specs.Core.{Core, IsStep, calls};
 ghost use Rattle.heap_model.specs.CoreCrash.{KeepsCommits};
 ghost use Rattle.core_laws.specs.Valid.{IsReached, IsValid, RunsLocked};
+ghost use Rattle.commit_order.specs.Heard.{replies_of_commits};
+ghost use Rattle.commit_order.specs.SerialOrder.{IsCommitOrdered};
 ghost use Rattle.heap_memory.specs.Leaves.{IsAsItWas};
 ghost use Rattle.memory_laws.specs.Follows.{IsMemory, Does};
 ghost use Rattle.working_state.specs.State.{memory};
@@ -193,6 +195,8 @@ impl<D: Disk> Heap<D> {
         // At each moment of it a crash leaves first commits, among them all that were acknowledged before.
         ensures moments { IsTrue D.tells → (s : Super) (c : Core) → IsHeap s c self.old → IsReached c → LeavesOnly D.moment D.left_since self.old.disk self.new.disk (KeepsCommits c) }
         ensures passes { IsTrue D.tells → (c : Core) → IsCore c self.old → IsReached c → IfOk result (λ reply. Passes (calls c event) (D.passed self.old.disk) (D.passed self.new.disk) (reply_device reply)) }
+        // An event that makes no write or sync leaves the disk alone, and does not read it either.
+        ensures still { (c : Core) → IsCore c self.old → IsReached c → calls c event ≡ 0 → self.new.disk ≡ self.old.disk }
     {
         self.history.reserve()?;
         let reply = self.reply_to(event)?;
@@ -211,6 +215,7 @@ impl<D: Disk> Heap<D> {
         ensures untouched { OnErr result (self.new.disk ≡ self.old.disk) }
         ensures moments { IsTrue D.tells → (s : Super) (c : Core) → IsHeap s c self.old → IsReached c → LeavesOnly D.moment D.left_since self.old.disk self.new.disk (KeepsCommits c) }
         ensures passes { IsTrue D.tells → (c : Core) → IsCore c self.old → IsReached c → IfOk result (λ reply. Passes (calls c event) (D.passed self.old.disk) (D.passed self.new.disk) (reply_device reply)) }
+        ensures still { (c : Core) → IsCore c self.old → IsReached c → calls c event ≡ 0 → self.new.disk ≡ self.old.disk }
     {
         match self.failed {
             Some(entry) => Ok(refused(Refusal::Failed { entry })),
@@ -229,6 +234,7 @@ impl<D: Disk> Heap<D> {
         ensures untouched { OnErr result (self.new.disk ≡ self.old.disk) }
         ensures moments { IsTrue D.tells → (s : Super) (c : Core) → IsHeap s c self.old → self.old.failed ≡ None → IsReached c → LeavesOnly D.moment D.left_since self.old.disk self.new.disk (KeepsCommits c) }
         ensures passes { IsTrue D.tells → (c : Core) → IsCore c self.old → IsReached c → self.old.failed ≡ None → IfOk result (λ reply. Passes (calls c event) (D.passed self.old.disk) (D.passed self.new.disk) (reply_device reply)) }
+        ensures still { (c : Core) → IsCore c self.old → IsReached c → self.old.failed ≡ None → calls c event ≡ 0 → self.new.disk ≡ self.old.disk }
     {
         let alloc = self.history.allocator();
         match reply_in_memory(&mut self.working, alloc, event)? {
@@ -247,6 +253,7 @@ impl<D: Disk> Heap<D> {
         ensures untouched { OnErr result (self.new.disk ≡ self.old.disk) }
         ensures moments { IsTrue D.tells → (s : Super) (c : Core) → IsHeap s c self.old → self.old.failed ≡ None → IsReached c → LeavesOnly D.moment D.left_since self.old.disk self.new.disk (KeepsCommits c) }
         ensures passes { IsTrue D.tells → (c : Core) → IsCore c self.old → IsReached c → self.old.failed ≡ None → IfOk result (λ reply. Passes (calls c Force) (D.passed self.old.disk) (D.passed self.new.disk) (reply_device reply)) }
+        ensures still { (c : Core) → IsCore c self.old → IsReached c → self.old.failed ≡ None → calls c Force ≡ 0 → self.new.disk ≡ self.old.disk }
     {
         self.working.log.reserve(0)?;
         match self.working.log.force(&mut self.disk) {
@@ -262,7 +269,13 @@ impl<D: Disk> Heap<D> {
 
     /// The entries since the heap was opened.
     pub fn history(&self) -> &History
-        ensures { (c : Core) → IsCore c self.now → entries_of result.now ≡ c.history }
+        ensures entries { (c : Core) → IsCore c self.now → entries_of result.now ≡ c.history }
+
+        // However the sessions' events interleave, each sealed transaction had the replies of the run in which these follow one another in the
+        // order of their seals, and each active one has had so far those that it would have as the next.
+        ensures serial { (c : Core) → IsCore c self.now → IsReached c → IsCommitOrdered c.g0 (entries_of result.now) }
+        // So each commit had the replies of that run, also after the disk has failed.
+        ensures committed { (c : Core) → IsCore c self.now → IsReached c → replies_of_commits (entries_of result.now) ≡ serial_replies c.g0 (commits (entries_of result.now)) }
     {
         &self.history
     }

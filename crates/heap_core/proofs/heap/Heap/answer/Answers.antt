@@ -1,4 +1,4 @@
-use Rattle.std.proofs.Common.{sym, subst}
+use Rattle.std.proofs.Common.{◌≡◌, sym, subst}
 use Rattle.std.specs.Prelude.{IfOk}
 use Rattle.disk_model.specs.Keeps.{KeepsDisk}
 use Rattle.disk_model.specs.KeepsLaws.{keeps_none}
@@ -81,3 +81,12 @@ returns-in-None-clause-passes g c tells core heap reached none =
       before = heap.before;
       memory = subst (λ w. Remembers core w c.args.self.now.failed) (sym forced.1) heap.memory;
     }) reached none)
+
+pub returns-in-None-clause-still : goal.returns-in-None-clause-still
+returns-in-None-clause-still g c core heap reached none no_calls =
+    let forced = c.in_ok-reply.ensures.forced c.in-None.is in
+    c.force.ensures.still core (record {
+      history = heap.history;
+      before = heap.before;
+      memory = subst (λ w. Remembers core w c.args.self.now.failed) (sym forced.1) heap.memory;
+    }) reached none (subst (λ e. calls core e ≡ 0) forced.0 no_calls)

@@ -6,7 +6,7 @@ use Rattle.graph_model.specs.declared.event.Event.TheVariants.{Force}
 use Rattle.heap_model.specs.Core.{calls}
 use Rattle.heap_model.specs.CoreCrash.{KeepsCommits}
 use Rattle.heap_core.specs.CrashLaws.{heap_keeps}
-use Rattle.heap_core.proofs.MeansLeft.{stays, force_passes, on_error}
+use Rattle.heap_core.proofs.MeansLeft.{stays, force_passes, no_calls_empty, on_error}
 use Rattle.heap_core.proofs.MeansForce.{unfailed_valid, kept_as, keeps, holds, force_keeps, ok_steps, ok_on, err_steps, err_on}
 use Rattle.heap_core.proofs.heap.Heap.force.Goals as goal
 
@@ -99,3 +99,13 @@ returns-in-Err-clause-passes g c tells core heap reached none =
     let passed = g.D.Disk.passed in
     let P : Result (Unit {0}) DiskError → Type 0 = λ r. Passes (calls core Force) (passed c.args.self.now.disk) (passed c.force.new.disk) r in
     subst P (sym c.cut_short.ensures.device) (force_passes core c.reserve.new.self _ _ _ (unfailed_valid core _ heap.memory.failure none reached) kept (c.in-Err.ensures.passes tells))
+
+pub returns-in-Ok-clause-still : goal.returns-in-Ok-clause-still
+returns-in-Ok-clause-still g c core heap reached none no_calls =
+    let kept = keeps core c.args.self.now.working c.reserve.new.self (heap.memory.works none) c.reserve.ensures.same in
+    (c.force.ensures.idle (no_calls_empty core c.reserve.new.self (unfailed_valid core _ heap.memory.failure none reached) kept no_calls)).1
+
+pub returns-in-Err-clause-still : goal.returns-in-Err-clause-still
+returns-in-Err-clause-still g c core heap reached none no_calls =
+    let kept = keeps core c.args.self.now.working c.reserve.new.self (heap.memory.works none) c.reserve.ensures.same in
+    (c.force.ensures.idle (no_calls_empty core c.reserve.new.self (unfailed_valid core _ heap.memory.failure none reached) kept no_calls)).1

@@ -38,3 +38,6 @@ returns-in-None-clause-moments g c tells s core heap reached = c.answer.ensures.
 
 pub returns-in-None-clause-passes : goal.returns-in-None-clause-passes
 returns-in-None-clause-passes g c tells core heap reached = c.answer.ensures.passes tells core heap reached c.in-None.is
+
+pub returns-in-None-clause-still : goal.returns-in-None-clause-still
+returns-in-None-clause-still g c core heap reached no_calls = c.answer.ensures.still core heap reached c.in-None.is no_calls

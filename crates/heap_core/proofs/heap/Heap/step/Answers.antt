@@ -57,3 +57,11 @@ returns-clause-moments g c tells s core heap reached =
 pub returns-clause-passes : goal.returns-clause-passes
 returns-clause-passes g c tells core heap reached =
     c.in_ok-reply.ensures.passes tells core (record { history = c.reserve.ensures.same ∙ heap.history; before = heap.before; memory = heap.memory }) reached
+
+pub returns-in_err-reply-clause-still : goal.returns-in_err-reply-clause-still
+returns-in_err-reply-clause-still g c core heap reached no_calls =
+    c.reply_to.ensures.still core (record { history = c.reserve.ensures.same ∙ heap.history; before = heap.before; memory = heap.memory }) reached no_calls
+
+pub returns-clause-still : goal.returns-clause-still
+returns-clause-still g c core heap reached no_calls =
+    c.reply_to.ensures.still core (record { history = c.reserve.ensures.same ∙ heap.history; before = heap.before; memory = heap.memory }) reached no_calls
