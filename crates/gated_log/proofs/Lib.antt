@@ -1,3 +1,4 @@
 mod LogBytes
 mod LogForce
+mod LogPieces
 mod LogReading

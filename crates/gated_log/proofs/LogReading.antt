@@ -200,28 +200,6 @@ walked_all area records tail walked inside is_closed = (
   walked.far,
 )
 
--- an open gate with no whole batch behind it breaks the walk off
-pub breaks_off : (area : List ℕ) (records : List Record) (tail : ℕ) → IsWalked area records tail → AllByRecursion IsRecord records → get_or area tail 0 ≡ 1 → (rest : List ℕ) → rest ≡ drop tail area → ¬ HasBatch rest → BreaksAt area tail
-breaks_off area records tail walked good is_open rest is none = record {
-  batches = walked.batches;
-  rest = drop tail area;
-  bytes = walked.bytes;
-  good = subst (λ (l : List Record). AllByRecursion IsRecord l) walked.read good;
-  at = walked.far;
-  is_open = at_tail tail area ∙ is_open;
-  none = subst (λ (l : List ℕ). ¬ HasBatch l) is none;
-}
-
--- the bytes that a read puts into a vector of the log's size
-pub area_read : (at room n len : ℕ) (image now old new : List ℕ) → now ≡ take len (new ++ drop (length new) old) → new ≡ part image at n → length new ≡ n → len ≡ room → n ≡ room → now ≡ part image at room
-area_read at room n len image now old new is read size whole all =
-    is ∙ take_at new (drop (length new) old) len (omega arith) ∙ read ∙ ap (λ (k : ℕ). part image at k) all
-
--- what an Ok call ensures
-pub on_ok : {T E : Type 0} (result : Result T E) (P : Type 0) → is_ok result ≡ true → OnOk result P → P
-on_ok (Ok x) P ok ensures = ensures
-on_ok (Err e) P ok ensures = absurd (cc ok)
-
 -- a log whose reading is done
 pub keeps_read : (log : Log) (batches : List (List Record)) → log.tail ≡ length (batches_bytes batches) → vec_len log.hand ≡ 4 → log.forced ≡ length (records_of batches) → log.waiting ≡ 0 → Keeps log batches []
 keeps_read log batches tail four forced waiting = record {

@@ -1,8 +1,8 @@
 //! A log in a part of a disk: batches of records, each behind its gate, and the records in hand that are not forced yet.
 #![tactic(auto)]
 
-ghost use Rattle.std.specs.Prelude.{◌≡◌, ◌≢◌, ◌⊎◌, ℕ, ◌+◌, ◌-◌, ◌^◌, ◌<◌, ◌≤◌, ◌++◌, List, [], ◌∷◌, length, drop, slice_index, nat_lt, vec_len, vec_capacity, IsTrue, is_ok, IsOk, IsErr, OnOk, OnErr, IfOk, IfSome, IsSomeAnd, Some, None, Ok, Err, if◌then◌else◌};
-ghost use Rattle.std.specs.Int.{w32, to_le_bytes};
+ghost use Rattle.std.specs.Prelude.{◌≡◌, ◌≢◌, ◌⊎◌, ℕ, ◌+◌, ◌-◌, ◌^◌, ◌<◌, ◌≤◌, ◌++◌, List, [], ◌∷◌, length, take, drop, slice_index, nat_lt, vec_len, vec_capacity, IsTrue, is_ok, IsOk, IsErr, OnOk, OnErr, IfOk, IfSome, IsSomeAnd, Some, None, Ok, Err, if◌then◌else◌};
+ghost use Rattle.std.specs.Int.{w32, from_le_bytes, to_le_bytes};
 ghost use Rattle.std.specs.List.{AllByRecursion};
 ghost use Rattle.disk_model.specs.Disk.{part, Only, SameOutside};
 ghost use Rattle.disk_model.specs.Keeps.{KeepsDisk, OnlyReads};
@@ -13,6 +13,7 @@ ghost use Rattle.log_records.specs.Record.{spelling, spellings, IsRecord};
 ghost use Rattle.gated_log.specs.Log.{records_of, batch, batches_bytes, with_batch, HoldsBatches, HasBatch, BreaksAt, IsBatchRead};
 ghost use Rattle.gated_log.specs.declared.LogError.TheVariants.{NoMemory, BadBatch};
 ghost use Rattle.gated_log.specs.LogCause.{log_device_result};
+ghost use Rattle.gated_log.specs.LogPieces.{Settles};
 ghost use Rattle.gated_log.specs.LogRoom.{used_bytes};
 
 use disk_model::{Disk, DiskError};
@@ -22,6 +23,9 @@ use std::alloc::{AllocError, AllocFailed, Global};
 
 /// The bytes of a batch beside its records: its gate and its length.
 const BATCH_HEAD: usize = 5;
+
+/// How many bytes of a log are read at once, where the next batch needs no more.
+const PIECE: usize = 65_536;
 
 /// Where the length of a batch will stand.
 const NO_LENGTH: [u8; 4] = [0; 4];
@@ -106,8 +110,7 @@ impl Log {
         ensures disk { OnlyReads D.Disk disk.old disk.new (log_device_result result) }
     {
         let hand = Vec::from_array(alloc, NO_LENGTH)?;
-        let area = read_area(alloc, disk, at, room)?;
-        let (records, tail) = read_batches(alloc, &area)?;
+        let (records, tail) = read_batches(alloc, disk, at, room)?;
         let log = Log {
             at,
             room,
@@ -263,19 +266,6 @@ impl Log {
     }
 }
 
-/// The `room` bytes of the disk from byte `at` on.
-fn read_area<D: Disk>(alloc: Global, disk: &mut D, at: u64, room: u32) -> Result<Vec<u8>, LogError>
-    requires { at + room ≤ D.extent disk.old }
-    ensures area { IsTrue D.tells → IfOk result (λ area. area.items ≡ part (D.bytes disk.old) at room) }
-    ensures len { IfOk result (λ area. vec_len area ≡ room) }
-    ensures no_batch { (offset : ℕ) → result ≢ Err (BadBatch offset) }
-    ensures disk { OnlyReads D.Disk disk.old disk.new (log_device_result result) }
-{
-    let mut area = vec![in alloc; 0u8; room as usize]?;
-    disk.read(at, &mut area).map_err(LogError::Disk)?;
-    Ok(area)
-}
-
 /// The spellings of the records, one after another.
 fn spell(alloc: Global, records: &[Record]) -> Result<Vec<u8>, AllocError>
     ensures { IfOk result (λ bytes. bytes.items ≡ spellings records.now) }
@@ -308,26 +298,133 @@ fn put_length(hand: &mut [u8], size: u32)
     hand[..4].copy_from_slice(&size.to_le_bytes());
 }
 
-/// The records of the batches in a log, and the offset of the closed gate behind them.
-fn read_batches(alloc: Global, area: &[u8]) -> Result<(Vec<Record>, u32), LogError>
-    requires some { 0 < length area.now }
-    requires small { length area.now < 2 ^ 32 }
-    ensures inside { IfOk result (λ found. found.1 < length area.now) }
+/// The records of the batches in the log of `room` bytes from byte `at` on, and the offset of the closed gate behind them. It
+/// reads on where the next batch needs it, and no byte twice.
+fn read_batches<D: Disk>(
+    alloc: Global,
+    disk: &mut D,
+    at: u64,
+    room: u32,
+) -> Result<(Vec<Record>, u32), LogError>
+    requires inside { at + room ≤ D.extent disk.old }
+    requires small { at + room < 2 ^ 64 }
+    requires some { 0 < room }
+    ensures inside { IfOk result (λ found. found.1 < room) }
     ensures good { IfOk result (λ found. AllByRecursion IsRecord found.0.items) }
     ensures few { IfOk result (λ found. vec_len found.0 ≤ found.1) }
-    ensures no_disk { log_device_result result ≡ Ok tt }
-    ensures found { IfOk result (λ found. (batches : List (List Record)) × HoldsBatches area.now batches × (found.0.items ≡ records_of batches) × (found.1 ≡ length (batches_bytes batches))) }
-    ensures bad { (offset : ℕ) → result ≡ Err (BadBatch offset) → BreaksAt area.now offset }
+    ensures found { IfOk result (λ found. (batches : List (List Record)) × (found.0.items ≡ records_of batches) × (found.1 ≡ length (batches_bytes batches)) × (IsTrue D.tells → HoldsBatches (part (D.bytes disk.old) at room) batches)) }
+    ensures bad { IsTrue D.tells → (offset : ℕ) → result ≡ Err (BadBatch offset) → BreaksAt (part (D.bytes disk.old) at room) offset }
+    ensures disk { OnlyReads D.Disk disk.old disk.new (log_device_result result) }
 {
+    let mut front = Vec::new(alloc);
     let mut records = Vec::new(alloc);
     let mut tail = 0usize;
-    while area[tail] == OPEN {
-        let Some(size) = read_batch(alloc, &area[tail..], &mut records)? else {
+    read_on(disk, at, room, &mut front, 1)?;
+    while front[tail] == OPEN {
+        read_on_to_batch(disk, at, room, &mut front, tail)?;
+        let Some(size) = read_batch(alloc, &front[tail..], &mut records)? else {
             return Err(LogError::BadBatch { at: tail as u64 });
         };
         tail += size;
     }
     Ok((records, tail as u32))
+}
+
+/// Reads on behind the first bytes of the log, until they have the batch at `tail` with the next gate behind it, or until they
+/// show that the log has no whole batch there.
+fn read_on_to_batch<D: Disk>(
+    disk: &mut D,
+    at: u64,
+    room: u32,
+    front: &mut Vec<u8>,
+    tail: usize,
+) -> Result<(), LogError>
+    requires inside { at + room ≤ D.extent disk.old }
+    requires small { at + room < 2 ^ 64 }
+    requires within { vec_len front.old ≤ room }
+    requires behind { tail < vec_len front.old }
+    ensures more { OnOk result ((piece : List ℕ) × (front.new.items ≡ front.old.items ++ piece)) }
+    ensures within { OnOk result (vec_len front.new ≤ room) }
+    ensures settles { OnOk result (Settles (drop tail front.new.items) (room - tail)) }
+    ensures read { IsTrue D.tells → front.old.items ≡ part (D.bytes disk.old) at (vec_len front.old) → OnOk result (front.new.items ≡ part (D.bytes disk.old) at (vec_len front.new)) }
+    ensures no_batch { (offset : ℕ) → result ≢ Err (BadBatch offset) }
+    ensures disk { OnlyReads D.Disk disk.old disk.new (log_device_result result) }
+{
+    let end = room as usize;
+    read_on(disk, at, room, front, end.min(tail + BATCH_HEAD))?;
+    let need = batch_need(&front[tail..]);
+    if need > end - tail {
+        return Ok(());
+    }
+    read_on(disk, at, room, front, tail + need)
+}
+
+/// Reads on behind the first bytes of the log, unless there are `wanted` of them: a piece, or more where more are wanted.
+fn read_on<D: Disk>(
+    disk: &mut D,
+    at: u64,
+    room: u32,
+    front: &mut Vec<u8>,
+    wanted: usize,
+) -> Result<(), LogError>
+    requires inside { at + room ≤ D.extent disk.old }
+    requires small { at + room < 2 ^ 64 }
+    requires within { vec_len front.old ≤ room }
+    requires wanted { wanted ≤ room }
+    ensures more { OnOk result ((piece : List ℕ) × (front.new.items ≡ front.old.items ++ piece)) }
+    ensures within { OnOk result (vec_len front.new ≤ room) }
+    ensures enough { OnOk result (wanted ≤ vec_len front.new) }
+    ensures read { IsTrue D.tells → front.old.items ≡ part (D.bytes disk.old) at (vec_len front.old) → OnOk result (front.new.items ≡ part (D.bytes disk.old) at (vec_len front.new)) }
+    ensures no_batch { (offset : ℕ) → result ≢ Err (BadBatch offset) }
+    ensures disk { OnlyReads D.Disk disk.old disk.new (log_device_result result) }
+{
+    let from = front.len();
+    if wanted <= from {
+        return Ok(());
+    }
+    let size = PIECE.max(wanted - from).min(room as usize - from);
+    let piece = read_piece(*front.allocator(), disk, at + from as u64, size)?;
+    front.extend_from_slice(&piece)?;
+    Ok(())
+}
+
+/// The `size` bytes of the disk from byte `at` on.
+fn read_piece<D: Disk>(
+    alloc: Global,
+    disk: &mut D,
+    at: u64,
+    size: usize,
+) -> Result<Vec<u8>, LogError>
+    requires { at + size ≤ D.extent disk.old }
+    ensures piece { IsTrue D.tells → IfOk result (λ piece. piece.items ≡ part (D.bytes disk.old) at size) }
+    ensures len { IfOk result (λ piece. vec_len piece ≡ size) }
+    ensures no_batch { (offset : ℕ) → result ≢ Err (BadBatch offset) }
+    ensures disk { OnlyReads D.Disk disk.old disk.new (log_device_result result) }
+{
+    let mut piece = vec![in alloc; 0u8; size]?;
+    disk.read(at, &mut piece).map_err(LogError::Disk)?;
+    Ok(piece)
+}
+
+/// How many bytes the batch whose gate comes first takes with the next gate behind it, or how many it takes at least where these
+/// bytes end before its length does.
+fn batch_need(bytes: &[u8]) -> usize
+    ensures least { 6 ≤ result }
+    ensures most { result < 2 ^ 32 + 6 }
+    ensures need { (n : ℕ) → n < 2 ^ 32 → 5 ≤ length bytes.now → take 5 bytes.now ≡ 1 ∷ to_le_bytes w32 n → result ≡ 6 + n }
+{
+    match bytes.first_chunk::<BATCH_HEAD>() {
+        Some(head) => BATCH_HEAD + 1 + batch_length(head),
+        None => BATCH_HEAD + 1,
+    }
+}
+
+/// The length that a batch tells behind its gate.
+fn batch_length(head: &[u8; 5]) -> usize
+    ensures fits { result < 2 ^ 32 }
+    ensures value { result ≡ from_le_bytes w32 (slice_index head.now 1 ∷ slice_index head.now 2 ∷ slice_index head.now 3 ∷ slice_index head.now 4 ∷ []) }
+{
+    u32::from_le_bytes([head[1], head[2], head[3], head[4]]) as usize
 }
 
 /// Adds the records of the batch whose gate comes first, and says how many bytes it takes, if it lies in these bytes with
@@ -361,7 +458,7 @@ fn batch_body(bytes: &[u8]) -> Option<&[u8]>
     ensures whole { (records : List Record) (behind : List ℕ) → length bytes.now < 2 ^ 32 → 0 < length behind → bytes.now ≡ batch records ++ behind → IsSomeAnd result (λ body. body.now ≡ spellings records) }
 {
     let (head, rest) = bytes.split_first_chunk::<BATCH_HEAD>()?;
-    let length = u32::from_le_bytes([head[1], head[2], head[3], head[4]]) as usize;
+    let length = batch_length(head);
     if length < rest.len() {
         Some(&rest[..length])
     } else {

@@ -109,3 +109,61 @@ fn a_bad_batch_is_told_where_it_begins(rt: HostRuntime) -> Result<(), Fail> {
     }
     Ok(())
 }
+
+/// The bytes of a big log, of which few are used.
+const BIG: usize = 8_388_608;
+
+/// A disk with a log of `BIG` bytes from byte 4 on, which holds the first bytes of `FORCED` with the byte at `place` changed to
+/// `byte`. Its reads from the second one on fail.
+fn big_disk(rt: &HostRuntime, place: usize, byte: u8) -> Result<MemoryDisk, Fail> {
+    let alloc = rt.alloc();
+    let mut bytes = Vec::from_array(alloc, FORCED)?;
+    bytes[place] = byte;
+    bytes.resize(4 + BIG, 0)?;
+    let later = Vec::from_array(alloc, [2, 3, 4])?;
+    let disk = MemoryDisk::of(alloc, bytes, Pick::Newest, 0, Vec::new(alloc), later)?;
+    Ok(disk)
+}
+
+#[test]
+fn a_big_log_is_read_no_further_than_it_is_used(rt: HostRuntime) -> Result<(), Fail> {
+    let alloc = rt.alloc();
+    let mut disk = big_disk(&rt, 0, 0)?;
+    let (log, found) = Log::open(alloc, &mut disk, 4, BIG as u32)?;
+    assert_eq!(rt; found.as_slice(), RECORDS.as_slice());
+    assert_eq!(rt; (log.used(), log.room()), (38, BIG as u64));
+    Ok(())
+}
+
+#[test]
+fn a_length_past_the_end_of_a_big_log_is_bad_at_once(rt: HostRuntime) -> Result<(), Fail> {
+    let alloc = rt.alloc();
+    // The length is 0x0100_0020 then, which is above that of the log.
+    let mut disk = big_disk(&rt, 8, 1)?;
+    let found = Log::open(alloc, &mut disk, 4, BIG as u32).map(|(_, records)| records.len());
+    assert_eq!(rt; found, Err(LogError::BadBatch { at: 0 }));
+    Ok(())
+}
+
+#[test]
+fn a_batch_longer_than_a_piece_is_read_whole(rt: HostRuntime) -> Result<(), Fail> {
+    let alloc = rt.alloc();
+    let bytes = vec![in alloc; 0u8; 4 + BIG]?;
+    let later = Vec::from_array(alloc, [6, 7, 8])?;
+    let mut disk = MemoryDisk::of(alloc, bytes, Pick::Newest, BIG, Vec::new(alloc), later)?;
+    let (mut log, _) = Log::open(alloc, &mut disk, 4, BIG as u32)?;
+    let mut commits = Vec::new(alloc);
+    for t in 0..200_000 {
+        commits.push(Record::Commit { t })?;
+    }
+    for _ in 0..2 {
+        log.append_all(&commits)?;
+        log.reserve(0)?;
+        log.force(&mut disk)?;
+    }
+    // Reads 2 to 5: a piece, the rest of the first batch, a piece, and the rest of the second one.
+    let (again, found) = Log::open(alloc, &mut disk, 4, BIG as u32)?;
+    assert_eq!(rt; found.len(), 400_000);
+    assert_eq!(rt; again.used(), log.used());
+    Ok(())
+}

@@ -1,37 +1,34 @@
-use Rattle.std.proofs.Common.{◌≡◌, ◌^◌, ◌<◌, List, ℕ, Err, length, refl, ◌∙◌, ap, subst, arith, rules}
+use Rattle.std.proofs.Common.{◌≡◌, ◌^◌, ◌<◌, List, ℕ, Err, length, drop, refl, ◌∙◌, ap, subst, arith, rules, length-take}
 use Rattle.disk_model.specs.Disk.{part}
 use Rattle.std.specs.List.{AllByRecursion}
 use Rattle.log_records.specs.declared.Record.{Record}
 use Rattle.log_records.specs.Record.{IsRecord}
 use Rattle.gated_log.specs.declared.LogError.TheVariants.{BadBatch}
-use Rattle.gated_log.specs.Log.{batches_bytes, records_of, HoldsBatches, BreaksAt}
+use Rattle.gated_log.specs.Log.{batches_bytes, records_of}
 use Rattle.gated_log.specs.LogLaws.{holds_once, holds_or_breaks}
 use Rattle.gated_log.proofs.LogReading.{keeps_read}
 use Rattle.gated_log.proofs.Log.open.Goals as goal
 
 pub returns-in_err-records-clause-whole : goal.returns-in_err-records-clause-whole
 returns-in_err-records-clause-whole g c told batches holds good offset is =
-    let area = c.deref.ensures.value ∙ c.in_ok-area.ensures.area told in
     let log = part (g.D.Disk.bytes c.args.disk.now) c.args.at c.args.room in
-    let short : length log < 2 ^ 32 = omega (arith, ap (λ (l : List ℕ). length l) area, c.deref.ensures.len, c.in_ok-area.ensures.len, c.ranges.room.fits) in
+    let short : length log < 2 ^ 32 = omega (arith, length-take c.args.room (drop c.args.at (g.D.Disk.bytes c.args.disk.now)), c.ranges.room.fits) in
     let err : c.from_residual-in_err-records.result ≡ Err c.in_err-records.field-0.0 = search rules in
     let same : c.in_err-records.field-0.0 ≡ BadBatch offset = cc (err, is) in
-    holds_or_breaks log short batches offset good holds (subst (λ (l : List ℕ). BreaksAt l offset) area (c.read_batches.ensures.bad offset (c.in_err-records.was ∙ ap Err same)))
+    holds_or_breaks log short batches offset good holds (c.read_batches.ensures.bad told offset (c.in_err-records.was ∙ ap Err same))
 
 pub returns-clause-held : goal.returns-clause-held
 returns-clause-held g c told batches holds good =
-    let area = c.deref.ensures.value ∙ c.in_ok-area.ensures.area told in
     let log = part (g.D.Disk.bytes c.args.disk.now) c.args.at c.args.room in
-    let short : length log < 2 ^ 32 = omega (arith, ap (λ (l : List ℕ). length l) area, c.deref.ensures.len, c.in_ok-area.ensures.len, c.ranges.room.fits) in
+    let short : length log < 2 ^ 32 = omega (arith, length-take c.args.room (drop c.args.at (g.D.Disk.bytes c.args.disk.now)), c.ranges.room.fits) in
     let found = c.in_ok-records.ensures.found in
-    let one = holds_once log short found.0 batches (subst (λ (l : List Record). AllByRecursion IsRecord l) found.2 c.in_ok-records.ensures.good) good (subst (λ (l : List ℕ). HoldsBatches l found.0) area found.1) holds in
+    let one = holds_once log short found.0 batches (subst (λ (l : List Record). AllByRecursion IsRecord l) found.1 c.in_ok-records.ensures.good) good (found.3 told) holds in
     let none : ◌≡◌ {A = ℕ} 0 0 = refl in
-    (keeps_read _ batches (found.3 ∙ ap (λ (l : List (List Record)). length (batches_bytes l)) one) c.in_ok-hand.ensures.len (c.len.ensures ∙ c.in_ok-records.records.ok.0 ∙ ap length (found.2 ∙ ap records_of one)) none, found.2 ∙ ap records_of one)
+    (keeps_read _ batches (found.2 ∙ ap (λ (l : List (List Record)). length (batches_bytes l)) one) c.in_ok-hand.ensures.len (c.len.ensures ∙ c.in_ok-records.records.ok.0 ∙ ap length (found.1 ∙ ap records_of one)) none, found.1 ∙ ap records_of one)
 
 pub returns-clause-broken : goal.returns-clause-broken
 returns-clause-broken g c told offset breaks =
-    let area = c.deref.ensures.value ∙ c.in_ok-area.ensures.area told in
     let log = part (g.D.Disk.bytes c.args.disk.now) c.args.at c.args.room in
-    let short : length log < 2 ^ 32 = omega (arith, ap (λ (l : List ℕ). length l) area, c.deref.ensures.len, c.in_ok-area.ensures.len, c.ranges.room.fits) in
+    let short : length log < 2 ^ 32 = omega (arith, length-take c.args.room (drop c.args.at (g.D.Disk.bytes c.args.disk.now)), c.ranges.room.fits) in
     let found = c.in_ok-records.ensures.found in
-    absurd (holds_or_breaks log short found.0 offset (subst (λ (l : List Record). AllByRecursion IsRecord l) found.2 c.in_ok-records.ensures.good) (subst (λ (l : List ℕ). HoldsBatches l found.0) area found.1) breaks)
+    absurd (holds_or_breaks log short found.0 offset (subst (λ (l : List Record). AllByRecursion IsRecord l) found.1 c.in_ok-records.ensures.good) (found.3 told) breaks)
