@@ -16,11 +16,11 @@ ghost use Rattle.graph_model.specs.declared.event.Event.TheVariants.{Force};
 ghost use Rattle.graph_model.specs.declared.reply.Refusal.TheVariants.{DiskFault, Stopped};
 ghost use Rattle.image_plan.specs.declared.superblock.Super.{Super};
 ghost use Rattle.log_records.specs.declared.Record.{Record};
-ghost use Rattle.heap_model.specs.Image.{IsShapedLog, IsShaped, IsLegal};
+ghost use Rattle.heap_model.specs.Image.{IsShapedLog, Holds, IsShaped, IsLegal};
 ghost use Rattle.graph_model.specs.declared.id.Id.{Id};
 ghost use Rattle.graph_words.specs.Places.{Places};
 ghost use Rattle.object_layout.specs.Layout.{IsSeenAs};
-ghost use Rattle.heap_model.specs.Opening.{opened, rollback_of, opening_calls, IsFound, IsLeftByOpening};
+ghost use Rattle.heap_model.specs.Opening.{opened, rolled_back, rollback_of, opening_calls, IsFound, IsLeftByOpening};
 ghost use Rattle.heap_core.specs.Causes.{step_device, reply_device, opened_device, IsFromOutside, OpenedPasses};
 ghost use Rattle.heap_model.specs.Core.{Core, IsStep, calls};
 ghost use Rattle.heap_model.specs.CoreCrash.{KeepsCommits};
@@ -148,6 +148,9 @@ impl<D: Disk> Heap<D> {
         ensures crash { IsTrue D.tells → Only (D.bytes disk) (D.may_leave disk) → (s : Super) (batches : List (List Record)) → IsShaped s batches (D.bytes disk) → (image : List ℕ) → D.may_leave (opened_disk result) image → IsLeftByOpening s batches image }
         // It writes only where it has to take transactions' writes back.
         ensures passes { IsTrue D.tells → (s : Super) (batches : List (List Record)) → IsShaped s batches (D.bytes disk) → OpenedPasses (opening_calls s batches) (D.passed disk) (D.passed (opened_disk result)) result }
+        // The disk then holds the log rolled back, and a crash leaves nothing else.
+        ensures rolled { IsTrue D.tells → (s : Super) (batches : List (List Record)) → IsShaped s batches (D.bytes disk) → IfOk result (λ heap. Holds s (rolled_back s batches) (D.bytes (heap_disk heap))) }
+        ensures durable { IsTrue D.tells → Only (D.bytes disk) (D.may_leave disk) → IfOk result (λ heap. Only (D.bytes (heap_disk heap)) (D.may_leave (heap_disk heap))) }
         ensures no_first_stop { IsTrue D.tells → (s : Super) (batches : List (List Record)) → IsShaped s batches (D.bytes disk) → rollback_of s batches ≡ [] → D.stops disk ≡ 0 → D.stops (opened_disk result) ≡ 0 }
     {
         // The table takes its memory before the disk is written.

@@ -31,12 +31,13 @@ pub graph_unread : {D : Type 0} (g : Ghosts D) (disk : D) (e : CommandError) (wo
     → (told : Bool) (before : List ℕ) → PrintsGraph g s batches graph disk disk by told before before
 graph_unread g disk asking.Usage words is usage by by_is now only s batches graph held told before = let none : words ≡ None = usage refl in cc
 graph_unread g disk asking.NoMemory words is usage by by_is now only s batches graph held told before =
-    let still : (image : List ℕ) → g.may_leave disk image → IsLeftByOpening s batches image = λ image may. inl (subst (Holds s batches) (sym (only.only image may)) held) in
+    let still : (image : List ℕ) → g.may_leave disk image → IsLeftByOpening s batches image = λ image may. inl (subst (Holds s batches) (sym (only image may)) held) in
     record {
       moments = begins g.moment g.left_since disk (IsLeftByOpening s batches) (λ image since. still image (now image since));
       left = still;
       calls = record { times = 0; most = omega arith; all = λ done. cc; told = refl };
       restarts = refl;
+      holds = λ done. cc;
       written = λ t. record { front = none_written before (graph_text graph); whole = λ done. cc };
       end = rw by_is tt;
     }

@@ -14,6 +14,7 @@ mod PlayOpen
 mod PlayPrints
 mod PrintRecovered
 mod RefusalLaws
+mod Reopened
 mod RunLaws
 mod Statuses
 mod Written

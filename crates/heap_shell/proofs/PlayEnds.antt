@@ -5,6 +5,7 @@ use Rattle.std.proofs.lemmas.List.{append-nil, take_all}
 use Rattle.counts.specs.Count.{Rose, counted}
 use Rattle.disk_model.specs.declared.disk.Disk.{Ghosts}
 use Rattle.disk_model.specs.declared.disk.DiskError.TheVariants as device
+use Rattle.disk_model.specs.Disk.{Only}
 use Rattle.disk_model.specs.Moments.{LeavesOnly, begins}
 use Rattle.graph_model.specs.declared.event.Event.{Event}
 use Rattle.graph_model.specs.declared.reply.Entry.{Entry}
@@ -12,7 +13,7 @@ use Rattle.graph_model.specs.declared.reply.Refusal.TheVariants.{DiskFault, Stop
 use Rattle.graph_model.specs.declared.reply.Reply.{Reply}
 use Rattle.graph_model.specs.declared.reply.Reply.TheVariants.{Refused}
 use Rattle.graph_model.specs.Transaction.{Transaction, serial, serial_replies}
-use Rattle.graph_model.specs.History.{sealed, commits, acknowledged}
+use Rattle.graph_model.specs.History.{account, sealed, commits, acknowledged}
 use Rattle.image_plan.specs.declared.superblock.Super.{Super}
 use Rattle.heap_core.specs.declared.heap.Heap.{Heap}
 use Rattle.heap_shell.specs.declared.output.WriteError.{WriteError}
@@ -45,6 +46,7 @@ use Rattle.heap_shell.proofs.PlayEvent.{heap_leaves}
 use Rattle.heap_shell.proofs.Lines as lines
 use Rattle.heap_shell.proofs.PlayFuse.{rose_some, own_steps}
 use Rattle.heap_shell.proofs.PlayLaws.{ends_makes}
+use Rattle.heap_shell.proofs.Reopened.{recovered_only}
 use Rattle.heap_shell.proofs.Statuses.{written_end, wrote_all}
 use Rattle.heap_shell.proofs.Written.{whole_front, wrote_some}
 
@@ -161,14 +163,15 @@ module _ {D : Type 0} {g : Ghosts D} (s : Super) (c : Core) (running : IsRunning
         behind = follows;
         written = λ t. lines.some_writes core.history before after by (end_text (stop_after stop) all (serial core.g0 (take all (commits core.history)))) after not_done (part t).0 (part t).1 (whole t);
       };
+      durable = λ is. absurd (not_done is);
       end = is_end;
     }
 
   -- The graph of all commits was to be written.
   pub ends_whole : {B : Type 0} (h : Ghosts B) (start final : B) (at_opening : ℕ) (keeps : KeepsThroughout h None at_opening c made core start final) (output : Result (Unit {0}) WriteError) (after' : List ℕ) → plays.behind ≡ [] → IsWhole c made core
       → (IsTrue told → after ≡ before ++ lines_text core.history) → (IsTrue told → WroteText output after (graph_text (serial core.g0 (sealed core.history))) after') → final ≡ keeps.stopped
-      → h.passed keeps.stopped ≡ counted (at_opening + total_calls c made) (h.passed start) → IsPlayed h None at_opening c events start final (status_after output) told before after'
-  ends_whole h start final at_opening keeps output after' nothing reached out wrote same calls =
+      → h.passed keeps.stopped ≡ counted (at_opening + total_calls c made) (h.passed start) → Only (h.bytes final) (h.may_leave final) → IsPlayed h None at_opening c events start final (status_after output) told before after'
+  ends_whole h start final at_opening keeps output after' nothing reached out wrote same calls last =
       let P : List ℕ → Type 0 = λ text. WroteText output after text after' in
       let full = λ (t : IsTrue told). subst P all_graph (wrote t) in
       let text = graph_text (serial core.g0 (take all (commits core.history))) in
@@ -188,6 +191,7 @@ module _ {D : Type 0} {g : Ghosts D} (s : Super) (c : Core) (running : IsRunning
           behind = same;
           written = λ t. lines.all_writes core.history before after (status_after output) text after' (out t) (wrote_some output after text after' (full t)) (λ is. wrote_all output after text after' is (full t));
         };
+        durable = λ is. last;
         end = written_end output;
       }
 
@@ -234,6 +238,7 @@ module _ {D : Type 0} {g : Ghosts D} (s : Super) (c : Core) (running : IsRunning
         most = few_calls;
         replies = replies;
         prints = ⊎_elim found_prints nothing_prints recovers.found;
+        durable = λ done. recovered_only h stop.again core k keeps.stopped final by told after after' recovers.found done;
         end = recovers.end;
       }
 

@@ -27,6 +27,7 @@ use Rattle.heap_shell.specs.Headline.{IsOpened, made_super, end_text, stop_after
 use Rattle.heap_shell.specs.Causes.{Unharmed}
 use Rattle.heap_shell.specs.Output.{Recovers, WroteRecovered, WroteNothing}
 use Rattle.heap_shell.proofs.Counts.{counted_mono}
+use Rattle.heap_shell.proofs.Reopened.{recovered_only}
 use Rattle.heap_shell.proofs.Lines.{some_writes, all_writes, lines_more}
 use Rattle.graph_model.specs.Transaction.{serial}
 use Rattle.heap_shell.specs.Playable.{IsScript}
@@ -173,6 +174,7 @@ module _ {D : Type 0} (g : Ghosts D) {bytes : List ℕ} (stored : IsStored bytes
             whole = λ done. absurd (early done);
           };
         };
+        durable = λ done. absurd (early done);
         end = subst IsEndOfPlay (sym is) (open_end e outside);
       }
 
@@ -236,6 +238,7 @@ module _ {D : Type 0} (g : Ghosts D) {bytes : List ℕ} (stored : IsStored bytes
           most = subst (λ (m : ℕ). g.passed stopped ≤ counted m (g.passed start)) (sym through) most;
           replies = refl;
           prints = ⊎_elim (found_unplayed recovers.least recovers.most) (nothing_unplayed recovers.least recovers.most) recovers.found;
+          durable = λ done. recovered_only g stop.again c k stopped final by told before after recovers.found done;
           end = recovers.end;
         }
 

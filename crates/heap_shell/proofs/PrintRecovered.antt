@@ -7,7 +7,7 @@ use Rattle.disk_model.specs.declared.disk.Disk.{Ghosts}
 use Rattle.disk_model.specs.declared.disk.DiskError.{DiskError}
 use Rattle.disk_model.specs.declared.disk.DiskError.TheVariants as device
 use Rattle.disk_model.specs.Moments.{LeavesOnly, weaker}
-use Rattle.disk_model.specs.Disk.{HasCause}
+use Rattle.disk_model.specs.Disk.{Only, HasCause}
 use Rattle.gate_slot.specs.Passing.{Passes}
 use Rattle.gated_log.specs.Log.{batch, batches_bytes, records_of}
 use Rattle.graph_model.specs.declared.reply.Entry.{Entry}
@@ -150,15 +150,15 @@ module _ {D : Type 0} (g : Ghosts D) (c : Core) (k : ℕ) (old new : D) (keeps :
   }
 
   -- it was opened, and what came back printed, as far as the sink took it
-  pub recovers_first : (fails : Type 0) (r : Result (Unit {0}) WriteError) (s : Status) (told : Bool) (before after : List ℕ) → s ≡ status_after r → g.passed new ≡ counted (calls_to_open g keeps.first) (g.passed old)
+  pub recovers_first : (fails : Type 0) (r : Result (Unit {0}) WriteError) (s : Status) (told : Bool) (before after : List ℕ) → s ≡ status_after r → g.passed new ≡ counted (calls_to_open g keeps.first) (g.passed old) → Only (g.bytes new) (g.may_leave new)
       → (IsTrue told → WroteText r before (recovered_line k ++ graph_text (serial c.g0 (take k (history.commits c.history)))) after) → Recovers c k (Reopens g c k old new) fails (g.may_leave new) s told before after
-  recovers_first fails r s told before after is passes wrote = record {
+  recovers_first fails r s told before after is passes only wrote = record {
     end = subst IsEndOfPlay (sym is) (written_end r);
     least = keeps.first.kept;
     most = keeps.first.some;
     kept = keeps.still;
     found = inl (record {
-      opened = record { keeps = keeps; passed = passes };
+      opened = record { keeps = keeps; passed = passes; only = only };
       written = λ t. wrote_some r before _ after (wrote t);
       whole = λ t done. wrote_all r before _ after (sym is ∙ done) (wrote t);
     });

@@ -4,6 +4,7 @@ use Rattle.std.specs.Prelude.{IsTrue}
 use Rattle.disk_model.specs.declared.disk.Disk.{Ghosts}
 use Rattle.disk_model.specs.Moments.{LeavesOnly}
 use Rattle.heap_recovery.specs.declared.at.At.{At}
+use Rattle.heap_recovery.specs.declared.at.At.TheVariants as place
 use Rattle.heap_recovery.specs.Faults.{IsNoHeap, IsFaultAt}
 use Rattle.heap_core.specs.Causes.{IsFromOutside}
 use Rattle.heap_core.specs.Refusals as opening_refusals
@@ -13,7 +14,7 @@ use Rattle.heap_shell.specs.declared.status.Status.{Status}
 use Rattle.heap_shell.specs.declared.status.Status.TheVariants as status
 use Rattle.heap_shell.specs.Causes.{IsInputError}
 use Rattle.heap_shell.specs.Headline.{IsEndOfPlay}
-use Rattle.heap_shell.specs.Refusals.{IsFault, IsToldOf, EndsRefused}
+use Rattle.heap_shell.specs.Refusals.{IsFault, IsToldOf, EndsRefused, IsLeftAlone}
 use Rattle.heap_shell.specs.StatusOf.{open_status}
 
 -- what the error of an opening tells, its status tells
@@ -37,18 +38,18 @@ end_told status.NotHeap image end = absurd end
 end_told (status.Damaged at) image end = absurd end
 end_told (status.TooSmall size need) image end = absurd end
 
--- nor is it that of an image that is no heap
-pub end_no_heap : (s : Status) → IsEndOfPlay s → s ≡ status.NotHeap → ⊥
-end_no_heap status.Done end is = cc
-end_no_heap status.NoMemory end is = cc
-end_no_heap status.Usage end is = absurd end
-end_no_heap (status.Script line) end is = absurd end
-end_no_heap status.ReadFault end is = absurd end
-end_no_heap status.WriteFault end is = cc
-end_no_heap status.DiskFault end is = cc
-end_no_heap status.NotHeap end is = absurd end
-end_no_heap (status.Damaged at) end is = absurd end
-end_no_heap (status.TooSmall size need) end is = absurd end
+-- nor is it one that leaves the disk alone
+pub end_not_alone : (s : Status) → IsEndOfPlay s → IsLeftAlone s → ⊥
+end_not_alone status.Done end alone = alone
+end_not_alone status.NoMemory end alone = alone
+end_not_alone status.Usage end alone = alone
+end_not_alone (status.Script line) end alone = alone
+end_not_alone status.ReadFault end alone = alone
+end_not_alone status.WriteFault end alone = alone
+end_not_alone status.DiskFault end alone = alone
+end_not_alone status.NotHeap end alone = end
+end_not_alone (status.Damaged at) end alone = end
+end_not_alone (status.TooSmall size need) end alone = alone
 
 outside_ends : (expected : Status) (e : OpenError) → IsFromOutside e → EndsRefused expected (open_status e)
 outside_ends expected opening.NoMemory outside = tt
@@ -87,13 +88,17 @@ not_opened status.NotHeap image fault no_heap damaged = no_heap fault
 not_opened (status.Damaged at) image fault no_heap damaged = damaged at fault
 not_opened (status.TooSmall size need) image fault no_heap damaged = fault
 
--- An error that only tells of the image came before a write.
-pub no_heap_early : (e : OpenError) → open_status e ≡ status.NotHeap → opening_refusals.ComesBeforeWrites e
-no_heap_early opening.NoMemory is = tt
-no_heap_early opening.NotHeap is = tt
-no_heap_early (opening.Damaged at) is = cc
-no_heap_early opening.DiskFault is = cc
-no_heap_early opening.Stopped is = cc
+-- Such an error came before a write.
+pub alone_early : (e : OpenError) → IsLeftAlone (open_status e) → opening_refusals.ComesBeforeWrites e
+alone_early opening.NoMemory alone = tt
+alone_early opening.NotHeap alone = tt
+alone_early (opening.Damaged (place.Batch offset)) alone = tt
+alone_early (opening.Damaged (place.Rec lsn)) alone = tt
+alone_early (opening.Damaged place.Reserve) alone = tt
+alone_early (opening.Damaged (place.Page page)) alone = tt
+alone_early (opening.Damaged (place.Address address)) alone = absurd alone
+alone_early opening.DiskFault alone = absurd alone
+alone_early opening.Stopped alone = absurd alone
 
 module _ {D : Type 0} (g : Ghosts D) where
   -- At each moment of an opening the fault stays.
@@ -140,5 +145,14 @@ input_told status.NotHeap image input = absurd input
 input_told (status.Damaged at) image input = absurd input
 input_told (status.TooSmall size need) image input = tt
 
-pub input_no_heap : (s : Status) → IsInputError s → s ≡ status.NotHeap → ⊥
-input_no_heap s input is = subst IsInputError is input
+pub input_not_alone : (s : Status) → IsInputError s → IsLeftAlone s → ⊥
+input_not_alone status.Done input alone = alone
+input_not_alone status.NoMemory input alone = alone
+input_not_alone status.Usage input alone = alone
+input_not_alone (status.Script line) input alone = alone
+input_not_alone status.ReadFault input alone = alone
+input_not_alone status.WriteFault input alone = alone
+input_not_alone status.DiskFault input alone = alone
+input_not_alone status.NotHeap input alone = input
+input_not_alone (status.Damaged at) input alone = input
+input_not_alone (status.TooSmall size need) input alone = alone

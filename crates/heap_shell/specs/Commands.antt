@@ -3,19 +3,21 @@ use Rattle.std.specs.Prelude.{◌≡◌, ◌⊎◌, ℕ, ◌≤◌, List, [], �
 use Rattle.std.specs.Fmt.{decimal}
 use Rattle.counts.specs.Count.{counted}
 use Rattle.disk_model.specs.declared.disk.Disk.{Ghosts}
+use Rattle.disk_model.specs.Disk.{Only}
 use Rattle.disk_model.specs.Moments.{LeavesOnly}
 use Rattle.graph_model.specs.Graph.{Graph}
 use Rattle.image_plan.specs.declared.superblock.Super.{Super}
 use Rattle.image_plan.specs.Plan.{image_size}
 use Rattle.log_records.specs.declared.Record.{Record}
-use Rattle.heap_core.specs.Format.{heap_of, IsEmptyHeap}
-use Rattle.heap_model.specs.Image.{IsShaped}
-use Rattle.heap_model.specs.Opening.{opening_calls, IsLeftByOpening}
+use Rattle.heap_core.specs.Format.{heap_of}
+use Rattle.heap_model.specs.Image.{Holds, IsShaped}
+use Rattle.heap_model.specs.Opening.{rolled_back, opening_calls, IsLeftByOpening}
 use Rattle.command_words.specs.declared.commands.Command.{Command}
 use Rattle.command_words.specs.declared.commands.Command.TheVariants as asked
 use Rattle.command_words.specs.declared.commands.Numbers.{Numbers}
 use Rattle.heap_shell.specs.declared.status.Status.{Status}
 use Rattle.heap_shell.specs.declared.status.Status.TheVariants as status
+use Rattle.heap_shell.specs.Causes.{IsOpenedEnd}
 use Rattle.heap_shell.specs.Headline.{made_super, graph_text, restarts_asked, CanPlay, IsEndOfPlay, IsFormatted, IsNotMade}
 use Rattle.heap_shell.specs.Play.{WroteFront}
 
@@ -47,6 +49,14 @@ abbrev pub IsPlay : Command → Type 0
 IsPlay (asked.Play fresh stop) = Unit {0}
 IsPlay command = ⊥
 
+-- The statuses with which a command ends that was read.
+abbrev pub IsEndOf : Command → Status → Type 0
+IsEndOf (asked.Format n) (status.TooSmall size need) = Unit {0}
+IsEndOf (asked.Format n) s = IsEndOfPlay s
+IsEndOf (asked.Play fresh stop) status.Usage = ⊥
+IsEndOf (asked.Play fresh stop) s = Unit {0}
+IsEndOf asked.Graph s = IsOpenedEnd s
+
 -- the line of a format, with the size of the image in bytes
 abbrev pub formatted_line : Super → List ℕ
 formatted_line s = codes "formatted " ++ decimal (image_size s.pages s.log_bytes) ++ 10 ∷ []
@@ -67,8 +77,6 @@ module _ {D : Type 0} (g : Ghosts D) where
   -- A heap was made, and its size written.
   pub record MakesHeap (s : Super) (old new : D) (result : Status) (told : Bool) (before after : List ℕ) : Type 0 where
     pub format : IsFormatted g s old new
-    -- a superblock with these numbers, and zeros up to the end of the plan
-    pub empty : IsEmptyHeap s (g.bytes new)
     pub written : IsTrue told → WritesText result (formatted_line s) before after
     pub end : IsEndOfPlay result
 
@@ -82,5 +90,7 @@ module _ {D : Type 0} (g : Ghosts D) where
     pub left : (image : List ℕ) → g.may_leave new image → IsLeftByOpening s batches image
     pub calls : CallsOpening (opening_calls s batches) result (g.passed old) (g.passed new)
     pub restarts : g.restarts new ≡ g.restarts old
+    -- a run that is done leaves the log rolled back, and nothing unsynced
+    pub holds : result ≡ status.Done → Holds s (rolled_back s batches) (g.bytes new) × Only (g.bytes new) (g.may_leave new)
     pub written : IsTrue told → WritesText result (graph_text graph) before after
     pub end : IsEndOfPlay result

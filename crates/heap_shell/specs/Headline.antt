@@ -19,7 +19,7 @@ use Rattle.graph_model.specs.Canon.{canon}
 use Rattle.graph_model.specs.Text.{canon_text}
 use Rattle.image_plan.specs.declared.superblock.Super.{Super}
 use Rattle.image_plan.specs.Plan.{image_size}
-use Rattle.heap_core.specs.Format.{IsFormatting, format_calls}
+use Rattle.heap_core.specs.Format.{IsEmptyHeap, IsFormatting, format_calls}
 use Rattle.heap_model.specs.Core.{Core, with_entry, IsRun}
 use Rattle.heap_model.specs.CoreCrash.{StandsForFirst, KeepsCommits}
 use Rattle.heap_model.specs.CoreLawsNew.{root_place}
@@ -200,6 +200,8 @@ module _ {D : Type 0} (g : Ghosts D) where
   pub record Reopens (c : Core) (k : ℕ) (old new : D) : Type 0 where
     pub keeps : KeepsFirst c k old new
     pub passed : g.passed new ≡ counted (calls_to_open keeps.first) (g.passed old)
+    -- nothing is unsynced then
+    pub only : Only (g.bytes new) (g.may_leave new)
 
   -- It was not opened, since memory was refused or the disk failed: with no more writes and syncs than those of an opening, and none without memory.
   pub record FailsToOpen (c : Core) (k : ℕ) (result : Status) (old new : D) : Type 0 where
@@ -261,12 +263,16 @@ module _ {D : Type 0} (g : Ghosts D) where
     pub most : g.passed disk.stopped ≤ counted (let_through (stop_after stop) (at_opening + total_calls c run.made)) (g.passed start)
     pub replies : replies_of_commits run.core.history ≡ serial_replies run.core.g0 (commits run.core.history)
     pub prints : Prints stop run.core disk.stopped final result told before after
+    -- a run that is done leaves nothing unsynced
+    pub durable : result ≡ status.Done → Only (g.bytes final) (g.may_leave final)
     pub end : IsEndOfPlay result
 
   -- An empty heap was made. Meanwhile a crash left no heap, the old image, or the new heap.
   pub record IsFormatted (s : Super) (old made : D) : Type 0 where
     pub moments : LeavesOnly g.moment g.left_since old made (IsFormatting s (g.bytes old))
     pub empty : IsLegal s [] (g.bytes made)
+    -- a superblock with these numbers, and zeros up to the end of the plan
+    pub zeros : IsEmptyHeap s (g.bytes made)
     pub only : Only (g.bytes made) (g.may_leave made)
     pub passed : g.passed made ≡ counted (format_calls (image_size s.pages s.log_bytes) (g.bytes old)) (g.passed old)
     pub restarts : g.restarts made ≡ g.restarts old

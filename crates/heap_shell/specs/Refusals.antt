@@ -1,6 +1,7 @@
 -- What a run says against an image that can't be opened.
 use Rattle.std.specs.Prelude.{◌≡◌, List, ℕ}
 use Rattle.heap_recovery.specs.Faults.{IsNoHeap, IsFaultAt}
+use Rattle.heap_recovery.specs.declared.at.At.TheVariants.{Address}
 use Rattle.heap_shell.specs.declared.status.Status.{Status}
 use Rattle.heap_shell.specs.declared.status.Status.TheVariants as status
 
@@ -23,3 +24,10 @@ EndsRefused expected status.ReadFault = Unit {0}
 EndsRefused expected status.NoMemory = Unit {0}
 EndsRefused expected status.DiskFault = Unit {0}
 EndsRefused expected result = result ≡ expected
+
+-- The statuses against an image that come before anything is written. Damage at an address is told behind the rollback.
+abbrev pub IsLeftAlone : Status → Type 0
+IsLeftAlone status.NotHeap = Unit {0}
+IsLeftAlone (status.Damaged (Address address)) = ⊥
+IsLeftAlone (status.Damaged at) = Unit {0}
+IsLeftAlone s = ⊥

@@ -10,7 +10,7 @@ ghost use Rattle.command_words.specs.Limits.{IsPages};
 ghost use Rattle.heap_shell.specs.Causes.{StreamCause, RunsDisk, IsInputError, IsOpenedEnd, FailsByScript};
 ghost use Rattle.heap_shell.specs.Headline.{OfTold, IsPlayed, IsEndOfPlay, PrintsRun, PrintsSome, Runs, CanPlay, IsUntouching, EndsUnread, EndsUnmade, IsSound, RestartsDisk, restarts_asked, starts_asked, stop_after};
 ghost use Rattle.heap_shell.specs.Playable.{IsScript, IsReadFrom};
-ghost use Rattle.heap_shell.specs.Refusals.{IsFault, IsToldOf, EndsRefused};
+ghost use Rattle.heap_shell.specs.Refusals.{IsFault, IsToldOf, EndsRefused, IsLeftAlone};
 ghost use Rattle.heap_shell.specs.Stored.{IsStored, stored_core, stored_calls};
 ghost use Rattle.heap_model.specs.Ending.{all_events};
 ghost use Rattle.heap_shell.specs.Output.{early_end};
@@ -67,7 +67,7 @@ pub fn run_play<D: Disk, S: Source, K: Sink>(
     // An image that can't be opened gives its own status, and nothing is written then; without a stop each status against it tells what is so.
     ensures refused { IsTrue D.tells → fresh ≡ None → stop ≡ None → IsToldOf result.0 (D.bytes disk) }
     ensures refuses { OfTold D.tells (D.bytes disk) (D.may_leave disk) (fresh ≡ None → (expected : Status) → IsFault expected (D.bytes disk) → EndsRefused expected result.0 × (sink.new ≡ sink.old)) }
-    ensures left_alone { IsTrue D.tells → fresh ≡ None → stop ≡ None → result.0 ≡ Status.NotHeap → SameContents D.Disk disk result.1 }
+    ensures left_alone { IsTrue D.tells → fresh ≡ None → stop ≡ None → IsLeftAlone result.0 → SameContents D.Disk disk result.1 }
     // A heap that it made is never refused.
     ensures sound { OfTold D.tells (D.bytes disk) (D.may_leave disk) ((pages : ℕ) → fresh ≡ Some pages → IsSound result.0) }
 {
@@ -104,7 +104,7 @@ fn play_script<D: Disk, K: Sink>(
     // An image that can't be opened gives its own status, and nothing is written then; without a stop each status against it tells what is so.
     ensures refused { IsTrue D.tells → stop ≡ None → IsToldOf result.0 (D.bytes disk) }
     ensures refuses { IsTrue D.tells → Only (D.bytes disk) (D.may_leave disk) → (expected : Status) → IsFault expected (D.bytes disk) → EndsRefused expected result.0 × (sink.new ≡ sink.old) }
-    ensures left_alone { IsTrue D.tells → stop ≡ None → result.0 ≡ Status.NotHeap → SameContents D.Disk disk result.1 }
+    ensures left_alone { IsTrue D.tells → stop ≡ None → IsLeftAlone result.0 → SameContents D.Disk disk result.1 }
 {
     match stop {
         None => play_whole(alloc, disk, script, sink),
@@ -142,7 +142,7 @@ fn play_whole<D: Disk, K: Sink>(
         → IsPlayed D.Disk None (stored_calls stored) (stored_core stored) (all_events None (stored_core stored) (events script.now)) disk result.1 result.0 K.tells (K.written sink.old) (K.written sink.new) }
     ensures refused { IsTrue D.tells → IsToldOf result.0 (D.bytes disk) }
     ensures refuses { IsTrue D.tells → (expected : Status) → IsFault expected (D.bytes disk) → EndsRefused expected result.0 × (sink.new ≡ sink.old) }
-    ensures left_alone { IsTrue D.tells → result.0 ≡ Status.NotHeap → SameContents D.Disk disk result.1 }
+    ensures left_alone { IsTrue D.tells → IsLeftAlone result.0 → SameContents D.Disk disk result.1 }
 {
     let mut heap = match Heap::open(alloc, disk) {
         Ok(heap) => heap,

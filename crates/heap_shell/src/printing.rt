@@ -15,7 +15,7 @@ ghost use Rattle.heap_shell.specs.Causes.{StreamCause, RunsDisk, IsOpenedEnd};
 ghost use Rattle.heap_shell.specs.Commands.{RunsFormat, PrintsGraph, WritesText, formatted_line};
 ghost use Rattle.heap_shell.specs.Headline.{OfTold, IsEndOfPlay, graph_text};
 ghost use Rattle.heap_shell.specs.Output.{WroteText};
-ghost use Rattle.heap_shell.specs.Refusals.{IsFault, IsToldOf, EndsRefused};
+ghost use Rattle.heap_shell.specs.Refusals.{IsFault, IsToldOf, EndsRefused, IsLeftAlone};
 
 use crate::output::{WriteError, write_graph};
 use crate::status::{Status, status_after};
@@ -74,7 +74,7 @@ pub fn run_graph<D: Disk, K: Sink>(alloc: Global, disk: D, sink: &mut K) -> (Sta
     // A status against the image tells what is so, and an image that can't be opened gives its own; nothing is written then.
     ensures refused { IsTrue D.tells → IsToldOf result.0 (D.bytes disk) }
     ensures refuses { IsTrue D.tells → (expected : Status) → IsFault expected (D.bytes disk) → EndsRefused expected result.0 × (sink.new ≡ sink.old) }
-    ensures left_alone { IsTrue D.tells → result.0 ≡ Status.NotHeap → SameContents D.Disk disk result.1 }
+    ensures left_alone { IsTrue D.tells → IsLeftAlone result.0 → SameContents D.Disk disk result.1 }
 {
     match Heap::open(alloc, disk) {
         Ok(heap) => {

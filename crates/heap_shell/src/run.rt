@@ -21,7 +21,7 @@ ghost use Rattle.heap_shell.specs.Commands.{makes, numbers_of, restarts_of, IsPl
 ghost use Rattle.heap_shell.specs.CrashSafe.{RunsSafely};
 ghost use Rattle.heap_shell.specs.Headline.{OfTold, PrintsRun, Runs, IsUntouching, EndsUnread, EndsUnmade, IsSound, RestartsDisk, graph_text, stop_after};
 ghost use Rattle.heap_shell.specs.Playable.{IsReadFrom};
-ghost use Rattle.heap_shell.specs.Refusals.{IsFault, IsToldOf, EndsRefused};
+ghost use Rattle.heap_shell.specs.Refusals.{IsFault, IsToldOf, EndsRefused, IsLeftAlone};
 ghost use Rattle.script_text.specs.Script.{script};
 
 use crate::playing::run_play;
@@ -90,7 +90,7 @@ pub fn run<D: Disk, S: Source, K: Sink>(
     ensures refuses { OfTold D.tells (D.bytes disk) (D.may_leave disk) ((asked : Command) (expected : Status) → command (map string_bytes words.now) ≡ Some asked → makes asked ≡ None
         → IsFault expected (D.bytes disk) → EndsRefused expected result.0 × (sink.new ≡ sink.old)) }
     ensures refused { IsTrue D.tells → (asked : Command) → command (map string_bytes words.now) ≡ Some asked → makes asked ≡ None → restarts_of asked ≡ 0 → IsToldOf result.0 (D.bytes disk) }
-    ensures left_alone { IsTrue D.tells → (asked : Command) → command (map string_bytes words.now) ≡ Some asked → makes asked ≡ None → restarts_of asked ≡ 0 → result.0 ≡ Status.NotHeap → SameContents D.Disk disk result.1 }
+    ensures left_alone { IsTrue D.tells → (asked : Command) → command (map string_bytes words.now) ≡ Some asked → makes asked ≡ None → restarts_of asked ≡ 0 → IsLeftAlone result.0 → SameContents D.Disk disk result.1 }
     ensures sound { OfTold D.tells (D.bytes disk) (D.may_leave disk) ((asked : Command) (s : Super) → command (map string_bytes words.now) ≡ Some asked → makes asked ≡ Some s → IsSound result.0) }
 
     // Without a fault it is done, on a disk that is large enough for a new heap, or holds a heap.

@@ -1,6 +1,7 @@
 use Rattle.std.proofs.Common.{◌≡◌, true, ℕ, ◌+◌, ◌-◌, min, List, ◌++◌, inl, sym, refl, ap, ◌∙◌, subst, arith}
 use Rattle.std.specs.Prelude.{IsTrue}
 use Rattle.counts.specs.Count.{counted, greatest}
+use Rattle.disk_model.specs.Disk.{Only}
 use Rattle.disk_model.specs.Moments.{LeavesOnly, weaker}
 use Rattle.gated_log.specs.Log.{records_of}
 use Rattle.graph_model.specs.Text.{canon_text}
@@ -65,8 +66,9 @@ returns-clause-recovers g c = λ tells core k first only same.
     let keeps = keeps_first d core k c.args.disk final first moments leaves (ap d.restarts c.close.ensures ∙ c.in-Ok.ensures.disk.restarts tells) in
     let calls : d.passed final ≡ counted (opening_calls s batches) (d.passed c.args.disk) =
     ap d.passed c.close.ensures ∙ (c.in-Ok.ensures.passes tells s batches (shaped_image legal)).ok in
+    let last = subst (λ x. Only (d.bytes x) (d.may_leave x)) (sym c.close.ensures) (c.in-Ok.ensures.durable tells only) in
     let wrote = λ (told : IsTrue sink.tells). c.write_recovered.ensures.wrote told (opened s batches true found.0 found.1) heap.core reached in
-    recovers_first d core k c.args.disk final keeps (FailsToOpen d core k c.status_after-status.result c.args.disk final) c.write_recovered.result c.status_after-status.result _ _ _ c.status_after-status.ensures calls
+    recovers_first d core k c.args.disk final keeps (FailsToOpen d core k c.status_after-status.result c.args.disk final) c.write_recovered.result c.status_after-status.result _ _ _ c.status_after-status.ensures calls last
     (λ told. subst (λ (t : List ℕ). WroteText c.write_recovered.result (sink.written c.args.sink.now) (recovered_line k ++ t) (sink.written c.write_recovered.new.sink)) (ap canon_text (found.3 ∙ says.graph))
     (subst (λ (n : ℕ). WroteText c.write_recovered.result (sink.written c.args.sink.now) (recovered_line n ++ graph_text found.1) (sink.written c.write_recovered.new.sink)) since (wrote told)))
 

@@ -12,10 +12,11 @@ use Rattle.heap_shell.specs.Causes.{DiskRose, Unharmed}
 use Rattle.heap_shell.proofs.Causes.{disk_rose_since}
 use Rattle.gate_slot.specs.Passing.{counted-add}
 use Rattle.heap_shell.proofs.Counts.{counted_mono}
-use Rattle.heap_shell.proofs.PlayEnds.{run_reached, lines_wrote, halt_part, halt_lines, keeps_own, ends_early, ends_whole, exact_none, exact_passes, passes_most}
+use Rattle.heap_shell.proofs.PlayEnds.{run_reached, unfailed_only, lines_wrote, halt_part, halt_lines, keeps_own, ends_early, ends_whole, exact_none, exact_passes, passes_most}
 use Rattle.heap_shell.proofs.PlayOpen.{stored_running, stored_keeps, stored_moments, ends_unopened, opened_core, played_unfailed}
 use Rattle.heap_shell.proofs.PrintRecovered.{fails_most, fails_none}
-use Rattle.heap_shell.proofs.RefusalLaws.{told_status, end_told, end_no_heap, refused_by, not_opened, no_heap_early}
+use Rattle.heap_shell.proofs.RefusalLaws.{told_status, end_told, end_not_alone, refused_by, not_opened, alone_early}
+use Rattle.heap_shell.specs.Refusals.{IsLeftAlone}
 use Rattle.heap_shell.proofs.Statuses.{written_end, halt_end, halt_not_done, open_not_done, open_harm}
 use Rattle.heap_shell.proofs.PlayPrints.{reached, prints_early, prints_whole}
 use Rattle.heap_shell.proofs.playing.play_whole.Goals as goal
@@ -64,7 +65,8 @@ returns-in-Ok-play_all-clause-played g c tells stored only =
     rw (c.close.ensures, c.status_after-status.ensures) (ends_whole s first running refl es playable old new k.tells before after (Ok tt) plays d c.args.disk new.disk n keeps
     c.write_graph.result (k.written c.write_graph.new.sink) whole.0 whole.1.reached
     (lines_wrote s first running refl es playable old new k.tells before after (Ok tt) plays (Ok tt) refl)
-    (λ t. c.write_graph.ensures.wrote t plays.core plays.heap.core (run_reached s first running refl es playable old new k.tells before after (Ok tt) plays).1) refl calls)
+    (λ t. c.write_graph.ensures.wrote t plays.core plays.heap.core (run_reached s first running refl es playable old new k.tells before after (Ok tt) plays).1) refl calls
+    (unfailed_only s first running refl es playable old new k.tells before after (Ok tt) plays (sym plays.heap.core.memory.failure ∙ played_unfailed first c.args.script.now new k.tells before after running c.requires (c.in-Ok-play_all.ensures.core first (e.holds tells s stored.batches stored.legal only stored.places stored.graph stored.found).core running))))
 
 pub returns-in-Err-play_all-clause-played : goal.returns-in-Err-play_all-clause-played
 returns-in-Err-play_all-clause-played g c tells stored only =
@@ -150,10 +152,10 @@ pub returns-in-Err-play_all-clause-refuses : goal.returns-in-Err-play_all-clause
 returns-in-Err-play_all-clause-refuses g c tells expected fault = absurd (not_opened expected (g.D.Disk.bytes c.args.disk) fault (c.in-Ok.ensures.not_heap tells) (c.in-Ok.ensures.damaged tells))
 
 pub returns-in-Err-clause-left_alone : goal.returns-in-Err-clause-left_alone
-returns-in-Err-clause-left_alone g c tells is = (c.in-Err.ensures.left_alone (no_heap_early c.in-Err.e (sym c.from.ensures ∙ is))).contents tells
+returns-in-Err-clause-left_alone g c tells alone = (c.in-Err.ensures.left_alone (alone_early c.in-Err.e (subst IsLeftAlone c.from.ensures alone))).contents tells
 
 pub returns-in-Ok-play_all-clause-left_alone : goal.returns-in-Ok-play_all-clause-left_alone
-returns-in-Ok-play_all-clause-left_alone g c tells is = absurd (end_no_heap _ (written_end c.write_graph.result) (sym c.status_after-status.ensures ∙ is))
+returns-in-Ok-play_all-clause-left_alone g c tells alone = absurd (end_not_alone _ (written_end c.write_graph.result) (subst IsLeftAlone c.status_after-status.ensures alone))
 
 pub returns-in-Err-play_all-clause-left_alone : goal.returns-in-Err-play_all-clause-left_alone
-returns-in-Err-play_all-clause-left_alone g c tells is = absurd (end_no_heap _ (halt_end c.in-Err-play_all.halt) (sym c.from-in-Err-play_all.ensures ∙ is))
+returns-in-Err-play_all-clause-left_alone g c tells alone = absurd (end_not_alone _ (halt_end c.in-Err-play_all.halt) (subst IsLeftAlone c.from-in-Err-play_all.ensures alone))

@@ -8,7 +8,8 @@ use Rattle.heap_model.specs.Opening.{opened, opening_calls, IsLeftByOpening}
 use Rattle.heap_shell.specs.Headline.{IsEndOfPlay, graph_text}
 use Rattle.heap_shell.proofs.PlayOpen.{opened_core, opened_unfailed}
 use Rattle.heap_shell.proofs.PrintRecovered.{fails_most}
-use Rattle.heap_shell.proofs.RefusalLaws.{told_status, end_told, end_no_heap, refused_by, not_opened, no_heap_early}
+use Rattle.heap_shell.proofs.RefusalLaws.{told_status, end_told, end_not_alone, refused_by, not_opened, alone_early}
+use Rattle.heap_shell.specs.Refusals.{IsLeftAlone}
 use Rattle.heap_shell.proofs.Statuses.{open_end, open_not_done, written_end, wrote_all}
 use Rattle.heap_shell.proofs.Written.{none_written, wrote_some}
 use Rattle.heap_shell.proofs.printing.run_graph.Goals as goal
@@ -29,6 +30,7 @@ returns-in-Ok-clause-graph g c tells only s batches shaped born places graph fou
       left = e.crash tells only s batches shaped;
       calls = record { times = opening_calls s batches; most = omega arith; all = λ done. refl; told = passed };
       restarts = e.disk.restarts tells;
+      holds = λ done. (e.rolled tells s batches shaped, e.durable tells only);
       written = λ t. record {
         front = wrote_some c.write_graph.result before (graph_text graph) after (c.write_graph.ensures.wrote t core is reached);
         whole = λ done. wrote_all c.write_graph.result before (graph_text graph) after done (c.write_graph.ensures.wrote t core is reached);
@@ -47,6 +49,7 @@ returns-in-Err-clause-graph g c tells only s batches shaped born places graph fo
       left = e.crash tells only s batches shaped;
       calls = record { times = most.0; most = most.1; all = λ done. absurd (open_not_done c.in-Err.e done); told = most.2 };
       restarts = e.disk.restarts tells;
+      holds = λ done. absurd (open_not_done c.in-Err.e done);
       written = λ t. record { front = none_written (k.written c.args.sink.now) (graph_text graph); whole = λ done. absurd (open_not_done c.in-Err.e done) };
       end = open_end c.in-Err.e (e.shaped tells s batches shaped);
     })
@@ -81,7 +84,7 @@ pub returns-in-Err-clause-refuses : goal.returns-in-Err-clause-refuses
 returns-in-Err-clause-refuses g c tells expected fault = (rw c.from.ensures (refused_by expected (g.D.Disk.bytes c.args.disk) c.in-Err.e fault (c.in-Err.ensures.not_heap tells) (c.in-Err.ensures.damaged tells)), refl)
 
 pub returns-in-Ok-clause-left_alone : goal.returns-in-Ok-clause-left_alone
-returns-in-Ok-clause-left_alone g c tells is = absurd (end_no_heap _ (written_end c.write_graph.result) (sym c.status_after-status.ensures ∙ is))
+returns-in-Ok-clause-left_alone g c tells alone = absurd (end_not_alone _ (written_end c.write_graph.result) (subst IsLeftAlone c.status_after-status.ensures alone))
 
 pub returns-in-Err-clause-left_alone : goal.returns-in-Err-clause-left_alone
-returns-in-Err-clause-left_alone g c tells is = (c.in-Err.ensures.left_alone (no_heap_early c.in-Err.e (sym c.from.ensures ∙ is))).contents tells
+returns-in-Err-clause-left_alone g c tells alone = (c.in-Err.ensures.left_alone (alone_early c.in-Err.e (subst IsLeftAlone c.from.ensures alone))).contents tells

@@ -22,9 +22,9 @@ returns-in-Err-clause-graph g c tells only is s batches shaped born places graph
 
 pub returns-in-Format-clause-too_small : goal.returns-in-Format-clause-too_small
 returns-in-Format-clause-too_small g c size need told which is =
-    let same : which ≡ asked.Format c.in-Format.field-0 = cc (is, c.in-Ok.ensures.read, c.in-Format.is) in
+    let same : which ≡ asked.Format c.in-Format.numbers = cc (is, c.in-Ok.ensures.read, c.in-Format.is) in
     let small = c.run_format.ensures.too_small size need told in
-    let n = c.in-Format.field-0 in
+    let n = c.in-Format.numbers in
     (heap_of n.pages n.log_bytes n.first, ap makes same, small.2, small.3, small.4)
 
 pub returns-in-Play-clause-too_small : goal.returns-in-Play-clause-too_small

@@ -96,3 +96,9 @@ pub returns-in-Err-recover-clause-crash : goal.returns-in-Err-recover-clause-cra
 returns-in-Err-recover-clause-crash g c tells only s batches shaped image left =
     let run = c.recover.ensures.moments tells only s batches shaped in
     run.each image (g.met.D.Disk.counts_now tells c.recover.new.disk _ image run.later left)
+
+pub returns-in-Ok-recover-clause-rolled : goal.returns-in-Ok-recover-clause-rolled
+returns-in-Ok-recover-clause-rolled g c tells s batches shaped = c.in-Ok-recover.ensures.holds tells s batches shaped
+
+pub returns-in-Ok-recover-clause-durable : goal.returns-in-Ok-recover-clause-durable
+returns-in-Ok-recover-clause-durable g c tells only = c.in-Ok-recover.ensures.durable tells only
