@@ -1,5 +1,5 @@
 -- What the command says of a run.
-use Rattle.std.proofs.Common.{◌≡◌, inl, ℕ, List, Bool, Option, Some, None, refl, sym, subst, arith}
+use Rattle.std.proofs.Common.{◌≡◌, ◌≢◌, inl, ℕ, List, Bool, Option, Some, None, refl, sym, subst, arith}
 use Rattle.std.specs.Prelude.{IsTrue}
 use Rattle.disk_model.specs.declared.disk.Disk.{Ghosts}
 use Rattle.disk_model.specs.Disk.{Only}
@@ -16,9 +16,12 @@ use Rattle.heap_model.specs.Image.{Holds}
 use Rattle.heap_model.specs.Opening.{opening_calls, IsLeftByOpening}
 use Rattle.heap_shell.specs.declared.status.Status.{Status}
 use Rattle.heap_shell.specs.declared.status.Status.TheVariants as status
-use Rattle.heap_shell.specs.Commands.{PrintsGraph}
-use Rattle.heap_shell.specs.Headline.{graph_text}
-use Rattle.heap_shell.specs.StatusOf.{command_status}
+use Rattle.heap_core.specs.declared.errors.FormatError.{FormatError}
+use Rattle.heap_core.specs.declared.errors.FormatError.TheVariants as format
+use Rattle.command_words.specs.declared.commands.Numbers.{Numbers}
+use Rattle.heap_shell.specs.Commands.{IsEndOf, PrintsGraph}
+use Rattle.heap_shell.specs.Headline.{IsEndOfPlay, graph_text}
+use Rattle.heap_shell.specs.StatusOf.{command_status, format_status}
 use Rattle.heap_shell.proofs.Written.{none_written}
 
 -- words spell one command
@@ -41,3 +44,41 @@ graph_unread g disk asking.NoMemory words is usage by by_is now only s batches g
       written = λ t. record { front = none_written before (graph_text graph); whole = λ done. cc };
       end = rw by_is tt;
     }
+
+-- The statuses of a format: those of what it writes, and of its errors.
+pub written_format : (n : Numbers) (s : Status) → IsEndOfPlay s → IsEndOf (asked.Format n) s
+written_format n status.Done end = end
+written_format n status.NoMemory end = end
+written_format n status.Usage end = end
+written_format n (status.Script line) end = end
+written_format n status.ReadFault end = end
+written_format n status.WriteFault end = end
+written_format n status.DiskFault end = end
+written_format n status.NotHeap end = end
+written_format n (status.Damaged at) end = end
+written_format n (status.TooSmall size need) end = absurd end
+
+pub format_ends : (n : Numbers) (e : FormatError) → IsEndOf (asked.Format n) (format_status e)
+format_ends n (format.TooSmall size need) = tt
+format_ends n format.DiskFault = tt
+format_ends n format.Stopped = tt
+
+-- those of a play
+pub play_ends : (fresh : Option ℕ) (stop : Option Stop) (s : Status) → s ≢ status.Usage → IsEndOf (asked.Play fresh stop) s
+play_ends fresh stop status.Done other = tt
+play_ends fresh stop status.NoMemory other = tt
+play_ends fresh stop status.Usage other = absurd (other refl)
+play_ends fresh stop (status.Script line) other = tt
+play_ends fresh stop status.ReadFault other = tt
+play_ends fresh stop status.WriteFault other = tt
+play_ends fresh stop status.DiskFault other = tt
+play_ends fresh stop status.NotHeap other = tt
+play_ends fresh stop (status.Damaged at) other = tt
+play_ends fresh stop (status.TooSmall size need) other = tt
+
+-- and that of words for which there was no memory
+pub unread_ends : (which : Command) (words : Option Command) (e : CommandError) (by : Status) → words ≡ Some which → (e ≡ asking.Usage → words ≡ None) → by ≡ command_status e → IsEndOf which by
+unread_ends which words asking.Usage by is usage by_is = let none : words ≡ None = usage refl in cc
+unread_ends (asked.Format n) words asking.NoMemory by is usage by_is = rw by_is tt
+unread_ends (asked.Play fresh stop) words asking.NoMemory by is usage by_is = rw by_is tt
+unread_ends asked.Graph words asking.NoMemory by is usage by_is = rw by_is tt

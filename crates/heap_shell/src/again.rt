@@ -36,6 +36,7 @@ pub fn start_again<D: Disk, K: Sink>(
         → (k : ℕ) × Recovers c k (StartsAgain D.Disk again c k (Reopens D.Disk c k) (fuse_inner fuse) result.1) (EndsUnopened D.Disk again c k (fuse_inner fuse) result.1 result.0) (D.may_leave result.1) result.0 K.tells (K.written sink.old) (K.written sink.new) }
     // An image that can't be opened gives its own status, and nothing is written then.
     ensures refuses { IsTrue D.tells → (expected : Status) → ((image : List ℕ) → D.may_leave (fuse_inner fuse) image → IsFault expected image) → EndsRefused expected result.0 × (sink.new ≡ sink.old) }
+    ensures keeps_fault { IsTrue D.tells → (expected : Status) → ((image : List ℕ) → D.may_leave (fuse_inner fuse) image → IsFault expected image) → LeavesOnly D.moment D.left_since (fuse_inner fuse) result.1 (IsFault expected) }
 {
     let disk = restart(fuse.into_inner());
     match again {
@@ -65,6 +66,7 @@ fn open_cut_off<D: Disk>(alloc: Global, disk: D, calls: u64) -> Result<D, D>
     ensures restarts { IsTrue D.tells → D.restarts (either_disk result) ≡ D.restarts disk }
     // An image that can't be opened leaves one with the same fault.
     ensures refuses { IsTrue D.tells → Only (D.bytes disk) (D.may_leave disk) → (expected : Status) → IsFault expected (D.bytes disk) → (image : List ℕ) → D.may_leave (either_disk result) image → IsFault expected image }
+    ensures keeps_fault { IsTrue D.tells → Only (D.bytes disk) (D.may_leave disk) → (expected : Status) → IsFault expected (D.bytes disk) → LeavesOnly D.moment D.left_since disk (either_disk result) (IsFault expected) }
 {
     match Heap::open(alloc, FuseDisk::new(disk, calls)) {
         Ok(heap) => Ok(heap.close().into_inner()),
@@ -94,6 +96,7 @@ fn print_recovered<D: Disk, K: Sink>(
     ensures recovers { IsTrue D.tells → (c : Core) (k : ℕ) → StandsForFirst c k (D.bytes disk) → Only (D.bytes disk) (D.may_leave disk) → IsBefore before c
         → Recovers c k (Reopens D.Disk c k disk result.1) (FailsToOpen D.Disk c k result.0 disk result.1) (D.may_leave result.1) result.0 K.tells (K.written sink.old) (K.written sink.new) }
     ensures refuses { IsTrue D.tells → (expected : Status) → IsFault expected (D.bytes disk) → EndsRefused expected result.0 × (sink.new ≡ sink.old) }
+    ensures keeps_fault { IsTrue D.tells → Only (D.bytes disk) (D.may_leave disk) → (expected : Status) → IsFault expected (D.bytes disk) → LeavesOnly D.moment D.left_since disk result.1 (IsFault expected) }
 {
     let heap = match Heap::open(alloc, disk) {
         Ok(heap) => heap,

@@ -3,6 +3,7 @@ ghost use Rattle.std.specs.Prelude.{◌≡◌, ◌≢◌, ◌⊎◌, ℕ, ◌<�
 ghost use Rattle.counts.specs.Count.{Rose};
 ghost use Rattle.disk_model.specs.Disk.{Only};
 ghost use Rattle.disk_model.specs.Keeps.{SameContents};
+ghost use Rattle.disk_model.specs.Moments.{LeavesOnly};
 ghost use Rattle.image_plan.specs.Plan.{image_size};
 ghost use Rattle.script_text.specs.declared.line.Line.{Line};
 ghost use Rattle.script_text.specs.declared.script.ScriptError.TheVariants.{Fault};
@@ -70,6 +71,7 @@ pub fn run_play<D: Disk, S: Source, K: Sink>(
     ensures left_alone { IsTrue D.tells → fresh ≡ None → stop ≡ None → IsLeftAlone result.0 → SameContents D.Disk disk result.1 }
     // A heap that it made is never refused.
     ensures sound { OfTold D.tells (D.bytes disk) (D.may_leave disk) ((pages : ℕ) → fresh ≡ Some pages → IsSound result.0) }
+    ensures keeps_fault { OfTold D.tells (D.bytes disk) (D.may_leave disk) (fresh ≡ None → (expected : Status) → IsFault expected (D.bytes disk) → LeavesOnly D.moment D.left_since disk result.1 (IsFault expected)) }
 {
     let script = match read_input(alloc, source) {
         Ok(script) => script,
@@ -105,6 +107,8 @@ fn play_script<D: Disk, K: Sink>(
     ensures refused { IsTrue D.tells → stop ≡ None → IsToldOf result.0 (D.bytes disk) }
     ensures refuses { IsTrue D.tells → Only (D.bytes disk) (D.may_leave disk) → (expected : Status) → IsFault expected (D.bytes disk) → EndsRefused expected result.0 × (sink.new ≡ sink.old) }
     ensures left_alone { IsTrue D.tells → stop ≡ None → IsLeftAlone result.0 → SameContents D.Disk disk result.1 }
+    // At each moment a crash leaves an image with the same fault.
+    ensures keeps_fault { IsTrue D.tells → Only (D.bytes disk) (D.may_leave disk) → (expected : Status) → IsFault expected (D.bytes disk) → LeavesOnly D.moment D.left_since disk result.1 (IsFault expected) }
 {
     match stop {
         None => play_whole(alloc, disk, script, sink),
@@ -143,6 +147,7 @@ fn play_whole<D: Disk, K: Sink>(
     ensures refused { IsTrue D.tells → IsToldOf result.0 (D.bytes disk) }
     ensures refuses { IsTrue D.tells → (expected : Status) → IsFault expected (D.bytes disk) → EndsRefused expected result.0 × (sink.new ≡ sink.old) }
     ensures left_alone { IsTrue D.tells → IsLeftAlone result.0 → SameContents D.Disk disk result.1 }
+    ensures keeps_fault { IsTrue D.tells → Only (D.bytes disk) (D.may_leave disk) → (expected : Status) → IsFault expected (D.bytes disk) → LeavesOnly D.moment D.left_since disk result.1 (IsFault expected) }
 {
     let mut heap = match Heap::open(alloc, disk) {
         Ok(heap) => heap,
@@ -175,6 +180,7 @@ fn play_stopped<D: Disk, K: Sink>(
     ensures played { IsTrue D.tells → (stored : IsStored (D.bytes disk)) → Only (D.bytes disk) (D.may_leave disk)
         → IsPlayed D.Disk (Some stop) (stored_calls stored) (stored_core stored) (events script.now) disk result.1 result.0 K.tells (K.written sink.old) (K.written sink.new) }
     ensures refuses { IsTrue D.tells → Only (D.bytes disk) (D.may_leave disk) → (expected : Status) → IsFault expected (D.bytes disk) → EndsRefused expected result.0 × (sink.new ≡ sink.old) }
+    ensures keeps_fault { IsTrue D.tells → Only (D.bytes disk) (D.may_leave disk) → (expected : Status) → IsFault expected (D.bytes disk) → LeavesOnly D.moment D.left_since disk result.1 (IsFault expected) }
 {
     let mut heap = match Heap::open(alloc, FuseDisk::new(disk, stop.after)) {
         Ok(heap) => heap,

@@ -2,6 +2,7 @@
 ghost use Rattle.std.specs.Prelude.{◌≡◌, ◌≢◌, ◌⊎◌, ℕ, ◌<◌, ◌≤◌, List, Bool, Some, IsTrue};
 ghost use Rattle.disk_model.specs.Disk.{Only};
 ghost use Rattle.disk_model.specs.Keeps.{SameContents};
+ghost use Rattle.disk_model.specs.Moments.{LeavesOnly};
 ghost use Rattle.graph_model.specs.Graph.{Graph};
 ghost use Rattle.graph_words.specs.Places.{Places};
 ghost use Rattle.image_plan.specs.declared.superblock.Super.{Super};
@@ -11,8 +12,9 @@ ghost use Rattle.heap_core.specs.Format.{heap_of};
 ghost use Rattle.heap_model.specs.Image.{IsShaped};
 ghost use Rattle.heap_model.specs.Opening.{IsFound};
 ghost use Rattle.command_words.specs.Limits.{AreNumbers};
+ghost use Rattle.command_words.specs.declared.commands.Command.TheVariants as asked;
 ghost use Rattle.heap_shell.specs.Causes.{StreamCause, RunsDisk, IsOpenedEnd};
-ghost use Rattle.heap_shell.specs.Commands.{RunsFormat, PrintsGraph, WritesText, formatted_line};
+ghost use Rattle.heap_shell.specs.Commands.{IsEndOf, RunsFormat, PrintsGraph, WritesText, formatted_line};
 ghost use Rattle.heap_shell.specs.Headline.{OfTold, IsEndOfPlay, graph_text};
 ghost use Rattle.heap_shell.specs.Output.{WroteText};
 ghost use Rattle.heap_shell.specs.Refusals.{IsFault, IsToldOf, EndsRefused, IsLeftAlone};
@@ -39,6 +41,7 @@ pub fn run_format<D: Disk, K: Sink>(
     ensures sink { StreamCause (K.faults sink.old) (K.faults sink.new) (result.0 ≡ Status.WriteFault) }
     ensures too_small { (size need : ℕ) → result.0 ≡ Status.TooSmall size need → (result.1 ≡ disk) × (sink.new ≡ sink.old) × (size ≡ D.extent disk) × (need ≡ image_size numbers.pages numbers.log_bytes) × (size < need) }
     ensures small_told { D.extent disk < image_size numbers.pages numbers.log_bytes → result.0 ≡ Status.TooSmall (D.extent disk) (image_size numbers.pages numbers.log_bytes) }
+    ensures ends { IsEndOf (asked.Format numbers) result.0 }
     ensures end { image_size numbers.pages numbers.log_bytes ≤ D.extent disk → IsEndOfPlay result.0 }
     ensures formats { OfTold D.tells (D.bytes disk) (D.may_leave disk) (RunsFormat D.Disk (heap_of numbers.pages numbers.log_bytes numbers.first) disk result.1 result.0 K.tells (K.written sink.old) (K.written sink.new)) }
     ensures prints { IsTrue K.tells → WritesText result.0 (formatted_line (heap_of numbers.pages numbers.log_bytes numbers.first)) (K.written sink.old) (K.written sink.new) }
@@ -75,6 +78,8 @@ pub fn run_graph<D: Disk, K: Sink>(alloc: Global, disk: D, sink: &mut K) -> (Sta
     ensures refused { IsTrue D.tells → IsToldOf result.0 (D.bytes disk) }
     ensures refuses { IsTrue D.tells → (expected : Status) → IsFault expected (D.bytes disk) → EndsRefused expected result.0 × (sink.new ≡ sink.old) }
     ensures left_alone { IsTrue D.tells → IsLeftAlone result.0 → SameContents D.Disk disk result.1 }
+    // At each moment a crash leaves an image with the same fault.
+    ensures keeps_fault { IsTrue D.tells → Only (D.bytes disk) (D.may_leave disk) → (expected : Status) → IsFault expected (D.bytes disk) → LeavesOnly D.moment D.left_since disk result.1 (IsFault expected) }
 {
     match Heap::open(alloc, disk) {
         Ok(heap) => {

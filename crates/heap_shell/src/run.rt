@@ -3,6 +3,7 @@ ghost use Rattle.std.specs.Prelude.{◌≡◌, ◌≢◌, ◌⊎◌, ℕ, ◌<�
 ghost use Rattle.counts.specs.Count.{Rose};
 ghost use Rattle.disk_model.specs.Disk.{Only};
 ghost use Rattle.disk_model.specs.Keeps.{SameContents};
+ghost use Rattle.disk_model.specs.Moments.{LeavesOnly};
 ghost use Rattle.graph_model.specs.Graph.{Graph};
 ghost use Rattle.graph_words.specs.Places.{Places};
 ghost use Rattle.image_plan.specs.declared.superblock.Super.{Super};
@@ -17,7 +18,7 @@ ghost use Rattle.command_words.specs.declared.commands.Stop.{Stop};
 ghost use Rattle.heap_model.specs.Image.{IsShaped};
 ghost use Rattle.heap_model.specs.Opening.{IsFound};
 ghost use Rattle.heap_shell.specs.Causes.{DiskRose, StreamCause, RunsDisk};
-ghost use Rattle.heap_shell.specs.Commands.{makes, numbers_of, restarts_of, IsPlay, CanRun, RunsFormat, PrintsGraph, WritesText, formatted_line};
+ghost use Rattle.heap_shell.specs.Commands.{makes, numbers_of, restarts_of, IsPlay, IsEndOf, CanRun, RunsFormat, PrintsGraph, WritesText, formatted_line};
 ghost use Rattle.heap_shell.specs.CrashSafe.{RunsSafely};
 ghost use Rattle.heap_shell.specs.Headline.{OfTold, PrintsRun, Runs, IsUntouching, EndsUnread, EndsUnmade, IsSound, RestartsDisk, graph_text, stop_after};
 ghost use Rattle.heap_shell.specs.Playable.{IsReadFrom};
@@ -89,9 +90,15 @@ pub fn run<D: Disk, S: Source, K: Sink>(
     // image tells what is so. An image that is no heap is left as it was, and a heap that the run makes is never refused.
     ensures refuses { OfTold D.tells (D.bytes disk) (D.may_leave disk) ((asked : Command) (expected : Status) → command (map string_bytes words.now) ≡ Some asked → makes asked ≡ None
         → IsFault expected (D.bytes disk) → EndsRefused expected result.0 × (sink.new ≡ sink.old)) }
+    // At each moment a crash leaves such an image with the same fault.
+    ensures keeps_fault { OfTold D.tells (D.bytes disk) (D.may_leave disk) ((asked : Command) (expected : Status) → command (map string_bytes words.now) ≡ Some asked → makes asked ≡ None
+        → IsFault expected (D.bytes disk) → LeavesOnly D.moment D.left_since disk result.1 (IsFault expected)) }
     ensures refused { IsTrue D.tells → (asked : Command) → command (map string_bytes words.now) ≡ Some asked → makes asked ≡ None → restarts_of asked ≡ 0 → IsToldOf result.0 (D.bytes disk) }
     ensures left_alone { IsTrue D.tells → (asked : Command) → command (map string_bytes words.now) ≡ Some asked → makes asked ≡ None → restarts_of asked ≡ 0 → IsLeftAlone result.0 → SameContents D.Disk disk result.1 }
     ensures sound { OfTold D.tells (D.bytes disk) (D.may_leave disk) ((asked : Command) (s : Super) → command (map string_bytes words.now) ≡ Some asked → makes asked ≡ Some s → IsSound result.0) }
+
+    // Which statuses each command has.
+    ensures ends { (asked : Command) → command (map string_bytes words.now) ≡ Some asked → IsEndOf asked result.0 }
 
     // Without a fault it is done, on a disk that is large enough for a new heap, or holds a heap.
     ensures complete { OfTold D.tells (D.bytes disk) (D.may_leave disk) ((asked : Command) → command (map string_bytes words.now) ≡ Some asked → CanRun asked (D.extent disk) (D.bytes disk)

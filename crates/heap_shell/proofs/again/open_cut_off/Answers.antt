@@ -1,6 +1,7 @@
 use Rattle.std.proofs.Common.{◌≡◌, ◌≢◌, ◌≤◌, inl, ℕ, min, rules, refl, sym, ap, ◌∙◌, subst, arith}
 use Rattle.counts.specs.Count.{counted}
 use Rattle.disk_model.specs.Disk.{Only}
+use Rattle.disk_model.specs.Moments.{LeavesOnly}
 use Rattle.disk_model.specs.Fuse.{fuse_inner, fuse_passed}
 use Rattle.heap_core.specs.Causes.{ErrorPasses}
 use Rattle.heap_core.specs.declared.errors.OpenError.TheVariants as opening
@@ -138,3 +139,42 @@ returns-then-eq-clause-refuses g c tells only expected fault =
     (λ place damage. fuse_since c.new.result c.in-Err.fuse (IsFaultAt place) (c.in-Err.ensures.moments_damaged tells only_f place damage)) in
     let left = at_end d first cut (IsFault expected) moments (λ t image le may. g.met.D.Disk.counts_now tells cut t image le may) in
     rw c.into_inner-disk.ensures left
+
+pub returns-in-Ok-clause-keeps_fault : goal.returns-in-Ok-clause-keeps_fault
+returns-in-Ok-clause-keeps_fault g c tells only expected fault =
+    let d = g.D.Disk in
+    let inner = c.new.ensures.inner in
+    let first = fuse_inner c.new.result in
+    let cut = fuse_inner c.in-Ok.heap.disk in
+    let at = subst (λ x. IsFault expected (d.bytes x)) (sym inner) fault in
+    let only_f = subst (λ x. Only (d.bytes x) (d.may_leave x)) (sym inner) only in
+    let moments = fault_moments d expected (d.bytes first) first cut at
+    (λ none. fuse_since c.new.result c.in-Ok.heap.disk IsNoHeap (c.in-Ok.ensures.moments_not_heap tells only_f none))
+    (λ place damage. fuse_since c.new.result c.in-Ok.heap.disk (IsFaultAt place) (c.in-Ok.ensures.moments_damaged tells only_f place damage)) in
+    rw (c.into_inner.ensures, c.close.ensures) (subst (λ x. LeavesOnly d.moment d.left_since x cut (IsFault expected)) inner moments)
+
+pub returns-else-eq-clause-keeps_fault : goal.returns-else-eq-clause-keeps_fault
+returns-else-eq-clause-keeps_fault g c tells only expected fault =
+    let d = g.D.Disk in
+    let inner = c.new.ensures.inner in
+    let first = fuse_inner c.new.result in
+    let cut = fuse_inner c.in-Err.fuse in
+    let at = subst (λ x. IsFault expected (d.bytes x)) (sym inner) fault in
+    let only_f = subst (λ x. Only (d.bytes x) (d.may_leave x)) (sym inner) only in
+    let moments = fault_moments d expected (d.bytes first) first cut at
+    (λ none. fuse_since c.new.result c.in-Err.fuse IsNoHeap (c.in-Err.ensures.moments_not_heap tells only_f none))
+    (λ place damage. fuse_since c.new.result c.in-Err.fuse (IsFaultAt place) (c.in-Err.ensures.moments_damaged tells only_f place damage)) in
+    rw c.into_inner-disk.ensures (subst (λ x. LeavesOnly d.moment d.left_since x cut (IsFault expected)) inner moments)
+
+pub returns-then-eq-clause-keeps_fault : goal.returns-then-eq-clause-keeps_fault
+returns-then-eq-clause-keeps_fault g c tells only expected fault =
+    let d = g.D.Disk in
+    let inner = c.new.ensures.inner in
+    let first = fuse_inner c.new.result in
+    let cut = fuse_inner c.in-Err.fuse in
+    let at = subst (λ x. IsFault expected (d.bytes x)) (sym inner) fault in
+    let only_f = subst (λ x. Only (d.bytes x) (d.may_leave x)) (sym inner) only in
+    let moments = fault_moments d expected (d.bytes first) first cut at
+    (λ none. fuse_since c.new.result c.in-Err.fuse IsNoHeap (c.in-Err.ensures.moments_not_heap tells only_f none))
+    (λ place damage. fuse_since c.new.result c.in-Err.fuse (IsFaultAt place) (c.in-Err.ensures.moments_damaged tells only_f place damage)) in
+    rw c.into_inner-disk.ensures (subst (λ x. LeavesOnly d.moment d.left_since x cut (IsFault expected)) inner moments)

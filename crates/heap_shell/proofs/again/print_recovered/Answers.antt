@@ -18,7 +18,7 @@ use Rattle.heap_shell.proofs.PlayOpen.{opened_core, opened_unfailed}
 use Rattle.heap_shell.proofs.PlayPrints.{wrote_again}
 use Rattle.heap_shell.proofs.Statuses.{open_not_done}
 use Rattle.heap_shell.proofs.PrintRecovered.{Left, legal_of, keeps_first, few_commits, since_before, recovers_nothing, recovers_first}
-use Rattle.heap_shell.proofs.RefusalLaws.{refused_by, not_opened}
+use Rattle.heap_shell.proofs.RefusalLaws.{refused_by, not_opened, fault_moments}
 use Rattle.heap_shell.proofs.again.print_recovered.Goals as goal
 
 -- an opening leaves the same commits at each moment
@@ -92,3 +92,10 @@ returns-in-Err-clause-refuses g c tells expected fault = (rw c.from.ensures (ref
 -- what can't be opened is not printed
 pub returns-clause-refuses : goal.returns-clause-refuses
 returns-clause-refuses g c tells expected fault = absurd (not_opened expected (g.D.Disk.bytes c.args.disk) fault (c.in-Ok.ensures.not_heap tells) (c.in-Ok.ensures.damaged tells))
+
+pub returns-in-Err-clause-keeps_fault : goal.returns-in-Err-clause-keeps_fault
+returns-in-Err-clause-keeps_fault g c tells only expected fault =
+    fault_moments g.D.Disk expected (g.D.Disk.bytes c.args.disk) c.args.disk c.in-Err.disk fault (c.in-Err.ensures.moments_not_heap tells only) (c.in-Err.ensures.moments_damaged tells only)
+
+pub returns-clause-keeps_fault : goal.returns-clause-keeps_fault
+returns-clause-keeps_fault g c tells only expected fault = absurd (not_opened expected (g.D.Disk.bytes c.args.disk) fault (c.in-Ok.ensures.not_heap tells) (c.in-Ok.ensures.damaged tells))

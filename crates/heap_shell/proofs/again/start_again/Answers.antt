@@ -1,4 +1,7 @@
 use Rattle.std.proofs.Common.{Some, None, refl, ap, ◌∙◌, subst, arith}
+use Rattle.disk_model.specs.Moments.{weaker}
+use Rattle.heap_shell.specs.Refusals.{IsFault}
+use Rattle.heap_shell.proofs.PlayOpen.{opening_then}
 use Rattle.counts.specs.Count.{raised}
 use Rattle.disk_model.specs.Fuse.{fuse_inner}
 use Rattle.heap_shell.specs.Headline.{Restarts}
@@ -126,3 +129,42 @@ returns-in-Ok-clause-refuses g c tells expected leaves =
     let again = c.restart.ensures.restarts tells in
     let cut = c.in-Ok.ensures.refuses tells started.only expected (leaves (d.bytes c.restart-disk.result) started.left) in
     c.print_recovered-in-Ok.ensures.refuses tells expected (cut (d.bytes c.restart.result) again.left)
+
+-- At each moment, in a restart and in each opening behind one, the fault stays.
+pub returns-in-None-clause-keeps_fault : goal.returns-in-None-clause-keeps_fault
+returns-in-None-clause-keeps_fault g c tells expected leaves =
+    let d = g.D.Disk in
+    let old = fuse_inner c.args.fuse in
+    let first = c.restart-disk.result in
+    let started = subst (λ x. Restarts d x first) c.into_inner.ensures (c.restart-disk.ensures.restarts tells) in
+    let moved = weaker d.moment d.left_since old first (d.may_leave old) (IsFault expected) started.moments leaves in
+    opening_then d.moment d.left_since old first c.print_recovered.result.1 (IsFault expected) (IsFault expected) moved
+    (c.print_recovered.ensures.keeps_fault tells started.only expected (leaves (d.bytes first) started.left)) (λ image same. same)
+
+pub returns-in-Ok-clause-keeps_fault : goal.returns-in-Ok-clause-keeps_fault
+returns-in-Ok-clause-keeps_fault g c tells expected leaves =
+    let d = g.D.Disk in
+    let old = fuse_inner c.args.fuse in
+    let first = c.restart-disk.result in
+    let cut = c.in-Ok.disk in
+    let last = c.restart.result in
+    let final = c.print_recovered-in-Ok.result.1 in
+    let started = subst (λ x. Restarts d x first) c.into_inner.ensures (c.restart-disk.ensures.restarts tells) in
+    let again = c.restart.ensures.restarts tells in
+    let fault = leaves (d.bytes first) started.left in
+    let behind = c.in-Ok.ensures.refuses tells started.only expected fault in
+    let P = IsFault expected in
+    let moved = weaker d.moment d.left_since old first (d.may_leave old) P started.moments leaves in
+    let opened = opening_then d.moment d.left_since old first cut P P moved (c.in-Ok.ensures.keeps_fault tells started.only expected fault) (λ image same. same) in
+    let back = opening_then d.moment d.left_since old cut last P P opened (weaker d.moment d.left_since cut last (d.may_leave cut) P again.moments behind) (λ image same. same) in
+    opening_then d.moment d.left_since old last final P P back (c.print_recovered-in-Ok.ensures.keeps_fault tells again.only expected (behind (d.bytes last) again.left)) (λ image same. same)
+
+pub returns-in-Err-clause-keeps_fault : goal.returns-in-Err-clause-keeps_fault
+returns-in-Err-clause-keeps_fault g c tells expected leaves =
+    let d = g.D.Disk in
+    let old = fuse_inner c.args.fuse in
+    let first = c.restart-disk.result in
+    let started = subst (λ x. Restarts d x first) c.into_inner.ensures (c.restart-disk.ensures.restarts tells) in
+    let moved = weaker d.moment d.left_since old first (d.may_leave old) (IsFault expected) started.moments leaves in
+    opening_then d.moment d.left_since old first c.in-Err.disk (IsFault expected) (IsFault expected) moved
+    (c.in-Err.ensures.keeps_fault tells started.only expected (leaves (d.bytes first) started.left)) (λ image same. same)

@@ -22,7 +22,7 @@ use Rattle.heap_shell.proofs.Causes.{rose_within}
 use Rattle.heap_shell.proofs.Counts.{counted_mono}
 use Rattle.heap_shell.proofs.PlayEnds.{run_reached, kept, halt_part, halt_lines, stopped_lines, ends_early, ends_recovered, ends_made, exact_some, passes_some, passes_within}
 use Rattle.heap_shell.proofs.PlayFuse.{same_disk, same_limit, rose_some, fuse_since, fuse_passes, fuse_none, fuse_most, fuse_steps_of}
-use Rattle.heap_shell.proofs.PlayOpen.{few_calls, stored_running, stored_keeps, stored_moments, ends_unopened, ends_stopped, unstarted, opened_core}
+use Rattle.heap_shell.proofs.PlayOpen.{opening_then, few_calls, stored_running, stored_keeps, stored_moments, ends_unopened, ends_stopped, unstarted, opened_core}
 use Rattle.heap_shell.proofs.PrintRecovered.{whole_count, fails_few, fails_none, no_rollback, stops_before}
 use Rattle.heap_shell.proofs.Statuses.{early_none, early_some, halt_end, halt_not_done, open_not_done, open_fault}
 use Rattle.heap_recovery.specs.Faults.{IsNoHeap, IsFaultAt}
@@ -329,6 +329,46 @@ returns-in-None-clause-refuses g c tells only expected fault =
 
 pub returns-in-Some-clause-refuses : goal.returns-in-Some-clause-refuses
 returns-in-Some-clause-refuses g c tells only expected fault =
+    let d = g.D.Disk in
+    let at = subst (λ x. IsFault expected (d.bytes x)) (sym c.new.ensures.inner) fault in
+    absurd (not_opened expected (d.bytes (fuse_inner c.new.result)) at (c.in-Ok.ensures.not_heap tells) (c.in-Ok.ensures.damaged tells))
+
+pub returns-in-Err-clause-keeps_fault : goal.returns-in-Err-clause-keeps_fault
+returns-in-Err-clause-keeps_fault g c tells only expected fault =
+    let d = g.D.Disk in
+    let inner = c.new.ensures.inner in
+    let first = fuse_inner c.new.result in
+    let cut = fuse_inner c.in-Err.fuse in
+    let at = subst (λ x. IsFault expected (d.bytes x)) (sym inner) fault in
+    let only_f = subst (λ x. Only (d.bytes x) (d.may_leave x)) (sym inner) only in
+    let moments = fault_moments d expected (d.bytes first) first cut at
+    (λ none. fuse_since c.new.result c.in-Err.fuse IsNoHeap (c.in-Err.ensures.moments_not_heap tells only_f none))
+    (λ place damage. fuse_since c.new.result c.in-Err.fuse (IsFaultAt place) (c.in-Err.ensures.moments_damaged tells only_f place damage)) in
+    rw c.into_inner.ensures (subst (λ x. LeavesOnly d.moment d.left_since x cut (IsFault expected)) inner moments)
+
+pub returns-then-eq-clause-keeps_fault : goal.returns-then-eq-clause-keeps_fault
+returns-then-eq-clause-keeps_fault g c tells only expected fault =
+    let d = g.D.Disk in
+    let inner = c.new.ensures.inner in
+    let first = fuse_inner c.new.result in
+    let stopped = fuse_inner c.in-Err.fuse in
+    let at = subst (λ x. IsFault expected (d.bytes x)) (sym inner) fault in
+    let only_f = subst (λ x. Only (d.bytes x) (d.may_leave x)) (sym inner) only in
+    let moments = fault_moments d expected (d.bytes first) first stopped at
+    (λ none. fuse_since c.new.result c.in-Err.fuse IsNoHeap (c.in-Err.ensures.moments_not_heap tells only_f none))
+    (λ place damage. fuse_since c.new.result c.in-Err.fuse (IsFaultAt place) (c.in-Err.ensures.moments_damaged tells only_f place damage)) in
+    let left = at_end d first stopped (IsFault expected) moments (λ t image le may. g.met.D.Disk.counts_now tells stopped t image le may) in
+    opening_then d.moment d.left_since c.args.disk stopped c.start_again.result.1 (IsFault expected) (IsFault expected)
+    (subst (λ x. LeavesOnly d.moment d.left_since x stopped (IsFault expected)) inner moments) (c.start_again.ensures.keeps_fault tells expected left) (λ image same. same)
+
+pub returns-in-None-clause-keeps_fault : goal.returns-in-None-clause-keeps_fault
+returns-in-None-clause-keeps_fault g c tells only expected fault =
+    let d = g.D.Disk in
+    let at = subst (λ x. IsFault expected (d.bytes x)) (sym c.new.ensures.inner) fault in
+    absurd (not_opened expected (d.bytes (fuse_inner c.new.result)) at (c.in-Ok.ensures.not_heap tells) (c.in-Ok.ensures.damaged tells))
+
+pub returns-in-Some-clause-keeps_fault : goal.returns-in-Some-clause-keeps_fault
+returns-in-Some-clause-keeps_fault g c tells only expected fault =
     let d = g.D.Disk in
     let at = subst (λ x. IsFault expected (d.bytes x)) (sym c.new.ensures.inner) fault in
     absurd (not_opened expected (d.bytes (fuse_inner c.new.result)) at (c.in-Ok.ensures.not_heap tells) (c.in-Ok.ensures.damaged tells))

@@ -15,7 +15,7 @@ use Rattle.heap_shell.proofs.Counts.{counted_mono}
 use Rattle.heap_shell.proofs.PlayEnds.{run_reached, unfailed_only, lines_wrote, halt_part, halt_lines, keeps_own, ends_early, ends_whole, exact_none, exact_passes, passes_most}
 use Rattle.heap_shell.proofs.PlayOpen.{stored_running, stored_keeps, stored_moments, ends_unopened, opened_core, played_unfailed}
 use Rattle.heap_shell.proofs.PrintRecovered.{fails_most, fails_none}
-use Rattle.heap_shell.proofs.RefusalLaws.{told_status, end_told, end_not_alone, refused_by, not_opened, alone_early}
+use Rattle.heap_shell.proofs.RefusalLaws.{told_status, end_told, end_not_alone, refused_by, not_opened, alone_early, fault_moments}
 use Rattle.heap_shell.specs.Refusals.{IsLeftAlone}
 use Rattle.heap_shell.proofs.Statuses.{written_end, halt_end, halt_not_done, open_not_done, open_harm}
 use Rattle.heap_shell.proofs.PlayPrints.{reached, prints_early, prints_whole}
@@ -159,3 +159,13 @@ returns-in-Ok-play_all-clause-left_alone g c tells alone = absurd (end_not_alone
 
 pub returns-in-Err-play_all-clause-left_alone : goal.returns-in-Err-play_all-clause-left_alone
 returns-in-Err-play_all-clause-left_alone g c tells alone = absurd (end_not_alone _ (halt_end c.in-Err-play_all.halt) (subst IsLeftAlone c.from-in-Err-play_all.ensures alone))
+
+pub returns-in-Err-clause-keeps_fault : goal.returns-in-Err-clause-keeps_fault
+returns-in-Err-clause-keeps_fault g c tells only expected fault =
+    fault_moments g.D.Disk expected (g.D.Disk.bytes c.args.disk) c.args.disk c.in-Err.disk fault (c.in-Err.ensures.moments_not_heap tells only) (c.in-Err.ensures.moments_damaged tells only)
+
+pub returns-in-Ok-play_all-clause-keeps_fault : goal.returns-in-Ok-play_all-clause-keeps_fault
+returns-in-Ok-play_all-clause-keeps_fault g c tells only expected fault = absurd (not_opened expected (g.D.Disk.bytes c.args.disk) fault (c.in-Ok.ensures.not_heap tells) (c.in-Ok.ensures.damaged tells))
+
+pub returns-in-Err-play_all-clause-keeps_fault : goal.returns-in-Err-play_all-clause-keeps_fault
+returns-in-Err-play_all-clause-keeps_fault g c tells only expected fault = absurd (not_opened expected (g.D.Disk.bytes c.args.disk) fault (c.in-Ok.ensures.not_heap tells) (c.in-Ok.ensures.damaged tells))

@@ -1,6 +1,7 @@
 use Rattle.std.proofs.Common.{inr}
 use Rattle.heap_core.specs.Format.{heap_of}
 use Rattle.heap_shell.specs.Commands.{formatted_line}
+use Rattle.heap_shell.proofs.CommandLaws.{written_format, format_ends}
 use Rattle.heap_shell.proofs.RunLaws.{large_made}
 use Rattle.heap_shell.proofs.Statuses.{written_end, wrote_all}
 use Rattle.heap_shell.proofs.Written.{wrote_some}
@@ -22,3 +23,9 @@ returns-in-Ok-clause-formats g c tells only =
       };
       end = written_end c.write_size.result;
     }))
+
+pub returns-in-Ok-clause-ends : goal.returns-in-Ok-clause-ends
+returns-in-Ok-clause-ends g c = rw c.status_after.ensures (written_format c.args.numbers _ (written_end c.write_size.result))
+
+pub returns-in-Err-clause-ends : goal.returns-in-Err-clause-ends
+returns-in-Err-clause-ends g c = rw c.from.ensures (format_ends c.args.numbers c.in-Err.e)

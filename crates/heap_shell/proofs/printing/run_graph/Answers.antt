@@ -8,7 +8,7 @@ use Rattle.heap_model.specs.Opening.{opened, opening_calls, IsLeftByOpening}
 use Rattle.heap_shell.specs.Headline.{IsEndOfPlay, graph_text}
 use Rattle.heap_shell.proofs.PlayOpen.{opened_core, opened_unfailed}
 use Rattle.heap_shell.proofs.PrintRecovered.{fails_most}
-use Rattle.heap_shell.proofs.RefusalLaws.{told_status, end_told, end_not_alone, refused_by, not_opened, alone_early}
+use Rattle.heap_shell.proofs.RefusalLaws.{told_status, end_told, end_not_alone, refused_by, not_opened, alone_early, fault_moments}
 use Rattle.heap_shell.specs.Refusals.{IsLeftAlone}
 use Rattle.heap_shell.proofs.Statuses.{open_end, open_not_done, written_end, wrote_all}
 use Rattle.heap_shell.proofs.Written.{none_written, wrote_some}
@@ -88,3 +88,10 @@ returns-in-Ok-clause-left_alone g c tells alone = absurd (end_not_alone _ (writt
 
 pub returns-in-Err-clause-left_alone : goal.returns-in-Err-clause-left_alone
 returns-in-Err-clause-left_alone g c tells alone = (c.in-Err.ensures.left_alone (alone_early c.in-Err.e (subst IsLeftAlone c.from.ensures alone))).contents tells
+
+pub returns-in-Err-clause-keeps_fault : goal.returns-in-Err-clause-keeps_fault
+returns-in-Err-clause-keeps_fault g c tells only expected fault =
+    fault_moments g.D.Disk expected (g.D.Disk.bytes c.args.disk) c.args.disk c.in-Err.disk fault (c.in-Err.ensures.moments_not_heap tells only) (c.in-Err.ensures.moments_damaged tells only)
+
+pub returns-in-Ok-clause-keeps_fault : goal.returns-in-Ok-clause-keeps_fault
+returns-in-Ok-clause-keeps_fault g c tells only expected fault = absurd (not_opened expected (g.D.Disk.bytes c.args.disk) fault (c.in-Ok.ensures.not_heap tells) (c.in-Ok.ensures.damaged tells))

@@ -11,7 +11,7 @@ use Rattle.heap_model.specs.CoreLawsOpened.{address_found}
 use Rattle.heap_shell.specs.Commands.{makes, CanRun}
 use Rattle.heap_shell.specs.CrashSafe.{RunsSafely}
 use Rattle.heap_shell.specs.Headline.{made_super}
-use Rattle.heap_shell.proofs.CommandLaws.{same_play, graph_unread}
+use Rattle.heap_shell.proofs.CommandLaws.{same_play, graph_unread, play_ends, unread_ends}
 use Rattle.heap_shell.proofs.RunLaws.{runs_safely, end_done}
 use Rattle.heap_shell.proofs.run.run.Goals as goal
 
@@ -56,3 +56,21 @@ returns-in-Graph-clause-complete g c tells only which is can script no_source no
     let found = address_found shaped.0 shaped.1 shaped.2.log in
     let printed = c.run_graph.ensures.graph tells only shaped.0 shaped.1 shaped.2 _ found.0 found.1 found.2 in
     end_done _ _ c.run_graph.result.0 printed.end c.run_graph.ensures.disk.cause c.run_graph.ensures.sink.cause no_disk no_sink
+
+pub returns-in-Err-clause-ends : goal.returns-in-Err-clause-ends
+returns-in-Err-clause-ends g c which is = unread_ends which _ c.in-Err.e c.from.result is (λ (same : c.in-Err.e ≡ asking.Usage). c.in-Err.ensures.usage (ap (λ (x : CommandError). Err x) same)) c.from.ensures
+
+pub returns-in-Format-clause-ends : goal.returns-in-Format-clause-ends
+returns-in-Format-clause-ends g c which is =
+    let same : which ≡ asked.Format c.in-Format.numbers = cc (is, c.in-Ok.ensures.read, c.in-Format.is) in
+    rw same c.run_format.ensures.ends
+
+pub returns-in-Play-clause-ends : goal.returns-in-Play-clause-ends
+returns-in-Play-clause-ends g c which is =
+    let same : which ≡ asked.Play c.in-Play.fresh c.in-Play.stop = cc (is, c.in-Ok.ensures.read, c.in-Play.is) in
+    rw same (play_ends c.in-Play.fresh c.in-Play.stop c.run_play.result.0 c.run_play.ensures.usage)
+
+pub returns-in-Graph-clause-ends : goal.returns-in-Graph-clause-ends
+returns-in-Graph-clause-ends g c which is =
+    let same : which ≡ asked.Graph = cc (is, c.in-Ok.ensures.read, c.in-Graph.is) in
+    rw same c.run_graph.ensures.end
