@@ -119,7 +119,8 @@ impl<D: Disk> Heap<D> {
     ghost use Rattle.heap_recovery.specs.declared.at.At.{At};
     ghost use Rattle.heap_recovery.specs.Faults.{IsNoHeap, HoldsLog, IsFaultAt};
 
-    /// Opens the heap on the disk.
+    /// Opens the heap on the disk. An error gives the disk back. `NotHeap` and `Damaged` tell the first fault of its image, and the disk is then as it
+    /// was, but for a fault at an address: that is told after the rollback was forced.
     pub fn open(alloc: Global, mut disk: D) -> Result<Heap<D>, (OpenError, D)>
         ensures disk { KeepsDisk D.Disk disk (opened_disk result) (opened_device result) }
 

@@ -46,6 +46,8 @@ pub struct Recovered {
 
 /// Opens the image on the disk. The writes of unfinished transactions are rolled back, ascending by number and each newest
 /// first, by one forced batch of compensation records (repeating history as in ARIES, 1992); where there are none the disk is only read.
+/// `NotHeap` and `Damaged` tell the first fault of the image. The disk is then as it was, but for a fault at an address: that is told
+/// after the rollback was forced.
 pub fn recover<D: Disk>(alloc: Global, disk: &mut D) -> Result<Recovered, RecoverError>
     // On every disk what is opened is a shaped log, rolled back.
     ensures opens { IfOk result (λ found. (s : Super) × (batches : List (List Record)) × IsShapedLog s batches × IsRecovered s batches found) }
