@@ -75,6 +75,10 @@ module _ {D : Type 0} {g : Ghosts D} (s : Super) (c : Core) (running : IsRunning
   pub kept : (image : List ℕ) → g.may_leave new.disk image → KeepsCommits core image
   kept = heap_leaves s core new plays.heap run_reached.1
 
+  -- nothing is unsynced where the disk has not failed
+  pub unfailed_only : (account core.history).failed ≡ None → Only (g.bytes new.disk) (g.may_leave new.disk)
+  unfailed_only unfailed = (plays.heap.disk.unfailed unfailed).only
+
   abbrev all : ℕ
   all = length (sealed core.history)
 

@@ -3,21 +3,28 @@ use crate::Status;
 use crate::tests::{ONE_COMMIT, Played, make_disk, play_on};
 use disk_model::{MemoryDisk, Pick};
 use graph_model::{Event, Refusal, Reply};
-use heap_core::{Heap, OpenError};
+use heap_core::Heap;
 use heap_recovery::At;
-use std::alloc::Global;
+use std::alloc::{AllocError, Global};
 use std::process::Abort;
 use std::test::Fail;
 
 /// The bytes of the image of a heap of one page a space and a log of 65,536 bytes.
 const SMALL_IMAGE: usize = 67_712;
 
-/// The writes and syncs that make it on zeros: two pieces of zeros, and four for the superblock.
-const SMALL_FORMAT: u64 = 6;
-
 const SMALL_FORMAT_LINE: &str = "heap format 1 65536 1";
 
 const RECORD_BYTES: usize = 1_048_576;
+
+/// A disk of memory with these bytes, whose listed writes and syncs fail.
+fn disk_of(
+    alloc: Global,
+    bytes: Vec<u8>,
+    pick: Pick,
+    fails: Vec<u64>,
+) -> Result<MemoryDisk, AllocError> {
+    MemoryDisk::of(alloc, bytes, pick, RECORD_BYTES, fails, Vec::new(alloc))
+}
 
 /// Runs one command line on a disk with streams that don't fail, and gives the disk back.
 fn run_on(
@@ -108,14 +115,7 @@ fn heap_with_a_loser(rt: &impl Abort, alloc: Global) -> Result<Vec<u8>, Fail> {
     )?;
     let fails = vec![in alloc; 5u64]?;
     let bytes = disk.contents().to_vec(alloc)?;
-    let disk = MemoryDisk::of(
-        alloc,
-        bytes,
-        Pick::Newest,
-        RECORD_BYTES,
-        fails,
-        Vec::new(alloc),
-    )?;
+    let disk = disk_of(alloc, bytes, Pick::Newest, fails)?;
     let lines =
         "1 begin -> begun 2\n1 root 0 -> done\n1 put 0 0 8 -> done\nforce -> durable 0\n1 put 0 0 9 -> done\nforce -> diskfault\n";
     let disk = expect(
@@ -143,14 +143,7 @@ fn an_opening_that_is_stopped_recovers_none_of_the_run(rt: HostRuntime) -> Resul
             "heap play --stop 2",
             "heap play --stop 3 --again 1",
         ] {
-            let disk = MemoryDisk::of(
-                alloc,
-                image.clone()?,
-                pick,
-                RECORD_BYTES,
-                Vec::new(alloc),
-                Vec::new(alloc),
-            )?;
+            let disk = disk_of(alloc, image.clone()?, pick, Vec::new(alloc))?;
             let disk = expect(&rt, alloc, (line, ONE_COMMIT), (Status::Done, text), disk)?;
             expect(
                 &rt,
@@ -200,6 +193,15 @@ fn a_disk_has_the_bytes_of_the_image_or_is_left_alone(rt: HostRuntime) -> Result
     Ok(())
 }
 
+/// The image with one byte changed.
+fn spoiled(image: &Vec<u8>, at: usize, byte: u8) -> Result<Vec<u8>, AllocError> {
+    let mut bytes = image.clone()?;
+    if let Some(place) = bytes.get_mut(at) {
+        *place = byte;
+    }
+    Ok(bytes)
+}
+
 #[test]
 fn what_is_no_heap_or_damaged_is_refused(rt: HostRuntime) -> Result<(), Fail> {
     let alloc = rt.alloc();
@@ -217,16 +219,8 @@ fn what_is_no_heap_or_damaged_is_refused(rt: HostRuntime) -> Result<(), Fail> {
     ];
     for (at, byte, status) in cases {
         for line in ["heap graph", "heap play", "heap play --stop 0"] {
-            let mut bytes = image.clone()?;
-            bytes[at] = byte;
-            let disk = MemoryDisk::of(
-                alloc,
-                bytes,
-                Pick::Newest,
-                RECORD_BYTES,
-                Vec::new(alloc),
-                Vec::new(alloc),
-            )?;
+            let bytes = spoiled(&image, at, byte)?;
+            let disk = disk_of(alloc, bytes, Pick::Newest, Vec::new(alloc))?;
             let (played, _) = run_on(alloc, line, "", disk)?;
             assert_eq!(rt; played.status, status);
             if status != Status::Done {
@@ -234,17 +228,8 @@ fn what_is_no_heap_or_damaged_is_refused(rt: HostRuntime) -> Result<(), Fail> {
             }
         }
     }
-    let mut bytes = image.clone()?;
-    bytes[64] = 1;
-    bytes[65] = 1;
-    let disk = MemoryDisk::of(
-        alloc,
-        bytes,
-        Pick::Newest,
-        RECORD_BYTES,
-        Vec::new(alloc),
-        Vec::new(alloc),
-    )?;
+    let bytes = spoiled(&spoiled(&image, 64, 1)?, 65, 1)?;
+    let disk = disk_of(alloc, bytes, Pick::Newest, Vec::new(alloc))?;
     expect(
         &rt,
         alloc,
@@ -259,18 +244,10 @@ fn what_is_no_heap_or_damaged_is_refused(rt: HostRuntime) -> Result<(), Fail> {
 fn a_fault_in_a_force_ends_the_run_and_fails_the_heap(rt: HostRuntime) -> Result<(), Fail> {
     let alloc = rt.alloc();
     let image = small_heap(&rt, alloc)?.contents().to_vec(alloc)?;
-    let fails = vec![in alloc; 2u64]?;
-    let disk = MemoryDisk::of(
-        alloc,
-        image,
-        Pick::Newest,
-        RECORD_BYTES,
-        fails,
-        Vec::new(alloc),
-    )?;
+    let disk = disk_of(alloc, image.clone()?, Pick::Newest, vec![in alloc; 2u64]?)?;
     let lines =
         "1 begin -> begun 1\n1 root 0 -> done\n1 put 0 0 7 -> done\n1 seal -> sealed 1\nforce -> diskfault\n";
-    let disk = expect(
+    expect(
         &rt,
         alloc,
         ("heap play", ONE_COMMIT),
@@ -278,33 +255,21 @@ fn a_fault_in_a_force_ends_the_run_and_fails_the_heap(rt: HostRuntime) -> Result
         disk,
     )?;
     // A step behind the fifth entry tells it.
-    let fails = vec![in alloc; 2u64]?;
-    let bytes = disk.contents().to_vec(alloc)?;
-    let disk = MemoryDisk::of(
-        alloc,
-        bytes,
-        Pick::Newest,
-        RECORD_BYTES,
-        fails,
-        Vec::new(alloc),
-    )?;
-    let Ok(mut heap) = Heap::open(alloc, disk) else {
-        return Err(Fail);
+    let disk = disk_of(alloc, image, Pick::Newest, vec![in alloc; 2u64]?)?;
+    let mut heap = match Heap::open(alloc, disk) {
+        Ok(heap) => heap,
+        Err((e, _)) => return Err(Fail::from(e)),
     };
-    for event in [
-        Event::Begin { s: 1 },
-        Event::Root { s: 1, h: 0 },
-        Event::Put {
-            s: 1,
-            h: 0,
-            i: 0,
-            v: 7,
-        },
-        Event::Seal { s: 1 },
-        Event::Force,
-    ] {
-        heap.step(event)?;
-    }
+    heap.step(Event::Begin { s: 1 })?;
+    heap.step(Event::Root { s: 1, h: 0 })?;
+    heap.step(Event::Put {
+        s: 1,
+        h: 0,
+        i: 0,
+        v: 7,
+    })?;
+    heap.step(Event::Seal { s: 1 })?;
+    heap.step(Event::Force)?;
     let failed = Reply::Refused {
         why: Refusal::Failed { entry: 5 },
     };
