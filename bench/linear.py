@@ -9,6 +9,7 @@ is played five times, and the least time of the five counts. It measures and jud
 import os
 import subprocess
 import sys
+import tempfile
 import time
 
 TOP = os.path.dirname(os.path.dirname(os.path.realpath(__file__)))
@@ -57,4 +58,6 @@ def main():
 
 
 if __name__ == "__main__":
-    main()
+    with tempfile.TemporaryDirectory() as room:  # each run makes its heap.img there
+        os.chdir(room)
+        main()

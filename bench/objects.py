@@ -10,6 +10,7 @@ time of the nine counts. It measures and judges nothing.
 import os
 import subprocess
 import sys
+import tempfile
 import time
 
 TOP = os.path.dirname(os.path.dirname(os.path.realpath(__file__)))
@@ -76,4 +77,6 @@ def main():
 
 
 if __name__ == "__main__":
-    main()
+    with tempfile.TemporaryDirectory() as room:  # each run makes its heap.img there
+        os.chdir(room)
+        main()

@@ -13,6 +13,7 @@ import os
 import resource
 import subprocess
 import sys
+import tempfile
 
 TOP = os.path.dirname(os.path.dirname(os.path.realpath(__file__)))
 HEAP = os.path.join(TOP, "heap")
@@ -86,4 +87,6 @@ def main():
 
 
 if __name__ == "__main__":
-    main()
+    with tempfile.TemporaryDirectory() as room:  # each run makes its heap.img there
+        os.chdir(room)
+        main()

@@ -1,10 +1,15 @@
 #!/bin/sh
 # Plays each example and compares its output and exit status, and then what README.md and the pages here quote of them.
 # It is no part of the gate.
-cd "$(dirname "$0")/.." || exit 1
-room=$(mktemp -d) || exit 1
-trap 'rm -rf "$room"' EXIT
+#
+#     examples/check.sh [--quick]
+#
+# With --quick the program is compiled with nothing proved. Each example has its heap in a temporary folder.
+. "$(dirname "$0")/room.sh"
+examples=$top/examples
 out=$room/out err=$room/err failed=0
+mkdir "$room/heaps"
+cd "$room/heaps" || exit 1
 
 # tell NAME STATUS WANTED DIFFERS: says whether the example went as it must, by the comparison's status too.
 tell() {
@@ -22,29 +27,29 @@ made() {
     shift
     "$@" >"$out"
     status=$?
-    cmp -s "$out" "examples/$wanted"
+    cmp -s "$out" "$examples/$wanted"
     tell "$wanted" "$status" 0 $?
 }
 
-# example OUTPUT SCRIPT WORDS..
+# example OUTPUT SCRIPT WORDS..: the script on a new heap.
 example() {
     wanted=$1 script=$2
     shift 2
-    made "$wanted" ./heap play --fresh 1 "$@" <"examples/$script"
+    made "$wanted" heap play --fresh 1 "$@" <"$examples/$script"
 }
 
-# quick OUTPUT SCRIPT: the program as it is compiled with nothing proved.
-quick() {
-    made "$1" ./heap --quick play --fresh 1 <"examples/$2" 2>/dev/null
+# told NAME: what the script of that name writes. It works in a folder of its own.
+told() {
+    made "$1.out" "$examples/$1.sh" $quick
 }
 
 # complains ERROR STATUS LINES WORDS..: nothing on standard output, and these last lines on standard error.
 complains() {
     wanted=$1 expected=$2 lines=$3
     shift 3
-    ./heap "$@" >"$out" 2>"$err"
+    "$top/heap" "$@" >"$out" 2>"$err"
     status=$?
-    [ ! -s "$out" ] && tail -n "$lines" "$err" | cmp -s - "examples/$wanted"
+    [ ! -s "$out" ] && tail -n "$lines" "$err" | cmp -s - "$examples/$wanted"
     tell "$wanted" "$status" "$expected" $?
 }
 
@@ -52,18 +57,21 @@ complains() {
 quotes() {
     page=$1 file=$2
     shift 2
-    python3 examples/quoted.py "$page" "examples/$file" "$@"
+    python3 "$examples/quoted.py" "$top/$page" "$examples/$file" "$@"
     tell "$page quotes $file" $? 0 0
 }
 
 # A signal to the launcher ends the program.
 passes_signals_on() {
     mkfifo "$room/script"
-    ./heap play --fresh 1 <"$room/script" >"$out" 2>&1 &
+    "$top/heap" $quick play --fresh 1 <"$room/script" >"$out" 2>&1 &
     launcher=$!
     exec 3>"$room/script"
-    sleep 1
-    program=$(pgrep -P "$launcher")
+    program=
+    for try in 1 2 3 4 5 6 7 8 9 10; do
+        sleep 1
+        program=$(pgrep -P "$launcher" heap_shell) && break
+    done
     kill -TERM "$launcher"
     wait "$launcher"
     status=$?
@@ -96,27 +104,32 @@ example early_read_stopped.out early_read.script --stop 2
 example losers.out losers.script
 example losers_rolled_back.out losers.script --stop 8
 example losers_stopped_twice.out losers.script --stop 7 --again 2
-made every_stop.out examples/every_stop.sh
-made refused.out examples/refused.sh
+told stored
+told in_use
+told full_heap
+told spoiled
+told every_stop
+told refused
 
-examples/full_log.sh | ./heap play --fresh 1 >"$out"
+"$examples/full_log.sh" | heap play --fresh 1 >"$out"
 status=$?
-tail -n 7 "$out" | cmp -s - examples/full_log.out
+tail -n 7 "$out" | cmp -s - "$examples/full_log.out"
 tell full_log.out "$status" 0 $?
 
-complains bad_line.err 3 1 play --fresh 1 <examples/bad_line.script
-complains usage.err 2 2 play --fresh 0 </dev/null
-complains help.err 2 3 </dev/null
+complains bad_line.err 3 1 $quick play --fresh 1 <"$examples/bad_line.script"
+complains usage.err 2 3 $quick play --fresh 0 </dev/null
+complains help.err 2 4 </dev/null
+complains quick.err 2 4 --quick play --fresh 0 </dev/null
 passes_signals_on
 
-# Each of these compiles the program.
-quick first.out first.script
-complains quick.err 2 3 --quick play </dev/null
-
-made list.dot tools/graph_to_dot <examples/list.out
+made list.dot "$top/tools/graph_to_dot" <"$examples/list.out"
 
 quotes README.md first.out --notes
 quotes README.md every_stop.out
+quotes examples/README.md stored.out
+quotes examples/README.md in_use.out
+quotes examples/README.md full_heap.out
+quotes examples/README.md spoiled.out
 quotes examples/README.md transfer.script
 quotes examples/README.md stopped_twice.out
 quotes examples/README.md conflict.out --from "1 begin -> begun 2"

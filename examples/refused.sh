@@ -1,7 +1,10 @@
 #!/bin/sh
 # Prints for each of some lines why it is refused, the line itself, and what the program says. A \t in a line stands
 # for a tab, and a \r for a carriage return.
-heap=$(dirname "$0")/../heap
+#
+#     examples/refused.sh [--quick]
+. "$(dirname "$0")/room.sh"
+cd "$room" || exit
 
 # row WHY LINE SAID
 row() {
@@ -10,17 +13,17 @@ row() {
 
 # bad WHY LINE: plays the line alone. It is outside of the grammar, so the program says so on standard error.
 bad() {
-    row "$1" "$2" "$(printf '%b\n' "$2" | "$heap" play --fresh 1 2>&1 | head -n 1)"
+    row "$1" "$2" "$(printf '%b\n' "$2" | heap play --fresh 1 2>&1 | head -n 1)"
 }
 
 # refused WHY LINE: plays the line in a transaction whose handle 0 holds the root. The heap refuses it in the third reply.
 refused() {
-    row "$1" "$2" "$(printf '1 begin\n1 root 0\n%s\n' "$2" | "$heap" play --fresh 1 | sed -n '3s/.*-> //p')"
+    row "$1" "$2" "$(printf '1 begin\n1 root 0\n%s\n' "$2" | heap play --fresh 1 | sed -n '3s/.*-> //p')"
 }
 
 # locked WHY LINE: plays the line in session 2, whose handle 0 holds the root, into which session 1 has written.
 locked() {
-    row "$1" "$2" "$(printf '1 begin\n1 root 0\n1 put 0 0 7\n2 begin\n2 root 0\n%s\n' "$2" | "$heap" play --fresh 1 | sed -n '6s/.*-> //p')"
+    row "$1" "$2" "$(printf '1 begin\n1 root 0\n1 put 0 0 7\n2 begin\n2 root 0\n%s\n' "$2" | heap play --fresh 1 | sed -n '6s/.*-> //p')"
 }
 
 bad 'a blank at the end' '1 begin '
