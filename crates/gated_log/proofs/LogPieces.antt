@@ -23,6 +23,10 @@ part_on image at n m old new piece was read is =
 pub read_further : (image now : List ℕ) (at n m : ℕ) (old new : List ℕ) → now ≡ image → old ≡ part image at n → (old ≡ part now at n → new ≡ part now at m) → new ≡ part image at m
 read_further image now at n m old new same was read = read (was ∙ ap (λ (l : List ℕ). part l at n) (sym same)) ∙ ap (λ (l : List ℕ). part l at m) same
 
+-- two pieces, one after the other
+pub and_more : (first old new piece more : List ℕ) → old ≡ first ++ piece → new ≡ old ++ more → new ≡ first ++ (piece ++ more)
+and_more first old new piece more was is = is ∙ ap (λ (l : List ℕ). l ++ more) was ∙ append_assoc first piece more
+
 pub longer : (front piece new : List ℕ) → new ≡ front ++ piece → length front ≤ length new
 longer front piece new is = omega (arith, ap (λ (l : List ℕ). length l) is, length-append front piece)
 

@@ -24,7 +24,8 @@ use std::alloc::{AllocError, AllocFailed, Global};
 /// The bytes of a batch beside its records: its gate and its length.
 const BATCH_HEAD: usize = 5;
 
-/// How many bytes of a log are read at once, where the next batch needs no more.
+/// How many bytes of a log are read at once. An opening reads at most as many behind what it needs, and takes memory for no
+/// more before they are read.
 const PIECE: usize = 65_536;
 
 /// Where the length of a batch will stand.
@@ -359,7 +360,7 @@ fn read_on_to_batch<D: Disk>(
     read_on(disk, at, room, front, tail + need)
 }
 
-/// Reads on behind the first bytes of the log, unless there are `wanted` of them: a piece, or more where more are wanted.
+/// Reads on behind the first bytes of the log, piece by piece, until there are `wanted` of them.
 fn read_on<D: Disk>(
     disk: &mut D,
     at: u64,
@@ -378,32 +379,52 @@ fn read_on<D: Disk>(
     ensures no_batch { (offset : ℕ) → result ≢ Err (BadBatch offset) }
     ensures disk { OnlyReads D.Disk disk.old disk.new (log_device_result result) }
 {
-    let from = front.len();
-    if wanted <= from {
-        return Ok(());
+    while front.len() < wanted {
+        read_next_piece(disk, at, room, front)?;
     }
-    let size = PIECE.max(wanted - from).min(room as usize - from);
-    let piece = read_piece(*front.allocator(), disk, at + from as u64, size)?;
+    Ok(())
+}
+
+/// Reads a piece behind the first bytes of the log, or all that is left of it.
+fn read_next_piece<D: Disk>(
+    disk: &mut D,
+    at: u64,
+    room: u32,
+    front: &mut Vec<u8>,
+) -> Result<(), LogError>
+    requires inside { at + room ≤ D.extent disk.old }
+    requires small { at + room < 2 ^ 64 }
+    requires some { vec_len front.old < room }
+    ensures more { OnOk result ((piece : List ℕ) × (front.new.items ≡ front.old.items ++ piece)) }
+    ensures longer { OnOk result (vec_len front.old < vec_len front.new) }
+    ensures within { OnOk result (vec_len front.new ≤ room) }
+    ensures read { IsTrue D.tells → front.old.items ≡ part (D.bytes disk.old) at (vec_len front.old) → OnOk result (front.new.items ≡ part (D.bytes disk.old) at (vec_len front.new)) }
+    ensures no_batch { (offset : ℕ) → result ≢ Err (BadBatch offset) }
+    ensures disk { OnlyReads D.Disk disk.old disk.new (log_device_result result) }
+{
+    let from = front.len();
+    let size = PIECE.min(room as usize - from);
+    let piece = read_bytes(*front.allocator(), disk, at + from as u64, size)?;
     front.extend_from_slice(&piece)?;
     Ok(())
 }
 
 /// The `size` bytes of the disk from byte `at` on.
-fn read_piece<D: Disk>(
+fn read_bytes<D: Disk>(
     alloc: Global,
     disk: &mut D,
     at: u64,
     size: usize,
 ) -> Result<Vec<u8>, LogError>
     requires { at + size ≤ D.extent disk.old }
-    ensures piece { IsTrue D.tells → IfOk result (λ piece. piece.items ≡ part (D.bytes disk.old) at size) }
-    ensures len { IfOk result (λ piece. vec_len piece ≡ size) }
+    ensures bytes { IsTrue D.tells → IfOk result (λ bytes. bytes.items ≡ part (D.bytes disk.old) at size) }
+    ensures len { IfOk result (λ bytes. vec_len bytes ≡ size) }
     ensures no_batch { (offset : ℕ) → result ≢ Err (BadBatch offset) }
     ensures disk { OnlyReads D.Disk disk.old disk.new (log_device_result result) }
 {
-    let mut piece = vec![in alloc; 0u8; size]?;
-    disk.read(at, &mut piece).map_err(LogError::Disk)?;
-    Ok(piece)
+    let mut bytes = vec![in alloc; 0u8; size]?;
+    disk.read(at, &mut bytes).map_err(LogError::Disk)?;
+    Ok(bytes)
 }
 
 /// How many bytes the batch whose gate comes first takes with the next gate behind it, or how many it takes at least where these
@@ -420,7 +441,7 @@ fn batch_need(bytes: &[u8]) -> usize
 }
 
 /// The length that a batch tells behind its gate.
-fn batch_length(head: &[u8; 5]) -> usize
+fn batch_length(head: &[u8; BATCH_HEAD]) -> usize
     ensures fits { result < 2 ^ 32 }
     ensures value { result ≡ from_le_bytes w32 (slice_index head.now 1 ∷ slice_index head.now 2 ∷ slice_index head.now 3 ∷ slice_index head.now 4 ∷ []) }
 {

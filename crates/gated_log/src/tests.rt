@@ -114,7 +114,7 @@ fn a_bad_batch_is_told_where_it_begins(rt: HostRuntime) -> Result<(), Fail> {
 const BIG: usize = 8_388_608;
 
 /// A disk with a log of `BIG` bytes from byte 4 on, which holds the first bytes of `FORCED` with the byte at `place` changed to
-/// `byte`. Its reads from the second one on fail.
+/// `byte`. Its reads 2 to 4 fail.
 fn big_disk(rt: &HostRuntime, place: usize, byte: u8) -> Result<MemoryDisk, Fail> {
     let alloc = rt.alloc();
     let mut bytes = Vec::from_array(alloc, FORCED)?;
@@ -145,15 +145,26 @@ fn a_length_past_the_end_of_a_big_log_is_bad_at_once(rt: HostRuntime) -> Result<
     Ok(())
 }
 
-#[test]
-fn a_batch_longer_than_a_piece_is_read_whole(rt: HostRuntime) -> Result<(), Fail> {
+/// The bytes of a log in which two batches of 20,000 records take four pieces.
+const MIDDLE: usize = 262_144;
+
+/// Opens a log of two batches, of 100,005 bytes each, on a disk whose read with that number fails, and says how many records it
+/// found.
+fn open_two_batches(rt: &HostRuntime, failing: u64) -> Result<Result<usize, LogError>, Fail> {
     let alloc = rt.alloc();
-    let bytes = vec![in alloc; 0u8; 4 + BIG]?;
-    let later = Vec::from_array(alloc, [6, 7, 8])?;
-    let mut disk = MemoryDisk::of(alloc, bytes, Pick::Newest, BIG, Vec::new(alloc), later)?;
-    let (mut log, _) = Log::open(alloc, &mut disk, 4, BIG as u32)?;
+    let bytes = vec![in alloc; 0u8; MIDDLE]?;
+    let fail_reads = Vec::from_array(alloc, [failing])?;
+    let mut disk = MemoryDisk::of(
+        alloc,
+        bytes,
+        Pick::Newest,
+        MIDDLE,
+        Vec::new(alloc),
+        fail_reads,
+    )?;
+    let (mut log, _) = Log::open(alloc, &mut disk, 0, MIDDLE as u32)?;
     let mut commits = Vec::new(alloc);
-    for t in 0..200_000 {
+    for t in 0..20_000 {
         commits.push(Record::Commit { t })?;
     }
     for _ in 0..2 {
@@ -161,9 +172,15 @@ fn a_batch_longer_than_a_piece_is_read_whole(rt: HostRuntime) -> Result<(), Fail
         log.reserve(0)?;
         log.force(&mut disk)?;
     }
-    // Reads 2 to 5: a piece, the rest of the first batch, a piece, and the rest of the second one.
-    let (again, found) = Log::open(alloc, &mut disk, 4, BIG as u32)?;
-    assert_eq!(rt; found.len(), 400_000);
-    assert_eq!(rt; again.used(), log.used());
+    Ok(Log::open(alloc, &mut disk, 0, MIDDLE as u32).map(|(_, records)| records.len()))
+}
+
+#[test]
+fn each_piece_that_is_used_is_read_once(rt: HostRuntime) -> Result<(), Fail> {
+    // Read 1 is the empty log's. The 200,011 bytes that are used then lie in four pieces of 65,536: reads 2 to 5.
+    let failed = LogError::Disk(DiskError::Failed);
+    assert_eq!(rt; open_two_batches(&rt, 6)?, Ok(40_000));
+    assert_eq!(rt; open_two_batches(&rt, 5)?, Err(failed));
+    assert_eq!(rt; open_two_batches(&rt, 3)?, Err(failed));
     Ok(())
 }

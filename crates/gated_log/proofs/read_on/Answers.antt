@@ -1,14 +1,17 @@
-use Rattle.std.proofs.Common.{◌≡◌, ◌+◌, ℕ, vec_len, sym, ap, ◌∙◌, arith}
-use Rattle.disk_model.specs.Disk.{part}
-use Rattle.gated_log.proofs.LogPieces.{part_on}
+use Rattle.std.proofs.Common.{◌++◌}
+use Rattle.disk_model.specs.KeepsLaws.{reads_on, reads_ok}
+use Rattle.gated_log.proofs.LogPieces.{read_further, and_more}
 use Rattle.gated_log.proofs.read_on.Goals as goal
 
-pub returns-clause-read : goal.returns-clause-read
-returns-clause-read g c told was =
-    let image = g.D.Disk.bytes c.args.disk.now in
-    let here = λ (k : ℕ). part image c.args.at k in
-    let n = c.len-from.result in
-    let m = c.min-size.result in
-    let size : vec_len c.extend_from_slice.new.self ≡ n + m = omega (arith, c.in_ok-extend_from_slice.ensures.len, c.deref.ensures.len, c.in_ok-piece.ensures.len) in
-    let read = c.deref.ensures.value ∙ c.in_ok-piece.ensures.piece told in
-    part_on image c.args.at n m _ _ _ (was ∙ ap here (sym c.len-from.ensures)) read c.in_ok-extend_from_slice.ensures.items ∙ ap here (sym size)
+pub loop-disk-preserved : goal.loop-disk-preserved
+loop-disk-preserved g c =
+    let old = c.loop-disk.front in
+    let front = c.read_next_piece.new.front in
+    let so_far = c.loop-disk.invariant in
+    let on = c.in_ok-read_next_piece.ensures in
+    record {
+      within = on.within;
+      more = (so_far.more.0 ++ on.more.0, and_more c.args.front.now.items old.items front.items so_far.more.0 on.more.0 so_far.more.1 on.more.1);
+      read = λ told was. read_further (g.D.Disk.bytes c.args.disk.now) (g.D.Disk.bytes c.loop-disk.disk) c.args.at old.len front.len old.items front.items (so_far.disk.contents told).bytes (so_far.read told was) (on.read told);
+      disk = reads_ok g.D.Disk _ _ _ tt (reads_on g.D.Disk c.args.disk.now c.loop-disk.disk c.read_next_piece.new.disk _ _ so_far.disk on.disk);
+    }

@@ -16,6 +16,6 @@ returns-clause-settles g c =
     let some = c.in_ok-read_on.ensures.enough in
     let new = c.read_on-2.new.front in
     on_both c.read_on-2.result _ _ _ c.read_on-2.ensures.more c.read_on-2.ensures.enough (λ more enough.
-        settles head more.0 (drop tail new.items) c.batch_need-need.result (c.args.room - tail)
-        (ap (λ (l : List ℕ). drop tail l) more.1 ∙ drop-append-le tail front.items more.0 (omega (arith, c.requires.behind, same)) ∙ ap (λ (l : List ℕ). l ++ more.0) (sym cut))
-        c.batch_need-need.ensures.least c.batch_need-need.ensures.need (λ le. omega (arith, le, size, same, some, minimum)) (λ le. omega (arith, le, enough, length-drop tail new.items, new.ok.0)) (omega (arith, c.ranges.room.fits)))
+    settles head more.0 (drop tail new.items) c.batch_need-need.result (c.args.room - tail)
+    (ap (λ (l : List ℕ). drop tail l) more.1 ∙ drop-append-le tail front.items more.0 (omega (arith, c.requires.behind, same)) ∙ ap (λ (l : List ℕ). l ++ more.0) (sym cut))
+    c.batch_need-need.ensures.least c.batch_need-need.ensures.need (λ le. omega (arith, le, size, same, some, minimum)) (λ le. omega (arith, le, enough, length-drop tail new.items, new.ok.0)) (omega (arith, c.ranges.room.fits)))
