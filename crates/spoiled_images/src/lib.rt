@@ -1,0 +1,16 @@
+//! A second reading of images, which shares no code with the heap: it is written from the description of the formats alone, plainly and
+//! slowly. The tests spoil images byte by byte, and compare what the heap answers with what this reading says.
+#![tactic(auto)]
+
+mod bytes;
+mod reader;
+mod records;
+mod state;
+mod walk;
+
+pub use reader::{Verdict, read};
+
+#[cfg(test)]
+mod images;
+#[cfg(test)]
+mod tests;

@@ -1,0 +1,175 @@
+//! What a whole image holds.
+use crate::bytes::Cursor;
+use crate::records::{Record, read_record};
+use crate::state::State;
+use crate::walk::walk_fault;
+use std::alloc::{AllocError, Global};
+
+/// What an image holds: a heap, or what comes first of what is wrong with it, in the order in which an opening looks.
+#[derive(Clone, Copy, Debug, PartialEq, Eq)]
+pub enum Verdict {
+    /// A heap.
+    Heap,
+    /// Its superblock is not good, or it is too short.
+    NotHeap,
+    /// At that offset of the log the gate is open, and no whole batch stands there.
+    Batch(u64),
+    /// The record of that number, from 1, does not follow from those before it.
+    Record(u64),
+    /// The log has no room for what takes the writes of unfinished transactions back.
+    Reserve,
+    /// At that word address the walk of the words fails.
+    Address(u32),
+}
+
+/// The bytes of the superblock.
+const SUPER_BYTES: usize = 64;
+
+/// The zeros at the superblock's end.
+const SUPER_ZEROS: usize = 40;
+
+/// The bytes of the frames of a page of both spaces.
+const FRAME_BYTES: u64 = 2_112;
+
+/// The bytes of a batch before its records: its gate and its length.
+const BATCH_HEAD: usize = 5;
+
+/// What the rollback of a loser takes of the log besides its records: its `End`, and a batch's gate and length.
+const LOSER_BYTES: u64 = 10;
+
+/// What an `Undo` takes.
+const UNDO_BYTES: u64 = 19;
+
+/// The numbers of a superblock.
+#[derive(Drop)]
+struct Shape {
+    pages: u32,
+    log_bytes: u32,
+}
+
+/// The batches of a log.
+#[derive(Drop)]
+enum Batches {
+    /// They take so many bytes, with the closed gate that ends them.
+    Whole(usize),
+    /// No whole batch stands at this offset.
+    Broken(usize),
+}
+
+/// Reads an image, of a disk with these bytes.
+pub fn read(alloc: Global, image: &[u8]) -> Result<Verdict, AllocError> {
+    let Some((shape, log)) = read_shape(image) else {
+        return Ok(Verdict::NotHeap);
+    };
+    let mut records = Vec::new(alloc);
+    let used = match read_batches(alloc, log, &mut records)? {
+        Batches::Whole(used) => used,
+        Batches::Broken(offset) => return Ok(Verdict::Batch(offset as u64)),
+    };
+    let mut state = State::new(alloc, shape.pages)?;
+    let mut number: u64 = 0;
+    for record in records {
+        number = number.saturating_add(1);
+        if !state.follow(record)? {
+            return Ok(Verdict::Record(number));
+        }
+    }
+    let losers = state.losers(alloc)?;
+    if !has_room(&shape, used, losers.len(), state.undo_len()) {
+        return Ok(Verdict::Reserve);
+    }
+    state.roll_back(&losers);
+    Ok(match walk_fault(alloc, state.words())? {
+        Some(address) => Verdict::Address(u32::try_from(address).unwrap_or(u32::MAX)),
+        None => Verdict::Heap,
+    })
+}
+
+/// The numbers of a good superblock, and the log.
+fn read_shape(image: &[u8]) -> Option<(Shape, &[u8])> {
+    let (front, zeros) = image
+        .get(..SUPER_BYTES)?
+        .split_at_checked(SUPER_BYTES - SUPER_ZEROS)?;
+    let numbers = front.strip_prefix(b"\x01stbheap\x01\x00\x00\x00")?;
+    let mut cursor = Cursor::new(numbers);
+    let pages = cursor.take_u32()?;
+    let log_bytes = cursor.take_u32()?;
+    let first = cursor.take_u32()?;
+    let in_limits = (1..=16_384).contains(&pages)
+        && (64..=1_073_741_824).contains(&log_bytes)
+        && first >= 1;
+    let size = SUPER_BYTES as u64 + u64::from(log_bytes) + FRAME_BYTES * u64::from(pages);
+    if !in_limits || !zeros.iter().all(|byte| *byte == 0) || (image.len() as u64) < size {
+        return None;
+    }
+    let log = image.get(SUPER_BYTES..SUPER_BYTES + log_bytes as usize)?;
+    Some((Shape { pages, log_bytes }, log))
+}
+
+/// Adds the records of all batches.
+fn read_batches(
+    alloc: Global,
+    log: &[u8],
+    records: &mut Vec<Record>,
+) -> Result<Batches, AllocError> {
+    let mut last = 0;
+    let mut next = 0;
+    for offset in 0..log.len() {
+        if offset != next {
+            continue;
+        }
+        if log[offset] != 1 {
+            return Ok(Batches::Whole(offset + 1));
+        }
+        let Some(size) = read_batch(alloc, &log[offset..], records)? else {
+            return Ok(Batches::Broken(offset));
+        };
+        last = offset;
+        next = offset.saturating_add(size);
+    }
+    // The last batch has no next gate within the log.
+    Ok(Batches::Broken(last))
+}
+
+/// Adds the records of the batch whose open gate comes first, and gives its size, if it is whole but for the next gate.
+fn read_batch(
+    alloc: Global,
+    bytes: &[u8],
+    records: &mut Vec<Record>,
+) -> Result<Option<usize>, AllocError> {
+    let Some(body) = batch_body(bytes) else {
+        return Ok(None);
+    };
+    let mut next = 0;
+    for offset in 0..body.len() {
+        if offset != next {
+            continue;
+        }
+        let Some((record, size)) = read_record(alloc, &body[offset..])? else {
+            return Ok(None);
+        };
+        records.push(record)?;
+        next = offset.saturating_add(size);
+    }
+    Ok(Some(BATCH_HEAD.saturating_add(body.len())))
+}
+
+/// The bytes of a batch's records.
+fn batch_body(bytes: &[u8]) -> Option<&[u8]> {
+    let mut cursor = Cursor::new(bytes);
+    let _gate = cursor.take_u8()?;
+    let length = cursor.take_u32()?;
+    cursor.rest().get(..length as usize)
+}
+
+/// Whether the log has room for the rollback of so many losers with so many undo entries.
+fn has_room(shape: &Shape, used: usize, losers: usize, entries: usize) -> bool {
+    rollback_bytes(losers as u64, entries as u64)
+        .and_then(|bytes| bytes.checked_add(used as u64))
+        .is_some_and(|bytes| bytes <= u64::from(shape.log_bytes))
+}
+
+fn rollback_bytes(losers: u64, entries: u64) -> Option<u64> {
+    let ends = LOSER_BYTES.checked_mul(losers)?;
+    ends.checked_add(UNDO_BYTES.checked_mul(entries)?)
+}
