@@ -7,7 +7,7 @@ use Rattle.std.specs.List.{AllByRecursion}
 use Rattle.disk_model.specs.Disk.{part}
 use Rattle.log_records.specs.declared.Record.{Record}
 use Rattle.log_records.specs.Record.{spellings, IsRecord}
-use Rattle.gated_log.specs.Log.{records_of, batch, batches_bytes, HoldsBatches, HasBatch, BreaksAt}
+use Rattle.gated_log.specs.Log.{batch, batches_bytes, HoldsBatches, HasBatch, BreaksAt}
 use Rattle.gated_log.specs.LogPieces.{Settles}
 use Rattle.gated_log.proofs.LogReading.{IsWalked, at_tail}
 

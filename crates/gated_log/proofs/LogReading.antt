@@ -1,17 +1,16 @@
 -- How far the reading of a log has come.
-use Rattle.std.proofs.Common.{◌≡◌, ℕ, ◌+◌, ◌-◌, ◌<◌, ◌≤◌, List, [], ◌∷◌, ◌++◌, Option, Some, Result, Ok, Err, is_ok, OnOk, true, length, vec_len, get_or, take, drop, refl, sym, ◌∙◌, ap, subst, arith, length-append, length-take, length-drop, append_assoc, suc, drop-cons, inl, inr}
-use Rattle.std.proofs.lemmas.List.{append-nil, take_at, drop_at, drop-drop, get_or-drop, get_or-take, get_or_past, length-take-le, take-append-drop}
+use Rattle.std.proofs.Common.{◌≡◌, ℕ, ◌+◌, ◌-◌, ◌<◌, ◌≤◌, List, [], ◌∷◌, ◌++◌, Option, Some, length, vec_len, get_or, take, drop, refl, sym, ◌∙◌, ap, subst, arith, length-append, length-take, length-drop, append_assoc, suc, drop-cons, inl, inr}
+use Rattle.std.proofs.lemmas.List.{append-nil, drop_at, drop-drop, get_or-drop, get_or-take, get_or_past, length-take-le, take-append-drop}
 use Rattle.std.proofs.lemmas.Grind.{flat_map-append}
 use Rattle.std.specs.Int.{w32, from_le_bytes, to_le_bytes}
 use Rattle.std.proofs.lemmas.Bool.{cases_lt}
 use Rattle.std.proofs.lemmas.Nat.{le_bytes_4}
 use Rattle.std.specs.List.{AllByRecursion}
-use Rattle.disk_model.specs.Disk.{part}
 use Rattle.log_records.specs.declared.Record.{Record}
 use Rattle.log_records.specs.Record.{spelling, spellings, IsRecord}
 use Rattle.log_records.specs.RecordLaws.{some_spelling}
 use Rattle.gated_log.specs.declared.Log.{Log}
-use Rattle.gated_log.specs.Log.{records_of, batch, batches_bytes, HoldsBatches, HasBatch, BreaksAt, IsBatchRead}
+use Rattle.gated_log.specs.Log.{records_of, batch, batches_bytes, HoldsBatches, HasBatch, IsBatchRead}
 use Rattle.gated_log.specs.LogState.{Keeps}
 use Rattle.gated_log.proofs.LogBytes.{batches_bytes-push}
 

@@ -1,6 +1,5 @@
 -- What the command says of a run.
 use Rattle.std.proofs.Common.{◌≡◌, ◌≢◌, inl, ℕ, List, Bool, Option, Some, None, refl, sym, subst, arith}
-use Rattle.std.specs.Prelude.{IsTrue}
 use Rattle.disk_model.specs.declared.disk.Disk.{Ghosts}
 use Rattle.disk_model.specs.Disk.{Only}
 use Rattle.disk_model.specs.Moments.{begins}
@@ -13,7 +12,7 @@ use Rattle.command_words.specs.declared.commands.CommandError.{CommandError}
 use Rattle.command_words.specs.declared.commands.CommandError.TheVariants as asking
 use Rattle.command_words.specs.declared.commands.Stop.{Stop}
 use Rattle.heap_model.specs.Image.{Holds}
-use Rattle.heap_model.specs.Opening.{opening_calls, IsLeftByOpening}
+use Rattle.heap_model.specs.Opening.{IsLeftByOpening}
 use Rattle.heap_shell.specs.declared.status.Status.{Status}
 use Rattle.heap_shell.specs.declared.status.Status.TheVariants as status
 use Rattle.heap_core.specs.declared.errors.FormatError.{FormatError}

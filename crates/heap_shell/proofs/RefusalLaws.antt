@@ -1,6 +1,5 @@
 -- How what an opening tells of an image goes on to the status of a run.
 use Rattle.std.proofs.Common.{◌≡◌, ⊎_elim, ℕ, ◌≤◌, List, refl, subst, sym}
-use Rattle.std.specs.Prelude.{IsTrue}
 use Rattle.disk_model.specs.declared.disk.Disk.{Ghosts}
 use Rattle.disk_model.specs.Moments.{LeavesOnly}
 use Rattle.heap_recovery.specs.declared.at.At.{At}

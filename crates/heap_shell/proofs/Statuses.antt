@@ -1,5 +1,5 @@
 -- How the ways in which a play may end go on.
-use Rattle.std.proofs.Common.{◌≡◌, ◌≢◌, ◌⊎◌, inl, inr, ℕ, List, ◌++◌, None, Some, Result, Ok, Err, arith, refl}
+use Rattle.std.proofs.Common.{◌≡◌, ◌≢◌, ◌⊎◌, inl, inr, ℕ, List, ◌++◌, None, Some, Result, Ok, Err, refl}
 use Rattle.counts.specs.Count.{Rose}
 use Rattle.heap_shell.specs.declared.output.WriteError.{WriteError}
 use Rattle.heap_shell.specs.declared.output.WriteError.TheVariants as writing
