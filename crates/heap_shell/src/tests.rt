@@ -521,20 +521,20 @@ fn other_words_are_no_command(rt: HostRuntime) -> Result<(), Fail> {
     let alloc = rt.alloc();
     for line in [
         "heap",
-        "heap play",
         "heap play --fresh 0",
         "heap play --fresh 16385",
         "heap play --fresh 1 --stop",
-        "heap play --fresh 1 --stop x",
+        "heap play --stop x",
         "heap play --fresh 1 --stop 18446744073709551616",
         "heap play --fresh 1 --again",
         "heap play --fresh 1 --again 18446744073709551616",
-        "heap play --fresh 1 --again 1 --stop 1",
         "heap play --fresh 1 --stop 1 --stop 1",
-        "heap play --again 1 --fresh 1",
-        "heap play --fresh 000000000000000000001",
         "heap play --help",
-        "heap graph",
+        "heap format 0 65536 1",
+        "heap format 1 65536",
+        "heap graph 1",
+        "heap threads",
+        "heap load 1 2",
     ]
     .iter()
     {
