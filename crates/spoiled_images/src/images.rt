@@ -126,12 +126,18 @@ pub fn made_image(rt: &impl Abort, alloc: Global) -> Result<Vec<u8>, AllocError>
     let Ok(mut heap) = Heap::open(alloc, disk) else {
         panic!(rt; "not opened");
     };
-    for event in EVENTS {
+    play(rt, &mut heap, &EVENTS)?;
+    heap.close().contents().to_vec(alloc)
+}
+
+/// Makes these events, none of which is refused.
+fn play(rt: &impl Abort, heap: &mut Heap<MemoryDisk>, events: &[Event]) -> Result<(), AllocError> {
+    for event in events {
         assert!(rt; event.is_of_session());
-        let reply = heap.step(event)?;
+        let reply = heap.step(*event)?;
         assert!(rt; !matches!(reply, Reply::Refused { .. }), "{event:?}");
     }
-    heap.close().contents().to_vec(alloc)
+    Ok(())
 }
 
 /// What the heap says of an image, and the disk that it leaves.
