@@ -109,3 +109,20 @@ fn a_bad_batch_is_told_where_it_begins(rt: HostRuntime) -> Result<(), Fail> {
     }
     Ok(())
 }
+
+/// The bytes of a big log, of which few are used.
+const BIG: usize = 8_388_608;
+
+#[test]
+fn a_big_log_is_read_no_further_than_it_is_used(rt: HostRuntime) -> Result<(), Fail> {
+    let alloc = rt.alloc();
+    let mut bytes = Vec::from_array(alloc, FORCED)?;
+    bytes.resize(4 + BIG, 0)?;
+    // All reads but the first fail.
+    let later = Vec::from_array(alloc, [2, 3, 4])?;
+    let mut disk = MemoryDisk::of(alloc, bytes, Pick::Newest, 0, Vec::new(alloc), later)?;
+    let (log, found) = Log::open(alloc, &mut disk, 4, BIG as u32)?;
+    assert_eq!(rt; found.as_slice(), RECORDS.as_slice());
+    assert_eq!(rt; (log.used(), log.room()), (38, BIG as u64));
+    Ok(())
+}
