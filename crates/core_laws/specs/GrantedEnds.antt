@@ -13,7 +13,7 @@ use Rattle.log_machine.specs.AbortLaws.{abort_words}
 use Rattle.log_machine.specs.Machine.{State, words, undo_of, with_entries, turned, taken_back, abort_records}
 use Rattle.log_machine.specs.MachineLaws.{words-append, undo_beside}
 use Rattle.log_machine.specs.MapLaws.{each_other}
-use Rattle.gated_log.specs.Log.{records_of, batches_bytes, hand, with_batch}
+use Rattle.gated_log.specs.Log.{records_of, batches_bytes, pending_batch, with_batch}
 use Rattle.heap_model.specs.Core.{Core, all_records, used, forced}
 use Rattle.heap_model.specs.CoreLawsGoes.{told_sound}
 use Rattle.heap_model.specs.CoreLawsRoom.{need-abort_records, forced-with_batch, records_of-with_batch, length-with_batch}
@@ -116,7 +116,7 @@ all_on_disk a c bs h same =
     let now = subst (λ (rs : List Record). IsTold c.pages c.lowest c.born c.places (serial c.g0 a.sealed) (c.before + length a.sealed) rs h.behind) (sym same) h.told in
     subst (λ (ts : List Transaction). IsTold c.pages c.lowest c.born c.places (serial c.g0 ts) (c.before + length a.sealed) (records_of bs) h.behind) (sym (take-length a.sealed)) now
 
-force_all : (a : Account) (c : Core) (bs : List (List Record)) → Agrees a c → records_of bs ≡ all_records c → length (batches_bytes bs) + 1 + length (hand []) ≡ used c
+force_all : (a : Account) (c : Core) (bs : List (List Record)) → Agrees a c → records_of bs ≡ all_records c → length (batches_bytes bs) + 1 + length (pending_batch []) ≡ used c
     → Agrees (account_after a (record { event = Force; reply = Durable (length a.sealed) })) (record c { batches = bs; pending = [] })
 force_all a c bs h same size =
     let b : Account = account_after a (record { event = Force; reply = Durable (length a.sealed) }) in

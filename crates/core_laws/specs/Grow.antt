@@ -6,7 +6,7 @@ use Rattle.graph_model.specs.Graph.{Graph}
 use Rattle.graph_model.specs.Transaction.{Transaction, serial}
 use Rattle.graph_model.specs.History.{commits}
 use Rattle.heap_model.specs.Core.{Core, IsRun}
-use Rattle.heap_model.specs.CoreCrash.{HasCommits, HasAtLeast}
+use Rattle.heap_model.specs.CoreCrash.{HasAtLeast}
 use Rattle.heap_model.specs.CoreLawsGrow.{grows}
 use Rattle.heap_model.specs.CoreLawsRun.{same_run}
 use Rattle.heap_model.specs.Image.{StandsFor}
@@ -29,9 +29,3 @@ has_at_least_on c d made least image from to run has =
       enough = has.enough;
       some = omega (arith, has.some, ap length all, length-append (commits c.history) more.0);
     }
-
--- the same, however many
-pub has_commits_on : (c d : Core) (made : List Event) (image : List ℕ) → IsSound c → IsSound d → IsRun c made d → HasCommits c image → HasCommits d image
-has_commits_on c d made image from to run has =
-    let more = has_at_least_on c d made 0 image from to run (record { count = has.count; stands = has.stands; enough = omega arith; some = has.some }) in
-    record { count = more.count; stands = more.stands; some = more.some }

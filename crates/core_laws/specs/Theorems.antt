@@ -46,7 +46,7 @@ use Rattle.image_plan.specs.declared.superblock.Super.{Super}
 use Rattle.log_records.specs.declared.Record.{Record}
 use Rattle.commit_order.specs.Heard.{replies_of_commits}
 use Rattle.heap_model.specs.Core.{Core, words_refusal, log_refusal, answer, IsRun}
-use Rattle.heap_model.specs.CoreCrash.{IsOnDisk, IsSuperOf, KeepsCommits}
+use Rattle.heap_model.specs.CoreCrash.{IsOnDisk, IsSuperOf, IsCommitPrefix}
 use Rattle.heap_model.specs.Image.{IsShapedLog, IsLegalLog, Holds}
 use Rattle.heap_model.specs.Opening.{next_behind, opened, IsFound}
 use Rattle.graph_words.specs.Places.{Places}
@@ -64,7 +64,7 @@ AnswersTheorem =
 
 -- Each image that holds what a crash leaves of a core keeps its commits, where births give the names. A core that is reached is sound.
 abbrev pub CrashTheorem : Type 0
-CrashTheorem = (c : Core) (s : Super) (batches : List (List Record)) → IsSound c → IsTrue c.born → IsOnDisk c batches → IsSuperOf s c → (image : List ℕ) → Holds s batches image → KeepsCommits c image
+CrashTheorem = (c : Core) (s : Super) (batches : List (List Record)) → IsSound c → IsTrue c.born → IsOnDisk c batches → IsSuperOf s c → (image : List ℕ) → Holds s batches image → IsCommitPrefix c image
 
 -- The calls of each commit had the replies of the serial run, in which the commits follow one another in the order of their seals.
 abbrev pub RepliesTheorem : Type 0

@@ -5,7 +5,7 @@ use Rattle.std.proofs.lemmas.Bool.{cases_Bool, or_from, eqb-true}
 use Rattle.std.proofs.lemmas.List.{take_at, drop_at, take-append-le, length-take-le, nil_from_length}
 use Rattle.disk_model.specs.declared.disk.DiskError.{DiskError}
 use Rattle.disk_model.specs.declared.memory.Pick.{Pick}
-use Rattle.disk_model.specs.Disk.{overwrite, part, Torn, Follows, Narrows, Only, Elapses}
+use Rattle.disk_model.specs.Disk.{overwrite, part, Torn, WidensBy, Narrows, Only, Elapses}
 use Rattle.disk_model.specs.Memory.{Memory, Change, Write, Sync, Restart, Contents, MayLeave, MightHaveLeft, is_in, is_within, left_by, settled_as, after, changes_of, now_of, answer, changed, settled, written, synced_if, after_restart}
 use Rattle.disk_model.specs.MemoryLaws.{reads_an_image}
 use Rattle.disk_model.proofs.Images.{is_in-bounds, length-overwrite, length-part, get_or-part, get_or-overwrite_inside, get_or-overwrite_outside, same_images}
@@ -29,8 +29,8 @@ pub torn_still : (at n : ℕ) (image : List ℕ) → Torn at n image image
 torn_still at n image = record { before = refl; after = refl; size = refl }
 
 -- before a write, a crash may have left what it may leave now, with the newest bytes in the range
-follows_write : (pick : _) (old : Contents) (at : ℕ) (bytes : List ℕ) → at + length bytes ≤ length old.newest → Follows (Torn at (length bytes)) (MayLeave old) (MayLeave (after pick old (Write at bytes)))
-follows_write pick old at bytes le image leaves =
+widens_by_write : (pick : _) (old : Contents) (at : ℕ) (bytes : List ℕ) → at + length bytes ≤ length old.newest → WidensBy (Torn at (length bytes)) (MayLeave old) (MayLeave (after pick old (Write at bytes)))
+widens_by_write pick old at bytes le image leaves =
     let total = length-overwrite old.newest at bytes le in
     let size = leaves.size in
     let kept = part old.newest at (length bytes) in
@@ -59,7 +59,7 @@ follows_write pick old at bytes le image leaves =
 -- what a write promises of the bytes
 pub record WriteIsKept (old new : Memory) (at : ℕ) (bytes : List ℕ) (result : Result (Unit {0}) DiskError) : Type 0 where
   pub written : OnOk result ((now_of new).newest ≡ overwrite (now_of old).newest at bytes)
-  pub crash : Follows (Torn at (length bytes)) (MayLeave (now_of old)) (MayLeave (now_of new))
+  pub crash : WidensBy (Torn at (length bytes)) (MayLeave (now_of old)) (MayLeave (now_of new))
   pub time : Elapses (changes_of old) (changes_of new) (MightHaveLeft old) (MightHaveLeft new) (MayLeave (now_of new))
   pub extent : length (now_of new).newest ≡ length (now_of old).newest
 
@@ -69,7 +69,7 @@ write_is_kept false disk at bytes le =
     let now = contents_of-push disk.pick disk.first disk.changes (Write at bytes) in
     record {
       written = ap (λ (new : Contents). new.newest) now;
-      crash = subst (λ (new : Contents). Follows (Torn at (length bytes)) (MayLeave (now_of disk)) (MayLeave new)) (sym now) (follows_write disk.pick (now_of disk) at bytes le);
+      crash = subst (λ (new : Contents). WidensBy (Torn at (length bytes)) (MayLeave (now_of disk)) (MayLeave new)) (sym now) (widens_by_write disk.pick (now_of disk) at bytes le);
       time = elapses_change disk (Write at bytes);
       extent = ap (λ (new : Contents). length new.newest) now ∙ length-overwrite (now_of disk).newest at bytes le;
     }

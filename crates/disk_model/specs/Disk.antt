@@ -25,8 +25,8 @@ pub record SameOutside (from end : ℕ) (old new : List ℕ) : Type 0 where
   pub behind : (i : ℕ) → end ≤ i → slice_index new i ≡ slice_index old i
 
 -- each image that a crash may leave now is one from before after a step
-abbrev pub Follows : (List ℕ → List ℕ → Type 0) → (List ℕ → Type 0) → (List ℕ → Type 0) → Type 0
-Follows step old new = (c : List ℕ) → new c → (d : List ℕ) × old d × step d c
+abbrev pub WidensBy : (List ℕ → List ℕ → Type 0) → (List ℕ → Type 0) → (List ℕ → Type 0) → Type 0
+WidensBy step old new = (c : List ℕ) → new c → (d : List ℕ) × old d × step d c
 
 -- no image can be left now that couldn't before
 abbrev pub Narrows : (List ℕ → Type 0) → (List ℕ → Type 0) → Type 0

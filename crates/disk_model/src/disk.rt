@@ -1,7 +1,7 @@
 //! The disk as its callers see it: what a read gives, and what a crash at each moment may leave.
 ghost use Rattle.std.specs.Prelude.{◌≡◌, ℕ, ◌+◌, ◌≤◌, Bool, List, length, IsTrue, OnOk};
 ghost use Rattle.counts.specs.Count.{raised};
-ghost use Rattle.disk_model.specs.Disk.{overwrite, part, Torn, Follows, Narrows, Only, Elapses, HasCause, passed_after};
+ghost use Rattle.disk_model.specs.Disk.{overwrite, part, Torn, WidensBy, Narrows, Only, Elapses, HasCause, passed_after};
 
 /// Why a device call was not done. What it leaves on the disk is in the contract of the call.
 #[derive(Clone, Copy, Debug, PartialEq, Eq)]
@@ -79,7 +79,7 @@ pub trait Disk {
         requires { at + length piece.now ≤ extent self.old }
 
         ensures written { IsTrue tells → OnOk result (bytes self.new ≡ overwrite (bytes self.old) at piece.now) }
-        ensures crash { IsTrue tells → Follows (Torn at (length piece.now)) (may_leave self.old) (may_leave self.new) }
+        ensures crash { IsTrue tells → WidensBy (Torn at (length piece.now)) (may_leave self.old) (may_leave self.new) }
         ensures time { IsTrue tells → Elapses (moment self.old) (moment self.new) (left_since self.old) (left_since self.new) (may_leave self.new) }
         ensures passed { IsTrue tells → passed self.new ≡ passed_after (passed self.old) result }
         ensures restarts { IsTrue tells → restarts self.new ≡ restarts self.old }

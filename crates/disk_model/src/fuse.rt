@@ -89,7 +89,7 @@ fn not_stopped(answer: Result<(), DiskError>) -> Result<(), DiskError>
 impl<D: Disk> Disk for FuseDisk<D> {
     ghost use Rattle.std.specs.Prelude.{◌≡◌, ◌≢◌, ◌+◌, ◌<◌, ◌≤◌, ◌↔◌, length, IsTrue, OnOk, Err};
     ghost use Rattle.counts.specs.Count.{raised};
-    ghost use Rattle.disk_model.specs.Disk.{overwrite, part, Torn, Follows, Narrows, Only, Elapses, HasCause, passed_after};
+    ghost use Rattle.disk_model.specs.Disk.{overwrite, part, Torn, WidensBy, Narrows, Only, Elapses, HasCause, passed_after};
     ghost use Rattle.disk_model.specs.Fuse.{FuseOrigin, fuse_inner, fuse_origin, fuse_limit, fuse_passed, fuse_stops, IsSpent, IsBlown, Stops, Passes, Reaches};
 
     ghost tells = { D.tells };
@@ -153,7 +153,7 @@ impl<D: Disk> Disk for FuseDisk<D> {
         ensures origin { fuse_origin self.new ≡ fuse_origin self.old }
 
         ensures written { IsTrue D.tells → OnOk result (D.bytes (fuse_inner self.new) ≡ overwrite (D.bytes (fuse_inner self.old)) at piece.now) }
-        ensures crash { IsTrue D.tells → Follows (Torn at (length piece.now)) (D.may_leave (fuse_inner self.old)) (D.may_leave (fuse_inner self.new)) }
+        ensures crash { IsTrue D.tells → WidensBy (Torn at (length piece.now)) (D.may_leave (fuse_inner self.old)) (D.may_leave (fuse_inner self.new)) }
         ensures time { IsTrue D.tells → Elapses (D.moment (fuse_inner self.old)) (D.moment (fuse_inner self.new)) (D.left_since (fuse_inner self.old)) (D.left_since (fuse_inner self.new)) (D.may_leave (fuse_inner self.new)) }
         ensures passed { fuse_passed self.new ≡ passed_after (fuse_passed self.old) result }
         ensures restarts { IsTrue D.tells → D.restarts (fuse_inner self.new) ≡ D.restarts (fuse_inner self.old) }

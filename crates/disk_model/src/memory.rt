@@ -3,7 +3,7 @@ ghost use Rattle.std.specs.Prelude.{◌≡◌, ℕ, ◌+◌, ◌≤◌, ◌++◌
 ghost use Rattle.std.specs.List.{All};
 ghost use Rattle.std.specs.Vec.{vec_len, vec_capacity};
 ghost use Rattle.counts.specs.Count.{raised};
-ghost use Rattle.disk_model.specs.Disk.{overwrite, part, Torn, Follows, Narrows, Only, Elapses, HasCause, passed_after};
+ghost use Rattle.disk_model.specs.Disk.{overwrite, part, Torn, WidensBy, Narrows, Only, Elapses, HasCause, passed_after};
 ghost use Rattle.disk_model.specs.Memory.{Write, Sync, Restart, MayLeave, MightHaveLeft, blended, left_by, made, changes_of, now_of, cost, write_fails, sync_fails, read_fails, answer, with_write, settled, after_write, after_sync, after_read, after_restart};
 ghost use Rattle.disk_model.specs.Range.{range_of, Fits, IsTied};
 
@@ -329,7 +329,7 @@ impl MemoryDisk {
 
 impl Disk for MemoryDisk {
     ghost use Rattle.std.specs.Prelude.{◌≡◌, length, true, refl, IsTrue, OnOk};
-    ghost use Rattle.disk_model.specs.Disk.{overwrite, part, Torn, Follows, Narrows, Only, Elapses};
+    ghost use Rattle.disk_model.specs.Disk.{overwrite, part, Torn, WidensBy, Narrows, Only, Elapses};
     ghost use Rattle.disk_model.specs.Memory.{MayLeave, MightHaveLeft, changes_of, now_of, left_by, answer, read_fails, write_fails, sync_fails, after_read, after_write, after_sync, after_restart};
     ghost use Rattle.disk_model.specs.MemoryLaws.{counts_now, only_now, reads_an_image};
 
@@ -377,7 +377,7 @@ impl Disk for MemoryDisk {
         ensures result { result ≡ answer (write_fails self.old (length piece.now)) }
         ensures exact { self.new ≡ after_write self.old at piece.now }
         ensures written { OnOk result ((now_of self.new).newest ≡ overwrite (now_of self.old).newest at piece.now) }
-        ensures crash { Follows (Torn at (length piece.now)) (MayLeave (now_of self.old)) (MayLeave (now_of self.new)) }
+        ensures crash { WidensBy (Torn at (length piece.now)) (MayLeave (now_of self.old)) (MayLeave (now_of self.new)) }
         ensures time { Elapses (changes_of self.old) (changes_of self.new) (MightHaveLeft self.old) (MightHaveLeft self.new) (MayLeave (now_of self.new)) }
         ensures extent { length (now_of self.new).newest ≡ length (now_of self.old).newest }
     {

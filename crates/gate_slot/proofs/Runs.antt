@@ -1,6 +1,6 @@
 -- What a crash leaves at each stage of the two runs.
 use Rattle.std.proofs.Common.{◌≡◌, ℕ, ◌+◌, ◌<◌, ◌≤◌, List, length, ◌∙◌, subst, arith}
-use Rattle.disk_model.specs.Disk.{overwrite, Torn, Follows, Narrows, Only, Elapses}
+use Rattle.disk_model.specs.Disk.{overwrite, Torn, WidensBy, Narrows, Only, Elapses}
 use Rattle.disk_model.specs.Moments.{LeavesOnly, begins, goes_on}
 use Rattle.gate_slot.specs.Gate.{IsOutside, IsClosedInEach, SameButGate, IsFilling}
 use Rattle.gate_slot.proofs.Images.{torn_gate, untouched, filling_none, filling_bytes, filling_gate}
@@ -47,7 +47,7 @@ module _ {D : Type 0} (disk : Tells D) (gate : ℕ) where
   gate_read old new narrows time = narrowed old old new (ButGate old) (starts old (ButGate old) (λ c now. (c, now, untouched gate c))) narrows time
 
   -- and closed
-  pub gate_closed : (old mid new : D) → Narrows (disk.may_leave old) (disk.may_leave mid) → Since old mid (ButGate old) → Follows (Torn gate 1) (disk.may_leave mid) (disk.may_leave new) → Passing mid new → Since old new (ButGate old)
+  pub gate_closed : (old mid new : D) → Narrows (disk.may_leave old) (disk.may_leave mid) → Since old mid (ButGate old) → WidensBy (Torn gate 1) (disk.may_leave mid) (disk.may_leave new) → Passing mid new → Since old new (ButGate old)
   gate_closed old mid new narrows so_far follows time = lasts old mid new (ButGate old) so_far time (λ c now. let from = follows c now in (from.0, narrows from.0 from.1, torn_gate gate from.0 c from.2))
 
   module _ (at : ℕ) (bytes : List ℕ) (apart : IsOutside at (length bytes) gate) where
@@ -56,14 +56,14 @@ module _ {D : Type 0} (disk : Tells D) (gate : ℕ) where
     Filling old c = (d : List ℕ) × disk.may_leave old d × IsFilling gate at bytes (disk.bytes old) d c
 
     -- the bytes were written
-    pub bytes_written : (old new : D) → IsClosedInEach gate (disk.may_leave old) → Follows (Torn at (length bytes)) (disk.may_leave old) (disk.may_leave new) → Passing old new → Since old new (Filling old)
+    pub bytes_written : (old new : D) → IsClosedInEach gate (disk.may_leave old) → WidensBy (Torn at (length bytes)) (disk.may_leave old) (disk.may_leave new) → Passing old new → Since old new (Filling old)
     bytes_written old new shut follows time =
         let nothing_yet = starts old (Filling old) (λ c now. (c, now, filling_none gate at bytes apart (disk.bytes old) c (shut c now))) in
         lasts old old new (Filling old) nothing_yet time (λ c now. let from = follows c now in (from.0, from.1, filling_bytes gate at bytes apart (disk.bytes old) from.0 c (shut from.0 from.1) from.2))
 
     -- and the gate was opened, once the bytes were on the disk
     pub gate_opened : (old written mid new : D) → gate < disk.extent old → at + length bytes ≤ disk.extent old → Since old mid (Filling old) → disk.bytes written ≡ overwrite (disk.bytes old) at bytes → Only (disk.bytes written) (disk.may_leave mid)
-        → Follows (Torn gate 1) (disk.may_leave mid) (disk.may_leave new) → Passing mid new → Since old new (Filling old)
+        → WidensBy (Torn gate 1) (disk.may_leave mid) (disk.may_leave new) → Passing mid new → Since old new (Filling old)
     gate_opened old written mid new gate_inside inside so_far whole only follows time =
         let left = disk.reads_an_image old in
         let size = disk.same_size old (disk.bytes old) left in

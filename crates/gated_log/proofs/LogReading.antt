@@ -200,12 +200,12 @@ walked_all area records tail walked inside is_closed = (
 )
 
 -- a log whose reading is done
-pub keeps_read : (log : Log) (batches : List (List Record)) → log.tail ≡ length (batches_bytes batches) → vec_len log.hand ≡ 4 → log.forced ≡ length (records_of batches) → log.waiting ≡ 0 → Keeps log batches []
+pub keeps_read : (log : Log) (batches : List (List Record)) → log.tail ≡ length (batches_bytes batches) → vec_len log.buffer ≡ 4 → log.forced ≡ length (records_of batches) → log.waiting ≡ 0 → Keeps log batches []
 keeps_read log batches tail four forced waiting = record {
   tail = tail;
-  head = log.hand.items;
-  four = sym log.hand.ok.0 ∙ four;
-  items = sym (append-nil log.hand.items);
+  head = log.buffer.items;
+  four = sym log.buffer.ok.0 ∙ four;
+  items = sym (append-nil log.buffer.items);
   forced = forced;
   count = omega (arith, forced, waiting);
 }

@@ -53,9 +53,9 @@ pub record IsBatchRead (bytes : List ℕ) (size : ℕ) (before after : List Reco
   pub added : after ≡ before ++ read.records
 
 -- the records that wait, as they will be written behind the closed gate, with the next closed gate behind them
-abbrev pub hand : List Record → List ℕ
-hand [] = []
-hand (r ∷ rs) = framed (r ∷ rs) ++ 0 ∷ []
+abbrev pub pending_batch : List Record → List ℕ
+pending_batch [] = []
+pending_batch (r ∷ rs) = framed (r ∷ rs) ++ 0 ∷ []
 
 -- the batches with those that wait as one more, if any do
 abbrev pub with_batch : List (List Record) → List Record → List (List Record)

@@ -8,12 +8,12 @@ use Rattle.log_records.specs.Record.{spellings, IsRecord}
 use Rattle.log_records.specs.RecordLaws.{one_number, one_list}
 use Rattle.gated_log.specs.declared.Log.{Log}
 use Rattle.gated_log.specs.Log.{batch, batches_bytes, records_of, HoldsBatches, HasBatch, BreaksAt}
-use Rattle.gated_log.specs.LogState.{hand_size, Keeps}
+use Rattle.gated_log.specs.LogState.{buffer_size, Keeps}
 
--- how many bytes are in hand where these records wait
-pub hand_size-Keeps : (log : Log) (batches : List (List Record)) (pending : List Record) → Keeps log batches pending → hand_size log ≡ 4 + length (spellings pending)
-hand_size-Keeps log batches pending keeps =
-    log.hand.ok.0 ∙ ap length keeps.items ∙ length-append keeps.head (spellings pending) ∙ ap (λ (k : ℕ). k + length (spellings pending)) keeps.four
+-- how many bytes the buffer has where these records wait
+pub buffer_size-Keeps : (log : Log) (batches : List (List Record)) (pending : List Record) → Keeps log batches pending → buffer_size log ≡ 4 + length (spellings pending)
+buffer_size-Keeps log batches pending keeps =
+    log.buffer.ok.0 ∙ ap length keeps.items ∙ length-append keeps.head (spellings pending) ∙ ap (λ (k : ℕ). k + length (spellings pending)) keeps.four
 
 -- records in front of others are records
 pub good_front : (records more : List Record) → AllByRecursion IsRecord (records ++ more) → AllByRecursion IsRecord records

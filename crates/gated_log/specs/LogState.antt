@@ -18,33 +18,33 @@ log_room log = log.room
 abbrev pub log_tail : Log → ℕ
 log_tail log = log.tail
 
--- what is in hand: four bytes of room for a batch's length, and the records that wait, spelled
-abbrev pub log_hand : Log → List ℕ
-log_hand log = log.hand.items
+-- the buffer: four bytes of room for a batch's length, and the records that wait, spelled
+abbrev pub log_buffer : Log → List ℕ
+log_buffer log = log.buffer.items
 
--- how many bytes are in hand
-abbrev pub hand_size : Log → ℕ
-hand_size log = vec_len log.hand
+-- how many bytes it has
+abbrev pub buffer_size : Log → ℕ
+buffer_size log = vec_len log.buffer
 
 -- whether a record waits
 abbrev pub is_waiting : Log → Bool
-is_waiting log = nat_lt 4 (hand_size log)
+is_waiting log = nat_lt 4 (buffer_size log)
 
 -- no record waits
-abbrev pub IsHandEmpty : Log → Type 0
-IsHandEmpty log = hand_size log ≡ 4
+abbrev pub IsBufferEmpty : Log → Type 0
+IsBufferEmpty log = buffer_size log ≡ 4
 
--- the bytes in hand that there is memory for
+-- the bytes of the buffer that there is memory for
 abbrev pub log_memory : Log → ℕ
-log_memory log = vec_capacity log.hand
+log_memory log = vec_capacity log.buffer
 
--- there is memory for so many bytes more in hand, and the one that a force adds
+-- there is memory for so many bytes more in it, and the one that a force adds
 abbrev pub HasSpare : Log → ℕ → Type 0
-HasSpare log more = hand_size log + more < log_memory log
+HasSpare log more = buffer_size log + more < log_memory log
 
 -- the memory that a force needs was taken
 abbrev pub IsReady : Log → Type 0
-IsReady log = hand_size log < log_memory log
+IsReady log = buffer_size log < log_memory log
 
 -- how many records were forced
 abbrev pub log_forced : Log → ℕ
@@ -56,22 +56,22 @@ log_count log = log.forced + log.waiting
 
 -- the bytes that are used: the forced batches, a gate, and a batch of the records that wait
 abbrev pub log_used : Log → ℕ
-log_used log = used_bytes (log_tail log) (hand_size log)
+log_used log = used_bytes (log_tail log) (buffer_size log)
 
 -- the bytes that are used where so many more wait
 abbrev pub log_used_with : Log → ℕ → ℕ
-log_used_with log more = used_bytes (log_tail log) (hand_size log + more)
+log_used_with log more = used_bytes (log_tail log) (buffer_size log + more)
 
 -- what a record of that many bytes takes, with a batch's gate and length where it is the first that waits
 abbrev pub log_need : Log → ℕ → ℕ
-log_need log own = need_bytes (hand_size log) own
+log_need log own = need_bytes (buffer_size log) own
 
 -- The log knows where these batches end, and these records wait in it behind room for their length. It has counted them.
 pub record Keeps (log : Log) (batches : List (List Record)) (pending : List Record) : Type 0 where
   pub tail : log_tail log ≡ length (batches_bytes batches)
   pub head : List ℕ
   pub four : length head ≡ 4
-  pub items : log_hand log ≡ head ++ spellings pending
+  pub items : log_buffer log ≡ head ++ spellings pending
   pub forced : log_forced log ≡ length (records_of batches)
   pub count : log_count log ≡ length (records_of batches) + length pending
 
@@ -85,6 +85,6 @@ pub record IsPlaced (old new : Log) : Type 0 where
 -- the log has the same place, batches and records that wait
 pub record IsSameLog (old new : Log) : Type 0 where
   pub place : IsPlaced old new
-  pub hand : log_hand new ≡ log_hand old
-  pub size : hand_size new ≡ hand_size old
+  pub buffer : log_buffer new ≡ log_buffer old
+  pub size : buffer_size new ≡ buffer_size old
   pub count : log_count new ≡ log_count old

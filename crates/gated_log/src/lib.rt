@@ -1,4 +1,4 @@
-//! A log in a part of a disk: batches of records, each behind its gate, and the records in hand that are not forced yet.
+//! A log in a part of a disk: batches of records, each behind its gate, and the records that wait to be forced.
 #![tactic(auto)]
 
 ghost use Rattle.std.specs.Prelude.{◌≡◌, ◌≢◌, ◌⊎◌, ℕ, ◌+◌, ◌-◌, ◌^◌, ◌<◌, ◌≤◌, ◌++◌, List, [], ◌∷◌, length, take, drop, slice_index, nat_lt, vec_len, vec_capacity, IsTrue, is_ok, IsOk, IsErr, OnOk, OnErr, IfOk, IfSome, IsSomeAnd, Some, None, Ok, Err, if◌then◌else◌};
@@ -71,18 +71,18 @@ pub struct Log {
     forced: u64,
     waiting: u64,
     // Room for the length of a batch, and the records that wait, spelled.
-    hand: Vec<u8>,
+    buffer: Vec<u8>,
     pub ghost small: { room < 2 ^ 32 },
-    ghost has_head: { 4 ≤ vec_len hand },
-    ghost fits: { used_bytes tail (vec_len hand) ≤ room },
+    ghost has_head: { 4 ≤ vec_len buffer },
+    ghost fits: { used_bytes tail (vec_len buffer) ≤ room },
     ghost inside: { at + room < 2 ^ 64 },
     // A record takes a byte at least.
     ghost few_forced: { forced ≤ tail },
-    ghost few_waiting: { waiting + 4 ≤ vec_len hand },
+    ghost few_waiting: { waiting + 4 ≤ vec_len buffer },
 }
 
 impl Log {
-    ghost use Rattle.gated_log.specs.LogState.{log_place, log_room, log_tail, log_hand, is_waiting, IsHandEmpty, IsReady, HasSpare, log_memory, log_used, log_used_with, log_need, log_forced, log_count, Keeps, IsPlaced, IsSameLog};
+    ghost use Rattle.gated_log.specs.LogState.{log_place, log_room, log_tail, log_buffer, is_waiting, IsBufferEmpty, IsReady, HasSpare, log_memory, log_used, log_used_with, log_need, log_forced, log_count, Keeps, IsPlaced, IsSameLog};
 
     /// Reads the log of `room` bytes from byte `at` of the disk on, and the records of its batches in order.
     pub fn open<D: Disk>(
@@ -95,7 +95,7 @@ impl Log {
         requires small { at + room < 2 ^ 64 }
         requires some { 0 < room }
 
-        ensures place { IfOk result (λ found. (log_place found.0 ≡ at) × (log_room found.0 ≡ room) × IsHandEmpty found.0) }
+        ensures place { IfOk result (λ found. (log_place found.0 ≡ at) × (log_room found.0 ≡ room) × IsBufferEmpty found.0) }
         ensures good { IfOk result (λ found. AllByRecursion IsRecord found.1.items) }
         ensures few { IfOk result (λ found. vec_len found.1 ≤ room) }
 
@@ -110,7 +110,7 @@ impl Log {
 
         ensures disk { OnlyReads D.Disk disk.old disk.new (log_device_result result) }
     {
-        let hand = Vec::from_array(alloc, NO_LENGTH)?;
+        let buffer = Vec::from_array(alloc, NO_LENGTH)?;
         let (records, tail) = read_batches(alloc, disk, at, room)?;
         let log = Log {
             at,
@@ -118,7 +118,7 @@ impl Log {
             tail,
             forced: records.len() as u64,
             waiting: 0,
-            hand,
+            buffer,
         };
         Ok((log, records))
     }
@@ -127,7 +127,7 @@ impl Log {
     pub fn pending(&self) -> bool
         ensures { result ≡ is_waiting self.now }
     {
-        self.hand.len() > NO_LENGTH.len()
+        self.buffer.len() > NO_LENGTH.len()
     }
 
     /// How many records it has, forced or waiting: the LSN of the last one.
@@ -151,7 +151,7 @@ impl Log {
     {
         let forced = u64::from(self.tail) + 1;
         if self.pending() {
-            forced + 1 + self.hand.len() as u64
+            forced + 1 + self.buffer.len() as u64
         } else {
             forced
         }
@@ -183,7 +183,7 @@ impl Log {
         ensures spare { OnOk result (HasSpare self.new bytes) }
         ensures same { IsSameLog self.old self.new }
     {
-        self.hand.reserve(bytes + 1)
+        self.buffer.reserve(bytes + 1)
     }
 
     /// Adds a record behind those that wait, where the log has room for it. An `Err` changes nothing.
@@ -191,7 +191,7 @@ impl Log {
         requires { log_used self.old + log_need self.old (length (spelling rec.now)) ≤ log_room self.old }
 
         ensures added { (batches : List (List Record)) (pending : List Record) → Keeps self.old batches pending → OnOk result (Keeps self.new batches (pending ++ rec.now ∷ [])) }
-        ensures ok { OnOk result (log_hand self.new ≡ log_hand self.old ++ spelling rec.now) }
+        ensures ok { OnOk result (log_buffer self.new ≡ log_buffer self.old ++ spelling rec.now) }
         ensures used { OnOk result (log_used self.new ≡ log_used self.old + log_need self.old (length (spelling rec.now))) }
         ensures count { OnOk result (log_count self.new ≡ log_count self.old + 1) }
         ensures err { OnErr result (IsSameLog self.old self.new) }
@@ -200,7 +200,7 @@ impl Log {
         ensures in_room { HasSpare self.old (length (spelling rec.now)) → IsOk result }
         ensures memory { log_memory self.old ≤ log_memory self.new }
     {
-        log_records::encode(rec, &mut self.hand)?;
+        log_records::encode(rec, &mut self.buffer)?;
         self.waiting += 1;
         Ok(())
     }
@@ -210,14 +210,14 @@ impl Log {
         requires { log_used_with self.old (length (spellings records.now)) ≤ log_room self.old }
 
         ensures added { (batches : List (List Record)) (pending : List Record) → Keeps self.old batches pending → OnOk result (Keeps self.new batches (pending ++ records.now)) }
-        ensures ok { OnOk result (log_hand self.new ≡ log_hand self.old ++ spellings records.now) }
+        ensures ok { OnOk result (log_buffer self.new ≡ log_buffer self.old ++ spellings records.now) }
         ensures used { OnOk result (log_used self.new ≡ log_used_with self.old (length (spellings records.now))) }
         ensures count { OnOk result (log_count self.new ≡ log_count self.old + length records.now) }
         ensures err { OnErr result (IsSameLog self.old self.new) }
         ensures place { IsPlaced self.old self.new }
     {
-        let bytes = spell(*self.hand.allocator(), records)?;
-        self.hand.extend_from_slice(&bytes)?;
+        let bytes = spell(*self.buffer.allocator(), records)?;
+        self.buffer.extend_from_slice(&bytes)?;
         self.waiting += records.len() as u64;
         Ok(())
     }
@@ -231,7 +231,7 @@ impl Log {
         ensures disk { KeepsDisk D.Disk disk.old disk.new result }
 
         // Where nothing waits there is nothing to do.
-        ensures idle { IsHandEmpty self.old → (result ≡ Ok tt) × (disk.new ≡ disk.old) × (self.new ≡ self.old) }
+        ensures idle { IsBufferEmpty self.old → (result ≡ Ok tt) × (disk.new ≡ disk.old) × (self.new ≡ self.old) }
 
         ensures kept { (batches : List (List Record)) (pending : List Record) → Keeps self.old batches pending → OnOk result (Keeps self.new (with_batch batches pending) []) }
         ensures held { IsTrue D.tells → (batches : List (List Record)) (pending : List Record) → Keeps self.old batches pending → HoldsBatches (part (D.bytes disk.old) (log_place self.old) (log_room self.old)) batches → OnOk result (Keeps self.new (with_batch batches pending) [] × HoldsBatches (part (D.bytes disk.new) (log_place self.old) (log_room self.old)) (with_batch batches pending)) }
@@ -243,7 +243,7 @@ impl Log {
             → LeavesOnly D.moment D.left_since disk.old disk.new (λ c. SameOutside (log_place self.old) (log_place self.old + log_room self.old) (D.bytes disk.old) c × (HoldsBatches (part c (log_place self.old) (log_room self.old)) batches ⊎ HoldsBatches (part c (log_place self.old) (log_room self.old)) (with_batch batches pending))) }
         ensures passes { IsTrue D.tells → Passes (if is_waiting self.old then 4 else 0) (D.passed disk.old) (D.passed disk.new) result }
 
-        ensures nothing_waits { IsHandEmpty self.new }
+        ensures nothing_waits { IsBufferEmpty self.new }
         ensures used { log_used self.new ≤ log_used self.old }
         ensures at { log_place self.new ≡ log_place self.old }
         ensures same_room { log_room self.new ≡ log_room self.old }
@@ -255,11 +255,11 @@ impl Log {
         }
         let gate = self.at + u64::from(self.tail);
         let waiting = self.waiting;
-        close_batch(&mut self.hand);
-        let size = self.hand.len() as u32;
-        let written = fill_and_open(disk, gate, gate + 1, &self.hand);
+        close_batch(&mut self.buffer);
+        let size = self.buffer.len() as u32;
+        let written = fill_and_open(disk, gate, gate + 1, &self.buffer);
         self.waiting = 0;
-        self.hand.truncate(NO_LENGTH.len());
+        self.buffer.truncate(NO_LENGTH.len());
         written?;
         self.tail += size;
         self.forced += waiting;
@@ -279,24 +279,24 @@ fn spell(alloc: Global, records: &[Record]) -> Result<Vec<u8>, AllocError>
 }
 
 /// Makes a batch of the records: puts their length in front, and the next closed gate behind.
-fn close_batch(hand: &mut Vec<u8>)
-    requires head { 4 ≤ vec_len hand.old }
-    requires small { vec_len hand.old < 2 ^ 32 }
-    requires room { vec_len hand.old < vec_capacity hand.old }
-    ensures items { hand.new.items ≡ to_le_bytes w32 (vec_len hand.old - 4) ++ drop 4 hand.old.items ++ 0 ∷ [] }
-    ensures len { vec_len hand.new ≡ vec_len hand.old + 1 }
+fn close_batch(buffer: &mut Vec<u8>)
+    requires head { 4 ≤ vec_len buffer.old }
+    requires small { vec_len buffer.old < 2 ^ 32 }
+    requires room { vec_len buffer.old < vec_capacity buffer.old }
+    ensures items { buffer.new.items ≡ to_le_bytes w32 (vec_len buffer.old - 4) ++ drop 4 buffer.old.items ++ 0 ∷ [] }
+    ensures len { vec_len buffer.new ≡ vec_len buffer.old + 1 }
 {
-    let size = (hand.len() - NO_LENGTH.len()) as u32;
-    put_length(hand, size);
-    hand.push_reserved(CLOSED);
+    let size = (buffer.len() - NO_LENGTH.len()) as u32;
+    put_length(buffer, size);
+    buffer.push_reserved(CLOSED);
 }
 
 /// Writes the length into the first four bytes.
-fn put_length(hand: &mut [u8], size: u32)
-    requires { 4 ≤ length hand.old }
-    ensures { hand.new ≡ to_le_bytes w32 size ++ drop 4 hand.old }
+fn put_length(buffer: &mut [u8], size: u32)
+    requires { 4 ≤ length buffer.old }
+    ensures { buffer.new ≡ to_le_bytes w32 size ++ drop 4 buffer.old }
 {
-    hand[..4].copy_from_slice(&size.to_le_bytes());
+    buffer[..4].copy_from_slice(&size.to_le_bytes());
 }
 
 /// The records of the batches in the log of `room` bytes from byte `at` on, and the offset of the closed gate behind them. It

@@ -1,11 +1,11 @@
 mod Calls
 mod Empty
-mod MeansAnswer
-mod MeansForce
-mod MeansGraph
-pub mod MeansLeft
-mod MeansMemory
-mod MeansOpen
+mod RefinementAnswer
+mod RefinementForce
+mod RefinementGraph
+pub mod RefinementLeft
+mod RefinementMemory
+mod RefinementOpen
 mod OpenErrors
 mod RoundLaws
 mod Undamaged

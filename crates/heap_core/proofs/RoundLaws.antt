@@ -10,7 +10,7 @@ use Rattle.graph_model.specs.declared.reply.Reply.{Reply}
 use Rattle.graph_model.specs.Graph.{Graph}
 use Rattle.graph_model.specs.SlowHeap.{IsOfSession}
 use Rattle.heap_model.specs.Core.{Core, IsStep}
-use Rattle.heap_model.specs.CoreCrash.{KeepsCommits}
+use Rattle.heap_model.specs.CoreCrash.{IsCommitPrefix}
 use Rattle.heap_model.specs.CoreLawsCalls.{run_step}
 use Rattle.heap_model.specs.CoreLawsOpened.{saying_law}
 use Rattle.heap_model.specs.Image.{IsLegal, StandsFor}
@@ -19,7 +19,7 @@ use Rattle.heap_model.specs.Theorems.{SaysOn}
 use Rattle.graph_model.specs.Canon.{canon}
 use Rattle.graph_words.specs.Places.{Places}
 use Rattle.heap_core.specs.declared.heap.Heap.{Heap}
-use Rattle.heap_core.specs.Means.{IsHeap}
+use Rattle.heap_core.specs.Refinement.{IsHeap}
 use Rattle.heap_core.specs.Rounds.{IsGoing, IsRound, HasGone}
 
 -- the legal image in what stands for a graph and commits
@@ -60,7 +60,7 @@ going_on g k events c d event reply going one step = record {
 }
 
 -- a crash leaves first commits
-pub round_ends : (g : Graph) (k : ℕ) (events : List Event) (c : Core) (image : List ℕ) → IsGoing g k events c → KeepsCommits c image → (h : Graph) × (j : ℕ) × IsRound g k events h j × StandsFor h j image
+pub round_ends : (g : Graph) (k : ℕ) (events : List Event) (c : Core) (image : List ℕ) → IsGoing g k events c → IsCommitPrefix c image → (h : Graph) × (j : ℕ) × IsRound g k events h j × StandsFor h j image
 round_ends g k events c image going kept = (
   _,
   c.before + kept.0,

@@ -2,7 +2,7 @@
 use Rattle.std.proofs.Common.{◌≡◌, inl, inr, ℕ, ◌+◌, ◌-◌, ◌<◌, ◌≤◌, min, List, length, get_or, replicate, ap, ◌∙◌, arith}
 use Rattle.std.proofs.lemmas.Bool.{cases_lt}
 use Rattle.std.proofs.lemmas.List.{length-replicate, get_or-replicate, get_or_past}
-use Rattle.disk_model.specs.Disk.{overwrite, Torn, Follows, SameOutside}
+use Rattle.disk_model.specs.Disk.{overwrite, Torn, WidensBy, SameOutside}
 use Rattle.gate_slot.specs.Images.{torn_outside, torn_overwrite, overwrite_inside}
 use Rattle.heap_core.specs.Format.{AreZero, zero_writes}
 
@@ -25,7 +25,7 @@ same_torn from end at n first old new low high so_far torn = record {
 }
 
 -- the images that a crash may leave after one write more
-pub crash_on : (from end at n : ℕ) (first old new : List ℕ → Type 0) → from ≤ at → at + n ≤ end → Follows (SameOutside from end) first old → Follows (Torn at n) old new → Follows (SameOutside from end) first new
+pub crash_on : (from end at n : ℕ) (first old new : List ℕ → Type 0) → from ≤ at → at + n ≤ end → WidensBy (SameOutside from end) first old → WidensBy (Torn at n) old new → WidensBy (SameOutside from end) first new
 crash_on from end at n first old new low high so_far write c left =
     let mid = write c left in
     let origin = so_far mid.0 mid.1 in

@@ -3,19 +3,19 @@ use Rattle.std.proofs.Common.{◌≡◌, inl, ℕ, List, Option, Some, None, ref
 use Rattle.graph_model.specs.History.{account}
 use Rattle.image_plan.specs.declared.superblock.Super.{Super}
 use Rattle.heap_model.specs.Core.{Core}
-use Rattle.heap_model.specs.CoreCrash.{KeepsCommits}
+use Rattle.heap_model.specs.CoreCrash.{IsCommitPrefix}
 use Rattle.core_laws.specs.Crash.{crash_law}
 use Rattle.core_laws.specs.Valid.{IsSound}
 use Rattle.heap_model.specs.Image.{Holds}
-use Rattle.heap_core.specs.Means.{DiskHolds}
+use Rattle.heap_core.specs.Refinement.{DiskHolds}
 
 module _ (s : Super) (c : Core) (image : List ℕ) (may_leave : List ℕ → Type 0) (holds : DiskHolds s c image may_leave) (sound : IsSound c) where
-  keeps_as : (o : Option ℕ) → (account c.history).failed ≡ o → (d : List ℕ) → may_leave d → KeepsCommits c d
+  keeps_as : (o : Option ℕ) → (account c.history).failed ≡ o → (d : List ℕ) → may_leave d → IsCommitPrefix c d
   keeps_as None is d left =
       let disk = holds.unfailed is in
       crash_law c s c.batches sound holds.born (inl refl) disk.of d (subst (λ (x : List ℕ). Holds s c.batches x) (sym (disk.only d left)) disk.held)
   keeps_as (Some entry) is d left = holds.failed (λ none. let never : None ≡ Some entry = sym none ∙ is in cc) d left
 
   -- a crash leaves the heap's first commits
-  pub heap_keeps : (d : List ℕ) → may_leave d → KeepsCommits c d
+  pub heap_keeps : (d : List ℕ) → may_leave d → IsCommitPrefix c d
   heap_keeps d left = keeps_as (account c.history).failed refl d left

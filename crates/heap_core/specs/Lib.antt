@@ -3,6 +3,6 @@ pub mod CrashLaws
 pub mod Format
 pub mod GivenBack
 pub mod HeapState
-pub mod Means
+pub mod Refinement
 pub mod Refusals
 pub mod Rounds

@@ -10,7 +10,7 @@ use Rattle.image_plan.specs.declared.superblock.Super.{Super}
 use Rattle.heap_model.specs.Core.{Core, IsRun}
 use Rattle.core_laws.specs.Valid.{IsReached}
 use Rattle.heap_core.specs.declared.heap.Heap.{Heap}
-use Rattle.heap_core.specs.Means.{IsHeap}
+use Rattle.heap_core.specs.Refinement.{IsHeap}
 
 -- These events lead to a core from one that was opened with graph g and k commits.
 pub record IsGoing (g : Graph) (k : ℕ) (events : List Event) (c : Core) : Type 0 where

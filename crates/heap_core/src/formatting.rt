@@ -1,6 +1,6 @@
 //! An empty heap is made on a disk.
 ghost use Rattle.std.specs.Prelude.{◌≡◌, ℕ, ◌+◌, ◌-◌, ◌<◌, ◌≤◌, List, [], replicate, IsTrue, Err, IfOk, IfErr, IsErrAnd, OnOk};
-ghost use Rattle.disk_model.specs.Disk.{Only, Follows, SameOutside};
+ghost use Rattle.disk_model.specs.Disk.{Only, WidensBy, SameOutside};
 ghost use Rattle.disk_model.specs.Keeps.{KeepsDisk};
 ghost use Rattle.disk_model.specs.Moments.{LeavesOnly};
 ghost use Rattle.gate_slot.specs.Passing.{Passes};
@@ -103,7 +103,7 @@ fn write_zeros<D: Disk>(disk: &mut D, from: u64, end: u64) -> Result<(), DiskErr
 
     ensures zero { IsTrue D.tells → OnOk result (AreZero from end (D.bytes disk.new)) }
     ensures outside { IsTrue D.tells → OnOk result (SameOutside from end (D.bytes disk.old) (D.bytes disk.new)) }
-    ensures crash { IsTrue D.tells → Follows (SameOutside from end) (D.may_leave disk.old) (D.may_leave disk.new) }
+    ensures crash { IsTrue D.tells → WidensBy (SameOutside from end) (D.may_leave disk.old) (D.may_leave disk.new) }
     ensures moments { IsTrue D.tells → LeavesOnly D.moment D.left_since disk.old disk.new (λ c. (d : List ℕ) × D.may_leave disk.old d × SameOutside from end d c) }
     ensures passes { IsTrue D.tells → Passes (zero_writes (end - from)) (D.passed disk.old) (D.passed disk.new) result }
     ensures disk { KeepsDisk D.Disk disk.old disk.new result }

@@ -23,12 +23,12 @@ ghost use Rattle.object_layout.specs.Layout.{IsSeenAs};
 ghost use Rattle.heap_model.specs.Opening.{opened, rolled_back, rollback_of, opening_calls, IsFound, IsLeftByOpening};
 ghost use Rattle.heap_core.specs.Causes.{step_device, reply_device, opened_device, IsFromOutside, OpenedPasses};
 ghost use Rattle.heap_model.specs.Core.{Core, IsStep, calls};
-ghost use Rattle.heap_model.specs.CoreCrash.{KeepsCommits};
+ghost use Rattle.heap_model.specs.CoreCrash.{IsCommitPrefix};
 ghost use Rattle.core_laws.specs.Valid.{IsReached, IsValid, RunsLocked};
 ghost use Rattle.commit_order.specs.Heard.{replies_of_commits};
 ghost use Rattle.commit_order.specs.SerialOrder.{IsCommitOrdered};
 ghost use Rattle.heap_memory.specs.Leaves.{IsAsItWas};
-ghost use Rattle.memory_laws.specs.Follows.{IsMemory, Does};
+ghost use Rattle.memory_laws.specs.CoreMemory.{IsMemory, Does};
 ghost use Rattle.working_state.specs.State.{memory};
 
 use crate::errors::{GraphError, OpenError};
@@ -113,7 +113,7 @@ fn print(alloc: Global, words: &PageWords) -> Result<Vec<u8>, GraphError>
 
 impl<D: Disk> Heap<D> {
     ghost use Rattle.heap_core.specs.HeapState.{opened_disk, heap_disk, failed_at, entries_of};
-    ghost use Rattle.heap_core.specs.Means.{IsCore, IsHeap, Steps, StepsOn};
+    ghost use Rattle.heap_core.specs.Refinement.{IsCore, IsHeap, Steps, StepsOn};
     ghost use Rattle.heap_core.specs.Refusals.{IsToldOf, IsErrorOrOutside, ComesBeforeWrites};
     ghost use Rattle.heap_core.specs.declared.errors.OpenError.TheVariants.{NotHeap, Damaged};
     ghost use Rattle.heap_recovery.specs.declared.at.At.{At};
@@ -197,7 +197,7 @@ impl<D: Disk> Heap<D> {
         // So is what a disk that tells holds.
         ensures holds { IsTrue D.tells → (s : Super) (c : Core) → IsHeap s c self.old → IsReached c → IfOk result (λ reply. (d : Core) × IsStep c event reply d × IsHeap s d self.new) }
         // At each moment of it a crash leaves first commits, among them all that were acknowledged before.
-        ensures moments { IsTrue D.tells → (s : Super) (c : Core) → IsHeap s c self.old → IsReached c → LeavesOnly D.moment D.left_since self.old.disk self.new.disk (KeepsCommits c) }
+        ensures moments { IsTrue D.tells → (s : Super) (c : Core) → IsHeap s c self.old → IsReached c → LeavesOnly D.moment D.left_since self.old.disk self.new.disk (IsCommitPrefix c) }
         ensures passes { IsTrue D.tells → (c : Core) → IsCore c self.old → IsReached c → IfOk result (λ reply. Passes (calls c event) (D.passed self.old.disk) (D.passed self.new.disk) (reply_device reply)) }
         // An event that makes no write or sync leaves the disk alone, and does not read it either.
         ensures still { (c : Core) → IsCore c self.old → IsReached c → calls c event ≡ 0 → self.new.disk ≡ self.old.disk }
@@ -217,7 +217,7 @@ impl<D: Disk> Heap<D> {
         ensures kept { (c : Core) → IsCore c self.old → OnErr result (IsCore c self.new) }
         ensures before { self.new.before ≡ self.old.before }
         ensures untouched { OnErr result (self.new.disk ≡ self.old.disk) }
-        ensures moments { IsTrue D.tells → (s : Super) (c : Core) → IsHeap s c self.old → IsReached c → LeavesOnly D.moment D.left_since self.old.disk self.new.disk (KeepsCommits c) }
+        ensures moments { IsTrue D.tells → (s : Super) (c : Core) → IsHeap s c self.old → IsReached c → LeavesOnly D.moment D.left_since self.old.disk self.new.disk (IsCommitPrefix c) }
         ensures passes { IsTrue D.tells → (c : Core) → IsCore c self.old → IsReached c → IfOk result (λ reply. Passes (calls c event) (D.passed self.old.disk) (D.passed self.new.disk) (reply_device reply)) }
         ensures still { (c : Core) → IsCore c self.old → IsReached c → calls c event ≡ 0 → self.new.disk ≡ self.old.disk }
     {
@@ -236,7 +236,7 @@ impl<D: Disk> Heap<D> {
         ensures before { self.new.before ≡ self.old.before }
         ensures history { self.new.history ≡ self.old.history }
         ensures untouched { OnErr result (self.new.disk ≡ self.old.disk) }
-        ensures moments { IsTrue D.tells → (s : Super) (c : Core) → IsHeap s c self.old → self.old.failed ≡ None → IsReached c → LeavesOnly D.moment D.left_since self.old.disk self.new.disk (KeepsCommits c) }
+        ensures moments { IsTrue D.tells → (s : Super) (c : Core) → IsHeap s c self.old → self.old.failed ≡ None → IsReached c → LeavesOnly D.moment D.left_since self.old.disk self.new.disk (IsCommitPrefix c) }
         ensures passes { IsTrue D.tells → (c : Core) → IsCore c self.old → IsReached c → self.old.failed ≡ None → IfOk result (λ reply. Passes (calls c event) (D.passed self.old.disk) (D.passed self.new.disk) (reply_device reply)) }
         ensures still { (c : Core) → IsCore c self.old → IsReached c → self.old.failed ≡ None → calls c event ≡ 0 → self.new.disk ≡ self.old.disk }
     {
@@ -255,7 +255,7 @@ impl<D: Disk> Heap<D> {
         ensures before { self.new.before ≡ self.old.before }
         ensures history { self.new.history ≡ self.old.history }
         ensures untouched { OnErr result (self.new.disk ≡ self.old.disk) }
-        ensures moments { IsTrue D.tells → (s : Super) (c : Core) → IsHeap s c self.old → self.old.failed ≡ None → IsReached c → LeavesOnly D.moment D.left_since self.old.disk self.new.disk (KeepsCommits c) }
+        ensures moments { IsTrue D.tells → (s : Super) (c : Core) → IsHeap s c self.old → self.old.failed ≡ None → IsReached c → LeavesOnly D.moment D.left_since self.old.disk self.new.disk (IsCommitPrefix c) }
         ensures passes { IsTrue D.tells → (c : Core) → IsCore c self.old → IsReached c → self.old.failed ≡ None → IfOk result (λ reply. Passes (calls c Force) (D.passed self.old.disk) (D.passed self.new.disk) (reply_device reply)) }
         ensures still { (c : Core) → IsCore c self.old → IsReached c → self.old.failed ≡ None → calls c Force ≡ 0 → self.new.disk ≡ self.old.disk }
     {

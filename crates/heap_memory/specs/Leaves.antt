@@ -22,7 +22,7 @@ use Rattle.heap_memory.specs.Memory.{Memory, own, place_word, held_place}
 use Rattle.heap_memory.specs.Refusals.{asked, sealing_records, sealing_need}
 use Rattle.heap_memory.specs.Replies.{meant_held}
 
--- The log has these records more in hand, and is where it was.
+-- The log has these records waiting besides, and is where it was.
 pub record Adds (old new : Log) (records : List Record) : Type 0 where
   pub place : IsPlaced old new
   pub kept : (batches : List (List Record)) (pending : List Record) → Keeps old batches pending → Keeps new batches (pending ++ records)

@@ -19,7 +19,7 @@ use Rattle.log_records.specs.declared.Record.TheVariants.{Update}
 use Rattle.log_records.specs.Record.{spellings}
 use Rattle.log_machine.specs.declared.UndoEntry.{UndoEntry}
 use Rattle.log_machine.specs.Machine.{State, start, after_all, words, undo_of, undo_bytes, abort_records}
-use Rattle.gated_log.specs.Log.{records_of, batches_bytes, hand}
+use Rattle.gated_log.specs.Log.{records_of, batches_bytes, pending_batch}
 use Rattle.heap_words.specs.declared.Word.{Word}
 use Rattle.heap_words.specs.declared.Word.TheVariants.{Stable}
 use Rattle.volatile_area.specs.Area.{AreaState}
@@ -135,9 +135,9 @@ places_for ground g0 a event = []
 abbrev pub event_places : Core → Event → Places
 event_places c event = places_for (ground c) c.g0 (account c.history) event
 
--- the log's bytes that are used: the forced batches, a gate, and the batch in hand
+-- the log's bytes that are used: the forced batches, a gate, and the batch that waits
 abbrev pub used : Core → ℕ
-used c = length (batches_bytes c.batches) + 1 + length (hand c.pending)
+used c = length (batches_bytes c.batches) + 1 + length (pending_batch c.pending)
 
 -- the bytes that records take behind those that wait, with those of a batch where none waits
 abbrev pub need : List Record → List Record → ℕ

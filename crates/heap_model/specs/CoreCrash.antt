@@ -31,14 +31,8 @@ pub record StandsForFirst (c : Core) (k : ℕ) (image : List ℕ) : Type 0 where
   pub some : k ≤ length (commits c.history)
 
 -- The image stands for first commits, and all that was acknowledged is among them.
-abbrev pub KeepsCommits : Core → List ℕ → Type 0
-KeepsCommits c image = (k : ℕ) × StandsForFirst c k image
-
--- The image stands for first commits.
-pub record HasCommits (c : Core) (image : List ℕ) : Type 0 where
-  pub count : ℕ
-  pub stands : StandsFor (serial c.g0 (take count (commits c.history))) (c.before + count) image
-  pub some : count ≤ length (commits c.history)
+abbrev pub IsCommitPrefix : Core → List ℕ → Type 0
+IsCommitPrefix c image = (k : ℕ) × StandsForFirst c k image
 
 -- The image stands for first commits, so many at least.
 pub record HasAtLeast (c : Core) (least : ℕ) (image : List ℕ) : Type 0 where

@@ -7,7 +7,7 @@ use Rattle.log_machine.specs.Sound.{IsSound}
 use Rattle.log_machine.specs.StateLaws.{sound_start, sound_after_all}
 use Rattle.graph_words.specs.Places.{Places}
 use Rattle.heap_model.specs.Core.{Core, used, need}
-use Rattle.heap_model.specs.CoreLawsRoom.{length-hand-append}
+use Rattle.heap_model.specs.CoreLawsRoom.{length-pending_batch-append}
 use Rattle.heap_model.specs.CoreTold.{IsTold}
 
 -- What the active transaction wrote and what is kept for it.
@@ -20,7 +20,7 @@ told_sound {pages} {lowest} {records = records} {state = state} told = sound_aft
 
 -- the log's bytes that are used with more records behind those that wait
 pub used-append : (c : Core) (more : List Record) → used (record c { pending = c.pending ++ more }) ≡ used c + need c.pending more
-used-append c more = let parts = length-hand-append c.pending more in omega arith
+used-append c more = let parts = length-pending_batch-append c.pending more in omega arith
 
 -- no records need nothing
 pub need_nothing : (pending : List Record) → need pending [] ≡ 0

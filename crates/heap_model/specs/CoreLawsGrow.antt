@@ -12,7 +12,7 @@ use Rattle.graph_model.specs.Transaction.{Transaction}
 use Rattle.graph_model.specs.History.{Account, account, account_after, session_of, done, cut_short, answered, sealed, acknowledged}
 use Rattle.graph_model.specs.HistoryLaws.{account-append}
 use Rattle.heap_model.specs.Core.{Core, IsStep, IsRun}
-use Rattle.heap_model.specs.CoreCrash.{KeepsCommits, HasAtLeast}
+use Rattle.heap_model.specs.CoreCrash.{IsCommitPrefix, HasAtLeast}
 use Rattle.heap_model.specs.CoreLawsRun.{step_history}
 
 -- Between two accounts nothing that was sealed is lost.
@@ -55,7 +55,7 @@ grows c d (event ∷ made) run =
     )
 
 -- an image that keeps what was acknowledged has as many commits at least
-pub keeps_at_least : (c : Core) (image : List ℕ) → KeepsCommits c image → HasAtLeast c (acknowledged c.history) image
+pub keeps_at_least : (c : Core) (image : List ℕ) → IsCommitPrefix c image → HasAtLeast c (acknowledged c.history) image
 keeps_at_least c image keeps = record { count = keeps.0; stands = keeps.1.stands; enough = keeps.1.kept; some = keeps.1.some }
 
 -- an image that has so many commits has fewer at least

@@ -12,7 +12,7 @@ use Rattle.object_layout.specs.WalkedLaws.{gathered}
 use Rattle.graph_words.specs.Places.{Places, named_places, address_name}
 use Rattle.graph_words.specs.StandsSeen.{stands_seen, stands_canon}
 use Rattle.graph_words.specs.WalkedStands.{gathered_placed, address_name-AreOld, address_name-KeepApart, id_at-KeepApart, walked_stands_by_address, walked_stands_by_birth, id_at-AreNamedByBirth, id_at-AreOld}
-use Rattle.heap_model.specs.CoreCrash.{KeepsCommits}
+use Rattle.heap_model.specs.CoreCrash.{IsCommitPrefix}
 use Rattle.heap_model.specs.CoreLawsOpening.{next_is, rolled_shaped, rolled_says}
 use Rattle.heap_model.specs.Theorems.{SayingTheorem, SaysOn}
 use Rattle.heap_model.specs.Image.{words_of, IsShapedLog, IsLegalLog, Holds, Shows, Says}
@@ -97,7 +97,7 @@ module _ (s : Super) (batches : List (List Record)) (legal : IsLegalLog s batche
   none_since log says = record { legal = says.legal; seen = says.seen; shows = says.shows; graph = says.graph; count = omega (arith, says.count) }
 
   -- an image of the log that was found or of the one behind the opening keeps all commits, wherever the opening was stopped
-  pub opened_keeps : (image : List ℕ) → Holds s batches image ⊎ Holds s (rolled_back s batches) image → KeepsCommits (opened s batches true places g) image
+  pub opened_keeps : (image : List ℕ) → Holds s batches image ⊎ Holds s (rolled_back s batches) image → IsCommitPrefix (opened s batches true places g) image
   opened_keeps image (inl held) = (
     0,
     record {

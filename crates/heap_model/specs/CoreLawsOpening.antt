@@ -20,7 +20,7 @@ use Rattle.object_layout.specs.Layout.{IsSeen}
 use Rattle.object_layout.specs.Walk.{IsWalked, HaveOwnBirths, AreBornBefore}
 use Rattle.heap_model.specs.Core.{need}
 use Rattle.heap_model.specs.CoreLawsRoom.{records_of-with_batch, length-with_batch}
-use Rattle.heap_model.specs.CoreLawsRoom.{length-hand-append}
+use Rattle.heap_model.specs.CoreLawsRoom.{length-pending_batch-append}
 use Rattle.heap_model.specs.Image.{words_of, IsShapedLog, IsLegalLog, Shows, Says}
 use Rattle.heap_model.specs.Opening.{rollback_in, rollback_of, rolled_back, next_in, next_of}
 
@@ -102,7 +102,7 @@ module _ (s : Super) (batches : List (List Record)) (shaped : IsShapedLog s batc
   pub rolled_room : length (batches_bytes (rolled_back s batches)) + 1 ≤ s.log_bytes
   rolled_room =
       let whole = length-with_batch batches (rollback_of s batches) in
-      let more = length-hand-append [] (rollback_of s batches) in
+      let more = length-pending_batch-append [] (rollback_of s batches) in
       let fits = rolled_fits in
       omega arith
 

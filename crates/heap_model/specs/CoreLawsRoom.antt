@@ -12,7 +12,7 @@ use Rattle.log_machine.specs.declared.UndoEntry.{UndoEntry}
 use Rattle.log_machine.specs.Machine.{abort_records, undo_bytes}
 use Rattle.log_machine.specs.AbortLaws.{abort_length}
 use Rattle.log_records.specs.Record.{spelling, spellings}
-use Rattle.gated_log.specs.Log.{framed, batch, batches_bytes, records_of, hand, with_batch}
+use Rattle.gated_log.specs.Log.{framed, batch, batches_bytes, records_of, pending_batch, with_batch}
 use Rattle.heap_model.specs.Core.{Core, need, full_log, forced}
 
 -- the records of batches with one more
@@ -22,8 +22,8 @@ records_of-append bs b = flat_map-append (λ records. records) bs (b ∷ []) ∙
 length_framed : (rs : List Record) → length (framed rs) ≡ 4 + length (spellings rs)
 length_framed rs = length-append (to_le_bytes w32 (length (spellings rs))) (spellings rs)
 
-length_hand : (r : Record) (rs : List Record) → length (hand (r ∷ rs)) ≡ length (spellings (r ∷ rs)) + 5
-length_hand r rs =
+length_pending_batch : (r : Record) (rs : List Record) → length (pending_batch (r ∷ rs)) ≡ length (spellings (r ∷ rs)) + 5
+length_pending_batch r rs =
     let all = length-append (framed (r ∷ rs)) (0 ∷ []) in
     let front = length_framed (r ∷ rs) in
     omega arith
@@ -32,13 +32,13 @@ length_spellings : (rs more : List Record) → length (spellings (rs ++ more)) �
 length_spellings rs more = ap (λ (l : List ℕ). length l) (flat_map-append spelling rs more) ∙ length-append (spellings rs) (spellings more)
 
 -- records behind those that wait take what they need
-pub length-hand-append : (pending more : List Record) → length (hand (pending ++ more)) ≡ length (hand pending) + need pending more
-length-hand-append [] [] = omega arith
-length-hand-append [] (r ∷ rs) = length_hand r rs ∙ omega arith
-length-hand-append (p ∷ ps) [] = ap (λ (l : List Record). length (hand l)) (append-nil (p ∷ ps)) ∙ omega arith
-length-hand-append (p ∷ ps) (r ∷ rs) =
-    let all = length_hand p (ps ++ (r ∷ rs)) in
-    let front = length_hand p ps in
+pub length-pending_batch-append : (pending more : List Record) → length (pending_batch (pending ++ more)) ≡ length (pending_batch pending) + need pending more
+length-pending_batch-append [] [] = omega arith
+length-pending_batch-append [] (r ∷ rs) = length_pending_batch r rs ∙ omega arith
+length-pending_batch-append (p ∷ ps) [] = ap (λ (l : List Record). length (pending_batch l)) (append-nil (p ∷ ps)) ∙ omega arith
+length-pending_batch-append (p ∷ ps) (r ∷ rs) =
+    let all = length_pending_batch p (ps ++ (r ∷ rs)) in
+    let front = length_pending_batch p ps in
     let parts = length_spellings (p ∷ ps) (r ∷ rs) in
     omega arith
 
@@ -52,8 +52,8 @@ length_batches bs b =
 
 -- records that are forced take no more than they did while they waited
 pub length-forced : (bs : List (List Record)) (r : Record) (rs : List Record)
-    → length (batches_bytes (bs ++ (r ∷ rs) ∷ [])) + 1 + length (hand []) ≡ length (batches_bytes bs) + 1 + length (hand (r ∷ rs))
-length-forced bs r rs = let all = length_batches bs (r ∷ rs) in let waiting = length_hand r rs in omega arith
+    → length (batches_bytes (bs ++ (r ∷ rs) ∷ [])) + 1 + length (pending_batch []) ≡ length (batches_bytes bs) + 1 + length (pending_batch (r ∷ rs))
+length-forced bs r rs = let all = length_batches bs (r ∷ rs) in let waiting = length_pending_batch r rs in omega arith
 
 -- a log with that much room isn't full
 pub full_log-none : (room used more kept : ℕ) → used + more + kept ≤ room → full_log room used more kept ≡ None
@@ -88,6 +88,6 @@ records_of-with_batch bs [] = sym (append-nil (records_of bs))
 records_of-with_batch bs (r ∷ rs) = records_of-append bs (r ∷ rs)
 
 -- and the bytes that they take
-pub length-with_batch : (bs : List (List Record)) (p : List Record) → length (batches_bytes (with_batch bs p)) + 1 + length (hand []) ≡ length (batches_bytes bs) + 1 + length (hand p)
+pub length-with_batch : (bs : List (List Record)) (p : List Record) → length (batches_bytes (with_batch bs p)) + 1 + length (pending_batch []) ≡ length (batches_bytes bs) + 1 + length (pending_batch p)
 length-with_batch bs [] = refl
 length-with_batch bs (r ∷ rs) = length-forced bs r rs

@@ -10,9 +10,9 @@ use Rattle.gated_log.specs.declared.Log.{Log}
 use Rattle.gated_log.specs.declared.LogError.{LogError}
 use Rattle.gated_log.specs.declared.LogError.TheVariants as logging
 use Rattle.gated_log.specs.Log.{records_of, with_batch, HoldsBatches, batches_bytes}
-use Rattle.gated_log.specs.LogLaws.{hand_size-Keeps}
+use Rattle.gated_log.specs.LogLaws.{buffer_size-Keeps}
 use Rattle.gated_log.specs.LogRoom.{used_bytes}
-use Rattle.gated_log.specs.LogState.{log_place, log_room, log_tail, hand_size, log_used, log_used_with, IsHandEmpty, IsSameLog, Keeps}
+use Rattle.gated_log.specs.LogState.{log_place, log_room, log_tail, buffer_size, log_used, log_used_with, IsBufferEmpty, IsSameLog, Keeps}
 use Rattle.image_plan.specs.declared.superblock.Super.{Super}
 use Rattle.image_plan.specs.Plan.{log_offset}
 use Rattle.log_records.specs.declared.Record.{Record}
@@ -58,25 +58,25 @@ shaped_outside s m rs (replaying.Unshaped lsn) reached fault =
     cc never
 
 -- a log in which no record waits is known to be so
-pub none_waits : (log : Log) (batches : List (List Record)) → Keeps log batches [] → IsHandEmpty log
-none_waits log batches keeps = hand_size-Keeps log batches [] keeps
+pub none_waits : (log : Log) (batches : List (List Record)) → Keeps log batches [] → IsBufferEmpty log
+none_waits log batches keeps = buffer_size-Keeps log batches [] keeps
 
 -- the bytes that it uses
 pub used_of : (log : Log) (batches : List (List Record)) → Keeps log batches [] → log_used log ≡ length (batches_bytes batches) + 1
 used_of log batches keeps = ap (used_bytes (log_tail log)) (none_waits log batches keeps) ∙ ap (λ (n : ℕ). n + 1) keeps.tail
 
-used_more : (tail hand k : ℕ) → used_bytes tail (hand + k) ≤ used_bytes tail hand + (k + 5)
-used_more tail hand k = grind (arith, nat_tests)
+used_more : (tail buffer k : ℕ) → used_bytes tail (buffer + k) ≤ used_bytes tail buffer + (k + 5)
+used_more tail buffer k = grind (arith, nat_tests)
 
 fits_with : (log : Log) (s : State) (es : List Loser) → losing s ≡ es → log_used log + reserve s ≤ log_room log → log_used_with log (length (spellings (rollback s))) ≤ log_room log
 fits_with log s [] none le =
     let nothing : rollback s ≡ [] = ap abort_each none in
-    let same : hand_size log ≡ hand_size log + 0 = omega arith in
+    let same : buffer_size log ≡ buffer_size log + 0 = omega arith in
     subst (λ (rs : List Record). log_used_with log (length (spellings rs)) ≤ log_room log) (sym nothing)
     (subst (λ (h : ℕ). used_bytes (log_tail log) h ≤ log_room log) same (omega (arith, le)))
 fits_with log s (e ∷ es) some le =
     let size = rollback_fits s (λ none. (let never : e ∷ es ≡ [] = sym some ∙ none in cc never)) in
-    let more = used_more (log_tail log) (hand_size log) (length (spellings (rollback s))) in
+    let more = used_more (log_tail log) (buffer_size log) (length (spellings (rollback s))) in
     omega arith
 
 -- a log that keeps room for a rollback has room for its records
@@ -211,7 +211,7 @@ keeps_same old new batches pending same keeps = record {
   tail = same.place.tail ∙ keeps.tail;
   head = keeps.head;
   four = keeps.four;
-  items = same.hand ∙ keeps.items;
+  items = same.buffer ∙ keeps.items;
   forced = same.place.forced ∙ keeps.forced;
   count = same.count ∙ keeps.count;
 }

@@ -23,7 +23,7 @@ use Rattle.object_layout.specs.Walk.{IsWalked, IsWalkFault}
 use Rattle.object_layout.specs.WalkLaws.{walked_fault, fault_one}
 use Rattle.heap_model.specs.Core.{need}
 use Rattle.heap_model.specs.CoreLawsOpening.{rollback_need, settled_reserve}
-use Rattle.heap_model.specs.CoreLawsRoom.{records_of-with_batch, length-with_batch, length-hand-append}
+use Rattle.heap_model.specs.CoreLawsRoom.{records_of-with_batch, length-with_batch, length-pending_batch-append}
 use Rattle.heap_model.specs.Image.{words_of, IsShapedLog, IsShaped}
 use Rattle.heap_model.specs.Opening.{rollback_in, rollback_of, rolled_back}
 use Rattle.heap_recovery.specs.declared.at.At.{At}
@@ -259,7 +259,7 @@ module _ (s : Super) (batches : List (List Record)) (state : State) (image : Lis
       let same = ap (need []) taken in
       let room = is.room in
       let whole = length-with_batch batches (rollback_of s batches) in
-      let more = length-hand-append [] (rollback_of s batches) in
+      let more = length-pending_batch-append [] (rollback_of s batches) in
       omega arith
 
   -- an image that holds the log rolled back can be read

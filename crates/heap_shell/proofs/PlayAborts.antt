@@ -6,7 +6,7 @@ use Rattle.graph_model.specs.declared.event.Event.{Event}
 use Rattle.graph_model.specs.SlowHeap.{IsOfSession}
 use Rattle.image_plan.specs.declared.superblock.Super.{Super}
 use Rattle.heap_core.specs.declared.heap.Heap.{Heap}
-use Rattle.heap_core.specs.Means.{IsCore, IsHeap}
+use Rattle.heap_core.specs.Refinement.{IsCore, IsHeap}
 use Rattle.heap_model.specs.Core.{Core}
 use Rattle.heap_model.specs.CoreRuns.{after_events}
 use Rattle.heap_model.specs.Ending.{abort_of, aborting}

@@ -21,7 +21,7 @@ use Rattle.heap_model.specs.Core.{Core, answer, after, with_entry, IsCutShort, I
 use Rattle.heap_model.specs.CoreLawsCalls.{after_events-append, run_append}
 use Rattle.heap_model.specs.CoreLawsRun.{step_history}
 use Rattle.heap_model.specs.CoreRuns.{after_events}
-use Rattle.heap_core.specs.Means.{IsCore}
+use Rattle.heap_core.specs.Refinement.{IsCore}
 use Rattle.heap_shell.specs.CoreLawsPlay.{ready_behind, ready_front}
 use Rattle.heap_shell.specs.Play.{AreReady, IsWhole, IsCutBy, EndsAs, PlaysCore, Wrote, WroteFront, WroteLines, ended_by, lines_text}
 use Rattle.heap_shell.specs.StatusOf.{write_halt}

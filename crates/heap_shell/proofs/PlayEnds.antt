@@ -24,7 +24,7 @@ use Rattle.heap_shell.specs.declared.status.Status.TheVariants as status
 use Rattle.heap_shell.specs.Causes.{DiskRose, Unharmed}
 use Rattle.heap_core.specs.Causes.{reply_device}
 use Rattle.heap_model.specs.Core.{Core, with_entry, IsRun}
-use Rattle.heap_model.specs.CoreCrash.{KeepsCommits}
+use Rattle.heap_model.specs.CoreCrash.{IsCommitPrefix}
 use Rattle.heap_model.specs.CoreLawsCalls.{total_calls-append}
 use Rattle.core_laws.specs.Crash.{commits-sealed}
 use Rattle.heap_model.specs.CoreLawsEnding.{total_few}
@@ -72,7 +72,7 @@ module _ {D : Type 0} {g : Ghosts D} (s : Super) (c : Core) (running : IsRunning
   replies = replies_law core run_reached.1
 
   -- what a crash leaves now
-  pub kept : (image : List ℕ) → g.may_leave new.disk image → KeepsCommits core image
+  pub kept : (image : List ℕ) → g.may_leave new.disk image → IsCommitPrefix core image
   kept = heap_leaves s core new plays.heap run_reached.1
 
   -- nothing is unsynced where the disk has not failed
@@ -124,8 +124,8 @@ module _ {D : Type 0} {g : Ghosts D} (s : Super) (c : Core) (running : IsRunning
       makes
 
   -- What a crash leaves of the heap's own disk since it was opened.
-  abbrev pub keeps_own : IsTrue g.tells → (at_opening : ℕ) (start : D) → ((disk : D) (image : List ℕ) → g.left_since disk (g.moment disk) image → g.may_leave disk image) → LeavesOnly g.moment g.left_since start old.disk (KeepsCommits c)
-      → ((image : List ℕ) → g.may_leave old.disk image → KeepsCommits c image) → g.passed old.disk ≡ counted at_opening (g.passed start) → g.restarts old.disk ≡ g.restarts start → KeepsThroughout g None at_opening c made core start new.disk
+  abbrev pub keeps_own : IsTrue g.tells → (at_opening : ℕ) (start : D) → ((disk : D) (image : List ℕ) → g.left_since disk (g.moment disk) image → g.may_leave disk image) → LeavesOnly g.moment g.left_since start old.disk (IsCommitPrefix c)
+      → ((image : List ℕ) → g.may_leave old.disk image → IsCommitPrefix c image) → g.passed old.disk ≡ counted at_opening (g.passed start) → g.restarts old.disk ≡ g.restarts start → KeepsThroughout g None at_opening c made core start new.disk
   keeps_own tells at_opening start now opening here passed restarts = record {
     opened = old.disk;
     opening = opening;
@@ -135,7 +135,7 @@ module _ {D : Type 0} {g : Ghosts D} (s : Super) (c : Core) (running : IsRunning
     restarts = restarts;
     stopped = new.disk;
     steps = own_steps g start new.disk tells c core old.disk new.disk made plays.steps;
-    rest = begins g.moment g.left_since new.disk (KeepsCommits core) (λ image since. kept image (now new.disk image since));
+    rest = begins g.moment g.left_since new.disk (IsCommitPrefix core) (λ image since. kept image (now new.disk image since));
     kept = kept;
   }
 

@@ -22,12 +22,12 @@ use Rattle.heap_shell.specs.declared.play.Halt.TheVariants as halt
 use Rattle.heap_shell.specs.declared.output.WriteError.{WriteError}
 use Rattle.heap_core.specs.Causes.{reply_device}
 use Rattle.heap_model.specs.Core.{Core, next_number, answer, with_entry, after, IsCutShort, IsStep, calls}
-use Rattle.heap_model.specs.CoreCrash.{KeepsCommits}
+use Rattle.heap_model.specs.CoreCrash.{IsCommitPrefix}
 use Rattle.core_laws.specs.Run.{step_reached}
 use Rattle.heap_model.specs.CoreLawsRun.{step_history}
 use Rattle.heap_model.specs.CoreLawsStep.{core_refusal-HasNoFault}
 use Rattle.core_laws.specs.Valid.{IsReached}
-use Rattle.heap_core.specs.Means.{DiskHolds, IsCore, IsHeap}
+use Rattle.heap_core.specs.Refinement.{DiskHolds, IsCore, IsHeap}
 use Rattle.heap_shell.specs.Play.{AreReady, MakesAll, MakesShort, Makes, Ends, Plays, ended_by, lines_text, Wrote, WroteFront, WroteLines}
 use Rattle.heap_shell.specs.StatusOf.{write_halt}
 use Rattle.heap_shell.specs.Steps.{HeapStep, AreSteps}
@@ -51,12 +51,12 @@ one_call : (n m k : ℕ) → n ≡ counted m k → n ≡ counted (m + 0) k
 one_call n m k e = let same : m ≡ m + 0 = omega arith in e ∙ ap (λ (i : ℕ). counted i k) same
 
 -- what a crash leaves of a heap
-pub heap_leaves : {D : Type 0} {g : Ghosts D} (s : Super) (c : Core) (heap : Heap D g) → IsHeap s c heap → IsReached c → (image : List ℕ) → g.may_leave heap.disk image → KeepsCommits c image
+pub heap_leaves : {D : Type 0} {g : Ghosts D} (s : Super) (c : Core) (heap : Heap D g) → IsHeap s c heap → IsReached c → (image : List ℕ) → g.may_leave heap.disk image → IsCommitPrefix c image
 heap_leaves {g = g} s c heap is reached = heap_keeps s c (g.bytes heap.disk) (g.may_leave heap.disk) is.disk reached.sound
 
 module _ {D : Type 0} {g : Ghosts D} (s : Super) (c d : Core) (event : Event) (reply : Reply) (old new : Heap D g) (ready : AreReady c (event ∷ [])) (step : IsStep c event reply d)
     (keeps : KeepsDisk g old.disk new.disk (reply_device reply)) (passes : Passes (calls c event) (g.passed old.disk) (g.passed new.disk) (reply_device reply))
-    (moments : LeavesOnly g.moment g.left_since old.disk new.disk (KeepsCommits c)) (heap : IsHeap s d new) where
+    (moments : LeavesOnly g.moment g.left_since old.disk new.disk (IsCommitPrefix c)) (heap : IsHeap s d new) where
   abbrev one : List Event
   one = event ∷ []
 

@@ -15,7 +15,7 @@ use Rattle.graph_model.specs.declared.event.Event.{Event}
 use Rattle.graph_model.specs.declared.reply.Reply.{Reply}
 use Rattle.heap_core.specs.Causes.{reply_device}
 use Rattle.heap_model.specs.Core.{Core, calls}
-use Rattle.heap_model.specs.CoreCrash.{KeepsCommits}
+use Rattle.heap_model.specs.CoreCrash.{IsCommitPrefix}
 use Rattle.heap_shell.specs.Causes.{DiskRose, Unharmed}
 use Rattle.heap_shell.specs.Steps.{StopCause, Step, HeapStep, AreSteps}
 use Rattle.heap_shell.proofs.Causes.{rose_sum_stops}
@@ -81,7 +81,7 @@ module _ {D : Type 0} {g : Ghosts D} where
   -- What the fuse says of itself as a disk is said of the disk inside.
   pub record IsFuse (h : Ghosts (FuseDisk D g)) : Type 0 where
     pub tells : IsTrue g.tells → IsTrue h.tells
-    pub moments : (c : Core) (a b : FuseDisk D g) → LeavesOnly h.moment h.left_since a b (KeepsCommits c) → LeavesOnly g.moment g.left_since (fuse_inner a) (fuse_inner b) (KeepsCommits c)
+    pub moments : (c : Core) (a b : FuseDisk D g) → LeavesOnly h.moment h.left_since a b (IsCommitPrefix c) → LeavesOnly g.moment g.left_since (fuse_inner a) (fuse_inner b) (IsCommitPrefix c)
     pub images : (fuse : FuseDisk D g) (image : List ℕ) → g.may_leave (fuse_inner fuse) image → h.may_leave fuse image
     pub origin : (a b : FuseDisk D g) → h.origin b ≡ h.origin a → fuse_origin b ≡ fuse_origin a
     pub passed : (fuse : FuseDisk D g) → h.passed fuse ≡ fuse_passed fuse

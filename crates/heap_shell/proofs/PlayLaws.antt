@@ -17,7 +17,7 @@ use Rattle.heap_model.specs.Core.{Core, with_entry, IsCutShort, calls}
 use Rattle.heap_model.specs.CoreRuns.{after_events, total_calls}
 use Rattle.heap_model.specs.CoreLawsCalls.{after_events-append, total_calls-append}
 use Rattle.heap_shell.specs.CoreLawsPlay.{ready_behind}
-use Rattle.heap_core.specs.Means.{IsHeap}
+use Rattle.heap_core.specs.Refinement.{IsHeap}
 use Rattle.heap_shell.specs.Play.{AreReady, MakesAll, MakesShort, Makes, Ends, Plays}
 use Rattle.heap_shell.specs.Steps.{HeapStep, AreSteps}
 use Rattle.heap_shell.specs.StepsLaws.{steps_append}

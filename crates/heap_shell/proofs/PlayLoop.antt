@@ -14,7 +14,7 @@ use Rattle.core_laws.specs.Calls.{of_session_front}
 use Rattle.heap_model.specs.Core.{Core}
 use Rattle.heap_model.specs.ListLaws.{AllByRecursion-behind}
 use Rattle.heap_shell.specs.CoreLawsPlay.{ready_front}
-use Rattle.heap_core.specs.Means.{IsHeap}
+use Rattle.heap_core.specs.Refinement.{IsHeap}
 use Rattle.heap_shell.specs.Play.{AreReady, Plays}
 use Rattle.script_text.specs.Line.{line_events, events}
 use Rattle.heap_shell.proofs.PlayLaws.{plays_on, plays_then}

@@ -14,7 +14,7 @@ use Rattle.heap_core.specs.declared.errors.OpenError.TheVariants as opening
 use Rattle.heap_model.specs.Core.{Core}
 use Rattle.heap_shell.specs.declared.status.Status.{Status}
 use Rattle.heap_shell.specs.declared.status.Status.TheVariants.{Done}
-use Rattle.heap_model.specs.CoreCrash.{KeepsCommits}
+use Rattle.heap_model.specs.CoreCrash.{IsCommitPrefix}
 use Rattle.heap_model.specs.CoreLawsNew.{root_place, new_legal, new_found}
 use Rattle.heap_shell.specs.Stored.{IsStored, stored_core, stored_calls}
 use Rattle.core_laws.specs.Opened.{opened_reached}
@@ -41,7 +41,7 @@ use Rattle.heap_model.specs.Opening.{opened, opening_calls, rollback_of, IsFound
 use Rattle.graph_words.specs.Places.{Places}
 use Rattle.heap_core.specs.declared.heap.Heap.{Heap}
 use Rattle.heap_core.specs.HeapState.{failed_at}
-use Rattle.heap_core.specs.Means.{IsCore}
+use Rattle.heap_core.specs.Refinement.{IsCore}
 use Rattle.log_records.specs.declared.Record.{Record}
 use Rattle.image_plan.specs.declared.superblock.Super.{Super}
 use Rattle.script_text.specs.declared.line.Line.{Line}
@@ -125,16 +125,16 @@ module _ {D : Type 0} (g : Ghosts D) {bytes : List ℕ} (stored : IsStored bytes
   stored_running = record { reached = opened_reached stored.super stored.batches stored.legal.log.shaped true stored.places stored.graph stored.found; unfailed = refl }
 
   -- an opening of its image leaves one of its first commits
-  pub stored_keeps : (image : List ℕ) → IsLeftByOpening stored.super stored.batches image → KeepsCommits c image
+  pub stored_keeps : (image : List ℕ) → IsLeftByOpening stored.super stored.batches image → IsCommitPrefix c image
   stored_keeps image left = opened_keeps stored.super stored.batches stored.legal.log stored.places stored.graph stored.found image left
 
   -- so it does at each moment
-  pub stored_moments : (old new : D) → LeavesOnly g.moment g.left_since old new (IsLeftByOpening stored.super stored.batches) → LeavesOnly g.moment g.left_since old new (KeepsCommits c)
-  stored_moments old new moments = weaker g.moment g.left_since old new (IsLeftByOpening stored.super stored.batches) (KeepsCommits c) moments stored_keeps
+  pub stored_moments : (old new : D) → LeavesOnly g.moment g.left_since old new (IsLeftByOpening stored.super stored.batches) → LeavesOnly g.moment g.left_since old new (IsCommitPrefix c)
+  stored_moments old new moments = weaker g.moment g.left_since old new (IsLeftByOpening stored.super stored.batches) (IsCommitPrefix c) moments stored_keeps
 
   -- The heap was not opened: no event was made, and nothing was written.
   pub ends_unopened : (stop : Option Stop) (events : List Event) (e : OpenError) (by : Status) (start final : D) (told : Bool) (before : List ℕ) → by ≡ open_status e → IsFromOutside e
-      → LeavesOnly g.moment g.left_since start final (KeepsCommits c) → ((image : List ℕ) → g.may_leave final image → KeepsCommits c image)
+      → LeavesOnly g.moment g.left_since start final (IsCommitPrefix c) → ((image : List ℕ) → g.may_leave final image → IsCommitPrefix c image)
       → ((image : List ℕ) → g.left_since final (g.moment final) image → g.may_leave final image) → g.restarts final ≡ g.restarts start
       → (e ≡ opening.NoMemory → g.passed final ≡ g.passed start) → (e ≢ opening.NoMemory → Unharmed g start final → ⊥)
       → g.passed final ≤ counted n (g.passed start) → g.passed final ≤ counted (let_through (stop_after stop) (n + 0)) (g.passed start)
@@ -153,7 +153,7 @@ module _ {D : Type 0} (g : Ghosts D) {bytes : List ℕ} (stored : IsStored bytes
           restarts = restarts;
           stopped = final;
           steps = (refl, refl);
-          rest = begins g.moment g.left_since final (KeepsCommits c) (λ image since. left image (now image since));
+          rest = begins g.moment g.left_since final (IsCommitPrefix c) (λ image since. left image (now image since));
           kept = left;
         };
         counts = calls.0;
@@ -210,8 +210,8 @@ module _ {D : Type 0} (g : Ghosts D) {bytes : List ℕ} (stored : IsStored bytes
         }
 
     -- The disk stopped in the opening: no event was made.
-    pub ends_stopped : (events : List Event) (start : D) → LeavesOnly g.moment g.left_since start stopped (KeepsCommits c) → ((image : List ℕ) → g.may_leave stopped image → KeepsCommits c image)
-        → LeavesOnly g.moment g.left_since stopped final (KeepsCommits c) → g.restarts stopped ≡ g.restarts start → stop.after < n
+    pub ends_stopped : (events : List Event) (start : D) → LeavesOnly g.moment g.left_since start stopped (IsCommitPrefix c) → ((image : List ℕ) → g.may_leave stopped image → IsCommitPrefix c image)
+        → LeavesOnly g.moment g.left_since stopped final (IsCommitPrefix c) → g.restarts stopped ≡ g.restarts start → stop.after < n
         → g.passed stopped ≤ counted stop.after (g.passed start) → (Unharmed g start final → g.passed stopped ≡ counted stop.after (g.passed start))
         → Recovers c k opens fails (g.may_leave final) by told before after
         → IsPlayed g (Some stop) n c events start final by told before after

@@ -27,7 +27,7 @@ use Rattle.heap_shell.specs.declared.output.WriteError.{WriteError}
 use Rattle.heap_shell.specs.declared.status.Status.{Status}
 use Rattle.heap_shell.specs.declared.status.Status.TheVariants.{NoMemory, DiskFault}
 use Rattle.heap_model.specs.Core.{Core, force_calls}
-use Rattle.heap_model.specs.CoreCrash.{StandsForFirst, KeepsCommits}
+use Rattle.heap_model.specs.CoreCrash.{StandsForFirst, IsCommitPrefix}
 use Rattle.heap_model.specs.Image.{IsLegalLog, IsLegal}
 use Rattle.heap_model.specs.CoreLawsHeld.{left_first}
 use Rattle.heap_model.specs.Opening.{IsLeftByOpening}
@@ -251,12 +251,12 @@ module _ (m n now : ℕ) (few : n ≤ 4) (within : now ≤ m) where
 
 -- A restart leaves what the disk could leave before, and an opening what it was opened on.
 module _ {D : Type 0} (g : Ghosts D) (c : Core) where
-  pub restart_keeps : (old new : D) → Restarts g old new → ((image : List ℕ) → g.may_leave old image → KeepsCommits c image) → LeavesOnly g.moment g.left_since old new (KeepsCommits c)
-  restart_keeps old new started leaves = weaker g.moment g.left_since old new (g.may_leave old) (KeepsCommits c) started.moments leaves
+  pub restart_keeps : (old new : D) → Restarts g old new → ((image : List ℕ) → g.may_leave old image → IsCommitPrefix c image) → LeavesOnly g.moment g.left_since old new (IsCommitPrefix c)
+  restart_keeps old new started leaves = weaker g.moment g.left_since old new (g.may_leave old) (IsCommitPrefix c) started.moments leaves
 
-  pub first_keeps : (k : ℕ) (old new : D) → LeavesOnly g.moment g.left_since old new (StandsForFirst c k) → LeavesOnly g.moment g.left_since old new (KeepsCommits c)
-  first_keeps k old new moments = weaker g.moment g.left_since old new (StandsForFirst c k) (KeepsCommits c) moments (λ image first. (k, first))
+  pub first_keeps : (k : ℕ) (old new : D) → LeavesOnly g.moment g.left_since old new (StandsForFirst c k) → LeavesOnly g.moment g.left_since old new (IsCommitPrefix c)
+  first_keeps k old new moments = weaker g.moment g.left_since old new (StandsForFirst c k) (IsCommitPrefix c) moments (λ image first. (k, first))
 
   -- so both leave first commits
-  pub keeps_then : (old mid new : D) → LeavesOnly g.moment g.left_since old mid (KeepsCommits c) → LeavesOnly g.moment g.left_since mid new (KeepsCommits c) → LeavesOnly g.moment g.left_since old new (KeepsCommits c)
-  keeps_then old mid new before behind = opening_then g.moment g.left_since old mid new (KeepsCommits c) (KeepsCommits c) before behind (λ image keep. keep)
+  pub keeps_then : (old mid new : D) → LeavesOnly g.moment g.left_since old mid (IsCommitPrefix c) → LeavesOnly g.moment g.left_since mid new (IsCommitPrefix c) → LeavesOnly g.moment g.left_since old new (IsCommitPrefix c)
+  keeps_then old mid new before behind = opening_then g.moment g.left_since old mid new (IsCommitPrefix c) (IsCommitPrefix c) before behind (λ image keep. keep)

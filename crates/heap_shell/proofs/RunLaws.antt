@@ -13,7 +13,7 @@ use Rattle.graph_model.specs.declared.event.Event.{Event}
 use Rattle.graph_model.specs.History.{acknowledged}
 use Rattle.graph_model.specs.SlowHeap.{IsOfSession}
 use Rattle.heap_model.specs.Core.{Core}
-use Rattle.heap_model.specs.CoreCrash.{KeepsCommits, HasAtLeast}
+use Rattle.heap_model.specs.CoreCrash.{IsCommitPrefix, HasAtLeast}
 use Rattle.core_laws.specs.Calls.{of_session_front}
 use Rattle.core_laws.specs.Grow.{has_at_least_on}
 use Rattle.core_laws.specs.Run.{run_reached}
@@ -121,9 +121,9 @@ module _ {D : Type 0} (g : Ghosts D) (now : (disk : D) (image : List ℕ) → g.
         made = made;
         core = core;
         each = weaker g.moment g.left_since start final _ (HasAtLeast core least)
-            (joined g.moment g.left_since start disk.opened final (KeepsCommits c) (HasAtLeast core least) disk.opening since)
+            (joined g.moment g.left_since start disk.opened final (IsCommitPrefix c) (HasAtLeast core least) disk.opening since)
             (λ image either. ⊎_elim
-            (λ (kept : KeepsCommits c image). has_at_least_on c core made least image reached.sound at_end.sound run (keeps_at_least c image kept))
+            (λ (kept : IsCommitPrefix c image). has_at_least_on c core made least image reached.sound at_end.sound run (keeps_at_least c image kept))
             (λ (has : HasAtLeast core least image). has)
             either);
         opened = disk.opened;

@@ -21,7 +21,7 @@ use Rattle.image_plan.specs.declared.superblock.Super.{Super}
 use Rattle.image_plan.specs.Plan.{image_size}
 use Rattle.heap_core.specs.Format.{IsEmptyHeap, IsFormatting, format_calls}
 use Rattle.heap_model.specs.Core.{Core, with_entry, IsRun}
-use Rattle.heap_model.specs.CoreCrash.{StandsForFirst, KeepsCommits}
+use Rattle.heap_model.specs.CoreCrash.{StandsForFirst, IsCommitPrefix}
 use Rattle.heap_model.specs.CoreLawsNew.{root_place}
 use Rattle.commit_order.specs.Heard.{replies_of_commits}
 use Rattle.heap_model.specs.CoreRuns.{after_events, total_calls, StopsAt}
@@ -166,15 +166,15 @@ module _ {D : Type 0} (g : Ghosts D) where
   -- end, also while it was opened again. Always they held all that had been acknowledged. The opening makes so many calls, if it is not cut short.
   pub record KeepsThroughout (stop : Option ℕ) (at_opening : ℕ) (c : Core) (made : List Event) (d : Core) (start final : D) : Type 0 where
     pub opened : D
-    pub opening : LeavesOnly g.moment g.left_since start opened (KeepsCommits c)
-    pub here : (image : List ℕ) → g.may_leave opened image → KeepsCommits c image
+    pub opening : LeavesOnly g.moment g.left_since start opened (IsCommitPrefix c)
+    pub here : (image : List ℕ) → g.may_leave opened image → IsCommitPrefix c image
     pub passed : Unharmed g start final → made ≢ [] → g.passed opened ≡ counted at_opening (g.passed start)
     pub few : g.passed opened ≤ counted at_opening (g.passed start)
     pub restarts : g.restarts opened ≡ g.restarts start
     pub stopped : D
     pub steps : AreSteps (Step g stop start final) c opened made d stopped
-    pub rest : LeavesOnly g.moment g.left_since stopped final (KeepsCommits d)
-    pub kept : (image : List ℕ) → g.may_leave final image → KeepsCommits d image
+    pub rest : LeavesOnly g.moment g.left_since stopped final (IsCommitPrefix d)
+    pub kept : (image : List ℕ) → g.may_leave final image → IsCommitPrefix d image
 
   -- The disk was started again, as one of the images that a crash could leave: no moment of that left another.
   pub record Restarts (old new : D) : Type 0 where

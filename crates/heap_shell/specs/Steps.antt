@@ -12,7 +12,7 @@ use Rattle.graph_model.specs.declared.reply.Reply.{Reply}
 use Rattle.graph_model.specs.declared.reply.Reply.TheVariants.{Refused}
 use Rattle.heap_core.specs.Causes.{reply_device}
 use Rattle.heap_model.specs.Core.{Core, IsStep, calls}
-use Rattle.heap_model.specs.CoreCrash.{KeepsCommits}
+use Rattle.heap_model.specs.CoreCrash.{IsCommitPrefix}
 use Rattle.heap_shell.specs.Causes.{DiskRose, Unharmed}
 
 -- Why a step was cut short on a disk that is to stop: it is answered `diskfault` only where the disk's faults and stops together rose in
@@ -34,9 +34,9 @@ pub record Step {D : Type 0} (g : Ghosts D) (stop : Option ℕ) (start final : D
   pub step : IsStep c event reply d
   pub cause : StepCause g stop start before after reply
   -- at each moment of it a crash left first commits, and among them all that were acknowledged before it
-  pub moments : LeavesOnly g.moment g.left_since before after (KeepsCommits c)
+  pub moments : LeavesOnly g.moment g.left_since before after (IsCommitPrefix c)
   -- once it was answered, also those that its answer acknowledged
-  pub kept : (image : List ℕ) → g.may_leave after image → KeepsCommits d image
+  pub kept : (image : List ℕ) → g.may_leave after image → IsCommitPrefix d image
   -- without a fault it made the writes and syncs of the core's step, or fewer where it was stopped
   pub passes : Unharmed g start final → Passes (calls c event) (g.passed before) (g.passed after) (reply_device reply)
   pub restarts : g.restarts after ≡ g.restarts before
@@ -45,8 +45,8 @@ pub record Step {D : Type 0} (g : Ghosts D) (stop : Option ℕ) (start final : D
 pub record HeapStep {D : Type 0} (g : Ghosts D) (c : Core) (before : D) (event : Event) (d : Core) (after : D) : Type 0 where
   pub reply : Reply
   pub step : IsStep c event reply d
-  pub moments : LeavesOnly g.moment g.left_since before after (KeepsCommits c)
-  pub kept : (image : List ℕ) → g.may_leave after image → KeepsCommits d image
+  pub moments : LeavesOnly g.moment g.left_since before after (IsCommitPrefix c)
+  pub kept : (image : List ℕ) → g.may_leave after image → IsCommitPrefix d image
   pub passes : Passes (calls c event) (g.passed before) (g.passed after) (reply_device reply)
   pub disk : KeepsDisk g before after (reply_device reply)
 

@@ -13,7 +13,7 @@ use Rattle.graph_model.specs.History.{Account, account, done, cut_short, answere
 use Rattle.graph_model.specs.HistoryLaws.{account-append}
 use Rattle.graph_model.specs.SlowHeap.{IsOfSession}
 use Rattle.heap_model.specs.Core.{Core, IsStep, IsRun}
-use Rattle.heap_model.specs.CoreCrash.{KeepsCommits, HasAtLeast}
+use Rattle.heap_model.specs.CoreCrash.{IsCommitPrefix, HasAtLeast}
 use Rattle.core_laws.specs.Grow.{has_at_least_on}
 use Rattle.heap_model.specs.CoreLawsGrow.{keeps_at_least, has_fewer}
 use Rattle.heap_model.specs.CoreLawsRun.{step_history}
@@ -72,7 +72,7 @@ module _ {D : Type 0} (g : Ghosts D) (stop : Option ℕ) (start final : D) where
 
   module _ (only_now : (disk : D) (c : List ℕ) → g.left_since disk (g.moment disk) c → g.may_leave disk c) where
     -- From the moment of the first disk on each image holds at least the commits that were acknowledged by then.
-    pub steps_last : (c d : Core) (old new : D) (events : List Event) → IsReached c → AllByRecursion IsOfSession events → ((image : List ℕ) → g.may_leave old image → KeepsCommits c image)
+    pub steps_last : (c d : Core) (old new : D) (events : List Event) → IsReached c → AllByRecursion IsOfSession events → ((image : List ℕ) → g.may_leave old image → IsCommitPrefix c image)
         → AreSteps (Step g stop start final) c old events d new → LeavesOnly g.moment g.left_since old new (HasAtLeast d (acknowledged c.history))
     steps_last c d old new [] reached sessions here steps =
         let P : Core → D → Type 0 = λ x disk. LeavesOnly g.moment g.left_since old disk (HasAtLeast x (acknowledged c.history)) in
@@ -90,28 +90,28 @@ module _ {D : Type 0} (g : Ghosts D) (stop : Option ℕ) (start final : D) where
         let rest = steps_last mid d between new events at_mid sessions.1 step.kept steps.3 in
         let least = acknowledged c.history in
         weaker g.moment g.left_since old new _ (HasAtLeast d least)
-        (joined g.moment g.left_since old between new (KeepsCommits c) (HasAtLeast d (acknowledged mid.history)) step.moments rest)
+        (joined g.moment g.left_since old between new (IsCommitPrefix c) (HasAtLeast d (acknowledged mid.history)) step.moments rest)
         (λ image either. ⊎_elim
-        (λ (kept : KeepsCommits c image). has_at_least_on c d (event ∷ events) least image reached.sound at_end.sound run (keeps_at_least c image kept))
+        (λ (kept : IsCommitPrefix c image). has_at_least_on c d (event ∷ events) least image reached.sound at_end.sound run (keeps_at_least c image kept))
         (λ (has : HasAtLeast d (acknowledged mid.history) image). has_fewer d (acknowledged mid.history) least image more has)
         either)
 
     -- So do they until a later moment, up to which a crash keeps all commits that were acknowledged at the end.
-    pub last_until : (c d : Core) (old new : D) (events : List Event) → IsReached c → AllByRecursion IsOfSession events → ((image : List ℕ) → g.may_leave old image → KeepsCommits c image)
-        → AreSteps (Step g stop start final) c old events d new → LeavesOnly g.moment g.left_since new final (KeepsCommits d) → LeavesOnly g.moment g.left_since old final (HasAtLeast d (acknowledged c.history))
+    pub last_until : (c d : Core) (old new : D) (events : List Event) → IsReached c → AllByRecursion IsOfSession events → ((image : List ℕ) → g.may_leave old image → IsCommitPrefix c image)
+        → AreSteps (Step g stop start final) c old events d new → LeavesOnly g.moment g.left_since new final (IsCommitPrefix d) → LeavesOnly g.moment g.left_since old final (HasAtLeast d (acknowledged c.history))
     last_until c d old new events reached sessions here steps rest =
         let least = acknowledged c.history in
         let more = run_acknowledges c d events (steps_run c d old new events steps) in
         weaker g.moment g.left_since old final _ (HasAtLeast d least)
-        (joined g.moment g.left_since old new final (HasAtLeast d least) (KeepsCommits d) (steps_last c d old new events reached sessions here steps) rest)
+        (joined g.moment g.left_since old new final (HasAtLeast d least) (IsCommitPrefix d) (steps_last c d old new events reached sessions here steps) rest)
         (λ image either. ⊎_elim
         (λ (has : HasAtLeast d least image). has)
-        (λ (keeps : KeepsCommits d image). has_fewer d (acknowledged d.history) least image more (keeps_at_least d image keeps))
+        (λ (keeps : IsCommitPrefix d image). has_fewer d (acknowledged d.history) least image more (keeps_at_least d image keeps))
         either)
 
     -- Each step of a chain lasts: from its answer on each image holds at least the commits that were acknowledged by then.
     pub lasting_steps : (c d : Core) (old new : D) (events : List Event) → IsReached c → AllByRecursion IsOfSession events
-        → AreSteps (Step g stop start final) c old events d new → LeavesOnly g.moment g.left_since new final (KeepsCommits d) → AreSteps (LastingStep g stop d start final) c old events d new
+        → AreSteps (Step g stop start final) c old events d new → LeavesOnly g.moment g.left_since new final (IsCommitPrefix d) → AreSteps (LastingStep g stop d start final) c old events d new
     lasting_steps c d old new [] reached sessions steps rest = steps
     lasting_steps c d old new (event ∷ events) reached sessions steps rest =
         let mid = steps.0 in

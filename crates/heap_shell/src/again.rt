@@ -4,7 +4,7 @@ ghost use Rattle.disk_model.specs.Disk.{Only};
 ghost use Rattle.disk_model.specs.Fuse.{fuse_inner};
 ghost use Rattle.disk_model.specs.Moments.{LeavesOnly};
 ghost use Rattle.heap_model.specs.Core.{Core};
-ghost use Rattle.heap_model.specs.CoreCrash.{StandsForFirst, KeepsCommits};
+ghost use Rattle.heap_model.specs.CoreCrash.{StandsForFirst, IsCommitPrefix};
 ghost use Rattle.heap_shell.specs.Causes.{StreamCause, RunsDisk, IsOpenedEnd, either_disk};
 ghost use Rattle.heap_shell.specs.Headline.{Restarts, Reopens, FailsToOpen, IsCutOff, StartsAgain, EndsUnopened, RestartsDisk, starts_asked};
 ghost use Rattle.heap_shell.specs.Refusals.{IsFault, EndsRefused};
@@ -31,8 +31,8 @@ pub fn start_again<D: Disk, K: Sink>(
     ensures sink { StreamCause (K.faults sink.old) (K.faults sink.new) (result.0 ≡ Status.WriteFault) }
     ensures restarts { IsTrue D.tells → RestartsDisk (starts_asked again) result.0 (D.restarts (fuse_inner fuse)) (D.restarts result.1) }
     ensures again { IsTrue K.tells → WroteAgain result.0 (K.written sink.old) (K.written sink.new) }
-    ensures moments { IsTrue D.tells → (c : Core) → ((image : List ℕ) → D.may_leave (fuse_inner fuse) image → KeepsCommits c image) → LeavesOnly D.moment D.left_since (fuse_inner fuse) result.1 (KeepsCommits c) }
-    ensures recovers { IsTrue D.tells → (c : Core) → ((image : List ℕ) → D.may_leave (fuse_inner fuse) image → KeepsCommits c image) → IsBefore before c
+    ensures moments { IsTrue D.tells → (c : Core) → ((image : List ℕ) → D.may_leave (fuse_inner fuse) image → IsCommitPrefix c image) → LeavesOnly D.moment D.left_since (fuse_inner fuse) result.1 (IsCommitPrefix c) }
+    ensures recovers { IsTrue D.tells → (c : Core) → ((image : List ℕ) → D.may_leave (fuse_inner fuse) image → IsCommitPrefix c image) → IsBefore before c
         → (k : ℕ) × Recovers c k (StartsAgain D.Disk again c k (Reopens D.Disk c k) (fuse_inner fuse) result.1) (EndsUnopened D.Disk again c k (fuse_inner fuse) result.1 result.0) (D.may_leave result.1) result.0 K.tells (K.written sink.old) (K.written sink.new) }
     // An image that can't be opened gives its own status, and nothing is written then.
     ensures refuses { IsTrue D.tells → (expected : Status) → ((image : List ℕ) → D.may_leave (fuse_inner fuse) image → IsFault expected image) → EndsRefused expected result.0 × (sink.new ≡ sink.old) }

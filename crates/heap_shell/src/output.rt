@@ -5,7 +5,7 @@ ghost use Rattle.graph_model.specs.History.{sealed};
 ghost use Rattle.graph_model.specs.Text.{line};
 ghost use Rattle.graph_model.specs.Transaction.{serial};
 ghost use Rattle.heap_core.specs.HeapState.{failed_at};
-ghost use Rattle.heap_core.specs.Means.{IsCore};
+ghost use Rattle.heap_core.specs.Refinement.{IsCore};
 ghost use Rattle.heap_model.specs.Core.{Core};
 ghost use Rattle.core_laws.specs.Valid.{IsReached};
 ghost use Rattle.heap_shell.specs.declared.output.WriteError.TheVariants.{NoMemory, SinkFailed};

@@ -12,7 +12,7 @@ ghost use Rattle.core_laws.specs.Aborting.{active_in};
 ghost use Rattle.heap_model.specs.Core.{Core};
 ghost use Rattle.heap_model.specs.Ending.{abort_of, aborting, forcing, ending, all_events};
 ghost use Rattle.heap_core.specs.HeapState.{heap_disk};
-ghost use Rattle.heap_core.specs.Means.{IsCore, IsHeap};
+ghost use Rattle.heap_core.specs.Refinement.{IsCore, IsHeap};
 ghost use Rattle.heap_shell.specs.Play.{IsRunning, PlaysCore, Plays, ended_by};
 ghost use Rattle.heap_shell.specs.StatusOf.{write_halt};
 ghost use Rattle.script_text.specs.Line.{line_events, events};

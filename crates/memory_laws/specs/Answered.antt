@@ -13,7 +13,7 @@ use Rattle.heap_model.specs.Core.{Core, next_number, core_refusal, answer, with_
 use Rattle.heap_model.specs.CoreLawsStep.{core_refusal-HasNoFault, done_history}
 use Rattle.heap_memory.specs.Leaves.{IsAsItWas}
 use Rattle.heap_memory.specs.Memory.{Memory}
-use Rattle.memory_laws.specs.Follows.{AreHeld, IsMemory, Does}
+use Rattle.memory_laws.specs.CoreMemory.{AreHeld, IsMemory, Does}
 use Rattle.memory_laws.specs.LockLaws.{held_alike}
 use Rattle.memory_laws.specs.LogLaws.{keeps_same}
 use Rattle.object_locks.specs.Holdings.{Holdings}

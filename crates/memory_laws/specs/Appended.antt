@@ -27,7 +27,7 @@ use Rattle.core_laws.specs.Sessions.{each_session, called}
 use Rattle.core_laws.specs.Valid.{IsValid}
 use Rattle.heap_memory.specs.Memory.{Memory, own}
 use Rattle.heap_memory.specs.Leaves.{Leaves}
-use Rattle.memory_laws.specs.Follows.{kept, kept_of, spaces_of, AreHeld, IsMemory}
+use Rattle.memory_laws.specs.CoreMemory.{kept, kept_of, spaces_of, AreHeld, IsMemory}
 use Rattle.memory_laws.specs.Answered.{Goes}
 use Rattle.memory_laws.specs.LockLaws.{held_same}
 

@@ -32,7 +32,7 @@ use Rattle.core_laws.specs.Apart.{length_now, fields_now}
 use Rattle.core_laws.specs.Goes.{writing_of}
 use Rattle.core_laws.specs.Valid.{IsValid, RunsLocked}
 use Rattle.heap_memory.specs.Memory.{place_word, fields_at, held_in, held_or, held_place, Memory}
-use Rattle.memory_laws.specs.Follows.{standing_place, place_in, kept, IsMemory}
+use Rattle.memory_laws.specs.CoreMemory.{standing_place, place_in, kept, IsMemory}
 
 -- the word of a reference to a place is that of the object there
 pub standing_word : (o : Option ℕ) (index : ℕ) → place_word (standing_place o index) ≡ standing o index

@@ -21,7 +21,7 @@ use Rattle.heap_model.specs.Core.{area_in}
 use Rattle.heap_model.specs.CoreLawsHandles.{HoldAllAtHand}
 use Rattle.heap_model.specs.CoreTold.{HoldsAtHand}
 use Rattle.heap_memory.specs.Memory.{place_word}
-use Rattle.memory_laws.specs.Follows.{place_in, kept}
+use Rattle.memory_laws.specs.CoreMemory.{place_in, kept}
 use Rattle.memory_laws.specs.HeldLaws.{place_in_word, place_in-placed, place_in-apart}
 
 -- a handle holds what it held

@@ -16,7 +16,7 @@ use Rattle.graph_words.specs.Places.{Places, IsOwn, address_of, index_of, made_b
 use Rattle.graph_words.specs.VisibleLaws.{index_of-same, length-with_field}
 use Rattle.heap_model.specs.Core.{area_in}
 use Rattle.heap_memory.specs.Leaves.{with_written}
-use Rattle.memory_laws.specs.Follows.{standing_place, place_in, kept}
+use Rattle.memory_laws.specs.CoreMemory.{standing_place, place_in, kept}
 
 -- all objects stand where they did when a field was written
 place_in-with_field : (places : Places) (g : Graph) (id : Id) (i : ℕ) (x : Val) → place_in places (with_field g id i x) ≡ place_in places g

@@ -1,6 +1,6 @@
 pub mod Answered
 pub mod Appended
-pub mod Follows
+pub mod CoreMemory
 pub mod HeldLaws
 pub mod KeptBeside
 pub mod KeptWrites

@@ -35,7 +35,7 @@ use Rattle.graph_words.specs.Places.{Places, address_of, index_of}
 use Rattle.core_laws.specs.Sessions.{called}
 use Rattle.heap_memory.specs.Leaves.{with_lock}
 use Rattle.heap_memory.specs.Refusals.{asked}
-use Rattle.memory_laws.specs.Follows.{IsHeld, AreHeld, mode_of, kept, place_in, standing_place}
+use Rattle.memory_laws.specs.CoreMemory.{IsHeld, AreHeld, mode_of, kept, place_in, standing_place}
 
 -- A lock of the table is what the model calls one.
 

@@ -28,7 +28,7 @@ use Rattle.core_laws.specs.Goes.{writing_of}
 use Rattle.core_laws.specs.Valid.{IsValid, RunsLocked}
 use Rattle.heap_memory.specs.Memory.{Memory}
 use Rattle.heap_memory.specs.Refusals.{asked, holder_of, lock_refusal}
-use Rattle.memory_laws.specs.Follows.{mode_of, AreHeld, IsMemory, kept, place_in}
+use Rattle.memory_laws.specs.CoreMemory.{mode_of, AreHeld, IsMemory, kept, place_in}
 use Rattle.memory_laws.specs.HeldLaws.{place_in-placed, place_in-apart}
 use Rattle.memory_laws.specs.LockLaws.{as_held, of_held, lock_in}
 

@@ -33,7 +33,7 @@ use Rattle.heap_memory.specs.Memory as memory
 use Rattle.heap_memory.specs.Memory.{Memory, own}
 use Rattle.heap_memory.specs.Refusals as memory_refusals
 use Rattle.heap_memory.specs.Refusals.{no_room, begin_refusal, end_refusal, sealing_records, sealing_need, seal_refusal_of, seal_refusal, reserved_without}
-use Rattle.memory_laws.specs.Follows.{kept, kept_of, spaces_of, IsMemory}
+use Rattle.memory_laws.specs.CoreMemory.{kept, kept_of, spaces_of, IsMemory}
 use Rattle.memory_laws.specs.LogLaws.{used_same, need_all}
 use Rattle.memory_laws.specs.RefusalLaws.{full_same, first_none, second_same}
 use Rattle.memory_laws.specs.RefusalRoom.{reserved_now}

@@ -25,7 +25,7 @@ use Rattle.core_laws.specs.Step.{log_quiet}
 use Rattle.core_laws.specs.Valid.{IsValid, RunsLocked}
 use Rattle.heap_memory.specs.Memory.{Memory, own, fields_at, held_or, held_place}
 use Rattle.heap_memory.specs.Refusals.{handle_refusal, and_then, field_refusal, read_refusal_of, get_refusal, same_refusal, len_refusal, new_refusal, lock_refusal}
-use Rattle.memory_laws.specs.Follows.{place_in, kept_of, IsMemory, kept, mode_of}
+use Rattle.memory_laws.specs.CoreMemory.{place_in, kept_of, IsMemory, kept, mode_of}
 use Rattle.memory_laws.specs.HeldLaws.{held_place-kept, length-fields_at_hand}
 use Rattle.memory_laws.specs.LockRefusal.{lock_same}
 use Rattle.memory_laws.specs.RefusalLaws.{first_none, first_if, call_refused, quiet_refused, first_assoc}

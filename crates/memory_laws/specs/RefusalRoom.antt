@@ -37,7 +37,7 @@ use Rattle.core_laws.specs.Valid.{IsValid, RunsLocked}
 use Rattle.heap_memory.specs.Memory as memory
 use Rattle.heap_memory.specs.Memory.{Memory, kept_for_end}
 use Rattle.heap_memory.specs.Refusals.{no_room, write_room}
-use Rattle.memory_laws.specs.Follows.{place_in, kept_of, IsMemory}
+use Rattle.memory_laws.specs.CoreMemory.{place_in, kept_of, IsMemory}
 use Rattle.memory_laws.specs.HeldLaws.{place_in-placed, place_in-apart}
 use Rattle.memory_laws.specs.LogLaws.{used_same, need_same}
 use Rattle.memory_laws.specs.RefusalLaws.{full_same}

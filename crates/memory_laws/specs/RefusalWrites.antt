@@ -26,7 +26,7 @@ use Rattle.core_laws.specs.Goes.{writing_of}
 use Rattle.core_laws.specs.Valid.{IsValid, RunsLocked}
 use Rattle.heap_memory.specs.Memory.{Memory, held_or, held_place}
 use Rattle.heap_memory.specs.Refusals.{and_then, range_refusal, write_room, write_refusal_of, put_refusal, clear_refusal, link_refusal, lock_refusal}
-use Rattle.memory_laws.specs.Follows.{place_in, kept, kept_of, IsMemory}
+use Rattle.memory_laws.specs.CoreMemory.{place_in, kept, kept_of, IsMemory}
 use Rattle.memory_laws.specs.LockRefusal.{lock_free}
 use Rattle.memory_laws.specs.RefusalHandles.{is_held, held_there, field_held, lock_held}
 use Rattle.memory_laws.specs.RefusalLaws.{second_same, first_assoc, first_if, old_refused}

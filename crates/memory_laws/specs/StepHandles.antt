@@ -26,7 +26,7 @@ use Rattle.core_laws.specs.Events.{is_write, quiet_records}
 use Rattle.heap_memory.specs.Memory.{Memory, own, root_place}
 use Rattle.heap_memory.specs.Refusals.{handle_refusal}
 use Rattle.heap_memory.specs.Leaves.{SetsHandle, with_handle}
-use Rattle.memory_laws.specs.Follows.{place_in, kept, IsMemory, Does}
+use Rattle.memory_laws.specs.CoreMemory.{place_in, kept, IsMemory, Does}
 use Rattle.memory_laws.specs.HeldLaws.{place_in-placed}
 use Rattle.memory_laws.specs.Answered.{Goes, does}
 use Rattle.memory_laws.specs.Appended.{mine, no_lock, quiet_goes, stays}

@@ -30,7 +30,7 @@ use Rattle.core_laws.specs.Valid.{IsValid, RunsLocked}
 use Rattle.heap_memory.specs.Memory.{Memory, own, fields_at, held_in, held_or, held_place, fields_held}
 use Rattle.heap_memory.specs.Refusals.{and_then, field_refusal}
 use Rattle.heap_memory.specs.Replies.{meant_held}
-use Rattle.memory_laws.specs.Follows.{place_in, kept, kept_of, IsMemory}
+use Rattle.memory_laws.specs.CoreMemory.{place_in, kept, kept_of, IsMemory}
 use Rattle.memory_laws.specs.HeldLaws.{held_in-kept, fields_at_hand, length-fields_at_hand}
 use Rattle.memory_laws.specs.Appended.{some_one, mine, own_kept, ground_in}
 

@@ -33,7 +33,7 @@ use Rattle.core_laws.specs.Events.{quiet_records}
 use Rattle.heap_memory.specs.Memory.{Memory, own, place_word}
 use Rattle.heap_memory.specs.Refusals.{new_refusal}
 use Rattle.heap_memory.specs.Leaves.{Makes, with_made}
-use Rattle.memory_laws.specs.Follows.{place_in, kept, IsMemory, Does}
+use Rattle.memory_laws.specs.CoreMemory.{place_in, kept, IsMemory, Does}
 use Rattle.memory_laws.specs.KeptBeside.{handles_same}
 use Rattle.memory_laws.specs.HeldLaws.{place_in_word, place_in-apart}
 use Rattle.memory_laws.specs.Answered.{Goes, does}

@@ -26,7 +26,7 @@ use Rattle.core_laws.specs.Events.{is_write, quiet_records}
 use Rattle.heap_memory.specs.Memory.{Memory, own, place_word, is_same_place, held_place}
 use Rattle.heap_memory.specs.Refusals.{and_then, same_refusal, len_refusal}
 use Rattle.heap_memory.specs.Replies.{same_reply_of, same_reply, len_reply}
-use Rattle.memory_laws.specs.Follows.{place_in, kept, IsMemory, Does}
+use Rattle.memory_laws.specs.CoreMemory.{place_in, kept, IsMemory, Does}
 use Rattle.memory_laws.specs.HeldLaws.{place_in_word}
 use Rattle.memory_laws.specs.Answered.{Goes, does}
 use Rattle.memory_laws.specs.Appended.{call_leaves, no_lock, nothing_left, reached_still}

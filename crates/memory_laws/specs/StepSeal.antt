@@ -41,7 +41,7 @@ use Rattle.core_laws.specs.Valid.{IsValid, RunsLocked}
 use Rattle.heap_memory.specs.Memory.{Memory}
 use Rattle.heap_memory.specs.Refusals.{sealing_records, sealing_need, seal_refusal}
 use Rattle.heap_memory.specs.Leaves.{Leaves, IsAsItWas, Seals}
-use Rattle.memory_laws.specs.Follows.{kept, kept_of, spaces_of, AreHeld, IsMemory, Does}
+use Rattle.memory_laws.specs.CoreMemory.{kept, kept_of, spaces_of, AreHeld, IsMemory, Does}
 use Rattle.memory_laws.specs.LockLaws.{held_sealed}
 use Rattle.core_laws.specs.Step.{may_go}
 use Rattle.graph_words.specs.PlacesLaws.{none_or_some}

@@ -20,7 +20,7 @@ use Rattle.volatile_area.specs.AreaLaws.{length-starts_of, starts_of_increase, C
 use Rattle.stability_tracker.specs.ListLaws.{any_at, at_any, place_of, Contains-from_filter, Contains-filter, length-filter_le, same_rising}
 use Rattle.stability_tracker.specs.Promotion.{IsReached, named, along, promoted}
 use Rattle.stability_tracker.specs.PromotionLaws.{reached_promoted, promoted_one}
-use Rattle.stability_tracker.specs.Search.{IsNamed, Meets, Follows, IsSearching}
+use Rattle.stability_tracker.specs.Search.{IsNamed, Meets, WereFollowed, IsSearching}
 
 -- One key more.
 
@@ -123,7 +123,7 @@ named_cases area words w b (i, v, is, meant, start) = elim (got_cases words w i 
 ]
 
 -- no word was followed yet
-pub follows_none : (area : AreaState) (found waiting : List ℕ) → Follows area [] found waiting found waiting
+pub follows_none : (area : AreaState) (found waiting : List ℕ) → WereFollowed area [] found waiting found waiting
 follows_none area found waiting = record {
   met = λ b (i, w, is, meant, start). absurd (cc is);
   only = λ b there. inl there;
@@ -136,8 +136,8 @@ follows_none area found waiting = record {
 }
 
 -- a word was followed that refers to no object of the area
-pub follows_past : (area : AreaState) (words : List ℕ) (w : ℕ) (found waiting new_found new_waiting : List ℕ) → Follows area words found waiting new_found new_waiting
-    → ((b : ℕ) → meaning w ≡ Some (Volatile b) → Contains (starts_of area) b → ⊥) → Follows area (words ++ w ∷ []) found waiting new_found new_waiting
+pub follows_past : (area : AreaState) (words : List ℕ) (w : ℕ) (found waiting new_found new_waiting : List ℕ) → WereFollowed area words found waiting new_found new_waiting
+    → ((b : ℕ) → meaning w ≡ Some (Volatile b) → Contains (starts_of area) b → ⊥) → WereFollowed area (words ++ w ∷ []) found waiting new_found new_waiting
 follows_past area words w found waiting new_found new_waiting so_far none = record {
   met = λ b named. elim (named_cases area words w b named) [ inl before ↦ so_far.met b before | inr last ↦ absurd (none b last.0 last.1) ];
   only = λ b there. elim (so_far.only b there) [ inl old ↦ inl old | inr new ↦ inr (named_before area words w b new) ];
@@ -153,8 +153,8 @@ same_object : (w a b : ℕ) → meaning w ≡ Some (Volatile a) → meaning w �
 same_object w a b one other = let same : Some (Volatile a) ≡ Some (Volatile b) = sym one ∙ other in cc same
 
 -- a word was followed that refers to an object of the area
-pub follows_met : (area : AreaState) (words : List ℕ) (w at : ℕ) (found waiting mid_found mid_waiting new_found new_waiting : List ℕ) → Follows area words found waiting mid_found mid_waiting
-    → meaning w ≡ Some (Volatile at) → Contains (starts_of area) at → Meets at mid_found mid_waiting new_found new_waiting → Follows area (words ++ w ∷ []) found waiting new_found new_waiting
+pub follows_met : (area : AreaState) (words : List ℕ) (w at : ℕ) (found waiting mid_found mid_waiting new_found new_waiting : List ℕ) → WereFollowed area words found waiting mid_found mid_waiting
+    → meaning w ≡ Some (Volatile at) → Contains (starts_of area) at → Meets at mid_found mid_waiting new_found new_waiting → WereFollowed area (words ++ w ∷ []) found waiting new_found new_waiting
 follows_met area words w at found waiting mid_found mid_waiting new_found new_waiting so_far meant start meets =
     let counted = so_far.counted in
     let now = meets.counted in
@@ -184,7 +184,7 @@ follows_met area words w at found waiting mid_found mid_waiting new_found new_wa
 -- The search.
 
 -- it begins with the words that were written
-pub searching_begins : (area : AreaState) (written found waiting : List ℕ) → Follows area written [] [] found waiting → IsSearching area written found waiting
+pub searching_begins : (area : AreaState) (written found waiting : List ℕ) → WereFollowed area written [] [] found waiting → IsSearching area written found waiting
 searching_begins area written found waiting follows = record {
   begun = follows.met;
   reached = λ b there. elim (follows.only b there) [ inl none ↦ absurd (Contains-none b none) | inr (i, w, is, meant, start) ↦ named i w is meant start ];
@@ -195,7 +195,7 @@ searching_begins area written found waiting follows = record {
 
 -- and goes on with the fields of an object that waited
 pub searching_on : (area : AreaState) (written found waiting : List ℕ) (at : ℕ) (old_waiting new_found new_waiting : List ℕ) → IsSearching area written found old_waiting → old_waiting ≡ waiting ++ at ∷ []
-    → Follows area (field_words area.words at) found waiting new_found new_waiting → IsSearching area written new_found new_waiting
+    → WereFollowed area (field_words area.words at) found waiting new_found new_waiting → IsSearching area written new_found new_waiting
 searching_on area written found waiting at old_waiting new_found new_waiting so_far popped follows =
     let waited : (b : ℕ) → Contains (waiting ++ at ∷ []) b → Contains old_waiting b = λ b. subst (λ (xs : List ℕ). Contains xs b) (sym popped) in
     let here : Contains found at = so_far.known at (waited at (Contains-push waiting at)) in

@@ -23,7 +23,7 @@ pub record Meets (at : ℕ) (found waiting new_found new_waiting : List ℕ) : T
   pub rises : IsStrictlyIncreasing found → IsStrictlyIncreasing new_found
 
 -- Words were followed: each object to which one of them refers was met, and no other.
-pub record Follows (area : AreaState) (words found waiting new_found new_waiting : List ℕ) : Type 0 where
+pub record WereFollowed (area : AreaState) (words found waiting new_found new_waiting : List ℕ) : Type 0 where
   pub met : (b : ℕ) → IsNamed area words b → Contains new_found b
   pub only : (b : ℕ) → Contains new_found b → Contains found b ⊎ IsNamed area words b
   pub kept : (b : ℕ) → Contains found b → Contains new_found b

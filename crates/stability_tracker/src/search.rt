@@ -3,7 +3,7 @@ ghost use Rattle.std.specs.Prelude.{◌≡◌, ℕ, [], Some, IfSome, IfNone, On
 ghost use Rattle.heap_words.specs.declared.Word.TheVariants.{Volatile};
 ghost use Rattle.heap_words.specs.Word.{meaning};
 ghost use Rattle.volatile_area.specs.Area.{starts_of};
-ghost use Rattle.stability_tracker.specs.Search.{IsNamed, Meets, Follows};
+ghost use Rattle.stability_tracker.specs.Search.{IsNamed, Meets, WereFollowed};
 
 use heap_words::{Word, decode};
 use std::alloc::{AllocError, Global};
@@ -29,9 +29,9 @@ impl Search {
         }
     }
 
-    /// Follows these words to the objects of the area to which they refer.
+    /// WereFollowed these words to the objects of the area to which they refer.
     pub(crate) fn follow(&mut self, area: &Area, words: &[u64]) -> Result<(), AllocError>
-        ensures ok { OnOk result (Follows area.now words.now self.old.found.keys self.old.waiting.items self.new.found.keys self.new.waiting.items) }
+        ensures ok { OnOk result (WereFollowed area.now words.now self.old.found.keys self.old.waiting.items self.new.found.keys self.new.waiting.items) }
         ensures err { OnErr result ((at : ℕ) × IsNamed area.now words.now at) }
     {
         for word in words {

@@ -8,7 +8,7 @@ use Rattle.std.proofs.lemmas.List.{reverse-reverse}
 use Rattle.std.proofs.lemmas.List.Elements.{recursion_from_All}
 use Rattle.gated_log.specs.declared.Log.{Log}
 use Rattle.gated_log.specs.LogRoom.{used_bytes, need_bytes}
-use Rattle.gated_log.specs.LogState.{log_tail, hand_size, log_room, log_used, log_used_with, log_need}
+use Rattle.gated_log.specs.LogState.{log_tail, buffer_size, log_room, log_used, log_used_with, log_need}
 use Rattle.log_records.specs.Record.{spellings}
 use Rattle.log_machine.specs.declared.UndoEntry.{UndoEntry}
 use Rattle.log_machine.specs.Machine.{field_at, abort_records, end_bytes}
@@ -19,29 +19,29 @@ use Rattle.heap_memory.specs.Refusals.{no_room, space_refusal}
 use Rattle.heap_spaces.specs.Spaces.{SpacesState, free_words, open_words, with_taken}
 use Rattle.working_state.specs.Reserve.{WroteBelow}
 
-used_more : (tail hand k : ℕ) → used_bytes tail (hand + k) ≤ used_bytes tail hand + (k + 5)
-used_more tail hand k = grind (arith, nat_tests)
+used_more : (tail buffer k : ℕ) → used_bytes tail (buffer + k) ≤ used_bytes tail buffer + (k + 5)
+used_more tail buffer k = grind (arith, nat_tests)
 
-used_need : (tail hand k : ℕ) → used_bytes tail (hand + k) ≤ used_bytes tail hand + need_bytes hand k
-used_need tail hand k = grind (arith, nat_tests)
+used_need : (tail buffer k : ℕ) → used_bytes tail (buffer + k) ≤ used_bytes tail buffer + need_bytes buffer k
+used_need tail buffer k = grind (arith, nat_tests)
 
-need_few : (hand k : ℕ) → need_bytes hand k ≤ k + 5
-need_few hand k = grind (arith, nat_tests)
+need_few : (buffer k : ℕ) → need_bytes buffer k ≤ k + 5
+need_few buffer k = grind (arith, nat_tests)
 
 -- so many bytes take no more of the log than they need
 pub used_with_need : (log : Log) (k : ℕ) → log_used_with log k ≤ log_used log + log_need log k
-used_with_need log k = used_need (log_tail log) (hand_size log) k
+used_with_need log k = used_need (log_tail log) (buffer_size log) k
 
 -- and they need a batch at most besides
 pub need_little : (log : Log) (k : ℕ) → log_need log k ≤ k + 5
-need_little log k = need_few (hand_size log) k
+need_little log k = need_few (buffer_size log) k
 
 -- the log has room for the records that take these writes back, and for what is kept for other transactions
 pub abort_room : (log : Log) (number others : ℕ) (undo : List UndoEntry) → log_used log + (others + end_bytes (length undo)) ≤ log_room log
     → log_used_with log (length (spellings (abort_records number undo))) + others ≤ log_room log
 abort_room log number others undo kept =
     let size : length (spellings (abort_records number undo)) + 5 ≡ end_bytes (length undo) = abort_length number undo in
-    let more = used_more (log_tail log) (hand_size log) (length (spellings (abort_records number undo))) in
+    let more = used_more (log_tail log) (buffer_size log) (length (spellings (abort_records number undo))) in
     omega arith
 
 -- the writes in the other order

@@ -8,8 +8,8 @@ use Rattle.gated_log.proofs.Log.force.Goals as goal
 pub returns-clause-kept : goal.returns-clause-kept
 returns-clause-kept g c batches pending keeps =
     let log = c.args.self.now in
-    let waits : nat_lt 4 (vec_len log.hand) ≡ true = search rules in
-    let closes : c.deref.result.now ≡ to_le_bytes w32 (vec_len log.hand - 4) ++ drop 4 log.hand.items ++ 0 ∷ [] = c.deref.ensures.value ∙ c.close_batch.ensures.items in
+    let waits : nat_lt 4 (vec_len log.buffer) ≡ true = search rules in
+    let closes : c.deref.result.now ≡ to_le_bytes w32 (vec_len log.buffer - 4) ++ drop 4 log.buffer.items ++ 0 ∷ [] = c.deref.ensures.value ∙ c.close_batch.ensures.items in
     let size : c.len-size.result ≡ length c.deref.result.now = omega (arith, c.deref.ensures.len, c.len-size.ensures) in
     let items : c.truncate.new.self.items ≡ take 4 c.deref.result.now = c.truncate.ensures.items ∙ ap (λ (l : List ℕ). take 4 l) (sym c.deref.ensures.value) in
     let forced_all : log.forced + log.waiting ≡ log.forced + log.waiting = refl in
@@ -20,8 +20,8 @@ pub returns-clause-held : goal.returns-clause-held
 returns-clause-held g c told batches pending keeps holds =
     let log = c.args.self.now in
     let image = g.D.Disk.bytes c.args.disk.now in
-    let waits : nat_lt 4 (vec_len log.hand) ≡ true = search rules in
-    let closes : c.deref.result.now ≡ to_le_bytes w32 (vec_len log.hand - 4) ++ drop 4 log.hand.items ++ 0 ∷ [] = c.deref.ensures.value ∙ c.close_batch.ensures.items in
+    let waits : nat_lt 4 (vec_len log.buffer) ≡ true = search rules in
+    let closes : c.deref.result.now ≡ to_le_bytes w32 (vec_len log.buffer - 4) ++ drop 4 log.buffer.items ++ 0 ∷ [] = c.deref.ensures.value ∙ c.close_batch.ensures.items in
     let inside : log.at + log.room ≤ length image = omega (arith, g.met.D.Disk.same_size told c.args.disk.now image (g.met.D.Disk.reads_an_image told c.args.disk.now), c.requires.inside) in
     let size : c.len-size.result ≡ length c.deref.result.now = omega (arith, c.deref.ensures.len, c.len-size.ensures) in
     let items : c.truncate.new.self.items ≡ take 4 c.deref.result.now = c.truncate.ensures.items ∙ ap (λ (l : List ℕ). take 4 l) (sym c.deref.ensures.value) in
@@ -36,17 +36,17 @@ pub returns-clause-outside : goal.returns-clause-outside
 returns-clause-outside g c told =
     let log = c.args.self.now in
     let image = g.D.Disk.bytes c.args.disk.now in
-    let waits : nat_lt 4 (vec_len log.hand) ≡ true = search rules in
+    let waits : nat_lt 4 (vec_len log.buffer) ≡ true = search rules in
     let inside : log.at + log.room ≤ length image = omega (arith, g.met.D.Disk.same_size told c.args.disk.now image (g.met.D.Disk.reads_an_image told c.args.disk.now), c.requires.inside) in
-    let fits : c.from.result + 1 + length c.deref.result.now ≤ log.room = omega (arith, log.fits, used_waiting log.tail (vec_len log.hand) waits, c.deref.ensures.len, c.close_batch.ensures.len, c.from.ensures) in
+    let fits : c.from.result + 1 + length c.deref.result.now ≤ log.room = omega (arith, log.fits, used_waiting log.tail (vec_len log.buffer) waits, c.deref.ensures.len, c.close_batch.ensures.len, c.from.ensures) in
     rw (c.in_ok-written.ensures.filled told) (forced_outside log.at log.room c.from.result c.deref.result.now image inside fits)
 
 pub returns-clause-moments : goal.returns-clause-moments
 returns-clause-moments g c told only batches pending keeps holds =
     let log = c.args.self.now in
     let image = g.D.Disk.bytes c.args.disk.now in
-    let waits : nat_lt 4 (vec_len log.hand) ≡ true = search rules in
-    let closes : c.deref.result.now ≡ to_le_bytes w32 (vec_len log.hand - 4) ++ drop 4 log.hand.items ++ 0 ∷ [] = c.deref.ensures.value ∙ c.close_batch.ensures.items in
+    let waits : nat_lt 4 (vec_len log.buffer) ≡ true = search rules in
+    let closes : c.deref.result.now ≡ to_le_bytes w32 (vec_len log.buffer - 4) ++ drop 4 log.buffer.items ++ 0 ∷ [] = c.deref.ensures.value ∙ c.close_batch.ensures.items in
     let inside : log.at + log.room ≤ length image = omega (arith, g.met.D.Disk.same_size told c.args.disk.now image (g.met.D.Disk.reads_an_image told c.args.disk.now), c.requires.inside) in
     moments log image c.deref.result.now batches pending waits closes keeps c.from.result c.from.ensures inside holds g.D.Disk.moment g.D.Disk.left_since _ _ _ only (c.fill_and_open-written.ensures.moments told)
 
@@ -54,8 +54,8 @@ pub returns-in_err-written-clause-moments : goal.returns-in_err-written-clause-m
 returns-in_err-written-clause-moments g c told only batches pending keeps holds =
     let log = c.args.self.now in
     let image = g.D.Disk.bytes c.args.disk.now in
-    let waits : nat_lt 4 (vec_len log.hand) ≡ true = search rules in
-    let closes : c.deref.result.now ≡ to_le_bytes w32 (vec_len log.hand - 4) ++ drop 4 log.hand.items ++ 0 ∷ [] = c.deref.ensures.value ∙ c.close_batch.ensures.items in
+    let waits : nat_lt 4 (vec_len log.buffer) ≡ true = search rules in
+    let closes : c.deref.result.now ≡ to_le_bytes w32 (vec_len log.buffer - 4) ++ drop 4 log.buffer.items ++ 0 ∷ [] = c.deref.ensures.value ∙ c.close_batch.ensures.items in
     let inside : log.at + log.room ≤ length image = omega (arith, g.met.D.Disk.same_size told c.args.disk.now image (g.met.D.Disk.reads_an_image told c.args.disk.now), c.requires.inside) in
     moments log image c.deref.result.now batches pending waits closes keeps c.from.result c.from.ensures inside holds g.D.Disk.moment g.D.Disk.left_since _ _ _ only (c.fill_and_open-written.ensures.moments told)
 

@@ -24,7 +24,7 @@ returns-clause-held g c told batches holds good =
     let found = c.in_ok-records.ensures.found in
     let one = holds_once log short found.0 batches (subst (λ (l : List Record). AllByRecursion IsRecord l) found.1 c.in_ok-records.ensures.good) good (found.3 told) holds in
     let none : ◌≡◌ {A = ℕ} 0 0 = refl in
-    (keeps_read _ batches (found.2 ∙ ap (λ (l : List (List Record)). length (batches_bytes l)) one) c.in_ok-hand.ensures.len (c.len.ensures ∙ c.in_ok-records.records.ok.0 ∙ ap length (found.1 ∙ ap records_of one)) none, found.1 ∙ ap records_of one)
+    (keeps_read _ batches (found.2 ∙ ap (λ (l : List (List Record)). length (batches_bytes l)) one) c.in_ok-buffer.ensures.len (c.len.ensures ∙ c.in_ok-records.records.ok.0 ∙ ap length (found.1 ∙ ap records_of one)) none, found.1 ∙ ap records_of one)
 
 pub returns-clause-broken : goal.returns-clause-broken
 returns-clause-broken g c told offset breaks =

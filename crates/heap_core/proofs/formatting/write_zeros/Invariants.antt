@@ -1,6 +1,6 @@
 use Rattle.std.proofs.Common.{ℕ, ◌-◌, ◌≤◌, List, Ok}
 use Rattle.std.specs.Prelude.{IsTrue}
-use Rattle.disk_model.specs.Disk.{Follows, SameOutside}
+use Rattle.disk_model.specs.Disk.{WidensBy, SameOutside}
 use Rattle.disk_model.specs.Keeps.{KeepsDisk}
 use Rattle.disk_model.specs.Moments.{LeavesOnly}
 use Rattle.heap_core.specs.Format.{AreZero, zero_writes}
@@ -16,7 +16,7 @@ invariant-loop-at g l =
       high : l.at ≤ l.end;
       zero : IsTrue d.tells → AreZero l.from l.at (d.bytes l.disk);
       outside : IsTrue d.tells → SameOutside l.from l.end (d.bytes l.fn.disk) (d.bytes l.disk);
-      crash : IsTrue d.tells → Follows (SameOutside l.from l.end) (d.may_leave l.fn.disk) (d.may_leave l.disk);
+      crash : IsTrue d.tells → WidensBy (SameOutside l.from l.end) (d.may_leave l.fn.disk) (d.may_leave l.disk);
       moments : IsTrue d.tells → LeavesOnly d.moment d.left_since l.fn.disk l.disk (λ c. (o : List ℕ) × d.may_leave l.fn.disk o × SameOutside l.from l.end o c);
       calls : IsTrue d.tells → SoFar (zero_writes (l.end - l.from)) (zero_writes (l.end - l.at)) (d.passed l.fn.disk) (d.passed l.disk);
       disk : KeepsDisk {T = Unit {0}} d l.fn.disk l.disk (Ok tt);

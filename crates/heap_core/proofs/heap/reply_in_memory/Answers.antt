@@ -3,9 +3,9 @@ use Rattle.heap_memory.specs.Refusals.{begin_refusal, new_refusal, put_refusal, 
 use Rattle.heap_memory.specs.Memory.{own}
 use Rattle.graph_model.specs.declared.reply.Reply.{Reply}
 use Rattle.graph_model.specs.declared.reply.Reply.TheVariants.{Begun}
-use Rattle.memory_laws.specs.Follows.{Does}
+use Rattle.memory_laws.specs.CoreMemory.{Does}
 use Rattle.working_state.specs.State.{memory}
-use Rattle.heap_core.proofs.MeansAnswer.{begins, roots, drops, makes, puts, clears, links, gets, seals, aborts, compares, counts, either, taken, told, same_placed, placed}
+use Rattle.heap_core.proofs.RefinementAnswer.{begins, roots, drops, makes, puts, clears, links, gets, seals, aborts, compares, counts, either, taken, told, same_placed, placed}
 use Rattle.heap_core.proofs.heap.reply_in_memory.Goals as goal
 
 pub returns-in-Begin-clause-does : goal.returns-in-Begin-clause-does

@@ -6,7 +6,7 @@ use Rattle.image_plan.specs.declared.superblock.Super.{Super}
 use Rattle.core_laws.specs.Aborting.{aborting_until}
 use Rattle.heap_model.specs.Core.{Core}
 use Rattle.heap_core.specs.HeapState.{heap_disk}
-use Rattle.heap_core.specs.Means.{IsCore, IsHeap}
+use Rattle.heap_core.specs.Refinement.{IsCore, IsHeap}
 use Rattle.heap_shell.specs.Play.{IsRunning, PlaysCore, Plays}
 use Rattle.heap_shell.proofs.play.play_aborts.Given as goal
 

@@ -5,7 +5,7 @@ use Rattle.disk_model.specs.Keeps.{KeepsDisk}
 use Rattle.image_plan.specs.declared.superblock.Super.{Super}
 use Rattle.heap_model.specs.Core.{Core}
 use Rattle.heap_core.specs.HeapState.{heap_disk}
-use Rattle.heap_core.specs.Means.{IsCore, IsHeap}
+use Rattle.heap_core.specs.Refinement.{IsCore, IsHeap}
 use Rattle.heap_shell.specs.Play.{IsRunning, PlaysCore, Plays}
 use Rattle.script_text.specs.Line.{events}
 use Rattle.heap_shell.proofs.play.play_lines.Given as goal

@@ -6,7 +6,7 @@ use Rattle.disk_model.specs.KeepsLaws.{rose_until}
 use Rattle.disk_model.specs.Moments.{LeavesOnly, begins}
 use Rattle.heap_core.specs.declared.errors.OpenError.TheVariants as opening
 use Rattle.heap_core.specs.Causes.{ErrorPasses, error_device}
-use Rattle.heap_model.specs.CoreCrash.{KeepsCommits}
+use Rattle.heap_model.specs.CoreCrash.{IsCommitPrefix}
 use Rattle.heap_model.specs.CoreLawsRun.{same_run}
 use Rattle.heap_model.specs.CoreRuns.{total_calls}
 use Rattle.heap_model.specs.Image.{IsLegal, Holds, shaped_image}
@@ -54,7 +54,7 @@ returns-in-Err-clause-played g c tells stored only =
     let within = subst (λ m. fuse_passed fuse ≤ m) (same_limit _ _ origin) fuse.within in
     let passes = subst (λ p. ErrorPasses n p (fuse_passed fuse) c.in-Err.e) c.new.ensures.passed (e.passes tells s batches shaped) in
     let few : fuse_passed fuse ≤ n = fails_few n (fuse_passed fuse) (few_calls s batches) c.in-Err.e passes in
-    let moments = subst (λ x. LeavesOnly d.moment d.left_since x final (KeepsCommits (stored_core stored))) inner
+    let moments = subst (λ x. LeavesOnly d.moment d.left_since x final (IsCommitPrefix (stored_core stored))) inner
     (stored_moments d stored (fuse_inner c.new.result) final (fuse_since c.new.result fuse _ (e.moments tells only_f s batches shaped))) in
     rw c.into_inner.ensures (ends_unopened d stored (Some c.args.stop) (events c.args.script.now) c.in-Err.e c.from.result start final g.K.Sink.tells (g.K.Sink.written c.args.sink.now) c.from.ensures outside
     moments (λ image left. stored_keeps d stored image (e.crash tells only_f s batches shaped image left))
@@ -90,9 +90,9 @@ returns-then-eq-clause-played g c tells stored only =
     let less : fuse_passed fuse < n = stops_before n (fuse_passed fuse) (few_calls s batches) any c.in-Err.e is passes in
     let blown = fuse.blown some ∙ same_limit _ _ origin in
     let short : c.args.stop.after < n = omega (arith, less, blown) in
-    let moments = subst (λ x. LeavesOnly d.moment d.left_since x stopped (KeepsCommits first)) inner
+    let moments = subst (λ x. LeavesOnly d.moment d.left_since x stopped (IsCommitPrefix first)) inner
     (stored_moments d stored (fuse_inner c.new.result) stopped (fuse_since c.new.result fuse _ (e.moments tells only_f s batches shaped))) in
-    let left : (image : List ℕ) → d.may_leave stopped image → KeepsCommits first image = λ image may. stored_keeps d stored image (e.crash tells only_f s batches shaped image may) in
+    let left : (image : List ℕ) → d.may_leave stopped image → IsCommitPrefix first image = λ image may. stored_keeps d stored image (e.crash tells only_f s batches shaped image may) in
     let back = c.start_again.ensures.recovers tells first left refl in
     ends_stopped d stored c.args.stop stopped final back.0 c.start_again.result.0 k.tells (k.written c.args.sink.now) (k.written c.start_again.new.sink) (events c.args.script.now) start moments left
     (c.start_again.ensures.moments tells first left) (e.disk.restarts tells ∙ ap d.restarts inner) short
@@ -148,8 +148,8 @@ returns-in-None-clause-played g c tells stored only =
     let calm = λ (u : Unharmed d start final) (rose : Rose (d.faults start + d.stops start) (d.faults stopped + d.stops stopped)). u (rose_until _ _ _ kept_on rose) in
     let inside : Unharmed d start final → d.passed stopped ≡ counted through (d.passed start) = λ u. fuse_passes new.disk start through tells began (calm u)
     (passes_some s first running refl es playable old new k.tells before after c.play_lines-played.result plays c.args.stop.after n few passed within at_limit (unrisen u)) in
-    let left : (image : List ℕ) → d.may_leave (fuse_inner c.close.result) image → KeepsCommits plays.core image = λ image l. keep image (subst (λ x. d.may_leave (fuse_inner x) image) closed l) in
-    let rest = subst (λ x. LeavesOnly d.moment d.left_since (fuse_inner x) final (KeepsCommits plays.core)) closed (c.start_again-in-None.ensures.moments tells plays.core left) in
+    let left : (image : List ℕ) → d.may_leave (fuse_inner c.close.result) image → IsCommitPrefix plays.core image = λ image l. keep image (subst (λ x. d.may_leave (fuse_inner x) image) closed l) in
+    let rest = subst (λ x. LeavesOnly d.moment d.left_since (fuse_inner x) final (IsCommitPrefix plays.core)) closed (c.start_again-in-None.ensures.moments tells plays.core left) in
     let plus : first.before + 0 ≡ first.before = omega arith in
     let back = c.start_again-in-None.ensures.recovers tells plays.core left (c.commits-before.ensures first heap.core ∙ ap (λ (m : ℕ). min m greatest) (plus ∙ sym opening.before)) in
     let k_back = back.0 in
@@ -158,7 +158,7 @@ returns-in-None-clause-played g c tells stored only =
     let recovers = subst (λ x. Recovers plays.core k_back (StartsAgain d again plays.core k_back (Reopens d plays.core k_back) (fuse_inner x) final) (EndsUnopened d again plays.core k_back (fuse_inner x) final by) (d.may_leave final) by k.tells after (k.written c.start_again-in-None.new.sink)) closed back.1 in
     let steps = fuse_steps_of c.play_lines-played.ensures.disk (record {
       tells = λ told. told;
-      moments = λ core a b run. fuse_since a b (KeepsCommits core) run;
+      moments = λ core a b run. fuse_since a b (IsCommitPrefix core) run;
       images = λ fuse image may. may;
       origin = λ a b same. same;
       passed = λ fuse. refl;
@@ -168,7 +168,7 @@ returns-in-None-clause-played g c tells stored only =
     }) c.args.stop.after start final tells first plays.core old.disk new.disk plays.made began_old (same_limit _ _ (e.disk.origin ∙ c.new.ensures.origin)) calm plays.steps in
     let keeps : KeepsThroughout d (Some c.args.stop.after) n first plays.made plays.core start final = record {
       opened = fuse_inner old.disk;
-      opening = subst (λ x. LeavesOnly d.moment d.left_since x (fuse_inner old.disk) (KeepsCommits first)) inner
+      opening = subst (λ x. LeavesOnly d.moment d.left_since x (fuse_inner old.disk) (IsCommitPrefix first)) inner
           (stored_moments d stored (fuse_inner c.new.result) (fuse_inner old.disk) (fuse_since c.new.result old.disk _ (e.moments tells only_f s batches shaped)));
       here = λ image may. stored_keeps d stored image (e.crash tells only_f s batches shaped image may);
       passed = λ u some. fuse_passes old.disk start n tells began_old (λ rose. calm u (rose_until _ _ _ c.play_lines-played.ensures.disk.cause.faults_kept rose)) passed;
@@ -228,7 +228,7 @@ returns-in-Some-clause-played g c tells stored only =
     (passes_some s first running refl es playable old new k.tells before after c.play_lines-played.result plays c.args.stop.after n few passed within at_limit (unrisen u)) in
     let steps = fuse_steps_of c.play_lines-played.ensures.disk (record {
       tells = λ told. told;
-      moments = λ core a b run. fuse_since a b (KeepsCommits core) run;
+      moments = λ core a b run. fuse_since a b (IsCommitPrefix core) run;
       images = λ fuse image may. may;
       origin = λ a b same. same;
       passed = λ fuse. refl;
@@ -238,7 +238,7 @@ returns-in-Some-clause-played g c tells stored only =
     }) c.args.stop.after start final tells first plays.core old.disk new.disk plays.made began_old (same_limit _ _ (e.disk.origin ∙ c.new.ensures.origin)) calm plays.steps in
     let keeps : KeepsThroughout d (Some c.args.stop.after) n first plays.made plays.core start final = record {
       opened = fuse_inner old.disk;
-      opening = subst (λ x. LeavesOnly d.moment d.left_since x (fuse_inner old.disk) (KeepsCommits first)) inner
+      opening = subst (λ x. LeavesOnly d.moment d.left_since x (fuse_inner old.disk) (IsCommitPrefix first)) inner
           (stored_moments d stored (fuse_inner c.new.result) (fuse_inner old.disk) (fuse_since c.new.result old.disk _ (e.moments tells only_f s batches shaped)));
       here = λ image may. stored_keeps d stored image (e.crash tells only_f s batches shaped image may);
       passed = λ u some. fuse_passes old.disk start n tells began_old (λ rose. calm u (rose_until _ _ _ c.play_lines-played.ensures.disk.cause.faults_kept rose)) passed;
@@ -246,7 +246,7 @@ returns-in-Some-clause-played g c tells stored only =
       restarts = e.disk.restarts tells ∙ ap d.restarts inner;
       stopped = final;
       steps = steps;
-      rest = begins d.moment d.left_since final (KeepsCommits plays.core) (λ image since. keep image (g.met.D.Disk.only_now tells final image since));
+      rest = begins d.moment d.left_since final (IsCommitPrefix plays.core) (λ image since. keep image (g.met.D.Disk.only_now tells final image since));
       kept = keep;
     } in
     let part = halt_part s first running refl es playable old new k.tells before after c.play_lines-played.result plays halted.0 halted.1 in

@@ -4,7 +4,7 @@ use Rattle.std.specs.Prelude.{IfOk}
 use Rattle.std.proofs.lemmas.List.{length_push}
 use Rattle.std.proofs.lemmas.List.Elements.{Contains-get_or}
 use Rattle.stability_tracker.specs.Promotion.{need}
-use Rattle.stability_tracker.specs.Search.{Follows, IsSearching}
+use Rattle.stability_tracker.specs.Search.{WereFollowed, IsSearching}
 use Rattle.stability_tracker.proofs.Steps.{searching_begins, searching_on, popped_found, searching_ends, reached_starts, found_few, some_promoted, named_reached}
 use Rattle.stability_tracker.proofs.tracker.promotion.Goals.{In_ok-follow-2}
 use Rattle.stability_tracker.proofs.tracker.promotion.Goals as goal
@@ -17,7 +17,7 @@ returns-in_err-follow-clause-free c none =
 pub loop-object-init : goal.loop-object-init
 loop-object-init c =
     let new = c.follow.new.self in
-    let From : List ℕ → List ℕ → Type 0 = λ found waiting. Follows c.args.volatile.now c.args.written.now found waiting new.found.keys new.waiting.items in
+    let From : List ℕ → List ℕ → Type 0 = λ found waiting. WereFollowed c.args.volatile.now c.args.written.now found waiting new.found.keys new.waiting.items in
     let Found : List ℕ → Type 0 = λ found. From found c.new-search.result.waiting.items in
     searching_begins c.args.volatile.now c.args.written.now new.found.keys new.waiting.items
     (subst (From []) c.new-search.ensures.waiting (subst Found c.new-search.ensures.found c.in_ok-follow.ensures.ok))
@@ -33,7 +33,7 @@ on : (c : In_ok-follow-2) → IsSearching c.args.volatile.now c.args.written.now
 on c =
     let old = c.loop-object.search in
     let new = c.follow-in-Some.new.self in
-    let Words : List ℕ → Type 0 = λ ws. Follows c.args.volatile.now ws old.found.keys c.pop.new.self.items new.found.keys new.waiting.items in
+    let Words : List ℕ → Type 0 = λ ws. WereFollowed c.args.volatile.now ws old.found.keys c.pop.new.self.items new.found.keys new.waiting.items in
     searching_on c.args.volatile.now c.args.written.now old.found.keys c.pop.new.self.items c.in-Some.object old.waiting.items new.found.keys new.waiting.items
     c.loop-object.invariant c.in-Some.ensures.items (subst Words c.fields.ensures.words c.in_ok-follow-2.ensures.ok)
 

@@ -3,14 +3,14 @@ use Rattle.std.specs.Prelude.{IfOk}
 use Rattle.disk_model.specs.Keeps.{KeepsDisk}
 use Rattle.disk_model.specs.KeepsLaws.{keeps_none}
 use Rattle.gate_slot.specs.Passing.{Passes}
-use Rattle.heap_core.specs.Means.{Remembers, StepsOn}
+use Rattle.heap_core.specs.Refinement.{Remembers, StepsOn}
 use Rattle.graph_model.specs.declared.event.Event.{Event}
 use Rattle.heap_core.specs.Causes.{reply_device}
 use Rattle.heap_model.specs.Core.{calls}
-use Rattle.heap_model.specs.CoreCrash.{KeepsCommits}
+use Rattle.heap_model.specs.CoreCrash.{IsCommitPrefix}
 use Rattle.heap_core.specs.CrashLaws.{heap_keeps}
-use Rattle.heap_core.proofs.MeansLeft.{stays, quiet_passes, on_error}
-use Rattle.heap_core.proofs.MeansForce.{unfailed_valid, memory_steps, kept_as, quiet_on}
+use Rattle.heap_core.proofs.RefinementLeft.{stays, quiet_passes, on_error}
+use Rattle.heap_core.proofs.RefinementForce.{unfailed_valid, memory_steps, kept_as, quiet_on}
 use Rattle.heap_core.proofs.heap.Heap.answer.Goals as goal
 
 pub returns-in_err-reply-clause-kept : goal.returns-in_err-reply-clause-kept
@@ -24,7 +24,7 @@ pub returns-in_err-reply-clause-moments : goal.returns-in_err-reply-clause-momen
 returns-in_err-reply-clause-moments g c tells s core heap none reached =
     let d = g.D.Disk in
     let disk = c.args.self.now.disk in
-    stays d.moment d.left_since disk (d.may_leave disk) (KeepsCommits core) (g.met.D.Disk.only_now tells disk) (heap_keeps s core _ _ heap.disk reached.sound)
+    stays d.moment d.left_since disk (d.may_leave disk) (IsCommitPrefix core) (g.met.D.Disk.only_now tells disk) (heap_keeps s core _ _ heap.disk reached.sound)
 
 pub returns-in-Some-clause-disk : goal.returns-in-Some-clause-disk
 returns-in-Some-clause-disk g c =
@@ -46,7 +46,7 @@ pub returns-in-Some-clause-moments : goal.returns-in-Some-clause-moments
 returns-in-Some-clause-moments g c tells s core heap none reached =
     let d = g.D.Disk in
     let disk = c.args.self.now.disk in
-    stays d.moment d.left_since disk (d.may_leave disk) (KeepsCommits core) (g.met.D.Disk.only_now tells disk) (heap_keeps s core _ _ heap.disk reached.sound)
+    stays d.moment d.left_since disk (d.may_leave disk) (IsCommitPrefix core) (g.met.D.Disk.only_now tells disk) (heap_keeps s core _ _ heap.disk reached.sound)
 
 pub returns-in-Some-clause-passes : goal.returns-in-Some-clause-passes
 returns-in-Some-clause-passes g c tells core heap reached none =

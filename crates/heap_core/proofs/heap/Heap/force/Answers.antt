@@ -4,10 +4,10 @@ use Rattle.disk_model.specs.declared.disk.DiskError.{DiskError}
 use Rattle.gate_slot.specs.Passing.{Passes}
 use Rattle.graph_model.specs.declared.event.Event.TheVariants.{Force}
 use Rattle.heap_model.specs.Core.{calls}
-use Rattle.heap_model.specs.CoreCrash.{KeepsCommits}
+use Rattle.heap_model.specs.CoreCrash.{IsCommitPrefix}
 use Rattle.heap_core.specs.CrashLaws.{heap_keeps}
-use Rattle.heap_core.proofs.MeansLeft.{stays, force_passes, no_calls_empty, on_error}
-use Rattle.heap_core.proofs.MeansForce.{unfailed_valid, kept_as, keeps, holds, force_keeps, ok_steps, ok_on, err_steps, err_on}
+use Rattle.heap_core.proofs.RefinementLeft.{stays, force_passes, no_calls_empty, on_error}
+use Rattle.heap_core.proofs.RefinementForce.{unfailed_valid, kept_as, keeps, holds, force_keeps, ok_steps, ok_on, err_steps, err_on}
 use Rattle.heap_core.proofs.heap.Heap.force.Goals as goal
 
 pub returns-in_err-reserve-clause-kept : goal.returns-in_err-reserve-clause-kept
@@ -23,7 +23,7 @@ pub returns-in_err-reserve-clause-moments : goal.returns-in_err-reserve-clause-m
 returns-in_err-reserve-clause-moments g c tells s core heap none reached =
     let d = g.D.Disk in
     let disk = c.args.self.now.disk in
-    stays d.moment d.left_since disk (d.may_leave disk) (KeepsCommits core) (g.met.D.Disk.only_now tells disk) (heap_keeps s core _ _ heap.disk reached.sound)
+    stays d.moment d.left_since disk (d.may_leave disk) (IsCommitPrefix core) (g.met.D.Disk.only_now tells disk) (heap_keeps s core _ _ heap.disk reached.sound)
 
 pub returns-in-Ok-clause-core : goal.returns-in-Ok-clause-core
 returns-in-Ok-clause-core g c core heap none reached =
@@ -55,7 +55,7 @@ returns-in-Ok-clause-moments g c tells s core heap none reached =
     let disk = heap.disk.unfailed valid.unfailed in
     let kept = keeps core w log works c.reserve.ensures.same in
     let held = holds core w log works c.reserve.ensures.same s _ _ heap.disk.born disk in
-    weaker d.moment d.left_since c.args.self.now.disk c.force.new.disk _ (KeepsCommits core) (c.force.ensures.moments tells disk.only core.batches core.pending kept held)
+    weaker d.moment d.left_since c.args.self.now.disk c.force.new.disk _ (IsCommitPrefix core) (c.force.ensures.moments tells disk.only core.batches core.pending kept held)
     (λ image. force_keeps core w log works c.reserve.ensures.same s _ _ heap.disk.born disk image reached.sound)
 
 pub returns-in-Ok-clause-passes : goal.returns-in-Ok-clause-passes
@@ -80,7 +80,7 @@ returns-in-Err-clause-moments g c tells s core heap none reached =
     let disk = heap.disk.unfailed valid.unfailed in
     let kept = keeps core w log works c.reserve.ensures.same in
     let held = holds core w log works c.reserve.ensures.same s _ _ heap.disk.born disk in
-    weaker d.moment d.left_since c.args.self.now.disk c.force.new.disk _ (KeepsCommits core) (c.force.ensures.moments tells disk.only core.batches core.pending kept held)
+    weaker d.moment d.left_since c.args.self.now.disk c.force.new.disk _ (IsCommitPrefix core) (c.force.ensures.moments tells disk.only core.batches core.pending kept held)
     (λ image. force_keeps core w log works c.reserve.ensures.same s _ _ heap.disk.born disk image reached.sound)
 
 pub returns-in-Err-clause-holds : goal.returns-in-Err-clause-holds

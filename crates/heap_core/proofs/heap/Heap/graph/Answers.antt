@@ -3,8 +3,8 @@ use Rattle.graph_model.specs.Transaction.{serial}
 use Rattle.graph_model.specs.History.{sealed, sessions}
 use Rattle.graph_words.specs.Places.{name_at}
 use Rattle.object_layout.specs.Layout.{IsSeenAs}
-use Rattle.heap_core.proofs.MeansForce.{unfailed_valid}
-use Rattle.heap_core.proofs.MeansGraph.{memory_seen, length-without_writes}
+use Rattle.heap_core.proofs.RefinementForce.{unfailed_valid}
+use Rattle.heap_core.proofs.RefinementGraph.{memory_seen, length-without_writes}
 use Rattle.heap_core.proofs.heap.Heap.graph.Goals as goal
 
 pub print-requires : goal.print-requires

@@ -5,7 +5,7 @@ use Rattle.heap_recovery.specs.Faults.{IsNoHeap}
 use Rattle.heap_model.specs.Image.{shaped_image}
 use Rattle.heap_model.specs.Opening.{opening_calls}
 use Rattle.heap_core.specs.Causes.{IsFromOutside, ErrorPasses}
-use Rattle.heap_core.proofs.MeansOpen.{opened_bounds, opened_memory, opened_disk_holds, is_fresh}
+use Rattle.heap_core.proofs.RefinementOpen.{opened_bounds, opened_memory, opened_disk_holds, is_fresh}
 use Rattle.heap_core.proofs.OpenErrors.{outside_as, passes_as}
 use Rattle.heap_core.proofs.heap.Heap.open.Goals as goal
 

@@ -1,10 +1,10 @@
 use Rattle.std.proofs.Common.{sym, ◌∙◌, subst}
 use Rattle.graph_model.specs.declared.reply.Reply.{Reply}
-use Rattle.heap_core.specs.Means.{Steps}
-use Rattle.heap_model.specs.CoreCrash.{KeepsCommits}
+use Rattle.heap_core.specs.Refinement.{Steps}
+use Rattle.heap_model.specs.CoreCrash.{IsCommitPrefix}
 use Rattle.heap_core.specs.CrashLaws.{heap_keeps}
-use Rattle.heap_core.proofs.MeansLeft.{stays, failed_passes}
-use Rattle.heap_core.proofs.MeansForce.{failed_steps, failed_on}
+use Rattle.heap_core.proofs.RefinementLeft.{stays, failed_passes}
+use Rattle.heap_core.proofs.RefinementForce.{failed_steps, failed_on}
 use Rattle.heap_core.proofs.heap.Heap.reply_to.Goals as goal
 
 pub returns-in-Some-clause-core : goal.returns-in-Some-clause-core
@@ -21,7 +21,7 @@ pub returns-in-Some-clause-moments : goal.returns-in-Some-clause-moments
 returns-in-Some-clause-moments g c tells s core heap reached =
     let d = g.D.Disk in
     let disk = c.args.self.now.disk in
-    stays d.moment d.left_since disk (d.may_leave disk) (KeepsCommits core) (g.met.D.Disk.only_now tells disk) (heap_keeps s core _ _ heap.disk reached.sound)
+    stays d.moment d.left_since disk (d.may_leave disk) (IsCommitPrefix core) (g.met.D.Disk.only_now tells disk) (heap_keeps s core _ _ heap.disk reached.sound)
 
 pub returns-in-Some-clause-passes : goal.returns-in-Some-clause-passes
 returns-in-Some-clause-passes g c tells core heap reached =

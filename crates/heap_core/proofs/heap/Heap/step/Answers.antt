@@ -2,10 +2,10 @@ use Rattle.std.proofs.Common.{List, ◌++◌, ◌∷◌, [], sym, ap, ◌∙◌}
 use Rattle.graph_model.specs.declared.reply.Entry.{Entry}
 use Rattle.heap_core.specs.declared.history.History.{History}
 use Rattle.heap_model.specs.CoreLawsRun.{same_step}
-use Rattle.heap_model.specs.CoreCrash.{KeepsCommits}
+use Rattle.heap_model.specs.CoreCrash.{IsCommitPrefix}
 use Rattle.heap_core.specs.CrashLaws.{heap_keeps}
-use Rattle.heap_core.proofs.MeansLeft.{stays}
-use Rattle.heap_core.proofs.MeansForce.{with_history}
+use Rattle.heap_core.proofs.RefinementLeft.{stays}
+use Rattle.heap_core.proofs.RefinementForce.{with_history}
 use Rattle.heap_core.proofs.heap.Heap.step.Goals as goal
 
 pub returns-clause-core : goal.returns-clause-core
@@ -44,7 +44,7 @@ pub returns-in_err-reserve-clause-moments : goal.returns-in_err-reserve-clause-m
 returns-in_err-reserve-clause-moments g c tells s core heap reached =
     let d = g.D.Disk in
     let disk = c.args.self.now.disk in
-    stays d.moment d.left_since disk (d.may_leave disk) (KeepsCommits core) (g.met.D.Disk.only_now tells disk) (heap_keeps s core _ _ heap.disk reached.sound)
+    stays d.moment d.left_since disk (d.may_leave disk) (IsCommitPrefix core) (g.met.D.Disk.only_now tells disk) (heap_keeps s core _ _ heap.disk reached.sound)
 
 pub returns-in_err-reply-clause-moments : goal.returns-in_err-reply-clause-moments
 returns-in_err-reply-clause-moments g c tells s core heap reached =

@@ -2,7 +2,7 @@
 use Rattle.std.proofs.Common.{◌++◌, ◌∷◌, [], List, ℕ, take, get_or, sym, subst}
 use Rattle.std.proofs.lemmas.List.{take_more}
 use Rattle.stability_tracker.specs.declared.search.Search.{Search}
-use Rattle.stability_tracker.specs.Search.{Follows}
+use Rattle.stability_tracker.specs.Search.{WereFollowed}
 use Rattle.stability_tracker.proofs.Steps.{follows_past, follows_met}
 use Rattle.stability_tracker.proofs.search.Search.follow.Goals.{in-Some+in_ok-meet, in_default}
 use Rattle.stability_tracker.proofs.search.Search.follow.Goals as goal
@@ -15,8 +15,8 @@ loop-word-preserved c =
     let w = get_or words i 0 in
     let old = c.args.self.now in
     let mid = c.loop-word.self in
-    let Words : List ℕ → Type 0 = λ ws. Follows area ws old.found.keys old.waiting.items c.match-referred.self.found.keys c.match-referred.self.waiting.items in
-    let Now : Search → Type 0 = λ s. Follows area (take i words ++ w ∷ []) old.found.keys old.waiting.items s.found.keys s.waiting.items in
+    let Words : List ℕ → Type 0 = λ ws. WereFollowed area ws old.found.keys old.waiting.items c.match-referred.self.found.keys c.match-referred.self.waiting.items in
+    let Now : Search → Type 0 = λ s. WereFollowed area (take i words ++ w ∷ []) old.found.keys old.waiting.items s.found.keys s.waiting.items in
     subst Words (sym (take_more words i 0 c.loop-word-test.true))
     (elim c.match-referred.branch [
       | in-Some+in_ok-meet b ↦

@@ -6,8 +6,8 @@ use Rattle.disk_model.specs.Disk.{part, Only, SameOutside}
 use Rattle.disk_model.specs.declared.disk.DiskError.{DiskError}
 use Rattle.gated_log.specs.declared.Log.{Log}
 use Rattle.gated_log.specs.Log.{records_of, with_batch, HoldsBatches}
-use Rattle.gated_log.specs.LogLaws.{hand_size-Keeps}
-use Rattle.gated_log.specs.LogState.{log_place, log_room, IsHandEmpty, Keeps, IsSameLog}
+use Rattle.gated_log.specs.LogLaws.{buffer_size-Keeps}
+use Rattle.gated_log.specs.LogState.{log_place, log_room, IsBufferEmpty, Keeps, IsSameLog}
 use Rattle.graph_model.specs.declared.event.Event.{Event}
 use Rattle.graph_model.specs.declared.event.Event.TheVariants.{Force}
 use Rattle.graph_model.specs.declared.reply.Entry.{Entry}
@@ -31,21 +31,21 @@ use Rattle.image_plan.specs.declared.superblock.Super.{Super}
 use Rattle.log_records.specs.declared.Record.{Record}
 use Rattle.log_records.specs.Record.{spellings}
 use Rattle.heap_model.specs.Core.{Core, ground, state_behind, next_number, core_refusal, answer, with_entry, after_refusal, after, force_calls}
-use Rattle.heap_model.specs.CoreCrash.{IsSuperOf, IsOnDisk, KeepsCommits}
+use Rattle.heap_model.specs.CoreCrash.{IsSuperOf, IsOnDisk, IsCommitPrefix}
 use Rattle.heap_model.specs.CoreLawsRoom.{forced-with_batch, records_of-with_batch}
 use Rattle.heap_model.specs.CoreLawsHeld.{held_with}
 use Rattle.heap_model.specs.CoreLawsRun.{failed_refusal, failed_after, calls-force, calls-unfailed, after_history, step_history, same_step}
 use Rattle.heap_model.specs.Image.{Holds}
 use Rattle.log_machine.specs.Machine.{words}
-use Rattle.heap_core.specs.Means.{OnDisk, Remembers, DiskHolds, Steps, StepsOn}
-use Rattle.heap_core.proofs.MeansLeft.{keeps_refused, keeps_cut}
+use Rattle.heap_core.specs.Refinement.{OnDisk, Remembers, DiskHolds, Steps, StepsOn}
+use Rattle.heap_core.proofs.RefinementLeft.{keeps_refused, keeps_cut}
 use Rattle.memory_laws.specs.LogLaws.{keeps_same}
 use Rattle.heap_memory.specs.Memory.{Memory}
-use Rattle.memory_laws.specs.Follows.{AreHeld, IsMemory, Does, kept_of}
+use Rattle.memory_laws.specs.CoreMemory.{AreHeld, IsMemory, Does, kept_of}
 use Rattle.memory_laws.specs.LockLaws.{held_alike}
 use Rattle.memory_laws.specs.Answered.{does, as_it_was}
 use Rattle.heap_memory.specs.Leaves.{IsAsItWas}
-use Rattle.heap_core.proofs.MeansMemory.{is_some_own}
+use Rattle.heap_core.proofs.RefinementMemory.{is_some_own}
 use Rattle.object_locks.specs.Holdings.{Holdings}
 use Rattle.txn_table.specs.Table.{TableState, transaction_of}
 use Rattle.working_state.specs.declared.working.Working.{Working}
@@ -161,12 +161,12 @@ some_calls (r ∷ rs) some = lit< tt
 
 -- a force that the disk cut short
 abbrev pub cut_steps : (c : Core) (reply : Reply) (w new : Working) (entries : ℕ) (failed : Option ℕ) → IsValid c → IsMemory (memory w) (account c.history) c
-    → ¬ IsHandEmpty w.log → (reply ≡ Refused DiskFault) ⊎ (reply ≡ Refused Stopped) → entries ≡ length c.history → failed ≡ Some (entries + 1) → new.sealed ≡ w.sealed → new.table ≡ w.table → Steps c Force reply new failed
+    → ¬ IsBufferEmpty w.log → (reply ≡ Refused DiskFault) ⊎ (reply ≡ Refused Stopped) → entries ≡ length c.history → failed ≡ Some (entries + 1) → new.sealed ≡ w.sealed → new.table ≡ w.table → Steps c Force reply new failed
 cut_steps c reply w new entries failed valid works waits told count is sealed table =
     let a = account c.history in
     let entry : Entry = record { event = Force; reply = reply } in
     let said : account (c.history ++ entry ∷ []) ≡ account_after a entry = account-append c.history entry in
-    let some : c.pending ≢ [] = λ none. waits (hand_size-Keeps w.log c.batches c.pending works.log ∙ ap (λ (p : List Record). 4 + length (spellings p)) none) in
+    let some : c.pending ≢ [] = λ none. waits (buffer_size-Keeps w.log c.batches c.pending works.log ∙ ap (λ (p : List Record). 4 + length (spellings p)) none) in
     record {
       next = with_entry c Force reply;
       step = inr (record { some = subst (λ (n : ℕ). 0 < n) (sym (calls-forced c valid)) (some_calls c.pending some); told = told }, refl);
@@ -248,7 +248,7 @@ module _ (c : Core) (w : Working) (log : Log) (works : IsMemory (memory w) (acco
 
   -- and one that it cut short
   abbrev pub err_steps : (new : Working) (reply : Reply) (entries : ℕ) (result : Result (Unit {0}) DiskError) (e : DiskError) (now : Option ℕ) → IsValid c
-      → (IsHandEmpty log → result ≡ Ok tt) → result ≡ Err e → (reply ≡ Refused DiskFault) ⊎ (reply ≡ Refused Stopped)
+      → (IsBufferEmpty log → result ≡ Ok tt) → result ≡ Err e → (reply ≡ Refused DiskFault) ⊎ (reply ≡ Refused Stopped)
       → entries ≡ length c.history → now ≡ Some (entries + 1) → new.sealed ≡ w.sealed → new.table ≡ w.table → Steps c Force reply new now
   err_steps new reply entries result e now valid waited is told count fails sealed table =
       cut_steps c reply w new entries now valid works (λ four. let never : Err e ≡ Ok tt = sym is ∙ waited (same.size ∙ four) in cc) told count fails sealed table
@@ -284,21 +284,21 @@ module _ (c : Core) (w : Working) (log : Log) (works : IsMemory (memory w) (acco
       };
     }
 
-    kept_batches : (bs : List (List Record)) (image : List ℕ) → IsSound c → IsOnDisk c bs → SameOutside 64 (64 + s.log_bytes) old image → HoldsBatches (part image (log_place log) (log_room log)) bs → KeepsCommits c image
+    kept_batches : (bs : List (List Record)) (image : List ℕ) → IsSound c → IsOnDisk c bs → SameOutside 64 (64 + s.log_bytes) old image → HoldsBatches (part image (log_place log) (log_room log)) bs → IsCommitPrefix c image
     kept_batches bs image sound on outside held =
         crash_law c s bs sound born on disk.of image (held_with s c.batches bs old image disk.held outside (let P : ℕ → ℕ → Type 0 = λ n m. HoldsBatches (part image n m) bs in in_log P held))
 
     -- what a crash leaves during a force are first commits
     pub force_keeps : (image : List ℕ) → IsSound c → SameOutside (log_place log) (log_place log + log_room log) old image × (HoldsBatches (part image (log_place log) (log_room log)) c.batches ⊎ HoldsBatches (part image (log_place log) (log_room log)) (with_batch c.batches c.pending))
-        → KeepsCommits c image
+        → IsCommitPrefix c image
     force_keeps image sound found =
         let outside = (let P : ℕ → ℕ → Type 0 = λ n m. SameOutside n (n + m) old image in in_log P found.0) in
         ⊎_elim (λ held. kept_batches c.batches image sound (inl refl) outside held)
         (λ held. kept_batches (with_batch c.batches c.pending) image sound (inr refl) outside held) found.1
 
     pub err_on : (image : List ℕ) (may_leave : List ℕ → Type 0) (reply : Reply) (new : Working) (entries : ℕ) (result : Result (Unit {0}) DiskError) (e : DiskError) (now : Option ℕ) → IsValid c
-        → (IsHandEmpty log → result ≡ Ok tt) → result ≡ Err e → (reply ≡ Refused DiskFault) ⊎ (reply ≡ Refused Stopped)
-        → entries ≡ length c.history → now ≡ Some (entries + 1) → new.sealed ≡ w.sealed → new.table ≡ w.table → ((d : List ℕ) → may_leave d → KeepsCommits c d) → StepsOn s c Force reply new now image may_leave
+        → (IsBufferEmpty log → result ≡ Ok tt) → result ≡ Err e → (reply ≡ Refused DiskFault) ⊎ (reply ≡ Refused Stopped)
+        → entries ≡ length c.history → now ≡ Some (entries + 1) → new.sealed ≡ w.sealed → new.table ≡ w.table → ((d : List ℕ) → may_leave d → IsCommitPrefix c d) → StepsOn s c Force reply new now image may_leave
     err_on image may_leave reply new entries result e now valid waited is told count fails sealed table left =
         let steps = err_steps new reply entries result e now valid waited is told count fails sealed table in
         record {

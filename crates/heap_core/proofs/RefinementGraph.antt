@@ -13,7 +13,7 @@ use Rattle.log_machine.specs.WordsLaws.{length-taken_back}
 use Rattle.object_layout.specs.Layout.{IsSeenAs}
 use Rattle.graph_words.specs.Places.{name_at}
 use Rattle.heap_model.specs.Core.{Core, Ground, ground, all_records, undo_with}
-use Rattle.memory_laws.specs.Follows.{IsMemory, kept_of}
+use Rattle.memory_laws.specs.CoreMemory.{IsMemory, kept_of}
 use Rattle.txn_table.specs.Table.{TableState, transaction_of}
 use Rattle.working_state.specs.declared.working.Working.{Working}
 use Rattle.working_state.specs.Reserve.{undo_if}

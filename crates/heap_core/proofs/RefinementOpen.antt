@@ -25,13 +25,13 @@ use Rattle.heap_model.specs.Opening.{rolled_back, opened, used_in}
 use Rattle.heap_recovery.specs.declared.recovery.Recovered.{Recovered}
 use Rattle.heap_recovery.specs.Recovered.{IsRecovered}
 use Rattle.heap_memory.specs.Memory.{Memory}
-use Rattle.memory_laws.specs.Follows.{AreHeld, IsMemory}
+use Rattle.memory_laws.specs.CoreMemory.{AreHeld, IsMemory}
 use Rattle.object_locks.specs.Holdings.{Holdings, holding_cmp}
 use Rattle.txn_table.specs.Table.{TransactionState, TableState, transaction_of, new_table}
 use Rattle.working_state.specs.declared.working.Working.{Working}
 use Rattle.working_state.specs.State as state
 use Rattle.working_state.specs.State.{memory}
-use Rattle.heap_core.specs.Means.{Remembers, DiskHolds}
+use Rattle.heap_core.specs.Refinement.{Remembers, DiskHolds}
 
 -- as many words are used as the log says
 used_found : (s : Super) (batches : List (List Record)) (found : Recovered) (shaped : IsShapedLog s batches) → IsRecovered s batches found → found.used ≡ shaped.state.used

@@ -5,7 +5,7 @@ use Rattle.graph_model.specs.History.{Account}
 use Rattle.graph_model.specs.Transaction.{Transaction}
 use Rattle.heap_memory.specs.Memory.{Memory, own}
 use Rattle.heap_model.specs.Core.{Core, Ground, ground}
-use Rattle.memory_laws.specs.Follows.{IsMemory, kept_of}
+use Rattle.memory_laws.specs.CoreMemory.{IsMemory, kept_of}
 
 is_some_kept : (g : Ground) (g0 : Graph) (a : Account) (o : Option Transaction) → is_some (kept_of g g0 a o) ≡ is_some o
 is_some_kept g g0 a None = refl

@@ -9,9 +9,9 @@ use Rattle.image_plan.specs.declared.superblock.Super.{Super}
 use Rattle.heap_core.specs.declared.heap.Heap.{Heap}
 use Rattle.heap_memory.specs.Memory.{own}
 use Rattle.heap_model.specs.Core.{Core, IsStep}
-use Rattle.heap_model.specs.CoreCrash.{IsSuperOf, KeepsCommits}
+use Rattle.heap_model.specs.CoreCrash.{IsSuperOf, IsCommitPrefix}
 use Rattle.heap_model.specs.Image.{Holds}
-use Rattle.memory_laws.specs.Follows.{IsMemory}
+use Rattle.memory_laws.specs.CoreMemory.{IsMemory}
 use Rattle.working_state.specs.declared.working.Working.{Working}
 use Rattle.working_state.specs.State.{memory}
 
@@ -34,7 +34,7 @@ pub record Remembers (c : Core) (w : Working) (failed : Option ℕ) : Type 0 whe
 pub record DiskHolds (s : Super) (c : Core) (image : List ℕ) (may_leave : List ℕ → Type 0) : Type 0 where
   pub born : IsTrue c.born
   pub unfailed : (account c.history).failed ≡ None → OnDisk s c image may_leave
-  pub failed : (account c.history).failed ≢ None → (image : List ℕ) → may_leave image → KeepsCommits c image
+  pub failed : (account c.history).failed ≢ None → (image : List ℕ) → may_leave image → IsCommitPrefix c image
 
 -- An event was answered as from a core, and what is kept in memory is what that leaves.
 pub record Steps (c : Core) (event : Event) (reply : Reply) (w : Working) (failed : Option ℕ) : Type 0 where

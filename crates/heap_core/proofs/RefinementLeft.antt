@@ -8,8 +8,8 @@ use Rattle.disk_model.specs.Moments.{LeavesOnly, begins}
 use Rattle.disk_model.specs.declared.disk.DiskError.{DiskError}
 use Rattle.gate_slot.specs.Passing.{Passes}
 use Rattle.gated_log.specs.declared.Log.{Log}
-use Rattle.gated_log.specs.LogLaws.{hand_size-Keeps}
-use Rattle.gated_log.specs.LogState.{hand_size, is_waiting, IsHandEmpty, Keeps}
+use Rattle.gated_log.specs.LogLaws.{buffer_size-Keeps}
+use Rattle.gated_log.specs.LogState.{buffer_size, is_waiting, IsBufferEmpty, Keeps}
 use Rattle.graph_model.specs.declared.event.Event.{Event}
 use Rattle.graph_model.specs.declared.event.Event.TheVariants.{Begin, Root, New, Put, Clear, Link, Drop, Get, Same, Len, Seal, Abort, Force}
 use Rattle.graph_model.specs.declared.reply.Entry.{Entry}
@@ -25,7 +25,7 @@ use Rattle.log_records.specs.declared.Record.{Record}
 use Rattle.log_records.specs.Record.{spellings}
 use Rattle.heap_core.specs.Causes.{reply_device}
 use Rattle.heap_model.specs.Core.{Core, core_refusal, with_entry, force_calls, calls_if, calls}
-use Rattle.heap_model.specs.CoreCrash.{KeepsCommits}
+use Rattle.heap_model.specs.CoreCrash.{IsCommitPrefix}
 use Rattle.heap_model.specs.CoreLawsRun.{failed_refusal}
 use Rattle.core_laws.specs.Run.{calls-forced}
 use Rattle.core_laws.specs.Valid.{IsValid}
@@ -34,7 +34,7 @@ use Rattle.memory_laws.specs.LogLaws.{some_spellings}
 
 -- an entry that neither commits nor acknowledges anything
 keeps_entry : (c : Core) (event : Event) (reply : Reply) (b : Account) (image : List ℕ) → account_after (account c.history) (record { event = event; reply = reply }) ≡ b
-    → b.sealed ≡ sealed c.history → b.in_doubt ≡ (account c.history).in_doubt → b.acknowledged ≡ acknowledged c.history → KeepsCommits c image → KeepsCommits (with_entry c event reply) image
+    → b.sealed ≡ sealed c.history → b.in_doubt ≡ (account c.history).in_doubt → b.acknowledged ≡ acknowledged c.history → IsCommitPrefix c image → IsCommitPrefix (with_entry c event reply) image
 keeps_entry c event reply b image is same_sealed same_doubt same_acknowledged kept =
     let entry : Entry = record { event = event; reply = reply } in
     let said : account (c.history ++ entry ∷ []) ≡ b = account-append c.history entry ∙ is in
@@ -61,15 +61,15 @@ keeps_entry c event reply b image is same_sealed same_doubt same_acknowledged ke
     )
 
 -- a refusal that doesn't come from the disk
-pub keeps_refused : (c : Core) (event : Event) (why : Refusal) (image : List ℕ) → IsNoFault why → KeepsCommits c image → KeepsCommits (with_entry c event (Refused why)) image
+pub keeps_refused : (c : Core) (event : Event) (why : Refusal) (image : List ℕ) → IsNoFault why → IsCommitPrefix c image → IsCommitPrefix (with_entry c event (Refused why)) image
 keeps_refused c event why image sound kept = keeps_entry c event (Refused why) (record (account c.history) { entries = (account c.history).entries + 1 }) image (account_after-refused (account c.history) event why sound) refl refl refl kept
 
 -- a force that the disk cut short
-pub keeps_cut : (c : Core) (reply : Reply) (image : List ℕ) → (reply ≡ Refused DiskFault) ⊎ (reply ≡ Refused Stopped) → KeepsCommits c image → KeepsCommits (with_entry c Force reply) image
+pub keeps_cut : (c : Core) (reply : Reply) (image : List ℕ) → (reply ≡ Refused DiskFault) ⊎ (reply ≡ Refused Stopped) → IsCommitPrefix c image → IsCommitPrefix (with_entry c Force reply) image
 keeps_cut c reply image (inl told) kept =
-    subst (λ (r : Reply). KeepsCommits (with_entry c Force r) image) (sym told) (keeps_entry c Force (Refused DiskFault) _ image refl refl refl refl kept)
+    subst (λ (r : Reply). IsCommitPrefix (with_entry c Force r) image) (sym told) (keeps_entry c Force (Refused DiskFault) _ image refl refl refl refl kept)
 keeps_cut c reply image (inr told) kept =
-    subst (λ (r : Reply). KeepsCommits (with_entry c Force r) image) (sym told) (keeps_entry c Force (Refused Stopped) _ image refl refl refl refl kept)
+    subst (λ (r : Reply). IsCommitPrefix (with_entry c Force r) image) (sym told) (keeps_entry c Force (Refused Stopped) _ image refl refl refl refl kept)
 
 -- an event that asks nothing of the disk
 pub stays : {D : Type 0} (moment : D → ℕ) (left_since : D → ℕ → List ℕ → Type 0) (disk : D) (may_leave P : List ℕ → Type 0)
@@ -118,16 +118,16 @@ hand_calls n (r ∷ rs) is = ap (λ b. cond b 4 0) (lt-ltb 4 n (omega (arith, is
 pub force_passes : (c : Core) (log : Log) (before now : ℕ) (result : Result (Unit {0}) DiskError) → IsValid c → Keeps log c.batches c.pending
     → Passes (if is_waiting log then 4 else 0) before now result → Passes (calls c Force) before now result
 force_passes c log before now result valid keeps passes =
-    subst (λ (n : ℕ). Passes n before now result) (hand_calls (hand_size log) c.pending (hand_size-Keeps log c.batches c.pending keeps) ∙ sym (calls-forced c valid)) passes
+    subst (λ (n : ℕ). Passes n before now result) (hand_calls (buffer_size log) c.pending (buffer_size-Keeps log c.batches c.pending keeps) ∙ sym (calls-forced c valid)) passes
 
 nothing_pending : (p : List Record) → force_calls p ≡ 0 → p ≡ []
 nothing_pending [] none = refl
 nothing_pending (r ∷ rs) none = absurd (omega (arith, none))
 
--- and finds an empty hand where it makes none
-pub no_calls_empty : (c : Core) (log : Log) → IsValid c → Keeps log c.batches c.pending → calls c Force ≡ 0 → IsHandEmpty log
+-- and finds an empty buffer where it makes none
+pub no_calls_empty : (c : Core) (log : Log) → IsValid c → Keeps log c.batches c.pending → calls c Force ≡ 0 → IsBufferEmpty log
 no_calls_empty c log valid keeps none =
-    hand_size-Keeps log c.batches c.pending keeps ∙ ap (λ (p : List Record). 4 + length (spellings p)) (nothing_pending c.pending (sym (calls-forced c valid) ∙ none))
+    buffer_size-Keeps log c.batches c.pending keeps ∙ ap (λ (p : List Record). 4 + length (spellings p)) (nothing_pending c.pending (sym (calls-forced c valid) ∙ none))
 
 -- what holds anyway holds after an error
 pub on_error : {T E P : Type 0} (result : Result T E) → P → OnErr result P
