@@ -22,10 +22,15 @@ RUNS = 5
 
 
 def run(words, text=""):
-    """The output of a run of the program in the current folder, and its seconds."""
-    began = time.perf_counter()
-    ran = subprocess.run([PROGRAM, *words], input=text.encode(), stdout=subprocess.PIPE, check=True)
-    return ran.stdout.decode(), time.perf_counter() - began
+    """The output of a run of the program in the current folder, and its seconds. Script and output are files: a pipe would wake its reader at each line."""
+    with open("script", "w") as script:
+        script.write(text)
+    with open("script") as script, open("output", "w") as output:
+        began = time.perf_counter()
+        subprocess.run([PROGRAM, *words], stdin=script, stdout=output, check=True)
+        seconds = time.perf_counter() - began
+    with open("output") as output:
+        return output.read(), seconds
 
 
 def script(commits):
