@@ -98,9 +98,9 @@ fn the_first_bad_line_is_told(rt: HostRuntime) -> Result<(), Fail> {
         ("1 len -1", Err(1)),
         ("1 len 0x1", Err(1)),
     ];
-    for (script, want) in cases {
+    for (script, want) in &cases {
         let found = outcome(rt.alloc(), script.as_bytes())?;
-        assert!(rt; found == want, "at {script}");
+        assert!(rt; found == *want, "at {script}");
     }
     Ok(())
 }
@@ -136,9 +136,9 @@ fn a_session_is_a_number_from_1_to_32(rt: HostRuntime) -> Result<(), Fail> {
         ("2 force", Err(1)),
         ("33 force", Err(1)),
     ];
-    for (script, want) in cases {
+    for (script, want) in &cases {
         let found = outcome(rt.alloc(), script.as_bytes())?;
-        assert!(rt; found == want, "at {script}");
+        assert!(rt; found == *want, "at {script}");
     }
     Ok(())
 }
