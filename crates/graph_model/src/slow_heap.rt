@@ -269,6 +269,3 @@ fn lesser(number: u32, other: Option<u32>) -> u32
         Some(m) => number.min(m),
     }
 }
-
-#[cfg(test)]
-mod tests;

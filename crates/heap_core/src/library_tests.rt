@@ -10,7 +10,8 @@ ghost use Rattle.heap_core.specs.Rounds.{IsRound, Rounds};
 
 use crate::errors::OpenError;
 use crate::heap::Heap;
-use disk_model::{Disk, MemoryDisk, Pick};
+use crate::opening_tests::{expect, make_heap};
+use disk_model::{Disk, Pick};
 use graph_model::Event;
 use std::alloc::{AllocError, Global};
 use std::test::Fail;
@@ -87,26 +88,10 @@ const EVENTS: [Event; 9] = [
 #[test]
 fn three_rounds(rt: HostRuntime) -> Result<(), Fail> {
     let alloc = rt.alloc();
-    let zeros = vec![in alloc; 0u8; 80_000]?;
-    let disk = MemoryDisk::of(
-        alloc,
-        zeros,
-        Pick::Synced,
-        80_000,
-        Vec::new(alloc),
-        Vec::new(alloc),
-    )?;
-    let Ok(disk) = Heap::format(disk, 1, 1024, 1) else {
-        panic!(rt; "not made");
-    };
+    let disk = make_heap(&rt, alloc, Pick::Synced)?;
     let Ok(disk) = rounds(alloc, disk, &EVENTS, 3) else {
         panic!(rt; "not gone on");
     };
-    let Ok(heap) = Heap::open(alloc, disk) else {
-        panic!(rt; "not opened");
-    };
-    assert_eq!(rt; heap.commits(), 3);
-    let text = heap.graph(alloc)?;
-    assert_eq!(rt; text.as_slice(), b"graph 1\n0: 7 - - -\n".as_slice());
+    expect(&rt, alloc, disk, 3, "graph 1\n0: 7 - - -\n")?;
     Ok(())
 }

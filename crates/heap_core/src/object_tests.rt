@@ -1,14 +1,12 @@
 //! Objects that transactions make, on a disk that is stopped and started again: what a sealed one made reachable is there, and what
 //! another made is not.
 use crate::heap::Heap;
-use crate::opening_tests::{PICKS, make_disk, open};
+use crate::opening_tests::{LOG_BYTES, PICKS, ask, compare, expect, make_heap, open};
 use disk_model::{Disk, MemoryDisk, Pick};
 use graph_model::{Event, Reply};
 use std::alloc::{AllocError, Global};
 use std::process::Abort;
 use std::test::Fail;
-
-pub const LOG_BYTES: u32 = 1024;
 
 /// An event and what it is answered.
 pub type Step = (Event, Reply);
@@ -93,6 +91,10 @@ fn second_session() -> [Step; 12] {
     ]
 }
 
+const FIRST_GRAPH: &str = "graph 3\n0: - @1 - -\n1: @2 @1\n2: 5 @0\n";
+
+const SECOND_GRAPH: &str = "graph 4\n0: - @1 - -\n1: @2 @1\n2: @3 @0\n3: -\n";
+
 /// Makes these steps, which get these answers, and stops the disk and starts it again.
 pub fn play(
     rt: &impl Abort,
@@ -102,8 +104,8 @@ pub fn play(
 ) -> Result<MemoryDisk, AllocError> {
     let mut heap = open(rt, alloc, disk);
     for (event, reply) in steps {
-        assert!(rt; event.is_of_session());
-        assert_eq!(rt; heap.step(*event)?, *reply, "{event}");
+        let found = ask(rt, &mut heap, *event)?;
+        compare(rt, (*event, found), (*event, *reply));
     }
     let mut disk = heap.close();
     disk.restart();
@@ -113,21 +115,12 @@ pub fn play(
 #[test]
 fn what_was_sealed_is_reached(rt: HostRuntime) -> Result<(), Fail> {
     let alloc = rt.alloc();
-    for pick in PICKS {
-        let disk = match Heap::format(make_disk(alloc, pick)?, 1, LOG_BYTES, 1) {
-            Ok(disk) => disk,
-            Err((e, _)) => panic!(rt; "not made: {e:?}"),
-        };
+    for pick in &PICKS {
+        let disk = make_heap(&rt, alloc, *pick)?;
         let disk = play(&rt, alloc, disk, &first_session())?;
-        let heap = open(&rt, alloc, disk);
-        assert_eq!(rt; heap.commits(), 1);
-        let graph = b"graph 3\n0: - @1 - -\n1: @2 @1\n2: 5 @0\n".as_slice();
-        assert_eq!(rt; heap.graph(alloc)?.as_slice(), graph);
-        let disk = play(&rt, alloc, heap.close(), &second_session())?;
-        let heap = open(&rt, alloc, disk);
-        assert_eq!(rt; heap.commits(), 2);
-        let graph = b"graph 4\n0: - @1 - -\n1: @2 @1\n2: @3 @0\n3: -\n".as_slice();
-        assert_eq!(rt; heap.graph(alloc)?.as_slice(), graph);
+        let disk = expect(&rt, alloc, disk, 1, FIRST_GRAPH)?;
+        let disk = play(&rt, alloc, disk, &second_session())?;
+        expect(&rt, alloc, disk, 2, SECOND_GRAPH)?;
     }
     Ok(())
 }
@@ -138,17 +131,20 @@ const MOST_PAGES: u32 = 16_384;
 /// The bytes of a heap of so many pages: the superblock, the log, and two frames for each page of both spaces.
 const LARGEST_BYTES: usize = 34_604_096;
 
-#[test]
-fn the_largest_heap_is_made_and_opened(rt: HostRuntime) -> Result<(), Fail> {
-    let alloc = rt.alloc();
+fn make_largest(rt: &impl Abort, alloc: Global) -> Result<MemoryDisk, AllocError> {
     let zeros = vec![in alloc; 0u8; LARGEST_BYTES]?;
     let room = LARGEST_BYTES + 65_536;
     let none = Vec::new(alloc);
     let disk = MemoryDisk::of(alloc, zeros, Pick::Synced, room, none, Vec::new(alloc))?;
-    let disk = match Heap::format(disk, MOST_PAGES, LOG_BYTES, 1) {
-        Ok(disk) => disk,
+    match Heap::format(disk, MOST_PAGES, LOG_BYTES, 1) {
+        Ok(disk) => Ok(disk),
         Err((e, _)) => panic!(rt; "not made: {e:?}"),
-    };
+    }
+}
+
+#[test]
+fn the_largest_heap_is_made_and_opened(rt: HostRuntime) -> Result<(), Fail> {
+    let alloc = rt.alloc();
     let steps = [
         begin(1),
         root(0),
@@ -157,9 +153,7 @@ fn the_largest_heap_is_made_and_opened(rt: HostRuntime) -> Result<(), Fail> {
         seal(1),
         force(1),
     ];
-    let disk = play(&rt, alloc, disk, &steps)?;
-    let heap = open(&rt, alloc, disk);
-    let graph = b"graph 2\n0: - - - @1\n1: -\n".as_slice();
-    assert_eq!(rt; heap.graph(alloc)?.as_slice(), graph);
+    let disk = play(&rt, alloc, make_largest(&rt, alloc)?, &steps)?;
+    expect(&rt, alloc, disk, 1, "graph 2\n0: - - - @1\n1: -\n")?;
     Ok(())
 }

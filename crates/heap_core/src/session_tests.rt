@@ -1,7 +1,6 @@
 //! Two sessions side by side, on a disk that is stopped and started again: what the one has sealed is there, and what the other wrote is not.
-use crate::heap::Heap;
-use crate::object_tests::{LOG_BYTES, Step, play};
-use crate::opening_tests::{PICKS, make_disk, open};
+use crate::object_tests::{Step, play};
+use crate::opening_tests::{PICKS, ask, compare, expect, make_heap, open};
 use graph_model::{Event, Refusal, Reply};
 use std::test::Fail;
 
@@ -67,16 +66,10 @@ fn side_by_side() -> [Step; 21] {
 #[test]
 fn what_the_other_session_wrote_is_taken_back(rt: HostRuntime) -> Result<(), Fail> {
     let alloc = rt.alloc();
-    for pick in PICKS {
-        let disk = match Heap::format(make_disk(alloc, pick)?, 1, LOG_BYTES, 1) {
-            Ok(disk) => disk,
-            Err((e, _)) => panic!(rt; "not made: {e:?}"),
-        };
+    for pick in &PICKS {
+        let disk = make_heap(&rt, alloc, *pick)?;
         let disk = play(&rt, alloc, disk, &side_by_side())?;
-        let heap = open(&rt, alloc, disk);
-        assert_eq!(rt; heap.commits(), 2);
-        let graph = b"graph 3\n0: @1 @2 - -\n1: 5\n2: -\n".as_slice();
-        assert_eq!(rt; heap.graph(alloc)?.as_slice(), graph);
+        expect(&rt, alloc, disk, 2, "graph 3\n0: @1 @2 - -\n1: 5\n2: -\n")?;
     }
     Ok(())
 }
@@ -84,15 +77,10 @@ fn what_the_other_session_wrote_is_taken_back(rt: HostRuntime) -> Result<(), Fai
 #[test]
 fn the_last_session_is_one(rt: HostRuntime) -> Result<(), Fail> {
     let alloc = rt.alloc();
-    let disk = match Heap::format(make_disk(alloc, PICKS[0])?, 1, LOG_BYTES, 1) {
-        Ok(disk) => disk,
-        Err((e, _)) => panic!(rt; "not made: {e:?}"),
-    };
-    let mut heap = open(&rt, alloc, disk);
-    assert_eq!(rt; heap.step(Event::Begin { s: 32 })?, Reply::Begun { n: 1 });
-    assert!(rt; heap.active(32));
-    for s in [0, 1, 31, 33] {
-        assert!(rt; !heap.active(s));
-    }
+    let mut heap = open(&rt, alloc, make_heap(&rt, alloc, PICKS[0])?);
+    let begun = ask(&rt, &mut heap, Event::Begin { s: 32 })?;
+    compare(&rt, begun, Reply::Begun { n: 1 });
+    let active = [0, 1, 31, 32, 33].map(|s| heap.active(s));
+    compare(&rt, active, [false, false, false, true, false]);
     Ok(())
 }

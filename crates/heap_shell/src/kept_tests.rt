@@ -1,6 +1,6 @@
 //! A heap that is kept from one run to the next: made, played on, printed, and refused where it can't be opened.
 use crate::Status;
-use crate::tests::{ONE_COMMIT, Played, make_disk, play_on};
+use crate::tests::{ONE_COMMIT, PICKS, Played, expect_played, make_disk, play_on, same};
 use disk_model::{MemoryDisk, Pick};
 use graph_model::{Event, Refusal, Reply};
 use heap_core::Heap;
@@ -46,8 +46,7 @@ fn expect(
     disk: MemoryDisk,
 ) -> Result<MemoryDisk, Fail> {
     let (played, disk) = run_on(alloc, line, script, disk)?;
-    assert_eq!(rt; played.status, status);
-    assert_eq!(rt; played.output.as_slice(), output.as_bytes());
+    expect_played(rt, &played, status, output.as_bytes());
     Ok(disk)
 }
 
@@ -75,7 +74,7 @@ fn a_heap_is_made_played_on_and_printed(rt: HostRuntime) -> Result<(), Fail> {
     let unended =
         "1 begin -> begun 3\n1 root 0 -> done\n1 put 0 2 9 -> done\nforce -> durable 0\nrecovered 0\ngraph 1\n0: 7 8 - -\n";
     let mut disk = small_heap(&rt, alloc)?;
-    for (line, script, output) in [
+    let runs = [
         ("heap graph", "", "graph 1\n0: - - - -\n"),
         ("heap play", ONE_COMMIT, first),
         ("heap graph", "no script", "graph 1\n0: 7 - - -\n"),
@@ -95,8 +94,9 @@ fn a_heap_is_made_played_on_and_printed(rt: HostRuntime) -> Result<(), Fail> {
             unended,
         ),
         ("heap graph", "", "graph 1\n0: 7 8 - -\n"),
-    ] {
-        disk = expect(&rt, alloc, (line, script), (Status::Done, output), disk)?;
+    ];
+    for (line, script, output) in &runs {
+        disk = expect(&rt, alloc, (*line, *script), (Status::Done, *output), disk)?;
     }
     Ok(())
 }
@@ -131,27 +131,36 @@ fn heap_with_a_loser(rt: &impl Abort, alloc: Global) -> Result<Vec<u8>, Fail> {
     Ok(disk.contents().to_vec(alloc)?)
 }
 
+/// Runs that are stopped in their opening, and once more in the one behind it.
+const CUT_OFF: [&str; 4] = [
+    "heap play --stop 0",
+    "heap play --stop 1",
+    "heap play --stop 2",
+    "heap play --stop 3 --again 1",
+];
+
+fn expect_cut_off(
+    rt: &impl Abort,
+    alloc: Global,
+    image: Vec<u8>,
+    pick: Pick,
+    line: &str,
+) -> Result<(), Fail> {
+    let disk = disk_of(alloc, image, pick, Vec::new(alloc))?;
+    let recovered = (Status::Done, "recovered 0\ngraph 1\n0: 7 - - -\n");
+    let disk = expect(rt, alloc, (line, ONE_COMMIT), recovered, disk)?;
+    let printed = (Status::Done, "graph 1\n0: 7 - - -\n");
+    expect(rt, alloc, ("heap graph", ""), printed, disk)?;
+    Ok(())
+}
+
 #[test]
 fn an_opening_that_is_stopped_recovers_none_of_the_run(rt: HostRuntime) -> Result<(), Fail> {
     let alloc = rt.alloc();
     let image = heap_with_a_loser(&rt, alloc)?;
-    let text = "recovered 0\ngraph 1\n0: 7 - - -\n";
-    for pick in [Pick::Synced, Pick::Newest, Pick::AllOnes, Pick::AllOpen] {
-        for line in [
-            "heap play --stop 0",
-            "heap play --stop 1",
-            "heap play --stop 2",
-            "heap play --stop 3 --again 1",
-        ] {
-            let disk = disk_of(alloc, image.clone()?, pick, Vec::new(alloc))?;
-            let disk = expect(&rt, alloc, (line, ONE_COMMIT), (Status::Done, text), disk)?;
-            expect(
-                &rt,
-                alloc,
-                ("heap graph", ""),
-                (Status::Done, "graph 1\n0: 7 - - -\n"),
-                disk,
-            )?;
+    for pick in &PICKS {
+        for line in &CUT_OFF {
+            expect_cut_off(&rt, alloc, image.clone()?, *pick, line)?;
         }
     }
     Ok(())
@@ -202,42 +211,51 @@ fn spoiled(image: &Vec<u8>, at: usize, byte: u8) -> Result<Vec<u8>, AllocError> 
     Ok(bytes)
 }
 
+/// A place in the image, another byte for it, and what that comes to: the gate of the superblock, its letters, its limits, and then an open
+/// batch of no bytes behind which a gate is open that has no batch.
+const SPOILED: [(usize, u8, Status); 8] = [
+    (0, 0, Status::NotHeap),
+    (0, 2, Status::NotHeap),
+    (1, b'S', Status::NotHeap),
+    (12, 0, Status::NotHeap),
+    (63, 1, Status::NotHeap),
+    (64, 2, Status::Done),
+    (64, 1, Status::Done),
+    (69, 1, Status::Done),
+];
+
+/// Runs a command on the bytes, which writes nothing where it refuses them.
+fn expect_opened(
+    rt: &impl Abort,
+    alloc: Global,
+    bytes: Vec<u8>,
+    line: &str,
+    status: Status,
+) -> Result<(), Fail> {
+    let disk = disk_of(alloc, bytes, Pick::Newest, Vec::new(alloc))?;
+    let (played, _) = run_on(alloc, line, "", disk)?;
+    let silent = played.output.is_empty();
+    same(
+        rt,
+        (line, played.status, silent),
+        (line, status, status != Status::Done),
+    );
+    Ok(())
+}
+
 #[test]
 fn what_is_no_heap_or_damaged_is_refused(rt: HostRuntime) -> Result<(), Fail> {
     let alloc = rt.alloc();
     let image = small_heap(&rt, alloc)?.contents().to_vec(alloc)?;
-    // The gate of the superblock, its letters, its limits, and then an open batch of no bytes behind which a gate is open that has no batch.
-    let cases = [
-        (0, 0, Status::NotHeap),
-        (0, 2, Status::NotHeap),
-        (1, b'S', Status::NotHeap),
-        (12, 0, Status::NotHeap),
-        (63, 1, Status::NotHeap),
-        (64, 2, Status::Done),
-        (64, 1, Status::Done),
-        (69, 1, Status::Done),
-    ];
-    for (at, byte, status) in cases {
-        for line in ["heap graph", "heap play", "heap play --stop 0"] {
-            let bytes = spoiled(&image, at, byte)?;
-            let disk = disk_of(alloc, bytes, Pick::Newest, Vec::new(alloc))?;
-            let (played, _) = run_on(alloc, line, "", disk)?;
-            assert_eq!(rt; played.status, status);
-            if status != Status::Done {
-                assert!(rt; played.output.is_empty());
-            }
+    for (at, byte, status) in &SPOILED {
+        let bytes = spoiled(&image, *at, *byte)?;
+        for line in &["heap graph", "heap play", "heap play --stop 0"] {
+            expect_opened(&rt, alloc, bytes.clone()?, line, *status)?;
         }
     }
     let bytes = spoiled(&spoiled(&image, 64, 1)?, 65, 1)?;
-    let disk = disk_of(alloc, bytes, Pick::Newest, Vec::new(alloc))?;
-    expect(
-        &rt,
-        alloc,
-        ("heap graph", ""),
-        (Status::Damaged { at: At::Batch(0) }, ""),
-        disk,
-    )?;
-    Ok(())
+    let damaged = Status::Damaged { at: At::Batch(0) };
+    expect_opened(&rt, alloc, bytes, "heap graph", damaged)
 }
 
 #[test]
@@ -254,25 +272,43 @@ fn a_fault_in_a_force_ends_the_run_and_fails_the_heap(rt: HostRuntime) -> Result
         (Status::DiskFault, lines),
         disk,
     )?;
-    // A step behind the fifth entry tells it.
-    let disk = disk_of(alloc, image, Pick::Newest, vec![in alloc; 2u64]?)?;
-    let mut heap = match Heap::open(alloc, disk) {
-        Ok(heap) => heap,
-        Err((e, _)) => return Err(Fail::from(e)),
-    };
-    heap.step(Event::Begin { s: 1 })?;
-    heap.step(Event::Root { s: 1, h: 0 })?;
-    heap.step(Event::Put {
+    expect_failed(
+        &rt,
+        alloc,
+        disk_of(alloc, image, Pick::Newest, vec![in alloc; 2u64]?)?,
+    )
+}
+
+/// Five events of which the last one meets a fault.
+const FIVE: [Event; 5] = [
+    Event::Begin { s: 1 },
+    Event::Root { s: 1, h: 0 },
+    Event::Put {
         s: 1,
         h: 0,
         i: 0,
         v: 7,
-    })?;
-    heap.step(Event::Seal { s: 1 })?;
-    heap.step(Event::Force)?;
+    },
+    Event::Seal { s: 1 },
+    Event::Force,
+];
+
+fn step(rt: &impl Abort, heap: &mut Heap<MemoryDisk>, event: Event) -> Result<Reply, AllocError> {
+    assert!(rt; event.is_of_session());
+    heap.step(event)
+}
+
+/// A step behind the fifth entry tells it.
+fn expect_failed(rt: &impl Abort, alloc: Global, disk: MemoryDisk) -> Result<(), Fail> {
+    let Ok(mut heap) = Heap::open(alloc, disk) else {
+        panic!(rt; "not opened");
+    };
+    for event in &FIVE {
+        step(rt, &mut heap, *event)?;
+    }
     let failed = Reply::Refused {
         why: Refusal::Failed { entry: 5 },
     };
-    assert_eq!(rt; heap.step(Event::Force)?, failed);
+    same(rt, step(rt, &mut heap, Event::Force)?, failed);
     Ok(())
 }

@@ -1,7 +1,7 @@
 //! A script played with a stop at each of its device calls, by each pick of a restart: the first commits come back, and
 //! among them all that were acknowledged. What is expected comes from the slow heap, which has no log and no disk.
 use crate::Status;
-use crate::tests::{ONE_COMMIT, Played, make_disk, play_on};
+use crate::tests::{ONE_COMMIT, Played, expect_played, make_disk, play_on, same};
 use disk_model::Pick;
 use graph_model::{Entry, Event, SlowHeap};
 use script_text::{Line, read_script};
@@ -172,30 +172,26 @@ fn check_played(
     pick: Pick,
     calls: usize,
 ) -> Result<(bool, usize), Fail> {
-    assert_eq!(rt; played.status, Status::Done);
+    same(rt, played.status, Status::Done);
     let found = read_restarted(&played.output).expect(rt, "no number of commits");
-    let stopped = found.lines.ends_with("force -> stopped\n");
-    assert!(rt;
-        are_first(found.lines, told.lines.as_str()),
-        "{pick:?}, {calls}"
-    );
-    assert_eq!(rt; count_lines(found.graph, "recovered "), 0);
-    assert!(rt;
-        acknowledged(found.lines) <= found.recovered,
-        "{pick:?}, {calls}"
-    );
-    assert!(rt;
-        found.recovered <= count_lines(found.lines, " seal -> sealed "),
-        "{pick:?}, {calls}"
-    );
+    assert!(rt; is_told(told, found), "{pick:?}, {calls}");
+    check_graph(rt, told, found)?;
+    Ok((found.lines.ends_with("force -> stopped\n"), found.recovered))
+}
+
+/// Whether the lines are the first ones that were told, and those commits came back that they acknowledge, and no more than they seal.
+fn is_told(told: &Told<'_>, found: Restarted<'_>) -> bool {
+    are_first(found.lines, told.lines.as_str())
+        && acknowledged(found.lines) <= found.recovered
+        && found.recovered <= count_lines(found.lines, " seal -> sealed ")
+}
+
+/// Compares the graph, which is the end of what was printed, with that of as many commits as came back.
+fn check_graph(rt: &impl Abort, told: &Told<'_>, found: Restarted<'_>) -> Result<(), AllocError> {
     assert!(rt; found.recovered <= told.heap.sealed());
     let graph = told.heap.text(found.recovered)?;
-    assert_eq!(rt;
-        found.graph.as_bytes(),
-        graph.as_slice(),
-        "{pick:?}, {calls}"
-    );
-    Ok((stopped, found.recovered))
+    same(rt, found.graph.as_bytes(), graph.as_slice());
+    Ok(())
 }
 
 /// How many commits come back after each stop, of the first call and of each one behind it until none stops.
@@ -213,11 +209,8 @@ fn check_stops(
         }
         recovered.push(commits)?;
     }
-    assert_eq!(rt;
-        recovered.len(),
-        told.forces.len().saturating_mul(FORCE_CALLS),
-        "{pick:?}"
-    );
+    let calls = told.forces.len().saturating_mul(FORCE_CALLS);
+    same(rt, (pick, recovered.len()), (pick, calls));
     Ok(recovered)
 }
 
@@ -227,8 +220,7 @@ fn expect_whole(rt: &impl Abort, alloc: Global, told: &Told<'_>, ending: &str) -
     let mut output = told.lines.clone()?.into_bytes();
     output.extend_from_slice(ending.as_bytes())?;
     output.extend_from_slice(&told.heap.text(told.heap.sealed())?)?;
-    assert_eq!(rt; played.status, Status::Done);
-    assert_eq!(rt; played.output.as_slice(), output.as_slice());
+    expect_played(rt, &played, Status::Done, &output);
     Ok(())
 }
 
@@ -238,7 +230,7 @@ fn expect_doubt(rt: &impl Abort, forces: &[usize], lost: &[usize], kept: &[usize
         let last = calls % FORCE_CALLS == FORCE_CALLS - 1;
         let forced = forces.get(calls / FORCE_CALLS).copied().unwrap_or(0);
         let doubt = if last { forced } else { 0 };
-        assert_eq!(rt; *kept, lost.saturating_add(doubt), "{calls}");
+        same(rt, (calls, *kept), (calls, lost.saturating_add(doubt)));
     }
 }
 
@@ -340,6 +332,66 @@ fn write_begin(script: &mut String, s: u32, field: u64) -> Result<(), AllocError
     Ok(())
 }
 
+/// The calls that are drawn, each as often as it stands here, and which of the three drawn numbers it names.
+const DRAWN_CALLS: [(&str, &[usize]); 14] = [
+    (" len", &[0]),
+    (" drop", &[0]),
+    (" new", &[0, 1]),
+    (" new", &[0, 1]),
+    (" link", &[0, 1, 2]),
+    (" link", &[0, 1, 2]),
+    (" link", &[0, 1, 2]),
+    (" put", &[0, 1, 2]),
+    (" put", &[0, 1, 2]),
+    (" put", &[0, 1, 2]),
+    (" get", &[0, 1, 2]),
+    (" get", &[0, 1, 2]),
+    (" same", &[0, 2]),
+    (" clear", &[0, 1]),
+];
+
+fn write_number(script: &mut String, number: u64) -> Result<(), AllocError> {
+    Ok(write!(script, " {number}")?)
+}
+
+fn write_call(
+    script: &mut String,
+    s: u32,
+    (verb, named): (&str, &[usize]),
+    numbers: [u64; 3],
+) -> Result<(), AllocError> {
+    write!(script, "{s}{verb}")?;
+    for place in named {
+        if let Some(number) = numbers.get(*place) {
+            write_number(script, *number)?;
+        }
+    }
+    script.push('\n')
+}
+
+/// Writes a drawn line: a call, a force, or the end of a transaction.
+fn write_drawn(
+    script: &mut String,
+    s: u32,
+    kind: usize,
+    numbers: [u64; 3],
+) -> Result<(), AllocError> {
+    match DRAWN_CALLS.get(kind) {
+        Some(call) => write_call(script, s, *call, numbers),
+        None if kind == DRAWN_CALLS.len() => script.push_str("force\n"),
+        None => write_end(script, s, numbers[1], numbers[0]),
+    }
+}
+
+/// The transactions of these sessions begin.
+fn draw_begin(alloc: Global, sessions: [u32; 4]) -> Result<String, AllocError> {
+    let mut script = String::from_str(alloc, SHARED)?;
+    for (i, s) in sessions.iter().rev().enumerate() {
+        write_begin(&mut script, *s, i as u64 % 3)?;
+    }
+    Ok(script)
+}
+
 /// A script of which so many lines are drawn by a seed: in transactions of these sessions, which are sealed or taken back and forced in
 /// between, objects are made, linked, let go and looked at. Each session has a transaction at its end.
 fn draw_script(
@@ -348,42 +400,28 @@ fn draw_script(
     sessions: [u32; 4],
     lines: usize,
 ) -> Result<String, AllocError> {
-    let mut script = String::from_str(alloc, SHARED)?;
-    for (i, s) in sessions.iter().rev().enumerate() {
-        write_begin(&mut script, *s, i as u64 % 3)?;
-    }
+    let mut script = draw_begin(alloc, sessions)?;
     let mut state = seed;
     for _ in 0..lines {
         state = state
             .wrapping_mul(6_364_136_223_846_793_005)
             .wrapping_add(1_442_695_040_888_963_407);
         let s = sessions[(state >> 51) as usize % 4];
-        let h = (state >> 33) % 3;
-        let h2 = (state >> 37) % 3;
-        let i = (state >> 41) % 3;
-        match (state >> 45) % 16 {
-            0 => writeln!(script, "{s} len {h}")?,
-            1 => writeln!(script, "{s} drop {h}")?,
-            2 | 3 => writeln!(script, "{s} new {h} {i}")?,
-            4 | 5 | 6 => writeln!(script, "{s} link {h} {i} {h2}")?,
-            7 | 8 | 9 => writeln!(script, "{s} put {h} {i} {h2}")?,
-            10 | 11 => writeln!(script, "{s} get {h} {i} {h2}")?,
-            12 => writeln!(script, "{s} same {h} {h2}")?,
-            13 => writeln!(script, "{s} clear {h} {i}")?,
-            14 => writeln!(script, "force")?,
-            _ => write_end(&mut script, s, i, h)?,
-        }
+        // A handle, a field, and a second handle.
+        let numbers = [(state >> 33) % 3, (state >> 41) % 3, (state >> 37) % 3];
+        write_drawn(&mut script, s, (state >> 45) as usize % 16, numbers)?;
     }
     Ok(script)
 }
 
 /// Ends the transaction of a session in one of three ways, and begins the next one.
 fn write_end(script: &mut String, s: u32, way: u64, field: u64) -> Result<(), AllocError> {
-    match way {
-        0 => writeln!(script, "{s} abort")?,
-        1 => writeln!(script, "{s} seal")?,
-        _ => writeln!(script, "{s} commit")?,
-    }
+    let verb = match way {
+        0 => "abort",
+        1 => "seal",
+        _ => "commit",
+    };
+    writeln!(script, "{s} {verb}")?;
     write_begin(script, s, field)
 }
 
@@ -452,11 +490,11 @@ fn check_table(
 ) -> Result<(), Fail> {
     let script = draw_script(alloc, seed, sessions, STOPPED_LINES)?;
     let told = Told::of(rt, alloc, script.as_str())?;
-    assert_eq!(rt; told.forces.len(), FORCES);
+    same(rt, told.forces.len(), FORCES);
     for calls in stops {
         let once = play_to(alloc, told.script, pick, calls)?;
         let (stopped, _) = check_played(rt, &told, &once, pick, calls)?;
-        assert_eq!(rt; stopped, calls < FORCES * FORCE_CALLS);
+        same(rt, (calls, stopped), (calls, calls < FORCES * FORCE_CALLS));
         if calls >= FORCE_CALLS {
             for again in 0..FORCE_CALLS {
                 expect_same(rt, alloc, &once, &told, pick, (calls, again))?;
@@ -607,12 +645,13 @@ fn expect_same(
 ) -> Result<(), Fail> {
     let line = format!(in alloc; "{FRESH} --stop {calls} --again {again}")?;
     let twice = play_by(alloc, line.as_str(), told.script, pick)?;
-    assert_eq!(rt; twice.status, Status::Done);
-    assert_eq!(rt;
-        twice.output.as_slice(),
-        once.output.as_slice(),
-        "{pick:?}, {calls}, {again}"
+    let output = twice.output.as_slice();
+    same(
+        rt,
+        (line.as_str(), output),
+        (line.as_str(), once.output.as_slice()),
     );
+    same(rt, twice.status, Status::Done);
     Ok(())
 }
 

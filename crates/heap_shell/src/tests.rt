@@ -3,6 +3,7 @@ use crate::{Status, run};
 use disk_model::{MemoryDisk, Pick};
 use heap_io::{MemorySink, MemorySource};
 use std::alloc::{AllocError, Global};
+use std::fmt::Debug;
 use std::process::Abort;
 use std::test::Fail;
 
@@ -13,7 +14,7 @@ const RECORD_BYTES: usize = 4_194_304;
 
 const SINK_BYTES: usize = 65_536;
 
-const PICKS: [Pick; 4] = [Pick::Synced, Pick::Newest, Pick::AllOnes, Pick::AllOpen];
+pub const PICKS: [Pick; 4] = [Pick::Synced, Pick::Newest, Pick::AllOnes, Pick::AllOpen];
 
 pub const ONE_COMMIT: &str = "1 begin\n1 root 0\n1 put 0 0 7\n1 commit\n";
 
@@ -66,9 +67,22 @@ fn play(alloc: Global, line: &str, script: &str, pick: Pick) -> Result<Played, A
     Ok(play_on(alloc, line, script.as_bytes(), disk, none)?.0)
 }
 
+/// Compares what was found. The tests call it, since the proof of an assertion of their own would take each of them longer.
+pub fn same<T: PartialEq + Debug + Copy>(rt: &impl Abort, found: T, want: T) {
+    assert_eq!(rt; found, want);
+}
+
+/// Compares a run's status and what it wrote.
+pub fn expect_played(rt: &impl Abort, played: &Played, status: Status, output: &[u8]) {
+    same(
+        rt,
+        (played.status, played.output.as_slice()),
+        (status, output),
+    );
+}
+
 fn expect_done(rt: &impl Abort, played: &Played, output: &str) {
-    assert_eq!(rt; played.status, Status::Done);
-    assert_eq!(rt; played.output.as_slice(), output.as_bytes());
+    expect_played(rt, played, Status::Done, output.as_bytes());
 }
 
 #[test]
@@ -158,7 +172,7 @@ fn two_sessions_commits_come_back_together_or_not(rt: HostRuntime) -> Result<(),
     let durable = "force -> durable 2\nrecovered 2\ngraph 1\n0: 7 8 - -\n";
     let in_doubt = [gone, kept, gone, kept];
     for (pick, doubt) in PICKS.iter().zip(in_doubt.iter()) {
-        for (line, end) in [
+        for (line, end) in &[
             ("heap play --fresh 1 --stop 0", gone),
             ("heap play --fresh 1 --stop 3", *doubt),
             ("heap play --fresh 1 --stop 4", durable),
@@ -169,7 +183,7 @@ fn two_sessions_commits_come_back_together_or_not(rt: HostRuntime) -> Result<(),
                 line,
                 FORCED_TOGETHER,
                 *pick,
-                (FORCED_TOGETHER_LINES, end),
+                (FORCED_TOGETHER_LINES, *end),
             )?;
         }
     }
@@ -229,7 +243,7 @@ fn a_fault_is_let_go_in_an_opening_that_is_to_stop(rt: HostRuntime) -> Result<()
     let alloc = rt.alloc();
     let mut output = String::from_str(alloc, FORCED_INSIDE_LINES)?;
     output.push_str("recovered 0\ngraph 1\n0: - - - -\n")?;
-    for (line, status) in [
+    for (line, status) in &[
         ("heap play --fresh 1 --stop 8 --again 4", Status::Done),
         ("heap play --fresh 1 --stop 8", Status::DiskFault),
     ] {
@@ -245,13 +259,12 @@ fn a_fault_is_let_go_in_an_opening_that_is_to_stop(rt: HostRuntime) -> Result<()
         )?;
         let none = (Vec::new(alloc), Vec::new(alloc));
         let (played, _) = play_on(alloc, line, FORCED_INSIDE.as_bytes(), disk, none)?;
-        assert_eq!(rt; played.status, status);
-        let text = if status == Status::Done {
+        let text = if *status == Status::Done {
             output.as_str()
         } else {
             FORCED_INSIDE_LINES
         };
-        assert_eq!(rt; played.output.as_slice(), text.as_bytes());
+        expect_played(&rt, &played, *status, text.as_bytes());
     }
     Ok(())
 }
@@ -330,7 +343,7 @@ const LOSERS_GONE: &str = "recovered 1\ngraph 4\n0: @1 @2 @3 -\n1: 11\n2: 12\n3:
 /// Stops the disk behind the force of what the losers wrote, or in it, and recovery after so many calls.
 fn expect_losers_gone(rt: &impl Abort, alloc: Global, pick: Pick) -> Result<(), Fail> {
     let durable = "force -> durable 1\n";
-    for (stop, again, reply) in [
+    for (stop, again, reply) in &[
         (7, 2, "force -> stopped\n"),
         (8, 0, durable),
         (8, 1, durable),
@@ -464,9 +477,8 @@ fn a_bad_script_leaves_the_disk(rt: HostRuntime) -> Result<(), Fail> {
         let disk = make_disk(alloc, 64, Pick::Newest)?;
         let none = (Vec::new(alloc), Vec::new(alloc));
         let (played, disk) = play_on(alloc, "heap play --fresh 1", script.as_bytes(), disk, none)?;
-        assert_eq!(rt; played.status, Status::Script { line: *bad });
-        assert_eq!(rt; played.output.len(), 0);
-        assert_eq!(rt; disk.contents(), [0u8; 64].as_slice());
+        expect_played(&rt, &played, Status::Script { line: *bad }, b"");
+        same(&rt, disk.contents(), [0u8; 64].as_slice());
     }
     Ok(())
 }
@@ -484,35 +496,38 @@ fn a_script_may_have_a_mebibyte(rt: HostRuntime) -> Result<(), Fail> {
         let none = (Vec::new(alloc), Vec::new(alloc));
         let script = vec![in alloc; b'\n'; *bytes]?;
         let (played, _) = play_on(alloc, "heap play --fresh 1", &script, disk, none)?;
-        assert_eq!(rt; played.status, *status);
+        same(&rt, played.status, *status);
     }
+    Ok(())
+}
+
+/// Plays an empty script on a disk of so many bytes, with streams whose listed calls fail.
+fn expect_fault(
+    rt: &impl Abort,
+    alloc: Global,
+    bytes: usize,
+    fails: (Vec<u64>, Vec<u64>),
+    status: Status,
+) -> Result<(), AllocError> {
+    let disk = make_disk(alloc, bytes, Pick::Newest)?;
+    let (played, _) = play_on(alloc, "heap play --fresh 1", b"", disk, fails)?;
+    expect_played(rt, &played, status, b"");
     Ok(())
 }
 
 #[test]
 fn each_fault_has_its_status(rt: HostRuntime) -> Result<(), Fail> {
     let alloc = rt.alloc();
-    let line = "heap play --fresh 1";
-    let first = vec![in alloc; 1u64]?;
-    let disk = make_disk(alloc, DISK_BYTES, Pick::Newest)?;
-    let (played, _) = play_on(alloc, line, b"", disk, (first, Vec::new(alloc)))?;
-    assert_eq!(rt; played.status, Status::ReadFault);
-    assert_eq!(rt; played.output.len(), 0);
-    let first = vec![in alloc; 1u64]?;
-    let disk = make_disk(alloc, DISK_BYTES, Pick::Newest)?;
-    let (played, _) = play_on(alloc, line, b"", disk, (Vec::new(alloc), first))?;
-    assert_eq!(rt; played.status, Status::WriteFault);
-    assert_eq!(rt; played.output.len(), 0);
-    let disk = make_disk(alloc, 1_050_751, Pick::Newest)?;
+    let first_read = (vec![in alloc; 1u64]?, Vec::new(alloc));
+    expect_fault(&rt, alloc, DISK_BYTES, first_read, Status::ReadFault)?;
+    let first_write = (Vec::new(alloc), vec![in alloc; 1u64]?);
+    expect_fault(&rt, alloc, DISK_BYTES, first_write, Status::WriteFault)?;
     let none = (Vec::new(alloc), Vec::new(alloc));
-    let (played, _) = play_on(alloc, line, b"", disk, none)?;
-    assert_eq!(rt;
-        played.status,
-        Status::TooSmall {
-            size: 1_050_751,
-            need: 1_050_752
-        }
-    );
+    let status = Status::TooSmall {
+        size: 1_050_751,
+        need: 1_050_752,
+    };
+    expect_fault(&rt, alloc, DISK_BYTES - 1, none, status)?;
     Ok(())
 }
 
@@ -539,7 +554,7 @@ fn other_words_are_no_command(rt: HostRuntime) -> Result<(), Fail> {
     .iter()
     {
         let played = play(alloc, line, "", Pick::Newest)?;
-        assert_eq!(rt; played.status, Status::Usage, "{line}");
+        same(&rt, (*line, played.status), (*line, Status::Usage));
     }
     Ok(())
 }

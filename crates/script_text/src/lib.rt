@@ -6,6 +6,8 @@ mod number;
 mod output;
 mod script;
 #[cfg(test)]
+mod slow_heap_tests;
+#[cfg(test)]
 mod tests;
 
 pub use line::Line;

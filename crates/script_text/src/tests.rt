@@ -2,6 +2,7 @@
 use crate::{Line, MOST_BYTES, ScriptError, read_script, reply_line};
 use graph_model::{Entry, Event, Refusal, Reply};
 use std::alloc::{AllocError, Global};
+use std::process::Abort;
 use std::test::Fail;
 
 /// A line of each form, each of another session, with blank lines, more blanks between words, leading zeros and the
@@ -62,85 +63,93 @@ fn outcome(alloc: Global, script: &[u8]) -> Result<Result<usize, u64>, AllocErro
     }
 }
 
-#[test]
-fn the_first_bad_line_is_told(rt: HostRuntime) -> Result<(), Fail> {
-    let cases = [
-        ("", Ok(0)),
-        ("\n\n", Ok(0)),
-        ("force", Ok(1)),
-        ("1 seal\n1 root 0\n1 begin\n", Ok(3)),
-        ("1 commit\n\n1 commit", Ok(2)),
-        ("1 begin\n1 root 0\n1 pu", Err(3)),
-        ("1 begin\n1 pu\n1 pu\n", Err(2)),
-        ("begin", Err(1)),
-        ("1", Err(1)),
-        ("1 force", Err(1)),
-        ("force 1", Err(1)),
-        ("1 Begin", Err(1)),
-        (" 1 begin", Err(1)),
-        ("1 begin ", Err(1)),
-        ("\n\n1 x", Err(3)),
-        ("force\n \n", Err(2)),
-        ("1\tbegin", Err(1)),
-        ("1 begin\r\n", Err(1)),
-        ("1 root", Err(1)),
-        ("1 root 0 0", Err(1)),
-        ("1 get 0 0", Err(1)),
-        ("1 new 0", Err(1)),
-        ("1 new 0 0 0", Err(1)),
-        ("1 new 0 18446744073709551616", Err(1)),
-        ("1 link 0 0", Err(1)),
-        ("1 link 0 0 0 0", Err(1)),
-        ("1 put 0 0 0 0", Err(1)),
-        ("1 put 0 0 18446744073709551615", Ok(1)),
-        ("1 put 0 0 18446744073709551616", Err(1)),
-        ("1 len 000000000000000000000", Err(1)),
-        ("1 len -1", Err(1)),
-        ("1 len 0x1", Err(1)),
-    ];
+fn check_outcomes(
+    rt: &impl Abort,
+    alloc: Global,
+    cases: &[(&str, Result<usize, u64>)],
+) -> Result<(), Fail> {
     for (script, want) in cases {
-        let found = outcome(rt.alloc(), script.as_bytes())?;
-        assert!(rt; found == want, "at {script}");
+        let found = outcome(alloc, script.as_bytes())?;
+        assert!(rt; found == *want, "at {script}");
     }
     Ok(())
 }
 
+/// A script, and how many lines it has, or the number of its first bad one.
+const READ: [(&str, Result<usize, u64>); 32] = [
+    ("", Ok(0)),
+    ("\n\n", Ok(0)),
+    ("force", Ok(1)),
+    ("1 seal\n1 root 0\n1 begin\n", Ok(3)),
+    ("1 commit\n\n1 commit", Ok(2)),
+    ("1 begin\n1 root 0\n1 pu", Err(3)),
+    ("1 begin\n1 pu\n1 pu\n", Err(2)),
+    ("begin", Err(1)),
+    ("1", Err(1)),
+    ("1 force", Err(1)),
+    ("force 1", Err(1)),
+    ("1 Begin", Err(1)),
+    (" 1 begin", Err(1)),
+    ("1 begin ", Err(1)),
+    ("\n\n1 x", Err(3)),
+    ("force\n \n", Err(2)),
+    ("1\tbegin", Err(1)),
+    ("1 begin\r\n", Err(1)),
+    ("1 root", Err(1)),
+    ("1 root 0 0", Err(1)),
+    ("1 get 0 0", Err(1)),
+    ("1 new 0", Err(1)),
+    ("1 new 0 0 0", Err(1)),
+    ("1 new 0 18446744073709551616", Err(1)),
+    ("1 link 0 0", Err(1)),
+    ("1 link 0 0 0 0", Err(1)),
+    ("1 put 0 0 0 0", Err(1)),
+    ("1 put 0 0 18446744073709551615", Ok(1)),
+    ("1 put 0 0 18446744073709551616", Err(1)),
+    ("1 len 000000000000000000000", Err(1)),
+    ("1 len -1", Err(1)),
+    ("1 len 0x1", Err(1)),
+];
+
+#[test]
+fn the_first_bad_line_is_told(rt: HostRuntime) -> Result<(), Fail> {
+    check_outcomes(&rt, rt.alloc(), &READ)
+}
+
+/// Likewise, of sessions that are one and of some that are none.
+const SESSIONS: [(&str, Result<usize, u64>); 27] = [
+    ("1 begin", Ok(1)),
+    ("2 begin", Ok(1)),
+    ("32 begin", Ok(1)),
+    ("032 begin", Ok(1)),
+    ("00000000000000000032 begin", Ok(1)),
+    ("1 begin\n32 begin\n2 commit\nforce", Ok(4)),
+    ("1 begin\n32 begin\n33 commit\nforce", Err(3)),
+    ("0 begin", Err(1)),
+    ("00 begin", Err(1)),
+    ("33 begin", Err(1)),
+    ("033 begin", Err(1)),
+    ("257 begin", Err(1)),
+    ("4294967297 begin", Err(1)),
+    ("18446744073709551615 begin", Err(1)),
+    ("18446744073709551617 begin", Err(1)),
+    ("000000000000000000001 begin", Err(1)),
+    ("100000000000000000000 begin", Err(1)),
+    ("-1 begin", Err(1)),
+    ("+1 begin", Err(1)),
+    ("one begin", Err(1)),
+    (" 1 begin", Err(1)),
+    ("  32 begin", Err(1)),
+    ("32", Err(1)),
+    ("2 2 begin", Err(1)),
+    ("begin 2", Err(1)),
+    ("2 force", Err(1)),
+    ("33 force", Err(1)),
+];
+
 #[test]
 fn a_session_is_a_number_from_1_to_32(rt: HostRuntime) -> Result<(), Fail> {
-    let cases = [
-        ("1 begin", Ok(1)),
-        ("2 begin", Ok(1)),
-        ("32 begin", Ok(1)),
-        ("032 begin", Ok(1)),
-        ("00000000000000000032 begin", Ok(1)),
-        ("1 begin\n32 begin\n2 commit\nforce", Ok(4)),
-        ("1 begin\n32 begin\n33 commit\nforce", Err(3)),
-        ("0 begin", Err(1)),
-        ("00 begin", Err(1)),
-        ("33 begin", Err(1)),
-        ("033 begin", Err(1)),
-        ("257 begin", Err(1)),
-        ("4294967297 begin", Err(1)),
-        ("18446744073709551615 begin", Err(1)),
-        ("18446744073709551617 begin", Err(1)),
-        ("000000000000000000001 begin", Err(1)),
-        ("100000000000000000000 begin", Err(1)),
-        ("-1 begin", Err(1)),
-        ("+1 begin", Err(1)),
-        ("one begin", Err(1)),
-        (" 1 begin", Err(1)),
-        ("  32 begin", Err(1)),
-        ("32", Err(1)),
-        ("2 2 begin", Err(1)),
-        ("begin 2", Err(1)),
-        ("2 force", Err(1)),
-        ("33 force", Err(1)),
-    ];
-    for (script, want) in cases {
-        let found = outcome(rt.alloc(), script.as_bytes())?;
-        assert!(rt; found == want, "at {script}");
-    }
-    Ok(())
+    check_outcomes(&rt, rt.alloc(), &SESSIONS)
 }
 
 #[test]

@@ -3,10 +3,12 @@
 use super::*;
 use disk_model::{MemoryDisk, Pick};
 use gated_log::Log;
-use graph_model::{Refusal, Reply};
+use graph_model::{Event, Refusal, Reply};
 use heap_spaces::Spaces;
 use log_machine::PageWords;
-use std::alloc::Global;
+use std::alloc::{AllocError, Global};
+use std::fmt::Debug;
+use std::process::Abort;
 use std::test::Fail;
 use txn_table::TxnTable;
 
@@ -28,72 +30,287 @@ fn opened(alloc: Global) -> Result<Working, Fail> {
     Ok(Working::new(alloc, log, words, spaces, table))
 }
 
-#[test]
-fn what_was_sealed_stays(rt: HostRuntime) -> Result<(), Fail> {
-    let alloc = rt.alloc();
-    let mut heap = opened(alloc)?;
+/// An event of a session, and what it is answered.
+type Step = (Event, Reply);
 
-    assert_eq!(rt; heap.begin(32), Reply::Begun { n: 1 });
-    assert_eq!(rt; heap.root(32, 0), Reply::Done);
-    assert_eq!(rt; heap.make(32, 63, 2)?, Reply::Done);
-    assert_eq!(rt; heap.put(32, 63, 1, 7)?, Reply::Done);
-    assert_eq!(rt; heap.link(32, 0, 3, 63)?, Reply::Done);
-    assert_eq!(rt; heap.same(32, 0, 63), Reply::No);
-    assert_eq!(rt; heap.seal(32, alloc)?, Reply::Sealed { n: 1 });
-    assert_eq!(rt; (heap.spaces.used(), heap.reserved), (10, 0));
+/// Transaction 1 makes an object, writes into it, and is sealed.
+const MADE: [Step; 7] = [
+    (Event::Begin { s: 32 }, Reply::Begun { n: 1 }),
+    (Event::Root { s: 32, h: 0 }, Reply::Done),
+    (
+        Event::New {
+            s: 32,
+            h: 63,
+            len: 2,
+        },
+        Reply::Done,
+    ),
+    (
+        Event::Put {
+            s: 32,
+            h: 63,
+            i: 1,
+            v: 7,
+        },
+        Reply::Done,
+    ),
+    (
+        Event::Link {
+            s: 32,
+            h: 0,
+            i: 3,
+            h2: 63,
+        },
+        Reply::Done,
+    ),
+    (
+        Event::Same {
+            s: 32,
+            h: 0,
+            h2: 63,
+        },
+        Reply::No,
+    ),
+    (Event::Seal { s: 32 }, Reply::Sealed { n: 1 }),
+];
 
-    assert_eq!(rt; heap.begin(1), Reply::Begun { n: 2 });
-    assert_eq!(rt; heap.root(1, 0), Reply::Done);
-    assert_eq!(rt; heap.get(1, 0, 3, 1)?, Reply::Reference);
-    assert_eq!(rt; heap.len(1, 1), Reply::Length { n: 2 });
-    assert_eq!(rt; heap.get(1, 1, 1, 2)?, Reply::Int { v: 7 });
-    assert_eq!(rt; heap.clear(1, 1, 1)?, Reply::Done);
-    assert_eq!(rt; heap.get(1, 1, 1, 2)?, Reply::Null);
-    let why = Refusal::BadHandle;
-    assert_eq!(rt; heap.drop_handle(1, 64), Reply::Refused { why });
-    assert_eq!(rt; heap.abort(1, alloc)?, Reply::Aborted);
-    assert_eq!(rt; heap.words.as_slice().get(9), Some(&29));
-    assert_eq!(rt; heap.log.records(), 7);
+/// Transaction 2 finds the object, and what it writes there is taken back.
+const WRITTEN_IN_VAIN: [Step; 9] = [
+    (Event::Begin { s: 1 }, Reply::Begun { n: 2 }),
+    (Event::Root { s: 1, h: 0 }, Reply::Done),
+    (
+        Event::Get {
+            s: 1,
+            h: 0,
+            i: 3,
+            h2: 1,
+        },
+        Reply::Reference,
+    ),
+    (Event::Len { s: 1, h: 1 }, Reply::Length { n: 2 }),
+    (
+        Event::Get {
+            s: 1,
+            h: 1,
+            i: 1,
+            h2: 2,
+        },
+        Reply::Int { v: 7 },
+    ),
+    (Event::Clear { s: 1, h: 1, i: 1 }, Reply::Done),
+    (
+        Event::Get {
+            s: 1,
+            h: 1,
+            i: 1,
+            h2: 2,
+        },
+        Reply::Null,
+    ),
+    (
+        Event::Drop { s: 1, h: 64 },
+        Reply::Refused {
+            why: Refusal::BadHandle,
+        },
+    ),
+    (Event::Abort { s: 1 }, Reply::Aborted),
+];
+
+/// Three sessions have a transaction each.
+const THREE: [Step; 6] = [
+    (Event::Begin { s: 1 }, Reply::Begun { n: 1 }),
+    (Event::Root { s: 1, h: 0 }, Reply::Done),
+    (Event::Begin { s: 2 }, Reply::Begun { n: 2 }),
+    (Event::Root { s: 2, h: 0 }, Reply::Done),
+    (Event::Begin { s: 3 }, Reply::Begun { n: 3 }),
+    (Event::Root { s: 3, h: 0 }, Reply::Done),
+];
+
+/// Those that read are together, and in the way of one that writes.
+const READERS_FIRST: [Step; 7] = [
+    (
+        Event::Get {
+            s: 2,
+            h: 0,
+            i: 0,
+            h2: 1,
+        },
+        Reply::Null,
+    ),
+    (
+        Event::Get {
+            s: 3,
+            h: 0,
+            i: 0,
+            h2: 1,
+        },
+        Reply::Null,
+    ),
+    (
+        Event::Put {
+            s: 1,
+            h: 0,
+            i: 0,
+            v: 5,
+        },
+        Reply::Refused {
+            why: Refusal::Busy { holder: 2 },
+        },
+    ),
+    (Event::Abort { s: 2 }, Reply::Aborted),
+    (
+        Event::Put {
+            s: 1,
+            h: 0,
+            i: 0,
+            v: 5,
+        },
+        Reply::Refused {
+            why: Refusal::Busy { holder: 3 },
+        },
+    ),
+    (Event::Seal { s: 3 }, Reply::Sealed { n: 1 }),
+    (
+        Event::Put {
+            s: 1,
+            h: 0,
+            i: 0,
+            v: 5,
+        },
+        Reply::Done,
+    ),
+];
+
+/// What is written nobody else sees before the seal.
+const UNSEEN: [Step; 5] = [
+    (Event::Begin { s: 3 }, Reply::Begun { n: 4 }),
+    (Event::Root { s: 3, h: 0 }, Reply::Done),
+    (
+        Event::Get {
+            s: 3,
+            h: 0,
+            i: 0,
+            h2: 1,
+        },
+        Reply::Refused {
+            why: Refusal::Busy { holder: 1 },
+        },
+    ),
+    (
+        Event::Get {
+            s: 3,
+            h: 0,
+            i: 4,
+            h2: 1,
+        },
+        Reply::Refused {
+            why: Refusal::BadField,
+        },
+    ),
+    (
+        Event::Get {
+            s: 2,
+            h: 0,
+            i: 0,
+            h2: 1,
+        },
+        Reply::Refused {
+            why: Refusal::NotActive,
+        },
+    ),
+];
+
+/// And behind it they see it.
+const SEEN: [Step; 2] = [
+    (Event::Seal { s: 1 }, Reply::Sealed { n: 2 }),
+    (
+        Event::Get {
+            s: 3,
+            h: 0,
+            i: 0,
+            h2: 1,
+        },
+        Reply::Int { v: 5 },
+    ),
+];
+
+/// Compares what was found.
+fn same<T: PartialEq + Debug + Copy>(rt: &impl Abort, found: T, want: T) {
+    assert_eq!(rt; found, want);
+}
+
+fn begin(rt: &impl Abort, heap: &mut Working, session: u32) -> Reply {
+    assert!(rt; 1 <= session && session <= 32);
+    heap.begin(session)
+}
+
+fn ask(
+    rt: &impl Abort,
+    alloc: Global,
+    heap: &mut Working,
+    event: Event,
+) -> Result<Reply, AllocError> {
+    match event {
+        Event::Begin { s } => Ok(begin(rt, heap, s)),
+        Event::Root { s, h } => Ok(heap.root(s, h)),
+        Event::New { s, h, len } => heap.make(s, h, len),
+        Event::Put { s, h, i, v } => heap.put(s, h, i, v),
+        Event::Clear { s, h, i } => heap.clear(s, h, i),
+        Event::Link { s, h, i, h2 } => heap.link(s, h, i, h2),
+        Event::Drop { s, h } => Ok(heap.drop_handle(s, h)),
+        Event::Get { s, h, i, h2 } => heap.get(s, h, i, h2),
+        Event::Same { s, h, h2 } => Ok(heap.same(s, h, h2)),
+        Event::Len { s, h } => Ok(heap.len(s, h)),
+        Event::Seal { s } => heap.seal(s, alloc),
+        Event::Abort { s } => heap.abort(s, alloc),
+        Event::Force => panic!(rt; "a force is of no session"),
+    }
+}
+
+/// Asks each event, and compares what it is answered.
+fn play(
+    rt: &impl Abort,
+    alloc: Global,
+    heap: &mut Working,
+    steps: &[Step],
+) -> Result<(), AllocError> {
+    for (event, reply) in steps {
+        let found = ask(rt, alloc, heap, *event)?;
+        same(rt, (*event, found), (*event, *reply));
+    }
     Ok(())
 }
 
 #[test]
-fn sessions_give_way(rt: HostRuntime) -> Result<(), Fail> {
-    let alloc = rt.alloc();
-    let mut heap = opened(alloc)?;
-    for session in [1, 2, 3] {
-        let n = u64::from(session);
-        assert_eq!(rt; heap.begin(session), Reply::Begun { n });
-        assert_eq!(rt; heap.root(session, 0), Reply::Done);
-    }
-    assert_eq!(rt; heap.reserved, 30);
+fn what_was_sealed_stays(rt: HostRuntime) -> Result<(), Fail> {
+    let mut heap = opened(rt.alloc())?;
+    play(&rt, rt.alloc(), &mut heap, &MADE)?;
+    same(&rt, (heap.spaces.used(), heap.reserved), (10, 0));
+    play(&rt, rt.alloc(), &mut heap, &WRITTEN_IN_VAIN)?;
+    let word = heap.words.as_slice().get(9).copied();
+    same(&rt, (word, heap.log.records()), (Some(29), 7));
+    Ok(())
+}
 
-    // Those that read are together, and in the way of one that writes.
-    assert_eq!(rt; heap.get(2, 0, 0, 1)?, Reply::Null);
-    assert_eq!(rt; heap.get(3, 0, 0, 1)?, Reply::Null);
-    let why = Refusal::Busy { holder: 2 };
-    assert_eq!(rt; heap.put(1, 0, 0, 5)?, Reply::Refused { why });
-    assert_eq!(rt; heap.abort(2, alloc)?, Reply::Aborted);
-    let why = Refusal::Busy { holder: 3 };
-    assert_eq!(rt; heap.put(1, 0, 0, 5)?, Reply::Refused { why });
-    assert_eq!(rt; heap.seal(3, alloc)?, Reply::Sealed { n: 1 });
-    assert_eq!(rt; heap.put(1, 0, 0, 5)?, Reply::Done);
-    assert_eq!(rt; heap.reserved, 29);
-
-    // What is written nobody else sees before the seal.
-    assert_eq!(rt; heap.begin(3), Reply::Begun { n: 4 });
-    assert_eq!(rt; heap.root(3, 0), Reply::Done);
-    let why = Refusal::Busy { holder: 1 };
-    assert_eq!(rt; heap.get(3, 0, 0, 1)?, Reply::Refused { why });
-    let why = Refusal::BadField;
-    assert_eq!(rt; heap.get(3, 0, 4, 1)?, Reply::Refused { why });
-    let why = Refusal::NotActive;
-    assert_eq!(rt; heap.get(2, 0, 0, 1)?, Reply::Refused { why });
-    assert_eq!(rt; heap.words.as_slice().get(2), Some(&21));
+/// The word of the root's first field, as it is and as it is committed.
+fn first_field(alloc: Global, heap: &Working) -> Result<(Option<u64>, Option<u64>), AllocError> {
     let committed = heap.committed_words(alloc)?;
-    assert_eq!(rt; committed.as_slice().get(2), Some(&0));
-    assert_eq!(rt; heap.seal(1, alloc)?, Reply::Sealed { n: 2 });
-    assert_eq!(rt; heap.get(3, 0, 0, 1)?, Reply::Int { v: 5 });
-    assert_eq!(rt; heap.reserved, 10);
+    let now = heap.words.as_slice().get(2).copied();
+    Ok((now, committed.as_slice().get(2).copied()))
+}
+
+#[test]
+fn sessions_give_way(rt: HostRuntime) -> Result<(), Fail> {
+    let mut heap = opened(rt.alloc())?;
+    play(&rt, rt.alloc(), &mut heap, &THREE)?;
+    same(&rt, heap.reserved, 30);
+    play(&rt, rt.alloc(), &mut heap, &READERS_FIRST)?;
+    same(&rt, heap.reserved, 29);
+    play(&rt, rt.alloc(), &mut heap, &UNSEEN)?;
+    same(&rt, heap.reserved, 39);
+    let words = first_field(rt.alloc(), &heap)?;
+    same(&rt, words, (Some(21), Some(0)));
+    play(&rt, rt.alloc(), &mut heap, &SEEN)?;
+    same(&rt, heap.reserved, 10);
     Ok(())
 }
