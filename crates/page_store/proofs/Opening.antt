@@ -1,13 +1,12 @@
 -- An opening, page by page.
-use Rattle.std.proofs.Common.{◌≡◌, ℕ, suc, ◌+◌, ◌-◌, ◌*◌, ◌<◌, ◌≤◌, ◌⊎◌, inl, inr, List, [], ◌∷◌, ◌++◌, length, take, drop, get_or, refl, sym, ap, ◌∙◌, subst, arith, add-one, length-append}
+use Rattle.std.proofs.Common.{◌≡◌, ℕ, ◌+◌, ◌-◌, ◌*◌, ◌<◌, ◌≤◌, inl, inr, List, [], ◌∷◌, ◌++◌, length, take, drop, get_or, ap, ◌∙◌, arith, add-one, length-append}
 use Rattle.std.proofs.lemmas.Bool.{cases_lt}
 use Rattle.std.proofs.lemmas.List.{get_or_append_left, get_or-append_right, take-take, drop-take, drop-drop}
 use Rattle.disk_model.specs.Disk.{part}
 use Rattle.image_plan.specs.Plan.{frame_offset}
 use Rattle.page_store.specs.declared.frame.Frame.TheVariants.{First, Second}
 use Rattle.page_store.specs.declared.frame.Stored.{Stored}
-use Rattle.page_store.specs.Frame.{counting, lsn_in, words_or}
-use Rattle.page_store.specs.Page.{frame_of, page_lsn, page_frame, page_words, first_words, image_words}
+use Rattle.page_store.specs.Page.{frame_of, page_lsn, page_frame, page_words, image_words}
 use Rattle.page_store.specs.Reading.{nothing_stored, IsReadTo}
 
 -- no page was read

@@ -1,5 +1,5 @@
 -- What a crash leaves while a gate is closed and filled again, and how many calls pass.
-use Rattle.std.proofs.Common.{◌≡◌, ℕ, ◌+◌, ◌<◌, Bool, true, false, List, get_or, eqb, Result, Ok, Err, refl, sym, ap, ◌∙◌, subst, inl, inr, arith}
+use Rattle.std.proofs.Common.{◌≡◌, ℕ, ◌+◌, ◌<◌, Bool, true, false, List, get_or, Result, Err, refl, sym, subst, inl, inr, arith}
 use Rattle.std.specs.Prelude.{if◌then◌else◌}
 use Rattle.std.proofs.lemmas.Bool.{cases_eq}
 use Rattle.disk_model.specs.Disk.{Only}
@@ -7,7 +7,7 @@ use Rattle.disk_model.specs.Moments.{LeavesOnly, weaker, joined}
 use Rattle.disk_model.specs.declared.disk.Disk.{Ghosts}
 use Rattle.disk_model.specs.declared.disk.DiskError.{DiskError}
 use Rattle.counts.specs.Count.{counted}
-use Rattle.gate_slot.specs.Gate.{IsOpen, IsClosed, closed, SameButGate, IsFilling}
+use Rattle.gate_slot.specs.Gate.{IsClosed, closed, SameButGate, IsFilling}
 use Rattle.gate_slot.specs.Passing.{Passes, joined as joined_calls, cut_short}
 use Rattle.page_store.specs.Refill.{IsRefilling}
 

@@ -1,10 +1,8 @@
 -- A store, from the bytes that it writes to the pages of the image.
-use Rattle.std.proofs.Common.{◌≡◌, ◌≢◌, ◌⊎◌, ℕ, ◌+◌, ◌-◌, ◌*◌, ◌^◌, ◌<◌, ◌≤◌, Bool, true, false, List, [], ◌∷◌, ◌++◌, length, get_or, set, eqb, Option, Some, refl, sym, ap, ◌∙◌, subst, inl, inr, arith}
+use Rattle.std.proofs.Common.{◌≡◌, ◌≢◌, ◌⊎◌, ℕ, ◌+◌, ◌-◌, ◌*◌, ◌^◌, ◌<◌, ◌≤◌, List, [], ◌∷◌, length, get_or, set, Some, refl, sym, ap, ◌∙◌, subst, inl, inr, arith}
 use Rattle.std.proofs.lemmas.Bool.{eq-eqb, ne_eqb, cases_eq, cond-true, cond-false}
 use Rattle.std.proofs.lemmas.List.{ext_get_or, get_or-set_same, get_or-set_other}
-use Rattle.std.specs.List.{flat_map}
-use Rattle.std.specs.Int.{w64, to_le_bytes}
-use Rattle.disk_model.specs.Disk.{overwrite, part, SameOutside}
+use Rattle.disk_model.specs.Disk.{overwrite, part}
 use Rattle.gate_slot.specs.Gate.{IsOpen, IsClosed, IsOutside, filled, closed, SameButGate, IsFilling}
 use Rattle.gate_slot.specs.GateLaws.{length_filled, filled_outside, filled_next}
 use Rattle.gate_slot.specs.Images.{part_index, same_part, part_overwrite, torn_overwrite, torn_outside, length_overwrite, overwrite_inside}
@@ -14,8 +12,8 @@ use Rattle.page_store.specs.declared.store.PageStore.{PageStore}
 use Rattle.page_store.specs.declared.frame.Stored.{Stored}
 use Rattle.page_store.specs.declared.frame.Frame.{Frame}
 use Rattle.page_store.specs.declared.frame.Frame.TheVariants.{First, Second}
-use Rattle.page_store.specs.Frame.{frame_body, frame_bytes, is_frame_open, frame_lsn, frame_words, counting, bytes_of, spare}
-use Rattle.page_store.specs.Page.{frame_place, frame_of, page_frame, page_lsn, page_words, first_words, HasPage, SamePage, SameButPage, IsStoring}
+use Rattle.page_store.specs.Frame.{frame_body, frame_bytes, spare}
+use Rattle.page_store.specs.Page.{frame_place, frame_of, page_frame, page_lsn, HasPage, SamePage, SameButPage, IsStoring}
 use Rattle.page_store.specs.PairLaws.{other}
 use Rattle.page_store.specs.PageLaws.{same_page, other_pages, other_counts, spare_closed, spare_counts, spare_written}
 use Rattle.page_store.specs.Reading.{nothing_stored}

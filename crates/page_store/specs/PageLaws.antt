@@ -1,5 +1,5 @@
 -- What becomes of an image's pages when bytes of it are written.
-use Rattle.std.specs.Prelude.{◌≡◌, ◌≢◌, ◌⊎◌, ℕ, ◌+◌, ◌^◌, ◌<◌, ◌≤◌, Bool, true, false, List, length, Some}
+use Rattle.std.specs.Prelude.{◌≡◌, ◌≢◌, ◌⊎◌, ℕ, ◌+◌, ◌^◌, ◌<◌, ◌≤◌, false, List, length, Some}
 use Rattle.std.proofs.Common.{refl, sym, ap, ◌∙◌, inl, inr, get_or, subst, arith}
 use Rattle.std.proofs.lemmas.Bool.{cases_lt, eq-eqb}
 use Rattle.disk_model.specs.Disk.{part, SameOutside}
@@ -9,7 +9,7 @@ use Rattle.page_store.specs.declared.frame.Frame.{Frame}
 use Rattle.page_store.specs.declared.frame.Frame.TheVariants.{First, Second}
 use Rattle.page_store.specs.Frame.{frame_bytes, is_frame_open, frame_lsn, frame_words, counting, bytes_of, lsn_in, words_or, spare}
 use Rattle.page_store.specs.Page.{frame_place, frame_of, page_frame, page_lsn, first_words, HasPage, SamePage, SameButPage}
-use Rattle.page_store.specs.PairLaws.{other, SamePair, CountsNow, closed_spare, opened_spare}
+use Rattle.page_store.specs.PairLaws.{other, CountsNow, closed_spare, opened_spare}
 use Rattle.page_store.specs.WordLaws.{frame_lsn-written, frame_words-written}
 
 -- one of a page's two frames, by its name

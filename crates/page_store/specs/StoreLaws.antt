@@ -1,18 +1,18 @@
 -- What a store in memory knows, and the words of all pages.
-use Rattle.std.specs.Prelude.{◌≡◌, ℕ, zero, suc, ◌+◌, ◌*◌, ◌<◌, ◌≤◌, List, [], ◌∷◌, ◌++◌, length, take, drop, Option, Some, None}
+use Rattle.std.specs.Prelude.{◌≡◌, ℕ, zero, suc, ◌+◌, ◌*◌, ◌<◌, ◌≤◌, List, ◌++◌, length, take, drop, Option, Some, None}
 use Rattle.std.specs.Option.{option_map_or}
-use Rattle.std.proofs.Common.{refl, sym, ap, ◌∙◌, inl, inr, subst, arith, length-append, length-drop}
+use Rattle.std.proofs.Common.{refl, sym, ap, ◌∙◌, inl, inr, arith, length-append, length-drop}
 use Rattle.std.proofs.lemmas.Bool.{cases_lt}
 use Rattle.std.proofs.lemmas.List.{take-append-le, drop-append-le, drop_at, take_all}
 use Rattle.disk_model.specs.Disk.{part, SameOutside}
 use Rattle.image_plan.specs.Plan.{log_offset}
 use Rattle.page_store.specs.declared.frame.Frame.{Frame}
 use Rattle.page_store.specs.declared.store.PageStore.{PageStore}
-use Rattle.page_store.specs.Frame.{counting, bytes_of, frame_words}
-use Rattle.page_store.specs.Page.{page_words, first_words, frame_of, image_words, SamePage}
+use Rattle.page_store.specs.Frame.{bytes_of, frame_words}
+use Rattle.page_store.specs.Page.{page_words, first_words, image_words}
 use Rattle.page_store.specs.PageLaws.{pages_behind_log, frames_behind_log, same_frame}
 use Rattle.page_store.specs.WordLaws.{length-words_in}
-use Rattle.page_store.specs.StoreState.{store_log, store_pages, Knows}
+use Rattle.page_store.specs.StoreState.{store_log, Knows}
 
 -- a store knows an image still where only bytes of the log were written
 pub knows_behind_log : (store : PageStore) (old new : List ℕ) → Knows store old → SameOutside log_offset (log_offset + store_log store) old new → Knows store new
@@ -52,7 +52,7 @@ module _ (log_bytes : ℕ) (image : List ℕ) where
       elim (cases_lt p n) [
         | inl less ↦ part_front front last (64 * p) (omega (arith, size)) ∙ image_words-page n p less
         | inr same ↦ let is : p ≡ n = omega arith in
-        ap (λ (k : ℕ). part (front ++ last) (64 * k) 64) is ∙ ap (λ (l : List ℕ). take 64 l) (drop_at front last (64 * n) size) ∙ take_all 64 last (omega (arith, length-page_words n)) ∙ ap (λ (k : ℕ). page_words log_bytes k image) (sym is)
+            ap (λ (k : ℕ). part (front ++ last) (64 * k) 64) is ∙ ap (λ (l : List ℕ). take 64 l) (drop_at front last (64 * n) size) ∙ take_all 64 last (omega (arith, length-page_words n)) ∙ ap (λ (k : ℕ). page_words log_bytes k image) (sym is)
       ]
     where
       part_front : (front last : List ℕ) (at : ℕ) → at + 64 ≤ length front → part (front ++ last) at 64 ≡ part front at 64

@@ -108,7 +108,8 @@ fn a_stored_frame_byte_by_byte(rt: HostRuntime) -> Result<(), Fail> {
     let mut words = [0u64; PAGE_WORDS];
     words[0] = 0x0102_0304_0506_0708;
     words[63] = 0x1112_1314_1516_1718;
-    assert!(rt; store.pages() == 2 && store.stored_lsn(1) < 258);
+    assert_eq!(rt; store.pages(), 2);
+    assert!(rt; store.stored_lsn(1) < 258);
     assert!(rt; disk.size() >= store.plan().size());
     store.store(&mut disk, 1, 258, &words)?;
     let mut bytes = vec![in alloc; 0u8; 1184]?;

@@ -1,4 +1,4 @@
-use Rattle.std.proofs.Common.{◌≡◌, ℕ, List, get_or, eqb, Err, ap, ◌∙◌, rules}
+use Rattle.std.proofs.Common.{◌≡◌, ℕ, List, get_or, eqb, Err, ap, rules}
 use Rattle.gate_slot.specs.Gate.{IsSettled}
 use Rattle.page_store.proofs.Refilling.{closing, filling, all_passed, some_passed}
 use Rattle.page_store.proofs.refill.refill.Goals as goal

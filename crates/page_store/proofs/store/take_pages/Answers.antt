@@ -1,5 +1,4 @@
-use Rattle.std.proofs.Common.{◌≡◌, ℕ, ◌+◌, ◌-◌, ◌*◌, List, [], ◌∷◌, ◌++◌, take, drop, length, refl, sym, ap, ◌∙◌, subst, arith}
-use Rattle.image_plan.specs.Plan.{frame_offset}
+use Rattle.std.proofs.Common.{◌≡◌, ℕ, ◌+◌, ◌-◌, ◌*◌, List, [], ◌∷◌, ◌++◌, take, drop, refl, sym, ap, ◌∙◌, subst, arith}
 use Rattle.page_store.specs.declared.frame.Stored.{Stored}
 use Rattle.page_store.specs.declared.frame.Frame.TheVariants.{First, Second}
 use Rattle.page_store.specs.Frame.{counting, lsn_in, words_or}
@@ -20,7 +19,7 @@ loop-k-preserved c =
     let page = c.read_page.result.1 in
     record {
       pages = omega (arith, c.in_ok-push.ensures.len, c.loop-k.invariant.pages);
-      size = omega (arith, c.in_ok-extend_from_slice.ensures.len, c.loop-k.invariant.size, c.read_page.ensures.words);
+      size = omega (arith, c.in_ok-extend_from_slice.ensures.len, c.loop-k.invariant.size);
       read = λ log image is was.
           let first : take (middle - from) (drop from frames) ≡ frame_of log p image First = first_there log image c.args.first c.args.some k from middle frames is c.loop-k-test.true refl refl in
           let second : take (end - middle) (drop middle frames) ≡ frame_of log p image Second = second_there log image c.args.first c.args.some k middle end frames is c.loop-k-test.true refl refl in
