@@ -20,6 +20,7 @@ use Rattle.heap_core.specs.declared.errors.FormatError.TheVariants as format
 use Rattle.command_words.specs.declared.commands.Numbers.{Numbers}
 use Rattle.heap_shell.specs.Commands.{IsEndOf, PrintsGraph}
 use Rattle.heap_shell.specs.Headline.{IsEndOfPlay, graph_text}
+use Rattle.heap_shell.specs.Refusals.{IsToldOfEach}
 use Rattle.heap_shell.specs.StatusOf.{command_status, format_status}
 use Rattle.heap_shell.proofs.Written.{none_written}
 
@@ -56,6 +57,19 @@ written_format n status.DiskFault end = end
 written_format n status.NotHeap end = end
 written_format n (status.Damaged at) end = end
 written_format n (status.TooSmall size need) end = absurd end
+
+-- it says nothing of an image
+pub format_told_each : (n : Numbers) (s : Status) (may_leave : List ℕ → Type 0) → IsEndOf (asked.Format n) s → IsToldOfEach s may_leave
+format_told_each n status.Done may_leave end image may = tt
+format_told_each n status.NoMemory may_leave end image may = tt
+format_told_each n status.Usage may_leave end image may = absurd end
+format_told_each n (status.Script line) may_leave end image may = absurd end
+format_told_each n status.ReadFault may_leave end image may = absurd end
+format_told_each n status.WriteFault may_leave end image may = tt
+format_told_each n status.DiskFault may_leave end image may = tt
+format_told_each n status.NotHeap may_leave end image may = absurd end
+format_told_each n (status.Damaged at) may_leave end image may = absurd end
+format_told_each n (status.TooSmall size need) may_leave end image may = tt
 
 pub format_ends : (n : Numbers) (e : FormatError) → IsEndOf (asked.Format n) (format_status e)
 format_ends n (format.TooSmall size need) = tt

@@ -22,7 +22,7 @@ ghost use Rattle.heap_shell.specs.Commands.{makes, numbers_of, restarts_of, IsPl
 ghost use Rattle.heap_shell.specs.CrashSafe.{RunsSafely};
 ghost use Rattle.heap_shell.specs.Headline.{OfTold, PrintsRun, Runs, IsUntouching, EndsUnread, EndsUnmade, IsSound, RestartsDisk, graph_text, stop_after};
 ghost use Rattle.heap_shell.specs.Playable.{IsReadFrom};
-ghost use Rattle.heap_shell.specs.Refusals.{IsFault, IsToldOf, EndsRefused, IsLeftAlone};
+ghost use Rattle.heap_shell.specs.Refusals.{IsFault, IsToldOf, IsToldOfEach, EndsRefused, IsLeftAlone};
 ghost use Rattle.script_text.specs.Script.{script};
 
 use crate::playing::run_play;
@@ -94,6 +94,8 @@ pub fn run<D: Disk, S: Source, K: Sink>(
     ensures keeps_fault { OfTold D.tells (D.bytes disk) (D.may_leave disk) ((asked : Command) (expected : Status) → command (map string_bytes words.now) ≡ Some asked → makes asked ≡ None
         → IsFault expected (D.bytes disk) → LeavesOnly D.moment D.left_since disk result.1 (IsFault expected)) }
     ensures refused { IsTrue D.tells → (asked : Command) → command (map string_bytes words.now) ≡ Some asked → makes asked ≡ None → restarts_of asked ≡ 0 → IsToldOf result.0 (D.bytes disk) }
+    // With a stop too, such a status tells what is so of the disk that is given back: of what it reads as, and of each image that a crash may leave.
+    ensures refused_at_end { OfTold D.tells (D.bytes disk) (D.may_leave disk) (IsToldOfEach result.0 (D.may_leave result.1)) }
     ensures left_alone { IsTrue D.tells → (asked : Command) → command (map string_bytes words.now) ≡ Some asked → makes asked ≡ None → restarts_of asked ≡ 0 → IsLeftAlone result.0 → SameContents D.Disk disk result.1 }
     ensures sound { OfTold D.tells (D.bytes disk) (D.may_leave disk) ((asked : Command) (s : Super) → command (map string_bytes words.now) ≡ Some asked → makes asked ≡ Some s → IsSound result.0) }
 

@@ -8,6 +8,7 @@ use Rattle.heap_shell.specs.Headline.{made_super, PrintsRun, stop_after, IsPlaye
 use Rattle.heap_shell.specs.Playable.{IsScript, IsReadFrom}
 use Rattle.heap_shell.proofs.PlayOpen.{new_stored, no_calls}
 use Rattle.heap_shell.proofs.RunLaws.{large_made, format_not_done, not_made, restarts_none, end_sound}
+use Rattle.heap_shell.proofs.RefusalLaws.{input_told_each}
 use Rattle.heap_shell.proofs.playing.run_play.Goals as goal
 
 pub play_script-requires : goal.play_script-requires
@@ -61,3 +62,11 @@ returns-in-Ok-format-clause-sound g c tells only pages is =
     let made = c.in-Ok-format.ensures.made tells in
     let stored = new_stored c.in-Some.pages (d.bytes c.in-Ok-format.disk) made.0 in
     end_sound _ (c.play_script-in-Ok-format.ensures.played tells stored made.1).end
+
+-- A script that was bad or could not be read says nothing of the image.
+pub returns-in-Err-clause-refused_at_end : goal.returns-in-Err-clause-refused_at_end
+returns-in-Err-clause-refused_at_end g c tells only = input_told_each _ _ c.in-Err.ensures.status
+
+-- the heap that was made is durable
+pub returns-in-Ok-format-clause-refused_at_end : goal.returns-in-Ok-format-clause-refused_at_end
+returns-in-Ok-format-clause-refused_at_end g c tells only = c.play_script-in-Ok-format.ensures.refused_at_end tells (c.in-Ok-format.ensures.made tells).1

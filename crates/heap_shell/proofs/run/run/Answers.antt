@@ -11,7 +11,7 @@ use Rattle.heap_model.specs.CoreLawsOpened.{address_found}
 use Rattle.heap_shell.specs.Commands.{makes, CanRun}
 use Rattle.heap_shell.specs.CrashSafe.{RunsSafely}
 use Rattle.heap_shell.specs.Headline.{made_super}
-use Rattle.heap_shell.proofs.CommandLaws.{same_play, graph_unread, play_ends, unread_ends}
+use Rattle.heap_shell.proofs.CommandLaws.{same_play, graph_unread, play_ends, unread_ends, format_told_each}
 use Rattle.heap_shell.proofs.RunLaws.{runs_safely, end_done}
 use Rattle.heap_shell.proofs.run.run.Goals as goal
 
@@ -74,3 +74,6 @@ pub returns-in-Graph-clause-ends : goal.returns-in-Graph-clause-ends
 returns-in-Graph-clause-ends g c which is =
     let same : which ≡ asked.Graph = cc (is, c.in-Ok.ensures.read, c.in-Graph.is) in
     rw same c.run_graph.ensures.end
+
+pub returns-in-Format-clause-refused_at_end : goal.returns-in-Format-clause-refused_at_end
+returns-in-Format-clause-refused_at_end g c tells only = format_told_each c.in-Format.numbers c.run_format.result.0 _ c.run_format.ensures.ends
