@@ -44,6 +44,7 @@ use Rattle.heap_shell.proofs.Causes.{disk_rose}
 use Rattle.heap_shell.proofs.Counts.{counted-sum, counted_mono}
 use Rattle.heap_shell.proofs.PlayEvent.{heap_leaves}
 use Rattle.heap_shell.proofs.Lines as lines
+use Rattle.heap_shell.proofs.PlayFaults.{fault_not_whole, fault_not_stopped}
 use Rattle.heap_shell.proofs.PlayFuse.{rose_some, own_steps}
 use Rattle.heap_shell.proofs.PlayLaws.{ends_makes}
 use Rattle.heap_shell.proofs.Reopened.{recovered_only}
@@ -147,11 +148,11 @@ module _ {D : Type 0} {g : Ghosts D} (s : Super) (c : Core) (running : IsRunning
   module _ {B : Type 0} (h : Ghosts B) (start final : B) (stop : Option Stop) (at_opening : ℕ) (keeps : KeepsThroughout h (stop_after stop) at_opening c made core start final)
       (calls : Unharmed h start final → h.passed keeps.stopped ≡ counted (let_through (stop_after stop) (at_opening + total_calls c made)) (h.passed start)) (few_calls : h.passed keeps.stopped ≤ counted (let_through (stop_after stop) (at_opening + total_calls c made)) (h.passed start)) where
     -- The play ended before more than lines were to be written.
-    pub ends_early : (by : Status) → IsEndOfPlay by → (by ≡ status.Done → ⊥) → (IsTrue told → WroteFront before (lines_text core.history) after × WroteLines before core.history after)
+    pub ends_early : (by : Status) → final ≡ keeps.stopped → IsEndOfPlay by → (by ≡ status.Done → ⊥) → (IsTrue told → WroteFront before (lines_text core.history) after × WroteLines before core.history after)
         → (IsTrue told → by ≡ status.DiskFault → after ≡ before ++ lines_text core.history)
         → (Unharmed h start final → IsExact (stop_after stop) at_opening c made core) → IsFollowed h stop core all keeps.stopped final by (IsTrue told → WroteFront before (lines_text core.history) after)
         → IsPlayed h stop at_opening c events start final by told before after
-    ends_early by is_end not_done part whole place follows = record {
+    ends_early by same is_end not_done part whole place follows = record {
       run = events_made (stop_after stop) at_opening by (Unharmed h start final) (λ is. absurd (not_done is)) place;
       disk = keeps;
       counts = at_opening;
@@ -167,6 +168,7 @@ module _ {D : Type 0} {g : Ghosts D} (s : Super) (c : Core) (running : IsRunning
         behind = follows;
         written = λ t. lines.some_writes core.history before after by (end_text (stop_after stop) all (serial core.g0 (take all (commits core.history)))) after not_done (part t).0 (part t).1 (whole t);
       };
+      faulted = λ cut. record { same = same; lines = λ t. (part t).0; early = λ is. not_done is };
       durable = λ is. absurd (not_done is);
       end = is_end;
     }
@@ -195,6 +197,7 @@ module _ {D : Type 0} {g : Ghosts D} (s : Super) (c : Core) (running : IsRunning
           behind = same;
           written = λ t. lines.all_writes core.history before after (status_after output) text after' (out t) (wrote_some output after text after' (full t)) (λ is. wrote_all output after text after' is (full t));
         };
+        faulted = λ cut. absurd (fault_not_whole c core made cut reached);
         durable = λ is. last;
         end = written_end output;
       }
@@ -232,6 +235,13 @@ module _ {D : Type 0} {g : Ghosts D} (s : Super) (c : Core) (running : IsRunning
                 (lines.lines_more core.history before after after' [] (out t) (nothing.nothing t ∙ sym (append-nil after))) (λ is. out_after t);
           }
 
+      -- it went on, so the disk had not failed
+      went_on : HasMade (Some stop.after) c made plays.behind core → IsCutBy (Refused DiskFault) c made core → ⊥
+      went_on has cut = ⊎_elim
+          (λ (whole : (plays.behind ≡ []) × IsWhole c made core). fault_not_whole c core made cut whole.1)
+          (λ (stopped : IsCutBy (Refused Stopped) c made core). fault_not_stopped c core made cut stopped)
+          has
+
       pub ends_recovered : HasMade (Some stop.after) c made plays.behind core → (Unharmed h start final → IsExact (Some stop.after) at_opening c made core) → IsPlayed h (Some stop) at_opening c events start final by told before after'
       ends_recovered has place = record {
         run = events_made (Some stop.after) at_opening by (Unharmed h start final) (λ is. has) place;
@@ -242,6 +252,7 @@ module _ {D : Type 0} {g : Ghosts D} (s : Super) (c : Core) (running : IsRunning
         most = few_calls;
         replies = replies;
         prints = ⊎_elim found_prints nothing_prints recovers.found;
+        faulted = λ cut. absurd (went_on has cut);
         durable = λ done. recovered_only h stop.again core k keeps.stopped final by told after after' recovers.found done;
         end = recovers.end;
       }

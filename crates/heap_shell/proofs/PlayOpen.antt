@@ -6,6 +6,8 @@ use Rattle.std.proofs.lemmas.List.{append-nil}
 use Rattle.disk_model.specs.declared.disk.Disk.{Ghosts}
 use Rattle.disk_model.specs.Moments.{LeavesOnly, begins, joined, weaker}
 use Rattle.graph_model.specs.declared.event.Event.{Event}
+use Rattle.graph_model.specs.declared.reply.Refusal.TheVariants.{DiskFault}
+use Rattle.graph_model.specs.declared.reply.Reply.TheVariants.{Refused}
 use Rattle.graph_model.specs.Graph.{Graph, new_graph}
 use Rattle.graph_model.specs.History.{account}
 use Rattle.heap_core.specs.Causes.{IsFromOutside}
@@ -27,6 +29,7 @@ use Rattle.heap_shell.specs.Headline.{IsOpened, made_super, end_text, stop_after
 use Rattle.heap_shell.specs.Causes.{Unharmed}
 use Rattle.heap_shell.specs.Output.{Recovers, WroteRecovered, WroteNothing}
 use Rattle.heap_shell.proofs.Counts.{counted_mono}
+use Rattle.heap_shell.proofs.PlayFaults.{none_cut}
 use Rattle.heap_shell.proofs.Reopened.{recovered_only}
 use Rattle.heap_shell.proofs.Lines.{some_writes, all_writes, lines_more}
 use Rattle.graph_model.specs.Transaction.{serial}
@@ -174,6 +177,7 @@ module _ {D : Type 0} (g : Ghosts D) {bytes : List ℕ} (stored : IsStored bytes
             whole = λ done. absurd (early done);
           };
         };
+        faulted = λ cut. absurd (none_cut (Refused DiskFault) c c cut);
         durable = λ done. absurd (early done);
         end = subst IsEndOfPlay (sym is) (open_end e outside);
       }
@@ -238,6 +242,7 @@ module _ {D : Type 0} (g : Ghosts D) {bytes : List ℕ} (stored : IsStored bytes
           most = subst (λ (m : ℕ). g.passed stopped ≤ counted m (g.passed start)) (sym through) most;
           replies = refl;
           prints = ⊎_elim (found_unplayed recovers.least recovers.most) (nothing_unplayed recovers.least recovers.most) recovers.found;
+          faulted = λ cut. absurd (none_cut (Refused DiskFault) c c cut);
           durable = λ done. recovered_only g stop.again c k stopped final by told before after recovers.found done;
           end = recovers.end;
         }

@@ -9,7 +9,7 @@ use Rattle.disk_model.specs.Moments.{LeavesOnly}
 use Rattle.gate_slot.specs.Passing.{Passes}
 use Rattle.graph_model.specs.declared.event.Event.{Event}
 use Rattle.graph_model.specs.declared.reply.Entry.{Entry}
-use Rattle.graph_model.specs.declared.reply.Refusal.TheVariants.{Stopped}
+use Rattle.graph_model.specs.declared.reply.Refusal.TheVariants.{DiskFault, Stopped}
 use Rattle.graph_model.specs.declared.reply.Reply.{Reply}
 use Rattle.graph_model.specs.declared.reply.Reply.TheVariants.{Refused}
 use Rattle.graph_model.specs.Graph.{Graph, new_graph}
@@ -87,6 +87,12 @@ let_through (Some n) calls = min n calls
 abbrev pub HasMade : Option ℕ → Core → List Event → List Event → Core → Type 0
 HasMade None c made behind d = (behind ≡ []) × IsWhole c made d
 HasMade (Some n) c made behind d = ((behind ≡ []) × IsWhole c made d) ⊎ IsCutBy (Refused Stopped) c made d
+
+-- A run ended at its last event: on the disk as the event left it, with no more than lines written, and not with status 0.
+pub record EndsThere {D : Type 0} (stopped final : D) (result : Status) (only_lines : Type 0) : Type 0 where
+  pub same : final ≡ stopped
+  pub lines : only_lines
+  pub early : result ≢ status.Done
 
 -- The disk stopped in the last of these events, and that is the one with more calls than were left of n.
 pub record StopsLast (n : ℕ) (c : Core) (made : List Event) (d : Core) : Type 0 where
@@ -263,6 +269,8 @@ module _ {D : Type 0} (g : Ghosts D) where
     pub most : g.passed disk.stopped ≤ counted (let_through (stop_after stop) (at_opening + total_calls c run.made)) (g.passed start)
     pub replies : replies_of_commits run.core.history ≡ serial_replies run.core.g0 (commits run.core.history)
     pub prints : Prints stop run.core disk.stopped final result told before after
+    -- a run whose last event was answered `diskfault` ends there
+    pub faulted : IsCutBy (Refused DiskFault) c run.made run.core → EndsThere disk.stopped final result (IsTrue told → WroteFront before (lines_text run.core.history) after)
     -- a run that is done leaves nothing unsynced
     pub durable : result ≡ status.Done → Only (g.bytes final) (g.may_leave final)
     pub end : IsEndOfPlay result

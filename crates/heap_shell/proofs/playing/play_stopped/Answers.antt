@@ -252,7 +252,7 @@ returns-in-Some-clause-played g c tells stored only =
     let part = halt_part s first running refl es playable old new k.tells before after c.play_lines-played.result plays halted.0 halted.1 in
     let closed = c.into_inner-in-Some.ensures ∙ ap fuse_inner c.close-in-Some.ensures in
     rw (closed, halted.3) (ends_early s first running refl es playable old new k.tells before after c.play_lines-played.result plays d start final (Some c.args.stop) n keeps inside most
-    _ (halt_end halted.0) (halt_not_done halted.0) part
+    _ refl (halt_end halted.0) (halt_not_done halted.0) part
     (halt_lines s first running refl es playable old new k.tells before after c.play_lines-played.result plays halted.0 halted.1) exact
     (inr (unstarted d c.args.stop.again plays.core _ final _, halt_not_done halted.0, λ t. (part t).0)))
 

@@ -96,7 +96,7 @@ returns-in-Err-play_all-clause-played g c tells stored only =
     let whole = λ (u : Unharmed d c.args.disk new.disk). exact_passes s first running refl es playable old new k.tells before after (Err h) plays (unharmed u) ∙ ap (counted all) passed ∙ sum in
     let most = subst (λ (m : ℕ). d.passed new.disk ≤ m) (ap (counted all) passed ∙ sum) (passes_most s first running refl es playable old new k.tells before after (Err h) plays) in
     rw (c.close-in-Err-play_all.ensures, c.from-in-Err-play_all.ensures) (ends_early s first running refl es playable old new k.tells before after (Err h) plays d c.args.disk new.disk None n keeps whole most
-    _ (halt_end h) (halt_not_done h)
+    _ refl (halt_end h) (halt_not_done h)
     (halt_part s first running refl es playable old new k.tells before after (Err h) plays h refl)
     (halt_lines s first running refl es playable old new k.tells before after (Err h) plays h refl)
     (λ u. exact_none s first running refl es playable old new k.tells before after (Err h) plays (unharmed u))
