@@ -173,7 +173,7 @@ module _ {D : Type 0} (g : Ghosts D) {bytes : List ℕ} (stored : IsStored bytes
           written = λ t. record {
             front = none_written before (end_text (stop_after stop) 0 stored.graph);
             lines = ([], [], [], refl, omega arith, sym (append-nil (before ++ []) ∙ append-nil before));
-            fault = λ fault. ([], sym (append-nil (before ++ []) ∙ append-nil before));
+            fault = λ fault. sym (append-nil before);
             whole = λ done. absurd (early done);
           };
         };
@@ -197,7 +197,7 @@ module _ {D : Type 0} (g : Ghosts D) {bytes : List ℕ} (stored : IsStored bytes
       most = most;
       all = λ none. cc;
       behind = inl found.opened;
-      written = λ t. all_writes [] before before by (end_text (Some stop.after) k (serial stored.graph (take k []))) after (sym (append-nil before)) (found.written t) (found.whole t);
+      written = λ t. all_writes [] before before by (end_text (Some stop.after) k (serial stored.graph (take k []))) after found.sound (sym (append-nil before)) (found.written t) (found.whole t);
     }
 
     nothing_unplayed : 0 ≤ k → k ≤ 0 → WroteNothing fails by told before after → Prints g (Some stop) c stopped final by told before after

@@ -65,12 +65,19 @@ abbrev pub end_text : Option ℕ → ℕ → Graph → List ℕ
 end_text None k g = graph_text g
 end_text (Some n) k g = recovered_line k ++ graph_text g
 
+-- The statuses that the disk and its image give.
+abbrev pub IsOfDisk : Status → Type 0
+IsOfDisk status.DiskFault = Unit {0}
+IsOfDisk status.NotHeap = Unit {0}
+IsOfDisk (status.Damaged at) = Unit {0}
+IsOfDisk s = ⊥
+
 -- The output of a run was written: all of it where the run is done, and else a first part. All lines of the history are in it but
--- perhaps the last one, and all of them where the disk failed.
+-- perhaps the last one; where the disk or its image ended the run, all of them and nothing else.
 pub record Writes (result : Status) (history : List Entry) (text before after : List ℕ) : Type 0 where
   pub front : WroteFront before (lines_text history ++ text) after
   pub lines : WroteLines before history after
-  pub fault : result ≡ status.DiskFault → (rest : List ℕ) × (after ≡ (before ++ lines_text history) ++ rest)
+  pub fault : IsOfDisk result → after ≡ before ++ lines_text history
   pub whole : result ≡ status.Done → after ≡ before ++ (lines_text history ++ text)
 
 -- behind how many calls the disk stops first
@@ -87,6 +94,12 @@ let_through (Some n) calls = min n calls
 abbrev pub HasMade : Option ℕ → Core → List Event → List Event → Core → Type 0
 HasMade None c made behind d = (behind ≡ []) × IsWhole c made d
 HasMade (Some n) c made behind d = ((behind ≡ []) × IsWhole c made d) ⊎ IsCutBy (Refused Stopped) c made d
+
+-- The disk or its image ended a run: the disk failed or stopped in the last event that was made. Where it was to stop, that was in an event, or
+-- behind all of them or before the first one, and then the heap was to be opened again.
+abbrev pub HasFailed : Option ℕ → Core → List Event → List Event → Core → Type 0
+HasFailed None c made behind d = IsCutBy (Refused DiskFault) c made d ⊎ IsCutBy (Refused Stopped) c made d
+HasFailed (Some n) c made behind d = IsCutBy (Refused DiskFault) c made d ⊎ HasMade (Some n) c made behind d ⊎ (made ≡ [])
 
 -- A run ended at its last event: on the disk as the event left it, with no more than lines written, and not with status 0.
 pub record EndsThere {D : Type 0} (stopped final : D) (result : Status) (only_lines : Type 0) : Type 0 where
@@ -136,6 +149,7 @@ pub record PrintsRun (stop : Option ℕ) (lines : List Line) (result : Status) (
   pub run : IsRun first made core
   -- all events were made, or it stopped in one of them or in the opening
   pub done : result ≡ status.Done → HasMade stop first made behind core ⊎ ((stop ≢ None) × (made ≡ []))
+  pub failed : IsOfDisk result → HasFailed stop first made behind core
   pub count : ℕ
   pub graph : Graph
   pub own : stop ≡ None → graph ≡ serial core.g0 (sealed core.history)

@@ -86,6 +86,9 @@ pub fn run<D: Disk, S: Source, K: Sink>(
     ensures prints_size { IsTrue K.tells → (s : Super) → command (map string_bytes words.now) ≡ Some (asked.Format (numbers_of s)) → WritesText result.0 (formatted_line s) (K.written sink.old) (K.written sink.new) }
     ensures prints_graph { IsTrue K.tells → command (map string_bytes words.now) ≡ Some asked.Graph → ((result.0 ≢ Status.Done) × (K.written sink.new ≡ K.written sink.old)) ⊎ ((g : Graph) × WritesText result.0 (graph_text g) (K.written sink.old) (K.written sink.new)) }
 
+    // On any disk, without a stop a status against the image comes before anything is written.
+    ensures unwritten { (asked : Command) → command (map string_bytes words.now) ≡ Some asked → restarts_of asked ≡ 0 → ¬ IsSound result.0 → sink.new ≡ sink.old }
+
     // Which images are no heap or damaged, and where: such an image gives its own status, with nothing written; without a stop each status against an
     // image tells what is so. An image that is no heap is left as it was, and a heap that the run makes is never refused.
     ensures refuses { OfTold D.tells (D.bytes disk) (D.may_leave disk) ((asked : Command) (expected : Status) → command (map string_bytes words.now) ≡ Some asked → makes asked ≡ None

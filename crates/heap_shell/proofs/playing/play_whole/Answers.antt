@@ -19,6 +19,7 @@ use Rattle.heap_shell.proofs.RefusalLaws.{told_status, told_each, end_told, end_
 use Rattle.heap_shell.specs.Refusals.{IsLeftAlone}
 use Rattle.heap_shell.proofs.Statuses.{written_end, halt_end, halt_not_done, open_not_done, open_harm}
 use Rattle.heap_shell.proofs.PlayPrints.{reached, prints_early, prints_whole}
+use Rattle.heap_shell.proofs.RunLaws.{end_sound}
 use Rattle.heap_shell.proofs.playing.play_whole.Goals as goal
 
 pub returns-in-Err-clause-played : goal.returns-in-Err-clause-played
@@ -181,3 +182,9 @@ returns-in-Ok-play_all-clause-refused_at_end g c tells only = rw c.status_after-
 
 pub returns-in-Err-play_all-clause-refused_at_end : goal.returns-in-Err-play_all-clause-refused_at_end
 returns-in-Err-play_all-clause-refused_at_end g c tells only = rw c.from-in-Err-play_all.ensures (end_told_each _ _ (halt_end c.in-Err-play_all.halt))
+
+pub returns-in-Ok-play_all-clause-unwritten : goal.returns-in-Ok-play_all-clause-unwritten
+returns-in-Ok-play_all-clause-unwritten g c against = absurd (against (rw c.status_after-status.ensures (end_sound _ (written_end c.write_graph.result))))
+
+pub returns-in-Err-play_all-clause-unwritten : goal.returns-in-Err-play_all-clause-unwritten
+returns-in-Err-play_all-clause-unwritten g c against = absurd (against (rw c.from-in-Err-play_all.ensures (end_sound _ (halt_end c.in-Err-play_all.halt))))

@@ -12,6 +12,7 @@ use Rattle.heap_shell.proofs.RefusalLaws.{told_status, told_each, end_told, end_
 use Rattle.heap_shell.specs.Refusals.{IsLeftAlone}
 use Rattle.heap_shell.proofs.Statuses.{open_end, open_not_done, written_end, wrote_all}
 use Rattle.heap_shell.proofs.Written.{none_written, wrote_some}
+use Rattle.heap_shell.proofs.RunLaws.{end_sound}
 use Rattle.heap_shell.proofs.printing.run_graph.Goals as goal
 
 pub returns-in-Ok-clause-graph : goal.returns-in-Ok-clause-graph
@@ -104,3 +105,6 @@ pub returns-in-Err-clause-refused_at_end : goal.returns-in-Err-clause-refused_at
 returns-in-Err-clause-refused_at_end g c tells only =
     told_each g.D.Disk c.in-Err.e c.from.result c.args.disk c.in-Err.disk c.from.ensures (c.in-Err.ensures.refused tells) (c.in-Err.ensures.moments_not_heap tells only) (c.in-Err.ensures.moments_damaged tells only)
     (λ t image le may. g.met.D.Disk.counts_now tells c.in-Err.disk t image le may)
+
+pub returns-in-Ok-clause-unwritten : goal.returns-in-Ok-clause-unwritten
+returns-in-Ok-clause-unwritten g c against = absurd (against (rw c.status_after-status.ensures (end_sound _ (written_end c.write_graph.result))))
