@@ -6,6 +6,7 @@ use Rattle.std.proofs.lemmas.Bool.{cases_lt}
 use Rattle.counts.specs.Count.{counted}
 use Rattle.disk_model.specs.declared.disk.Disk.{Ghosts}
 use Rattle.disk_model.specs.declared.disk.DiskError.TheVariants as device
+use Rattle.disk_model.specs.Disk.{SameOutside}
 use Rattle.disk_model.specs.Keeps.{KeepsDisk}
 use Rattle.disk_model.specs.Moments.{LeavesOnly, joined, weaker}
 use Rattle.gate_slot.specs.Passing.{Passes}
@@ -96,11 +97,12 @@ module _ {D : Type 0} (g : Ghosts D) (s : Super) (old new : D) where
   pub not_made : (e : FormatError) (by : Status) (told : Bool) (before : List ℕ) → IsTrue g.tells → by ≡ format_status e
       → (g.extent old < need → (e ≡ format.TooSmall (g.extent old) need) × (new ≡ old)) → (need ≤ g.extent old → IsFromDisk e) → KeepsDisk g old new (format_device e)
       → (need ≤ g.extent old → Passes (format_calls need (g.bytes old)) (g.passed old) (g.passed new) (format_device e)) → LeavesOnly g.moment g.left_since old new (IsFormatting s (g.bytes old))
-      → IsNotMade g s old new by told before before
-  not_made e by told before tells is small large keeps passes moments = record {
+      → LeavesOnly g.moment g.left_since old new (SameOutside 0 need (g.bytes old)) → IsNotMade g s old new by told before before
+  not_made e by told before tells is small large keeps passes moments outside = record {
     reason = subst (IsUnmade g s old new) (sym is) (unmade e small large keeps passes);
     nothing = λ t. refl;
     moments = moments;
+    outside = outside;
     restarts = keeps.restarts tells;
   }
 

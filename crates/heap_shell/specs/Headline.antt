@@ -4,7 +4,7 @@ use Rattle.std.specs.Fmt.{decimal}
 use Rattle.counts.specs.Count.{raised, counted}
 use Rattle.disk_model.specs.declared.disk.Disk.{Ghosts}
 use Rattle.disk_model.specs.declared.disk.DiskError.{DiskError}
-use Rattle.disk_model.specs.Disk.{Only, HasCause}
+use Rattle.disk_model.specs.Disk.{SameOutside, Only, HasCause}
 use Rattle.disk_model.specs.Moments.{LeavesOnly}
 use Rattle.gate_slot.specs.Passing.{Passes}
 use Rattle.graph_model.specs.declared.event.Event.{Event}
@@ -295,6 +295,9 @@ module _ {D : Type 0} (g : Ghosts D) where
     pub empty : IsLegal s [] (g.bytes made)
     -- a superblock with these numbers, and zeros up to the end of the plan
     pub zeros : IsEmptyHeap s (g.bytes made)
+    -- each byte behind the plan is as it was, and so it was at each moment
+    pub kept : SameOutside 0 (image_size s.pages s.log_bytes) (g.bytes old) (g.bytes made)
+    pub outside : LeavesOnly g.moment g.left_since old made (SameOutside 0 (image_size s.pages s.log_bytes) (g.bytes old))
     pub only : Only (g.bytes made) (g.may_leave made)
     pub passed : g.passed made ≡ counted (format_calls (image_size s.pages s.log_bytes) (g.bytes old)) (g.passed old)
     pub restarts : g.restarts made ≡ g.restarts old
@@ -314,11 +317,12 @@ module _ {D : Type 0} (g : Ghosts D) where
   IsUnmade s old new (status.TooSmall size need) = new ≡ old
   IsUnmade s old new result = ⊥
 
-  -- No heap was made, and nothing was written. A crash left no heap, the old image, or the new heap.
+  -- No heap was made, and nothing was written. A crash left no heap, the old image, or the new heap, with the bytes behind the plan as they were.
   pub record IsNotMade (s : Super) (old new : D) (result : Status) (told : Bool) (before after : List ℕ) : Type 0 where
     pub reason : IsUnmade s old new result
     pub nothing : IsTrue told → after ≡ before
     pub moments : LeavesOnly g.moment g.left_since old new (IsFormatting s (g.bytes old))
+    pub outside : LeavesOnly g.moment g.left_since old new (SameOutside 0 (image_size s.pages s.log_bytes) (g.bytes old))
     pub restarts : g.restarts new ≡ g.restarts old
 
   -- A script was played on a disk whose heap was opened as the core c, with the events that end a run.

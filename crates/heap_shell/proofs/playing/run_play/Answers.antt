@@ -41,7 +41,7 @@ returns-in-Ok-format-clause-headline g c tells only =
     let es = all_events (stop_after c.args.stop) (made_core pages) (events lines) in
     rw c.in-Some.is (inr (record {
       made = c.in-Ok-format.disk;
-      format = record { moments = e.moments tells only; empty = made.0; zeros = e.empty tells; only = made.1; passed = (e.passes tells (large_made _ _ e.small)).ok; restarts = e.disk.restarts tells };
+      format = record { moments = e.moments tells only; empty = made.0; zeros = e.empty tells; kept = e.outside tells; outside = e.moments_outside tells only; only = made.1; passed = (e.passes tells (large_made _ _ e.small)).ok; restarts = e.disk.restarts tells };
       plays = record {
         lines = lines;
         script = record { bytes = read.0; script = read.1 ∙ ap (λ (ls : List Line). Ok ls) (sym c.deref-in-Ok-format.ensures.value); own = read.2 };
