@@ -7,7 +7,7 @@ use Rattle.script_text.specs.Line.{events}
 use Rattle.heap_shell.specs.Headline.{made_super, PrintsRun, stop_after, IsPlayed, made_core}
 use Rattle.heap_shell.specs.Playable.{IsScript, IsReadFrom}
 use Rattle.heap_shell.proofs.PlayOpen.{new_stored, no_calls}
-use Rattle.heap_shell.proofs.RunLaws.{large_made, format_not_done, not_made, restarts_none, end_sound}
+use Rattle.heap_shell.proofs.RunLaws.{large_made, format_not_done, not_made, not_read, restarts_none, end_sound}
 use Rattle.heap_shell.proofs.RefusalLaws.{input_told_each}
 use Rattle.heap_shell.proofs.playing.run_play.Goals as goal
 
@@ -70,3 +70,9 @@ returns-in-Err-clause-refused_at_end g c tells only = input_told_each _ _ c.in-E
 -- the heap that was made is durable
 pub returns-in-Ok-format-clause-refused_at_end : goal.returns-in-Ok-format-clause-refused_at_end
 returns-in-Ok-format-clause-refused_at_end g c tells only = c.play_script-in-Ok-format.ensures.refused_at_end tells (c.in-Ok-format.ensures.made tells).1
+
+pub returns-in-Err-clause-headline : goal.returns-in-Err-clause-headline
+returns-in-Err-clause-headline g c tells only =
+    let d = g.D.Disk in
+    not_read d c.args.disk only (λ image since. g.met.D.Disk.only_now tells c.args.disk image since) c.args.fresh c.args.stop (IsReadFrom g.S.Source.tells (g.S.Source.left c.args.source.now)) c.in-Err.status g.K.Sink.tells (g.K.Sink.written c.args.sink.now)
+    c.in-Err.ensures.status
