@@ -95,8 +95,8 @@ abbrev pub HasMade : Option ℕ → Core → List Event → List Event → Core 
 HasMade None c made behind d = (behind ≡ []) × IsWhole c made d
 HasMade (Some n) c made behind d = ((behind ≡ []) × IsWhole c made d) ⊎ IsCutBy (Refused Stopped) c made d
 
--- The disk or its image ended a run: the disk failed or stopped in the last event that was made. Where it was to stop, that was in an event, or
--- behind all of them or before the first one, and then the heap was to be opened again.
+-- A run that the disk or its image ended: in the last event that was made; or, where a stop was asked, in an opening behind all events, behind the one
+-- that was stopped, or before the first.
 abbrev pub HasFailed : Option ℕ → Core → List Event → List Event → Core → Type 0
 HasFailed None c made behind d = IsCutBy (Refused DiskFault) c made d ⊎ IsCutBy (Refused Stopped) c made d
 HasFailed (Some n) c made behind d = IsCutBy (Refused DiskFault) c made d ⊎ HasMade (Some n) c made behind d ⊎ (made ≡ [])
