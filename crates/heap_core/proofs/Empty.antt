@@ -38,14 +38,14 @@ module _ (s : Super) (image : List ℕ) (large : image_size s.pages s.log_bytes 
   behind : drop 64 (filled 0 1 (drop 1 (superblock s)) image) ≡ drop 64 image
   behind = ap (λ (l : List ℕ). drop 64 l) front ∙ drop_at (superblock s) (drop 64 image) 64 size
 
-  behind_at : (i : ℕ) → 64 ≤ i → get_or (filled 0 1 (drop 1 (superblock s)) image) i 0 ≡ get_or image i 0
+  pub behind_at : (i : ℕ) → 64 ≤ i → get_or (filled 0 1 (drop 1 (superblock s)) image) i 0 ≡ get_or image i 0
   behind_at i le =
       let k = i - 64 in
       let is : 64 + k ≡ i = omega arith in
       subst (λ (j : ℕ). get_or (filled 0 1 (drop 1 (superblock s)) image) j 0 ≡ get_or image j 0) is
       (sym (get_or-drop 64 (filled 0 1 (drop 1 (superblock s)) image) k 0) ∙ ap (λ (l : List ℕ). get_or l k 0) behind ∙ get_or-drop 64 image k 0)
 
-  long : length (filled 0 1 (drop 1 (superblock s)) image) ≡ length image
+  pub long : length (filled 0 1 (drop 1 (superblock s)) image) ≡ length image
   long = ap length front ∙ omega (arith, length-append (superblock s) (drop 64 image), size, length-drop 64 image, large)
 
   zero_log : IsSuper s → AreZero 64 (image_size s.pages s.log_bytes) image → HoldsBatches (part image 64 s.log_bytes) []

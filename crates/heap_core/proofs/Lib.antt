@@ -7,6 +7,7 @@ pub mod RefinementLeft
 mod RefinementMemory
 mod RefinementOpen
 mod OpenErrors
+mod Outside
 mod RoundLaws
 mod Undamaged
 mod Zeros

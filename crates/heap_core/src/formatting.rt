@@ -42,6 +42,9 @@ impl<D: Disk> Heap<D> {
         ensures empty { IsTrue D.tells → IfOk result (λ made. IsEmptyHeap (heap_of pages log_bytes first) (D.bytes made)) }
         // A crash at any moment leaves no heap, the old image, or the new empty heap.
         ensures moments { IsTrue D.tells → Only (D.bytes disk) (D.may_leave disk) → LeavesOnly D.moment D.left_since disk (given_back result) (IsFormatting (heap_of pages log_bytes first) (D.bytes disk)) }
+        // The bytes behind the plan stay as they are, at the end and at each moment of it.
+        ensures outside { IsTrue D.tells → IfOk result (λ made. SameOutside 0 (image_size pages log_bytes) (D.bytes disk) (D.bytes made)) }
+        ensures moments_outside { IsTrue D.tells → Only (D.bytes disk) (D.may_leave disk) → LeavesOnly D.moment D.left_since disk (given_back result) (SameOutside 0 (image_size pages log_bytes) (D.bytes disk)) }
         ensures passes { IsTrue D.tells → image_size pages log_bytes ≤ D.extent disk → Passes (format_calls (image_size pages log_bytes) (D.bytes disk)) (D.passed disk) (D.passed (given_back result)) (device_result result) }
     {
         let of = Super {
@@ -68,6 +71,8 @@ fn make_empty<D: Disk>(disk: &mut D, of: &Super) -> Result<(), FormatError>
     ensures empty { IsTrue D.tells → OnOk result (IsEmptyHeap of.now (D.bytes disk.new)) }
     ensures durable { IsTrue D.tells → OnOk result (Only (D.bytes disk.new) (D.may_leave disk.new)) }
     ensures moments { IsTrue D.tells → Only (D.bytes disk.old) (D.may_leave disk.old) → LeavesOnly D.moment D.left_since disk.old disk.new (IsFormatting of.now (D.bytes disk.old)) }
+    ensures outside { IsTrue D.tells → OnOk result (SameOutside 0 (image_size of.now.pages of.now.log_bytes) (D.bytes disk.old) (D.bytes disk.new)) }
+    ensures moments_outside { IsTrue D.tells → Only (D.bytes disk.old) (D.may_leave disk.old) → LeavesOnly D.moment D.left_since disk.old disk.new (SameOutside 0 (image_size of.now.pages of.now.log_bytes) (D.bytes disk.old)) }
     ensures passes { IsTrue D.tells → image_size of.now.pages of.now.log_bytes ≤ D.extent disk.old → Passes (format_calls (image_size of.now.pages of.now.log_bytes) (D.bytes disk.old)) (D.passed disk.old) (D.passed disk.new) (made_device result) }
 {
     let size = disk.size();
@@ -87,6 +92,8 @@ fn write_empty<D: Disk>(disk: &mut D, of: &Super) -> Result<(), DiskError>
     ensures empty { IsTrue D.tells → OnOk result (IsEmptyHeap of.now (D.bytes disk.new)) }
     ensures durable { IsTrue D.tells → OnOk result (Only (D.bytes disk.new) (D.may_leave disk.new)) }
     ensures moments { IsTrue D.tells → Only (D.bytes disk.old) (D.may_leave disk.old) → LeavesOnly D.moment D.left_since disk.old disk.new (IsFormatting of.now (D.bytes disk.old)) }
+    ensures outside { IsTrue D.tells → OnOk result (SameOutside 0 (image_size of.now.pages of.now.log_bytes) (D.bytes disk.old) (D.bytes disk.new)) }
+    ensures moments_outside { IsTrue D.tells → Only (D.bytes disk.old) (D.may_leave disk.old) → LeavesOnly D.moment D.left_since disk.old disk.new (SameOutside 0 (image_size of.now.pages of.now.log_bytes) (D.bytes disk.old)) }
     ensures passes { IsTrue D.tells → Passes (format_calls (image_size of.now.pages of.now.log_bytes) (D.bytes disk.old)) (D.passed disk.old) (D.passed disk.new) result }
     ensures disk { KeepsDisk D.Disk disk.old disk.new result }
 {

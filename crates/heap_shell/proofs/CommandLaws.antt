@@ -19,7 +19,8 @@ use Rattle.heap_core.specs.declared.errors.FormatError.{FormatError}
 use Rattle.heap_core.specs.declared.errors.FormatError.TheVariants as format
 use Rattle.command_words.specs.declared.commands.Numbers.{Numbers}
 use Rattle.heap_shell.specs.Commands.{IsEndOf, PrintsGraph}
-use Rattle.heap_shell.specs.Headline.{IsEndOfPlay, graph_text}
+use Rattle.heap_shell.specs.Headline.{IsEndOfPlay, IsSound, graph_text, starts_asked, restarts_asked}
+use Rattle.heap_shell.specs.Refusals.{IsToldOfEach}
 use Rattle.heap_shell.specs.StatusOf.{command_status, format_status}
 use Rattle.heap_shell.proofs.Written.{none_written}
 
@@ -56,6 +57,40 @@ written_format n status.DiskFault end = end
 written_format n status.NotHeap end = end
 written_format n (status.Damaged at) end = end
 written_format n (status.TooSmall size need) end = absurd end
+
+-- it says nothing of an image
+pub format_told_each : (n : Numbers) (s : Status) (may_leave : List ℕ → Type 0) → IsEndOf (asked.Format n) s → IsToldOfEach s may_leave
+format_told_each n status.Done may_leave end image may = tt
+format_told_each n status.NoMemory may_leave end image may = tt
+format_told_each n status.Usage may_leave end image may = absurd end
+format_told_each n (status.Script line) may_leave end image may = absurd end
+format_told_each n status.ReadFault may_leave end image may = absurd end
+format_told_each n status.WriteFault may_leave end image may = tt
+format_told_each n status.DiskFault may_leave end image may = tt
+format_told_each n status.NotHeap may_leave end image may = absurd end
+format_told_each n (status.Damaged at) may_leave end image may = absurd end
+format_told_each n (status.TooSmall size need) may_leave end image may = tt
+
+pub format_sound : (n : Numbers) (s : Status) → IsEndOf (asked.Format n) s → IsSound s
+format_sound n status.Done end = tt
+format_sound n status.NoMemory end = tt
+format_sound n status.Usage end = absurd end
+format_sound n (status.Script line) end = absurd end
+format_sound n status.ReadFault end = absurd end
+format_sound n status.WriteFault end = tt
+format_sound n status.DiskFault end = tt
+format_sound n status.NotHeap end = absurd end
+format_sound n (status.Damaged at) end = absurd end
+format_sound n (status.TooSmall size need) end = tt
+
+-- without a restart no stop was asked
+pub no_stop : (stop : Option Stop) → restarts_asked stop ≡ 0 → stop ≡ None
+no_stop None is = refl
+no_stop (Some stop) is = absurd (some stop.again is)
+  where
+    some : (again : Option ℕ) → starts_asked again ≡ 0 → ⊥
+    some None asks = omega arith
+    some (Some m) asks = omega arith
 
 pub format_ends : (n : Numbers) (e : FormatError) → IsEndOf (asked.Format n) (format_status e)
 format_ends n (format.TooSmall size need) = tt

@@ -7,6 +7,7 @@ mod PlayCore
 mod PlayEnding
 mod PlayEnds
 mod PlayEvent
+mod PlayFaults
 mod PlayFuse
 mod PlayLaws
 mod PlayLoop

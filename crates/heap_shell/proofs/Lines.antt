@@ -6,7 +6,7 @@ use Rattle.heap_shell.specs.declared.play.Halt.{Halt}
 use Rattle.heap_shell.specs.declared.play.Halt.TheVariants as halt
 use Rattle.heap_shell.specs.declared.status.Status.{Status}
 use Rattle.heap_shell.specs.declared.status.Status.TheVariants as status
-use Rattle.heap_shell.specs.Headline.{Writes}
+use Rattle.heap_shell.specs.Headline.{IsOfDisk, Writes}
 use Rattle.heap_shell.specs.Play.{lines_text, Wrote, WroteFront, WroteLines}
 use Rattle.heap_shell.specs.StatusOf.{halt_status}
 use Rattle.heap_shell.proofs.Written.{front_more, then_front, whole_front}
@@ -27,9 +27,9 @@ module _ (history : List Entry) (before after : List ℕ) where
   halt_part halt.Stopped wrote = all_part wrote
 
   -- all of them, if it was the disk
-  pub halt_lines : (h : Halt) → Wrote (Err h) before history after → halt_status h ≡ status.DiskFault → after ≡ before ++ lines_text history
-  halt_lines halt.NoMemory wrote fault = cc
-  halt_lines halt.WriteFault wrote fault = cc
+  pub halt_lines : (h : Halt) → Wrote (Err h) before history after → IsOfDisk (halt_status h) → after ≡ before ++ lines_text history
+  halt_lines halt.NoMemory wrote fault = absurd fault
+  halt_lines halt.WriteFault wrote fault = absurd fault
   halt_lines halt.DiskFault wrote fault = wrote
   halt_lines halt.Stopped wrote fault = wrote
 
@@ -44,20 +44,20 @@ module _ (history : List Entry) (before after : List ℕ) where
   stopped_lines (Err halt.WriteFault) (inr is) wrote = cc
 
   -- what was written of lines alone, as a first part of the output
-  pub some_writes : (by : Status) (text after' : List ℕ) → (by ≡ status.Done → ⊥) → WroteFront before (lines_text history) after' → WroteLines before history after' → (by ≡ status.DiskFault → after' ≡ before ++ lines_text history)
+  pub some_writes : (by : Status) (text after' : List ℕ) → (by ≡ status.Done → ⊥) → WroteFront before (lines_text history) after' → WroteLines before history after' → (IsOfDisk by → after' ≡ before ++ lines_text history)
       → Writes by history text before after'
   some_writes by text after' not_done front lines whole = record {
     front = front_more before (lines_text history) text after' front;
     lines = lines;
-    fault = λ is. ([], whole is ∙ sym (append-nil (before ++ lines_text history)));
+    fault = whole;
     whole = λ is. absurd (not_done is);
   }
 
   -- all lines were written, and of the text behind them all or a first part
-  pub all_writes : (by : Status) (text after' : List ℕ) → after ≡ before ++ lines_text history → WroteFront after text after' → (by ≡ status.Done → after' ≡ after ++ text) → Writes by history text before after'
-  all_writes by text after' out front whole = record {
+  pub all_writes : (by : Status) (text after' : List ℕ) → (IsOfDisk by → ⊥) → after ≡ before ++ lines_text history → WroteFront after text after' → (by ≡ status.Done → after' ≡ after ++ text) → Writes by history text before after'
+  all_writes by text after' sound out front whole = record {
     front = then_front before (lines_text history) text after after' out front;
     lines = lines_more after' front.0 out front.3;
-    fault = λ is. (front.0, front.3 ∙ ap (λ (l : List ℕ). l ++ front.0) out);
+    fault = λ is. absurd (sound is);
     whole = λ is. whole is ∙ ap (λ (l : List ℕ). l ++ text) out ∙ append_assoc before (lines_text history) text;
   }

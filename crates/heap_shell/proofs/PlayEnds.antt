@@ -35,7 +35,7 @@ use Rattle.commit_order.specs.Heard.{replies_of_commits}
 use Rattle.heap_model.specs.CoreRuns.{after_events, total_calls}
 use Rattle.core_laws.specs.Valid.{IsReached}
 use Rattle.command_words.specs.declared.commands.Stop.{Stop}
-use Rattle.heap_shell.specs.Headline.{graph_text, end_text, stop_after, let_through, HasMade, StopsLast, IsExact, IsEndOfPlay, MakesEvents, KeepsThroughout, IsFollowed, Reopens, StartsAgain, EndsUnopened, Prints, IsPlayed}
+use Rattle.heap_shell.specs.Headline.{graph_text, end_text, stop_after, let_through, HasMade, StopsLast, IsExact, IsEndOfPlay, IsOfDisk, MakesEvents, KeepsThroughout, IsFollowed, Reopens, StartsAgain, EndsUnopened, Prints, IsPlayed}
 use Rattle.heap_shell.specs.Playable.{IsPlayable}
 use Rattle.heap_shell.specs.Output.{WroteText, Recovers, WroteRecovered, WroteNothing, status_after}
 use Rattle.heap_shell.specs.Play.{IsRunning, IsWhole, IsCutBy, AreReady, MakesAll, MakesShort, Makes, Ends, Plays, Wrote, lines_text, WroteFront, WroteLines}
@@ -44,10 +44,11 @@ use Rattle.heap_shell.proofs.Causes.{disk_rose}
 use Rattle.heap_shell.proofs.Counts.{counted-sum, counted_mono}
 use Rattle.heap_shell.proofs.PlayEvent.{heap_leaves}
 use Rattle.heap_shell.proofs.Lines as lines
+use Rattle.heap_shell.proofs.PlayFaults.{fault_not_whole, fault_not_stopped}
 use Rattle.heap_shell.proofs.PlayFuse.{rose_some, own_steps}
 use Rattle.heap_shell.proofs.PlayLaws.{ends_makes}
 use Rattle.heap_shell.proofs.Reopened.{recovered_only}
-use Rattle.heap_shell.proofs.Statuses.{written_end, wrote_all}
+use Rattle.heap_shell.proofs.Statuses.{written_end, written_sound, wrote_all}
 use Rattle.heap_shell.proofs.Written.{whole_front, wrote_some}
 
 module _ {D : Type 0} {g : Ghosts D} (s : Super) (c : Core) (running : IsRunning c) (new_history : c.history ≡ []) (events : List Event) (playable : IsPlayable events)
@@ -108,7 +109,7 @@ module _ {D : Type 0} {g : Ghosts D} (s : Super) (c : Core) (running : IsRunning
   halt_part h is t = lines.halt_part core.history before after h (lines_wrote (Err h) is t)
 
   -- all of them, if it was the disk
-  pub halt_lines : (h : Halt) → result ≡ Err h → IsTrue told → halt_status h ≡ status.DiskFault → after ≡ before ++ lines_text core.history
+  pub halt_lines : (h : Halt) → result ≡ Err h → IsTrue told → IsOfDisk (halt_status h) → after ≡ before ++ lines_text core.history
   halt_lines h is t fault = lines.halt_lines core.history before after h (lines_wrote (Err h) is t) fault
 
   -- or if it went on
@@ -147,11 +148,11 @@ module _ {D : Type 0} {g : Ghosts D} (s : Super) (c : Core) (running : IsRunning
   module _ {B : Type 0} (h : Ghosts B) (start final : B) (stop : Option Stop) (at_opening : ℕ) (keeps : KeepsThroughout h (stop_after stop) at_opening c made core start final)
       (calls : Unharmed h start final → h.passed keeps.stopped ≡ counted (let_through (stop_after stop) (at_opening + total_calls c made)) (h.passed start)) (few_calls : h.passed keeps.stopped ≤ counted (let_through (stop_after stop) (at_opening + total_calls c made)) (h.passed start)) where
     -- The play ended before more than lines were to be written.
-    pub ends_early : (by : Status) → IsEndOfPlay by → (by ≡ status.Done → ⊥) → (IsTrue told → WroteFront before (lines_text core.history) after × WroteLines before core.history after)
-        → (IsTrue told → by ≡ status.DiskFault → after ≡ before ++ lines_text core.history)
+    pub ends_early : (by : Status) → final ≡ keeps.stopped → IsEndOfPlay by → (by ≡ status.Done → ⊥) → (IsTrue told → WroteFront before (lines_text core.history) after × WroteLines before core.history after)
+        → (IsTrue told → IsOfDisk by → after ≡ before ++ lines_text core.history)
         → (Unharmed h start final → IsExact (stop_after stop) at_opening c made core) → IsFollowed h stop core all keeps.stopped final by (IsTrue told → WroteFront before (lines_text core.history) after)
         → IsPlayed h stop at_opening c events start final by told before after
-    ends_early by is_end not_done part whole place follows = record {
+    ends_early by same is_end not_done part whole place follows = record {
       run = events_made (stop_after stop) at_opening by (Unharmed h start final) (λ is. absurd (not_done is)) place;
       disk = keeps;
       counts = at_opening;
@@ -167,6 +168,7 @@ module _ {D : Type 0} {g : Ghosts D} (s : Super) (c : Core) (running : IsRunning
         behind = follows;
         written = λ t. lines.some_writes core.history before after by (end_text (stop_after stop) all (serial core.g0 (take all (commits core.history)))) after not_done (part t).0 (part t).1 (whole t);
       };
+      faulted = λ cut. record { same = same; lines = λ t. (part t).0; early = λ is. not_done is };
       durable = λ is. absurd (not_done is);
       end = is_end;
     }
@@ -193,8 +195,9 @@ module _ {D : Type 0} {g : Ghosts D} (s : Super) (c : Core) (running : IsRunning
           most = most;
           all = λ none. refl;
           behind = same;
-          written = λ t. lines.all_writes core.history before after (status_after output) text after' (out t) (wrote_some output after text after' (full t)) (λ is. wrote_all output after text after' is (full t));
+          written = λ t. lines.all_writes core.history before after (status_after output) text after' (written_sound output) (out t) (wrote_some output after text after' (full t)) (λ is. wrote_all output after text after' is (full t));
         };
+        faulted = λ cut. absurd (fault_not_whole c core made cut reached);
         durable = λ is. last;
         end = written_end output;
       }
@@ -216,7 +219,7 @@ module _ {D : Type 0} {g : Ghosts D} (s : Super) (c : Core) (running : IsRunning
         most = recovers.most;
         all = λ none. cc;
         behind = inl found.opened;
-        written = λ t. lines.all_writes core.history before after by (end_text (Some stop.after) k (serial core.g0 (take k (commits core.history)))) after' (out t) (found.written t) (found.whole t);
+        written = λ t. lines.all_writes core.history before after by (end_text (Some stop.after) k (serial core.g0 (take k (commits core.history)))) after' found.sound (out t) (found.written t) (found.whole t);
       }
 
       nothing_prints : WroteNothing (fails k by) by told after after' → Prints h (Some stop) core keeps.stopped final by told before after'
@@ -232,6 +235,13 @@ module _ {D : Type 0} {g : Ghosts D} (s : Super) (c : Core) (running : IsRunning
                 (lines.lines_more core.history before after after' [] (out t) (nothing.nothing t ∙ sym (append-nil after))) (λ is. out_after t);
           }
 
+      -- it went on, so the disk had not failed
+      went_on : HasMade (Some stop.after) c made plays.behind core → IsCutBy (Refused DiskFault) c made core → ⊥
+      went_on has cut = ⊎_elim
+          (λ (whole : (plays.behind ≡ []) × IsWhole c made core). fault_not_whole c core made cut whole.1)
+          (λ (stopped : IsCutBy (Refused Stopped) c made core). fault_not_stopped c core made cut stopped)
+          has
+
       pub ends_recovered : HasMade (Some stop.after) c made plays.behind core → (Unharmed h start final → IsExact (Some stop.after) at_opening c made core) → IsPlayed h (Some stop) at_opening c events start final by told before after'
       ends_recovered has place = record {
         run = events_made (Some stop.after) at_opening by (Unharmed h start final) (λ is. has) place;
@@ -242,6 +252,7 @@ module _ {D : Type 0} {g : Ghosts D} (s : Super) (c : Core) (running : IsRunning
         most = few_calls;
         replies = replies;
         prints = ⊎_elim found_prints nothing_prints recovers.found;
+        faulted = λ cut. absurd (went_on has cut);
         durable = λ done. recovered_only h stop.again core k keeps.stopped final by told after after' recovers.found done;
         end = recovers.end;
       }

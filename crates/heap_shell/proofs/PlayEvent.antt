@@ -40,7 +40,7 @@ sound_device (Refused DiskFault) sound = absurd sound
 sound_device (Refused Stopped) sound = absurd sound
 sound_device reply sound = (refl, refl)
 
-answer_sound : (c : Core) (event : Event) → IsSoundReply (answer c event)
+pub answer_sound : (c : Core) (event : Event) → IsSoundReply (answer c event)
 answer_sound c event = sound_either _ _ (core_refusal-HasNoFault c event) (granted_sound (next_number c) c.g0 (account c.history) event)
 
 -- the reply of a disk that did what it was asked lets a play go on

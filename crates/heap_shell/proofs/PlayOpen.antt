@@ -6,6 +6,8 @@ use Rattle.std.proofs.lemmas.List.{append-nil}
 use Rattle.disk_model.specs.declared.disk.Disk.{Ghosts}
 use Rattle.disk_model.specs.Moments.{LeavesOnly, begins, joined, weaker}
 use Rattle.graph_model.specs.declared.event.Event.{Event}
+use Rattle.graph_model.specs.declared.reply.Refusal.TheVariants.{DiskFault}
+use Rattle.graph_model.specs.declared.reply.Reply.TheVariants.{Refused}
 use Rattle.graph_model.specs.Graph.{Graph, new_graph}
 use Rattle.graph_model.specs.History.{account}
 use Rattle.heap_core.specs.Causes.{IsFromOutside}
@@ -27,6 +29,7 @@ use Rattle.heap_shell.specs.Headline.{IsOpened, made_super, end_text, stop_after
 use Rattle.heap_shell.specs.Causes.{Unharmed}
 use Rattle.heap_shell.specs.Output.{Recovers, WroteRecovered, WroteNothing}
 use Rattle.heap_shell.proofs.Counts.{counted_mono}
+use Rattle.heap_shell.proofs.PlayFaults.{none_cut}
 use Rattle.heap_shell.proofs.Reopened.{recovered_only}
 use Rattle.heap_shell.proofs.Lines.{some_writes, all_writes, lines_more}
 use Rattle.graph_model.specs.Transaction.{serial}
@@ -170,10 +173,11 @@ module _ {D : Type 0} (g : Ghosts D) {bytes : List ℕ} (stored : IsStored bytes
           written = λ t. record {
             front = none_written before (end_text (stop_after stop) 0 stored.graph);
             lines = ([], [], [], refl, omega arith, sym (append-nil (before ++ []) ∙ append-nil before));
-            fault = λ fault. ([], sym (append-nil (before ++ []) ∙ append-nil before));
+            fault = λ fault. sym (append-nil before);
             whole = λ done. absurd (early done);
           };
         };
+        faulted = λ cut. absurd (none_cut (Refused DiskFault) c c cut);
         durable = λ done. absurd (early done);
         end = subst IsEndOfPlay (sym is) (open_end e outside);
       }
@@ -193,7 +197,7 @@ module _ {D : Type 0} (g : Ghosts D) {bytes : List ℕ} (stored : IsStored bytes
       most = most;
       all = λ none. cc;
       behind = inl found.opened;
-      written = λ t. all_writes [] before before by (end_text (Some stop.after) k (serial stored.graph (take k []))) after (sym (append-nil before)) (found.written t) (found.whole t);
+      written = λ t. all_writes [] before before by (end_text (Some stop.after) k (serial stored.graph (take k []))) after found.sound (sym (append-nil before)) (found.written t) (found.whole t);
     }
 
     nothing_unplayed : 0 ≤ k → k ≤ 0 → WroteNothing fails by told before after → Prints g (Some stop) c stopped final by told before after
@@ -238,6 +242,7 @@ module _ {D : Type 0} (g : Ghosts D) {bytes : List ℕ} (stored : IsStored bytes
           most = subst (λ (m : ℕ). g.passed stopped ≤ counted m (g.passed start)) (sym through) most;
           replies = refl;
           prints = ⊎_elim (found_unplayed recovers.least recovers.most) (nothing_unplayed recovers.least recovers.most) recovers.found;
+          faulted = λ cut. absurd (none_cut (Refused DiskFault) c c cut);
           durable = λ done. recovered_only g stop.again c k stopped final by told before after recovers.found done;
           end = recovers.end;
         }

@@ -4,6 +4,7 @@ use Rattle.std.specs.Prelude.{IsTrue}
 use Rattle.std.specs.List.{AllByRecursion}
 use Rattle.std.proofs.lemmas.List.{append-nil}
 use Rattle.disk_model.specs.declared.disk.Disk.{Ghosts}
+use Rattle.graph_model.specs.declared.event.Event.{Event}
 use Rattle.graph_model.specs.declared.reply.Entry.{Entry}
 use Rattle.graph_model.specs.Graph.{Graph, new_graph}
 use Rattle.graph_model.specs.History.{sealed}
@@ -22,21 +23,21 @@ use Rattle.heap_shell.specs.declared.play.Halt.TheVariants as halt
 use Rattle.heap_shell.specs.declared.status.Status.{Status}
 use Rattle.heap_shell.specs.declared.status.Status.TheVariants as status
 use Rattle.heap_shell.specs.CoreLawsPlay.{made_limits, all_playable}
-use Rattle.heap_shell.specs.Headline.{made_super, made_core, graph_text, end_text, recovered_line, HasMade, PrintsSome, Writes}
+use Rattle.heap_shell.specs.Headline.{made_super, made_core, graph_text, end_text, recovered_line, HasMade, HasFailed, IsOfDisk, PrintsSome, Writes}
 use Rattle.heap_shell.specs.Output.{WroteText, WroteGraph, WroteAgain, status_after}
 use Rattle.heap_shell.specs.Play.{EndsAs, PlaysCore, Wrote, lines_text}
 use Rattle.heap_shell.specs.Playable.{IsScript}
 use Rattle.heap_shell.specs.StatusOf.{halt_status}
 use Rattle.heap_shell.proofs.Lines.{halt_part, halt_lines, stopped_lines, some_writes, all_writes, lines_more}
 use Rattle.heap_shell.proofs.PlayOpen.{IsNew}
-use Rattle.heap_shell.proofs.Statuses.{halt_not_done, wrote_all}
+use Rattle.heap_shell.proofs.Statuses.{halt_not_done, written_sound, wrote_all}
 use Rattle.heap_shell.proofs.Written.{whole_front, wrote_some}
 use Rattle.script_text.specs.declared.line.Line.{Line}
 use Rattle.script_text.specs.Line.{events}
 
 -- Some number and graph were written, or nothing.
 pub wrote_again : (r : Result (Unit {0}) WriteError) (k : ℕ) (g : Graph) (by : Status) (before after : List ℕ) → by ≡ status_after r → WroteText r before (recovered_line k ++ graph_text g) after → WroteAgain by before after
-wrote_again r k g by before after is wrote = inr (k, g, record { front = wrote_some r before _ after wrote; whole = λ done. wrote_all r before _ after (sym is ∙ done) wrote })
+wrote_again r k g by before after is wrote = inr (k, g, record { sound = λ d. written_sound r (subst IsOfDisk is d); front = wrote_some r before _ after wrote; whole = λ done. wrote_all r before _ after (sym is ∙ done) wrote })
 
 -- The opening was stopped: no event was made.
 pub prints_unplayed : (n : ℕ) (script : List Line) (by : Status) (before after : List ℕ) → WroteAgain by before after → PrintsSome (Some n) script by before after
@@ -54,11 +55,21 @@ prints_unplayed n script by before after (inr again) =
       core = c;
       run = refl;
       done = λ is. inr ((λ none. cc), refl);
+      failed = λ is. inr (inr refl);
       count = again.0;
       graph = again.1;
       own = λ none. cc;
-      written = all_writes [] before before by (recovered_line again.0 ++ graph_text again.1) after (sym (append-nil before)) wrote.front wrote.whole;
+      written = all_writes [] before before by (recovered_line again.0 ++ graph_text again.1) after wrote.sound (sym (append-nil before)) wrote.front wrote.whole;
     })
+
+-- A play that the disk ended was cut short in its last event.
+halt_failed : (stop : Option ℕ) (c : Core) (made behind : List Event) (d : Core) (h : Halt) → EndsAs c made behind d (Err h) → IsOfDisk (halt_status h) → HasFailed stop c made behind d
+halt_failed stop c made behind d halt.NoMemory ends is = absurd is
+halt_failed stop c made behind d halt.WriteFault ends is = absurd is
+halt_failed None c made behind d halt.DiskFault ends is = inl ends
+halt_failed None c made behind d halt.Stopped ends is = inr ends
+halt_failed (Some n) c made behind d halt.DiskFault ends is = inl ends
+halt_failed (Some n) c made behind d halt.Stopped ends is = inr (inl (inr ends))
 
 module _ {D : Type 0} {g : Ghosts D} (stop : Option ℕ) (c : Core) (new : IsNew c) (script : List Line) (is_script : IsScript script) (heap : Heap D g) (told : Bool) (before after : List ℕ) (result : Result (Unit {0}) Halt)
     (plays : PlaysCore c (all_events stop c (events script)) heap told before after result) (tells : IsTrue told) where
@@ -74,9 +85,9 @@ module _ {D : Type 0} {g : Ghosts D} (stop : Option ℕ) (c : Core) (new : IsNew
   wrote : Wrote result before core.history after
   wrote = plays.written tells before (sym (ap (λ (h : List Entry). before ++ lines_text h) new.nothing ∙ append-nil before))
 
-  prints : (by : Status) (after' : List ℕ) (k : ℕ) (graph : Graph) → (by ≡ status.Done → HasMade stop c plays.made plays.behind core) → (stop ≡ None → graph ≡ serial core.g0 (sealed core.history))
+  prints : (by : Status) (after' : List ℕ) (k : ℕ) (graph : Graph) → (by ≡ status.Done → HasMade stop c plays.made plays.behind core) → (IsOfDisk by → HasFailed stop c plays.made plays.behind core) → (stop ≡ None → graph ≡ serial core.g0 (sealed core.history))
       → Writes by core.history (end_text stop k graph) before after' → PrintsSome stop script by before after'
-  prints by after' k graph done own written = inr (record {
+  prints by after' k graph done failed own written = inr (record {
     first = c;
     opened = new.opened;
     made = plays.made;
@@ -85,6 +96,7 @@ module _ {D : Type 0} {g : Ghosts D} (stop : Option ℕ) (c : Core) (new : IsNew
     core = core;
     run = plays.run;
     done = λ is. inl (done is);
+    failed = failed;
     count = k;
     graph = graph;
     own = own;
@@ -97,7 +109,8 @@ module _ {D : Type 0} {g : Ghosts D} (stop : Option ℕ) (c : Core) (new : IsNew
       let some = subst (λ (r : Result (Unit {0}) Halt). Wrote r before core.history after) is wrote in
       let graph = serial core.g0 (sealed core.history) in
       let part = halt_part core.history before after h some in
-      prints (halt_status h) after 0 graph (λ done. absurd (halt_not_done h done)) (λ none. refl)
+      let ends = subst (EndsAs c plays.made plays.behind core) is plays.ends in
+      prints (halt_status h) after 0 graph (λ done. absurd (halt_not_done h done)) (halt_failed stop c plays.made plays.behind core h ends) (λ none. refl)
       (some_writes core.history before after (halt_status h) (end_text stop 0 graph) after (halt_not_done h) part.0 part.1 (halt_lines core.history before after h some))
 
 -- It was not to stop, and its graph was to be written.
@@ -106,8 +119,8 @@ pub prints_whole : {D : Type 0} {g : Ghosts D} (c : Core) (new : IsNew c) (scrip
     → WroteText r after (graph_text (serial plays.core.g0 (sealed plays.core.history))) after' → PrintsSome None script (status_after r) before after'
 prints_whole c new script is_script heap told before after plays tells r after' text =
     let graph = serial plays.core.g0 (sealed plays.core.history) in
-    prints None c new script is_script heap told before after (Ok tt) plays tells (status_after r) after' 0 graph (λ done. plays.ends) (λ none. refl)
-    (all_writes plays.core.history before after (status_after r) (graph_text graph) after' (wrote None c new script is_script heap told before after (Ok tt) plays tells) (wrote_some r after _ after' text) (λ done. wrote_all r after _ after' done text))
+    prints None c new script is_script heap told before after (Ok tt) plays tells (status_after r) after' 0 graph (λ done. plays.ends) (λ is. absurd (written_sound r is)) (λ none. refl)
+    (all_writes plays.core.history before after (status_after r) (graph_text graph) after' (written_sound r) (wrote None c new script is_script heap told before after (Ok tt) plays tells) (wrote_some r after _ after' text) (λ done. wrote_all r after _ after' done text))
 
 -- It was to stop, and what came back was to be written.
 pub prints_again : {D : Type 0} {g : Ghosts D} (n : ℕ) (c : Core) (new : IsNew c) (script : List Line) (is_script : IsScript script) (heap : Heap D g) (told : Bool) (before after : List ℕ) (result : Result (Unit {0}) Halt)
@@ -127,11 +140,11 @@ prints_again n c new script is_script heap told before after result plays tells 
     nothing none =
         let graph = serial plays.core.g0 (sealed plays.core.history) in
         let lines = none.1 ∙ out in
-        prints (Some n) c new script is_script heap told before after result plays tells by after' 0 graph (λ done. made) (λ no. refl)
+        prints (Some n) c new script is_script heap told before after result plays tells by after' 0 graph (λ done. made) (λ is. inr (inl made)) (λ no. refl)
         (some_writes plays.core.history before after by (end_text (Some n) 0 graph) after' none.0 (whole_front before (lines_text plays.core.history) after' lines) (lines_more plays.core.history before after after' [] out (none.1 ∙ sym (append-nil after))) (λ is. lines))
 
     some : (k : ℕ) × (graph : Graph) × WroteGraph k graph by after after' → PrintsSome (Some n) script by before after'
     some wrote_it =
         let text = recovered_line wrote_it.0 ++ graph_text wrote_it.1 in
-        prints (Some n) c new script is_script heap told before after result plays tells by after' wrote_it.0 wrote_it.1 (λ done. made) (λ no. cc)
-        (all_writes plays.core.history before after by text after' out wrote_it.2.front wrote_it.2.whole)
+        prints (Some n) c new script is_script heap told before after result plays tells by after' wrote_it.0 wrote_it.1 (λ done. made) (λ is. inr (inl made)) (λ no. cc)
+        (all_writes plays.core.history before after by text after' wrote_it.2.sound out wrote_it.2.front wrote_it.2.whole)

@@ -32,14 +32,14 @@ use Rattle.heap_model.specs.Image.{IsLegalLog, IsLegal}
 use Rattle.heap_model.specs.CoreLawsHeld.{left_first}
 use Rattle.heap_model.specs.Opening.{IsLeftByOpening}
 use Rattle.heap_shell.specs.Causes.{DiskRose}
-use Rattle.heap_shell.specs.Headline.{recovered_line, graph_text, IsEndOfPlay, KeepsFirst, calls_to_open, Reopens, FailsToOpen, Restarts, IsCutBefore, StartsAgain, EndsUnopened}
+use Rattle.heap_shell.specs.Headline.{recovered_line, graph_text, IsEndOfPlay, IsOfDisk, KeepsFirst, calls_to_open, Reopens, FailsToOpen, Restarts, IsCutBefore, StartsAgain, EndsUnopened}
 use Rattle.heap_shell.specs.Output.{IsBefore, commits_since, WroteText, Recovers, WroteRecovered, WroteNothing, status_after}
 use Rattle.heap_shell.specs.StatusOf.{open_status}
 use Rattle.heap_shell.proofs.Causes.{disk_rose}
 use Rattle.heap_shell.proofs.Counts.{counted-sum}
 use Rattle.heap_shell.proofs.PlayFuse.{rose_some}
 use Rattle.heap_shell.proofs.PlayOpen.{opening_then}
-use Rattle.heap_shell.proofs.Statuses.{written_end, wrote_all, open_end, open_not_done}
+use Rattle.heap_shell.proofs.Statuses.{written_end, written_sound, wrote_all, open_end, open_not_done}
 use Rattle.heap_shell.proofs.Written.{wrote_some}
 
 -- Commits take bytes of the log, so they can be counted.
@@ -159,6 +159,7 @@ module _ {D : Type 0} (g : Ghosts D) (c : Core) (k : ℕ) (old new : D) (keeps :
     kept = keeps.still;
     found = inl (record {
       opened = record { keeps = keeps; passed = passes; only = only };
+      sound = λ d. written_sound r (subst IsOfDisk is d);
       written = λ t. wrote_some r before _ after (wrote t);
       whole = λ t done. wrote_all r before _ after (sym is ∙ done) (wrote t);
     });
@@ -174,7 +175,7 @@ recovers_again {D} g again c k stopped first last new by told before after start
   most = recovers.most;
   kept = recovers.kept;
   found = ⊎_elim
-      (λ (found : WroteRecovered c k (Reopens g c k last new) by told before after). inl (record { opened = starts (Reopens g c k) found.opened; written = found.written; whole = found.whole }))
+      (λ (found : WroteRecovered c k (Reopens g c k last new) by told before after). inl (record { opened = starts (Reopens g c k) found.opened; sound = found.sound; written = found.written; whole = found.whole }))
       (λ (none : WroteNothing (FailsToOpen g c k by last new) by told before after). inr (record { failed = unopened again (starts (FailsToOpen g c k by) none.failed); early = none.early; nothing = none.nothing }))
       recovers.found;
 }

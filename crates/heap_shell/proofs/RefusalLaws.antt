@@ -13,7 +13,7 @@ use Rattle.heap_shell.specs.declared.status.Status.{Status}
 use Rattle.heap_shell.specs.declared.status.Status.TheVariants as status
 use Rattle.heap_shell.specs.Causes.{IsInputError}
 use Rattle.heap_shell.specs.Headline.{IsEndOfPlay}
-use Rattle.heap_shell.specs.Refusals.{IsFault, IsToldOf, EndsRefused, IsLeftAlone}
+use Rattle.heap_shell.specs.Refusals.{IsFault, IsToldOf, IsToldOfEach, EndsRefused, IsLeftAlone}
 use Rattle.heap_shell.specs.StatusOf.{open_status}
 
 -- what the error of an opening tells, its status tells
@@ -119,6 +119,20 @@ module _ {D : Type 0} (g : Ghosts D) where
       → (image : List ℕ) → g.may_leave new image → P image
   at_end old new P moments counts image may = moments.each image (counts (g.moment old) image moments.later may)
 
+  -- what an opening's error tells of the image that it read, its status tells of each image that a crash may leave behind it
+  pub told_each : (e : OpenError) (by : Status) (old new : D) → by ≡ open_status e → opening_refusals.IsToldOf e (g.bytes old) → (IsNoHeap (g.bytes old) → LeavesOnly g.moment g.left_since old new IsNoHeap)
+      → ((at : At) → IsFaultAt at (g.bytes old) → LeavesOnly g.moment g.left_since old new (IsFaultAt at))
+      → ((t : ℕ) (image : List ℕ) → t ≤ g.moment new → g.may_leave new image → g.left_since new t image) → IsToldOfEach by (g.may_leave new)
+  told_each opening.NoMemory by old new is told no_heap damaged counts = rw is (λ image may. tt)
+  told_each opening.NotHeap by old new is told no_heap damaged counts = rw is (at_end old new IsNoHeap (no_heap told) counts)
+  told_each (opening.Damaged at) by old new is told no_heap damaged counts = rw is (at_end old new (IsFaultAt at) (damaged at told) counts)
+  told_each opening.DiskFault by old new is told no_heap damaged counts = rw is (λ image may. tt)
+  told_each opening.Stopped by old new is told no_heap damaged counts = rw is (λ image may. tt)
+
+-- the end of a play says nothing of them
+pub end_told_each : (s : Status) (may_leave : List ℕ → Type 0) → IsEndOfPlay s → IsToldOfEach s may_leave
+end_told_each s may_leave end image may = end_told s image end
+
 -- A script that was bad or could not be read says nothing of the image.
 pub input_ends : (expected s : Status) → IsInputError s → EndsRefused expected s
 input_ends expected status.Done input = absurd input
@@ -143,6 +157,10 @@ input_told status.DiskFault image input = tt
 input_told status.NotHeap image input = absurd input
 input_told (status.Damaged at) image input = absurd input
 input_told (status.TooSmall size need) image input = tt
+
+-- nor of those that a crash may leave
+pub input_told_each : (s : Status) (may_leave : List ℕ → Type 0) → IsInputError s → IsToldOfEach s may_leave
+input_told_each s may_leave input image may = input_told s image input
 
 pub input_not_alone : (s : Status) → IsInputError s → IsLeftAlone s → ⊥
 input_not_alone status.Done input alone = alone

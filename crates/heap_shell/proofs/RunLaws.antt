@@ -6,8 +6,9 @@ use Rattle.std.proofs.lemmas.Bool.{cases_lt}
 use Rattle.counts.specs.Count.{counted}
 use Rattle.disk_model.specs.declared.disk.Disk.{Ghosts}
 use Rattle.disk_model.specs.declared.disk.DiskError.TheVariants as device
+use Rattle.disk_model.specs.Disk.{SameOutside, Only}
 use Rattle.disk_model.specs.Keeps.{KeepsDisk}
-use Rattle.disk_model.specs.Moments.{LeavesOnly, joined, weaker}
+use Rattle.disk_model.specs.Moments.{LeavesOnly, begins, joined, weaker}
 use Rattle.gate_slot.specs.Passing.{Passes}
 use Rattle.graph_model.specs.declared.event.Event.{Event}
 use Rattle.graph_model.specs.History.{acknowledged}
@@ -37,7 +38,9 @@ use Rattle.heap_core.specs.GivenBack.{format_device, IsFromDisk}
 use Rattle.heap_shell.specs.declared.status.Status.{Status}
 use Rattle.heap_shell.specs.declared.status.Status.TheVariants as status
 use Rattle.command_words.specs.declared.commands.Stop.{Stop}
-use Rattle.heap_shell.specs.Headline.{made_core, IsEndOfPlay, IsSound, IsUnmade, IsNotMade, IsPlayed, PlaysScript, Runs, RestartsDisk, stop_after}
+use Rattle.heap_shell.specs.Headline.{made_super, made_core, IsEndOfPlay, IsSound, IsUnmade, IsNotMade, IsPlayed, PlaysScript, Runs, RestartsDisk, stop_after}
+use Rattle.script_text.specs.declared.line.Line.{Line}
+use Rattle.heap_shell.specs.Causes.{IsInputError}
 use Rattle.heap_shell.specs.StatusOf.{format_status}
 
 -- a play says nothing against the image
@@ -96,13 +99,41 @@ module _ {D : Type 0} (g : Ghosts D) (s : Super) (old new : D) where
   pub not_made : (e : FormatError) (by : Status) (told : Bool) (before : List ℕ) → IsTrue g.tells → by ≡ format_status e
       → (g.extent old < need → (e ≡ format.TooSmall (g.extent old) need) × (new ≡ old)) → (need ≤ g.extent old → IsFromDisk e) → KeepsDisk g old new (format_device e)
       → (need ≤ g.extent old → Passes (format_calls need (g.bytes old)) (g.passed old) (g.passed new) (format_device e)) → LeavesOnly g.moment g.left_since old new (IsFormatting s (g.bytes old))
-      → IsNotMade g s old new by told before before
-  not_made e by told before tells is small large keeps passes moments = record {
+      → LeavesOnly g.moment g.left_since old new (SameOutside 0 need (g.bytes old)) → IsNotMade g s old new by told before before
+  not_made e by told before tells is small large keeps passes moments outside = record {
     reason = subst (IsUnmade g s old new) (sym is) (unmade e small large keeps passes);
     nothing = λ t. refl;
     moments = moments;
+    outside = outside;
     restarts = keeps.restarts tells;
   }
+
+-- A run that ended before it did anything with the disk, since its script was bad or could not be read, or memory was refused.
+module _ {D : Type 0} (g : Ghosts D) (disk : D) (only : Only (g.bytes disk) (g.may_leave disk)) (now : (image : List ℕ) → g.left_since disk (g.moment disk) image → g.may_leave disk image) where
+  still : (P : List ℕ → Type 0) → P (g.bytes disk) → LeavesOnly g.moment g.left_since disk disk P
+  still P here = begins g.moment g.left_since disk P (λ image since. subst P (sym (only image (now image since))) here)
+
+  unread : (s : Super) (by : Status) → IsInputError by → IsUnmade g s disk disk by
+  unread s status.Done input = absurd input
+  unread s status.NoMemory input = refl
+  unread s status.Usage input = absurd input
+  unread s (status.Script line) input = refl
+  unread s status.ReadFault input = refl
+  unread s status.WriteFault input = absurd input
+  unread s status.DiskFault input = absurd input
+  unread s status.NotHeap input = absurd input
+  unread s (status.Damaged at) input = absurd input
+  unread s (status.TooSmall size need) input = absurd input
+
+  pub not_read : (fresh : Option ℕ) (stop : Option Stop) (is_script : List Line → Type 0) (by : Status) (told : Bool) (before : List ℕ) → IsInputError by → Runs g fresh stop is_script disk disk by told before before
+  not_read None stop is_script by told before input = inl (record { reason = input; same = refl; nothing = λ t. refl })
+  not_read (Some pages) stop is_script by told before input = inl (record {
+    reason = unread (made_super pages) by input;
+    nothing = λ t. refl;
+    moments = still (IsFormatting (made_super pages) (g.bytes disk)) (inr (inl refl));
+    outside = still (SameOutside 0 (image_size pages 1048576) (g.bytes disk)) (record { size = refl; before = λ i low. refl; behind = λ i high. refl });
+    restarts = refl;
+  })
 
 -- What a run says of crashes in short.
 module _ {D : Type 0} (g : Ghosts D) (now : (disk : D) (image : List ℕ) → g.left_since disk (g.moment disk) image → g.may_leave disk image) (start final : D) where

@@ -14,7 +14,7 @@ use Rattle.heap_shell.proofs.Causes.{disk_rose}
 use Rattle.heap_core.specs.Causes.{IsFromOutside, error_device}
 use Rattle.heap_core.specs.declared.errors.OpenError.{OpenError}
 use Rattle.heap_core.specs.declared.errors.OpenError.TheVariants as opening
-use Rattle.heap_shell.specs.Headline.{IsEndOfPlay}
+use Rattle.heap_shell.specs.Headline.{IsEndOfPlay, IsOfDisk}
 use Rattle.heap_shell.specs.Output.{WroteText, early_end, status_after}
 use Rattle.heap_shell.specs.StatusOf.{open_status, write_status, halt_status}
 
@@ -35,6 +35,12 @@ write_no_fault writing.SinkFailed is = cc
 pub written_end : (r : Result (Unit {0}) WriteError) → IsEndOfPlay (status_after r)
 written_end (Ok done) = tt
 written_end (Err e) = write_end e
+
+-- and not by the disk or its image
+pub written_sound : (r : Result (Unit {0}) WriteError) → IsOfDisk (status_after r) → ⊥
+written_sound (Ok done) is = is
+written_sound (Err writing.NoMemory) is = is
+written_sound (Err writing.SinkFailed) is = is
 
 pub written_no_fault : (r : Result (Unit {0}) WriteError) → status_after r ≡ DiskFault → ⊥
 written_no_fault (Ok done) is = cc

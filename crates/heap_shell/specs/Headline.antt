@@ -4,12 +4,12 @@ use Rattle.std.specs.Fmt.{decimal}
 use Rattle.counts.specs.Count.{raised, counted}
 use Rattle.disk_model.specs.declared.disk.Disk.{Ghosts}
 use Rattle.disk_model.specs.declared.disk.DiskError.{DiskError}
-use Rattle.disk_model.specs.Disk.{Only, HasCause}
+use Rattle.disk_model.specs.Disk.{SameOutside, Only, HasCause}
 use Rattle.disk_model.specs.Moments.{LeavesOnly}
 use Rattle.gate_slot.specs.Passing.{Passes}
 use Rattle.graph_model.specs.declared.event.Event.{Event}
 use Rattle.graph_model.specs.declared.reply.Entry.{Entry}
-use Rattle.graph_model.specs.declared.reply.Refusal.TheVariants.{Stopped}
+use Rattle.graph_model.specs.declared.reply.Refusal.TheVariants.{DiskFault, Stopped}
 use Rattle.graph_model.specs.declared.reply.Reply.{Reply}
 use Rattle.graph_model.specs.declared.reply.Reply.TheVariants.{Refused}
 use Rattle.graph_model.specs.Graph.{Graph, new_graph}
@@ -65,12 +65,19 @@ abbrev pub end_text : Option ℕ → ℕ → Graph → List ℕ
 end_text None k g = graph_text g
 end_text (Some n) k g = recovered_line k ++ graph_text g
 
+-- The statuses that the disk and its image give.
+abbrev pub IsOfDisk : Status → Type 0
+IsOfDisk status.DiskFault = Unit {0}
+IsOfDisk status.NotHeap = Unit {0}
+IsOfDisk (status.Damaged at) = Unit {0}
+IsOfDisk s = ⊥
+
 -- The output of a run was written: all of it where the run is done, and else a first part. All lines of the history are in it but
--- perhaps the last one, and all of them where the disk failed.
+-- perhaps the last one; where the disk or its image ended the run, all of them and nothing else.
 pub record Writes (result : Status) (history : List Entry) (text before after : List ℕ) : Type 0 where
   pub front : WroteFront before (lines_text history ++ text) after
   pub lines : WroteLines before history after
-  pub fault : result ≡ status.DiskFault → (rest : List ℕ) × (after ≡ (before ++ lines_text history) ++ rest)
+  pub fault : IsOfDisk result → after ≡ before ++ lines_text history
   pub whole : result ≡ status.Done → after ≡ before ++ (lines_text history ++ text)
 
 -- behind how many calls the disk stops first
@@ -87,6 +94,18 @@ let_through (Some n) calls = min n calls
 abbrev pub HasMade : Option ℕ → Core → List Event → List Event → Core → Type 0
 HasMade None c made behind d = (behind ≡ []) × IsWhole c made d
 HasMade (Some n) c made behind d = ((behind ≡ []) × IsWhole c made d) ⊎ IsCutBy (Refused Stopped) c made d
+
+-- A run that the disk or its image ended: in the last event that was made; or, where a stop was asked, in an opening behind all events, behind the one
+-- that was stopped, or before the first.
+abbrev pub HasFailed : Option ℕ → Core → List Event → List Event → Core → Type 0
+HasFailed None c made behind d = IsCutBy (Refused DiskFault) c made d ⊎ IsCutBy (Refused Stopped) c made d
+HasFailed (Some n) c made behind d = IsCutBy (Refused DiskFault) c made d ⊎ HasMade (Some n) c made behind d ⊎ (made ≡ [])
+
+-- A run ended at its last event: on the disk as the event left it, with no more than lines written, and not with status 0.
+pub record EndsThere {D : Type 0} (stopped final : D) (result : Status) (only_lines : Type 0) : Type 0 where
+  pub same : final ≡ stopped
+  pub lines : only_lines
+  pub early : result ≢ status.Done
 
 -- The disk stopped in the last of these events, and that is the one with more calls than were left of n.
 pub record StopsLast (n : ℕ) (c : Core) (made : List Event) (d : Core) : Type 0 where
@@ -130,6 +149,7 @@ pub record PrintsRun (stop : Option ℕ) (lines : List Line) (result : Status) (
   pub run : IsRun first made core
   -- all events were made, or it stopped in one of them or in the opening
   pub done : result ≡ status.Done → HasMade stop first made behind core ⊎ ((stop ≢ None) × (made ≡ []))
+  pub failed : IsOfDisk result → HasFailed stop first made behind core
   pub count : ℕ
   pub graph : Graph
   pub own : stop ≡ None → graph ≡ serial core.g0 (sealed core.history)
@@ -263,6 +283,8 @@ module _ {D : Type 0} (g : Ghosts D) where
     pub most : g.passed disk.stopped ≤ counted (let_through (stop_after stop) (at_opening + total_calls c run.made)) (g.passed start)
     pub replies : replies_of_commits run.core.history ≡ serial_replies run.core.g0 (commits run.core.history)
     pub prints : Prints stop run.core disk.stopped final result told before after
+    -- a run whose last event was answered `diskfault` ends there
+    pub faulted : IsCutBy (Refused DiskFault) c run.made run.core → EndsThere disk.stopped final result (IsTrue told → WroteFront before (lines_text run.core.history) after)
     -- a run that is done leaves nothing unsynced
     pub durable : result ≡ status.Done → Only (g.bytes final) (g.may_leave final)
     pub end : IsEndOfPlay result
@@ -273,6 +295,9 @@ module _ {D : Type 0} (g : Ghosts D) where
     pub empty : IsLegal s [] (g.bytes made)
     -- a superblock with these numbers, and zeros up to the end of the plan
     pub zeros : IsEmptyHeap s (g.bytes made)
+    -- each byte behind the plan is as it was, and so it was at each moment
+    pub kept : SameOutside 0 (image_size s.pages s.log_bytes) (g.bytes old) (g.bytes made)
+    pub outside : LeavesOnly g.moment g.left_since old made (SameOutside 0 (image_size s.pages s.log_bytes) (g.bytes old))
     pub only : Only (g.bytes made) (g.may_leave made)
     pub passed : g.passed made ≡ counted (format_calls (image_size s.pages s.log_bytes) (g.bytes old)) (g.passed old)
     pub restarts : g.restarts made ≡ g.restarts old
@@ -292,11 +317,12 @@ module _ {D : Type 0} (g : Ghosts D) where
   IsUnmade s old new (status.TooSmall size need) = new ≡ old
   IsUnmade s old new result = ⊥
 
-  -- No heap was made, and nothing was written. A crash left no heap, the old image, or the new heap.
+  -- No heap was made, and nothing was written. A crash left no heap, the old image, or the new heap, with the bytes behind the plan as they were.
   pub record IsNotMade (s : Super) (old new : D) (result : Status) (told : Bool) (before after : List ℕ) : Type 0 where
     pub reason : IsUnmade s old new result
     pub nothing : IsTrue told → after ≡ before
     pub moments : LeavesOnly g.moment g.left_since old new (IsFormatting s (g.bytes old))
+    pub outside : LeavesOnly g.moment g.left_since old new (SameOutside 0 (image_size s.pages s.log_bytes) (g.bytes old))
     pub restarts : g.restarts new ≡ g.restarts old
 
   -- A script was played on a disk whose heap was opened as the core c, with the events that end a run.

@@ -11,7 +11,7 @@ use Rattle.heap_shell.specs.declared.status.Status.{Status}
 use Rattle.heap_shell.specs.declared.status.Status.TheVariants.{Done}
 use Rattle.heap_model.specs.Core.{Core}
 use Rattle.heap_model.specs.CoreCrash.{StandsForFirst}
-use Rattle.heap_shell.specs.Headline.{IsEndOfPlay, recovered_line, graph_text}
+use Rattle.heap_shell.specs.Headline.{IsEndOfPlay, IsOfDisk, recovered_line, graph_text}
 use Rattle.heap_shell.specs.Play.{WroteFront}
 use Rattle.heap_shell.specs.StatusOf.{write_status, halt_status}
 
@@ -44,6 +44,7 @@ early_end (Err other) = Some (halt_status other)
 -- The heap was opened again as a core's first k commits, and their number and their graph were written, or a first part of that.
 pub record WroteRecovered (c : Core) (k : ℕ) (opens : Type 0) (result : Status) (told : Bool) (before after : List ℕ) : Type 0 where
   pub opened : opens
+  pub sound : ¬ IsOfDisk result
   pub written : IsTrue told → WroteFront before (recovered_line k ++ graph_text (serial c.g0 (take k (commits c.history)))) after
   pub whole : IsTrue told → result ≡ Done → after ≡ before ++ (recovered_line k ++ graph_text (serial c.g0 (take k (commits c.history))))
 
@@ -63,6 +64,7 @@ pub record Recovers (c : Core) (k : ℕ) (opens fails : Type 0) (may_leave : Lis
 
 -- How many commits came back and a graph were written, or a first part of that.
 pub record WroteGraph (k : ℕ) (g : Graph) (result : Status) (before after : List ℕ) : Type 0 where
+  pub sound : ¬ IsOfDisk result
   pub front : WroteFront before (recovered_line k ++ graph_text g) after
   pub whole : result ≡ Done → after ≡ before ++ (recovered_line k ++ graph_text g)
 

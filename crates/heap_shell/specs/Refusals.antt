@@ -17,6 +17,10 @@ IsToldOf status.NotHeap image = IsNoHeap image
 IsToldOf (status.Damaged at) image = IsFaultAt at image
 IsToldOf s image = Unit {0}
 
+-- A status that speaks of an image tells what is so of each image that a crash may leave.
+abbrev pub IsToldOfEach : Status → (List ℕ → Type 0) → Type 0
+IsToldOfEach s may_leave = (image : List ℕ) → may_leave image → IsToldOf s image
+
 -- A run ends so on an image that is to be refused, unless its script was bad or could not be read before, memory was refused, or the disk failed.
 abbrev pub EndsRefused : Status → Status → Type 0
 EndsRefused expected (status.Script line) = Unit {0}

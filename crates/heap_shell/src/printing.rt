@@ -15,9 +15,9 @@ ghost use Rattle.command_words.specs.Limits.{AreNumbers};
 ghost use Rattle.command_words.specs.declared.commands.Command.TheVariants as asked;
 ghost use Rattle.heap_shell.specs.Causes.{StreamCause, RunsDisk, IsOpenedEnd};
 ghost use Rattle.heap_shell.specs.Commands.{IsEndOf, RunsFormat, PrintsGraph, WritesText, formatted_line};
-ghost use Rattle.heap_shell.specs.Headline.{OfTold, IsEndOfPlay, graph_text};
+ghost use Rattle.heap_shell.specs.Headline.{OfTold, IsEndOfPlay, IsSound, graph_text};
 ghost use Rattle.heap_shell.specs.Output.{WroteText};
-ghost use Rattle.heap_shell.specs.Refusals.{IsFault, IsToldOf, EndsRefused, IsLeftAlone};
+ghost use Rattle.heap_shell.specs.Refusals.{IsFault, IsToldOf, IsToldOfEach, EndsRefused, IsLeftAlone};
 
 use crate::output::{WriteError, write_graph};
 use crate::status::{Status, status_after};
@@ -73,9 +73,11 @@ pub fn run_graph<D: Disk, K: Sink>(alloc: Global, disk: D, sink: &mut K) -> (Sta
     ensures graph { OfTold D.tells (D.bytes disk) (D.may_leave disk) ((s : Super) (batches : List (List Record)) → (shaped : IsShaped s batches (D.bytes disk)) → (born : Bool) (places : Places) (g : Graph) → IsFound s batches shaped.log born places g
         → PrintsGraph D.Disk s batches g disk result.1 result.0 K.tells (K.written sink.old) (K.written sink.new)) }
     ensures prints { IsTrue K.tells → ((result.0 ≢ Status.Done) × (K.written sink.new ≡ K.written sink.old)) ⊎ ((g : Graph) × WritesText result.0 (graph_text g) (K.written sink.old) (K.written sink.new)) }
+    ensures unwritten { ¬ IsSound result.0 → sink.new ≡ sink.old }
     ensures restarts { IsTrue D.tells → D.restarts result.1 ≡ D.restarts disk }
     // A status against the image tells what is so, and an image that can't be opened gives its own; nothing is written then.
     ensures refused { IsTrue D.tells → IsToldOf result.0 (D.bytes disk) }
+    ensures refused_at_end { IsTrue D.tells → Only (D.bytes disk) (D.may_leave disk) → IsToldOfEach result.0 (D.may_leave result.1) }
     ensures refuses { IsTrue D.tells → (expected : Status) → IsFault expected (D.bytes disk) → EndsRefused expected result.0 × (sink.new ≡ sink.old) }
     ensures left_alone { IsTrue D.tells → IsLeftAlone result.0 → SameContents D.Disk disk result.1 }
     // At each moment a crash leaves an image with the same fault.

@@ -22,7 +22,7 @@ ghost use Rattle.heap_shell.specs.Commands.{makes, numbers_of, restarts_of, IsPl
 ghost use Rattle.heap_shell.specs.CrashSafe.{RunsSafely};
 ghost use Rattle.heap_shell.specs.Headline.{OfTold, PrintsRun, Runs, IsUntouching, EndsUnread, EndsUnmade, IsSound, RestartsDisk, graph_text, stop_after};
 ghost use Rattle.heap_shell.specs.Playable.{IsReadFrom};
-ghost use Rattle.heap_shell.specs.Refusals.{IsFault, IsToldOf, EndsRefused, IsLeftAlone};
+ghost use Rattle.heap_shell.specs.Refusals.{IsFault, IsToldOf, IsToldOfEach, EndsRefused, IsLeftAlone};
 ghost use Rattle.script_text.specs.Script.{script};
 
 use crate::playing::run_play;
@@ -86,6 +86,9 @@ pub fn run<D: Disk, S: Source, K: Sink>(
     ensures prints_size { IsTrue K.tells → (s : Super) → command (map string_bytes words.now) ≡ Some (asked.Format (numbers_of s)) → WritesText result.0 (formatted_line s) (K.written sink.old) (K.written sink.new) }
     ensures prints_graph { IsTrue K.tells → command (map string_bytes words.now) ≡ Some asked.Graph → ((result.0 ≢ Status.Done) × (K.written sink.new ≡ K.written sink.old)) ⊎ ((g : Graph) × WritesText result.0 (graph_text g) (K.written sink.old) (K.written sink.new)) }
 
+    // On any disk, without a stop a status against the image comes before anything is written.
+    ensures unwritten { (asked : Command) → command (map string_bytes words.now) ≡ Some asked → restarts_of asked ≡ 0 → ¬ IsSound result.0 → sink.new ≡ sink.old }
+
     // Which images are no heap or damaged, and where: such an image gives its own status, with nothing written; without a stop each status against an
     // image tells what is so. An image that is no heap is left as it was, and a heap that the run makes is never refused.
     ensures refuses { OfTold D.tells (D.bytes disk) (D.may_leave disk) ((asked : Command) (expected : Status) → command (map string_bytes words.now) ≡ Some asked → makes asked ≡ None
@@ -94,6 +97,8 @@ pub fn run<D: Disk, S: Source, K: Sink>(
     ensures keeps_fault { OfTold D.tells (D.bytes disk) (D.may_leave disk) ((asked : Command) (expected : Status) → command (map string_bytes words.now) ≡ Some asked → makes asked ≡ None
         → IsFault expected (D.bytes disk) → LeavesOnly D.moment D.left_since disk result.1 (IsFault expected)) }
     ensures refused { IsTrue D.tells → (asked : Command) → command (map string_bytes words.now) ≡ Some asked → makes asked ≡ None → restarts_of asked ≡ 0 → IsToldOf result.0 (D.bytes disk) }
+    // With a stop too, such a status tells what is so of the disk that is given back: of what it reads as, and of each image that a crash may leave.
+    ensures refused_at_end { OfTold D.tells (D.bytes disk) (D.may_leave disk) (IsToldOfEach result.0 (D.may_leave result.1)) }
     ensures left_alone { IsTrue D.tells → (asked : Command) → command (map string_bytes words.now) ≡ Some asked → makes asked ≡ None → restarts_of asked ≡ 0 → IsLeftAlone result.0 → SameContents D.Disk disk result.1 }
     ensures sound { OfTold D.tells (D.bytes disk) (D.may_leave disk) ((asked : Command) (s : Super) → command (map string_bytes words.now) ≡ Some asked → makes asked ≡ Some s → IsSound result.0) }
 

@@ -16,9 +16,9 @@ use Rattle.heap_shell.specs.Headline.{recovered_line, graph_text, Reopens, Fails
 use Rattle.heap_shell.specs.Output.{WroteText, commits_since}
 use Rattle.heap_shell.proofs.PlayOpen.{opened_core, opened_unfailed}
 use Rattle.heap_shell.proofs.PlayPrints.{wrote_again}
-use Rattle.heap_shell.proofs.Statuses.{open_not_done}
+use Rattle.heap_shell.proofs.Statuses.{open_not_done, written_end}
 use Rattle.heap_shell.proofs.PrintRecovered.{Left, legal_of, keeps_first, few_commits, since_before, recovers_nothing, recovers_first}
-use Rattle.heap_shell.proofs.RefusalLaws.{refused_by, not_opened, fault_moments}
+use Rattle.heap_shell.proofs.RefusalLaws.{told_each, end_told_each, refused_by, not_opened, fault_moments}
 use Rattle.heap_shell.proofs.again.print_recovered.Goals as goal
 
 -- an opening leaves the same commits at each moment
@@ -99,3 +99,12 @@ returns-in-Err-clause-keeps_fault g c tells only expected fault =
 
 pub returns-clause-keeps_fault : goal.returns-clause-keeps_fault
 returns-clause-keeps_fault g c tells only expected fault = absurd (not_opened expected (g.D.Disk.bytes c.args.disk) fault (c.in-Ok.ensures.not_heap tells) (c.in-Ok.ensures.damaged tells))
+
+-- a status against the image tells of what a crash may leave now
+pub returns-in-Err-clause-refused_at_end : goal.returns-in-Err-clause-refused_at_end
+returns-in-Err-clause-refused_at_end g c tells only =
+    told_each g.D.Disk c.in-Err.e c.from.result c.args.disk c.in-Err.disk c.from.ensures (c.in-Err.ensures.refused tells) (c.in-Err.ensures.moments_not_heap tells only) (c.in-Err.ensures.moments_damaged tells only)
+    (λ t image le may. g.met.D.Disk.counts_now tells c.in-Err.disk t image le may)
+
+pub returns-clause-refused_at_end : goal.returns-clause-refused_at_end
+returns-clause-refused_at_end g c tells only = rw c.status_after-status.ensures (end_told_each _ _ (written_end c.write_recovered.result))

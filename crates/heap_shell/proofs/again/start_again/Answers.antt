@@ -168,3 +168,10 @@ returns-in-Err-clause-keeps_fault g c tells expected leaves =
     let moved = weaker d.moment d.left_since old first (d.may_leave old) (IsFault expected) started.moments leaves in
     opening_then d.moment d.left_since old first c.in-Err.disk (IsFault expected) (IsFault expected) moved
     (c.in-Err.ensures.keeps_fault tells started.only expected (leaves (d.bytes first) started.left)) (λ image same. same)
+
+-- The last opening reads what the last restart left, so its status tells of that.
+pub returns-in-None-clause-refused_at_end : goal.returns-in-None-clause-refused_at_end
+returns-in-None-clause-refused_at_end g c tells = c.print_recovered.ensures.refused_at_end tells (c.restart-disk.ensures.restarts tells).only
+
+pub returns-in-Ok-clause-refused_at_end : goal.returns-in-Ok-clause-refused_at_end
+returns-in-Ok-clause-refused_at_end g c tells = c.print_recovered-in-Ok.ensures.refused_at_end tells (c.restart.ensures.restarts tells).only

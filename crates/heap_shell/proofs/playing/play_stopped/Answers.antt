@@ -27,7 +27,7 @@ use Rattle.heap_shell.proofs.PrintRecovered.{whole_count, fails_few, fails_none,
 use Rattle.heap_shell.proofs.Statuses.{early_none, early_some, halt_end, halt_not_done, open_not_done, open_fault}
 use Rattle.heap_recovery.specs.Faults.{IsNoHeap, IsFaultAt}
 use Rattle.heap_shell.specs.Refusals.{IsFault}
-use Rattle.heap_shell.proofs.RefusalLaws.{refused_by, not_opened, fault_moments, at_end}
+use Rattle.heap_shell.proofs.RefusalLaws.{told_each, end_told_each, refused_by, not_opened, fault_moments, at_end}
 use Rattle.heap_shell.proofs.RunLaws.{restarts_none}
 use Rattle.heap_shell.proofs.PlayPrints.{prints_unplayed, prints_again, prints_early}
 use Rattle.heap_shell.proofs.playing.play_stopped.Goals as goal
@@ -252,7 +252,7 @@ returns-in-Some-clause-played g c tells stored only =
     let part = halt_part s first running refl es playable old new k.tells before after c.play_lines-played.result plays halted.0 halted.1 in
     let closed = c.into_inner-in-Some.ensures ∙ ap fuse_inner c.close-in-Some.ensures in
     rw (closed, halted.3) (ends_early s first running refl es playable old new k.tells before after c.play_lines-played.result plays d start final (Some c.args.stop) n keeps inside most
-    _ (halt_end halted.0) (halt_not_done halted.0) part
+    _ refl (halt_end halted.0) (halt_not_done halted.0) part
     (halt_lines s first running refl es playable old new k.tells before after c.play_lines-played.result plays halted.0 halted.1) exact
     (inr (unstarted d c.args.stop.again plays.core _ final _, halt_not_done halted.0, λ t. (part t).0)))
 
@@ -372,3 +372,26 @@ returns-in-Some-clause-keeps_fault g c tells only expected fault =
     let d = g.D.Disk in
     let at = subst (λ x. IsFault expected (d.bytes x)) (sym c.new.ensures.inner) fault in
     absurd (not_opened expected (d.bytes (fuse_inner c.new.result)) at (c.in-Ok.ensures.not_heap tells) (c.in-Ok.ensures.damaged tells))
+
+-- a status against the image tells of what a crash may leave now
+pub returns-in-Err-clause-refused_at_end : goal.returns-in-Err-clause-refused_at_end
+returns-in-Err-clause-refused_at_end g c tells only =
+    let d = g.D.Disk in
+    let first = fuse_inner c.new.result in
+    let final = fuse_inner c.in-Err.fuse in
+    let only_f = subst (λ x. Only (d.bytes x) (d.may_leave x)) (sym c.new.ensures.inner) only in
+    rw c.into_inner.ensures (told_each d c.in-Err.e c.from.result first final c.from.ensures (c.in-Err.ensures.refused tells)
+    (λ none. fuse_since c.new.result c.in-Err.fuse IsNoHeap (c.in-Err.ensures.moments_not_heap tells only_f none))
+    (λ place damage. fuse_since c.new.result c.in-Err.fuse (IsFaultAt place) (c.in-Err.ensures.moments_damaged tells only_f place damage))
+    (λ t image le may. g.met.D.Disk.counts_now tells final t image le may))
+
+pub returns-then-eq-clause-refused_at_end : goal.returns-then-eq-clause-refused_at_end
+returns-then-eq-clause-refused_at_end g c tells only = c.start_again.ensures.refused_at_end tells
+
+pub returns-in-None-clause-refused_at_end : goal.returns-in-None-clause-refused_at_end
+returns-in-None-clause-refused_at_end g c tells only = c.start_again-in-None.ensures.refused_at_end tells
+
+pub returns-in-Some-clause-refused_at_end : goal.returns-in-Some-clause-refused_at_end
+returns-in-Some-clause-refused_at_end g c tells only =
+    let halted = early_some c.play_lines-played.result c.in-Some.status (sym c.early_end.ensures ∙ c.in-Some.is) in
+    rw halted.3 (end_told_each _ _ (halt_end halted.0))

@@ -15,10 +15,11 @@ use Rattle.heap_shell.proofs.Counts.{counted_mono}
 use Rattle.heap_shell.proofs.PlayEnds.{run_reached, unfailed_only, lines_wrote, halt_part, halt_lines, keeps_own, ends_early, ends_whole, exact_none, exact_passes, passes_most}
 use Rattle.heap_shell.proofs.PlayOpen.{stored_running, stored_keeps, stored_moments, ends_unopened, opened_core, played_unfailed}
 use Rattle.heap_shell.proofs.PrintRecovered.{fails_most, fails_none}
-use Rattle.heap_shell.proofs.RefusalLaws.{told_status, end_told, end_not_alone, refused_by, not_opened, alone_early, fault_moments}
+use Rattle.heap_shell.proofs.RefusalLaws.{told_status, told_each, end_told, end_told_each, end_not_alone, refused_by, not_opened, alone_early, fault_moments}
 use Rattle.heap_shell.specs.Refusals.{IsLeftAlone}
 use Rattle.heap_shell.proofs.Statuses.{written_end, halt_end, halt_not_done, open_not_done, open_harm}
 use Rattle.heap_shell.proofs.PlayPrints.{reached, prints_early, prints_whole}
+use Rattle.heap_shell.proofs.RunLaws.{end_sound}
 use Rattle.heap_shell.proofs.playing.play_whole.Goals as goal
 
 pub returns-in-Err-clause-played : goal.returns-in-Err-clause-played
@@ -96,7 +97,7 @@ returns-in-Err-play_all-clause-played g c tells stored only =
     let whole = λ (u : Unharmed d c.args.disk new.disk). exact_passes s first running refl es playable old new k.tells before after (Err h) plays (unharmed u) ∙ ap (counted all) passed ∙ sum in
     let most = subst (λ (m : ℕ). d.passed new.disk ≤ m) (ap (counted all) passed ∙ sum) (passes_most s first running refl es playable old new k.tells before after (Err h) plays) in
     rw (c.close-in-Err-play_all.ensures, c.from-in-Err-play_all.ensures) (ends_early s first running refl es playable old new k.tells before after (Err h) plays d c.args.disk new.disk None n keeps whole most
-    _ (halt_end h) (halt_not_done h)
+    _ refl (halt_end h) (halt_not_done h)
     (halt_part s first running refl es playable old new k.tells before after (Err h) plays h refl)
     (halt_lines s first running refl es playable old new k.tells before after (Err h) plays h refl)
     (λ u. exact_none s first running refl es playable old new k.tells before after (Err h) plays (unharmed u))
@@ -169,3 +170,21 @@ returns-in-Ok-play_all-clause-keeps_fault g c tells only expected fault = absurd
 
 pub returns-in-Err-play_all-clause-keeps_fault : goal.returns-in-Err-play_all-clause-keeps_fault
 returns-in-Err-play_all-clause-keeps_fault g c tells only expected fault = absurd (not_opened expected (g.D.Disk.bytes c.args.disk) fault (c.in-Ok.ensures.not_heap tells) (c.in-Ok.ensures.damaged tells))
+
+-- a status against the image tells of what a crash may leave now
+pub returns-in-Err-clause-refused_at_end : goal.returns-in-Err-clause-refused_at_end
+returns-in-Err-clause-refused_at_end g c tells only =
+    told_each g.D.Disk c.in-Err.e c.from.result c.args.disk c.in-Err.disk c.from.ensures (c.in-Err.ensures.refused tells) (c.in-Err.ensures.moments_not_heap tells only) (c.in-Err.ensures.moments_damaged tells only)
+    (λ t image le may. g.met.D.Disk.counts_now tells c.in-Err.disk t image le may)
+
+pub returns-in-Ok-play_all-clause-refused_at_end : goal.returns-in-Ok-play_all-clause-refused_at_end
+returns-in-Ok-play_all-clause-refused_at_end g c tells only = rw c.status_after-status.ensures (end_told_each _ _ (written_end c.write_graph.result))
+
+pub returns-in-Err-play_all-clause-refused_at_end : goal.returns-in-Err-play_all-clause-refused_at_end
+returns-in-Err-play_all-clause-refused_at_end g c tells only = rw c.from-in-Err-play_all.ensures (end_told_each _ _ (halt_end c.in-Err-play_all.halt))
+
+pub returns-in-Ok-play_all-clause-unwritten : goal.returns-in-Ok-play_all-clause-unwritten
+returns-in-Ok-play_all-clause-unwritten g c against = absurd (against (rw c.status_after-status.ensures (end_sound _ (written_end c.write_graph.result))))
+
+pub returns-in-Err-play_all-clause-unwritten : goal.returns-in-Err-play_all-clause-unwritten
+returns-in-Err-play_all-clause-unwritten g c against = absurd (against (rw c.from-in-Err-play_all.ensures (end_sound _ (halt_end c.in-Err-play_all.halt))))

@@ -7,7 +7,8 @@ use Rattle.script_text.specs.Line.{events}
 use Rattle.heap_shell.specs.Headline.{made_super, PrintsRun, stop_after, IsPlayed, made_core}
 use Rattle.heap_shell.specs.Playable.{IsScript, IsReadFrom}
 use Rattle.heap_shell.proofs.PlayOpen.{new_stored, no_calls}
-use Rattle.heap_shell.proofs.RunLaws.{large_made, format_not_done, not_made, restarts_none, end_sound}
+use Rattle.heap_shell.proofs.RunLaws.{large_made, format_not_done, not_made, not_read, restarts_none, end_sound}
+use Rattle.heap_shell.proofs.RefusalLaws.{input_told_each}
 use Rattle.heap_shell.proofs.playing.run_play.Goals as goal
 
 pub play_script-requires : goal.play_script-requires
@@ -40,7 +41,7 @@ returns-in-Ok-format-clause-headline g c tells only =
     let es = all_events (stop_after c.args.stop) (made_core pages) (events lines) in
     rw c.in-Some.is (inr (record {
       made = c.in-Ok-format.disk;
-      format = record { moments = e.moments tells only; empty = made.0; zeros = e.empty tells; only = made.1; passed = (e.passes tells (large_made _ _ e.small)).ok; restarts = e.disk.restarts tells };
+      format = record { moments = e.moments tells only; empty = made.0; zeros = e.empty tells; kept = e.outside tells; outside = e.moments_outside tells only; only = made.1; passed = (e.passes tells (large_made _ _ e.small)).ok; restarts = e.disk.restarts tells };
       plays = record {
         lines = lines;
         script = record { bytes = read.0; script = read.1 ∙ ap (λ (ls : List Line). Ok ls) (sym c.deref-in-Ok-format.ensures.value); own = read.2 };
@@ -61,3 +62,17 @@ returns-in-Ok-format-clause-sound g c tells only pages is =
     let made = c.in-Ok-format.ensures.made tells in
     let stored = new_stored c.in-Some.pages (d.bytes c.in-Ok-format.disk) made.0 in
     end_sound _ (c.play_script-in-Ok-format.ensures.played tells stored made.1).end
+
+-- A script that was bad or could not be read says nothing of the image.
+pub returns-in-Err-clause-refused_at_end : goal.returns-in-Err-clause-refused_at_end
+returns-in-Err-clause-refused_at_end g c tells only = input_told_each _ _ c.in-Err.ensures.status
+
+-- the heap that was made is durable
+pub returns-in-Ok-format-clause-refused_at_end : goal.returns-in-Ok-format-clause-refused_at_end
+returns-in-Ok-format-clause-refused_at_end g c tells only = c.play_script-in-Ok-format.ensures.refused_at_end tells (c.in-Ok-format.ensures.made tells).1
+
+pub returns-in-Err-clause-headline : goal.returns-in-Err-clause-headline
+returns-in-Err-clause-headline g c tells only =
+    let d = g.D.Disk in
+    not_read d c.args.disk only (λ image since. g.met.D.Disk.only_now tells c.args.disk image since) c.args.fresh c.args.stop (IsReadFrom g.S.Source.tells (g.S.Source.left c.args.source.now)) c.in-Err.status g.K.Sink.tells (g.K.Sink.written c.args.sink.now)
+    c.in-Err.ensures.status

@@ -16,7 +16,7 @@ returns-in-Ok-clause-formats g c tells only =
     let before = k.written c.args.sink.now in
     let after = k.written c.write_size.new.sink in
     rw c.status_after.ensures (inr (record {
-      format = record { moments = e.moments tells only; empty = made.0; zeros = e.empty tells; only = made.1; passed = (e.passes tells (large_made _ _ e.small)).ok; restarts = e.disk.restarts tells };
+      format = record { moments = e.moments tells only; empty = made.0; zeros = e.empty tells; kept = e.outside tells; outside = e.moments_outside tells only; only = made.1; passed = (e.passes tells (large_made _ _ e.small)).ok; restarts = e.disk.restarts tells };
       written = λ t. record {
         front = wrote_some c.write_size.result before (formatted_line s) after (c.write_size.ensures.wrote t);
         whole = λ done. wrote_all c.write_size.result before (formatted_line s) after done (c.write_size.ensures.wrote t);

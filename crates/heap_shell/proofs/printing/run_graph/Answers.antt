@@ -8,10 +8,11 @@ use Rattle.heap_model.specs.Opening.{opened, opening_calls, IsLeftByOpening}
 use Rattle.heap_shell.specs.Headline.{IsEndOfPlay, graph_text}
 use Rattle.heap_shell.proofs.PlayOpen.{opened_core, opened_unfailed}
 use Rattle.heap_shell.proofs.PrintRecovered.{fails_most}
-use Rattle.heap_shell.proofs.RefusalLaws.{told_status, end_told, end_not_alone, refused_by, not_opened, alone_early, fault_moments}
+use Rattle.heap_shell.proofs.RefusalLaws.{told_status, told_each, end_told, end_told_each, end_not_alone, refused_by, not_opened, alone_early, fault_moments}
 use Rattle.heap_shell.specs.Refusals.{IsLeftAlone}
 use Rattle.heap_shell.proofs.Statuses.{open_end, open_not_done, written_end, wrote_all}
 use Rattle.heap_shell.proofs.Written.{none_written, wrote_some}
+use Rattle.heap_shell.proofs.RunLaws.{end_sound}
 use Rattle.heap_shell.proofs.printing.run_graph.Goals as goal
 
 pub returns-in-Ok-clause-graph : goal.returns-in-Ok-clause-graph
@@ -95,3 +96,15 @@ returns-in-Err-clause-keeps_fault g c tells only expected fault =
 
 pub returns-in-Ok-clause-keeps_fault : goal.returns-in-Ok-clause-keeps_fault
 returns-in-Ok-clause-keeps_fault g c tells only expected fault = absurd (not_opened expected (g.D.Disk.bytes c.args.disk) fault (c.in-Ok.ensures.not_heap tells) (c.in-Ok.ensures.damaged tells))
+
+-- a status against the image tells of what a crash may leave now
+pub returns-in-Ok-clause-refused_at_end : goal.returns-in-Ok-clause-refused_at_end
+returns-in-Ok-clause-refused_at_end g c tells only = rw c.status_after-status.ensures (end_told_each _ _ (written_end c.write_graph.result))
+
+pub returns-in-Err-clause-refused_at_end : goal.returns-in-Err-clause-refused_at_end
+returns-in-Err-clause-refused_at_end g c tells only =
+    told_each g.D.Disk c.in-Err.e c.from.result c.args.disk c.in-Err.disk c.from.ensures (c.in-Err.ensures.refused tells) (c.in-Err.ensures.moments_not_heap tells only) (c.in-Err.ensures.moments_damaged tells only)
+    (λ t image le may. g.met.D.Disk.counts_now tells c.in-Err.disk t image le may)
+
+pub returns-in-Ok-clause-unwritten : goal.returns-in-Ok-clause-unwritten
+returns-in-Ok-clause-unwritten g c against = absurd (against (rw c.status_after-status.ensures (end_sound _ (written_end c.write_graph.result))))

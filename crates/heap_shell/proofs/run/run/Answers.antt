@@ -8,10 +8,10 @@ use Rattle.command_words.specs.declared.commands.Stop.{Stop}
 use Rattle.command_words.specs.Limits.{IsPages, IsWithin}
 use Rattle.heap_core.specs.Format.{heap_of}
 use Rattle.heap_model.specs.CoreLawsOpened.{address_found}
-use Rattle.heap_shell.specs.Commands.{makes, CanRun}
+use Rattle.heap_shell.specs.Commands.{makes, restarts_of, CanRun}
 use Rattle.heap_shell.specs.CrashSafe.{RunsSafely}
 use Rattle.heap_shell.specs.Headline.{made_super}
-use Rattle.heap_shell.proofs.CommandLaws.{same_play, graph_unread, play_ends, unread_ends}
+use Rattle.heap_shell.proofs.CommandLaws.{same_play, graph_unread, play_ends, unread_ends, format_told_each, format_sound, no_stop}
 use Rattle.heap_shell.proofs.RunLaws.{runs_safely, end_done}
 use Rattle.heap_shell.proofs.run.run.Goals as goal
 
@@ -74,3 +74,14 @@ pub returns-in-Graph-clause-ends : goal.returns-in-Graph-clause-ends
 returns-in-Graph-clause-ends g c which is =
     let same : which ≡ asked.Graph = cc (is, c.in-Ok.ensures.read, c.in-Graph.is) in
     rw same c.run_graph.ensures.end
+
+pub returns-in-Format-clause-refused_at_end : goal.returns-in-Format-clause-refused_at_end
+returns-in-Format-clause-refused_at_end g c tells only = format_told_each c.in-Format.numbers c.run_format.result.0 _ c.run_format.ensures.ends
+
+pub returns-in-Format-clause-unwritten : goal.returns-in-Format-clause-unwritten
+returns-in-Format-clause-unwritten g c which is none against = absurd (against (format_sound c.in-Format.numbers c.run_format.result.0 c.run_format.ensures.ends))
+
+pub returns-in-Play-clause-unwritten : goal.returns-in-Play-clause-unwritten
+returns-in-Play-clause-unwritten g c which is none against =
+    let same : which ≡ asked.Play c.in-Play.fresh c.in-Play.stop = cc (is, c.in-Ok.ensures.read, c.in-Play.is) in
+    c.run_play.ensures.unwritten (no_stop c.in-Play.stop (subst (λ (x : Command). restarts_of x ≡ 0) same none)) against
