@@ -18,7 +18,7 @@ use Rattle.heap_shell.specs.declared.status.Status.TheVariants as status
 use Rattle.heap_core.specs.declared.errors.FormatError.{FormatError}
 use Rattle.heap_core.specs.declared.errors.FormatError.TheVariants as format
 use Rattle.command_words.specs.declared.commands.Numbers.{Numbers}
-use Rattle.heap_shell.specs.Commands.{IsEndOf, PrintsGraph}
+use Rattle.heap_shell.specs.Commands.{makes, IsEndOf, PrintsGraph}
 use Rattle.heap_shell.specs.Headline.{IsEndOfPlay, IsSound, graph_text, starts_asked, restarts_asked}
 use Rattle.heap_shell.specs.Refusals.{IsToldOfEach}
 use Rattle.heap_shell.specs.StatusOf.{command_status, format_status}
@@ -91,6 +91,11 @@ no_stop (Some stop) is = absurd (some stop.again is)
     some : (again : Option ℕ) → starts_asked again ≡ 0 → ⊥
     some None asks = omega arith
     some (Some m) asks = omega arith
+
+-- a play that makes no heap names no pages
+pub not_made : (fresh : Option ℕ) (stop : Option Stop) → makes (asked.Play fresh stop) ≡ None → fresh ≡ None
+not_made None stop none = refl
+not_made (Some pages) stop none = cc
 
 pub format_ends : (n : Numbers) (e : FormatError) → IsEndOf (asked.Format n) (format_status e)
 format_ends n (format.TooSmall size need) = tt

@@ -1,8 +1,8 @@
 -- Sums of counts of a 64-bit type.
-use Rattle.std.proofs.Common.{◌≡◌, ⊎_elim, ℕ, ◌+◌, ◌-◌, ◌≤◌, ◌<◌, min, zero, suc, Bool, refl, sym, ap, ◌∙◌, subst, arith}
+use Rattle.std.proofs.Common.{◌≡◌, inl, inr, ⊎_elim, ℕ, ◌+◌, ◌-◌, ◌≤◌, ◌<◌, min, zero, suc, Bool, refl, sym, ap, ◌∙◌, subst, arith}
 use Rattle.std.specs.Prelude.{if◌then◌else◌}
 use Rattle.std.proofs.lemmas.Bool.{cases_lt, lt-ltb, le-ltb}
-use Rattle.counts.specs.Count.{counted, raised, greatest}
+use Rattle.counts.specs.Count.{Rose, counted, raised, greatest}
 
 raised_below : (n : ℕ) → n < greatest → raised n ≡ n + 1
 raised_below n below = ap (λ (b : Bool). if b then n + 1 else n) (lt-ltb n greatest below)
@@ -47,6 +47,21 @@ raised_more : (n : ℕ) → n ≤ raised n
 raised_more n = ⊎_elim
     (λ (below : n < greatest). let up = raised_below n below in omega arith)
     (λ (full : greatest ≤ n). let still = raised_full n full in omega arith)
+    (cases_lt n greatest)
+
+-- what is raised, once or twice, rose
+pub rose_once : (n now : ℕ) → now ≡ raised n → Rose n now
+rose_once n now is = ⊎_elim
+    (λ (below : n < greatest). let up = raised_below n below in inl (omega arith))
+    (λ (full : greatest ≤ n). inr full)
+    (cases_lt n greatest)
+
+pub rose_twice : (n now : ℕ) → now ≡ raised (raised n) → Rose n now
+rose_twice n now is =
+    let more = raised_more (raised n) in
+    ⊎_elim
+    (λ (below : n < greatest). let up = raised_below n below in inl (omega arith))
+    (λ (full : greatest ≤ n). inr full)
     (cases_lt n greatest)
 
 counted_more : (d m n : ℕ) → counted m n ≤ counted (d + m) n

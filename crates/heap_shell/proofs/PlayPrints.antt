@@ -6,6 +6,9 @@ use Rattle.std.proofs.lemmas.List.{append-nil}
 use Rattle.disk_model.specs.declared.disk.Disk.{Ghosts}
 use Rattle.graph_model.specs.declared.event.Event.{Event}
 use Rattle.graph_model.specs.declared.reply.Entry.{Entry}
+use Rattle.graph_model.specs.declared.reply.Refusal.TheVariants.{DiskFault, Stopped}
+use Rattle.graph_model.specs.declared.reply.Reply.{Reply}
+use Rattle.graph_model.specs.declared.reply.Reply.TheVariants.{Refused}
 use Rattle.graph_model.specs.Graph.{Graph, new_graph}
 use Rattle.graph_model.specs.History.{sealed}
 use Rattle.graph_model.specs.SlowHeap.{IsOfSession}
@@ -25,10 +28,11 @@ use Rattle.heap_shell.specs.declared.status.Status.TheVariants as status
 use Rattle.heap_shell.specs.CoreLawsPlay.{made_limits, all_playable}
 use Rattle.heap_shell.specs.Headline.{made_super, made_core, graph_text, end_text, recovered_line, HasMade, HasFailed, IsOfDisk, PrintsSome, Writes}
 use Rattle.heap_shell.specs.Output.{WroteText, WroteGraph, WroteAgain, status_after}
-use Rattle.heap_shell.specs.Play.{EndsAs, PlaysCore, Wrote, lines_text}
+use Rattle.heap_shell.specs.Play.{EndsAs, IsCutBy, IsWhole, PlaysCore, Wrote, WroteFront, lines_text}
 use Rattle.heap_shell.specs.Playable.{IsScript}
 use Rattle.heap_shell.specs.StatusOf.{halt_status}
 use Rattle.heap_shell.proofs.Lines.{halt_part, halt_lines, stopped_lines, some_writes, all_writes, lines_more}
+use Rattle.heap_shell.proofs.PlayFaults.{none_cut, fault_not_whole, fault_not_stopped}
 use Rattle.heap_shell.proofs.PlayOpen.{IsNew}
 use Rattle.heap_shell.proofs.Statuses.{halt_not_done, written_sound, wrote_all}
 use Rattle.heap_shell.proofs.Written.{whole_front, wrote_some}
@@ -54,8 +58,10 @@ prints_unplayed n script by before after (inr again) =
       parts = refl;
       core = c;
       run = refl;
+      last = inl refl;
       done = λ is. inr ((λ none. cc), refl);
       failed = λ is. inr (inr refl);
+      faulted = λ cut. absurd (none_cut (Refused DiskFault) c c cut);
       count = again.0;
       graph = again.1;
       own = λ none. cc;
@@ -63,13 +69,21 @@ prints_unplayed n script by before after (inr again) =
     })
 
 -- A play that the disk ended was cut short in its last event.
-halt_failed : (stop : Option ℕ) (c : Core) (made behind : List Event) (d : Core) (h : Halt) → EndsAs c made behind d (Err h) → IsOfDisk (halt_status h) → HasFailed stop c made behind d
+halt_failed : (stop : Option ℕ) (c : Core) (made behind : List Event) (d : Core) (h : Halt) → EndsAs c made behind d (Err h) → IsOfDisk (halt_status h) → HasFailed stop (halt_status h) c made behind d
 halt_failed stop c made behind d halt.NoMemory ends is = absurd is
 halt_failed stop c made behind d halt.WriteFault ends is = absurd is
-halt_failed None c made behind d halt.DiskFault ends is = inl ends
-halt_failed None c made behind d halt.Stopped ends is = inr ends
-halt_failed (Some n) c made behind d halt.DiskFault ends is = inl ends
+halt_failed None c made behind d halt.DiskFault ends is = (refl, inl ends)
+halt_failed None c made behind d halt.Stopped ends is = (refl, inr ends)
+halt_failed (Some n) c made behind d halt.DiskFault ends is = inl (refl, ends)
 halt_failed (Some n) c made behind d halt.Stopped ends is = inr (inl (inr ends))
+
+-- Only the last event of a play may have been cut short.
+last_event : (c : Core) (made behind : List Event) (d : Core) (result : Result (Unit {0}) Halt) → EndsAs c made behind d result → IsWhole c made d ⊎ ((reply : Reply) × IsCutBy reply c made d)
+last_event c made behind d (Ok done) ends = inl ends.1
+last_event c made behind d (Err halt.NoMemory) ends = ends
+last_event c made behind d (Err halt.WriteFault) ends = ends
+last_event c made behind d (Err halt.DiskFault) ends = inr (Refused DiskFault, ends)
+last_event c made behind d (Err halt.Stopped) ends = inr (Refused Stopped, ends)
 
 module _ {D : Type 0} {g : Ghosts D} (stop : Option ℕ) (c : Core) (new : IsNew c) (script : List Line) (is_script : IsScript script) (heap : Heap D g) (told : Bool) (before after : List ℕ) (result : Result (Unit {0}) Halt)
     (plays : PlaysCore c (all_events stop c (events script)) heap told before after result) (tells : IsTrue told) where
@@ -85,9 +99,10 @@ module _ {D : Type 0} {g : Ghosts D} (stop : Option ℕ) (c : Core) (new : IsNew
   wrote : Wrote result before core.history after
   wrote = plays.written tells before (sym (ap (λ (h : List Entry). before ++ lines_text h) new.nothing ∙ append-nil before))
 
-  prints : (by : Status) (after' : List ℕ) (k : ℕ) (graph : Graph) → (by ≡ status.Done → HasMade stop c plays.made plays.behind core) → (IsOfDisk by → HasFailed stop c plays.made plays.behind core) → (stop ≡ None → graph ≡ serial core.g0 (sealed core.history))
+  prints : (by : Status) (after' : List ℕ) (k : ℕ) (graph : Graph) → (by ≡ status.Done → HasMade stop c plays.made plays.behind core) → (IsOfDisk by → HasFailed stop by c plays.made plays.behind core)
+      → (IsCutBy (Refused DiskFault) c plays.made core → (by ≢ status.Done) × WroteFront before (lines_text core.history) after') → (stop ≡ None → graph ≡ serial core.g0 (sealed core.history))
       → Writes by core.history (end_text stop k graph) before after' → PrintsSome stop script by before after'
-  prints by after' k graph done failed own written = inr (record {
+  prints by after' k graph done failed faulted own written = inr (record {
     first = c;
     opened = new.opened;
     made = plays.made;
@@ -95,8 +110,10 @@ module _ {D : Type 0} {g : Ghosts D} (stop : Option ℕ) (c : Core) (new : IsNew
     parts = plays.parts;
     core = core;
     run = plays.run;
+    last = last_event c plays.made plays.behind core result plays.ends;
     done = λ is. inl (done is);
     failed = failed;
+    faulted = faulted;
     count = k;
     graph = graph;
     own = own;
@@ -110,7 +127,7 @@ module _ {D : Type 0} {g : Ghosts D} (stop : Option ℕ) (c : Core) (new : IsNew
       let graph = serial core.g0 (sealed core.history) in
       let part = halt_part core.history before after h some in
       let ends = subst (EndsAs c plays.made plays.behind core) is plays.ends in
-      prints (halt_status h) after 0 graph (λ done. absurd (halt_not_done h done)) (halt_failed stop c plays.made plays.behind core h ends) (λ none. refl)
+      prints (halt_status h) after 0 graph (λ done. absurd (halt_not_done h done)) (halt_failed stop c plays.made plays.behind core h ends) (λ cut. (halt_not_done h, part.0)) (λ none. refl)
       (some_writes core.history before after (halt_status h) (end_text stop 0 graph) after (halt_not_done h) part.0 part.1 (halt_lines core.history before after h some))
 
 -- It was not to stop, and its graph was to be written.
@@ -119,7 +136,8 @@ pub prints_whole : {D : Type 0} {g : Ghosts D} (c : Core) (new : IsNew c) (scrip
     → WroteText r after (graph_text (serial plays.core.g0 (sealed plays.core.history))) after' → PrintsSome None script (status_after r) before after'
 prints_whole c new script is_script heap told before after plays tells r after' text =
     let graph = serial plays.core.g0 (sealed plays.core.history) in
-    prints None c new script is_script heap told before after (Ok tt) plays tells (status_after r) after' 0 graph (λ done. plays.ends) (λ is. absurd (written_sound r is)) (λ none. refl)
+    prints None c new script is_script heap told before after (Ok tt) plays tells (status_after r) after' 0 graph (λ done. plays.ends) (λ is. absurd (written_sound r is))
+    (λ cut. absurd (fault_not_whole c plays.core plays.made cut plays.ends.1)) (λ none. refl)
     (all_writes plays.core.history before after (status_after r) (graph_text graph) after' (written_sound r) (wrote None c new script is_script heap told before after (Ok tt) plays tells) (wrote_some r after _ after' text) (λ done. wrote_all r after _ after' done text))
 
 -- It was to stop, and what came back was to be written.
@@ -133,6 +151,12 @@ prints_again n c new script is_script heap told before after result plays tells 
         (λ (is : result ≡ Err halt.Stopped). inr (subst (EndsAs c plays.made plays.behind plays.core) is plays.ends))
         ended
 
+    unfaulted : IsCutBy (Refused DiskFault) c plays.made plays.core → ⊥
+    unfaulted cut = ⊎_elim
+        (λ (is : result ≡ Ok tt). fault_not_whole c plays.core plays.made cut (subst (EndsAs c plays.made plays.behind plays.core) is plays.ends).1)
+        (λ (is : result ≡ Err halt.Stopped). fault_not_stopped c plays.core plays.made cut (subst (EndsAs c plays.made plays.behind plays.core) is plays.ends))
+        ended
+
     out : after ≡ before ++ lines_text plays.core.history
     out = stopped_lines plays.core.history before after result ended (wrote (Some n) c new script is_script heap told before after result plays tells)
 
@@ -140,11 +164,11 @@ prints_again n c new script is_script heap told before after result plays tells 
     nothing none =
         let graph = serial plays.core.g0 (sealed plays.core.history) in
         let lines = none.1 ∙ out in
-        prints (Some n) c new script is_script heap told before after result plays tells by after' 0 graph (λ done. made) (λ is. inr (inl made)) (λ no. refl)
+        prints (Some n) c new script is_script heap told before after result plays tells by after' 0 graph (λ done. made) (λ is. inr (inl made)) (λ cut. absurd (unfaulted cut)) (λ no. refl)
         (some_writes plays.core.history before after by (end_text (Some n) 0 graph) after' none.0 (whole_front before (lines_text plays.core.history) after' lines) (lines_more plays.core.history before after after' [] out (none.1 ∙ sym (append-nil after))) (λ is. lines))
 
     some : (k : ℕ) × (graph : Graph) × WroteGraph k graph by after after' → PrintsSome (Some n) script by before after'
     some wrote_it =
         let text = recovered_line wrote_it.0 ++ graph_text wrote_it.1 in
-        prints (Some n) c new script is_script heap told before after result plays tells by after' wrote_it.0 wrote_it.1 (λ done. made) (λ is. inr (inl made)) (λ no. cc)
+        prints (Some n) c new script is_script heap told before after result plays tells by after' wrote_it.0 wrote_it.1 (λ done. made) (λ is. inr (inl made)) (λ cut. absurd (unfaulted cut)) (λ no. cc)
         (all_writes plays.core.history before after by text after' wrote_it.2.sound out wrote_it.2.front wrote_it.2.whole)

@@ -95,11 +95,11 @@ abbrev pub HasMade : Option ℕ → Core → List Event → List Event → Core 
 HasMade None c made behind d = (behind ≡ []) × IsWhole c made d
 HasMade (Some n) c made behind d = ((behind ≡ []) × IsWhole c made d) ⊎ IsCutBy (Refused Stopped) c made d
 
--- A run that the disk or its image ended: in the last event that was made; or, where a stop was asked, in an opening behind all events, behind the one
--- that was stopped, or before the first.
-abbrev pub HasFailed : Option ℕ → Core → List Event → List Event → Core → Type 0
-HasFailed None c made behind d = IsCutBy (Refused DiskFault) c made d ⊎ IsCutBy (Refused Stopped) c made d
-HasFailed (Some n) c made behind d = IsCutBy (Refused DiskFault) c made d ⊎ HasMade (Some n) c made behind d ⊎ (made ≡ [])
+-- A run that the disk or its image ended: the disk in the last event that was made; or either, where a stop was asked, in an opening after all
+-- events, after the one that was stopped, or before the first.
+abbrev pub HasFailed : Option ℕ → Status → Core → List Event → List Event → Core → Type 0
+HasFailed None result c made behind d = (result ≡ status.DiskFault) × (IsCutBy (Refused DiskFault) c made d ⊎ IsCutBy (Refused Stopped) c made d)
+HasFailed (Some n) result c made behind d = ((result ≡ status.DiskFault) × IsCutBy (Refused DiskFault) c made d) ⊎ HasMade (Some n) c made behind d ⊎ (made ≡ [])
 
 -- A run ended at its last event: on the disk as the event left it, with no more than lines written, and not with status 0.
 pub record EndsThere {D : Type 0} (stopped final : D) (result : Status) (only_lines : Type 0) : Type 0 where
@@ -147,9 +147,13 @@ pub record PrintsRun (stop : Option ℕ) (lines : List Line) (result : Status) (
   pub parts : all_events stop first (events lines) ≡ made ++ behind
   pub core : Core
   pub run : IsRun first made core
+  -- no event follows one that the disk cut short
+  pub last : IsWhole first made core ⊎ ((reply : Reply) × IsCutBy reply first made core)
   -- all events were made, or it stopped in one of them or in the opening
   pub done : result ≡ status.Done → HasMade stop first made behind core ⊎ ((stop ≢ None) × (made ≡ []))
-  pub failed : IsOfDisk result → HasFailed stop first made behind core
+  pub failed : IsOfDisk result → HasFailed stop result first made behind core
+  -- a run whose last event was answered `diskfault` ends there: it is not done, and no more than lines were written
+  pub faulted : IsCutBy (Refused DiskFault) first made core → (result ≢ status.Done) × WroteFront before (lines_text core.history) after
   pub count : ℕ
   pub graph : Graph
   pub own : stop ≡ None → graph ≡ serial core.g0 (sealed core.history)

@@ -1,5 +1,7 @@
 -- What a run says against an image that can't be opened.
-use Rattle.std.specs.Prelude.{◌≡◌, List, ℕ}
+use Rattle.std.specs.Prelude.{◌≡◌, List, ℕ, Option, None, Some}
+use Rattle.counts.specs.Count.{Rose}
+use Rattle.command_words.specs.declared.commands.Stop.{Stop}
 use Rattle.heap_recovery.specs.Faults.{IsNoHeap, IsFaultAt}
 use Rattle.heap_recovery.specs.declared.at.At.TheVariants.{Address}
 use Rattle.heap_shell.specs.declared.status.Status.{Status}
@@ -35,3 +37,8 @@ IsLeftAlone status.NotHeap = Unit {0}
 IsLeftAlone (status.Damaged (Address address)) = ⊥
 IsLeftAlone (status.Damaged at) = Unit {0}
 IsLeftAlone s = ⊥
+
+-- The disk was not started again: no stop was asked, or its count of restarts did not rise.
+abbrev pub IsUnstarted : Option Stop → ℕ → ℕ → Type 0
+IsUnstarted None before now = Unit {0}
+IsUnstarted (Some stop) before now = ¬ Rose before now

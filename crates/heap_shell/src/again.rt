@@ -1,5 +1,6 @@
 //! A disk that was stopped is started again: the heap is opened once more, and what came back is printed.
 ghost use Rattle.std.specs.Prelude.{◌≡◌, ℕ, List, min, MatchResult, IsTrue};
+ghost use Rattle.counts.specs.Count.{Rose};
 ghost use Rattle.disk_model.specs.Disk.{Only};
 ghost use Rattle.disk_model.specs.Fuse.{fuse_inner};
 ghost use Rattle.disk_model.specs.Moments.{LeavesOnly};
@@ -30,6 +31,7 @@ pub fn start_again<D: Disk, K: Sink>(
     ensures disk { RunsDisk D.Disk (fuse_inner fuse) result.1 (result.0 ≡ Status.DiskFault) }
     ensures sink { StreamCause (K.faults sink.old) (K.faults sink.new) (result.0 ≡ Status.WriteFault) }
     ensures restarts { IsTrue D.tells → RestartsDisk (starts_asked again) result.0 (D.restarts (fuse_inner fuse)) (D.restarts result.1) }
+    ensures started { IsTrue D.tells → Rose (D.restarts (fuse_inner fuse)) (D.restarts result.1) }
     ensures again { IsTrue K.tells → WroteAgain result.0 (K.written sink.old) (K.written sink.new) }
     ensures moments { IsTrue D.tells → (c : Core) → ((image : List ℕ) → D.may_leave (fuse_inner fuse) image → IsCommitPrefix c image) → LeavesOnly D.moment D.left_since (fuse_inner fuse) result.1 (IsCommitPrefix c) }
     ensures recovers { IsTrue D.tells → (c : Core) → ((image : List ℕ) → D.may_leave (fuse_inner fuse) image → IsCommitPrefix c image) → IsBefore before c

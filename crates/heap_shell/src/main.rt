@@ -55,6 +55,8 @@ fn main(rt: HostRuntime) -> ExitCode {
 #[cfg(test)]
 mod kept_tests;
 #[cfg(test)]
+mod status_tests;
+#[cfg(test)]
 mod stop_tests;
 #[cfg(test)]
 mod tests;

@@ -11,7 +11,7 @@ ghost use Rattle.command_words.specs.Limits.{IsPages};
 ghost use Rattle.heap_shell.specs.Causes.{StreamCause, RunsDisk, IsInputError, IsOpenedEnd, FailsByScript};
 ghost use Rattle.heap_shell.specs.Headline.{OfTold, IsPlayed, IsEndOfPlay, PrintsRun, PrintsSome, Runs, CanPlay, IsUntouching, EndsUnread, EndsUnmade, IsSound, RestartsDisk, restarts_asked, starts_asked, stop_after};
 ghost use Rattle.heap_shell.specs.Playable.{IsScript, IsReadFrom};
-ghost use Rattle.heap_shell.specs.Refusals.{IsFault, IsToldOf, IsToldOfEach, EndsRefused, IsLeftAlone};
+ghost use Rattle.heap_shell.specs.Refusals.{IsFault, IsToldOf, IsToldOfEach, EndsRefused, IsLeftAlone, IsUnstarted};
 ghost use Rattle.heap_shell.specs.Stored.{IsStored, stored_core, stored_calls};
 ghost use Rattle.heap_model.specs.Ending.{all_events};
 ghost use Rattle.heap_shell.specs.Output.{early_end};
@@ -70,7 +70,7 @@ pub fn run_play<D: Disk, S: Source, K: Sink>(
     ensures refused { IsTrue D.tells → fresh ≡ None → stop ≡ None → IsToldOf result.0 (D.bytes disk) }
     ensures refused_at_end { OfTold D.tells (D.bytes disk) (D.may_leave disk) (IsToldOfEach result.0 (D.may_leave result.1)) }
     ensures refuses { OfTold D.tells (D.bytes disk) (D.may_leave disk) (fresh ≡ None → (expected : Status) → IsFault expected (D.bytes disk) → EndsRefused expected result.0 × (sink.new ≡ sink.old)) }
-    ensures left_alone { IsTrue D.tells → fresh ≡ None → stop ≡ None → IsLeftAlone result.0 → SameContents D.Disk disk result.1 }
+    ensures left_alone { IsTrue D.tells → fresh ≡ None → IsUnstarted stop (D.restarts disk) (D.restarts result.1) → IsLeftAlone result.0 → SameContents D.Disk disk result.1 }
     // A heap that it made is never refused.
     ensures sound { OfTold D.tells (D.bytes disk) (D.may_leave disk) ((pages : ℕ) → fresh ≡ Some pages → IsSound result.0) }
     ensures keeps_fault { OfTold D.tells (D.bytes disk) (D.may_leave disk) (fresh ≡ None → (expected : Status) → IsFault expected (D.bytes disk) → LeavesOnly D.moment D.left_since disk result.1 (IsFault expected)) }
@@ -110,7 +110,7 @@ fn play_script<D: Disk, K: Sink>(
     ensures refused { IsTrue D.tells → stop ≡ None → IsToldOf result.0 (D.bytes disk) }
     ensures refused_at_end { IsTrue D.tells → Only (D.bytes disk) (D.may_leave disk) → IsToldOfEach result.0 (D.may_leave result.1) }
     ensures refuses { IsTrue D.tells → Only (D.bytes disk) (D.may_leave disk) → (expected : Status) → IsFault expected (D.bytes disk) → EndsRefused expected result.0 × (sink.new ≡ sink.old) }
-    ensures left_alone { IsTrue D.tells → stop ≡ None → IsLeftAlone result.0 → SameContents D.Disk disk result.1 }
+    ensures left_alone { IsTrue D.tells → IsUnstarted stop (D.restarts disk) (D.restarts result.1) → IsLeftAlone result.0 → SameContents D.Disk disk result.1 }
     // At each moment a crash leaves an image with the same fault.
     ensures keeps_fault { IsTrue D.tells → Only (D.bytes disk) (D.may_leave disk) → (expected : Status) → IsFault expected (D.bytes disk) → LeavesOnly D.moment D.left_since disk result.1 (IsFault expected) }
 {
@@ -187,6 +187,7 @@ fn play_stopped<D: Disk, K: Sink>(
         → IsPlayed D.Disk (Some stop) (stored_calls stored) (stored_core stored) (events script.now) disk result.1 result.0 K.tells (K.written sink.old) (K.written sink.new) }
     ensures refused_at_end { IsTrue D.tells → Only (D.bytes disk) (D.may_leave disk) → IsToldOfEach result.0 (D.may_leave result.1) }
     ensures refuses { IsTrue D.tells → Only (D.bytes disk) (D.may_leave disk) → (expected : Status) → IsFault expected (D.bytes disk) → EndsRefused expected result.0 × (sink.new ≡ sink.old) }
+    ensures left_alone { IsTrue D.tells → ¬ Rose (D.restarts disk) (D.restarts result.1) → IsLeftAlone result.0 → SameContents D.Disk disk result.1 }
     ensures keeps_fault { IsTrue D.tells → Only (D.bytes disk) (D.may_leave disk) → (expected : Status) → IsFault expected (D.bytes disk) → LeavesOnly D.moment D.left_since disk result.1 (IsFault expected) }
 {
     let mut heap = match Heap::open(alloc, FuseDisk::new(disk, stop.after)) {

@@ -6,6 +6,7 @@ use Rattle.counts.specs.Count.{raised}
 use Rattle.disk_model.specs.Fuse.{fuse_inner}
 use Rattle.heap_shell.specs.Headline.{Restarts}
 use Rattle.heap_shell.proofs.PrintRecovered.{recovers_again, recovers_no_memory, restart_keeps, first_keeps, keeps_then}
+use Rattle.heap_shell.proofs.Counts.{rose_once, rose_twice}
 use Rattle.heap_shell.proofs.RunLaws.{restarts_all}
 use Rattle.heap_shell.proofs.again.start_again.Goals as goal
 
@@ -114,6 +115,24 @@ returns-in-Err-clause-restarts g c tells =
     let d = g.D.Disk in
     let started = subst (λ x. Restarts d x c.restart-disk.result) c.into_inner.ensures (c.restart-disk.ensures.restarts tells) in
     rw c.in-Some.is (record { times = 1; most = omega arith; all = λ is. cc; told = c.in-Err.ensures.restarts tells ∙ started.restarts })
+
+pub returns-in-None-clause-started : goal.returns-in-None-clause-started
+returns-in-None-clause-started g c tells =
+    let d = g.D.Disk in
+    let started = subst (λ x. Restarts d x c.restart-disk.result) c.into_inner.ensures (c.restart-disk.ensures.restarts tells) in
+    rose_once _ _ (c.print_recovered.ensures.restarts tells ∙ started.restarts)
+
+pub returns-in-Ok-clause-started : goal.returns-in-Ok-clause-started
+returns-in-Ok-clause-started g c tells =
+    let d = g.D.Disk in
+    let started = subst (λ x. Restarts d x c.restart-disk.result) c.into_inner.ensures (c.restart-disk.ensures.restarts tells) in
+    rose_twice _ _ (c.print_recovered-in-Ok.ensures.restarts tells ∙ (c.restart.ensures.restarts tells).restarts ∙ ap raised (c.in-Ok.ensures.restarts tells ∙ started.restarts))
+
+pub returns-in-Err-clause-started : goal.returns-in-Err-clause-started
+returns-in-Err-clause-started g c tells =
+    let d = g.D.Disk in
+    let started = subst (λ x. Restarts d x c.restart-disk.result) c.into_inner.ensures (c.restart-disk.ensures.restarts tells) in
+    rose_once _ _ (c.in-Err.ensures.restarts tells ∙ started.restarts)
 
 -- What a crash leaves has the fault of the image, so it is told again.
 pub returns-in-None-clause-refuses : goal.returns-in-None-clause-refuses

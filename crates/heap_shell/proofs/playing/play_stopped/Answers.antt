@@ -2,6 +2,7 @@ use Rattle.std.proofs.Common.{◌≡◌, ◌≢◌, ◌≤◌, ◌<◌, ◌+◌,
 use Rattle.counts.specs.Count.{Rose, greatest, counted}
 use Rattle.disk_model.specs.Disk.{Only}
 use Rattle.disk_model.specs.Fuse.{fuse_inner, fuse_passed}
+use Rattle.disk_model.specs.Keeps.{SameContents}
 use Rattle.disk_model.specs.KeepsLaws.{rose_until}
 use Rattle.disk_model.specs.Moments.{LeavesOnly, begins}
 use Rattle.heap_core.specs.declared.errors.OpenError.TheVariants as opening
@@ -26,8 +27,8 @@ use Rattle.heap_shell.proofs.PlayOpen.{opening_then, few_calls, stored_running, 
 use Rattle.heap_shell.proofs.PrintRecovered.{whole_count, fails_few, fails_none, no_rollback, stops_before}
 use Rattle.heap_shell.proofs.Statuses.{early_none, early_some, halt_end, halt_not_done, open_not_done, open_fault}
 use Rattle.heap_recovery.specs.Faults.{IsNoHeap, IsFaultAt}
-use Rattle.heap_shell.specs.Refusals.{IsFault}
-use Rattle.heap_shell.proofs.RefusalLaws.{told_each, end_told_each, refused_by, not_opened, fault_moments, at_end}
+use Rattle.heap_shell.specs.Refusals.{IsFault, IsLeftAlone}
+use Rattle.heap_shell.proofs.RefusalLaws.{told_each, end_told_each, end_not_alone, alone_early, refused_by, not_opened, fault_moments, at_end}
 use Rattle.heap_shell.proofs.RunLaws.{restarts_none}
 use Rattle.heap_shell.proofs.PlayPrints.{prints_unplayed, prints_again, prints_early}
 use Rattle.heap_shell.proofs.playing.play_stopped.Goals as goal
@@ -299,6 +300,41 @@ returns-in-Some-clause-restarts g c tells =
     let halted = early_some c.play_lines-played.result c.in-Some.status (sym c.early_end.ensures ∙ c.in-Some.is) in
     restarts_none (starts_asked c.args.stop.again) _ _ _ (λ done. absurd (halt_not_done halted.0 (sym halted.3 ∙ done)))
     (ap r (c.into_inner-in-Some.ensures ∙ ap fuse_inner c.close-in-Some.ensures) ∙ c.play_lines-played.ensures.disk.restarts tells ∙ c.in-Ok.ensures.disk.restarts tells ∙ ap r c.new.ensures.inner)
+
+-- such an error comes before a write
+pub returns-in-Err-clause-left_alone : goal.returns-in-Err-clause-left_alone
+returns-in-Err-clause-left_alone g c tells unstarted alone =
+    let d = g.D.Disk in
+    let first = fuse_inner c.new.result in
+    let fuse = c.in-Err.fuse in
+    let inner = c.new.ensures.inner in
+    let e = c.in-Err.ensures in
+    let still = (e.left_alone (alone_early c.in-Err.e (subst IsLeftAlone c.from.ensures alone))).contents tells in
+    let began = same_disk _ _ (e.disk.origin ∙ c.new.ensures.origin) ∙ sym inner in
+    let same : SameContents d first (fuse_inner fuse) = record {
+      bytes = still.bytes;
+      crash = still.crash;
+      moments = fuse_since c.new.result fuse (d.may_leave first) still.moments;
+      passed = fuse_none fuse first tells began (still.passed ∙ c.new.ensures.passed);
+    } in
+    rw c.into_inner.ensures (subst (λ x. SameContents d x (fuse_inner fuse)) inner same)
+
+-- else the disk was started again, or the run ended in its events
+pub returns-then-eq-clause-left_alone : goal.returns-then-eq-clause-left_alone
+returns-then-eq-clause-left_alone g c tells unstarted alone =
+    let r = g.D.Disk.restarts in
+    absurd (unstarted (subst (λ (n : ℕ). Rose n (r c.start_again.result.1)) (c.in-Err.ensures.disk.restarts tells ∙ ap r c.new.ensures.inner) (c.start_again.ensures.started tells)))
+
+pub returns-in-None-clause-left_alone : goal.returns-in-None-clause-left_alone
+returns-in-None-clause-left_alone g c tells unstarted alone =
+    let r = g.D.Disk.restarts in
+    absurd (unstarted (subst (λ (n : ℕ). Rose n (r c.start_again-in-None.result.1))
+    (ap (λ x. r (fuse_inner x)) c.close.ensures ∙ c.play_lines-played.ensures.disk.restarts tells ∙ c.in-Ok.ensures.disk.restarts tells ∙ ap r c.new.ensures.inner) (c.start_again-in-None.ensures.started tells)))
+
+pub returns-in-Some-clause-left_alone : goal.returns-in-Some-clause-left_alone
+returns-in-Some-clause-left_alone g c tells unstarted alone =
+    let halted = early_some c.play_lines-played.result c.in-Some.status (sym c.early_end.ensures ∙ c.in-Some.is) in
+    absurd (end_not_alone _ (halt_end halted.0) (subst IsLeftAlone halted.3 alone))
 
 -- what can't be opened gives its own status
 pub returns-in-Err-clause-refuses : goal.returns-in-Err-clause-refuses

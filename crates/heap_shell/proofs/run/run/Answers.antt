@@ -1,4 +1,4 @@
-use Rattle.std.proofs.Common.{◌≡◌, inl, ℕ, List, Option, Some, Err, refl, sym, ap, ◌∙◌, subst}
+use Rattle.std.proofs.Common.{◌≡◌, inl, ℕ, List, Option, Some, None, Err, refl, sym, ap, ◌∙◌, subst}
 use Rattle.std.specs.Prelude.{IfSome}
 use Rattle.command_words.specs.declared.commands.Command.TheVariants as asked
 use Rattle.command_words.specs.declared.commands.CommandError.{CommandError}
@@ -8,10 +8,11 @@ use Rattle.command_words.specs.declared.commands.Stop.{Stop}
 use Rattle.command_words.specs.Limits.{IsPages, IsWithin}
 use Rattle.heap_core.specs.Format.{heap_of}
 use Rattle.heap_model.specs.CoreLawsOpened.{address_found}
-use Rattle.heap_shell.specs.Commands.{makes, restarts_of, CanRun}
+use Rattle.heap_shell.specs.Commands.{makes, restarts_of, stop_of, CanRun}
 use Rattle.heap_shell.specs.CrashSafe.{RunsSafely}
 use Rattle.heap_shell.specs.Headline.{made_super}
-use Rattle.heap_shell.proofs.CommandLaws.{same_play, graph_unread, play_ends, unread_ends, format_told_each, format_sound, no_stop}
+use Rattle.heap_shell.specs.Refusals.{IsUnstarted}
+use Rattle.heap_shell.proofs.CommandLaws.{same_play, graph_unread, play_ends, unread_ends, format_told_each, format_sound, no_stop, not_made}
 use Rattle.heap_shell.proofs.RunLaws.{runs_safely, end_done}
 use Rattle.heap_shell.proofs.run.run.Goals as goal
 
@@ -85,3 +86,10 @@ pub returns-in-Play-clause-unwritten : goal.returns-in-Play-clause-unwritten
 returns-in-Play-clause-unwritten g c which is none against =
     let same : which ≡ asked.Play c.in-Play.fresh c.in-Play.stop = cc (is, c.in-Ok.ensures.read, c.in-Play.is) in
     c.run_play.ensures.unwritten (no_stop c.in-Play.stop (subst (λ (x : Command). restarts_of x ≡ 0) same none)) against
+
+pub returns-in-Play-clause-left_alone : goal.returns-in-Play-clause-left_alone
+returns-in-Play-clause-left_alone g c tells which is none unstarted alone =
+    let r = g.D.Disk.restarts in
+    let same : which ≡ asked.Play c.in-Play.fresh c.in-Play.stop = cc (is, c.in-Ok.ensures.read, c.in-Play.is) in
+    c.run_play.ensures.left_alone tells (not_made c.in-Play.fresh c.in-Play.stop (subst (λ (x : Command). makes x ≡ None) same none))
+    (subst (λ (x : Command). IsUnstarted (stop_of x) (r c.args.disk) (r c.run_play.result.1)) same unstarted) alone
