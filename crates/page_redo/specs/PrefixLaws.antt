@@ -1,0 +1,59 @@
+-- Laws of stored pages: redo makes them the present ones, and what may be stored in their place.
+use Rattle.std.proofs.Common.{◌≡◌, ℕ, ◌+◌, ◌<◌, ◌≤◌, List, ◌++◌, length, take, sym}
+use Rattle.log_records.specs.declared.Record.{Record}
+use Rattle.log_machine.specs.Machine.{words}
+use Rattle.page_redo.specs.Pages.{Pages, pages_in, page_words, lsn_of, with_page, first_pages}
+use Rattle.page_redo.specs.Redo.{redo_all, redone}
+use Rattle.page_redo.specs.Prefix.{HoldsPrefix, EachHoldsPrefix, IsPresent}
+
+-- Redo.
+
+-- a log that is redone on stored pages makes them the present ones
+pub redone-present : (pages : ℕ) (records : List Record) (stored : Pages) → EachHoldsPrefix pages records stored → IsPresent pages records (redone stored records)
+redone-present pages records stored legal = ?
+
+-- so it leaves the words of the records
+pub redone-words : (pages : ℕ) (records : List Record) (stored : Pages) → EachHoldsPrefix pages records stored → (redone stored records).words ≡ words pages records
+redone-words pages records stored legal = ?
+
+-- records that are put on present pages leave present ones
+pub present-append : (pages : ℕ) (records more : List Record) (at : Pages) → IsPresent pages records at → IsPresent pages (records ++ more) (redo_all (length records + 1) at more)
+present-append pages records more at is = ?
+
+-- a page that no record has changed since it was stored is the present one
+pub stored_is_present : (pages : ℕ) (records : List Record) (stored : Pages) (p : ℕ) → EachHoldsPrefix pages records stored → p < pages_in pages
+    → lsn_of stored p ≡ lsn_of (redone stored records) p → page_words stored.words p ≡ page_words (words pages records) p
+stored_is_present pages records stored p legal lt same = ?
+
+-- What may be stored.
+
+-- one page may stand beside more records
+pub HoldsPrefix-append : (pages : ℕ) (records more : List Record) (p lsn : ℕ) (page : List ℕ) → HoldsPrefix pages records p lsn page → HoldsPrefix pages (records ++ more) p lsn page
+HoldsPrefix-append pages records more p lsn page is = ?
+
+-- and beside fewer, if these reach its LSN
+pub HoldsPrefix-take : (pages : ℕ) (records : List Record) (n p lsn : ℕ) (page : List ℕ) → HoldsPrefix pages records p lsn page → lsn ≤ n → HoldsPrefix pages (take n records) p lsn page
+HoldsPrefix-take pages records n p lsn page is le = ?
+
+-- the present words of a page hold all records
+pub HoldsPrefix-present : (pages : ℕ) (records : List Record) (p : ℕ) → HoldsPrefix pages records p (length records) (page_words (words pages records) p)
+HoldsPrefix-present pages records p = ?
+
+-- and so many as the LSN of the page says
+pub HoldsPrefix-own : (pages : ℕ) (records : List Record) (at : Pages) (p : ℕ) → IsPresent pages records at → p < pages_in pages → HoldsPrefix pages records p (lsn_of at p) (page_words (words pages records) p)
+HoldsPrefix-own pages records at p is lt = ?
+
+-- pages that were never stored may stand beside any records
+pub first_pages-prefixes : (pages : ℕ) (records : List Record) → EachHoldsPrefix pages records (first_pages pages)
+first_pages-prefixes pages records = ?
+
+pub EachHoldsPrefix-append : (pages : ℕ) (records more : List Record) (at : Pages) → EachHoldsPrefix pages records at → EachHoldsPrefix pages (records ++ more) at
+EachHoldsPrefix-append pages records more at is = ?
+
+pub EachHoldsPrefix-take : (pages : ℕ) (records : List Record) (n : ℕ) (at : Pages) → EachHoldsPrefix pages records at → ((p : ℕ) → p < pages_in pages → lsn_of at p ≤ n) → EachHoldsPrefix pages (take n records) at
+EachHoldsPrefix-take pages records n at is le = ?
+
+-- a page that holds as many records as its new LSN says may be stored
+pub EachHoldsPrefix-with_page : (pages : ℕ) (records : List Record) (at : Pages) (p lsn : ℕ) (page : List ℕ) → EachHoldsPrefix pages records at → p < pages_in pages
+    → length page ≡ 64 → HoldsPrefix pages records p lsn page → EachHoldsPrefix pages records (with_page at p lsn page)
+EachHoldsPrefix-with_page pages records at p lsn page is lt size here = ?
