@@ -2,5 +2,6 @@ pub mod Pages
 pub mod Redo
 pub mod Prefix
 pub mod PageLaws
+pub mod RedoSteps
 pub mod RedoLaws
 pub mod PrefixLaws

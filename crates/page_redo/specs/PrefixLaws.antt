@@ -1,20 +1,63 @@
 -- Laws of stored pages: redo makes them the present ones, and what may be stored in their place.
-use Rattle.std.proofs.Common.{◌≡◌, ℕ, ◌+◌, ◌<◌, ◌≤◌, List, ◌++◌, length, take, sym}
+use Rattle.std.proofs.Common.{◌≡◌, ℕ, ◌+◌, ◌*◌, ◌<◌, ◌≤◌, List, [], ◌++◌, length, get_or, take, drop, replicate, set, refl, sym, ap, subst, ◌∙◌, arith, inl, inr, length-set, length-append, get_or-set_same, get_or-set_other}
+use Rattle.std.specs.Prelude.{max}
+use Rattle.std.proofs.lemmas.Bool.{cases_eq}
+use Rattle.std.proofs.lemmas.List.{take_all, take_at, take-take, take-append-le, length-replicate, get_or-replicate}
 use Rattle.log_records.specs.declared.Record.{Record}
-use Rattle.log_machine.specs.Machine.{words}
-use Rattle.page_redo.specs.Pages.{Pages, pages_in, page_words, lsn_of, with_page, first_pages}
+use Rattle.log_machine.specs.Machine.{words, words_in, first_contents}
+use Rattle.log_machine.specs.WordsLaws.{length-words, length-first_contents}
+use Rattle.page_redo.specs.Pages.{Pages, pages_in, page_of, page_words, lsn_of, with_page, first_pages}
 use Rattle.page_redo.specs.Redo.{redo_all, redone}
 use Rattle.page_redo.specs.Prefix.{HoldsPrefix, EachHoldsPrefix, IsPresent}
+use Rattle.page_redo.specs.PageLaws.{page_alike, alike_page, alike_pages}
+use Rattle.page_redo.specs.RedoSteps.{IsRedoneTo, redone_to_end}
 
 -- Redo.
 
+-- before the first record is redone
+from_stored : (pages : ℕ) (records : List Record) (stored : Pages) → EachHoldsPrefix pages records stored → IsRedoneTo pages records 0 stored
+from_stored pages records stored legal = record {
+  size = legal.size;
+  lsns_size = legal.lsns_size;
+  reached = λ p lt. (legal.each p lt).reached;
+  same = λ p a lt there.
+    let now : lsn_of stored p ≡ max 0 (lsn_of stored p) = omega arith in
+    page_alike p a stored.words (words pages (take (lsn_of stored p) records)) (legal.each p lt).same there
+    ∙ ap (λ (k : ℕ). get_or (words pages (take k records)) a 0) now;
+  own = λ p a lt le there.
+    let none : 0 ≡ lsn_of stored p = omega arith in
+    ap (λ (k : ℕ). get_or (words pages (take k records)) a 0) none;
+}
+
+-- once all are redone
+at_end : (pages : ℕ) (records : List Record) (at : Pages) → IsRedoneTo pages records (length records) at → IsPresent pages records at
+at_end pages records at is =
+    let whole : take (length records) records ≡ records = take_all (length records) records (omega arith) in
+    let same_word : (p a : ℕ) → p < pages_in pages → page_of a ≡ p → get_or at.words a 0 ≡ get_or (words pages (take (length records) records)) a 0 = λ p a lt there.
+      let last : max (length records) (lsn_of at p) ≡ length records = omega (arith, is.reached p lt) in
+      is.same p a lt there ∙ ap (λ (k : ℕ). get_or (words pages (take k records)) a 0) last in
+    record {
+      prefixes = record {
+        size = is.size;
+        lsns_size = is.lsns_size;
+        each = λ p lt. record {
+          reached = is.reached p lt;
+          same = alike_page p at.words (words pages (take (lsn_of at p) records)) (is.size ∙ sym (length-words pages (take (lsn_of at p) records)))
+            (λ a there. same_word p a lt there ∙ is.own p a lt (is.reached p lt) there);
+        };
+      };
+      present = alike_pages pages at.words (words pages records) is.size (length-words pages records)
+        (λ p lt. alike_page p at.words (words pages records) (is.size ∙ sym (length-words pages records))
+          (λ a there. same_word p a lt there ∙ ap (λ (l : List Record). get_or (words pages l) a 0) whole));
+    }
+
 -- a log that is redone on stored pages makes them the present ones
 pub redone-present : (pages : ℕ) (records : List Record) (stored : Pages) → EachHoldsPrefix pages records stored → IsPresent pages records (redone stored records)
-redone-present pages records stored legal = ?
+redone-present pages records stored legal = at_end pages records (redone stored records) (redone_to_end pages [] records records 0 stored refl refl (from_stored pages records stored legal))
 
 -- so it leaves the words of the records
 pub redone-words : (pages : ℕ) (records : List Record) (stored : Pages) → EachHoldsPrefix pages records stored → (redone stored records).words ≡ words pages records
-redone-words pages records stored legal = ?
+redone-words pages records stored legal = (redone-present pages records stored legal).present
 
 -- records that are put on present pages leave present ones
 pub present-append : (pages : ℕ) (records more : List Record) (at : Pages) → IsPresent pages records at → IsPresent pages (records ++ more) (redo_all (length records + 1) at more)
