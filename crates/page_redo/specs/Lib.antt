@@ -3,5 +3,5 @@ pub mod Redo
 pub mod Prefix
 pub mod PageLaws
 pub mod RedoSteps
-pub mod RedoLaws
 pub mod PrefixLaws
+pub mod RedoLaws

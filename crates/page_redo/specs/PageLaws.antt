@@ -1,8 +1,8 @@
 -- Laws of pages: what is put on one page leaves the others as they were.
-use Rattle.std.proofs.Common.{◌≡◌, ℕ, ◌+◌, ◌-◌, ◌*◌, ◌<◌, ◌≤◌, Bool, true, false, cond, List, [], ◌∷◌, ◌++◌, length, get_or, set, refl, sym, ap, subst, ◌∙◌, arith, inl, inr, ⊎_elim, length-set, get_or-set_same, get_or-set_other, take, drop, get_or-take, get_or-drop, length-take, length-drop, length-append, append_assoc}
+use Rattle.std.proofs.Common.{◌≡◌, ℕ, ◌+◌, ◌-◌, ◌*◌, ◌<◌, ◌≤◌, Bool, true, false, List, [], ◌∷◌, ◌++◌, length, get_or, set, refl, sym, ap, subst, ◌∙◌, arith, inl, inr, ⊎_elim, length-set, get_or-set_same, get_or-set_other, take, drop, get_or-take, get_or-drop, length-take, length-drop, length-append, append_assoc}
 use Rattle.std.specs.List.{filter, list_any}
 use Rattle.std.specs.Prelude.{◌==◌, map, max}
-use Rattle.std.proofs.lemmas.Bool.{cases_Bool, cases_eq, cases_lt, eqb-true, eq-eqb, ne_eqb, both_ways, or_parts, cond-true, cond-false, false≢true, or_cases}
+use Rattle.std.proofs.lemmas.Bool.{cases_Bool, cases_eq, cases_lt, eqb-true, eq-eqb, both_ways, or_parts, cond-true, cond-false, false≢true, or_cases}
 use Rattle.std.proofs.lemmas.List.{get_or_past, ext_get_or, length-take-le, drop_at, take_at, get_or_append_left, get_or-append_right}
 use Rattle.log_machine.specs.Machine.{put_all, words_in}
 use Rattle.page_redo.specs.Pages.{page_of, page_words, pages_in}
@@ -131,9 +131,9 @@ alike_page p xs ys size same =
     let long' = length-take 64 (drop (64 * p) ys) in
     ext_get_or 0 (page_words xs p) (page_words ys p) (omega (arith, long, long', length-drop (64 * p) xs, length-drop (64 * p) ys))
     (λ i lt. let within : i < 64 = omega (arith, long) in
-      get_or-take 64 (drop (64 * p) xs) i 0 within ∙ get_or-drop (64 * p) xs i 0
-      ∙ same (64 * p + i) (omega arith)
-      ∙ sym (get_or-drop (64 * p) ys i 0) ∙ sym (get_or-take 64 (drop (64 * p) ys) i 0 within))
+    get_or-take 64 (drop (64 * p) xs) i 0 within ∙ get_or-drop (64 * p) xs i 0
+    ∙ same (64 * p + i) (omega arith)
+    ∙ sym (get_or-drop (64 * p) ys i 0) ∙ sym (get_or-take 64 (drop (64 * p) ys) i 0 within))
 
 -- two lists of words that are alike on each page are one
 pub alike_pages : (pages : ℕ) (xs ys : List ℕ) → length xs ≡ words_in pages → length ys ≡ words_in pages → ((p : ℕ) → p < pages_in pages → page_words xs p ≡ page_words ys p) → xs ≡ ys

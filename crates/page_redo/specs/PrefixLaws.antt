@@ -1,10 +1,10 @@
 -- Laws of stored pages: redo makes them the present ones, and what may be stored in their place.
-use Rattle.std.proofs.Common.{◌≡◌, ℕ, ◌+◌, ◌*◌, ◌<◌, ◌≤◌, List, [], ◌++◌, length, get_or, take, drop, replicate, set, refl, sym, ap, subst, ◌∙◌, arith, inl, inr, length-set, length-append, length-take, get_or-set_same, get_or-set_other}
+use Rattle.std.proofs.Common.{◌≡◌, ℕ, ◌+◌, ◌*◌, ◌<◌, ◌≤◌, List, [], ◌++◌, length, get_or, take, refl, sym, ap, subst, ◌∙◌, arith, inl, inr, length-set, length-append, length-take, get_or-set_same, get_or-set_other}
 use Rattle.std.specs.Prelude.{max}
 use Rattle.std.proofs.lemmas.Bool.{cases_eq}
 use Rattle.std.proofs.lemmas.List.{take_all, take_at, take-take, take-append-le, length-replicate, get_or-replicate}
 use Rattle.log_records.specs.declared.Record.{Record}
-use Rattle.log_machine.specs.Machine.{words, words_in, first_contents}
+use Rattle.log_machine.specs.Machine.{words}
 use Rattle.log_machine.specs.WordsLaws.{length-words, length-first_contents}
 use Rattle.page_redo.specs.Pages.{Pages, pages_in, page_of, page_words, lsn_of, with_page, first_pages}
 use Rattle.page_redo.specs.Redo.{redo_all, redone}
@@ -21,12 +21,12 @@ from_stored pages records stored legal = record {
   lsns_size = legal.lsns_size;
   reached = λ p lt. (legal.each p lt).reached;
   same = λ p a lt there.
-    let now : lsn_of stored p ≡ max 0 (lsn_of stored p) = omega arith in
-    page_alike p a stored.words (words pages (take (lsn_of stored p) records)) (legal.each p lt).same there
-    ∙ ap (λ (k : ℕ). get_or (words pages (take k records)) a 0) now;
+      let now : lsn_of stored p ≡ max 0 (lsn_of stored p) = omega arith in
+      page_alike p a stored.words (words pages (take (lsn_of stored p) records)) (legal.each p lt).same there
+      ∙ ap (λ (k : ℕ). get_or (words pages (take k records)) a 0) now;
   own = λ p a lt le there.
-    let none : 0 ≡ lsn_of stored p = omega arith in
-    ap (λ (k : ℕ). get_or (words pages (take k records)) a 0) none;
+      let none : 0 ≡ lsn_of stored p = omega arith in
+      ap (λ (k : ℕ). get_or (words pages (take k records)) a 0) none;
 }
 
 -- once all are redone
@@ -34,8 +34,8 @@ at_end : (pages : ℕ) (records : List Record) (at : Pages) → IsRedoneTo pages
 at_end pages records at is =
     let whole : take (length records) records ≡ records = take_all (length records) records (omega arith) in
     let same_word : (p a : ℕ) → p < pages_in pages → page_of a ≡ p → get_or at.words a 0 ≡ get_or (words pages (take (length records) records)) a 0 = λ p a lt there.
-      let last : max (length records) (lsn_of at p) ≡ length records = omega (arith, is.reached p lt) in
-      is.same p a lt there ∙ ap (λ (k : ℕ). get_or (words pages (take k records)) a 0) last in
+    let last : max (length records) (lsn_of at p) ≡ length records = omega (arith, is.reached p lt) in
+    is.same p a lt there ∙ ap (λ (k : ℕ). get_or (words pages (take k records)) a 0) last in
     record {
       prefixes = record {
         size = is.size;
@@ -43,11 +43,11 @@ at_end pages records at is =
         each = λ p lt. record {
           reached = is.reached p lt;
           same = alike_page p at.words (words pages (take (lsn_of at p) records)) (is.size ∙ sym (length-words pages (take (lsn_of at p) records)))
-            (λ a there. same_word p a lt there ∙ is.own p a lt (is.reached p lt) there);
+              (λ a there. same_word p a lt there ∙ is.own p a lt (is.reached p lt) there);
         };
       };
       present = alike_pages pages at.words (words pages records) is.size (length-words pages records)
-        (λ p lt. alike_page p at.words (words pages records) (is.size ∙ sym (length-words pages records))
+          (λ p lt. alike_page p at.words (words pages records) (is.size ∙ sym (length-words pages records))
           (λ a there. same_word p a lt there ∙ ap (λ (l : List Record). get_or (words pages l) a 0) whole));
     }
 
@@ -65,18 +65,18 @@ from_present pages records more at is =
     let longer = length-append records more in
     let front : take (length records) (records ++ more) ≡ records = take_at records more (length records) refl in
     let now : (a : ℕ) → get_or (words pages (take (length records) (records ++ more))) a 0 ≡ get_or at.words a 0 = λ a.
-      ap (λ (l : List Record). get_or (words pages l) a 0) front ∙ ap (λ (l : List ℕ). get_or l a 0) (sym is.present) in
+    ap (λ (l : List Record). get_or (words pages l) a 0) front ∙ ap (λ (l : List ℕ). get_or l a 0) (sym is.present) in
     record {
       size = is.prefixes.size;
       lsns_size = is.prefixes.lsns_size;
       reached = λ p lt. omega (arith, longer, (is.prefixes.each p lt).reached);
       same = λ p a lt there.
-        let last : length records ≡ max (length records) (lsn_of at p) = omega (arith, (is.prefixes.each p lt).reached) in
-        sym (now a) ∙ ap (λ (k : ℕ). get_or (words pages (take k (records ++ more))) a 0) last;
+          let last : length records ≡ max (length records) (lsn_of at p) = omega (arith, (is.prefixes.each p lt).reached) in
+          sym (now a) ∙ ap (λ (k : ℕ). get_or (words pages (take k (records ++ more))) a 0) last;
       own = λ p a lt le there.
-        now a
-        ∙ page_alike p a at.words (words pages (take (lsn_of at p) records)) (is.prefixes.each p lt).same there
-        ∙ ap (λ (l : List Record). get_or (words pages l) a 0) (sym (take-append-le (lsn_of at p) records more le));
+          now a
+          ∙ page_alike p a at.words (words pages (take (lsn_of at p) records)) (is.prefixes.each p lt).same there
+          ∙ ap (λ (l : List Record). get_or (words pages l) a 0) (sym (take-append-le (lsn_of at p) records more le));
     }
 
 -- records that are put on present pages leave present ones
@@ -130,11 +130,11 @@ first_pages-prefixes pages records = record {
   size = length-first_contents pages;
   lsns_size = length-replicate (pages_in pages) 0;
   each = λ p lt.
-    let none : lsn_of (first_pages pages) p ≡ 0 = get_or-replicate (pages_in pages) p 0 0 lt in
-    record {
-      reached = omega (arith, none);
-      same = ap (λ (k : ℕ). page_words (words pages (take k records)) p) (sym none);
-    };
+      let none : lsn_of (first_pages pages) p ≡ 0 = get_or-replicate (pages_in pages) p 0 0 lt in
+      record {
+        reached = omega (arith, none);
+        same = ap (λ (k : ℕ). page_words (words pages (take k records)) p) (sym none);
+      };
 }
 
 pub EachHoldsPrefix-append : (pages : ℕ) (records more : List Record) (at : Pages) → EachHoldsPrefix pages records at → EachHoldsPrefix pages (records ++ more) at

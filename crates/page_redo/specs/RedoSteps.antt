@@ -1,15 +1,15 @@
 -- Redo goes on: what the pages are when the first so many records of a log have been redone.
-use Rattle.std.proofs.Common.{◌≡◌, ℕ, ◌+◌, ◌<◌, ◌≤◌, true, false, List, [], ◌∷◌, ◌++◌, length, get_or, take, refl, sym, ap, subst, ◌∙◌, arith, inl, inr, ⊎_elim, append_assoc, length-append, ◌⊎◌}
-use Rattle.std.specs.Prelude.{◌==◌, max}
+use Rattle.std.proofs.Common.{◌≡◌, ℕ, ◌+◌, ◌<◌, ◌≤◌, false, List, [], ◌∷◌, ◌++◌, length, get_or, take, refl, sym, ap, subst, ◌∙◌, arith, inl, inr, ⊎_elim, append_assoc, length-append, ◌⊎◌}
+use Rattle.std.specs.Prelude.{max}
 use Rattle.std.specs.List.{filter}
 use Rattle.std.proofs.lemmas.Bool.{cases_Bool, cases_lt, lt-ltb, le-ltb}
-use Rattle.std.proofs.lemmas.List.{take_at, take_all}
+use Rattle.std.proofs.lemmas.List.{take_at}
 use Rattle.std.proofs.lemmas.List.Sums.{fold-append}
 use Rattle.log_records.specs.declared.Record.{Record}
 use Rattle.log_machine.specs.Machine.{effect, put_record, first_contents, words, words_in}
 use Rattle.log_machine.specs.WordsLaws.{length-put_all, length-words}
 use Rattle.page_redo.specs.Pages.{Pages, pages_in, page_of, lsn_of, touched, touches}
-use Rattle.page_redo.specs.Redo.{lacks, raised_to, redo_record, redo_all}
+use Rattle.page_redo.specs.Redo.{lacks, redo_record, redo_all}
 use Rattle.page_redo.specs.PageLaws.{put_kept, put_left, put_elsewhere, length-raised_to, raised_to-other, raised_to-touched}
 
 -- The first n of these records have been redone: a page whose LSN is not above n has the words of all n, and a page whose LSN is
@@ -48,8 +48,8 @@ module _ (pages : ℕ) (records : List Record) where
     step_low p a lt there low =
         let now : max n (lsn_of at p) ≡ n = omega arith in
         put_kept (lacks at (n + 1)) p a there (lt-ltb (lsn_of at p) (n + 1) low) (effect r) at.words (words_after n)
-          (is.size ∙ sym (length-words pages (take n records)))
-          (is.same p a lt there ∙ ap (word_at a) now)
+        (is.size ∙ sym (length-words pages (take n records)))
+        (is.same p a lt there ∙ ap (word_at a) now)
         ∙ ap (λ (l : List ℕ). get_or l a 0) (sym next)
 
     -- those of one that has it
@@ -68,16 +68,16 @@ module _ (pages : ℕ) (records : List Record) where
 
     step_own : (p a : ℕ) → p < pages_in pages → lsn_of new p ≤ n + 1 → page_of a ≡ p → word_at a (n + 1) ≡ word_at a (lsn_of new p)
     step_own p a lt le there = ⊎_elim
-      (λ raised. let so : n + 1 ≡ lsn_of new p = omega (arith, raised) in ap (word_at a) so)
-      (λ kept. elim (cases_lt n (lsn_of at p)) [
-        | inl last ↦ let so : n + 1 ≡ lsn_of new p = omega (arith, kept.0) in ap (word_at a) so
-        | inr before ↦
-            ap (λ (l : List ℕ). get_or l a 0) next
-            ∙ put_elsewhere p a there (effect r) (words_after n) kept.1
-            ∙ is.own p a lt before there
-            ∙ ap (word_at a) (sym kept.0)
-      ])
-      (step_lsn p lt)
+        (λ raised. let so : n + 1 ≡ lsn_of new p = omega (arith, raised) in ap (word_at a) so)
+        (λ kept. elim (cases_lt n (lsn_of at p)) [
+          | inl last ↦ let so : n + 1 ≡ lsn_of new p = omega (arith, kept.0) in ap (word_at a) so
+          | inr before ↦
+              ap (λ (l : List ℕ). get_or l a 0) next
+              ∙ put_elsewhere p a there (effect r) (words_after n) kept.1
+              ∙ is.own p a lt before there
+              ∙ ap (word_at a) (sym kept.0)
+        ])
+        (step_lsn p lt)
 
     -- one record more
     pub step : IsRedoneTo pages records (n + 1) new
