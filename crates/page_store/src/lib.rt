@@ -1,0 +1,11 @@
+//! Pages on a disk: an array of pages, each stored in one of two frames in turn, so that a crash leaves it old or new.
+#![tactic(auto)]
+
+mod frame;
+mod store;
+
+pub use frame::{Frame, PAGE_WORDS, StoredPage};
+pub use store::{OpenError, PageStore};
+
+#[cfg(test)]
+mod tests;

@@ -1,0 +1,1 @@
+//! Pages that are stored, on a disk in memory that stops.
