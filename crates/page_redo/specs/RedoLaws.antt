@@ -1,11 +1,12 @@
 -- Laws of redo, whatever the pages hold.
-use Rattle.std.proofs.Common.{◌≡◌, ℕ, ◌+◌, ◌<◌, Bool, true, cond, List, [], ◌∷◌, ◌++◌, length, refl, sym, ap, ◌∙◌, arith, inl, inr}
+use Rattle.std.proofs.Common.{◌≡◌, ℕ, ◌+◌, ◌<◌, Bool, true, cond, List, [], ◌∷◌, ◌++◌, length, get_or, take, refl, sym, ap, ◌∙◌, arith, inl, inr}
 use Rattle.std.specs.Prelude.{max}
 use Rattle.std.specs.List.{filter}
 use Rattle.std.proofs.lemmas.Bool.{cases_Bool, cases_lt, lt-ltb, cond-true, cond-false}
-use Rattle.std.proofs.lemmas.List.{ext_get_or, get_or_past}
+use Rattle.std.proofs.lemmas.List.{ext_get_or, get_or_past, take_more, length-take-le}
 use Rattle.log_records.specs.declared.Record.{Record}
 use Rattle.log_machine.specs.Machine.{effect, put_all, put_record}
+use Rattle.log_machine.specs.WordsLaws.{length-put_all}
 use Rattle.page_redo.specs.Pages.{Pages, pages_in, page_of, lsn_of, touched, touches}
 use Rattle.page_redo.specs.Redo.{lacks, EachLacks, redo_record, redo_all, redone, last_lsn}
 use Rattle.page_redo.specs.PageLaws.{length-raised_to, raised_to-touched, raised_to-other}
@@ -18,6 +19,17 @@ redo_all-append lsn at [] ss = let same : lsn ≡ lsn + length {A = Record} [] =
 redo_all-append lsn at (r ∷ rs) ss =
     let same : lsn + 1 + length rs ≡ lsn + length (r ∷ rs) = omega arith in
     redo_all-append (lsn + 1) (redo_record lsn at r) rs ss ∙ ap (λ (n : ℕ). redo_all n (redo_all (lsn + 1) (redo_record lsn at r) rs) ss) same
+
+-- the records so far, and the one at a place
+pub redo_all-more : (lsn : ℕ) (at : Pages) (rs : List Record) (i : ℕ) (r : Record) → i < length rs → r ≡ get_or rs i r → redo_all lsn at (take (i + 1) rs) ≡ redo_record (lsn + i) (redo_all lsn at (take i rs)) r
+redo_all-more lsn at rs i r lt is =
+    ap (redo_all lsn at) (take_more rs i r lt ∙ ap (λ (x : Record). take i rs ++ x ∷ []) (sym is))
+    ∙ redo_all-append lsn at (take i rs) (r ∷ [])
+    ∙ ap (λ (n : ℕ). redo_record (lsn + n) (redo_all lsn at (take i rs)) r) (length-take-le i rs (omega arith))
+
+-- the words keep their number
+pub words-redo_record : (lsn : ℕ) (at : Pages) (rec : Record) → length (redo_record lsn at rec).words ≡ length at.words
+words-redo_record lsn at rec = length-put_all (filter (λ (w : ℕ × ℕ). lacks at lsn (page_of w.0)) (effect rec)) at.words
 
 filter_all : (test : ℕ × ℕ → Bool) (ws : List (ℕ × ℕ)) → ((w : ℕ × ℕ) → test w ≡ true) → filter test ws ≡ ws
 filter_all test [] each = refl
