@@ -1,6 +1,8 @@
 //! The heap's pages in memory, with their LSNs, over those that are stored on a disk.
 #![tactic(auto)]
 
+mod cache;
 mod cached;
 
+pub use cache::PageCache;
 pub use cached::CachedPages;

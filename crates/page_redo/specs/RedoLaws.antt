@@ -1,6 +1,6 @@
 -- Laws of redo, whatever the pages hold.
-use Rattle.std.proofs.Common.{◌≡◌, ℕ, ◌+◌, ◌<◌, Bool, true, cond, List, [], ◌∷◌, ◌++◌, length, get_or, take, refl, sym, ap, ◌∙◌, arith, inl, inr}
-use Rattle.std.specs.Prelude.{max}
+use Rattle.std.proofs.Common.{◌≡◌, ℕ, ◌+◌, ◌<◌, ◌≤◌, Bool, true, cond, List, [], ◌∷◌, ◌++◌, length, get_or, take, refl, sym, ap, ◌∙◌, arith, inl, inr}
+use Rattle.std.specs.Prelude.{max, fold}
 use Rattle.std.specs.List.{filter}
 use Rattle.std.proofs.lemmas.Bool.{cases_Bool, cases_lt, lt-ltb, cond-true, cond-false}
 use Rattle.std.proofs.lemmas.List.{ext_get_or, get_or_past, take_more, length-take-le}
@@ -47,6 +47,9 @@ lsn-redo_record lsn at rec p lt = elim (cases_Bool (touches rec p)) [
   | inr none ↦ omega (arith, raised_to-other lsn p (touched rec) at.lsns none, cond-false (touches rec p) lsn 0 none)
 ]
 
+pub lsns-redo_record : (lsn : ℕ) (at : Pages) (rec : Record) → length (redo_record lsn at rec).lsns ≡ length at.lsns
+lsns-redo_record lsn at rec = length-raised_to lsn (touched rec) at.lsns
+
 pub lsns-redo_all : (lsn : ℕ) (at : Pages) (rs : List Record) → length (redo_all lsn at rs).lsns ≡ length at.lsns
 lsns-redo_all lsn at [] = refl
 lsns-redo_all lsn at (r ∷ rs) = lsns-redo_all (lsn + 1) (redo_record lsn at r) rs ∙ length-raised_to lsn (touched r) at.lsns
@@ -56,6 +59,30 @@ pub lsn-redo_all : (lsn : ℕ) (at : Pages) (rs : List Record) (p : ℕ) → p <
 lsn-redo_all lsn at [] p lt = omega arith
 lsn-redo_all lsn at (r ∷ rs) p lt =
     omega (arith, lsn-redo_record lsn at r p lt, lsn-redo_all (lsn + 1) (redo_record lsn at r) rs p (omega (arith, length-raised_to lsn (touched r) at.lsns)))
+
+-- no LSN falls
+pub lsn-rises : (lsn : ℕ) (at : Pages) (rec : Record) (p : ℕ) → p < length at.lsns → lsn_of at p ≤ lsn_of (redo_record lsn at rec) p
+lsn-rises lsn at rec p lt = omega (arith, lsn-redo_record lsn at rec p lt)
+
+pub lsn-rises_all : (lsn : ℕ) (at : Pages) (rs : List Record) (p : ℕ) → p < length at.lsns → lsn_of at p ≤ lsn_of (redo_all lsn at rs) p
+lsn-rises_all lsn at rs p lt = omega (arith, lsn-redo_all lsn at rs p lt)
+
+-- each page lacks what follows
+pub EachLacks-next : (lsn : ℕ) (at : Pages) (rec : Record) → EachLacks lsn at → EachLacks (lsn + 1) (redo_record lsn at rec)
+EachLacks-next lsn at rec lacking p = elim (cases_lt p (length at.lsns)) [
+  | inl lt ↦ elim (cases_Bool (touches rec p)) [
+    | inl some ↦ omega (arith, lsn-redo_record lsn at rec p lt, cond-true (touches rec p) lsn 0 some, lacking p)
+    | inr none ↦ omega (arith, lsn-redo_record lsn at rec p lt, cond-false (touches rec p) lsn 0 none, lacking p)
+  ]
+  | inr past ↦ omega (arith, get_or_past (redo_record lsn at rec).lsns p 0 (omega (arith, length-raised_to lsn (touched rec) at.lsns)))
+]
+
+-- where each page lacks the first of these records, the words are those with all of them
+pub redo_all-words : (lsn : ℕ) (at : Pages) (rs : List Record) → EachLacks lsn at → (redo_all lsn at rs).words ≡ fold put_record at.words rs
+redo_all-words lsn at [] lacking = refl
+redo_all-words lsn at (r ∷ rs) lacking =
+    redo_all-words (lsn + 1) (redo_record lsn at r) rs (EachLacks-next lsn at r lacking)
+    ∙ ap (λ (l : List ℕ). fold put_record l rs) (redo_record-words lsn at r lacking)
 
 -- so have stored pages on which a whole log was redone
 pub lsn-redone : (pages : ℕ) (records : List Record) (stored : Pages) (p : ℕ) → EachHoldsPrefix pages records stored → p < pages_in pages → lsn_of (redone stored records) p ≡ max (lsn_of stored p) (last_lsn p 1 records)
