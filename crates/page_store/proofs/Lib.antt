@@ -1,0 +1,2 @@
+pub mod Refilling
+pub mod Storing

@@ -1,5 +1,9 @@
 pub mod Frame
+pub mod WordLaws
+pub mod PairLaws
 pub mod Page
+pub mod PageLaws
+pub mod Refill
 pub mod Reading
 pub mod StoreState
 pub mod OpenCause

@@ -2,6 +2,7 @@
 #![tactic(auto)]
 
 mod frame;
+mod refill;
 mod store;
 
 pub use frame::{Frame, PAGE_WORDS, StoredPage};

@@ -1,5 +1,5 @@
 //! The pages on a disk, with what is kept of them in memory: which frame of each page counts, and its LSN.
-ghost use Rattle.std.specs.Prelude.{◌≡◌, ◌≢◌, ℕ, ◌+◌, ◌*◌, ◌<◌, ◌≤◌, List, length, vec_len, IsTrue, OnOk, OnErr, IfOk};
+ghost use Rattle.std.specs.Prelude.{◌≡◌, ◌≢◌, ℕ, ◌+◌, ◌*◌, ◌^◌, ◌<◌, ◌≤◌, List, length, vec_len, IsTrue, OnOk, OnErr, IfOk};
 ghost use Rattle.disk_model.specs.Disk.{part, Only};
 ghost use Rattle.disk_model.specs.Keeps.{KeepsDisk, OnlyReads};
 ghost use Rattle.disk_model.specs.Moments.{LeavesOnly};
@@ -8,15 +8,15 @@ ghost use Rattle.image_plan.specs.Plan.{image_size, frame_offset};
 ghost use Rattle.page_store.specs.declared.store.OpenError.TheVariants.{NoMemory};
 ghost use Rattle.page_store.specs.OpenCause.{open_device_result};
 ghost use Rattle.page_store.specs.Frame.{frame_bytes, spare};
-ghost use Rattle.page_store.specs.Page.{frame_of, image_words, HasPage, SamePage, SameButPage, IsStoring, store_calls};
+ghost use Rattle.page_store.specs.Page.{frame_place, frame_of, image_words, HasPage, SamePage, SameButPage, IsStoring, store_calls};
 ghost use Rattle.page_store.specs.Reading.{IsReadTo};
 
 use crate::frame::{
     FRAME_BYTES, Frame, PAGE_WORDS, Stored, StoredPage, body_of, first_contents, read_page,
     words_of,
 };
+use crate::refill::refill;
 use disk_model::{Disk, DiskError};
-use gate_slot::{close_gate, fill_and_open};
 use image_plan::Plan;
 use std::alloc::{AllocError, AllocFailed, Global};
 
@@ -59,6 +59,7 @@ pub struct PageStore {
     // Of each page, what its frame that counts says.
     table: Vec<Stored>,
     ghost few: { plan.pages ≤ 16384 },
+    ghost small: { plan.log_bytes < 2 ^ 32 },
     ghost whole: { vec_len table ≡ 2 * plan.pages },
 }
 
@@ -89,7 +90,7 @@ impl PageStore {
         requires { p < store_pages self.now }
         ensures { result ≡ stored_lsn self.now p }
     {
-        self.table[p as usize].lsn
+        self.entry(p).lsn
     }
 
     /// Reads what page `p` holds on the disk: the one frame that counts, or nothing where none does.
@@ -101,7 +102,7 @@ impl PageStore {
         ensures loaded { IsTrue D.tells → Knows self.now (D.bytes disk.old) → IfOk result (λ page. HasPage (store_log self.now) p page.lsn page.words (D.bytes disk.old)) }
         ensures disk { OnlyReads D.Disk disk.old disk.new result }
     {
-        let Stored { lsn, counts } = self.table[p as usize];
+        let Stored { lsn, counts } = self.entry(p);
         let words = match counts {
             Some(frame) => {
                 let mut bytes = [0u8; FRAME_BYTES];
@@ -149,13 +150,31 @@ impl PageStore {
             → LeavesOnly D.moment D.left_since disk.old disk.new (IsStoring (store_log self.old) p lsn words.now (D.bytes disk.old)) }
         ensures passes { IsTrue D.tells → Passes (store_calls (store_log self.old) p (spare (stored_frame self.old p)) (D.bytes disk.old)) (D.passed disk.old) (D.passed disk.new) result }
     {
-        let frame = Frame::spare(self.table[p as usize].counts);
-        let gate = self.plan.frame_at(p, frame.number());
-        close_gate(disk, gate)?;
-        fill_and_open(disk, gate, gate + 1, &body_of(lsn, words))?;
+        let (frame, gate) = self.spare(p);
+        refill(disk, gate, &body_of(lsn, words))?;
         let counts = Some(frame);
         self.table[p as usize] = Stored { lsn, counts };
         Ok(())
+    }
+
+    /// What is kept in memory of page `p`.
+    fn entry(&self, p: u32) -> Stored
+        requires { p < store_pages self.now }
+        ensures { result ≡ stored_entry self.now p }
+    {
+        self.table[p as usize]
+    }
+
+    /// The frame of page `p` that a store writes, and where it begins.
+    fn spare(&self, p: u32) -> (Frame, u64)
+        requires { p < store_pages self.now }
+        ensures frame { result.0 ≡ spare (stored_frame self.now p) }
+        ensures place { result.1 ≡ frame_place (store_log self.now) p (spare (stored_frame self.now p)) }
+        ensures inside { result.1 + 528 ≤ store_size self.now }
+        ensures small { result.1 + 528 < 2 ^ 64 }
+    {
+        let frame = Frame::spare(self.entry(p).counts);
+        (frame, self.plan.frame_at(p, frame.number()))
     }
 }
 
