@@ -1,2 +1,3 @@
+pub mod Opening
 pub mod Refilling
 pub mod Storing

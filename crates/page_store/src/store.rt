@@ -7,7 +7,7 @@ ghost use Rattle.gate_slot.specs.Passing.{Passes};
 ghost use Rattle.image_plan.specs.Plan.{image_size, frame_offset};
 ghost use Rattle.page_store.specs.declared.store.OpenError.TheVariants.{NoMemory};
 ghost use Rattle.page_store.specs.OpenCause.{open_device_result};
-ghost use Rattle.page_store.specs.Frame.{frame_bytes, spare};
+ghost use Rattle.page_store.specs.Frame.{frame_bytes, frame_words, spare};
 ghost use Rattle.page_store.specs.Page.{frame_place, frame_of, image_words, HasPage, SamePage, SameButPage, IsStoring, store_calls};
 ghost use Rattle.page_store.specs.Reading.{IsReadTo};
 
@@ -103,15 +103,16 @@ impl PageStore {
         ensures disk { OnlyReads D.Disk disk.old disk.new result }
     {
         let Stored { lsn, counts } = self.entry(p);
-        let words = match counts {
+        match counts {
+            None => Ok(StoredPage {
+                lsn,
+                words: first_contents(p),
+            }),
             Some(frame) => {
-                let mut bytes = [0u8; FRAME_BYTES];
-                disk.read(self.plan.frame_at(p, frame.number()), &mut bytes)?;
-                words_of(&bytes)
+                let words = read_words(disk, self.plan.frame_at(p, frame.number()))?;
+                Ok(StoredPage { lsn, words })
             }
-            None => first_contents(p),
-        };
-        Ok(StoredPage { lsn, words })
+        }
     }
 
     /// Writes page `p` into the frame that doesn't count, which counts from then on, since its LSN is the greater one: in four
@@ -194,17 +195,43 @@ fn read_pages<D: Disk>(
     let pages = 2 * plan.pages;
     let mut table = Vec::with_capacity(alloc, pages as usize)?;
     let mut words = Vec::with_capacity(alloc, PAGE_WORDS * pages as usize)?;
-    let mut piece = vec![in alloc; 0u8; PIECE_PAGES as usize * PAGE_BYTES]?;
     let mut p = 0;
     while p < pages {
         let some = PIECE_PAGES.min(pages - p);
-        let bytes = &mut piece[..some as usize * PAGE_BYTES];
-        disk.read(plan.frame_at(p, 0), bytes)
-            .map_err(OpenError::Disk)?;
-        take_pages(p, some, bytes, &mut table, &mut words)?;
+        let size = some as usize * PAGE_BYTES;
+        let frames = read_bytes(alloc, disk, plan.frame_at(p, 0), size)?;
+        take_pages(p, some, &frames, &mut table, &mut words)?;
         p += some;
     }
     Ok((table, words))
+}
+
+/// The `size` bytes of the disk from byte `at` on.
+fn read_bytes<D: Disk>(
+    alloc: Global,
+    disk: &mut D,
+    at: u64,
+    size: usize,
+) -> Result<Vec<u8>, OpenError>
+    requires { at + size ≤ D.extent disk.old }
+    ensures bytes { IsTrue D.tells → IfOk result (λ bytes. bytes.items ≡ part (D.bytes disk.old) at size) }
+    ensures len { IfOk result (λ bytes. vec_len bytes ≡ size) }
+    ensures disk { OnlyReads D.Disk disk.old disk.new (open_device_result result) }
+{
+    let mut bytes = vec![in alloc; 0u8; size]?;
+    disk.read(at, &mut bytes).map_err(OpenError::Disk)?;
+    Ok(bytes)
+}
+
+/// The words in the frame at byte `at` of the disk.
+fn read_words<D: Disk>(disk: &mut D, at: u64) -> Result<[u64; PAGE_WORDS], DiskError>
+    requires { at + 528 ≤ D.extent disk.old }
+    ensures words { IsTrue D.tells → IfOk result (λ words. words ≡ frame_words (part (D.bytes disk.old) at 528)) }
+    ensures disk { OnlyReads D.Disk disk.old disk.new result }
+{
+    let mut frame = [0u8; FRAME_BYTES];
+    disk.read(at, &mut frame)?;
+    Ok(words_of(&frame))
 }
 
 /// Adds what the frames of `some` pages say, from page `first` on, and the words of these pages.
