@@ -149,7 +149,7 @@ impl PageCache {
         ensures plan { store_plan (cache_store self.new) ≡ store_plan (cache_store self.old) }
         ensures clean { OnOk result (flushed_lsn self.new p ≡ cached_lsn self.old p) }
         ensures others_kept { (q : ℕ) → q ≢ p → flushed_lsn self.new q ≡ flushed_lsn self.old q }
-        ensures err { OnErr result (cache_store self.new ≡ cache_store self.old) }
+        ensures err { OnErr result (self.new ≡ self.old) }
 
         // What is on the disk.
         ensures stored { IsTrue D.tells → Knows (cache_store self.old) (D.bytes disk.old) → OnOk result (HasPage (cache_log self.old) p (cached_lsn self.old p) (cached_page self.old p) (D.bytes disk.new)) }
