@@ -6,3 +6,6 @@ mod cached;
 
 pub use cache::PageCache;
 pub use cached::CachedPages;
+
+#[cfg(test)]
+mod tests;
