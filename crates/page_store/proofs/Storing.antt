@@ -16,12 +16,12 @@ use Rattle.page_store.specs.declared.frame.Frame.{Frame}
 use Rattle.page_store.specs.declared.frame.Frame.TheVariants.{First, Second}
 use Rattle.page_store.specs.Frame.{frame_body, frame_bytes, is_frame_open, frame_lsn, frame_words, counting, bytes_of, spare}
 use Rattle.page_store.specs.Page.{frame_place, frame_of, page_frame, page_lsn, page_words, first_words, HasPage, SamePage, SameButPage, IsStoring}
-use Rattle.page_store.specs.PairLaws.{other, SamePair, CountsNow, closed_spare, opened_spare}
-use Rattle.page_store.specs.PageLaws.{same_page, other_pages, other_counts}
+use Rattle.page_store.specs.PairLaws.{other}
+use Rattle.page_store.specs.PageLaws.{same_page, other_pages, other_counts, spare_closed, spare_counts, spare_written}
 use Rattle.page_store.specs.Reading.{nothing_stored}
 use Rattle.page_store.specs.Refill.{IsRefilling}
 use Rattle.page_store.specs.StoreState.{store_log, store_pages, stored_entry, Knows}
-use Rattle.page_store.specs.WordLaws.{frame_lsn-written, frame_words-written, length-frame_body}
+use Rattle.page_store.specs.WordLaws.{length-frame_body}
 
 -- new has the size of old, and the same bytes but for those of one frame
 pub record SameButFrame (log_bytes p : ℕ) (frame : Frame) (old new : List ℕ) : Type 0 where
@@ -39,11 +39,6 @@ around log_bytes p i First (inl before) = inl (omega arith)
 around log_bytes p i First (inr behind) = inr (omega arith)
 around log_bytes p i Second (inl before) = inl (omega arith)
 around log_bytes p i Second (inr behind) = inr (omega arith)
-
--- one of the two frames, by its name
-named : (log_bytes p : ℕ) (image : List ℕ) (frame : Frame) → bytes_of (frame_of log_bytes p image First) (frame_of log_bytes p image Second) frame ≡ frame_of log_bytes p image frame
-named log_bytes p image First = refl
-named log_bytes p image Second = refl
 
 module _ (log_bytes p : ℕ) (frame : Frame) where
   abbrev gate : ℕ
@@ -115,43 +110,12 @@ module _ (log_bytes p : ℕ) (frame : Frame) where
     }
 
     -- and so is the page's other frame
-    other_stands : bytes_of (frame_of log_bytes p new First) (frame_of log_bytes p new Second) (other frame) ≡ bytes_of (frame_of log_bytes p old First) (frame_of log_bytes p old Second) (other frame)
-    other_stands =
-        named log_bytes p new (other frame)
-        ∙ same_part (frame_place log_bytes p (other frame)) 528 old new but.size (λ i above below. but.others i (beside log_bytes p i frame above below))
-        ∙ sym (named log_bytes p old (other frame))
+    other_stands : frame_of log_bytes p new (other frame) ≡ frame_of log_bytes p old (other frame)
+    other_stands = same_part (frame_place log_bytes p (other frame)) 528 old new but.size (λ i above below. but.others i (beside log_bytes p i frame above below))
 
-    module _ (spare_is : frame ≡ spare (page_frame log_bytes p old)) where
-      -- while the spare frame is closed the page stays as it was
-      pub stays : get_or new gate 0 ≢ 1 → SamePair (first_words p) (frame_of log_bytes p old First) (frame_of log_bytes p old Second) (frame_of log_bytes p new First) (frame_of log_bytes p new Second)
-      stays shut =
-          let gate_is : get_or (bytes_of (frame_of log_bytes p new First) (frame_of log_bytes p new Second) frame) 0 0 ≡ get_or new gate 0 = ap (λ (l : List ℕ). get_or l 0 0) (named log_bytes p new frame) ∙ gate_byte new in
-          closed_spare (first_words p) _ _ _ _ frame spare_is other_stands (ne_eqb _ _ (λ one. shut (sym gate_is ∙ one)))
-
-      pub page_stays : get_or new gate 0 ≢ 1 → SamePage log_bytes p old new
-      page_stays shut = let same = stays shut in record { lsn_is = same.lsns; words_are = same.words_are }
-
-      module _ (lsn : ℕ) (words : List ℕ) (small : lsn < 2 ^ 64) (greater : page_lsn log_bytes p old < lsn) (size : length words ≡ 64) (fit : (k : ℕ) → get_or words k 0 < 2 ^ 64)
-          (written : frame_of log_bytes p new frame ≡ frame_bytes lsn words) where
-        named_written : bytes_of (frame_of log_bytes p new First) (frame_of log_bytes p new Second) frame ≡ frame_bytes lsn words
-        named_written = named log_bytes p new frame ∙ written
-
-        lsn_written : frame_lsn (bytes_of (frame_of log_bytes p new First) (frame_of log_bytes p new Second) frame) ≡ lsn
-        lsn_written = ap frame_lsn named_written ∙ frame_lsn-written lsn words small
-
-        -- written with an LSN above the page's, the spare frame counts
-        counts : CountsNow (first_words p) (frame_of log_bytes p new First) (frame_of log_bytes p new Second) frame
-        counts =
-            opened_spare (first_words p) (frame_of log_bytes p old First) (frame_of log_bytes p old Second) _ _ frame spare_is other_stands (eq-eqb _ _ (ap (λ (l : List ℕ). get_or l 0 0) named_written)) (subst (λ (n : ℕ). page_lsn log_bytes p old < n) (sym lsn_written) greater)
-
-        pub page_written : HasPage log_bytes p lsn words new
-        page_written = record {
-          lsn_is = counts.lsn_is ∙ lsn_written;
-          words_are = counts.words_are ∙ ap frame_words named_written ∙ frame_words-written lsn words size fit;
-        }
-
-        pub frame_written : page_frame log_bytes p new ≡ Some frame
-        frame_written = counts.counts
+    -- while the spare frame is closed the page stays as it was
+    pub page_stays : frame ≡ spare (page_frame log_bytes p old) → get_or new gate 0 ≢ 1 → SamePage log_bytes p old new
+    page_stays spare_is shut = spare_closed log_bytes p frame old new spare_is other_stands (ne_eqb _ _ (λ one. shut (sym (gate_byte new) ∙ one)))
 
   -- the gate is closed where it is open
   pub closed_but : (image : List ℕ) → gate + 528 ≤ length image → SameButFrame log_bytes p frame image (closed gate image)
@@ -203,10 +167,10 @@ module _ (log_bytes p : ℕ) (frame : Frame) where
 
     module _ (spare_is : frame ≡ spare (page_frame log_bytes p old)) (small : lsn < 2 ^ 64) (greater : page_lsn log_bytes p old < lsn) (fit : (k : ℕ) → get_or words k 0 < 2 ^ 64) where
       pub written_page : HasPage log_bytes p lsn words stored_image
-      written_page = page_written old stored_image written_but spare_is lsn words small greater size fit written_has
+      written_page = spare_written log_bytes p frame old stored_image spare_is (other_stands old stored_image written_but) lsn words small greater size fit written_has
 
       pub written_frame : page_frame log_bytes p stored_image ≡ Some frame
-      written_frame = frame_written old stored_image written_but spare_is lsn words small greater size fit written_has
+      written_frame = spare_counts log_bytes p frame old stored_image spare_is (other_stands old stored_image written_but) lsn words small greater size fit written_has
 
       -- a crash leaves an image of that kind
       abbrev Left : List ℕ → Type 0

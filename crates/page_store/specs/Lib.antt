@@ -6,4 +6,5 @@ pub mod PageLaws
 pub mod Refill
 pub mod Reading
 pub mod StoreState
+pub mod StoreLaws
 pub mod OpenCause

@@ -1,18 +1,21 @@
--- What becomes of an image's pages when bytes of a frame are written.
-use Rattle.std.specs.Prelude.{◌≡◌, ◌≢◌, ◌⊎◌, ℕ, zero, suc, ◌+◌, ◌-◌, ◌*◌, ◌^◌, ◌<◌, ◌≤◌, ◌==◌, Bool, true, false, List, [], ◌∷◌, ◌++◌, length, take, drop, slice_index, if◌then◌else◌}
-use Rattle.std.proofs.Common.{refl, sym, ap, ◌∙◌, inl, inr, get_or, arith, length-append}
-use Rattle.std.proofs.lemmas.Bool.{cases_lt}
-use Rattle.std.proofs.lemmas.Bool.Decides.{nat_tests}
-use Rattle.disk_model.specs.Disk.{overwrite, part, SameOutside}
-use Rattle.gate_slot.specs.Gate.{IsOpen, IsClosed, IsOutside, filled, closed, SameButGate, IsFilling}
-use Rattle.gate_slot.specs.GateLaws.{length_filled, filled_outside, filled_next}
-use Rattle.gate_slot.specs.Images.{part_index, same_part, part_overwrite, torn_overwrite, torn_outside, length_overwrite}
-use Rattle.image_plan.specs.Plan.{frame_offset}
+-- What becomes of an image's pages when bytes of it are written.
+use Rattle.std.specs.Prelude.{◌≡◌, ◌≢◌, ◌⊎◌, ℕ, ◌+◌, ◌^◌, ◌<◌, ◌≤◌, Bool, true, false, List, length, Some}
+use Rattle.std.proofs.Common.{refl, sym, ap, ◌∙◌, inl, inr, get_or, subst, arith}
+use Rattle.std.proofs.lemmas.Bool.{cases_lt, eq-eqb}
+use Rattle.disk_model.specs.Disk.{part, SameOutside}
+use Rattle.gate_slot.specs.Images.{same_part}
+use Rattle.image_plan.specs.Plan.{log_offset, frame_offset}
 use Rattle.page_store.specs.declared.frame.Frame.{Frame}
 use Rattle.page_store.specs.declared.frame.Frame.TheVariants.{First, Second}
-use Rattle.page_store.specs.Frame.{is_frame_open, frame_lsn, frame_words, counting, bytes_of, lsn_in, words_or, spare}
-use Rattle.page_store.specs.Page.{frame_number, frame_place, frame_of, page_frame, page_lsn, page_words, first_words, image_words, HasPage, SamePage, SameButPage}
+use Rattle.page_store.specs.Frame.{frame_bytes, is_frame_open, frame_lsn, frame_words, counting, bytes_of, lsn_in, words_or, spare}
+use Rattle.page_store.specs.Page.{frame_place, frame_of, page_frame, page_lsn, first_words, HasPage, SamePage, SameButPage}
 use Rattle.page_store.specs.PairLaws.{other, SamePair, CountsNow, closed_spare, opened_spare}
+use Rattle.page_store.specs.WordLaws.{frame_lsn-written, frame_words-written}
+
+-- one of a page's two frames, by its name
+named : (log_bytes p : ℕ) (image : List ℕ) (frame : Frame) → bytes_of (frame_of log_bytes p image First) (frame_of log_bytes p image Second) frame ≡ frame_of log_bytes p image frame
+named log_bytes p image First = refl
+named log_bytes p image Second = refl
 
 module _ (log_bytes : ℕ) where
   -- a page depends on the bytes of its two frames alone
@@ -44,3 +47,55 @@ module _ (log_bytes : ℕ) where
 
     pub other_counts : (q : ℕ) → q ≢ p → page_frame log_bytes q new ≡ page_frame log_bytes q old
     other_counts q apart = same_frame q old new (other_frames q apart)
+
+    -- and so all bytes before the page, those of the superblock and the log among them
+    pub part_before : (at n : ℕ) → at + n ≤ frame_offset log_bytes p 0 → part new at n ≡ part old at n
+    part_before at n before = same_part at n old new but.size (λ i above below. but.before i (omega arith))
+
+  module _ (old new : List ℕ) (behind : SameOutside log_offset (log_offset + log_bytes) old new) where
+    -- where only bytes of the log differ, each frame is the same
+    pub frames_behind_log : (p : ℕ) (frame : Frame) → frame_of log_bytes p new frame ≡ frame_of log_bytes p old frame
+    frames_behind_log p frame = same_part (frame_place log_bytes p frame) 528 old new behind.size (λ i above below. behind.behind i (omega arith))
+
+    -- and so each page
+    pub pages_behind_log : (p : ℕ) → SamePage log_bytes p old new
+    pages_behind_log p = same_page p old new (frames_behind_log p)
+
+  -- a page with two closed frames was never stored
+  pub never_stored : (p : ℕ) (image : List ℕ) → is_frame_open (frame_of log_bytes p image First) ≡ false → is_frame_open (frame_of log_bytes p image Second) ≡ false → HasPage log_bytes p 0 (first_words p) image
+  never_stored p image shut shut' = record { lsn_is = rw (shut, shut') refl; words_are = rw (shut, shut') refl }
+
+  -- The frame that doesn't count is written, and the other one stands.
+  module _ (p : ℕ) (frame : Frame) (old new : List ℕ) (spare_is : frame ≡ spare (page_frame log_bytes p old)) (stands : frame_of log_bytes p new (other frame) ≡ frame_of log_bytes p old (other frame)) where
+    other_stands : bytes_of (frame_of log_bytes p new First) (frame_of log_bytes p new Second) (other frame) ≡ bytes_of (frame_of log_bytes p old First) (frame_of log_bytes p old Second) (other frame)
+    other_stands = named log_bytes p new (other frame) ∙ stands ∙ sym (named log_bytes p old (other frame))
+
+    -- while it is closed, the page stays as it was
+    pub spare_closed : is_frame_open (frame_of log_bytes p new frame) ≡ false → SamePage log_bytes p old new
+    spare_closed shut =
+        let same = closed_spare (first_words p) _ _ _ _ frame spare_is other_stands (ap is_frame_open (named log_bytes p new frame) ∙ shut) in
+        record { lsn_is = same.lsns; words_are = same.words_are }
+
+    module _ (lsn : ℕ) (words : List ℕ) (small : lsn < 2 ^ 64) (greater : page_lsn log_bytes p old < lsn) (size : length words ≡ 64) (fit : (k : ℕ) → get_or words k 0 < 2 ^ 64)
+        (written : frame_of log_bytes p new frame ≡ frame_bytes lsn words) where
+      named_written : bytes_of (frame_of log_bytes p new First) (frame_of log_bytes p new Second) frame ≡ frame_bytes lsn words
+      named_written = named log_bytes p new frame ∙ written
+
+      lsn_written : frame_lsn (bytes_of (frame_of log_bytes p new First) (frame_of log_bytes p new Second) frame) ≡ lsn
+      lsn_written = ap frame_lsn named_written ∙ frame_lsn-written lsn words small
+
+      counts : CountsNow (first_words p) (frame_of log_bytes p new First) (frame_of log_bytes p new Second) frame
+      counts =
+          opened_spare (first_words p) (frame_of log_bytes p old First) (frame_of log_bytes p old Second) _ _ frame spare_is other_stands (eq-eqb _ _ (ap (λ (l : List ℕ). get_or l 0 0) named_written))
+          (subst (λ (n : ℕ). page_lsn log_bytes p old < n) (sym lsn_written) greater)
+
+      -- written with an LSN above the page's, it counts from then on
+      pub spare_counts : page_frame log_bytes p new ≡ Some frame
+      spare_counts = counts.counts
+
+      -- and the page is what was written
+      pub spare_written : HasPage log_bytes p lsn words new
+      spare_written = record {
+        lsn_is = counts.lsn_is ∙ lsn_written;
+        words_are = counts.words_are ∙ ap frame_words named_written ∙ frame_words-written lsn words size fit;
+      }

@@ -22,6 +22,12 @@ words_in-each (suc n) bytes (w ∷ ws) size each =
     let rest = words_in-each n (drop 8 bytes) ws (omega (arith, size)) behind in
     ap (λ (x : ℕ). x ∷ ws) first ∙ ap (λ (l : List ℕ). little_number 8 bytes ∷ l) rest
 
+-- they are n
+pub length-words_in : (n : ℕ) (bytes : List ℕ) → length (words_in n bytes) ≡ n
+unfolding words_in
+length-words_in zero bytes = refl
+length-words_in (suc n) bytes = let rest = length-words_in n (drop 8 bytes) in omega (arith, rest)
+
 -- words are read back
 pub words_in-written : (n : ℕ) (words rest : List ℕ) → length words ≡ n → ((k : ℕ) → get_or words k 0 < 2 ^ 64) → words_in n (flat_map (to_le_bytes w64) words ++ rest) ≡ words
 unfolding words_in

@@ -85,6 +85,21 @@ impl PageStore {
         Ok((PageStore { plan, table }, words))
     }
 
+    /// The plan of the image that the pages lie in.
+    pub fn plan(&self) -> Plan
+        ensures { result ≡ store_plan self.now }
+    {
+        self.plan
+    }
+
+    /// How many pages there are, those of both spaces.
+    pub fn pages(&self) -> u32
+        ensures value { result ≡ store_pages self.now }
+        ensures few { result ≤ 32768 }
+    {
+        2 * self.plan.pages
+    }
+
     /// The LSN with which page `p` was stored, or 0.
     pub fn stored_lsn(&self, p: u32) -> u64
         requires { p < store_pages self.now }

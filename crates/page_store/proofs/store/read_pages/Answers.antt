@@ -23,12 +23,12 @@ loop-p-preserved g c =
       pages = omega (arith, c.in_ok-take_pages.ensures.pages, so_far.pages);
       size = omega (arith, c.in_ok-take_pages.ensures.size, so_far.size);
       read = λ told.
-      let image = g.D.Disk.bytes c.args.disk.now in
-      let place = frame_offset c.args.plan.now.log_bytes c.loop-p.p 0 in
-      let long : some * 1056 ≡ 1056 * some = omega arith in
-      let frames : c.deref.result.now ≡ part image place (1056 * some) =
-      c.deref.ensures.value ∙ c.in_ok-frames.ensures.bytes told ∙ ap (λ (l : List ℕ). part l c.frame_at.result (some * 1056)) (so_far.disk.contents told).bytes
-      ∙ ap (λ (at : ℕ). part image at (some * 1056)) c.frame_at.ensures.place ∙ ap (λ (n : ℕ). part image place n) long in
-      c.in_ok-take_pages.ensures.read c.args.plan.now.log_bytes image frames (so_far.read told);
+          let image = g.D.Disk.bytes c.args.disk.now in
+          let place = frame_offset c.args.plan.now.log_bytes c.loop-p.p 0 in
+          let long : some * 1056 ≡ 1056 * some = omega arith in
+          let frames : c.deref.result.now ≡ part image place (1056 * some) =
+          c.deref.ensures.value ∙ c.in_ok-frames.ensures.bytes told ∙ ap (λ (l : List ℕ). part l c.frame_at.result (some * 1056)) (so_far.disk.contents told).bytes
+          ∙ ap (λ (at : ℕ). part image at (some * 1056)) c.frame_at.ensures.place ∙ ap (λ (n : ℕ). part image place n) long in
+          c.in_ok-take_pages.ensures.read c.args.plan.now.log_bytes image frames (so_far.read told);
       disk = reads_on g.D.Disk c.args.disk.now c.loop-p.disk c.read_bytes.new.disk _ _ so_far.disk c.in_ok-frames.ensures.disk;
     }
