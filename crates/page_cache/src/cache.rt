@@ -1,5 +1,5 @@
 //! The page cache: the pages of a heap in memory, over those that are stored on a disk.
-ghost use Rattle.std.specs.Prelude.{◌≡◌, ◌≢◌, ℕ, ◌+◌, ◌*◌, ◌^◌, ◌<◌, ◌≤◌, List, length, fold, slice_index, IsTrue, OnOk, OnErr, IfOk};
+ghost use Rattle.std.specs.Prelude.{◌≡◌, ◌≢◌, ℕ, ◌+◌, ◌*◌, ◌^◌, ◌<◌, ◌≤◌, List, length, fold, max, slice_index, IsTrue, OnOk, OnErr, IfOk};
 ghost use Rattle.log_machine.specs.Machine.{put_record};
 ghost use Rattle.log_machine.specs.Effect.{WritesBelow, EachWritesBelow};
 ghost use Rattle.disk_model.specs.Disk.{Only};
@@ -59,6 +59,21 @@ impl PageCache {
         })
     }
 
+    /// Where the pages are stored in the image.
+    pub fn plan(&self) -> Plan
+        ensures { result ≡ store_plan (cache_store self.now) }
+    {
+        self.store.plan()
+    }
+
+    /// How many pages there are, those of both spaces.
+    pub fn pages(&self) -> u32
+        ensures value { result ≡ cache_pages self.now }
+        ensures lsns { length (cached self.now).lsns ≡ result }
+    {
+        self.store.pages()
+    }
+
     /// The words of all pages, by address.
     pub fn as_slice(&self) -> &[u64]
         ensures words { result.now ≡ (cached self.now).words }
@@ -82,6 +97,14 @@ impl PageCache {
         ensures ahead { flushed_lsn self.now p ≤ result }
     {
         self.pages.lsn(p)
+    }
+
+    /// The greatest LSN of a page, or 0: the record behind it is new to each page.
+    pub fn newest(&self) -> u64
+        ensures value { result ≡ fold max 0 (cached self.now).lsns }
+        ensures next { EachLacks (result + 1) (cached self.now) }
+    {
+        self.pages.newest()
     }
 
     /// Whether page `p` has changed since it was stored.

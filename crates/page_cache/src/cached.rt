@@ -1,5 +1,5 @@
 //! Pages in memory: records are put on those that lack them.
-ghost use Rattle.std.specs.Prelude.{◌≡◌, ℕ, ◌+◌, ◌*◌, ◌≤◌, ◌<◌, ◌^◌, length, map, filter, fold, nat_lt, slice_index, vec_len};
+ghost use Rattle.std.specs.Prelude.{◌≡◌, ℕ, ◌+◌, ◌*◌, ◌≤◌, ◌<◌, ◌^◌, length, map, filter, fold, max, nat_lt, slice_index, vec_len};
 ghost use Rattle.std.specs.List.{AllByRecursion, enumerate_from, range_with_len};
 ghost use Rattle.log_records.specs.declared.Record.{Record};
 ghost use Rattle.log_machine.specs.Machine.{field_at, put_all, put_record};
@@ -63,6 +63,18 @@ impl CachedPages {
         ensures { result ≡ lsn_of self.now p }
     {
         self.lsns[p as usize]
+    }
+
+    /// The greatest LSN of a page, or 0.
+    pub fn newest(&self) -> u64
+        ensures value { result ≡ fold max 0 self.now.lsns }
+        ensures next { EachLacks (result + 1) self.now }
+    {
+        let mut newest = 0;
+        for lsn in &self.lsns {
+            newest = newest.max(*lsn);
+        }
+        newest
     }
 
     /// The words of page `p`.
