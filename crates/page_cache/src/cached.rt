@@ -16,7 +16,7 @@ pub(crate) const PAGE_WORDS: usize = 64;
 
 /// The words of all pages of both spaces, by address, and the LSN of each page.
 #[derive(Debug, Drop)]
-pub struct CachedPages {
+pub(crate) struct CachedPages {
     words: Vec<u64>,
     lsns: Vec<u64>,
 }

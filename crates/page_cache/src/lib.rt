@@ -5,7 +5,6 @@ mod cache;
 mod cached;
 
 pub use cache::PageCache;
-pub use cached::CachedPages;
 
 #[cfg(test)]
 mod tests;
