@@ -88,6 +88,29 @@ redo_all-words lsn at (r ∷ rs) lacking =
 pub lsn-redone : (pages : ℕ) (records : List Record) (stored : Pages) (p : ℕ) → EachHoldsPrefix pages records stored → p < pages_in pages → lsn_of (redone stored records) p ≡ max (lsn_of stored p) (last_lsn p 1 records)
 lsn-redone pages records stored p legal lt = lsn-redo_all 1 stored records p (omega (arith, legal.lsns_size))
 
+-- each page lacks all that follows a record that it lacks
+pub EachLacks-later : (lsn later : ℕ) (at : Pages) → lsn ≤ later → EachLacks lsn at → EachLacks later at
+EachLacks-later lsn later at le lacking p = omega (arith, lacking p)
+
+-- no record's LSN is above that of the last one
+pub last_lsn-reached : (p lsn : ℕ) (rs : List Record) → last_lsn p (lsn + 1) rs ≤ lsn + length rs
+last_lsn-reached p lsn [] = omega arith
+last_lsn-reached p lsn (r ∷ rs) = elim (cases_Bool (touches r p)) [
+  | inl some ↦ omega (arith, cond-true (touches r p) (lsn + 1) 0 some, last_lsn-reached p (lsn + 1) rs)
+  | inr none ↦ omega (arith, cond-false (touches r p) (lsn + 1) 0 none, last_lsn-reached p (lsn + 1) rs)
+]
+
+-- so pages that lack the record after some others lack it still once these are redone, whatever the pages hold
+pub EachLacks-redo_all : (lsn : ℕ) (at : Pages) (rs : List Record) → EachLacks (lsn + length rs + 1) at → EachLacks (lsn + length rs + 1) (redo_all (lsn + 1) at rs)
+EachLacks-redo_all lsn at rs lacking p = elim (cases_lt p (length at.lsns)) [
+  | inl lt ↦ omega (arith, lsn-redo_all (lsn + 1) at rs p lt, last_lsn-reached p lsn rs, lacking p)
+  | inr past ↦ omega (arith, get_or_past (redo_all (lsn + 1) at rs).lsns p 0 (omega (arith, lsns-redo_all (lsn + 1) at rs)))
+]
+
+-- so do those after a whole log, if no LSN of the stored pages is above that of its last record
+pub EachLacks-redone : (records : List Record) (stored : Pages) → EachLacks (length records + 1) stored → EachLacks (length records + 1) (redone stored records)
+EachLacks-redone records stored lacking p = omega (arith, EachLacks-redo_all 0 stored records (λ q. omega (arith, lacking q)) p)
+
 -- each of the present pages lacks the next record
 pub EachLacks-present : (pages : ℕ) (records : List Record) (at : Pages) → IsPresent pages records at → EachLacks (length records + 1) at
 EachLacks-present pages records at is p = elim (cases_lt p (length at.lsns)) [
