@@ -1,5 +1,6 @@
 //! The page cache: the pages of a heap in memory, over those that are stored on a disk.
-ghost use Rattle.std.specs.Prelude.{◌≡◌, ◌≢◌, ℕ, ◌+◌, ◌*◌, ◌^◌, ◌<◌, ◌≤◌, List, length, fold, max, slice_index, IsTrue, OnOk, OnErr, IfOk};
+ghost use Rattle.std.specs.Prelude.{◌≡◌, ◌≢◌, ℕ, ◌+◌, ◌*◌, ◌^◌, ◌<◌, ◌≤◌, List, length, fold, max, take, slice_index, is_err, Some, IsTrue, IsFalse, OnOk, OnErr, IfOk};
+ghost use Rattle.log_records.specs.declared.Record.{Record};
 ghost use Rattle.log_machine.specs.Machine.{put_record};
 ghost use Rattle.log_machine.specs.Effect.{WritesBelow, EachWritesBelow};
 ghost use Rattle.disk_model.specs.Disk.{Only};
@@ -9,7 +10,7 @@ ghost use Rattle.gate_slot.specs.Passing.{Passes};
 ghost use Rattle.image_plan.specs.Plan.{image_size};
 ghost use Rattle.page_redo.specs.Redo.{EachLacks, redo_record, redo_all};
 ghost use Rattle.page_redo.specs.Pages.{lsn_of};
-ghost use Rattle.page_store.specs.StoreState.{store_pages, stored_lsn};
+ghost use Rattle.page_store.specs.StoreState.{store_pages, stored_lsn, stored_entry};
 ghost use Rattle.page_store.specs.Frame.{spare};
 ghost use Rattle.page_store.specs.OpenCause.{open_device_result};
 ghost use Rattle.page_store.specs.Page.{HasPage, SamePage, SameButPage, IsStoring, store_calls};
@@ -34,7 +35,7 @@ pub struct PageCache {
 
 impl PageCache {
     ghost use Rattle.page_store.specs.StoreState.{store_plan, stored_frame, Knows};
-    ghost use Rattle.page_cache.specs.CacheState.{cached, cache_store, cache_pages, cache_size, cache_log, cached_page, cached_lsn, flushed_lsn, is_dirty};
+    ghost use Rattle.page_cache.specs.CacheState.{cached, cache_store, cache_pages, cache_size, cache_log, cached_page, cached_lsn, flushed_lsn, is_dirty, cache_failed, ArePresent, MayStandBeside};
 
     /// Reads the pages that are stored behind the log of an image.
     pub fn open<D: Disk>(alloc: Global, disk: &mut D, plan: Plan) -> Result<PageCache, OpenError>
@@ -45,6 +46,7 @@ impl PageCache {
         ensures words { IfOk result (λ cache. length (cached cache).words ≡ 64 * cache_pages cache) }
         ensures lsns { IfOk result (λ cache. length (cached cache).lsns ≡ cache_pages cache) }
         ensures clean { IfOk result (λ cache. (p : ℕ) → p < cache_pages cache → cached_lsn cache p ≡ flushed_lsn cache p) }
+        ensures unfailed { IfOk result (λ cache. IsFalse (cache_failed cache)) }
 
         // They are those of the image.
         ensures stored { IsTrue D.tells → IfOk result (λ cache. cached cache ≡ stored_pages plan.pages plan.log_bytes (D.bytes disk.old)) }
@@ -115,6 +117,13 @@ impl PageCache {
         self.pages.lsn(p) != self.store.stored_lsn(p)
     }
 
+    /// Whether a flush has failed, after which no other one follows before the pages are opened again.
+    pub fn failed(&self) -> bool
+        ensures { result ≡ cache_failed self.now }
+    {
+        self.store.failed()
+    }
+
     /// Puts the record of that LSN on those of its pages that lack it, which have it from then on.
     pub fn redo(&mut self, lsn: u64, rec: &Record)
         requires { WritesBelow (length (cached self.old).words) rec.now }
@@ -158,10 +167,12 @@ impl PageCache {
     }
 
     /// Stores page `p`, which is dirty, as it is now. The log's first `forced` records are on the disk, and the page is not ahead
-    /// of them. After an error the page is stored as it was or as it is now, and the cache is to be opened again.
+    /// of them. After an error the page is stored as it was or as it is now once the disk is started again, and no other flush
+    /// follows before the pages are opened again.
     pub fn flush<D: Disk>(&mut self, disk: &mut D, p: u32, forced: u64) -> Result<(), DiskError>
         requires page { p < cache_pages self.old }
         requires dirty { IsTrue (is_dirty self.old p) }
+        requires unfailed { IsFalse (cache_failed self.old) }
         requires logged { cached_lsn self.old p ≤ forced }
         requires inside { cache_size self.old ≤ D.extent disk.old }
 
@@ -171,8 +182,10 @@ impl PageCache {
         ensures pages { cached self.new ≡ cached self.old }
         ensures plan { store_plan (cache_store self.new) ≡ store_plan (cache_store self.old) }
         ensures clean { OnOk result (flushed_lsn self.new p ≡ cached_lsn self.old p) }
-        ensures others_kept { (q : ℕ) → q ≢ p → flushed_lsn self.new q ≡ flushed_lsn self.old q }
-        ensures err { OnErr result (self.new ≡ self.old) }
+        ensures frame { OnOk result (stored_frame (cache_store self.new) p ≡ Some (spare (stored_frame (cache_store self.old) p))) }
+        ensures other_pages { (q : ℕ) → q ≢ p → stored_entry (cache_store self.new) q ≡ stored_entry (cache_store self.old) q }
+        ensures failed { cache_failed self.new ≡ is_err result }
+        ensures err { OnErr result ((q : ℕ) → stored_entry (cache_store self.new) q ≡ stored_entry (cache_store self.old) q) }
 
         // What is on the disk.
         ensures stored { IsTrue D.tells → Knows (cache_store self.old) (D.bytes disk.old) → OnOk result (HasPage (cache_log self.old) p (cached_lsn self.old p) (cached_page self.old p) (D.bytes disk.new)) }
@@ -180,6 +193,14 @@ impl PageCache {
         ensures outside { IsTrue D.tells → OnOk result (SameButPage (cache_log self.old) p (D.bytes disk.old) (D.bytes disk.new)) }
         ensures known { IsTrue D.tells → Knows (cache_store self.old) (D.bytes disk.old) → OnOk result (Knows (cache_store self.new) (D.bytes disk.new)) }
         ensures durable { IsTrue D.tells → OnOk result (Only (D.bytes disk.new) (D.may_leave disk.new)) }
+
+        // No page gets ahead of the log: pages that may stand beside the records on the disk do so after the flush, and a crash
+        // at any moment of it leaves such pages.
+        ensures legal { IsTrue D.tells → Knows (cache_store self.old) (D.bytes disk.old) → (all : List Record) → ArePresent self.old all → MayStandBeside self.old (take forced all) (D.bytes disk.old)
+            → OnOk result (MayStandBeside self.old (take forced all) (D.bytes disk.new)) }
+        ensures legal_moments { IsTrue D.tells → Knows (cache_store self.old) (D.bytes disk.old) → Only (D.bytes disk.old) (D.may_leave disk.old)
+            → (all : List Record) → ArePresent self.old all → MayStandBeside self.old (take forced all) (D.bytes disk.old)
+            → LeavesOnly D.moment D.left_since disk.old disk.new (MayStandBeside self.old (take forced all)) }
 
         // A crash at any moment leaves the page as it was, or as it is now, and all else as it was.
         ensures moments { IsTrue D.tells → Knows (cache_store self.old) (D.bytes disk.old) → Only (D.bytes disk.old) (D.may_leave disk.old)

@@ -120,6 +120,7 @@ fn play(
                 assert!(rt; cache.dirty(p));
                 assert!(rt; cache.lsn(p) <= lsn);
                 assert!(rt; disk.size() >= cache.plan().size());
+                assert!(rt; !cache.failed());
                 cache.flush(disk, p, lsn)?;
                 assert!(rt; p < cache.pages());
                 assert!(rt; !cache.dirty(p));
