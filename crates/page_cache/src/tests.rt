@@ -97,6 +97,23 @@ const ROWS: [Row; 6] = [
     ([(2, 0), (5, 0), (7, 1)], [5, 7, 0, 0]),
 ];
 
+/// Stores page `p` as it is now.
+fn flush(
+    rt: &impl Abort,
+    cache: &mut PageCache,
+    disk: &mut MemoryDisk,
+    p: u32,
+    forced: u64,
+) -> Result<(), Fail> {
+    assert!(rt; p < cache.pages() && disk.size() >= cache.plan().size());
+    assert!(rt; cache.dirty(p) && !cache.failed());
+    assert!(rt; cache.lsn(p) <= forced);
+    cache.flush(disk, p, forced)?;
+    assert!(rt; p < cache.pages());
+    assert!(rt; !cache.dirty(p));
+    Ok(())
+}
+
 /// Puts the records on the pages of the disk one after another, and stores some of these pages as they go on.
 fn play(
     rt: &impl Abort,
@@ -116,14 +133,7 @@ fn play(
         cache.apply(lsn, rec);
         for (at, p) in flushes {
             if at == lsn {
-                assert!(rt; p < cache.pages());
-                assert!(rt; cache.dirty(p));
-                assert!(rt; cache.lsn(p) <= lsn);
-                assert!(rt; disk.size() >= cache.plan().size());
-                assert!(rt; !cache.failed());
-                cache.flush(disk, p, lsn)?;
-                assert!(rt; p < cache.pages());
-                assert!(rt; !cache.dirty(p));
+                flush(rt, &mut cache, disk, p, lsn)?;
             }
         }
     }
@@ -134,6 +144,24 @@ fn play(
 fn lsns(rt: &impl Abort, cache: &PageCache) -> [u64; 4] {
     assert!(rt; cache.pages() == 4);
     [cache.lsn(0), cache.lsn(1), cache.lsn(2), cache.lsn(3)]
+}
+
+/// Opens the pages, which have these LSNs, and redoes the records on them.
+fn redone(
+    rt: &impl Abort,
+    alloc: Global,
+    disk: &mut MemoryDisk,
+    records: &[Record],
+    stored: [u64; 4],
+) -> Result<PageCache, Fail>
+    requires { EachWritesBelow 256 records.now }
+{
+    assert!(rt; disk.size() >= PLAN.size());
+    let mut cache = PageCache::open(alloc, disk, PLAN)?;
+    assert_eq!(rt; lsns(rt, &cache), stored);
+    assert!(rt; cache.as_slice().len() == 256 && records.len() < 99);
+    cache.redo_all(1, records);
+    Ok(cache)
 }
 
 #[test]
@@ -149,18 +177,22 @@ fn redone_as_replayed(rt: HostRuntime) -> Result<(), Fail> {
         let mut disk = MemoryDisk::of(alloc, bytes, Pick::AllOnes, 99_999, none, Vec::new(alloc))?;
         play(&rt, alloc, &mut disk, &records, flushes)?;
         disk.restart();
-        assert!(rt; disk.size() >= PLAN.size());
-        let mut again = PageCache::open(alloc, &mut disk, PLAN)?;
-        assert_eq!(rt; lsns(&rt, &again), stored);
-        assert!(rt; again.as_slice().len() == 256 && records.len() < 99);
-        again.redo_all(1, &records);
-        assert_eq!(rt; again.as_slice(), plain.as_slice(), "{stored:?}");
-        assert_eq!(rt; lsns(&rt, &again), [5, 7, 0, 8]);
-        assert!(rt; again.as_slice().len() == 256);
-        assert_eq!(rt;
-            [again.word(2), again.word(65), again.word(255)],
-            [5, 9, 25]
-        );
+        let cache = redone(&rt, alloc, &mut disk, &records, stored)?;
+        assert_eq!(rt; cache.as_slice(), plain.as_slice(), "{stored:?}");
+        assert_eq!(rt; lsns(&rt, &cache), [5, 7, 0, 8]);
     }
+    Ok(())
+}
+
+#[test]
+fn words_by_address(rt: HostRuntime) -> Result<(), Fail> {
+    let alloc = rt.alloc();
+    let bytes = vec![in alloc; 0u8; 4352]?;
+    let none = Vec::new(alloc);
+    let mut disk = MemoryDisk::of(alloc, bytes, Pick::AllOnes, 99_999, none, Vec::new(alloc))?;
+    let cache = redone(&rt, alloc, &mut disk, &records(alloc)?, [0; 4])?;
+    assert!(rt; cache.as_slice().len() == 256);
+    let found = [cache.word(2), cache.word(65), cache.word(255)];
+    assert_eq!(rt; found, [5, 9, 25]);
     Ok(())
 }
