@@ -167,8 +167,8 @@ impl PageCache {
     }
 
     /// Stores page `p`, which is dirty, as it is now. The log's first `forced` records are on the disk, and the page is not ahead
-    /// of them. After an error the page is stored as it was or as it is now once the disk is started again. No other flush
-    /// follows before that and before the pages are opened again.
+    /// of them. After an error the page is stored as it was or as it is now once the disk is started again, and no other flush
+    /// follows before the pages are opened from that disk.
     pub fn flush<D: Disk>(&mut self, disk: &mut D, p: u32, forced: u64) -> Result<(), DiskError>
         requires page { p < cache_pages self.old }
         requires dirty { IsTrue (is_dirty self.old p) }

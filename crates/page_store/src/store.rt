@@ -85,15 +85,12 @@ impl PageStore {
         ensures disk { OnlyReads D.Disk disk.old disk.new (open_device_result result) }
     {
         let (table, words) = read_pages(alloc, disk, &plan)?;
-        let failed = false;
-        Ok((
-            PageStore {
-                plan,
-                table,
-                failed,
-            },
-            words,
-        ))
+        let store = PageStore {
+            plan,
+            table,
+            failed: false,
+        };
+        Ok((store, words))
     }
 
     /// The plan of the image that the pages lie in.
@@ -126,7 +123,7 @@ impl PageStore {
         self.failed
     }
 
-    /// Reads what page `p` holds on the disk.
+    /// What page `p` holds on the disk.
     pub fn load<D: Disk>(&self, disk: &mut D, p: u32) -> Result<StoredPage, DiskError>
         requires page { p < store_pages self.now }
         requires unfailed { IsFalse (has_failed self.now) }
@@ -189,6 +186,7 @@ impl PageStore {
         ensures passes { IsTrue D.tells → Passes (store_calls (store_log self.old) p (spare (stored_frame self.old p)) (D.bytes disk.old)) (D.passed disk.old) (D.passed disk.new) result }
     {
         let (frame, gate) = self.spare(p);
+        // It counts as failed until it is done.
         self.failed = true;
         refill(disk, gate, &body_of(lsn, words))?;
         self.failed = false;
