@@ -101,7 +101,7 @@ impl PageCache {
         self.pages.lsn(p)
     }
 
-    /// The greatest LSN of a page, or 0: the record behind it is new to each page.
+    /// The greatest LSN of a page, or 0: the record after it is new to each page.
     pub fn newest(&self) -> u64
         ensures value { result ≡ fold max 0 (cached self.now).lsns }
         ensures next { EachLacks (result + 1) (cached self.now) }

@@ -83,10 +83,10 @@ fn records(alloc: Global) -> Result<Vec<Record>, AllocError>
     Ok(records)
 }
 
-/// Behind how many records which page is flushed, and the LSNs with which the pages are then stored.
+/// After how many records which page is flushed, and the LSNs with which the pages are then stored.
 type Row = ([(u64, u32); 3], [u64; 4]);
 
-/// No page is stored; one is, of the two that a record touches; each of them at another time; some behind their last record, some
+/// No page is stored; one is, of the two that a record touches; each of them at another time; some after their last record, some
 /// before it; all are stored as they are; one is stored twice.
 const ROWS: [Row; 6] = [
     ([(0, 0), (0, 0), (0, 0)], [0, 0, 0, 0]),

@@ -248,7 +248,7 @@ fn old_or_new_at_each_stop(rt: HostRuntime) -> Result<(), Fail> {
     Ok(())
 }
 
-/// A disk whose tenth write or sync fails: the sync behind the gate that the third store of a page closes.
+/// A disk whose tenth write or sync fails: the sync after the write by which the third store of a page closes a gate.
 fn failing_disk(alloc: Global, pick: Pick) -> Result<MemoryDisk, AllocError> {
     let bytes = vec![in alloc; 0u8; 2240]?;
     let fails = vec![in alloc; 10]?;
