@@ -1,5 +1,5 @@
 -- A page store in memory, as its callers see it, and when it knows what an image holds.
-use Rattle.std.specs.Prelude.{◌≡◌, ℕ, ◌*◌, ◌<◌, List, Option, slice_index_or}
+use Rattle.std.specs.Prelude.{◌≡◌, ℕ, ◌*◌, ◌<◌, Bool, List, Option, slice_index_or}
 use Rattle.image_plan.specs.declared.plan.Plan.{Plan}
 use Rattle.image_plan.specs.Plan.{image_size}
 use Rattle.page_store.specs.declared.frame.Frame.{Frame}
@@ -35,6 +35,10 @@ stored_lsn store p = (stored_entry store p).lsn
 -- which frame of page p counts
 abbrev pub stored_frame : PageStore → ℕ → Option Frame
 stored_frame store p = (stored_entry store p).counts
+
+-- whether a store of a page has failed
+abbrev pub has_failed : PageStore → Bool
+has_failed store = store.failed
 
 -- It has in memory, of each page, the LSN and the frame that counts in this image.
 pub record Knows (store : PageStore) (image : List ℕ) : Type 0 where

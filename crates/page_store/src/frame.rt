@@ -55,7 +55,7 @@ impl Frame {
 /// What a page holds on the disk.
 #[derive(Clone, Copy, Debug, PartialEq, Eq)]
 pub struct StoredPage {
-    /// The LSN with which it was stored, or 0.
+    /// The LSN in the frame that counts, which may be 0 there too, or 0 where none counts.
     pub lsn: u64,
     /// Its words.
     pub words: [u64; PAGE_WORDS],

@@ -1,5 +1,5 @@
 //! The pages on a disk, with what is kept of them in memory: which frame of each page counts, and its LSN.
-ghost use Rattle.std.specs.Prelude.{◌≡◌, ◌≢◌, ℕ, ◌+◌, ◌*◌, ◌^◌, ◌<◌, ◌≤◌, List, length, vec_len, IsTrue, OnOk, OnErr, IfOk};
+ghost use Rattle.std.specs.Prelude.{◌≡◌, ◌≢◌, ℕ, ◌+◌, ◌*◌, ◌^◌, ◌<◌, ◌≤◌, List, length, vec_len, is_err, IsTrue, IsFalse, OnOk, OnErr, IfOk};
 ghost use Rattle.disk_model.specs.Disk.{part, Only};
 ghost use Rattle.disk_model.specs.Keeps.{KeepsDisk, OnlyReads};
 ghost use Rattle.disk_model.specs.Moments.{LeavesOnly};
@@ -58,15 +58,17 @@ pub struct PageStore {
     plan: Plan,
     // Of each page, what its frame that counts says.
     table: Vec<Stored>,
+    // Whether a store has failed.
+    failed: bool,
     ghost few: { plan.pages ≤ 16384 },
     ghost small: { plan.log_bytes < 2 ^ 32 },
     ghost whole: { vec_len table ≡ 2 * plan.pages },
 }
 
 impl PageStore {
-    ghost use Rattle.page_store.specs.StoreState.{store_plan, store_log, store_pages, store_size, stored_entry, stored_lsn, stored_frame, Knows};
+    ghost use Rattle.page_store.specs.StoreState.{store_plan, store_log, store_pages, store_size, stored_entry, stored_lsn, stored_frame, has_failed, Knows};
 
-    /// Reads all frames, in pieces of many of them and each byte once, and gives the words of all pages, one page after another.
+    /// Reads all frames, in pieces of many of them, and gives the words of all pages, one page after another.
     pub fn open<D: Disk>(
         alloc: Global,
         disk: &mut D,
@@ -77,12 +79,18 @@ impl PageStore {
 
         ensures plan { IfOk result (λ found. store_plan found.0 ≡ plan) }
         ensures size { IfOk result (λ found. vec_len found.1 ≡ 128 * plan.pages) }
+        ensures unfailed { IfOk result (λ found. IsFalse (has_failed found.0)) }
         ensures table { IsTrue D.tells → IfOk result (λ found. Knows found.0 (D.bytes disk.old)) }
         ensures words { IsTrue D.tells → IfOk result (λ found. found.1.items ≡ image_words plan.log_bytes (2 * plan.pages) (D.bytes disk.old)) }
         ensures disk { OnlyReads D.Disk disk.old disk.new (open_device_result result) }
     {
         let (table, words) = read_pages(alloc, disk, &plan)?;
-        Ok((PageStore { plan, table }, words))
+        let store = PageStore {
+            plan,
+            table,
+            failed: false,
+        };
+        Ok((store, words))
     }
 
     /// The plan of the image that the pages lie in.
@@ -108,9 +116,17 @@ impl PageStore {
         self.entry(p).lsn
     }
 
-    /// Reads what page `p` holds on the disk: the one frame that counts, or nothing where none does.
+    /// Whether a store has failed. Then no page is loaded or stored before the disk is started and the pages are opened again.
+    pub fn failed(&self) -> bool
+        ensures { result ≡ has_failed self.now }
+    {
+        self.failed
+    }
+
+    /// What page `p` holds on the disk.
     pub fn load<D: Disk>(&self, disk: &mut D, p: u32) -> Result<StoredPage, DiskError>
         requires page { p < store_pages self.now }
+        requires unfailed { IsFalse (has_failed self.now) }
         requires inside { store_size self.now ≤ D.extent disk.old }
 
         ensures lsn { IfOk result (λ page. page.lsn ≡ stored_lsn self.now p) }
@@ -132,7 +148,8 @@ impl PageStore {
 
     /// Writes page `p` into the frame that doesn't count, which counts from then on, since its LSN is the greater one: in four
     /// device calls, and two more where that frame's gate is open and has to be closed first. After an error the page is the old
-    /// one or the new one, and the store is of no use before it is opened again.
+    /// one or the new one once the disk is started again. Until then a gate that was closed in vain seems to be closed, and no
+    /// page may be written behind it: so no other store follows before the disk is started and the pages are opened again.
     pub fn store<D: Disk>(
         &mut self,
         disk: &mut D,
@@ -142,6 +159,7 @@ impl PageStore {
     ) -> Result<(), DiskError>
         requires page { p < store_pages self.old }
         requires newer { stored_lsn self.old p < lsn }
+        requires unfailed { IsFalse (has_failed self.old) }
         requires inside { store_size self.old ≤ D.extent disk.old }
 
         ensures disk { KeepsDisk D.Disk disk.old disk.new result }
@@ -151,7 +169,8 @@ impl PageStore {
         ensures lsn { OnOk result (stored_lsn self.new p ≡ lsn) }
         ensures frame { OnOk result (stored_frame self.new p ≡ Some (spare (stored_frame self.old p))) }
         ensures other_pages { (q : ℕ) → q ≢ p → stored_entry self.new q ≡ stored_entry self.old q }
-        ensures err { OnErr result (self.new ≡ self.old) }
+        ensures failed { has_failed self.new ≡ is_err result }
+        ensures err { OnErr result ((q : ℕ) → stored_entry self.new q ≡ stored_entry self.old q) }
 
         // What is on the disk.
         ensures stored { IsTrue D.tells → Knows self.old (D.bytes disk.old) → OnOk result (HasPage (store_log self.old) p lsn words.now (D.bytes disk.new)) }
@@ -167,7 +186,10 @@ impl PageStore {
         ensures passes { IsTrue D.tells → Passes (store_calls (store_log self.old) p (spare (stored_frame self.old p)) (D.bytes disk.old)) (D.passed disk.old) (D.passed disk.new) result }
     {
         let (frame, gate) = self.spare(p);
+        // It counts as failed until it is done.
+        self.failed = true;
         refill(disk, gate, &body_of(lsn, words))?;
+        self.failed = false;
         let counts = Some(frame);
         self.table[p as usize] = Stored { lsn, counts };
         Ok(())

@@ -54,6 +54,15 @@ fn first_page(p: u32) -> StoredPage {
     StoredPage { lsn: 0, words }
 }
 
+#[test]
+fn never_stored(rt: HostRuntime) -> Result<(), Fail> {
+    let alloc = rt.alloc();
+    let mut disk = disk_of(alloc, vec![in alloc; 0u8; 2240]?, Pick::Newest)?;
+    let pages = pages_on(&rt, alloc, &mut disk)?;
+    assert_eq!(rt; pages.as_slice(), [first_page(0), first_page(1)].as_slice());
+    Ok(())
+}
+
 /// The gates and LSNs of both frames of page 0, and its LSN with the byte that fills its words. The first frame is filled with
 /// the byte 17, the second with 34.
 const FRAMES: [(u8, u64, u8, u64, u64, u8); 7] = [
@@ -99,26 +108,34 @@ fn the_newest_open_frame_counts(rt: HostRuntime) -> Result<(), Fail> {
     Ok(())
 }
 
-#[test]
-fn a_stored_frame_byte_by_byte(rt: HostRuntime) -> Result<(), Fail> {
-    let alloc = rt.alloc();
-    let mut disk = disk_of(alloc, vec![in alloc; 0u8; 2240]?, Pick::Newest)?;
-    assert!(rt; disk.size() >= PLAN.size());
-    let (mut store, _) = PageStore::open(alloc, &mut disk, PLAN)?;
+/// Words of which the first and the last are not zero.
+fn words_at_both_ends() -> [u64; PAGE_WORDS] {
     let mut words = [0u64; PAGE_WORDS];
     words[0] = 0x0102_0304_0506_0708;
     words[63] = 0x1112_1314_1516_1718;
-    assert_eq!(rt; store.pages(), 2);
-    assert!(rt; store.stored_lsn(1) < 258);
-    assert!(rt; disk.size() >= store.plan().size());
-    store.store(&mut disk, 1, 258, &words)?;
+    words
+}
+
+/// An image in which page 1 has these words and the LSN 258.
+fn image_with_them(alloc: Global) -> Result<Vec<u8>, AllocError> {
     let mut bytes = vec![in alloc; 0u8; 1184]?;
     bytes.extend_from_slice(b"\x01\0\0\0\0\0\0\0\x02\x01\0\0\0\0\0\0")?;
     bytes.extend_from_slice(b"\x08\x07\x06\x05\x04\x03\x02\x01")?;
     bytes.extend_from_slice(&[0; 496])?;
     bytes.extend_from_slice(b"\x18\x17\x16\x15\x14\x13\x12\x11")?;
     bytes.extend_from_slice(&[0; 528])?;
-    assert_eq!(rt; disk.contents(), bytes.as_slice());
+    Ok(bytes)
+}
+
+#[test]
+fn a_stored_frame_byte_by_byte(rt: HostRuntime) -> Result<(), Fail> {
+    let alloc = rt.alloc();
+    let mut disk = disk_of(alloc, vec![in alloc; 0u8; 2240]?, Pick::Newest)?;
+    assert!(rt; disk.size() >= PLAN.size());
+    let (mut store, _) = PageStore::open(alloc, &mut disk, PLAN)?;
+    assert!(rt; store.stored_lsn(1) < 258);
+    store.store(&mut disk, 1, 258, &words_at_both_ends())?;
+    assert_eq!(rt; disk.contents(), image_with_them(alloc)?.as_slice());
     Ok(())
 }
 
@@ -155,6 +172,7 @@ fn store_page<D: Disk>(
 ) -> bool {
     assert!(rt; p < store.pages() && (p as usize) < pages.len());
     assert!(rt; store.stored_lsn(p) < page.lsn && disk.size() >= store.plan().size());
+    assert!(rt; !store.failed());
     let done = store.store(disk, p, page.lsn, &page.words).is_ok();
     if done {
         pages[p as usize] = page;
@@ -162,22 +180,46 @@ fn store_page<D: Disk>(
     done
 }
 
+/// Plays the script until a store fails, and gives the page that was not stored.
+fn play<D: Disk>(
+    rt: &impl Abort,
+    store: &mut PageStore,
+    disk: &mut D,
+    pages: &mut Vec<StoredPage>,
+) -> Option<(u32, StoredPage)> {
+    for (p, lsn, first) in SCRIPT {
+        let page = page_from(lsn, first);
+        if !store_page(rt, store, disk, pages, p, page) {
+            return Some((p, page));
+        }
+    }
+    None
+}
+
+/// Opens the pages again, and stores each of them once more.
+fn goes_on(
+    rt: &impl Abort,
+    alloc: Global,
+    disk: &mut MemoryDisk,
+    pages: &mut Vec<StoredPage>,
+) -> Result<(), Fail> {
+    assert!(rt; disk.size() >= PLAN.size());
+    let (mut store, _) = PageStore::open(alloc, disk, PLAN)?;
+    for p in 0..2 {
+        let page = page_from(100, 500);
+        assert!(rt; store_page(rt, &mut store, disk, pages, p, page));
+    }
+    Ok(())
+}
+
 /// Plays the script on a disk that stops, starts it again, and compares its pages with a plain list; then stores go on.
 fn stopped_at(rt: &impl Abort, alloc: Global, pick: Pick, limit: u64) -> Result<(), Fail> {
     let mut disk = disk_of(alloc, vec![in alloc; 0u8; 2240]?, pick)?;
     let mut pages = pages_on(rt, alloc, &mut disk)?;
-    assert_eq!(rt; pages.as_slice(), [first_page(0), first_page(1)].as_slice());
     assert!(rt; disk.size() >= PLAN.size());
     let (mut store, _) = PageStore::open(alloc, &mut disk, PLAN)?;
     let mut fuse = FuseDisk::new(disk, limit);
-    let mut cut = None;
-    for (p, lsn, first) in SCRIPT {
-        let page = page_from(lsn, first);
-        if !store_page(rt, &mut store, &mut fuse, &mut pages, p, page) {
-            cut = Some((p, page));
-            break;
-        }
-    }
+    let cut = play(rt, &mut store, &mut fuse, &mut pages);
     assert_eq!(rt; cut.is_none(), limit == CALLS, "{limit}");
     let mut disk = fuse.into_inner();
     disk.restart();
@@ -186,26 +228,50 @@ fn stopped_at(rt: &impl Abort, alloc: Global, pick: Pick, limit: u64) -> Result<
         let old = pages.get(p as usize) == Some(page);
         assert!(rt; old || cut == Some((p, *page)), "{p} at {limit}, {pick:?}");
     }
-    assert!(rt; disk.size() >= PLAN.size());
-    let (mut store, _) = PageStore::open(alloc, &mut disk, PLAN)?;
-    for p in 0..2 {
-        let page = page_from(100, 500);
-        assert!(rt; store_page(rt, &mut store, &mut disk, &mut found, p, page));
-    }
-    assert_eq!(rt;
-        pages_on(rt, alloc, &mut disk)?.as_slice(),
-        found.as_slice()
-    );
+    goes_on(rt, alloc, &mut disk, &mut found)?;
+    let last = pages_on(rt, alloc, &mut disk)?;
+    assert_eq!(rt; last.as_slice(), found.as_slice());
     Ok(())
 }
+
+/// What a restart may leave.
+const PICKS: [Pick; 4] = [Pick::Synced, Pick::Newest, Pick::AllOnes, Pick::AllOpen];
 
 #[test]
 fn old_or_new_at_each_stop(rt: HostRuntime) -> Result<(), Fail> {
     let alloc = rt.alloc();
-    for pick in [Pick::Synced, Pick::Newest, Pick::AllOnes, Pick::AllOpen] {
+    for pick in PICKS {
         for limit in 0..CALLS + 1 {
             stopped_at(&rt, alloc, pick, limit)?;
         }
+    }
+    Ok(())
+}
+
+/// A disk whose tenth write or sync fails: the sync after the write by which the third store of a page closes a gate.
+fn failing_disk(alloc: Global, pick: Pick) -> Result<MemoryDisk, AllocError> {
+    let bytes = vec![in alloc; 0u8; 2240]?;
+    let fails = vec![in alloc; 10]?;
+    MemoryDisk::of(alloc, bytes, pick, 9_999, fails, Vec::new(alloc))
+}
+
+#[test]
+fn failed_where_a_gate_closes_in_vain(rt: HostRuntime) -> Result<(), Fail> {
+    let alloc = rt.alloc();
+    for pick in PICKS {
+        let mut disk = failing_disk(alloc, pick)?;
+        let mut pages = pages_on(&rt, alloc, &mut disk)?;
+        assert!(rt; disk.size() >= PLAN.size());
+        let (mut store, _) = PageStore::open(alloc, &mut disk, PLAN)?;
+        for lsn in 1..4 {
+            let page = page_from(lsn, 7 * lsn);
+            let done = store_page(&rt, &mut store, &mut disk, &mut pages, 0, page);
+            assert_eq!(rt; done, !store.failed());
+        }
+        assert!(rt; store.failed());
+        disk.restart();
+        let found = pages_on(&rt, alloc, &mut disk)?;
+        assert_eq!(rt; found.as_slice(), pages.as_slice(), "{pick:?}");
     }
     Ok(())
 }

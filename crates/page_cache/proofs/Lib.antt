@@ -1,0 +1,4 @@
+pub mod Putting
+pub mod Opening
+pub mod Newest
+pub mod Flushing

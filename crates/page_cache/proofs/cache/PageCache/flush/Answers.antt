@@ -1,0 +1,15 @@
+use Rattle.disk_model.specs.Moments.{weaker}
+use Rattle.page_cache.proofs.Flushing.{still_legal, then_legal}
+use Rattle.page_cache.proofs.cache.PageCache.flush.Goals as goal
+
+pub returns-clause-legal : goal.returns-clause-legal
+returns-clause-legal g c told knows all is legal =
+    let cache = c.args.self.now in
+    then_legal cache.store.plan.pages cache.store.plan.log_bytes c.args.forced all cache.pages is c.args.p c.requires.page c.requires.logged
+    c.store.result _ _ _ _ c.lsn-lsn.ensures c.page.ensures legal (c.store.ensures.stored told knows) (c.store.ensures.others told) (c.store.ensures.outside told)
+
+pub returns-clause-legal_moments : goal.returns-clause-legal_moments
+returns-clause-legal_moments g c told knows only all is legal =
+    let cache = c.args.self.now in
+    weaker g.D.Disk.moment g.D.Disk.left_since c.args.disk.now c.store.new.disk _ _ (c.store.ensures.moments told knows only)
+    (λ left storing. still_legal cache.store.plan.pages cache.store.plan.log_bytes c.args.forced all cache.pages is c.args.p c.requires.page c.requires.logged _ _ _ left c.lsn-lsn.ensures c.page.ensures legal storing)

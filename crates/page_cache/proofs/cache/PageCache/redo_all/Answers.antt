@@ -1,0 +1,12 @@
+use Rattle.std.proofs.Common.{length, ap, ◌∙◌, arith}
+use Rattle.page_redo.specs.Pages.{Pages, lsn_of}
+use Rattle.page_redo.specs.RedoLaws.{lsns-redo_all, lsn-rises_all}
+use Rattle.page_cache.proofs.cache.PageCache.redo_all.Goals as goal
+
+pub invariant_of-self : goal.invariant_of-self
+invariant_of-self c =
+    let before = c.args.self.now in
+    record {
+      whole = ap (λ (at : Pages). length at.lsns) c.redo_all.ensures ∙ lsns-redo_all c.args.first before.pages c.args.records.now ∙ before.whole;
+      ahead = λ p lt. omega (arith, ap (λ (at : Pages). lsn_of at p) c.redo_all.ensures, lsn-rises_all c.args.first before.pages c.args.records.now p (omega (arith, before.whole)), before.ahead p lt);
+    }

@@ -1,0 +1,57 @@
+-- A page cache, as its callers see it.
+use Rattle.std.specs.Prelude.{ℕ, ◌==◌, Bool, not, List}
+use Rattle.log_records.specs.declared.Record.{Record}
+use Rattle.page_redo.specs.Pages.{Pages, page_words, lsn_of}
+use Rattle.page_redo.specs.Prefix.{EachHoldsPrefix, IsPresent}
+use Rattle.page_store.specs.declared.store.PageStore.{PageStore}
+use Rattle.page_store.specs.StoreState.{store_log, store_pages, store_size, stored_lsn, has_failed}
+use Rattle.page_cache.specs.declared.cache.PageCache.{PageCache}
+use Rattle.page_cache.specs.Stored.{stored_pages}
+
+-- the pages in memory
+abbrev pub cached : PageCache → Pages
+cached cache = cache.pages
+
+-- where they are stored
+abbrev pub cache_store : PageCache → PageStore
+cache_store cache = cache.store
+
+-- how many there are, those of both spaces
+abbrev pub cache_pages : PageCache → ℕ
+cache_pages cache = store_pages cache.store
+
+-- the bytes of the image
+abbrev pub cache_size : PageCache → ℕ
+cache_size cache = store_size cache.store
+
+-- the bytes of the log in front of the pages
+abbrev pub cache_log : PageCache → ℕ
+cache_log cache = store_log cache.store
+
+-- the present words of page p
+abbrev pub cached_page : PageCache → ℕ → List ℕ
+cached_page cache p = page_words cache.pages.words p
+
+-- its LSN
+abbrev pub cached_lsn : PageCache → ℕ → ℕ
+cached_lsn cache p = lsn_of cache.pages p
+
+-- the LSN with which it was stored, or 0
+abbrev pub flushed_lsn : PageCache → ℕ → ℕ
+flushed_lsn cache p = stored_lsn cache.store p
+
+-- a page is dirty if its LSN isn't the one with which it was stored
+abbrev pub is_dirty : PageCache → ℕ → Bool
+is_dirty cache p = not (cached_lsn cache p == flushed_lsn cache p)
+
+-- whether a flush has failed
+abbrev pub cache_failed : PageCache → Bool
+cache_failed cache = has_failed cache.store
+
+-- the pages in memory are the present ones of these records
+abbrev pub ArePresent : PageCache → List Record → Type 0
+ArePresent cache records = IsPresent cache.store.plan.pages records cache.pages
+
+-- the pages that are stored in an image may stand beside a log of these records: none of them is ahead of it
+abbrev pub MayStandBeside : PageCache → List Record → List ℕ → Type 0
+MayStandBeside cache records image = EachHoldsPrefix cache.store.plan.pages records (stored_pages cache.store.plan.pages cache.store.plan.log_bytes image)

@@ -1,0 +1,4 @@
+pub mod CacheState
+pub mod Stored
+pub mod StoredLaws
+pub mod ImageLaws

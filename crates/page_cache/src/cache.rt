@@ -1,0 +1,227 @@
+//! The page cache: the pages of a heap in memory, over those that are stored on a disk.
+ghost use Rattle.std.specs.Prelude.{◌≡◌, ◌≢◌, ℕ, ◌+◌, ◌*◌, ◌^◌, ◌<◌, ◌≤◌, List, length, fold, max, take, slice_index, is_err, Some, IsTrue, IsFalse, OnOk, OnErr, IfOk};
+ghost use Rattle.log_records.specs.declared.Record.{Record};
+ghost use Rattle.log_machine.specs.Machine.{put_record};
+ghost use Rattle.log_machine.specs.Effect.{WritesBelow, EachWritesBelow};
+ghost use Rattle.disk_model.specs.Disk.{Only};
+ghost use Rattle.disk_model.specs.Keeps.{KeepsDisk, OnlyReads};
+ghost use Rattle.disk_model.specs.Moments.{LeavesOnly};
+ghost use Rattle.gate_slot.specs.Passing.{Passes};
+ghost use Rattle.image_plan.specs.Plan.{image_size};
+ghost use Rattle.page_redo.specs.Redo.{EachLacks, redo_record, redo_all};
+ghost use Rattle.page_redo.specs.Pages.{lsn_of};
+ghost use Rattle.page_store.specs.StoreState.{store_pages, stored_lsn, stored_entry};
+ghost use Rattle.page_store.specs.Frame.{spare};
+ghost use Rattle.page_store.specs.OpenCause.{open_device_result};
+ghost use Rattle.page_store.specs.Page.{HasPage, SamePage, SameButPage, IsStoring, store_calls};
+ghost use Rattle.page_cache.specs.Stored.{stored_pages};
+
+use crate::cached::CachedPages;
+use disk_model::{Disk, DiskError};
+use image_plan::Plan;
+use log_records::Record;
+use page_store::{OpenError, PageStore};
+use std::alloc::{AllocError, Global};
+
+/// The pages of a heap in memory, those of both spaces, each with its LSN. Some of them are not stored yet as they are.
+#[derive(Debug, Drop)]
+pub struct PageCache {
+    pages: CachedPages,
+    store: PageStore,
+    // Each page that can be stored is in memory, in a state not older than the stored one.
+    ghost whole: { length pages.lsns ≡ store_pages store },
+    ghost ahead: { (p : ℕ) → p < store_pages store → stored_lsn store p ≤ lsn_of pages p },
+}
+
+impl PageCache {
+    ghost use Rattle.page_store.specs.StoreState.{store_plan, stored_frame, Knows};
+    ghost use Rattle.page_cache.specs.CacheState.{cached, cache_store, cache_pages, cache_size, cache_log, cached_page, cached_lsn, flushed_lsn, is_dirty, cache_failed, ArePresent, MayStandBeside};
+
+    /// Reads the pages that are stored behind the log of an image.
+    pub fn open<D: Disk>(alloc: Global, disk: &mut D, plan: Plan) -> Result<PageCache, OpenError>
+        requires few { plan.pages ≤ 16384 }
+        requires inside { image_size plan.pages plan.log_bytes ≤ D.extent disk.old }
+
+        ensures plan { IfOk result (λ cache. store_plan (cache_store cache) ≡ plan) }
+        ensures words { IfOk result (λ cache. length (cached cache).words ≡ 64 * cache_pages cache) }
+        ensures lsns { IfOk result (λ cache. length (cached cache).lsns ≡ cache_pages cache) }
+        ensures clean { IfOk result (λ cache. (p : ℕ) → p < cache_pages cache → cached_lsn cache p ≡ flushed_lsn cache p) }
+        ensures unfailed { IfOk result (λ cache. IsFalse (cache_failed cache)) }
+
+        // They are those of the image.
+        ensures stored { IsTrue D.tells → IfOk result (λ cache. cached cache ≡ stored_pages plan.pages plan.log_bytes (D.bytes disk.old)) }
+        ensures known { IsTrue D.tells → IfOk result (λ cache. Knows (cache_store cache) (D.bytes disk.old)) }
+        ensures disk { OnlyReads D.Disk disk.old disk.new (open_device_result result) }
+    {
+        let (store, words) = PageStore::open(alloc, disk, plan)?;
+        let lsns = stored_lsns(alloc, &store, 2 * plan.pages)?;
+        Ok(PageCache {
+            pages: CachedPages::of(words, lsns),
+            store,
+        })
+    }
+
+    /// Where the pages are stored in the image.
+    pub fn plan(&self) -> Plan
+        ensures { result ≡ store_plan (cache_store self.now) }
+    {
+        self.store.plan()
+    }
+
+    /// How many pages there are, those of both spaces.
+    pub fn pages(&self) -> u32
+        ensures value { result ≡ cache_pages self.now }
+        ensures lsns { length (cached self.now).lsns ≡ result }
+    {
+        self.store.pages()
+    }
+
+    /// The words of all pages, by address.
+    pub fn as_slice(&self) -> &[u64]
+        ensures words { result.now ≡ (cached self.now).words }
+        ensures whole { length result.now ≡ 64 * cache_pages self.now }
+    {
+        self.pages.as_slice()
+    }
+
+    /// The word at an address.
+    pub fn word(&self, at: u32) -> u64
+        requires { at < length (cached self.now).words }
+        ensures { result ≡ slice_index (cached self.now).words at }
+    {
+        self.pages.word(at)
+    }
+
+    /// The LSN of page `p`: of the last record that it has.
+    pub fn lsn(&self, p: u32) -> u64
+        requires { p < cache_pages self.now }
+        ensures value { result ≡ cached_lsn self.now p }
+        ensures ahead { flushed_lsn self.now p ≤ result }
+    {
+        self.pages.lsn(p)
+    }
+
+    /// The greatest LSN of a page, or 0: the record after it is new to each page.
+    pub fn newest(&self) -> u64
+        ensures value { result ≡ fold max 0 (cached self.now).lsns }
+        ensures next { EachLacks (result + 1) (cached self.now) }
+    {
+        self.pages.newest()
+    }
+
+    /// Whether page `p` has changed since it was stored.
+    pub fn dirty(&self, p: u32) -> bool
+        requires { p < cache_pages self.now }
+        ensures { result ≡ is_dirty self.now p }
+    {
+        self.pages.lsn(p) != self.store.stored_lsn(p)
+    }
+
+    /// Whether a flush has failed. Then no other one follows before the disk is started and the pages are opened again.
+    pub fn failed(&self) -> bool
+        ensures { result ≡ cache_failed self.now }
+    {
+        self.store.failed()
+    }
+
+    /// Puts the record of that LSN on those of its pages that lack it, which have it from then on.
+    pub fn redo(&mut self, lsn: u64, rec: &Record)
+        requires { WritesBelow (length (cached self.old).words) rec.now }
+        ensures redone { cached self.new ≡ redo_record lsn (cached self.old) rec.now }
+        ensures store { cache_store self.new ≡ cache_store self.old }
+    {
+        self.pages.redo(lsn, rec);
+    }
+
+    /// Redoes these records in order, of which the first has that LSN.
+    pub fn redo_all(&mut self, first: u64, records: &[Record])
+        requires inside { EachWritesBelow (length (cached self.old).words) records.now }
+        requires lsns { first + length records.now < 2 ^ 64 }
+        ensures redone { cached self.new ≡ redo_all first (cached self.old) records.now }
+        ensures store { cache_store self.new ≡ cache_store self.old }
+    {
+        self.pages.redo_all(first, records);
+    }
+
+    /// Puts a new record, of that LSN, on its pages: no page has it yet.
+    pub fn apply(&mut self, lsn: u64, rec: &Record)
+        requires new { EachLacks lsn (cached self.old) }
+        requires inside { WritesBelow (length (cached self.old).words) rec.now }
+        ensures words { (cached self.new).words ≡ put_record (cached self.old).words rec.now }
+        ensures redone { cached self.new ≡ redo_record lsn (cached self.old) rec.now }
+        ensures store { cache_store self.new ≡ cache_store self.old }
+    {
+        self.redo(lsn, rec);
+    }
+
+    /// Puts new records on their pages in order, of which the first has that LSN.
+    pub fn apply_all(&mut self, first: u64, records: &[Record])
+        requires new { EachLacks first (cached self.old) }
+        requires inside { EachWritesBelow (length (cached self.old).words) records.now }
+        requires lsns { first + length records.now < 2 ^ 64 }
+        ensures words { (cached self.new).words ≡ fold put_record (cached self.old).words records.now }
+        ensures redone { cached self.new ≡ redo_all first (cached self.old) records.now }
+        ensures store { cache_store self.new ≡ cache_store self.old }
+    {
+        self.redo_all(first, records);
+    }
+
+    /// Stores page `p`, which is dirty, as it is now. The log's first `forced` records are on the disk, and the page is not ahead
+    /// of them. After an error the page is stored as it was or as it is now once the disk is started again, and no other flush
+    /// follows before the pages are opened from that disk.
+    pub fn flush<D: Disk>(&mut self, disk: &mut D, p: u32, forced: u64) -> Result<(), DiskError>
+        requires page { p < cache_pages self.old }
+        requires dirty { IsTrue (is_dirty self.old p) }
+        requires unfailed { IsFalse (cache_failed self.old) }
+        requires logged { cached_lsn self.old p ≤ forced }
+        requires inside { cache_size self.old ≤ D.extent disk.old }
+
+        ensures disk { KeepsDisk D.Disk disk.old disk.new result }
+
+        // What is in memory.
+        ensures pages { cached self.new ≡ cached self.old }
+        ensures plan { store_plan (cache_store self.new) ≡ store_plan (cache_store self.old) }
+        ensures clean { OnOk result (flushed_lsn self.new p ≡ cached_lsn self.old p) }
+        ensures frame { OnOk result (stored_frame (cache_store self.new) p ≡ Some (spare (stored_frame (cache_store self.old) p))) }
+        ensures other_pages { (q : ℕ) → q ≢ p → stored_entry (cache_store self.new) q ≡ stored_entry (cache_store self.old) q }
+        ensures failed { cache_failed self.new ≡ is_err result }
+        ensures err { OnErr result ((q : ℕ) → stored_entry (cache_store self.new) q ≡ stored_entry (cache_store self.old) q) }
+
+        // What is on the disk.
+        ensures stored { IsTrue D.tells → Knows (cache_store self.old) (D.bytes disk.old) → OnOk result (HasPage (cache_log self.old) p (cached_lsn self.old p) (cached_page self.old p) (D.bytes disk.new)) }
+        ensures others { IsTrue D.tells → (q : ℕ) → q ≢ p → OnOk result (SamePage (cache_log self.old) q (D.bytes disk.old) (D.bytes disk.new)) }
+        ensures outside { IsTrue D.tells → OnOk result (SameButPage (cache_log self.old) p (D.bytes disk.old) (D.bytes disk.new)) }
+        ensures known { IsTrue D.tells → Knows (cache_store self.old) (D.bytes disk.old) → OnOk result (Knows (cache_store self.new) (D.bytes disk.new)) }
+        ensures durable { IsTrue D.tells → OnOk result (Only (D.bytes disk.new) (D.may_leave disk.new)) }
+
+        // No page gets ahead of the log: pages that may stand beside the records on the disk do so after the flush, and a crash
+        // at any moment of it leaves such pages.
+        ensures legal { IsTrue D.tells → Knows (cache_store self.old) (D.bytes disk.old) → (all : List Record) → ArePresent self.old all → MayStandBeside self.old (take forced all) (D.bytes disk.old)
+            → OnOk result (MayStandBeside self.old (take forced all) (D.bytes disk.new)) }
+        ensures legal_moments { IsTrue D.tells → Knows (cache_store self.old) (D.bytes disk.old) → Only (D.bytes disk.old) (D.may_leave disk.old)
+            → (all : List Record) → ArePresent self.old all → MayStandBeside self.old (take forced all) (D.bytes disk.old)
+            → LeavesOnly D.moment D.left_since disk.old disk.new (MayStandBeside self.old (take forced all)) }
+
+        // A crash at any moment leaves the page as it was, or as it is now, and all else as it was.
+        ensures moments { IsTrue D.tells → Knows (cache_store self.old) (D.bytes disk.old) → Only (D.bytes disk.old) (D.may_leave disk.old)
+            → LeavesOnly D.moment D.left_since disk.old disk.new (IsStoring (cache_log self.old) p (cached_lsn self.old p) (cached_page self.old p) (D.bytes disk.old)) }
+        ensures passes { IsTrue D.tells → Passes (store_calls (cache_log self.old) p (spare (stored_frame (cache_store self.old) p)) (D.bytes disk.old)) (D.passed disk.old) (D.passed disk.new) result }
+    {
+        let lsn = self.pages.lsn(p);
+        prove!(lsn <= forced);
+        self.store.store(disk, p, lsn, &self.pages.page(p))
+    }
+}
+
+/// The LSNs with which all pages are stored.
+fn stored_lsns(alloc: Global, store: &PageStore, pages: u32) -> Result<Vec<u64>, AllocError>
+    requires { pages ≡ store_pages store.now }
+    ensures size { IfOk result (λ lsns. length lsns.items ≡ pages) }
+    ensures each { IfOk result (λ lsns. (p : ℕ) → p < pages → slice_index lsns.items p ≡ stored_lsn store.now p) }
+{
+    let mut lsns = Vec::with_capacity(alloc, pages as usize)?;
+    for p in 0..pages {
+        lsns.push(store.stored_lsn(p))?;
+    }
+    Ok(lsns)
+}

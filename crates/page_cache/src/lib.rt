@@ -1,0 +1,10 @@
+//! The heap's pages in memory, with their LSNs, over those that are stored on a disk.
+#![tactic(auto)]
+
+mod cache;
+mod cached;
+
+pub use cache::PageCache;
+
+#[cfg(test)]
+mod tests;

@@ -1,0 +1,46 @@
+-- Pages of words, each with an LSN, and which of them a record touches.
+use Rattle.std.specs.Prelude.{ℕ, ◌+◌, ◌*◌, ◌/◌, ◌==◌, Bool, List, ◌++◌, map, take, drop, replicate, slice_index, slice_set}
+use Rattle.std.specs.List.{list_any}
+use Rattle.log_records.specs.declared.Record.{Record}
+use Rattle.log_machine.specs.Machine.{effect, first_contents}
+
+-- The pages of both spaces, each with its LSN: all words by address, and the LSNs by page.
+pub record Pages : Type 0 where
+  pub words : List ℕ
+  pub lsns : List ℕ
+
+-- how many pages both spaces have
+abbrev pub pages_in : ℕ → ℕ
+pages_in pages = 2 * pages
+
+-- the page in which an address lies
+abbrev pub page_of : ℕ → ℕ
+page_of address = address / 64
+
+-- the words of a page
+abbrev pub page_words : List ℕ → ℕ → List ℕ
+page_words words p = take 64 (drop (64 * p) words)
+
+-- the LSN of a page
+abbrev pub lsn_of : Pages → ℕ → ℕ
+lsn_of at p = slice_index at.lsns p
+
+-- pages that were never stored: the first contents, and no record's effect
+abbrev pub first_pages : ℕ → Pages
+first_pages pages = record { words = first_contents pages; lsns = replicate (pages_in pages) 0 }
+
+-- the pages when these are the words of one of them, and this is its LSN
+abbrev pub with_page : Pages → ℕ → ℕ → List ℕ → Pages
+with_page at p lsn page = record { words = take (64 * p) at.words ++ page ++ drop (64 * p + 64) at.words; lsns = slice_set at.lsns p lsn }
+
+-- the addresses that a record writes
+abbrev pub addresses : Record → List ℕ
+addresses rec = map (λ w. w.0) (effect rec)
+
+-- the pages that it touches: those in which these addresses lie
+abbrev pub touched : Record → List ℕ
+touched rec = map page_of (addresses rec)
+
+-- whether it touches a page
+abbrev pub touches : Record → ℕ → Bool
+touches rec p = list_any (λ q. q == p) (touched rec)
