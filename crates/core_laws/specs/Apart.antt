@@ -19,13 +19,13 @@ use Rattle.object_layout.specs.Layout.{object_at, field_words}
 use Rattle.object_layout.specs.LayoutLaws.{object_header, length-field_words}
 use Rattle.object_layout.specs.ObjectLaws.{object_same}
 use Rattle.log_machine.specs.declared.UndoEntry.{UndoEntry}
-use Rattle.log_machine.specs.Machine.{State, words, field_at, undo_of}
+use Rattle.log_machine.specs.Machine.{State, field_at, undo_of}
 use Rattle.log_machine.specs.Apart.{written, IsApart, others_taken_back}
 use Rattle.log_machine.specs.ListLaws.{AllByRecursion-map}
 use Rattle.graph_words.specs.Places.{Places, address_of, bits_of, place_of}
 use Rattle.graph_words.specs.Stands.{IsOfField}
 use Rattle.graph_words.specs.StandsLaws.{stands_object, stands_one, stands_field, stands_field_apart, stands_field_one, word_at_field}
-use Rattle.heap_model.specs.Core.{Core, all_records}
+use Rattle.heap_model.specs.Core.{Core, all_words}
 use Rattle.core_laws.specs.Valid.{IsLocked, IsWriting, Agrees}
 use Rattle.core_laws.specs.Goes.{writing_of}
 use Rattle.core_laws.specs.OthersLaws.{IsAway, others_at, length-others}
@@ -58,7 +58,7 @@ pub record IsWrittenBy (a : Account) (c : Core) (state : State) (q : ℕ) (vs : 
   pub active : a.active session ≡ Some transaction
   pub number : transaction.number ≡ q
   pub own : vs ≡ undo_of state q
-  pub writing : IsWriting c.places (view c.g0 a transaction) transaction.number (locks_of (serial c.g0 a.sealed) transaction) (words c.pages (all_records c)) state
+  pub writing : IsWriting c.places (view c.g0 a transaction) transaction.number (locks_of (serial c.g0 a.sealed) transaction) (all_words c) state
 
 -- A write of a field of an object that these locks hold exclusively.
 record IsHeldField (places : Places) (g : Graph) (locks : List Lock) (v : UndoEntry) : Type 0 where
@@ -199,9 +199,9 @@ module _ (a : Account) (c : Core) (h : Agrees a c) {numbers : List ℕ} {heard :
 
   -- an object's header
   pub object_now : (s : ℕ) (t : Transaction) → a.active s ≡ Some t → (id : Id) (at : ℕ) → address_of c.places id ≡ Some at
-      → object_at (words c.pages (all_records c)) at ≡ Some (length (fields (view c.g0 a t).graph id))
+      → object_at (all_words c) at ≡ Some (length (fields (view c.g0 a t).graph id))
   object_now s t e id at is =
-      let now = words c.pages (all_records c) in
+      let now = all_words c in
       let seen = others_taken_back h.behind t.number now in
       let n = length (fields (view c.g0 a t).graph id) in
       let object = stands_object (writing_of a c s t e h).stands id at is in
@@ -211,22 +211,22 @@ module _ (a : Account) (c : Core) (h : Agrees a c) {numbers : List ℕ} {heard :
 
   -- as many fields stand there as the transaction sees
   pub length_now : (s : ℕ) (t : Transaction) → a.active s ≡ Some t → (id : Id) (at : ℕ) → address_of c.places id ≡ Some at
-      → length (field_words (words c.pages (all_records c)) at) ≡ length (fields (view c.g0 a t).graph id)
-  length_now s t e id at is = length-field_words (words c.pages (all_records c)) at (length (fields (view c.g0 a t).graph id)) (object_now s t e id at is)
+      → length (field_words (all_words c) at) ≡ length (fields (view c.g0 a t).graph id)
+  length_now s t e id at is = length-field_words (all_words c) at (length (fields (view c.g0 a t).graph id)) (object_now s t e id at is)
 
   -- the word of a field of an object that no other transaction holds exclusively
   pub word_now : (s : ℕ) (t : Transaction) → a.active s ≡ Some t → (id : Id) (at i : ℕ) → address_of c.places id ≡ Some at → i < length (fields (view c.g0 a t).graph id)
       → IsFree c.g0 a t.number (Some (id, Shared))
-      → get_or (words c.pages (all_records c)) (field_at at i) 0 ≡ bits_of (place_of c.places (view c.g0 a t).graph) (slice_index_or (fields (view c.g0 a t).graph id) i Null)
+      → get_or (all_words c) (field_at at i) 0 ≡ bits_of (place_of c.places (view c.g0 a t).graph) (slice_index_or (fields (view c.g0 a t).graph id) i Null)
   word_now s t e id at i is within free =
-      sym (others_at h.behind t.number (words c.pages (all_records c)) (field_at at i) (away_field s t e id at i is within free))
+      sym (others_at h.behind t.number (all_words c) (field_at at i) (away_field s t e id at i is within free))
       ∙ stands_field (writing_of a c s t e h).stands id at i is within
 
   -- all of its fields
   pub fields_now : (s : ℕ) (t : Transaction) → a.active s ≡ Some t → (id : Id) (at : ℕ) → address_of c.places id ≡ Some at → IsFree c.g0 a t.number (Some (id, Shared))
-      → field_words (words c.pages (all_records c)) at ≡ map (bits_of (place_of c.places (view c.g0 a t).graph)) (fields (view c.g0 a t).graph id)
+      → field_words (all_words c) at ≡ map (bits_of (place_of c.places (view c.g0 a t).graph)) (fields (view c.g0 a t).graph id)
   fields_now s t e id at is free =
-      let now = words c.pages (all_records c) in
+      let now = all_words c in
       let vs = fields (view c.g0 a t).graph id in
       let word = bits_of (place_of c.places (view c.g0 a t).graph) in
       let long = length_now s t e id at is in

@@ -9,14 +9,13 @@ use Rattle.graph_model.specs.Plain as Plain
 use Rattle.graph_model.specs.Plain.{view}
 use Rattle.graph_model.specs.SlowHeap.{IsOfSession}
 use Rattle.gated_log.specs.Log.{records_of}
-use Rattle.log_machine.specs.CommittedLaws.{committed_words_at}
-use Rattle.log_machine.specs.Machine.{State, start, after_all, words, all_taken_back, committed_words}
+use Rattle.log_machine.specs.Machine.{State, start, after_all, all_taken_back}
 use Rattle.log_machine.specs.MachineLaws.{after_all-append2}
 use Rattle.graph_words.specs.Stands.{StandsCommitted}
 use Rattle.graph_words.specs.StandsSeen.{stands_seen_at}
 use Rattle.graph_words.specs.Places.{name_at}
 use Rattle.object_layout.specs.Layout.{IsSeenAs}
-use Rattle.heap_model.specs.Core.{Core, next_number, all_records, event_records, core_refusal}
+use Rattle.heap_model.specs.Core.{Core, next_number, all_records, all_words, event_records, core_refusal}
 use Rattle.core_laws.specs.Events.{done_records}
 use Rattle.core_laws.specs.Goes.{writing_of}
 use Rattle.core_laws.specs.Sound.{sound_agrees}
@@ -37,20 +36,20 @@ module _ (c : Core) (sound : IsSound c) where
   core_base = (sound_agrees c sound).told.base
 
   -- the words without the writes of active transactions
-  pub core_committed : committed_words c.pages c.lowest (all_records c) ≡ all_taken_back core_state (words c.pages (all_records c))
-  core_committed = committed_words_at core_state c.pages c.lowest (all_records c) core_reached
+  abbrev pub core_committed : List ℕ
+  core_committed = all_taken_back core_state (all_words c)
 
   -- the graph of the sealed transactions stands in the words without the writes of active ones
-  pub core_stands : StandsCommitted c.places (serial c.g0 (sealed c.history)) (committed_words c.pages c.lowest (all_records c)) core_state.base core_state.used
+  pub core_stands : StandsCommitted c.places (serial c.g0 (sealed c.history)) core_committed core_state.base core_state.used
   core_stands = (sound_agrees c sound).told.stands
 
   -- and is seen there
-  pub core_seen : IsSeenAs (name_at c.places) (committed_words c.pages c.lowest (all_records c)) 0 (serial c.g0 (sealed c.history))
-  core_seen = subst (λ base. IsSeenAs (name_at c.places) (committed_words c.pages c.lowest (all_records c)) base (serial c.g0 (sealed c.history))) core_base (stands_seen_at core_stands)
+  pub core_seen : IsSeenAs (name_at c.places) core_committed 0 (serial c.g0 (sealed c.history))
+  core_seen = subst (λ base. IsSeenAs (name_at c.places) core_committed base (serial c.g0 (sealed c.history))) core_base (stands_seen_at core_stands)
 
   -- what a session's transaction sees stands in the words without the writes of the others, and in its area
   pub core_writing : (s : ℕ) (t : Transaction) → (account c.history).active s ≡ Some t
-      → IsWriting c.places (view c.g0 (account c.history) t) t.number (locks_of (serial c.g0 (sealed c.history)) t) (words c.pages (all_records c)) core_state
+      → IsWriting c.places (view c.g0 (account c.history) t) t.number (locks_of (serial c.g0 (sealed c.history)) t) (all_words c) core_state
   core_writing s t e = writing_of _ c s t e (sound_agrees c sound)
 
 -- the records that a granted event appends follow those before them

@@ -1,5 +1,7 @@
 -- What an event leaves of a core that agrees with its history.
 use Rattle.std.proofs.Common.{◌≡◌, ℕ, ◌+◌, ◌<◌, ◌≤◌, true, List, [], ◌++◌, length, take, Option, Some, None, sym, ap, ◌∙◌, subst, arith, length-append, append_assoc}
+use Rattle.std.specs.Prelude.{fold}
+use Rattle.std.proofs.lemmas.List.Sums.{fold-append}
 use Rattle.std.proofs.lemmas.List.{append-nil}
 use Rattle.graph_model.specs.declared.reply.Entry.{Entry}
 use Rattle.graph_model.specs.Graph.{Graph}
@@ -9,21 +11,25 @@ use Rattle.graph_model.specs.HistoryLaws.{serial-take}
 use Rattle.graph_model.specs.Locking.{locks_of}
 use Rattle.graph_model.specs.Plain.{view, no_number}
 use Rattle.log_records.specs.declared.Record.{Record}
-use Rattle.log_machine.specs.Machine.{State, start, after_all, words, is_number, undo_of}
+use Rattle.log_machine.specs.Machine.{State, start, after_all, put_record, is_number, undo_of}
 use Rattle.log_machine.specs.MachineLaws.{number_in_range, after_all-append2}
 use Rattle.log_machine.specs.MapLaws.{EachEntry}
 use Rattle.log_machine.specs.StateLaws.{leads_after_all}
 use Rattle.gated_log.specs.Log.{records_of}
 use Rattle.graph_words.specs.Places.{Places}
-use Rattle.heap_model.specs.Core.{Core, all_records, used, need, reserved}
+use Rattle.heap_model.specs.Core.{Core, all_records, all_words, used, need, reserved}
 use Rattle.heap_model.specs.CoreLawsGoes.{used-append}
 use Rattle.heap_model.specs.CoreTold.{IsTold, IsNumbered}
 use Rattle.core_laws.specs.Valid.{IsWriting, IsWriter, IsActive, Agrees}
 
+-- the words with these records behind all that there are
+abbrev pub words_with : Core → List Record → List ℕ
+words_with c more = fold put_record (all_words c) more
+
 -- what the transaction of a session sees stands in the words
 pub writing_of : (a : Account) (c : Core) (s : ℕ) (t : Transaction) → a.active s ≡ Some t → (h : Agrees a c)
-    → IsWriting c.places (view c.g0 a t) t.number (locks_of (serial c.g0 a.sealed) t) (words c.pages (all_records c)) h.behind
-writing_of a c s t e h = let P : Option Transaction → Type 0 = λ o. IsWriter c.places c.g0 a o (words c.pages (all_records c)) h.behind in subst P e (h.writers s)
+    → IsWriting c.places (view c.g0 a t) t.number (locks_of (serial c.g0 a.sealed) t) (all_words c) h.behind
+writing_of a c s t e h = let P : Option Transaction → Type 0 = λ o. IsWriter c.places c.g0 a o (all_words c) h.behind in subst P e (h.writers s)
 
 -- its number is below the next one
 pub number_below : (a : Account) (c : Core) (s : ℕ) (t : Transaction) → a.active s ≡ Some t → Agrees a c → (1 ≤ t.number) × (t.number < c.first + a.begun)
@@ -87,10 +93,10 @@ pub record Goes (a : Account) (c : Core) (b : Account) (more : List Record) (pla
   pub later : List Transaction
   pub sealed : b.sealed ≡ a.sealed ++ later
   pub behind : State
-  pub told : IsTold c.pages c.lowest c.born (c.places ++ placed) (serial c.g0 b.sealed) (c.before + length b.sealed) (all_records c ++ more) behind
+  pub told : IsTold c.pages c.lowest c.born (c.places ++ placed) (serial c.g0 b.sealed) (c.before + length b.sealed) (all_records c ++ more) (words_with c more) behind
   pub next_known : behind.next ≤ c.first + b.begun
   pub losers : EachEntry (λ q us. IsActive b q) behind.undo
-  pub writers : (s : ℕ) → IsWriter (c.places ++ placed) c.g0 b (b.active s) (words c.pages (all_records c ++ more)) behind
+  pub writers : (s : ℕ) → IsWriter (c.places ++ placed) c.g0 b (b.active s) (words_with c more) behind
   pub room : used c + need c.pending more + reserved (undo_of behind) b ≤ c.room
 
 -- so a core is left that agrees with its history
@@ -106,6 +112,7 @@ goes_on a c b more placed h go =
     let graph : serial c.g0 (take h.durable b.sealed) ≡ serial c.g0 (take h.durable a.sealed) =
     ap (λ (ts : List Transaction). serial c.g0 (take h.durable ts)) go.sealed ∙ serial-take c.g0 a.sealed go.later h.durable first in
     let records = append_assoc (records_of c.batches) c.pending more in
+    let words = sym (fold-append put_record c.words c.pending more) in
     record {
       unfailed = go.unfailed;
       certain = go.certain;
@@ -120,27 +127,27 @@ goes_on a c b more placed h go =
       acknowledged_last = omega arith;
       on_disk = h.on_disk;
       disk_places = h.disk_places;
-      disk_told = subst (λ (g : Graph). IsTold c.pages c.lowest c.born h.disk_places g (c.before + h.durable) (records_of c.batches) h.on_disk) (sym graph) h.disk_told;
+      disk_told = subst (λ (g : Graph). IsTold c.pages c.lowest c.born h.disk_places g (c.before + h.durable) (records_of c.batches) c.words h.on_disk) (sym graph) h.disk_told;
       first_known = h.first_known;
       disk_room = h.disk_room;
       behind = go.behind;
-      told = subst (λ (rs : List Record). IsTold c.pages c.lowest c.born (c.places ++ placed) (serial c.g0 b.sealed) (c.before + length b.sealed) rs go.behind) records go.told;
+      told =
+          let told = subst (λ (rs : List Record). IsTold c.pages c.lowest c.born (c.places ++ placed) (serial c.g0 b.sealed) (c.before + length b.sealed) rs (words_with c more) go.behind) records go.told in
+          subst (λ (ws : List ℕ). IsTold c.pages c.lowest c.born (c.places ++ placed) (serial c.g0 b.sealed) (c.before + length b.sealed) (records_of c.batches ++ c.pending ++ more) ws go.behind) words told;
       next_known = go.next_known;
       losers = go.losers;
-      writers = λ s. subst (λ (rs : List Record). IsWriter (c.places ++ placed) c.g0 b (b.active s) (words c.pages rs) go.behind) records (go.writers s);
+      writers = λ s. subst (λ (ws : List ℕ). IsWriter (c.places ++ placed) c.g0 b (b.active s) ws go.behind) words (go.writers s);
       room = omega arith;
     }
 
 -- no more records, and no more places
 pub as_told : (a : Account) (c : Core) → (h : Agrees a c)
-    → IsTold c.pages c.lowest c.born (c.places ++ []) (serial c.g0 a.sealed) (c.before + length a.sealed) (all_records c ++ []) h.behind
+    → IsTold c.pages c.lowest c.born (c.places ++ []) (serial c.g0 a.sealed) (c.before + length a.sealed) (all_records c ++ []) (words_with c []) h.behind
 as_told a c h =
-    subst (λ (ps : Places). IsTold c.pages c.lowest c.born ps (serial c.g0 a.sealed) (c.before + length a.sealed) (all_records c ++ []) h.behind) (sym (append-nil c.places))
-    (subst (λ (rs : List Record). IsTold c.pages c.lowest c.born c.places (serial c.g0 a.sealed) (c.before + length a.sealed) rs h.behind) (sym (append-nil (all_records c))) h.told)
+    subst (λ (ps : Places). IsTold c.pages c.lowest c.born ps (serial c.g0 a.sealed) (c.before + length a.sealed) (all_records c ++ []) (words_with c []) h.behind) (sym (append-nil c.places))
+    (subst (λ (rs : List Record). IsTold c.pages c.lowest c.born c.places (serial c.g0 a.sealed) (c.before + length a.sealed) rs (all_words c) h.behind) (sym (append-nil (all_records c))) h.told)
 
--- a writer of the same records and places
-pub as_writer : (c : Core) (b : Account) (o : Option Transaction) (state : State) → IsWriter c.places c.g0 b o (words c.pages (all_records c)) state
-    → IsWriter (c.places ++ []) c.g0 b o (words c.pages (all_records c ++ [])) state
-as_writer c b o state w =
-    subst (λ (ps : Places). IsWriter ps c.g0 b o (words c.pages (all_records c ++ [])) state) (sym (append-nil c.places))
-    (subst (λ (rs : List Record). IsWriter c.places c.g0 b o (words c.pages rs) state) (sym (append-nil (all_records c))) w)
+-- a writer of the same words and places
+pub as_writer : (c : Core) (b : Account) (o : Option Transaction) (state : State) → IsWriter c.places c.g0 b o (all_words c) state
+    → IsWriter (c.places ++ []) c.g0 b o (words_with c []) state
+as_writer c b o state w = subst (λ (ps : Places). IsWriter ps c.g0 b o (words_with c []) state) (sym (append-nil c.places)) w

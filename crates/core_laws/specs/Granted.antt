@@ -17,22 +17,21 @@ use Rattle.graph_model.specs.Transaction.{Transaction, View, call, fresh_view, r
 use Rattle.commit_order.specs.LockingLaws.{locks_of_calls-append}
 use Rattle.log_records.specs.declared.Record.{Record}
 use Rattle.log_machine.specs.Apart.{others_taken_back}
-use Rattle.log_machine.specs.CommittedLaws.{committed_words_at}
-use Rattle.log_machine.specs.Machine.{State, words, undo_of}
+use Rattle.log_machine.specs.Machine.{State, undo_of}
 use Rattle.log_machine.specs.declared.UndoEntry.{UndoEntry}
 use Rattle.graph_words.specs.Area.{HasMade}
 use Rattle.graph_words.specs.Places.{Places, area_used}
 use Rattle.graph_words.specs.Stands.{Stands, StandsCommitted, AreWritten, AreOfFields}
 use Rattle.graph_words.specs.StandsOwn.{new_stands, new_made, new_written, new_kept}
 use Rattle.graph_words.specs.StandsWrite.{committed_stands, begin_made_next, begin_written}
-use Rattle.heap_model.specs.Core.{Core, all_records, undo_with, undo_behind, used, need, reserved}
+use Rattle.heap_model.specs.Core.{Core, all_records, all_words, undo_with, undo_behind, used, need, reserved}
 use Rattle.heap_model.specs.CoreLawsGoes.{told_sound, need_nothing}
 use Rattle.heap_model.specs.CoreLawsGranted.{IsQuiet}
 use Rattle.heap_model.specs.CoreLawsHandles.{call_at_hand, none_at_hand, more_handles}
 use Rattle.heap_model.specs.CoreLawsTold.{of_fields_kept}
 use Rattle.heap_model.specs.CoreTold.{HoldsAtHand, IsTold, IsNumbered}
 use Rattle.heap_model.specs.ListLaws.{AllByRecursion-set, AllByRecursion-map}
-use Rattle.core_laws.specs.Goes.{writing_of, goes_on, as_told, as_writer}
+use Rattle.core_laws.specs.Goes.{words_with, writing_of, goes_on, as_told, as_writer}
 use Rattle.core_laws.specs.Sessions.{each_session, sessions_with, after_call, called, called_sessions, called_numbered, called_actives, begun_actives, called_reserved}
 use Rattle.core_laws.specs.Told.{none_yet, others_all}
 use Rattle.core_laws.specs.Valid.{IsLocked, AreLocked, IsWriting, IsWriter, Agrees}
@@ -44,19 +43,19 @@ abbrev pub HasRoom : Core → List Record → Account → Type 0
 HasRoom c more b = used c + need c.pending more + reserved (undo_behind c (all_records c ++ more)) b ≤ c.room
 
 -- what is kept, where the state behind them is known
-pub reserved_told : (c : Core) (more : List Record) (b : Account) {places : Places} {g : Graph} {k : ℕ} {state : State} → IsTold c.pages c.lowest c.born places g k (all_records c ++ more) state
+pub reserved_told : (c : Core) (more : List Record) (b : Account) {places : Places} {g : Graph} {k : ℕ} {state : State} → IsTold c.pages c.lowest c.born places g k (all_records c ++ more) (words_with c more) state
     → reserved (undo_behind c (all_records c ++ more)) b ≡ reserved (undo_of state) b
 reserved_told c more b told = ap (λ o. reserved (undo_with o) b) told.reached
 
 -- A transaction begins.
 
 begin_writing : (a : Account) (c : Core) (n : ℕ) (h : Agrees a c) → h.behind.next ≤ n → 1 ≤ n
-    → IsWriting c.places (view c.g0 a (record { number = n; calls = [] })) n [] (words c.pages (all_records c)) h.behind
+    → IsWriting c.places (view c.g0 a (record { number = n; calls = [] })) n [] (all_words c) h.behind
 begin_writing a c n h above some =
-    let now = words c.pages (all_records c) in
+    let now = all_words c in
     let none = none_yet h.behind n (told_sound h.told) above in
     let nothing : undo_of h.behind n ≡ [] = ap (λ o. unwrap_or o []) none in
-    let all = committed_words_at h.behind c.pages c.lowest (all_records c) h.told.reached ∙ sym (others_all h.behind n now none) in
+    let all = sym (others_all h.behind n now none) in
     let seen = subst (λ ws. StandsCommitted c.places (serial c.g0 a.sealed) ws h.behind.base h.behind.used) all h.told.stands in
     record {
       stands = committed_stands seen n 0;
@@ -85,7 +84,7 @@ begin_agrees a c s h session none fits room =
     let b : Account = account_after a (record { event = Begin s; reply = Begun n }) in
     let own = begin_writing a c n h (omega arith) (omega arith) in
     let kept = reserved_told c [] b (as_told a c h) in
-    let P : ℕ → Option Transaction → Type 0 = λ r o. IsWriter c.places c.g0 b o (words c.pages (all_records c)) h.behind in
+    let P : ℕ → Option Transaction → Type 0 = λ r o. IsWriter c.places c.g0 b o (all_words c) h.behind in
     goes_on a c b [] [] h (record {
       unfailed = h.unfailed;
       certain = h.certain;
@@ -107,10 +106,10 @@ begin_agrees a c s h session none fits room =
 
 -- a call that appends no record, where what its transaction sees stands behind it
 pub quiet_goes : (a : Account) (c : Core) (s : ℕ) (t : Transaction) (event : Event) → (h : Agrees a c) → a.active s ≡ Some t
-    → IsWriting c.places (call (view c.g0 a t) t.number event).view t.number (locks_of (serial c.g0 a.sealed) (after_call t event)) (words c.pages (all_records c)) h.behind
+    → IsWriting c.places (call (view c.g0 a t) t.number event).view t.number (locks_of (serial c.g0 a.sealed) (after_call t event)) (all_words c) h.behind
     → Agrees (called a s event) (record c { pending = c.pending ++ []; places = c.places ++ [] })
 quiet_goes a c s t event h e writes =
-    let now = words c.pages (all_records c) in
+    let now = all_words c in
     let b = called a s event in
     let P : ℕ → Option Transaction → Type 0 = λ r o. IsWriter c.places c.g0 b o now h.behind in
     let Q : View → Type 0 = λ v. IsWriting c.places v t.number (locks_of (serial c.g0 a.sealed) (after_call t event)) now h.behind in
@@ -165,7 +164,7 @@ quiet_writing places g t event now state quiet w =
 pub quiet_agrees : (a : Account) (c : Core) (s : ℕ) (t : Transaction) (event : Event) → Agrees a c → a.active s ≡ Some t → IsQuiet (view c.g0 a t) t.number event
     → Agrees (called a s event) (record c { pending = c.pending ++ []; places = c.places ++ [] })
 quiet_agrees a c s t event h e quiet =
-    quiet_goes a c s t event h e (quiet_writing c.places (serial c.g0 a.sealed) t event (words c.pages (all_records c)) h.behind quiet (writing_of a c s t e h))
+    quiet_goes a c s t event h e (quiet_writing c.places (serial c.g0 a.sealed) t event (all_words c) h.behind quiet (writing_of a c s t e h))
 
 -- a call that makes an object
 pub new_agrees : (a : Account) (c : Core) (s : ℕ) (t : Transaction) (i len : ℕ) → Agrees a c → a.active s ≡ Some t → len ≤ 510

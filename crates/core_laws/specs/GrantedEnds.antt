@@ -10,16 +10,16 @@ use Rattle.commit_order.specs.Heard.{Heard}
 use Rattle.commit_order.specs.OrderLaws.{IsOrdered}
 use Rattle.log_records.specs.declared.Record.{Record}
 use Rattle.log_machine.specs.AbortLaws.{abort_words}
-use Rattle.log_machine.specs.Machine.{State, words, undo_of, with_entries, turned, taken_back, abort_records}
-use Rattle.log_machine.specs.MachineLaws.{words-append, undo_beside}
+use Rattle.log_machine.specs.Machine.{State, undo_of, with_entries, turned, taken_back, abort_records}
+use Rattle.log_machine.specs.MachineLaws.{undo_beside}
 use Rattle.log_machine.specs.MapLaws.{each_other}
 use Rattle.gated_log.specs.Log.{records_of, batches_bytes, pending_batch, with_batch}
-use Rattle.heap_model.specs.Core.{Core, all_records, used, forced}
+use Rattle.heap_model.specs.Core.{Core, all_records, all_words, used, forced}
 use Rattle.heap_model.specs.CoreLawsGoes.{told_sound}
 use Rattle.heap_model.specs.CoreLawsRoom.{need-abort_records, forced-with_batch, records_of-with_batch, length-with_batch}
 use Rattle.heap_model.specs.CoreTold.{IsTold, IsNumbered}
 use Rattle.core_laws.specs.Apart.{own_apart}
-use Rattle.core_laws.specs.Goes.{writing_of, number_below, numbered_as, known_on, goes_on}
+use Rattle.core_laws.specs.Goes.{words_with, writing_of, number_below, numbered_as, known_on, goes_on}
 use Rattle.core_laws.specs.Granted.{HasRoom, reserved_told}
 use Rattle.core_laws.specs.Others.{stays_abort}
 use Rattle.core_laws.specs.Reserved.{reserve_reserved}
@@ -42,14 +42,14 @@ module _ (a : Account) (c : Core) (h : Agrees a c) {numbers : List ℕ} {heard :
   abbrev aborted : Account
   aborted = account_after a (record { event = Abort s; reply = Aborted })
 
-  end_told : IsTold c.pages c.lowest c.born c.places (serial c.g0 a.sealed) (c.before + length a.sealed) (all_records c ++ ends) last
-  end_told = abort_told c.pages c.lowest c.born c.places (serial c.g0 a.sealed) (c.before + length a.sealed) t.number (all_records c) h.behind h.told (numbered_as a c s t e h) (own_apart a c h o s t e)
+  end_told : IsTold c.pages c.lowest c.born c.places (serial c.g0 a.sealed) (c.before + length a.sealed) (all_records c ++ ends) (words_with c ends) last
+  end_told = abort_told c.pages c.lowest c.born c.places (serial c.g0 a.sealed) (c.before + length a.sealed) t.number (all_records c) (all_words c) h.behind h.told (numbered_as a c s t e h) (own_apart a c h o s t e)
 
-  end_words : words c.pages (all_records c ++ ends) ≡ taken_back (undo_of h.behind t.number) (words c.pages (all_records c))
-  end_words = words-append c.pages (all_records c) ends ∙ abort_words t.number (undo_of h.behind t.number) (words c.pages (all_records c))
+  end_words : words_with c ends ≡ taken_back (undo_of h.behind t.number) (all_words c)
+  end_words = abort_words t.number (undo_of h.behind t.number) (all_words c)
 
   -- the others see what they saw
-  end_others : (r : ℕ) → r ≢ s → IsWriter c.places c.g0 a (a.active r) (words c.pages (all_records c ++ ends)) last
+  end_others : (r : ℕ) → r ≢ s → IsWriter c.places c.g0 a (a.active r) (words_with c ends) last
   end_others r other =
       subst (λ ws. IsWriter c.places c.g0 a (a.active r) ws last) (sym end_words)
       (writer_by c.places c.g0 a (a.active r) _ _ (λ u also.
@@ -71,7 +71,7 @@ module _ (a : Account) (c : Core) (h : Agrees a c) {numbers : List ℕ} {heard :
   end_agrees =
       let base = serial c.g0 a.sealed in
       let k = c.before + length a.sealed in
-      let P : ℕ → Option Transaction → Type 0 = λ r x. IsWriter c.places c.g0 aborted x (words c.pages (all_records c ++ ends)) last in
+      let P : ℕ → Option Transaction → Type 0 = λ r x. IsWriter c.places c.g0 aborted x (words_with c ends) last in
       let below = (number_below a c s t e h).1 in
       let known = h.next_known in
       let kept = reserved_told c ends aborted end_told in
@@ -86,10 +86,10 @@ module _ (a : Account) (c : Core) (h : Agrees a c) {numbers : List ℕ} {heard :
         later = [];
         sealed = sym (append-nil a.sealed);
         behind = last;
-        told = subst (λ ps. IsTold c.pages c.lowest c.born ps base k (all_records c ++ ends) last) (sym (append-nil c.places)) end_told;
+        told = subst (λ ps. IsTold c.pages c.lowest c.born ps base k (all_records c ++ ends) (words_with c ends) last) (sym (append-nil c.places)) end_told;
         next_known = omega arith;
         losers = each_other (λ q us. IsActive aborted q) h.behind.undo t.number (λ q us is other. ended_actives a aborted s t e refl q other (h.losers q us is));
-        writers = λ r. subst (λ ps. IsWriter ps c.g0 aborted (aborted.active r) (words c.pages (all_records c ++ ends)) last) (sym (append-nil c.places))
+        writers = λ r. subst (λ ps. IsWriter ps c.g0 aborted (aborted.active r) (words_with c ends) last) (sym (append-nil c.places))
             (each_session P a.active s None tt end_others r);
         room = omega arith;
       })
@@ -111,13 +111,13 @@ abort_agrees a c o s t more h e is =
 
 -- batches with all records tell all that was sealed
 pub all_on_disk : (a : Account) (c : Core) (bs : List (List Record)) → (h : Agrees a c) → records_of bs ≡ all_records c
-    → IsTold c.pages c.lowest c.born c.places (serial c.g0 (take (length a.sealed) a.sealed)) (c.before + length a.sealed) (records_of bs) h.behind
+    → IsTold c.pages c.lowest c.born c.places (serial c.g0 (take (length a.sealed) a.sealed)) (c.before + length a.sealed) (records_of bs) (all_words c) h.behind
 all_on_disk a c bs h same =
-    let now = subst (λ (rs : List Record). IsTold c.pages c.lowest c.born c.places (serial c.g0 a.sealed) (c.before + length a.sealed) rs h.behind) (sym same) h.told in
-    subst (λ (ts : List Transaction). IsTold c.pages c.lowest c.born c.places (serial c.g0 ts) (c.before + length a.sealed) (records_of bs) h.behind) (sym (take-length a.sealed)) now
+    let now = subst (λ (rs : List Record). IsTold c.pages c.lowest c.born c.places (serial c.g0 a.sealed) (c.before + length a.sealed) rs (all_words c) h.behind) (sym same) h.told in
+    subst (λ (ts : List Transaction). IsTold c.pages c.lowest c.born c.places (serial c.g0 ts) (c.before + length a.sealed) (records_of bs) (all_words c) h.behind) (sym (take-length a.sealed)) now
 
 force_all : (a : Account) (c : Core) (bs : List (List Record)) → Agrees a c → records_of bs ≡ all_records c → length (batches_bytes bs) + 1 + length (pending_batch []) ≡ used c
-    → Agrees (account_after a (record { event = Force; reply = Durable (length a.sealed) })) (record c { batches = bs; pending = [] })
+    → Agrees (account_after a (record { event = Force; reply = Durable (length a.sealed) })) (record c { batches = bs; words = all_words c; pending = [] })
 force_all a c bs h same size =
     let b : Account = account_after a (record { event = Force; reply = Durable (length a.sealed) }) in
     let first = h.sealed_first in
@@ -143,10 +143,10 @@ force_all a c bs h same size =
       first_known = known_on a c h;
       disk_room = omega arith;
       behind = h.behind;
-      told = subst (λ (rs : List Record). IsTold c.pages c.lowest c.born c.places (serial c.g0 a.sealed) (c.before + length a.sealed) rs h.behind) (sym records) h.told;
+      told = subst (λ (rs : List Record). IsTold c.pages c.lowest c.born c.places (serial c.g0 a.sealed) (c.before + length a.sealed) rs (all_words c) h.behind) (sym records) h.told;
       next_known = h.next_known;
       losers = λ q us is. same_actives a b refl q (h.losers q us is);
-      writers = λ s. subst (λ (rs : List Record). IsWriter c.places c.g0 a (a.active s) (words c.pages rs) h.behind) (sym records) (h.writers s);
+      writers = h.writers;
       room = omega arith;
     }
 

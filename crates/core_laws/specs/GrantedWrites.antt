@@ -19,7 +19,7 @@ use Rattle.commit_order.specs.LockingLaws.{locks_of_calls-append}
 use Rattle.commit_order.specs.OrderLaws.{IsOrdered}
 use Rattle.log_records.specs.declared.Record.{Record}
 use Rattle.log_machine.specs.Apart.{others_taken_back}
-use Rattle.log_machine.specs.Machine.{State, words, field_at, undo_of, with_word}
+use Rattle.log_machine.specs.Machine.{State, field_at, undo_of, put_record, with_word}
 use Rattle.log_machine.specs.MachineLaws.{undo_with}
 use Rattle.log_machine.specs.MapLaws.{each_insert}
 use Rattle.log_machine.specs.declared.UndoEntry.{UndoEntry}
@@ -30,13 +30,13 @@ use Rattle.graph_words.specs.Stands.{Stands, AreWritten, AreOfFields}
 use Rattle.graph_words.specs.StandsOwn.{own_write_stands, own_write_made, own_write_written}
 use Rattle.graph_words.specs.StandsWrite.{write_stands, write_made, write_written}
 use Rattle.graph_words.specs.VisibleLaws.{length-with_field}
-use Rattle.heap_model.specs.Core.{Core, all_records, view_records}
+use Rattle.heap_model.specs.Core.{Core, all_records, all_words, view_records}
 use Rattle.heap_model.specs.CoreLawsGranted.{stable_records, own_records}
 use Rattle.heap_model.specs.CoreLawsHandles.{held_at_hand, call_at_hand}
 use Rattle.heap_model.specs.CoreLawsTold.{of_fields_kept, word_in, entry_of, update_of, written}
 use Rattle.heap_model.specs.CoreTold.{HoldsAtHand, IsTold}
 use Rattle.core_laws.specs.Apart.{apart_with, away_field, word_now, free_shared}
-use Rattle.core_laws.specs.Goes.{writing_of, number_below, numbered_as, goes_on}
+use Rattle.core_laws.specs.Goes.{words_with, writing_of, number_below, numbered_as, goes_on}
 use Rattle.core_laws.specs.Granted.{HasRoom, reserved_told, quiet_goes, locked_on}
 use Rattle.core_laws.specs.Others.{stays_write}
 use Rattle.core_laws.specs.OthersLaws.{IsAway, others_own_write}
@@ -68,30 +68,29 @@ own_write_writing places g t event now state id i x w own seen graph made =
     }
 
 -- a write into an object that stands in the current space
-stable_write_writing : (pages lowest : ℕ) (born : Bool) (places : Places) (g : Graph) (k : ℕ) (records : List Record) (t : Transaction) (event : Event) (state : State) (id : Id) (at i : ℕ) (x : Val)
-    → IsWriting places (run g t) t.number (locks_of g t) (words pages records) state
-    → IsWriteAt pages lowest born places g (run g t).graph k t.number (run g t).made records state id at i x → IsAway state t.number (field_at at i)
+stable_write_writing : (pages lowest : ℕ) (born : Bool) (places : Places) (g : Graph) (k : ℕ) (records : List Record) (now : List ℕ) (t : Transaction) (event : Event) (state : State) (id : Id) (at i : ℕ) (x : Val)
+    → IsWriting places (run g t) t.number (locks_of g t) now state
+    → IsWriteAt pages lowest born places g (run g t).graph k t.number (run g t).made records now state id at i x → IsAway state t.number (field_at at i)
     → (call (run g t) t.number event).view.graph ≡ with_field (run g t).graph id i x → (call (run g t) t.number event).view.made ≡ (run g t).made
     → Contains (locks_of g (after_call t event)) (id, Exclusive)
-    → IsWriting places (call (run g t) t.number event).view t.number (locks_of g (after_call t event)) (words pages (records ++ update_of places (run g t).graph t.number id at i x ∷ []))
+    → IsWriting places (call (run g t) t.number event).view t.number (locks_of g (after_call t event)) (put_record now (update_of places (run g t).graph t.number id at i x))
     (written state t.number (entry_of places (run g t).graph id at i))
-stable_write_writing pages lowest born places g k records t event state id at i x w one away graph made lock =
+stable_write_writing pages lowest born places g k records now t event state id at i x w one away graph made lock =
     let v = run g t in
     let n = t.number in
-    let more = records ++ update_of places v.graph n id at i x ∷ [] in
     let back = sym graph in
     let same = sym made in
     let handles = call_at_hand v w.stands w.made w.handles event made in
     let entry = entry_of places v.graph id at i in
     let later = written state n entry in
     let undo : undo_of later n ≡ entry ∷ undo_of state n = undo_with state.undo n (entry ∷ undo_of state n) in
-    let now : others_taken_back later n (words pages more) ≡ with_word (others_taken_back state n (words pages records)) at i (word_in places v.graph x) =
-    ap (others_taken_back later n) (write_words pages lowest born places g v.graph k n v.made records state id at i x one)
-    ∙ others_own_write state n (entry ∷ undo_of state n) (words pages records) at i (word_in places v.graph x) away in
+    let with : List ℕ = put_record now (update_of places v.graph n id at i x) in
+    let others : others_taken_back later n with ≡ with_word (others_taken_back state n now) at i (word_in places v.graph x) =
+    others_own_write state n (entry ∷ undo_of state n) now at i (word_in places v.graph x) away in
     record {
-      stands = subst (λ m. Stands n m places (call v n event).view.graph (others_taken_back later n (words pages more)) state.base state.used) same
-          (subst (λ k. Stands n v.made places k (others_taken_back later n (words pages more)) state.base state.used) back
-          (subst (λ ws. Stands n v.made places (with_field v.graph id i x) ws state.base state.used) (sym now) (write_stands w.stands id at i x one.place one.within one.seen)));
+      stands = subst (λ m. Stands n m places (call v n event).view.graph (others_taken_back later n with) state.base state.used) same
+          (subst (λ k. Stands n v.made places k (others_taken_back later n with) state.base state.used) back
+          (subst (λ ws. Stands n v.made places (with_field v.graph id i x) ws state.base state.used) (sym others) (write_stands w.stands id at i x one.place one.within one.seen)));
       made = subst (λ m. HasMade places (call v n event).view.graph n m) same (subst (λ k. HasMade places k n v.made) back (write_made w.made id at i x one.place));
       written = subst (AreWritten places (call v n event).view.graph) (sym undo) (subst (λ k. AreWritten places k (entry ∷ undo_of state n)) back
           (write_written places v.graph (undo_of state n) w.written id at i x one.place entry refl refl));
@@ -152,7 +151,7 @@ module _ (a : Account) (c : Core) {numbers : List ℕ} {heard : Heard} (o : IsOr
   field_away : IsAway w.agrees.behind t.number (field_at at i)
   field_away = away_field a c w.agrees o s t w.active id at i place within (free_shared c.g0 a t.number id (w.free id holds))
 
-  stable_at : IsWriteAt c.pages c.lowest c.born c.places base seen.graph (c.before + length a.sealed) t.number seen.made (all_records c) w.agrees.behind id at i v
+  stable_at : IsWriteAt c.pages c.lowest c.born c.places base seen.graph (c.before + length a.sealed) t.number seen.made (all_records c) (all_words c) w.agrees.behind id at i v
   stable_at =
       let free = w.free id holds in
       let writing = writing_of a c s t w.active w.agrees in
@@ -168,32 +167,30 @@ module _ (a : Account) (c : Core) {numbers : List ℕ} {heard : Heard} (o : IsOr
         was = word_now a c w.agrees o s t w.active id at i place within (free_shared c.g0 a t.number id free);
       }
 
-  stable_told : IsTold c.pages c.lowest c.born c.places base (c.before + length a.sealed) (all_records c ++ records) later
-  stable_told = write_told c.pages c.lowest c.born c.places base seen.graph (c.before + length a.sealed) t.number seen.made (all_records c) w.agrees.behind id at i v stable_at
+  stable_told : IsTold c.pages c.lowest c.born c.places base (c.before + length a.sealed) (all_records c ++ records) (words_with c records) later
+  stable_told = write_told c.pages c.lowest c.born c.places base seen.graph (c.before + length a.sealed) t.number seen.made (all_records c) (all_words c) w.agrees.behind id at i v stable_at
 
   -- the transaction sees what it wrote
-  stable_own : IsWriter c.places c.g0 (called a s event) (with_call (a.active s) event) (words c.pages (all_records c ++ records)) later
+  stable_own : IsWriter c.places c.g0 (called a s event) (with_call (a.active s) event) (words_with c records) later
   stable_own =
       let graph : (call seen t.number event).view.graph ≡ with_field seen.graph id i v = w.graph ∙ ap (λ (p : Option Id). put_value seen.graph p i v) holds in
-      let now = stable_write_writing c.pages c.lowest c.born c.places base (c.before + length a.sealed) (all_records c) t event w.agrees.behind id at i v
+      let now = stable_write_writing c.pages c.lowest c.born c.places base (c.before + length a.sealed) (all_records c) (all_words c) t event w.agrees.behind id at i v
       (writing_of a c s t w.active w.agrees) stable_at field_away graph w.made (lock_after base t event hd id w.lock holds) in
-      subst (λ x. IsWriter c.places c.g0 (called a s event) (with_call x event) (words c.pages (all_records c ++ records)) later) (sym w.active)
-      (subst (λ x. IsWriting c.places x t.number (locks_of base (after_call t event)) (words c.pages (all_records c ++ records)) later) (sym (run-append base t event)) now)
+      subst (λ x. IsWriter c.places c.g0 (called a s event) (with_call x event) (words_with c records) later) (sym w.active)
+      (subst (λ x. IsWriting c.places x t.number (locks_of base (after_call t event)) (words_with c records) later) (sym (run-append base t event)) now)
 
   -- the others see what they saw
-  stable_others : (r : ℕ) → r ≢ s → IsWriter c.places c.g0 a (a.active r) (words c.pages (all_records c ++ records)) later
+  stable_others : (r : ℕ) → r ≢ s → IsWriter c.places c.g0 a (a.active r) (words_with c records) later
   stable_others r other =
-      subst (λ ws. IsWriter c.places c.g0 a (a.active r) ws later)
-      (sym (write_words c.pages c.lowest c.born c.places base seen.graph (c.before + length a.sealed) t.number seen.made (all_records c) w.agrees.behind id at i v stable_at))
-      (writer_by c.places c.g0 a (a.active r) _ _ (λ u also.
+      writer_by c.places c.g0 a (a.active r) (words_with c records) later (λ u also.
       let beside = o.beside r s u t other also w.active in
-      stays_write (writing_of a c r u also w.agrees) t.number beside.differ entry (word_in c.places seen.graph v) stable_at.was stable_at.apart))
+      stays_write (writing_of a c r u also w.agrees) t.number beside.differ entry (word_in c.places seen.graph v) stable_at.was stable_at.apart)
 
   stable_goes : HasRoom c records (called a s event) → Agrees (called a s event) (record c { pending = c.pending ++ records; places = c.places ++ [] })
   stable_goes room =
       let h = w.agrees in
       let b = called a s event in
-      let P : ℕ → Option Transaction → Type 0 = λ r x. IsWriter c.places c.g0 b x (words c.pages (all_records c ++ records)) later in
+      let P : ℕ → Option Transaction → Type 0 = λ r x. IsWriter c.places c.g0 b x (words_with c records) later in
       let below = (number_below a c s t w.active h).1 in
       let known = h.next_known in
       let kept = reserved_told c records b stable_told in
@@ -208,10 +205,10 @@ module _ (a : Account) (c : Core) {numbers : List ℕ} {heard : Heard} (o : IsOr
         later = [];
         sealed = sym (append-nil a.sealed);
         behind = later;
-        told = subst (λ ps. IsTold c.pages c.lowest c.born ps base (c.before + length a.sealed) (all_records c ++ records) later) (sym (append-nil c.places)) stable_told;
+        told = subst (λ ps. IsTold c.pages c.lowest c.born ps base (c.before + length a.sealed) (all_records c ++ records) (words_with c records) later) (sym (append-nil c.places)) stable_told;
         next_known = omega arith;
         losers = each_insert (λ q us. IsActive b q) h.behind.undo t.number (entry ∷ undo_of h.behind t.number) here (λ q us is. called_actives a s event q (h.losers q us is));
-        writers = λ r. subst (λ ps. IsWriter ps c.g0 b (b.active r) (words c.pages (all_records c ++ records)) later) (sym (append-nil c.places))
+        writers = λ r. subst (λ ps. IsWriter ps c.g0 b (b.active r) (words_with c records) later) (sym (append-nil c.places))
             (each_session P a.active s (with_call (a.active s) event) stable_own stable_others r);
         room = omega arith;
       })
@@ -225,7 +222,7 @@ own_goes a c s t event hd i v id w holds own =
     let writing = writing_of a c s t w.active w.agrees in
     let graph : (call seen t.number event).view.graph ≡ with_field seen.graph id i v = w.graph ∙ ap (λ (p : Option Id). put_value seen.graph p i v) holds in
     quiet_goes a c s t event w.agrees w.active
-    (own_write_writing c.places (serial c.g0 a.sealed) t event (words c.pages (all_records c)) w.agrees.behind id i v writing own w.seen graph w.made)
+    (own_write_writing c.places (serial c.g0 a.sealed) t event (all_words c) w.agrees.behind id i v writing own w.seen graph w.made)
 
 -- A write into either.
 

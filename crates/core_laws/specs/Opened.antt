@@ -11,20 +11,22 @@ use Rattle.graph_model.specs.History.{nothing_yet, sessions}
 use Rattle.image_plan.specs.declared.superblock.Super.{Super}
 use Rattle.log_records.specs.declared.Record.{Record}
 use Rattle.log_machine.specs.AbortLaws.{settled}
-use Rattle.log_machine.specs.Machine.{start, commits, undo_of}
+use Rattle.log_machine.specs.Machine.{start, all_taken_back, commits, undo_of}
 use Rattle.log_machine.specs.MapLaws.{each_empty}
 use Rattle.log_machine.specs.StateLaws.{leads_after_all, commits-start}
+use Rattle.log_machine.specs.TakenBackLaws.{taken_back-settled}
+use Rattle.page_redo.specs.Pages.{Pages}
 use Rattle.log_machine.specs.declared.UndoEntry.{UndoEntry}
 use Rattle.gated_log.specs.Log.{records_of}
 use Rattle.commit_order.specs.PlaceLaws.{nothing_plain, nothing_two_phase}
 use Rattle.graph_words.specs.Places.{Places}
 use Rattle.graph_words.specs.Stands.{AreNamedByBirth, StandsCommitted}
 use Rattle.graph_words.specs.StandsClosed.{stands_closed, placed_below}
-use Rattle.heap_model.specs.CoreLawsOpening.{next_is, rolled_reached, rolled_good, rolled_room, words_of-rolled_back, settled_reserve}
+use Rattle.heap_model.specs.CoreLawsOpening.{next_is, rolled_reached, rolled_good, rolled_room, rolled_words-is, length-rolled_words, settled_reserve}
 use Rattle.heap_model.specs.CoreTold.{IsTold}
 use Rattle.heap_model.specs.Core.{kept_for}
-use Rattle.heap_model.specs.Image.{IsShapedLog}
-use Rattle.heap_model.specs.Opening.{rolled_back, next_of, opened, IsFound}
+use Rattle.heap_model.specs.Image.{words_of, IsShapedLog}
+use Rattle.heap_model.specs.Opening.{rolled_back, rolled_words, next_of, opened, IsFound}
 use Rattle.core_laws.specs.Valid.{IsActive, RunsLocked, IsValid, IsReached}
 
 -- where each object is below a number, none is of a transaction from it on
@@ -46,14 +48,19 @@ none_kept undo (s ∷ ss) =
     let rest = none_kept undo ss in
     omega arith
 
-module _ (s : Super) (batches : List (List Record)) (shaped : IsShapedLog s batches) (born : Bool) (places : Places) (g : Graph) (found : IsFound s batches shaped born places g) where
-  opened_told : IsTold s.pages s.first born places g (commits (records_of batches) + 0) (records_of (rolled_back s batches)) (settled shaped.state)
+module _ (s : Super) (batches : List (List Record)) (stored : Pages) (shaped : IsShapedLog s batches stored) (born : Bool) (places : Places) (g : Graph) (found : IsFound s batches stored shaped born places g) where
+  abbrev now : List ℕ
+  now = rolled_words s batches stored
+
+  opened_told : IsTold s.pages s.first born places g (commits (records_of batches) + 0) (records_of (rolled_back s batches)) now (settled shaped.state)
   opened_told =
       let count = commits-start s.pages s.first shaped.state (records_of batches) shaped.reached in
-      let same = sym (words_of-rolled_back s batches shaped) in
+      let settled_now = taken_back-settled (settled shaped.state) now refl in
+      let same : words_of s batches stored ≡ all_taken_back (settled shaped.state) now = sym (settled_now ∙ rolled_words-is s batches stored shaped) in
       record {
-        good = rolled_good s batches shaped;
-        reached = rolled_reached s batches shaped;
+        good = rolled_good s batches stored shaped;
+        reached = rolled_reached s batches stored shaped;
+        size = length-rolled_words s batches stored shaped;
         count = omega arith;
         base = (leads_after_all (start s.pages s.first) shaped.state (records_of batches) shaped.reached).base;
         stands = subst (λ ws. StandsCommitted places g ws shaped.state.base shaped.state.used) same found.stands;
@@ -62,15 +69,15 @@ module _ (s : Super) (batches : List (List Record)) (shaped : IsShapedLog s batc
       }
 
   -- the core is valid
-  pub opened_valid : IsValid (opened s batches born places g)
+  pub opened_valid : IsValid (opened s batches stored born places g)
   opened_valid =
       let to = leads_after_all (start s.pages s.first) shaped.state (records_of batches) shaped.reached in
-      let next = next_is s batches shaped in
+      let next = next_is s batches stored shaped in
       let some_first = shaped.limits.some_first in
       let small_first = shaped.limits.small_first in
       let grows = to.grows in
       let fits = to.next_in_range (omega arith) in
-      let room = rolled_room s batches shaped in
+      let room = rolled_room s batches stored shaped in
       let none = settled_reserve shaped.state in
       let kept = none_kept (undo_of (settled shaped.state)) sessions in
       record {
@@ -91,7 +98,7 @@ module _ (s : Super) (batches : List (List Record)) (shaped : IsShapedLog s batc
         first_known = omega arith;
         disk_room = omega arith;
         behind = settled shaped.state;
-        told = subst (λ rs. IsTold s.pages s.first born places g (commits (records_of batches) + 0) rs (settled shaped.state)) (sym (append-nil (records_of (rolled_back s batches)))) opened_told;
+        told = subst (λ rs. IsTold s.pages s.first born places g (commits (records_of batches) + 0) rs now (settled shaped.state)) (sym (append-nil (records_of (rolled_back s batches)))) opened_told;
         next_known = omega arith;
         losers = each_empty (λ q us. IsActive nothing_yet q);
         writers = λ session. tt;
@@ -101,7 +108,7 @@ module _ (s : Super) (batches : List (List Record)) (shaped : IsShapedLog s batc
   -- no transaction to come can give a name that an object has
   opened_unused : (n : ℕ) → next_of s batches ≤ n → IsUnused g n
   opened_unused n more =
-      let next = next_is s batches shaped in
+      let next = next_is s batches stored shaped in
       let grows = (leads_after_all (start s.pages s.first) shaped.state (records_of batches) shaped.reached).grows in
       let some_first = shaped.limits.some_first in
       below_unused g shaped.state.next n (placed_below places g shaped.state.next found.placed found.old (omega arith)) (omega arith)
@@ -116,5 +123,5 @@ module _ (s : Super) (batches : List (List Record)) (shaped : IsShapedLog s batc
   }
 
   -- A core that was opened on a shaped log is reached.
-  pub opened_reached : IsReached (opened s batches born places g)
+  pub opened_reached : IsReached (opened s batches stored born places g)
   opened_reached = record { sound = inl opened_valid; locked = opened_locked }

@@ -12,13 +12,13 @@ use Rattle.graph_model.specs.Plain.{view}
 use Rattle.commit_order.specs.Heard.{Heard}
 use Rattle.commit_order.specs.OrderLaws.{IsOrdered}
 use Rattle.log_records.specs.declared.Record.{Record}
-use Rattle.log_machine.specs.Machine.{put_record, words}
+use Rattle.log_machine.specs.Machine.{put_record}
 use Rattle.log_machine.specs.MapLaws.{EachEntry, each_other}
 use Rattle.graph_words.specs.Places.{Places}
 use Rattle.graph_words.specs.Promotion.{promoted_places}
 use Rattle.heap_model.specs.Core.{Core, all_records, area_in, ground, seal_moves, seal_need, seal_of, space_refusal}
 use Rattle.heap_model.specs.CoreTold.{IsTold, IsNumbered}
-use Rattle.core_laws.specs.Goes.{goes_on, number_below}
+use Rattle.core_laws.specs.Goes.{words_with, goes_on, number_below}
 use Rattle.core_laws.specs.Granted.{HasRoom, reserved_told}
 use Rattle.core_laws.specs.SealBeside.{stays_beside}
 use Rattle.core_laws.specs.SealTold as seal
@@ -39,6 +39,10 @@ module _ (a : Account) (c : Core) (h : Agrees a c) {numbers : List ℕ} {heard :
   abbrev all : List Record
   all = all_records c ++ seal.records a c h o s t e
 
+  -- and the words behind them
+  abbrev words : List ℕ
+  words = words_with c (seal.records a c h o s t e)
+
   left : (view c.g0 a t).graph ≡ serial c.g0 b.sealed
   left = sym (ap (λ x. serial c.g0 (a.sealed ++ option_to_list x)) e ∙ serial-append c.g0 a.sealed t)
 
@@ -48,9 +52,9 @@ module _ (a : Account) (c : Core) (h : Agrees a c) {numbers : List ℕ} {heard :
       let same = ap (λ x. length (a.sealed ++ option_to_list x)) e in
       omega arith
 
-  told : IsTold c.pages c.lowest c.born later (serial c.g0 b.sealed) (c.before + length b.sealed) all (seal.last a c h o s t e)
+  told : IsTold c.pages c.lowest c.born later (serial c.g0 b.sealed) (c.before + length b.sealed) all words (seal.last a c h o s t e)
   told =
-      let Told : Graph → ℕ → Type 0 = λ g k. IsTold c.pages c.lowest c.born later g k all (seal.last a c h o s t e) in
+      let Told : Graph → ℕ → Type 0 = λ g k. IsTold c.pages c.lowest c.born later g k all words (seal.last a c h o s t e) in
       subst (λ (k : ℕ). Told (serial c.g0 b.sealed) k) count (subst (λ (g : Graph). Told g (c.before + length a.sealed + 1)) left (seal.sealed_told a c h o s t e space))
 
   -- those left whose writes may be taken back are active
@@ -58,11 +62,11 @@ module _ (a : Account) (c : Core) (h : Agrees a c) {numbers : List ℕ} {heard :
   losers = each_other (λ q us. IsActive b q) h.behind.undo t.number (λ q us some differs. ended_actives a b s t e refl q differs (h.losers q us some))
 
   -- and each of the others goes on
-  writers : (r : ℕ) → IsWriter later c.g0 b (b.active r) (words c.pages all) (seal.last a c h o s t e)
+  writers : (r : ℕ) → IsWriter later c.g0 b (b.active r) words (seal.last a c h o s t e)
   writers r =
       let last = seal.last a c h o s t e in
-      let P : ℕ → Option Transaction → Type 0 = λ q x. IsWriter later c.g0 b x (words c.pages all) last in
-      each_session P a.active s None tt (λ q other. writer_by later c.g0 b (a.active q) (words c.pages all) last (λ u also.
+      let P : ℕ → Option Transaction → Type 0 = λ q x. IsWriter later c.g0 b x words last in
+      each_session P a.active s None tt (λ q other. writer_by later c.g0 b (a.active q) words last (λ u also.
       let stays = stays_beside a c h o s t e space q u (λ same. other (sym same)) also in
       subst (λ (ws : List ℕ). IsWriting later (view c.g0 b u) u.number (locks_of (serial c.g0 b.sealed) u) ws last) (sym (seal.words_behind a c h o s t e space))
       (subst (λ (g : Graph). IsWriting later (run g u) u.number (locks_of g u) (fold put_record (seal.now a c h o s t e) (seal.promotion a c h o s t e)) last) left stays))) r

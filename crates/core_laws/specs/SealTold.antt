@@ -15,24 +15,23 @@ use Rattle.log_records.specs.declared.Record.{Record}
 use Rattle.log_records.specs.Record.{IsRecord}
 use Rattle.log_machine.specs.declared.UndoEntry.{UndoEntry}
 use Rattle.log_machine.specs.Apart.{others_taken_back}
-use Rattle.log_machine.specs.CommittedLaws.{committed_words_at}
 use Rattle.log_machine.specs.ListLaws.{AllByRecursion-append, AllByRecursion-map}
-use Rattle.log_machine.specs.Machine.{State, start, after_all, words, committed_words, taken_back, all_taken_back, undo_of, put_record, field_at, is_number}
-use Rattle.log_machine.specs.MachineLaws.{after_all-append2, words-append}
+use Rattle.log_machine.specs.Machine.{State, start, after_all, taken_back, all_taken_back, undo_of, put_record, field_at, is_number}
+use Rattle.log_machine.specs.MachineLaws.{after_all-append2}
 use Rattle.log_machine.specs.Sound.{IsSound}
 use Rattle.log_machine.specs.StateLaws.{leads_after_all, room_after_all}
-use Rattle.log_machine.specs.WordsLaws.{length-words}
+use Rattle.log_machine.specs.WordsLaws.{length-put_records}
 use Rattle.volatile_area.specs.Area.{AreaState}
 use Rattle.graph_words.specs.Places.{Places}
 use Rattle.graph_words.specs.Stands.{StandsCommitted, AreNamedByBirth}
 use Rattle.graph_words.specs.StandsBack.{renamed, taken_back_birth}
 use Rattle.graph_words.specs.Promotion.{Field, promoted_need, moves_of, seal_records, promotion_records, promoted_places, sealed_state, written_fields}
 use Rattle.graph_words.specs.PromotionLaws.{CanSeal, seal_stands, seal_births, seal_old, seal_spelled, seal_follows}
-use Rattle.heap_model.specs.Core.{Core, Ground, ground, all_records, area_in, seal_moves, seal_of, seal_need, space_refusal}
+use Rattle.heap_model.specs.Core.{Core, Ground, ground, all_records, all_words, area_in, seal_moves, seal_of, seal_need, space_refusal}
 use Rattle.heap_model.specs.CoreLawsGoes.{told_sound}
 use Rattle.heap_model.specs.CoreTold.{IsTold}
 use Rattle.core_laws.specs.Apart.{own_away, own_apart}
-use Rattle.core_laws.specs.Goes.{writing_of, numbered_as}
+use Rattle.core_laws.specs.Goes.{words_with, writing_of, numbered_as}
 use Rattle.core_laws.specs.OthersLaws.{IsAway, length-others, others_at, others_records, all_ended}
 use Rattle.core_laws.specs.SealWords.{AgreeIn, WriteAt, need_same, moves_same, records_same, fields_written, promotion_writes, own_taken_back, free_away}
 use Rattle.core_laws.specs.Valid.{Agrees}
@@ -59,7 +58,7 @@ module _ (a : Account) (c : Core) (h : Agrees a c) {numbers : List ℕ} {heard :
 
   -- all words
   abbrev pub now : List ℕ
-  now = words c.pages (all_records c)
+  now = all_words c
 
   -- the words as it sees them
   abbrev pub own_words : List ℕ
@@ -149,7 +148,7 @@ module _ (a : Account) (c : Core) (h : Agrees a c) {numbers : List ℕ} {heard :
     pub can : CanSeal c.places seen.graph t.number seen.made own_undo own_words h.behind.base h.behind.used
     can =
         let w = writing_of a c s t e h in
-        let size = length-words c.pages (all_records c) in
+        let size = h.told.size in
         let long = length-others h.behind t.number now in
         let base = h.told.base in
         record {
@@ -169,28 +168,29 @@ module _ (a : Account) (c : Core) (h : Agrees a c) {numbers : List ℕ} {heard :
     reached = after_all-append2 (start c.pages c.lowest) h.behind (all_records c) records h.told.reached ∙ seal_follows h.behind can number (omega (arith, fits, inside))
 
     -- all words are those with the promotion
-    pub words_behind : words c.pages (all_records c ++ records) ≡ fold put_record now promotion
-    words_behind = words-append c.pages (all_records c) records ∙ fold-append put_record now promotion (Commit t.number ∷ [])
+    pub words_behind : words_with c records ≡ fold put_record now promotion
+    words_behind = fold-append put_record now promotion (Commit t.number ∷ [])
 
     -- the committed words behind the seal are those that its transaction sees, with the promotion
     pub settled_words : all_taken_back last (fold put_record now promotion) ≡ settled
     settled_words = all_ended h.behind last t.number (fold put_record now promotion) refl ∙ others_records h.behind t.number now promotion promotion_away
 
-    committed : committed_words c.pages c.lowest (all_records c ++ records) ≡ settled
-    committed = committed_words_at last c.pages c.lowest (all_records c ++ records) reached ∙ ap (all_taken_back last) words_behind ∙ settled_words
+    committed : all_taken_back last (words_with c records) ≡ settled
+    committed = ap (all_taken_back last) words_behind ∙ settled_words
 
     -- where births give the names in the committed words they do so in those that the transaction sees
-    births_seen : AreNamedByBirth c.places (committed_words c.pages c.lowest (all_records c)) → AreNamedByBirth c.places own_words
+    births_seen : AreNamedByBirth c.places (all_taken_back h.behind now) → AreNamedByBirth c.places own_words
     births_seen born =
         let w = writing_of a c s t e h in
-        let back = committed_words_at h.behind c.pages c.lowest (all_records c) h.told.reached ∙ sym (own_taken_back h.behind t.number now sound (own_apart a c h o s t e)) in
+        let back = sym (own_taken_back h.behind t.number now sound (own_apart a c h o s t e)) in
         renamed c.places (taken_back own_undo own_words) own_words (λ at has. sym (taken_back_birth w.stands own_undo w.fields at has)) (subst (AreNamedByBirth c.places) back born)
 
     -- all records tell the graph that it leaves
-    pub sealed_told : IsTold c.pages c.lowest c.born (c.places ++ placed) seen.graph (c.before + length a.sealed + 1) (all_records c ++ records) last
+    pub sealed_told : IsTold c.pages c.lowest c.born (c.places ++ placed) seen.graph (c.before + length a.sealed + 1) (all_records c ++ records) (words_with c records) last
     sealed_told = record {
       good = AllByRecursion-append IsRecord (all_records c) records h.told.good (seal_spelled can number);
       reached = reached;
+      size = length-put_records records now ∙ h.told.size;
       count = let count = h.told.count in omega arith;
       base = h.told.base;
       stands = subst (λ ws. StandsCommitted (c.places ++ placed) seen.graph ws h.behind.base (h.behind.used + asked)) (sym committed) (seal_stands can);

@@ -11,11 +11,11 @@ use Rattle.commit_order.specs.Heard.{Heard}
 use Rattle.commit_order.specs.OrderLaws.{IsOrdered}
 use Rattle.log_machine.specs.declared.UndoEntry.{UndoEntry}
 use Rattle.log_machine.specs.Apart.{IsApart, AreApart}
-use Rattle.log_machine.specs.CommittedLaws.{all_taken_back-first, committed_words_at}
-use Rattle.log_machine.specs.Machine.{State, Loser, words, committed_words, taken_back, each_taken_back, undo_in, undo_of}
+use Rattle.log_machine.specs.TakenBackLaws.{all_taken_back-first}
+use Rattle.log_machine.specs.Machine.{State, Loser, taken_back, each_taken_back, all_taken_back, undo_in, undo_of}
 use Rattle.log_machine.specs.MapLaws.{EachEntry, each_remove, get_first, get_removed, get_kept}
 use Rattle.log_machine.specs.Sound.{IsLoser}
-use Rattle.heap_model.specs.Core.{Core, all_records}
+use Rattle.heap_model.specs.Core.{Core, all_words}
 use Rattle.heap_model.specs.CoreLawsGoes.{told_sound}
 use Rattle.core_laws.specs.Apart.{own_apart}
 use Rattle.core_laws.specs.Valid.{Agrees}
@@ -118,9 +118,9 @@ module _ (a : Account) (s : State) (differ : (q r : ℕ) (t u : Transaction) →
   taken_on from zero = λ undo now h. no_losers (entries undo) undo now refl (λ q us there. let one = h.losers q us there in let low = one.low in let high = one.high in absurd (omega arith))
   taken_on from (suc n) = taken_more from n (a.active from) refl (taken_on (from + 1) n)
 
--- The committed words of a core are its words when the writes of each session's transaction are taken back.
+-- The words of a core without the writes of transactions that have not ended are those when the writes of each session's are taken back.
 pub committed_by_session : (a : Account) (c : Core) (h : Agrees a c) {numbers : List ℕ} {heard : Heard} (o : IsOrdered c.g0 numbers a heard)
-    → taken_by (undo_of h.behind) a sessions (words c.pages (all_records c)) ≡ committed_words c.pages c.lowest (all_records c)
+    → taken_by (undo_of h.behind) a sessions (all_words c) ≡ all_taken_back h.behind (all_words c)
 unfolding sessions
 committed_by_session a c h o =
     let s = h.behind in
@@ -135,5 +135,4 @@ committed_by_session a c h o =
       same = λ r t low active. refl;
       apart = λ r t low active. own_apart a c h o r t active;
     } in
-    sym (taken_on a s (λ q r t u other first second. (o.beside q r t u other first second).differ) 1 32 s.undo (words c.pages (all_records c)) all)
-    ∙ sym (committed_words_at s c.pages c.lowest (all_records c) h.told.reached)
+    sym (taken_on a s (λ q r t u other first second. (o.beside q r t u other first second).differ) 1 32 s.undo (all_words c) all)

@@ -44,9 +44,10 @@ use Rattle.graph_model.specs.Transaction.{serial, serial_replies}
 use Rattle.gated_log.specs.Log.{records_of}
 use Rattle.image_plan.specs.declared.superblock.Super.{Super}
 use Rattle.log_records.specs.declared.Record.{Record}
+use Rattle.page_redo.specs.Pages.{Pages}
 use Rattle.commit_order.specs.Heard.{replies_of_commits}
 use Rattle.heap_model.specs.Core.{Core, words_refusal, log_refusal, answer, IsRun}
-use Rattle.heap_model.specs.CoreCrash.{IsOnDisk, IsSuperOf, IsCommitPrefix}
+use Rattle.heap_model.specs.CoreCrash.{IsLogged, IsOnDisk, IsSuperOf, IsCommitPrefix}
 use Rattle.heap_model.specs.Image.{IsShapedLog, IsLegalLog, Holds}
 use Rattle.heap_model.specs.Opening.{next_behind, opened, IsFound}
 use Rattle.graph_words.specs.Places.{Places}
@@ -64,22 +65,24 @@ AnswersTheorem =
 
 -- Each image that holds what a crash leaves of a core keeps its commits, where births give the names. A core that is reached is sound.
 abbrev pub CrashTheorem : Type 0
-CrashTheorem = (c : Core) (s : Super) (batches : List (List Record)) → IsSound c → IsTrue c.born → IsOnDisk c batches → IsSuperOf s c → (image : List ℕ) → Holds s batches image → IsCommitPrefix c image
+CrashTheorem =
+    (c : Core) (s : Super) (batches : List (List Record)) (stored : Pages) → IsSound c → IsTrue c.born → IsLogged c stored → IsOnDisk c batches → IsSuperOf s c
+    → (image : List ℕ) → Holds s batches stored image → IsCommitPrefix c image
 
 -- The calls of each commit had the replies of the serial run, in which the commits follow one another in the order of their seals.
 abbrev pub RepliesTheorem : Type 0
 RepliesTheorem = (c : Core) → IsReached c → replies_of_commits c.history ≡ serial_replies c.g0 (commits c.history)
 
--- What holds of an opening where the log held these batches and this graph stands at these places.
-pub record Opens (s : Super) (batches : List (List Record)) (born : Bool) (places : Places) (g : Graph) : Type 0 where
-  pub reached : IsReached (opened s batches born places g)
-  pub next : (opened s batches born places g).first ≡ next_behind s.first (records_of batches)  -- the number of the next transaction
+-- What holds of an opening where the log held these batches, the pages were stored so, and this graph stands at these places.
+pub record Opens (s : Super) (batches : List (List Record)) (stored : Pages) (born : Bool) (places : Places) (g : Graph) : Type 0 where
+  pub reached : IsReached (opened s batches stored born places g)
+  pub next : (opened s batches stored born places g).first ≡ next_behind s.first (records_of batches)  -- the number of the next transaction
 
 -- A heap that is opened on any shaped log goes on, under any names of its objects.
 abbrev pub OpeningTheorem : Type 0
 OpeningTheorem =
-    (s : Super) (batches : List (List Record)) (shaped : IsShapedLog s batches) (born : Bool) (places : Places) (g : Graph)
-    → IsFound s batches shaped born places g → Opens s batches born places g
+    (s : Super) (batches : List (List Record)) (stored : Pages) (shaped : IsShapedLog s batches stored) (born : Bool) (places : Places) (g : Graph)
+    → IsFound s batches stored shaped born places g → Opens s batches stored born places g
 
 -- A core d goes on where a crash left the first k commits of c since its opening, and all that was acknowledged is among them.
 pub record GoesOnFrom (c : Core) (k : ℕ) (d : Core) : Type 0 where
@@ -92,6 +95,6 @@ pub record GoesOnFrom (c : Core) (k : ℕ) (d : Core) : Type 0 where
 -- A heap that is opened again on what a crash left of a core goes on from its first commits. So it may crash and go on any number of times.
 abbrev pub AgainTheorem : Type 0
 AgainTheorem =
-    (c : Core) (s : Super) (batches : List (List Record)) (places : Places) (g : Graph) → IsReached c → IsTrue c.born → IsSuperOf s c → IsOnDisk c batches
-    → (legal : IsLegalLog s batches) → IsFound s batches legal.shaped true places g
-    → (k : ℕ) × GoesOnFrom c k (opened s batches true places g)
+    (c : Core) (s : Super) (batches : List (List Record)) (stored : Pages) (places : Places) (g : Graph) → IsReached c → IsTrue c.born → IsLogged c stored → IsSuperOf s c → IsOnDisk c batches
+    → (legal : IsLegalLog s batches stored) → IsFound s batches stored legal.shaped true places g
+    → (k : ℕ) × GoesOnFrom c k (opened s batches stored true places g)

@@ -1,6 +1,6 @@
 -- Records that tell a graph, with one event's records more, where other transactions have writes of other fields.
-use Rattle.std.proofs.Common.{◌≡◌, ℕ, ◌+◌, ◌<◌, Bool, true, max, List, [], ◌∷◌, ◌++◌, length, Some, sym, subst, arith, get_or, ◌∙◌, refl, ◌≤◌, Option, None, ap}
-use Rattle.std.specs.Prelude.{slice_index_or}
+use Rattle.std.proofs.Common.{◌≡◌, ℕ, ◌+◌, ◌<◌, Bool, true, max, List, [], ◌∷◌, ◌++◌, length, Some, sym, subst, arith, get_or, ◌∙◌, refl, ◌≤◌, Option, None, ap, length-set}
+use Rattle.std.specs.Prelude.{slice_index_or, fold}
 use Rattle.std.specs.FinMap.{get, entries}
 use Rattle.graph_model.specs.declared.id.Id.{Id}
 use Rattle.graph_model.specs.declared.val.Val.{Val}
@@ -10,10 +10,11 @@ use Rattle.log_records.specs.Record.{IsRecord}
 use Rattle.log_records.specs.declared.Record.{Record}
 use Rattle.log_machine.specs.AbortLaws.{abort_reaches, abort_good}
 use Rattle.log_machine.specs.Apart.{IsApart, others_taken_back}
-use Rattle.log_machine.specs.CommittedLaws.{committed_words-Update, committed_words-abort}
+use Rattle.log_machine.specs.TakenBackLaws.{taken_back-Update, taken_back-abort}
 use Rattle.log_machine.specs.ListLaws.{AllByRecursion-append}
-use Rattle.log_machine.specs.Machine.{all_taken_back, each_taken_back, State, start, after_all, words, committed_words, field_at, with_word, undo_of, with_entries, is_number, turned, abort_records}
-use Rattle.log_machine.specs.MachineLaws.{after_all-append, after_all-append2, words-append, number_small, inside_from, after-Update}
+use Rattle.log_machine.specs.Machine.{State, start, after_all, put_record, all_taken_back, each_taken_back, field_at, undo_of, with_entries, is_number, turned, abort_records}
+use Rattle.log_machine.specs.MachineLaws.{after_all-append, after_all-append2, number_small, inside_from, after-Update}
+use Rattle.log_machine.specs.WordsLaws.{length-put_records}
 use Rattle.log_machine.specs.MapLaws.{remove_absent}
 use Rattle.log_machine.specs.Sound.{IsSound}
 use Rattle.log_machine.specs.StateLaws.{can_roll_back, all_spelled}
@@ -46,19 +47,23 @@ others_all s t now none = ap (λ m. each_taken_back (entries m) now) (remove_abs
 
 -- A write of a value into field i of an object that stands at an address, with the field's value before it, by transaction t: no other
 -- transaction has written that field.
-pub record IsWriteAt (pages lowest : ℕ) (born : Bool) (places : Places) (base g : Graph) (k t made : ℕ) (records : List Record) (state : State) (id : Id) (at i : ℕ) (v : Val) : Type 0 where
-  pub told : IsTold pages lowest born places base k records state
+pub record IsWriteAt (pages lowest : ℕ) (born : Bool) (places : Places) (base g : Graph) (k t made : ℕ) (records : List Record) (now : List ℕ) (state : State) (id : Id) (at i : ℕ) (v : Val) : Type 0 where
+  pub told : IsTold pages lowest born places base k records now state
   pub number : is_number t ≡ true
   pub apart : IsApart state t (entry_of places g id at i ∷ undo_of state t)
-  pub stands : Stands t made places g (others_taken_back state t (words pages records)) state.base state.used
+  pub stands : Stands t made places g (others_taken_back state t now) state.base state.used
   pub has : HasMade places g t made
   pub place : address_of places id ≡ Some at
   pub within : i < length (fields g id)
   pub seen : IsVisible places t made v
-  pub was : get_or (words pages records) (field_at at i) 0 ≡ word_in places g (slice_index_or (fields g id) i Null)
+  pub was : get_or now (field_at at i) 0 ≡ word_in places g (slice_index_or (fields g id) i Null)
 
-module _ (pages lowest : ℕ) (born : Bool) (places : Places) (base g : Graph) (k t made : ℕ) (records : List Record) (state : State) (id : Id) (at i : ℕ) (v : Val)
-    (w : IsWriteAt pages lowest born places base g k t made records state id at i v) where
+module _ (pages lowest : ℕ) (born : Bool) (places : Places) (base g : Graph) (k t made : ℕ) (records : List Record) (now : List ℕ) (state : State) (id : Id) (at i : ℕ) (v : Val)
+    (w : IsWriteAt pages lowest born places base g k t made records now state id at i v) where
+  -- the words with it
+  abbrev pub written_words : List ℕ
+  written_words = put_record now (update_of places g t id at i v)
+
   reached : after_all (start pages lowest) (records ++ update_of places g t id at i v ∷ []) ≡ Some (written state t (entry_of places g id at i))
   reached =
       let lies = stands_within w.stands id at w.place in
@@ -68,14 +73,8 @@ module _ (pages lowest : ℕ) (born : Bool) (places : Places) (base g : Graph) (
       after_all-append (start pages lowest) state records (update_of places g t id at i v) w.told.reached
       ∙ after-Update state t at i (word_in places g (slice_index_or (fields g id) i Null)) (word_in places g v) w.number inside
 
-  committed : committed_words pages lowest (records ++ update_of places g t id at i v ∷ []) ≡ committed_words pages lowest records
-  committed =
-      let lies = stands_within w.stands id at w.place in
-      let above = lies.above in
-      let below = stands_field_within w.stands id at i w.place w.within in
-      let inside = inside_from state (entry_of places g id at i) (record { above = omega arith; below = omega arith }) in
-      committed_words-Update state pages lowest records t at i (word_in places g (slice_index_or (fields g id) i Null)) (word_in places g v) w.told.reached (told_sound w.told)
-      w.number inside w.was w.apart
+  committed : all_taken_back (written state t (entry_of places g id at i)) written_words ≡ all_taken_back state now
+  committed = taken_back-Update state now t at i (word_in places g (slice_index_or (fields g id) i Null)) (word_in places g v) (told_sound w.told) w.was w.apart
 
   spelled : IsRecord (update_of places g t id at i v)
   spelled =
@@ -94,10 +93,11 @@ module _ (pages lowest : ℕ) (born : Bool) (places : Places) (base g : Graph) (
       }
 
   -- the records tell the same graph with it
-  pub write_told : IsTold pages lowest born places base k (records ++ update_of places g t id at i v ∷ []) (written state t (entry_of places g id at i))
+  pub write_told : IsTold pages lowest born places base k (records ++ update_of places g t id at i v ∷ []) written_words (written state t (entry_of places g id at i))
   write_told = record {
     good = AllByRecursion-append IsRecord records (update_of places g t id at i v ∷ []) w.told.good (spelled, tt);
     reached = reached;
+    size = length-set now (field_at at i) (word_in places g v) ∙ w.told.size;
     count = let count = w.told.count in omega arith;
     base = w.told.base;
     stands = subst (λ ws. StandsCommitted places base ws state.base state.used) (sym committed) w.told.stands;
@@ -105,23 +105,20 @@ module _ (pages lowest : ℕ) (born : Bool) (places : Places) (base g : Graph) (
     births = λ by_birth. subst (AreNamedByBirth places) (sym committed) (w.told.births by_birth);
   }
 
-  -- and its words are those with the word written
-  pub write_words : words pages (records ++ update_of places g t id at i v ∷ []) ≡ with_word (words pages records) at i (word_in places g v)
-  write_words = words-append pages records (update_of places g t id at i v ∷ [])
-
 -- An abort.
 
-module _ (pages lowest : ℕ) (born : Bool) (places : Places) (g : Graph) (k t : ℕ) (records : List Record) (state : State) (told : IsTold pages lowest born places g k records state)
+module _ (pages lowest : ℕ) (born : Bool) (places : Places) (g : Graph) (k t : ℕ) (records : List Record) (now : List ℕ) (state : State) (told : IsTold pages lowest born places g k records now state)
     (number : is_number t ≡ true) (apart : IsApart state t (undo_of state t)) where
   -- A transaction is taken back and leaves nothing: the records tell the same graph.
-  pub abort_told : IsTold pages lowest born places g k (records ++ abort_records t (undo_of state t)) (turned state t (with_entries state.undo t []) 0)
+  pub abort_told : IsTold pages lowest born places g k (records ++ abort_records t (undo_of state t)) (fold put_record now (abort_records t (undo_of state t))) (turned state t (with_entries state.undo t []) 0)
   abort_told =
       let small = number_small t number in
       let can = can_roll_back pages lowest state records told.good told.reached in
-      let same = committed_words-abort state pages lowest records t told.reached (told_sound told) number apart in
+      let same = taken_back-abort state now t (told_sound told) apart in
       record {
         good = AllByRecursion-append IsRecord records (abort_records t (undo_of state t)) told.good (abort_good t (undo_of state t) (omega arith) (all_spelled state.undo t can.entries));
         reached = after_all-append2 (start pages lowest) state records (abort_records t (undo_of state t)) told.reached ∙ abort_reaches state t number can.sound;
+        size = length-put_records (abort_records t (undo_of state t)) now ∙ told.size;
         count = let count = told.count in omega arith;
         base = told.base;
         stands = subst (λ ws. StandsCommitted places g ws state.base state.used) (sym same) told.stands;

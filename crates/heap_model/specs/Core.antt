@@ -1,5 +1,5 @@
 -- The core: what each event is answered, and the state that it leaves.
-use Rattle.std.specs.Prelude.{◌≡◌, ◌⊎◌, ℕ, ◌+◌, ◌-◌, ◌*◌, ◌<◌, nat_lt, Bool, List, [], ◌∷◌, ◌++◌, length, Option, None, Some, slice_index_or, sum_by, if◌then◌else◌}
+use Rattle.std.specs.Prelude.{◌≡◌, ◌⊎◌, ℕ, ◌+◌, ◌-◌, ◌*◌, ◌<◌, nat_lt, Bool, List, [], ◌∷◌, ◌++◌, length, fold, Option, None, Some, slice_index_or, sum_by, if◌then◌else◌}
 use Rattle.graph_model.specs.declared.id.Id.{Id}
 use Rattle.graph_model.specs.declared.val.Val.{Val}
 use Rattle.graph_model.specs.declared.val.Val.TheVariants.{Null, Int}
@@ -18,7 +18,7 @@ use Rattle.log_records.specs.declared.Record.{Record}
 use Rattle.log_records.specs.declared.Record.TheVariants.{Update}
 use Rattle.log_records.specs.Record.{spellings}
 use Rattle.log_machine.specs.declared.UndoEntry.{UndoEntry}
-use Rattle.log_machine.specs.Machine.{State, start, after_all, words, undo_of, undo_bytes, abort_records}
+use Rattle.log_machine.specs.Machine.{State, start, after_all, put_record, undo_of, undo_bytes, abort_records}
 use Rattle.gated_log.specs.Log.{records_of, batches_bytes, pending_batch}
 use Rattle.heap_words.specs.declared.Word.{Word}
 use Rattle.heap_words.specs.declared.Word.TheVariants.{Stable}
@@ -38,6 +38,7 @@ pub record Core : Type 0 where
   pub before : ℕ  -- how many commits the log had at the opening
   pub history : List Entry  -- the events since then and their replies
   pub batches : List (List Record)  -- the log's batches on the disk
+  pub words : List ℕ  -- the words of both spaces behind these
   pub pending : List Record  -- the records behind them that wait to be forced
   pub places : Places  -- the objects that stand in the current space behind all of these, with their addresses
 
@@ -48,6 +49,10 @@ next_number c = c.first + (account c.history).begun
 -- the records on the disk and those that wait
 abbrev pub all_records : Core → List Record
 all_records c = records_of c.batches ++ c.pending
+
+-- the words behind all of them
+abbrev pub all_words : Core → List ℕ
+all_words c = fold put_record c.words c.pending
 
 -- what records say of a core's heap, if they follow one another
 abbrev pub state_behind : Core → List Record → Option State
@@ -73,7 +78,7 @@ pub record Ground : Type 0 where
   pub state : Option State
 
 abbrev pub ground : Core → Ground
-ground c = record { places = c.places; words = words c.pages (all_records c); state = state_behind c (all_records c) }
+ground c = record { places = c.places; words = all_words c; state = state_behind c (all_records c) }
 
 -- the area of a transaction that sees this
 abbrev pub area_in : Places → View → ℕ → AreaState
@@ -211,7 +216,7 @@ with_entry c event reply = record c { history = c.history ++ record { event = ev
 -- all that waits is on the disk, as one batch
 abbrev pub forced : Core → List Record → Core
 forced c [] = c
-forced c (r ∷ rs) = record c { batches = c.batches ++ (r ∷ rs) ∷ []; pending = [] }
+forced c (r ∷ rs) = record c { batches = c.batches ++ (r ∷ rs) ∷ []; words = fold put_record c.words (r ∷ rs); pending = [] }
 
 -- what an event that is granted does
 abbrev pub done : Core → Event → Core

@@ -5,10 +5,18 @@ use Rattle.graph_model.specs.History.{commits, acknowledged}
 use Rattle.image_plan.specs.declared.superblock.Super.{Super}
 use Rattle.image_plan.specs.Super.{IsSuper}
 use Rattle.log_records.specs.declared.Record.{Record}
-use Rattle.gated_log.specs.Log.{with_batch}
+use Rattle.gated_log.specs.Log.{with_batch, records_of}
+use Rattle.log_machine.specs.Machine.{words}
+use Rattle.page_redo.specs.Pages.{Pages}
+use Rattle.page_redo.specs.Prefix.{EachHoldsPrefix}
 use Rattle.heap_model.specs.Core.{Core}
 use Rattle.heap_model.specs.Image.{StandsFor}
 use Rattle.heap_model.specs.Opening.{next_of}
+
+-- A core's words are those that its log leaves, and each page that is stored beside it holds as many of its records as its LSN says.
+pub record IsLogged (c : Core) (stored : Pages) : Type 0 where
+  pub words : c.words ≡ words c.pages (records_of c.batches)
+  pub prefixes : EachHoldsPrefix c.pages (records_of c.batches) stored
 
 -- The disk holds the batches that were forced, or those that wait as one more.
 abbrev pub IsOnDisk : Core → List (List Record) → Type 0

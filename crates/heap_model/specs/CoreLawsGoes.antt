@@ -13,7 +13,7 @@ use Rattle.heap_model.specs.CoreTold.{IsTold}
 -- What the active transaction wrote and what is kept for it.
 
 -- a state that records reach is sound
-pub told_sound : {pages lowest : ℕ} {born : Bool} {places : Places} {g : Graph} {k : ℕ} {records : List Record} {state : State} → IsTold pages lowest born places g k records state → IsSound state
+pub told_sound : {pages lowest : ℕ} {born : Bool} {places : Places} {g : Graph} {k : ℕ} {records : List Record} {words : List ℕ} {state : State} → IsTold pages lowest born places g k records words state → IsSound state
 told_sound {pages} {lowest} {records = records} {state = state} told = sound_after_all (start pages lowest) state records (sound_start pages lowest) told.reached
 
 -- Another history, or more records that wait.

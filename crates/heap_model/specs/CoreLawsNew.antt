@@ -11,9 +11,12 @@ use Rattle.graph_model.specs.GraphLaws.{get-insert_same, get-insert_other, same_
 use Rattle.graph_model.specs.RootGraph.{fields-root_graph}
 use Rattle.image_plan.specs.declared.superblock.Super.{Super}
 use Rattle.image_plan.specs.Super.{IsSuper}
-use Rattle.log_machine.specs.Machine.{start, words_in}
-use Rattle.log_machine.specs.CommittedLaws.{committed_words-settled}
+use Rattle.log_machine.specs.Machine.{start, words_in, first_contents}
+use Rattle.log_machine.specs.TakenBackLaws.{taken_back-settled}
 use Rattle.log_machine.specs.ReserveLaws.{reserve-start}
+use Rattle.page_redo.specs.Pages.{first_pages}
+use Rattle.page_redo.specs.PrefixLaws.{first_pages-prefixes}
+use Rattle.page_redo.specs.RedoLaws.{EachLacks-prefixes}
 use Rattle.object_layout.specs.RootLaws.{StandsAlone, root_object, root_field_words}
 use Rattle.graph_words.specs.Places.{Places, address_of, place_of, IsVisible}
 use Rattle.graph_words.specs.PlacesLaws.{address_of-cases}
@@ -87,30 +90,42 @@ root_placed id there = elim (same_or_other id root) [
 ]
 
 module _ (s : Super) (limits : IsSuper s) where
-  new_words : words_of s [] ≡ root_words (replicate (words_in s.pages - 6) 0)
+  new_words : words_of s [] (first_pages s.pages) ≡ root_words (replicate (words_in s.pages - 6) 0)
   new_words =
       let some = limits.some_pages in
-      committed_words-settled (start s.pages s.first) s.pages s.first [] refl refl ∙ some_zeros (words_in s.pages) (words_in s.pages - 6) (omega arith)
+      taken_back-settled (start s.pages s.first) (first_contents s.pages) refl ∙ some_zeros (words_in s.pages) (words_in s.pages - 6) (omega arith)
 
   -- the root stands alone in the words of an empty log
-  pub new_stand : StandsCommitted root_place new_graph (words_of s []) 0 6
+  pub new_stand : StandsCommitted root_place new_graph (words_of s [] (first_pages s.pages)) 0 6
   new_stand = subst (λ ws. StandsCommitted root_place new_graph ws 0 6) (sym new_words) (new_stands (replicate (words_in s.pages - 6) 0))
 
   -- where its birth gives its name
-  pub new_births : AreNamedByBirth root_place (words_of s [])
+  pub new_births : AreNamedByBirth root_place (words_of s [] (first_pages s.pages))
   new_births = subst (AreNamedByBirth root_place) (sym new_words) (refl, tt)
 
-  -- an empty log is legal
-  abbrev pub new_legal : IsLegalLog s []
+  -- an empty log is legal beside pages that were never stored
+  abbrev pub new_legal : IsLegalLog s [] (first_pages s.pages)
   new_legal =
       let some = limits.some_log in
       let none = reserve-start s.pages s.first in
+      let prefixes = first_pages-prefixes s.pages [] in
       record {
-        shaped = record { limits = limits; good = tt; state = start s.pages s.first; reached = refl; room = omega arith; walked = stands_walked new_stand };
+        shaped = record {
+          limits = limits;
+          good = tt;
+          state = start s.pages s.first;
+          reached = refl;
+          room = omega arith;
+          size = prefixes.size;
+          lsns_size = prefixes.lsns_size;
+          behind = EachLacks-prefixes s.pages [] (first_pages s.pages) prefixes;
+          walked = stands_walked new_stand;
+        };
+        prefixes = prefixes;
         own_births = stands_own_births new_stand new_births;
         born_before = stands_born_before new_stand new_births s.first (inl refl, tt);
       }
 
   -- the root is found in it
-  pub new_found : IsFound s [] new_legal.shaped true root_place new_graph
+  pub new_found : IsFound s [] (first_pages s.pages) new_legal.shaped true root_place new_graph
   new_found = record { stands = new_stand; placed = root_placed; old = (inl refl, tt); births = λ by_birth. new_births }

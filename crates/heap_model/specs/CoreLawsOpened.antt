@@ -7,6 +7,7 @@ use Rattle.log_records.specs.declared.Record.{Record}
 use Rattle.log_machine.specs.Machine.{State, start, after, after_all, number_of, commits}
 use Rattle.log_machine.specs.StateLaws.{turns, leads_after_all, room_after_all}
 use Rattle.gated_log.specs.Log.{records_of}
+use Rattle.page_redo.specs.Pages.{Pages}
 use Rattle.object_layout.specs.Layout.{id_at}
 use Rattle.object_layout.specs.WalkedLaws.{gathered}
 use Rattle.graph_words.specs.Places.{Places, named_places, address_name}
@@ -29,29 +30,29 @@ next_all s x (r ∷ rs) is = option_and_then_some (λ next. after_all next rs) (
     next_all next x rs rest ∙ ap (λ n. next_behind n rs) (sym (next_after s next r first)))
 
 -- a transaction begun behind an opening has the greater of the heap's first number and one more than the greatest in the log
-pub next_pinned : (s : Super) (batches : List (List Record)) → IsShapedLog s batches → next_of s batches ≡ next_behind s.first (records_of batches)
-next_pinned s batches shaped = next_is s batches shaped ∙ next_all (start s.pages s.first) shaped.state (records_of batches) shaped.reached
+pub next_pinned : (s : Super) (batches : List (List Record)) (stored : Pages) → IsShapedLog s batches stored → next_of s batches ≡ next_behind s.first (records_of batches)
+next_pinned s batches stored shaped = next_is s batches stored shaped ∙ next_all (start s.pages s.first) shaped.state (records_of batches) shaped.reached
 
 -- What a legal log says.
 
-module _ (s : Super) (batches : List (List Record)) (legal : IsLegalLog s batches) (g : Graph) (shows : Shows s batches legal g) where
+module _ (s : Super) (batches : List (List Record)) (stored : Pages) (legal : IsLegalLog s batches stored) (g : Graph) (shows : Shows s batches stored legal g) where
   -- the log that was found says the graph
-  pub found_says : Says g (commits (records_of batches)) s batches
+  pub found_says : Says g (commits (records_of batches)) s batches stored
   found_says = record { legal = legal; seen = g; shows = shows; graph = refl; count = refl }
 
   -- so does the one behind the opening
-  pub left_says : Says g (commits (records_of batches)) s (rolled_back s batches)
-  left_says = rolled_says g (commits (records_of batches)) s batches found_says
+  pub left_says : Says g (commits (records_of batches)) s (rolled_back s batches) stored
+  left_says = rolled_says g (commits (records_of batches)) s batches stored found_says
 
 -- what a graph that stands under the names of births is said of
-pub says_found : (s : Super) (batches : List (List Record)) (legal : IsLegalLog s batches) (places : Places) (g : Graph) → IsFound s batches legal.shaped true places g → SaysOn g s batches
-says_found s batches legal places g found =
+pub says_found : (s : Super) (batches : List (List Record)) (stored : Pages) (legal : IsLegalLog s batches stored) (places : Places) (g : Graph) → IsFound s batches stored legal.shaped true places g → SaysOn g s batches stored
+says_found s batches stored legal places g found =
     let shows = stands_seen found.stands (found.births refl) in
-    record { found = found_says s batches legal g shows; left = left_says s batches legal g shows }
+    record { found = found_says s batches stored legal g shows; left = left_says s batches stored legal g shows }
 
 -- the words of both spaces end below the greatest address
-used_below : (s : Super) (batches : List (List Record)) (shaped : IsShapedLog s batches) → shaped.state.base + shaped.state.used ≤ 2097152
-used_below s batches shaped =
+used_below : (s : Super) (batches : List (List Record)) (stored : Pages) (shaped : IsShapedLog s batches stored) → shaped.state.base + shaped.state.used ≤ 2097152
+used_below s batches stored shaped =
     let room = room_after_all s.pages s.first shaped.state (records_of batches) shaped.limits.some_pages shaped.reached in
     let base = room.1 in
     let used = room.3 in
@@ -59,9 +60,9 @@ used_below s batches shaped =
     omega arith
 
 -- In what a shaped log leaves a graph stands under names by address, so each heap that is opened is a core.
-pub address_found : (s : Super) (batches : List (List Record)) (shaped : IsShapedLog s batches) → (places : Places) × (g : Graph) × IsFound s batches shaped false places g
-address_found s batches shaped =
-    let words = words_of s batches in
+pub address_found : (s : Super) (batches : List (List Record)) (stored : Pages) (shaped : IsShapedLog s batches stored) → (places : Places) × (g : Graph) × IsFound s batches stored shaped false places g
+address_found s batches stored shaped =
+    let words = words_of s batches stored in
     let base = shaped.state.base in
     let used = shaped.state.used in
     let grows = (leads_after_all (start s.pages s.first) shaped.state (records_of batches) shaped.reached).grows in
@@ -69,7 +70,7 @@ address_found s batches shaped =
       named_places (address_name base) shaped.walked.starts,
       gathered (address_name base) words shaped.walked.starts,
       record {
-        stands = walked_stands_by_address words base used shaped.walked (used_below s batches shaped);
+        stands = walked_stands_by_address words base used shaped.walked (used_below s batches stored shaped);
         placed = gathered_placed (address_name base) words shaped.walked.starts (address_name-KeepApart words base used shaped.walked);
         old = address_name-AreOld words base used shaped.walked shaped.state.next (omega arith);
         births = λ by_birth. cc;
@@ -78,30 +79,30 @@ address_found s batches shaped =
 
 -- A legal log says the graph of its objects, under the names of their births.
 pub saying_law : SayingTheorem
-saying_law s batches legal g shows =
+saying_law s batches stored legal g shows =
     let shaped = legal.shaped in
-    let words = words_of s batches in
+    let words = words_of s batches stored in
     let places = named_places (id_at words) shaped.walked.starts in
-    let stands = walked_stands_by_birth words shaped.state.base shaped.state.used shaped.walked (used_below s batches shaped) legal.own_births in
+    let stands = walked_stands_by_birth words shaped.state.base shaped.state.used shaped.walked (used_below s batches stored shaped) legal.own_births in
     let h = gathered (id_at words) words shaped.walked.starts in
-    let found : IsFound s batches shaped true places h = record {
+    let found : IsFound s batches stored shaped true places h = record {
       stands = stands;
       placed = gathered_placed (id_at words) words shaped.walked.starts (id_at-KeepApart words shaped.walked.starts legal.own_births);
       old = id_at-AreOld words shaped.state.base shaped.state.used shaped.walked shaped.state.next legal.born_before;
       births = λ by_birth. id_at-AreNamedByBirth words shaped.walked.starts;
     } in
-    (places, h, found, sym (stands_canon stands (id_at words) g shows), says_found s batches legal places h found)
+    (places, h, found, sym (stands_canon stands (id_at words) g shows), says_found s batches stored legal places h found)
 
-module _ (s : Super) (batches : List (List Record)) (legal : IsLegalLog s batches) (places : Places) (g : Graph) (found : IsFound s batches legal.shaped true places g) where
-  none_since : (log : List (List Record)) → Says g (commits (records_of batches)) s log → Says g (commits (records_of batches) + 0) s log
+module _ (s : Super) (batches : List (List Record)) (stored : Pages) (legal : IsLegalLog s batches stored) (places : Places) (g : Graph) (found : IsFound s batches stored legal.shaped true places g) where
+  none_since : (log : List (List Record)) → Says g (commits (records_of batches)) s log stored → Says g (commits (records_of batches) + 0) s log stored
   none_since log says = record { legal = says.legal; seen = says.seen; shows = says.shows; graph = says.graph; count = omega (arith, says.count) }
 
   -- an image of the log that was found or of the one behind the opening keeps all commits, wherever the opening was stopped
-  pub opened_keeps : (image : List ℕ) → Holds s batches image ⊎ Holds s (rolled_back s batches) image → IsCommitPrefix (opened s batches true places g) image
+  pub opened_keeps : (image : List ℕ) → Holds s batches stored image ⊎ Holds s (rolled_back s batches) stored image → IsCommitPrefix (opened s batches stored true places g) image
   opened_keeps image (inl held) = (
     0,
     record {
-      stands = record { super = s; batches = batches; says = none_since batches (says_found s batches legal places g found).found; held = held };
+      stands = record { super = s; batches = batches; stored = stored; says = none_since batches (says_found s batches stored legal places g found).found; held = held };
       of = record { limits = legal.shaped.limits; pages = refl; room = refl; first = refl };
       next = omega arith;
       kept = omega arith;
@@ -111,9 +112,18 @@ module _ (s : Super) (batches : List (List Record)) (legal : IsLegalLog s batche
   opened_keeps image (inr held) = (
     0,
     record {
-      stands = record { super = s; batches = rolled_back s batches; says = none_since (rolled_back s batches) (says_found s batches legal places g found).left; held = held };
+      stands = record {
+        super = s;
+        batches = rolled_back s batches;
+        stored = stored;
+        says = none_since (rolled_back s batches) (says_found s batches stored legal places g found).left;
+        held = held;
+      };
       of = record { limits = legal.shaped.limits; pages = refl; room = refl; first = refl };
-      next = let one = next_is s batches legal.shaped in let other = next_is s (rolled_back s batches) (rolled_shaped s batches legal.shaped) in omega arith;
+      next =
+          let one = next_is s batches stored legal.shaped in
+          let other = next_is s (rolled_back s batches) stored (rolled_shaped s batches stored legal.shaped) in
+          omega arith;
       kept = omega arith;
       some = omega arith;
     },

@@ -1,28 +1,33 @@
 -- Laws of an opening: the batches behind it are a legal log that says the same graph and commits, and the core that it opens is reached.
-use Rattle.std.proofs.Common.{◌≡◌, ℕ, ◌+◌, ◌≤◌, List, [], ◌∷◌, ◌++◌, length, Some, refl, sym, ap, ◌∙◌, subst, arith}
+use Rattle.std.proofs.Common.{◌≡◌, ℕ, ◌+◌, ◌≤◌, List, [], ◌∷◌, ◌++◌, length, length-append, Some, refl, sym, ap, ◌∙◌, subst, arith}
 use Rattle.std.specs.List.{AllByRecursion}
-use Rattle.std.specs.Prelude.{sum_by}
+use Rattle.std.specs.Prelude.{sum_by, fold, Option}
 use Rattle.graph_model.specs.Graph.{Graph}
 use Rattle.image_plan.specs.declared.superblock.Super.{Super}
 use Rattle.log_records.specs.declared.Record.{Record}
 use Rattle.log_records.specs.Record.{spellings, IsRecord}
 use Rattle.log_machine.specs.declared.UndoEntry.{UndoEntry}
-use Rattle.log_machine.specs.Machine.{State, Loser, start, after_all, words, committed_words, commits, losing, abort_each, rollback, reserve, undo_bytes}
+use Rattle.log_machine.specs.Machine.{State, Loser, start, after_all, put_record, words_in, all_taken_back, each_taken_back, losing_in, commits, losing, abort_each, rollback, reserve, undo_bytes}
 use Rattle.log_machine.specs.ListLaws.{AllByRecursion-append}
 use Rattle.log_machine.specs.MapLaws.{entries_empty}
 use Rattle.log_machine.specs.MachineLaws.{after_all-append2, commits-append}
 use Rattle.log_machine.specs.StateLaws.{can_roll_back}
 use Rattle.log_machine.specs.Sound.{CanRollBack}
-use Rattle.log_machine.specs.AbortLaws.{settled, rollback_reaches, rollback_commits, rollback_fits, rollback_good}
-use Rattle.log_machine.specs.CommittedLaws.{committed_words-rollback}
+use Rattle.log_machine.specs.AbortLaws.{settled, rollback_reaches, rollback_words, rollback_commits, rollback_fits, rollback_good}
+use Rattle.log_machine.specs.TakenBackLaws.{taken_back-rollback}
+use Rattle.page_redo.specs.Pages.{Pages}
+use Rattle.page_redo.specs.Prefix.{EachHoldsPrefix}
+use Rattle.page_redo.specs.PrefixLaws.{EachHoldsPrefix-append}
+use Rattle.page_redo.specs.Redo.{EachLacks, redone}
+use Rattle.page_redo.specs.RedoLaws.{EachLacks-later, redone_words-append, length-redone}
 use Rattle.gated_log.specs.Log.{batches_bytes, records_of}
 use Rattle.object_layout.specs.Layout.{IsSeen}
 use Rattle.object_layout.specs.Walk.{IsWalked, HaveOwnBirths, AreBornBefore}
 use Rattle.heap_model.specs.Core.{need}
 use Rattle.heap_model.specs.CoreLawsRoom.{records_of-with_batch, length-with_batch}
 use Rattle.heap_model.specs.CoreLawsRoom.{length-pending_batch-append}
-use Rattle.heap_model.specs.Image.{words_of, IsShapedLog, IsLegalLog, Shows, Says}
-use Rattle.heap_model.specs.Opening.{rollback_in, rollback_of, rolled_back, next_in, next_of}
+use Rattle.heap_model.specs.Image.{redone_words, words_of, IsShapedLog, IsLegalLog, Shows, Says}
+use Rattle.heap_model.specs.Opening.{rollback_in, rollback_of, rolled_back, rolled_words, next_in, next_of}
 
 need_most : (rs : List Record) → need [] rs ≤ length (spellings rs) + 5
 need_most [] = omega arith
@@ -46,7 +51,7 @@ settled_reserve s = ap (λ (es : List Loser). sum_by (λ e. undo_bytes e.1) es) 
 
 -- The batches behind an opening.
 
-module _ (s : Super) (batches : List (List Record)) (shaped : IsShapedLog s batches) where
+module _ (s : Super) (batches : List (List Record)) (stored : Pages) (shaped : IsShapedLog s batches stored) where
   abbrev rs : List Record
   rs = records_of batches
 
@@ -74,10 +79,41 @@ module _ (s : Super) (batches : List (List Record)) (shaped : IsShapedLog s batc
       ∙ after_all-append2 (start s.pages s.first) shaped.state rs taken shaped.reached
       ∙ rollback_reaches shaped.state can.sound
 
-  -- and no others are to be taken from these
-  pub words_of-rolled_back : words_of s (rolled_back s batches) ≡ words_of s batches
+  now : List ℕ
+  now = redone_words batches stored
+
+  -- the words without the writes of transactions that have not ended, where the state is known
+  pub words_of-is : words_of s batches stored ≡ all_taken_back shaped.state now
+  words_of-is = ap (λ (o : Option State). each_taken_back (losing_in o) now) shaped.reached
+
+  -- the words behind the opening are these
+  pub rolled_words-is : rolled_words s batches stored ≡ words_of s batches stored
+  rolled_words-is = ap (fold put_record now) rollback_is ∙ rollback_words shaped.state now ∙ sym words_of-is
+
+  -- redone on the pages, the log behind the opening gives them too
+  pub redone_words-rolled_back : redone_words (rolled_back s batches) stored ≡ rolled_words s batches stored
+  redone_words-rolled_back =
+      ap (λ (l : List Record). (redone stored l).words) rolled_records
+      ∙ redone_words-append stored rs taken shaped.behind
+      ∙ ap (fold put_record now) (sym rollback_is)
+
+  -- and no writes are to be taken back from it any more
+  pub words_of-rolled_back : words_of s (rolled_back s batches) stored ≡ words_of s batches stored
   words_of-rolled_back =
-      ap (λ (l : List Record). committed_words s.pages s.first l) rolled_records ∙ committed_words-rollback shaped.state s.pages s.first rs shaped.reached can.sound
+      ap (λ (o : Option State). each_taken_back (losing_in o) (redone_words (rolled_back s batches) stored)) rolled_reached
+      ∙ ap (all_taken_back (settled shaped.state)) (redone_words-rolled_back ∙ ap (fold put_record now) rollback_is)
+      ∙ taken_back-rollback shaped.state now
+      ∙ sym words_of-is
+
+  -- there are as many as both spaces have
+  pub length-rolled_words : length (rolled_words s batches stored) ≡ words_in s.pages
+  length-rolled_words = ap length (sym redone_words-rolled_back) ∙ length-redone stored (records_of (rolled_back s batches)) ∙ shaped.size
+
+  -- no page is ahead of the log behind the opening
+  rolled_behind : EachLacks (length (records_of (rolled_back s batches)) + 1) stored
+  rolled_behind =
+      let more : length (records_of (rolled_back s batches)) ≡ length rs + length taken = ap length rolled_records ∙ length-append rs taken in
+      EachLacks-later (length rs + 1) (length (records_of (rolled_back s batches)) + 1) stored (omega (arith, more)) shaped.behind
 
   -- the commits stay
   pub rolled_commits : commits (records_of (rolled_back s batches)) ≡ commits (records_of batches)
@@ -106,11 +142,11 @@ module _ (s : Super) (batches : List (List Record)) (shaped : IsShapedLog s batc
       let fits = rolled_fits in
       omega arith
 
-  pub rolled_walked : IsWalked (words_of s (rolled_back s batches)) shaped.state.base shaped.state.used
+  pub rolled_walked : IsWalked (words_of s (rolled_back s batches) stored) shaped.state.base shaped.state.used
   rolled_walked = subst (λ ws. IsWalked ws shaped.state.base shaped.state.used) (sym words_of-rolled_back) shaped.walked
 
   -- so they are a shaped log
-  abbrev pub rolled_shaped : IsShapedLog s (rolled_back s batches)
+  abbrev pub rolled_shaped : IsShapedLog s (rolled_back s batches) stored
   rolled_shaped =
       let room = rolled_room in
       let none = settled_reserve shaped.state in
@@ -120,6 +156,9 @@ module _ (s : Super) (batches : List (List Record)) (shaped : IsShapedLog s batc
         state = settled shaped.state;
         reached = rolled_reached;
         room = omega arith;
+        size = shaped.size;
+        lsns_size = shaped.lsns_size;
+        behind = rolled_behind;
         walked = rolled_walked;
       }
 
@@ -127,30 +166,46 @@ module _ (s : Super) (batches : List (List Record)) (shaped : IsShapedLog s batc
 abbrev Walks : State → List ℕ → Type 0
 Walks state words = (walked : IsWalked words state.base state.used) × HaveOwnBirths words walked.starts × AreBornBefore state.next words state.base walked.starts
 
-module _ (s : Super) (batches : List (List Record)) (legal : IsLegalLog s batches) where
-  pub rolled_walks : Walks (settled legal.shaped.state) (words_of s (rolled_back s batches))
-  rolled_walks = subst (Walks (settled legal.shaped.state)) (sym (words_of-rolled_back s batches legal.shaped)) (legal.shaped.walked, legal.own_births, legal.born_before)
+module _ (s : Super) (batches : List (List Record)) (stored : Pages) (legal : IsLegalLog s batches stored) where
+  pub rolled_walks : Walks (settled legal.shaped.state) (words_of s (rolled_back s batches) stored)
+  rolled_walks = subst (Walks (settled legal.shaped.state)) (sym (words_of-rolled_back s batches stored legal.shaped)) (legal.shaped.walked, legal.own_births, legal.born_before)
+
+  rolled_prefixes : EachHoldsPrefix s.pages (records_of (rolled_back s batches)) stored
+  rolled_prefixes =
+      subst (λ (l : List Record). EachHoldsPrefix s.pages l stored) (sym (rolled_records s batches stored legal.shaped))
+      (EachHoldsPrefix-append s.pages (records_of batches) (rollback legal.shaped.state) stored legal.prefixes)
 
   -- the batches behind an opening of a legal log are a legal log
-  abbrev pub rolled_legal : IsLegalLog s (rolled_back s batches)
+  abbrev pub rolled_legal : IsLegalLog s (rolled_back s batches) stored
   rolled_legal =
-      let shaped = rolled_shaped s batches legal.shaped in
+      let shaped = rolled_shaped s batches stored legal.shaped in
       record {
-        shaped = record { limits = shaped.limits; good = shaped.good; state = shaped.state; reached = shaped.reached; room = shaped.room; walked = rolled_walks.0 };
+        shaped = record {
+          limits = shaped.limits;
+          good = shaped.good;
+          state = shaped.state;
+          reached = shaped.reached;
+          room = shaped.room;
+          size = shaped.size;
+          lsns_size = shaped.lsns_size;
+          behind = shaped.behind;
+          walked = rolled_walks.0;
+        };
+        prefixes = rolled_prefixes;
         own_births = rolled_walks.1;
         born_before = rolled_walks.2;
       }
 
   -- in which the same graphs are seen
-  pub rolled_shows : (g : Graph) → Shows s batches legal g → Shows s (rolled_back s batches) rolled_legal g
-  rolled_shows g shows = subst (λ ws. IsSeen ws legal.shaped.state.base g) (sym (words_of-rolled_back s batches legal.shaped)) shows
+  pub rolled_shows : (g : Graph) → Shows s batches stored legal g → Shows s (rolled_back s batches) stored rolled_legal g
+  rolled_shows g shows = subst (λ ws. IsSeen ws legal.shaped.state.base g) (sym (words_of-rolled_back s batches stored legal.shaped)) shows
 
 -- behind an opening a log says what it said
-pub rolled_says : (g : Graph) (k : ℕ) (s : Super) (batches : List (List Record)) → Says g k s batches → Says g k s (rolled_back s batches)
-rolled_says g k s batches says = record {
-  legal = rolled_legal s batches says.legal;
+pub rolled_says : (g : Graph) (k : ℕ) (s : Super) (batches : List (List Record)) (stored : Pages) → Says g k s batches stored → Says g k s (rolled_back s batches) stored
+rolled_says g k s batches stored says = record {
+  legal = rolled_legal s batches stored says.legal;
   seen = says.seen;
-  shows = rolled_shows s batches says.legal says.seen says.shows;
+  shows = rolled_shows s batches stored says.legal says.seen says.shows;
   graph = says.graph;
-  count = rolled_commits s batches says.legal.shaped ∙ says.count;
+  count = rolled_commits s batches stored says.legal.shaped ∙ says.count;
 }

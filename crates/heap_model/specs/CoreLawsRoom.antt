@@ -1,6 +1,6 @@
 -- Laws of the log's room: what records take, and when the log has room for an event.
 use Rattle.std.proofs.Common.{◌≡◌, sym, ℕ, ◌+◌, ◌≤◌, Bool, true, false, cond, List, [], ◌∷◌, ◌++◌, length, Some, None, refl, ap, ◌∙◌, arith, length-append}
-use Rattle.std.specs.Prelude.{nat_lt}
+use Rattle.std.specs.Prelude.{nat_lt, fold}
 use Rattle.std.specs.Int.{w32, to_le_bytes}
 use Rattle.std.proofs.lemmas.Bool.{le-ltb, ltb-false}
 use Rattle.std.proofs.lemmas.List.{append-nil}
@@ -9,11 +9,11 @@ use Rattle.graph_model.specs.declared.reply.Refusal.{Refusal}
 use Rattle.graph_model.specs.declared.reply.Refusal.TheVariants.{LogFull}
 use Rattle.log_records.specs.declared.Record.{Record}
 use Rattle.log_machine.specs.declared.UndoEntry.{UndoEntry}
-use Rattle.log_machine.specs.Machine.{abort_records, undo_bytes}
+use Rattle.log_machine.specs.Machine.{put_record, abort_records, undo_bytes}
 use Rattle.log_machine.specs.AbortLaws.{abort_length}
 use Rattle.log_records.specs.Record.{spelling, spellings}
 use Rattle.gated_log.specs.Log.{framed, batch, batches_bytes, records_of, pending_batch, with_batch}
-use Rattle.heap_model.specs.Core.{Core, need, full_log, forced}
+use Rattle.heap_model.specs.Core.{Core, all_words, need, full_log, forced}
 
 -- the records of batches with one more
 pub records_of-append : (bs : List (List Record)) (b : List Record) → records_of (bs ++ b ∷ []) ≡ records_of bs ++ b
@@ -74,12 +74,12 @@ need-abort_records [] t (u ∷ us) = omega (arith, abort_length t (u ∷ us))
 need-abort_records (p ∷ ps) t [] = omega (arith, abort_length t [])
 need-abort_records (p ∷ ps) t (u ∷ us) = omega (arith, abort_length t (u ∷ us))
 
-force_batch : (c : Core) (p : List Record) → c.pending ≡ p → forced c p ≡ record c { batches = with_batch c.batches p; pending = [] }
+force_batch : (c : Core) (p : List Record) → c.pending ≡ p → forced c p ≡ record c { batches = with_batch c.batches p; words = fold put_record c.words p; pending = [] }
 force_batch c [] e = ap (λ (q : List Record). record c { pending = q }) e
 force_batch c (r ∷ rs) e = refl
 
 -- what a force leaves
-pub forced-with_batch : (c : Core) → forced c c.pending ≡ record c { batches = with_batch c.batches c.pending; pending = [] }
+pub forced-with_batch : (c : Core) → forced c c.pending ≡ record c { batches = with_batch c.batches c.pending; words = all_words c; pending = [] }
 forced-with_batch c = force_batch c c.pending refl
 
 -- the records of batches with those that wait

@@ -1,25 +1,26 @@
--- When records tell a graph and a number of commits, and what an active transaction has at hand.
-use Rattle.std.specs.Prelude.{◌≡◌, ℕ, ◌<◌, ◌≤◌, IsTrue, Bool, List, Option, Some, MatchOption}
+-- When records and words tell a graph and a number of commits, and what an active transaction has at hand.
+use Rattle.std.specs.Prelude.{◌≡◌, ℕ, ◌<◌, ◌≤◌, IsTrue, Bool, List, length, Option, Some, MatchOption}
 use Rattle.std.specs.List.{AllByRecursion}
 use Rattle.graph_model.specs.declared.id.Id.{Id}
 use Rattle.graph_model.specs.Graph.{Graph}
 use Rattle.graph_model.specs.Transaction.{Transaction}
 use Rattle.log_records.specs.declared.Record.{Record}
 use Rattle.log_records.specs.Record.{IsRecord}
-use Rattle.log_machine.specs.Machine.{State, committed_words, start, after_all}
+use Rattle.log_machine.specs.Machine.{State, words_in, all_taken_back, start, after_all}
 use Rattle.graph_words.specs.Places.{Places, IsAtHand, AreOld}
 use Rattle.graph_words.specs.Stands.{StandsCommitted, AreNamedByBirth}
 
--- Records tell a graph: k transactions are committed and have left it, and it stands at these places in the words without the writes of
--- transactions that have not ended.
-pub record IsTold (pages lowest : ℕ) (born : Bool) (places : Places) (g : Graph) (k : ℕ) (records : List Record) (state : State) : Type 0 where
+-- Records and the words behind them tell a graph: k transactions are committed and have left it, and it stands at these places in the words
+-- without the writes of transactions that have not ended.
+pub record IsTold (pages lowest : ℕ) (born : Bool) (places : Places) (g : Graph) (k : ℕ) (records : List Record) (words : List ℕ) (state : State) : Type 0 where
   pub good : AllByRecursion IsRecord records  -- each of them has a spelling
   pub reached : after_all (start pages lowest) records ≡ Some state  -- each of them follows those before it
+  pub size : length words ≡ words_in pages  -- there are as many as both spaces have
   pub count : state.commits ≡ k
   pub base : state.base ≡ 0
-  pub stands : StandsCommitted places g (committed_words pages lowest records) state.base state.used
+  pub stands : StandsCommitted places g (all_taken_back state words) state.base state.used
   pub old : AreOld state.next places
-  pub births : IsTrue born → AreNamedByBirth places (committed_words pages lowest records)
+  pub births : IsTrue born → AreNamedByBirth places (all_taken_back state words)
 
 -- a handle holds an object at hand, or nothing
 abbrev pub HoldsAtHand : Places → ℕ → ℕ → Option Id → Type 0

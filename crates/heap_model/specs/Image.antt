@@ -1,65 +1,79 @@
--- What an image of a disk stands for: its log says a graph and a number of commits, and the disk holds that log.
-use Rattle.std.specs.Prelude.{◌≡◌, ◌≢◌, ℕ, ◌+◌, ◌*◌, ◌<◌, ◌≤◌, List, length, take, slice_index, Some}
+-- What an image of a disk stands for: its log, redone on its pages, says a graph and a number of commits, and the disk holds both.
+use Rattle.std.specs.Prelude.{◌≡◌, ℕ, ◌+◌, ◌≤◌, List, length, take, Some}
 use Rattle.std.specs.List.{AllByRecursion}
 use Rattle.disk_model.specs.Disk.{part}
 use Rattle.graph_model.specs.Graph.{Graph}
 use Rattle.graph_model.specs.Canon.{canon}
 use Rattle.image_plan.specs.declared.superblock.Super.{Super}
 use Rattle.log_records.specs.declared.Record.{Record}
-use Rattle.image_plan.specs.Plan.{log_offset, image_size, frame_offset}
+use Rattle.image_plan.specs.Plan.{log_offset, image_size}
 use Rattle.image_plan.specs.Super.{IsSuper, superblock}
 use Rattle.log_records.specs.Record.{IsRecord}
-use Rattle.log_machine.specs.Machine.{State, start, after_all, committed_words, commits, reserve}
+use Rattle.log_machine.specs.Machine.{State, words_in, start, after_all, each_taken_back, losing_in, commits, reserve}
+use Rattle.page_redo.specs.Pages.{Pages, pages_in}
+use Rattle.page_redo.specs.Redo.{EachLacks, redone}
+use Rattle.page_redo.specs.Prefix.{EachHoldsPrefix}
+use Rattle.page_cache.specs.Stored.{stored_pages}
 use Rattle.object_layout.specs.Layout.{IsSeen}
 use Rattle.object_layout.specs.Walk.{IsWalked, HaveOwnBirths, AreBornBefore}
 use Rattle.gated_log.specs.Log.{HoldsBatches, batches_bytes, records_of}
 
--- the words that these batches leave in a heap with these numbers, without the writes of transactions that have not ended
-abbrev pub words_of : Super → List (List Record) → List ℕ
-words_of s batches = committed_words s.pages s.first (records_of batches)
+-- the words when each record of these batches is redone on the stored pages that lack it
+abbrev pub redone_words : List (List Record) → Pages → List ℕ
+redone_words batches stored = (redone stored (records_of batches)).words
 
--- What a shaped log of a heap with these numbers says: its records follow one another; the log has room for those that take back
--- what transactions wrote that have not ended; and without these writes the used words are objects that refer to one another.
-pub record IsShapedLog (s : Super) (batches : List (List Record)) : Type 0 where
+-- and then the writes of transactions that have not ended are taken back
+abbrev pub words_of : Super → List (List Record) → Pages → List ℕ
+words_of s batches stored = each_taken_back (losing_in (after_all (start s.pages s.first) (records_of batches))) (redone_words batches stored)
+
+-- What a shaped log of a heap with these numbers says beside stored pages: its records follow one another; it has room for those that
+-- take back what transactions wrote that have not ended; no page is ahead of it; and when it is redone on the pages, and these writes are
+-- taken back, the used words are objects that refer to one another.
+pub record IsShapedLog (s : Super) (batches : List (List Record)) (stored : Pages) : Type 0 where
   pub limits : IsSuper s
   pub good : AllByRecursion IsRecord (records_of batches)
   pub state : State
   pub reached : after_all (start s.pages s.first) (records_of batches) ≡ Some state
   pub room : length (batches_bytes batches) + 1 + reserve state ≤ s.log_bytes
-  pub walked : IsWalked (words_of s batches) state.base state.used
+  pub size : length stored.words ≡ words_in s.pages
+  pub lsns_size : length stored.lsns ≡ pages_in s.pages
+  pub behind : EachLacks (length (records_of batches) + 1) stored
+  pub walked : IsWalked (words_of s batches stored) state.base state.used
 
--- A legal log: a shaped one in which births differ and come from transactions below the next one. An opening does not look at births.
-pub record IsLegalLog (s : Super) (batches : List (List Record)) : Type 0 where
-  pub shaped : IsShapedLog s batches
-  pub own_births : HaveOwnBirths (words_of s batches) shaped.walked.starts
-  pub born_before : AreBornBefore shaped.state.next (words_of s batches) shaped.state.base shaped.walked.starts
+-- A legal log: a shaped one beside pages that each hold the effects of as many of its records as their LSN says, in which births differ and
+-- come from transactions below the next one. An opening does not look at births, nor at what pages hold.
+pub record IsLegalLog (s : Super) (batches : List (List Record)) (stored : Pages) : Type 0 where
+  pub shaped : IsShapedLog s batches stored
+  pub prefixes : EachHoldsPrefix s.pages (records_of batches) stored
+  pub own_births : HaveOwnBirths (words_of s batches stored) shaped.walked.starts
+  pub born_before : AreBornBefore shaped.state.next (words_of s batches stored) shaped.state.base shaped.walked.starts
 
--- A disk's image holds the heap with these numbers, whose log holds these batches, and no page has been stored.
-pub record Holds (s : Super) (batches : List (List Record)) (image : List ℕ) : Type 0 where
+-- A disk's image holds the heap with these numbers, whose log holds these batches, and whose pages were stored so.
+pub record Holds (s : Super) (batches : List (List Record)) (stored : Pages) (image : List ℕ) : Type 0 where
   pub size : image_size s.pages s.log_bytes ≤ length image
   pub super : take 64 image ≡ superblock s
   pub log : HoldsBatches (part image log_offset s.log_bytes) batches
-  pub frames : (p f : ℕ) → p < 2 * s.pages → f < 2 → slice_index image (frame_offset s.log_bytes p f) ≢ 1
+  pub pages : stored_pages s.pages s.log_bytes image ≡ stored
 
 -- A shaped image: it holds a log, and that is shaped.
-pub record IsShaped (s : Super) (batches : List (List Record)) (image : List ℕ) : Type 0 where
-  pub log : IsShapedLog s batches
-  pub held : Holds s batches image
+pub record IsShaped (s : Super) (batches : List (List Record)) (stored : Pages) (image : List ℕ) : Type 0 where
+  pub log : IsShapedLog s batches stored
+  pub held : Holds s batches stored image
 
 -- A legal image: it holds a log, and that is legal. Of what is opened on a disk that tells nothing no more is known than that a log is shaped.
-pub record IsLegal (s : Super) (batches : List (List Record)) (image : List ℕ) : Type 0 where
-  pub log : IsLegalLog s batches
-  pub held : Holds s batches image
+pub record IsLegal (s : Super) (batches : List (List Record)) (stored : Pages) (image : List ℕ) : Type 0 where
+  pub log : IsLegalLog s batches stored
+  pub held : Holds s batches stored image
 
--- a graph is seen in what these batches leave
-abbrev pub Shows : (s : Super) (batches : List (List Record)) → IsLegalLog s batches → Graph → Type 0
-Shows s batches legal g = IsSeen (words_of s batches) legal.shaped.state.base g
+-- a graph is seen in what these batches leave of the pages
+abbrev pub Shows : (s : Super) (batches : List (List Record)) (stored : Pages) → IsLegalLog s batches stored → Graph → Type 0
+Shows s batches stored legal g = IsSeen (words_of s batches stored) legal.shaped.state.base g
 
 -- A legal log says a graph, up to the names of objects, and a number of commits.
-pub record Says (g : Graph) (k : ℕ) (s : Super) (batches : List (List Record)) : Type 0 where
-  pub legal : IsLegalLog s batches
+pub record Says (g : Graph) (k : ℕ) (s : Super) (batches : List (List Record)) (stored : Pages) : Type 0 where
+  pub legal : IsLegalLog s batches stored
   pub seen : Graph
-  pub shows : Shows s batches legal seen
+  pub shows : Shows s batches stored legal seen
   pub graph : canon seen ≡ canon g
   pub count : commits (records_of batches) ≡ k
 
@@ -67,9 +81,10 @@ pub record Says (g : Graph) (k : ℕ) (s : Super) (batches : List (List Record))
 pub record StandsFor (g : Graph) (k : ℕ) (image : List ℕ) : Type 0 where
   pub super : Super
   pub batches : List (List Record)
-  pub says : Says g k super batches
-  pub held : Holds super batches image
+  pub stored : Pages
+  pub says : Says g k super batches stored
+  pub held : Holds super batches stored image
 
 -- a legal image is shaped
-abbrev pub shaped_image : {s : Super} {batches : List (List Record)} {image : List ℕ} → IsLegal s batches image → IsShaped s batches image
+abbrev pub shaped_image : {s : Super} {batches : List (List Record)} {stored : Pages} {image : List ℕ} → IsLegal s batches stored image → IsShaped s batches stored image
 shaped_image legal = record { log = legal.log.shaped; held = legal.held }

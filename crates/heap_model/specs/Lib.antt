@@ -8,6 +8,7 @@ pub mod CoreLawsGrow
 pub mod CoreLawsHandles
 pub mod CoreLawsHeld
 pub mod CoreLawsLegal
+pub mod CoreLawsLogged
 pub mod CoreLawsNew
 pub mod CoreLawsOneMeaning
 pub mod CoreLawsOpened

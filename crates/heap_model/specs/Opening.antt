@@ -4,11 +4,12 @@ use Rattle.graph_model.specs.Graph.{Graph}
 use Rattle.image_plan.specs.declared.superblock.Super.{Super}
 use Rattle.log_records.specs.declared.Record.{Record}
 use Rattle.gated_log.specs.Log.{records_of, with_batch}
-use Rattle.log_machine.specs.Machine.{State, start, after_all, number_of, commits, rollback}
+use Rattle.log_machine.specs.Machine.{State, start, after_all, put_record, number_of, commits, rollback}
+use Rattle.page_redo.specs.Pages.{Pages}
 use Rattle.graph_words.specs.Places.{Places, AreOld}
 use Rattle.graph_words.specs.Stands.{StandsCommitted, ArePlaced, AreNamedByBirth}
 use Rattle.heap_model.specs.Core.{Core, force_calls}
-use Rattle.heap_model.specs.Image.{words_of, IsShapedLog, Holds}
+use Rattle.heap_model.specs.Image.{redone_words, words_of, IsShapedLog, Holds}
 
 -- what the records of these batches say
 abbrev pub state_of : Super → List (List Record) → Option State
@@ -25,6 +26,10 @@ rollback_of s batches = rollback_in (state_of s batches)
 -- the batches behind an opening
 abbrev pub rolled_back : Super → List (List Record) → List (List Record)
 rolled_back s batches = with_batch batches (rollback_of s batches)
+
+-- the words behind an opening
+abbrev pub rolled_words : Super → List (List Record) → Pages → List ℕ
+rolled_words s batches stored = fold put_record (redone_words batches stored) (rollback_of s batches)
 
 -- the writes and syncs of an opening
 abbrev pub opening_calls : Super → List (List Record) → ℕ
@@ -50,9 +55,10 @@ next_of s batches = next_in (state_of s batches)
 abbrev pub next_behind : ℕ → List Record → ℕ
 next_behind first records = fold (λ n rec. max n (number_of rec + 1)) first records
 
--- The core of a heap just opened, where the log held these batches and this graph stands in the words at these places.
-abbrev pub opened : Super → List (List Record) → Bool → Places → Graph → Core
-opened s batches born places g =
+-- The core of a heap just opened, where the log held these batches, its pages were stored so, and this graph stands in the words at these
+-- places.
+abbrev pub opened : Super → List (List Record) → Pages → Bool → Places → Graph → Core
+opened s batches stored born places g =
     record {
       pages = s.pages;
       room = s.log_bytes;
@@ -63,18 +69,19 @@ opened s batches born places g =
       before = commits (records_of batches);
       history = [];
       batches = rolled_back s batches;
+      words = rolled_words s batches stored;
       pending = [];
       places = places;
     }
 
 -- A graph stands in what a shaped log leaves, and each of its objects at one of these places; no name of theirs is one that a transaction
 -- to come can give. Where births give the names, `born` says so.
-pub record IsFound (s : Super) (batches : List (List Record)) (shaped : IsShapedLog s batches) (born : Bool) (places : Places) (g : Graph) : Type 0 where
-  pub stands : StandsCommitted places g (words_of s batches) shaped.state.base shaped.state.used
+pub record IsFound (s : Super) (batches : List (List Record)) (stored : Pages) (shaped : IsShapedLog s batches stored) (born : Bool) (places : Places) (g : Graph) : Type 0 where
+  pub stands : StandsCommitted places g (words_of s batches stored) shaped.state.base shaped.state.used
   pub placed : ArePlaced places g
   pub old : AreOld shaped.state.next places
-  pub births : IsTrue born → AreNamedByBirth places (words_of s batches)
+  pub births : IsTrue born → AreNamedByBirth places (words_of s batches stored)
 
--- An opening of this log leaves an image of it, or of the log behind the opening.
-abbrev pub IsLeftByOpening : Super → List (List Record) → List ℕ → Type 0
-IsLeftByOpening s batches image = Holds s batches image ⊎ Holds s (rolled_back s batches) image
+-- An opening of this log leaves an image of it, or of the log behind the opening, beside the same pages.
+abbrev pub IsLeftByOpening : Super → List (List Record) → Pages → List ℕ → Type 0
+IsLeftByOpening s batches stored image = Holds s batches stored image ⊎ Holds s (rolled_back s batches) stored image

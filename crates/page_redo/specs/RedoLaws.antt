@@ -111,12 +111,16 @@ EachLacks-redo_all lsn at rs lacking p = elim (cases_lt p (length at.lsns)) [
 pub EachLacks-redone : (records : List Record) (stored : Pages) → EachLacks (length records + 1) stored → EachLacks (length records + 1) (redone stored records)
 EachLacks-redone records stored lacking p = omega (arith, EachLacks-redo_all 0 stored records (λ q. omega (arith, lacking q)) p)
 
--- each of the present pages lacks the next record
-pub EachLacks-present : (pages : ℕ) (records : List Record) (at : Pages) → IsPresent pages records at → EachLacks (length records + 1) at
-EachLacks-present pages records at is p = elim (cases_lt p (length at.lsns)) [
-  | inl lt ↦ omega (arith, (is.prefixes.each p (omega (arith, is.prefixes.lsns_size))).reached)
+-- each of the pages that may stand beside records lacks the next one
+pub EachLacks-prefixes : (pages : ℕ) (records : List Record) (at : Pages) → EachHoldsPrefix pages records at → EachLacks (length records + 1) at
+EachLacks-prefixes pages records at is p = elim (cases_lt p (length at.lsns)) [
+  | inl lt ↦ omega (arith, (is.each p (omega (arith, is.lsns_size))).reached)
   | inr past ↦ omega (arith, get_or_past at.lsns p 0 past)
 ]
+
+-- so does each of the present pages
+pub EachLacks-present : (pages : ℕ) (records : List Record) (at : Pages) → IsPresent pages records at → EachLacks (length records + 1) at
+EachLacks-present pages records at is = EachLacks-prefixes pages records at is.prefixes
 
 -- redo is repeated without an effect
 pub redone-redone : (pages : ℕ) (records : List Record) (stored : Pages) → EachHoldsPrefix pages records stored → redone (redone stored records) records ≡ redone stored records
