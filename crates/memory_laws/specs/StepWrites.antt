@@ -21,7 +21,7 @@ use Rattle.graph_model.specs.PlainLaws.{call_reply-done}
 use Rattle.heap_words.specs.Word.{bits}
 use Rattle.log_records.specs.declared.Record.TheVariants.{Update}
 use Rattle.log_machine.specs.declared.UndoEntry.{UndoEntry}
-use Rattle.log_machine.specs.Machine.{State, words, undo_of}
+use Rattle.log_machine.specs.Machine.{State, undo_of}
 use Rattle.log_machine.specs.MachineLaws.{undo_with as machine_undo_with}
 use Rattle.object_locks.specs.declared.holding.Mode.TheVariants as locked
 use Rattle.txn_table.specs.declared.place.Place.{Place}
@@ -30,7 +30,7 @@ use Rattle.txn_table.specs.Table.{TransactionState}
 use Rattle.graph_words.specs.MadeLaws.{own_apart}
 use Rattle.graph_words.specs.Places.{IsOwn, IsVisible, address_of, index_of, place_of, bits_of}
 use Rattle.graph_words.specs.PlacesLaws.{some_address}
-use Rattle.heap_model.specs.Core.{Core, ground, all_records, view_records, call_records, event_records, core_refusal}
+use Rattle.heap_model.specs.Core.{Core, ground, all_records, all_words, view_records, call_records, event_records, core_refusal}
 use Rattle.core_laws.specs.Apart.{apart_with, free_shared, word_now}
 use Rattle.core_laws.specs.Goes.{writing_of, numbered_as}
 use Rattle.core_laws.specs.OthersLaws.{undo_other}
@@ -72,7 +72,7 @@ module _ (m n : Memory) (c : Core) (valid : IsValid c) (runs : RunsLocked c.g0 c
 
   -- all words
   abbrev now : List ℕ
-  now = words c.pages (all_records c)
+  now = all_words c
 
   -- a write that is not refused is of a field
   written_field : (o : Option TransactionState) (p : Place) (i : ℕ) → write_refusal_of m o p i ≡ None → field_refusal (length (fields_held m o (Ok p))) i ≡ None
