@@ -30,7 +30,7 @@ use Rattle.heap_recovery.specs.declared.at.At.{At}
 use Rattle.heap_recovery.specs.declared.at.At.TheVariants.{Batch, Rec, Reserve, Page, Address}
 use Rattle.heap_recovery.specs.declared.error.RecoverError.{RecoverError}
 use Rattle.heap_recovery.specs.declared.error.RecoverError.TheVariants.{NoMemory, NotHeap, Damaged, Disk}
-use Rattle.heap_recovery.specs.Faults.{HasSuper, IsNoHeap, HoldsLog, IsReplayed, IsReadable, IsFaultAt, IsToldOf, IsErrorOrOutside, IsLogLeft}
+use Rattle.heap_recovery.specs.Faults.{HasSuper, IsNoHeap, HoldsLog, IsReplayed, IsReadable, IsFaultAt, IsToldOf, IsErrorOrOutside, ComesBeforeWrites, IsLogLeft}
 
 -- What an image holds is one thing.
 
@@ -154,6 +154,17 @@ readable_fault s batches state image (Rec lsn) readable fault = absurd (replayed
 readable_fault s batches state image Reserve readable fault = absurd (readable_room s batches state image readable fault)
 readable_fault s batches state image (Page page) readable fault = absurd fault
 readable_fault s batches state image (Address address) readable fault = (address, refl, readable_walk s batches state image address readable fault)
+
+-- it is some heap's
+pub readable_heap : (s : Super) (batches : List (List Record)) (state : State) (image : List ℕ) → IsReadable s batches state image → IsNoHeap image → ⊥
+readable_heap s batches state image readable none = none s readable.replayed.log.super
+
+-- and has no fault that comes before writes
+pub readable_late : (s : Super) (batches : List (List Record)) (state : State) (image : List ℕ) (at : At) → IsReadable s batches state image → IsFaultAt at image → ComesBeforeWrites (Damaged at) → ⊥
+readable_late s batches state image at readable fault before =
+    let found = readable_fault s batches state image at readable fault in
+    let P : At → Type 0 = λ x. ComesBeforeWrites (Damaged x) in
+    subst P found.1 before
 
 -- a walk that passes leaves none
 pub walked_whole : (s : Super) (batches : List (List Record)) (state : State) (image : List ℕ) (at : At) → IsReadable s batches state image → IsWalked (words_of s batches) state.base state.used → IsFaultAt at image → ⊥

@@ -60,6 +60,9 @@ pub fn recover<D: Disk>(alloc: Global, disk: &mut D) -> Result<Recovered, Recove
     ensures not_heap { IsTrue D.tells → IsNoHeap (D.bytes disk.old) → IsErrAnd result (IsErrorOrOutside NotHeap) }
     ensures damaged { IsTrue D.tells → (at : At) → IsFaultAt at (D.bytes disk.old) → IsErrAnd result (IsErrorOrOutside (Damaged at)) }
     ensures left_alone { IfErr result (λ e. ComesBeforeWrites e → OnlyReads D.Disk disk.old disk.new (open_device result)) }
+    // An image with a fault that comes before writes is only read, whatever the end: the first stop of its disk doesn't come here.
+    ensures reads_not_heap { IsTrue D.tells → IsNoHeap (D.bytes disk.old) → OnlyReads D.Disk disk.old disk.new (open_device result) }
+    ensures reads_damaged { IsTrue D.tells → (at : At) → IsFaultAt at (D.bytes disk.old) → ComesBeforeWrites (Damaged at) → OnlyReads D.Disk disk.old disk.new (open_device result) }
 
     // A crash at any moment leaves an image with the same log, or that log rolled back; where it is wrong, with the same fault.
     ensures moments_readable { IsTrue D.tells → Only (D.bytes disk.old) (D.may_leave disk.old) → (s : Super) (batches : List (List Record)) (state : State) → IsReadable s batches state (D.bytes disk.old) → LeavesOnly D.moment D.left_since disk.old disk.new (IsLogLeft s batches) }

@@ -7,7 +7,7 @@ use Rattle.heap_model.specs.CoreLawsHeld.{held_with}
 use Rattle.heap_model.specs.Opening.{opening_calls, rolled_back}
 use Rattle.heap_recovery.proofs.Opening.{error_passes, only_still, held, outside_log, rolled_held, recovered, opened_shaped, shaped_walk, no_fault, ok_outside, if_ok, placed_there, opening_moments}
 use Rattle.heap_recovery.specs.Faults.{IsNoHeap, IsLogLeft}
-use Rattle.heap_recovery.specs.FaultLaws.{told_not_heap, told_damaged}
+use Rattle.heap_recovery.specs.FaultLaws.{readable_heap, readable_late, told_not_heap, told_damaged}
 use Rattle.heap_recovery.proofs.Refusals.{not_heap_told, damaged_told, finish_told, walk_told, found_on, still_moments, forced_run, left_readable, left_no_heap, left_damaged}
 use Rattle.heap_recovery.proofs.recovery.recover.Goals as goal
 
@@ -245,3 +245,29 @@ returns-clause-not_heap g c tells none = not_heap_told c.finish.result (g.D.Disk
 
 pub returns-clause-damaged : goal.returns-clause-damaged
 returns-clause-damaged g c tells at fault = damaged_told c.finish.result (g.D.Disk.bytes c.args.disk.now) (returns-clause-refused g c tells) (returns-clause-sound g c tells) at fault
+
+-- An image that reaches the force could be read, so it has no fault that comes before writes.
+
+pub returns-in_err-force-clause-reads_not_heap : goal.returns-in_err-force-clause-reads_not_heap
+returns-in_err-force-clause-reads_not_heap g c tells none =
+    let read = c.in_ok-read.read in
+    let found = c.in_ok-read.ensures.sound tells in
+    absurd (readable_heap read.of found.0 read.state (g.D.Disk.bytes c.args.disk.now) found.2 none)
+
+pub returns-in_err-force-clause-reads_damaged : goal.returns-in_err-force-clause-reads_damaged
+returns-in_err-force-clause-reads_damaged g c tells at fault before =
+    let read = c.in_ok-read.read in
+    let found = c.in_ok-read.ensures.sound tells in
+    absurd (readable_late read.of found.0 read.state (g.D.Disk.bytes c.args.disk.now) at found.2 fault before)
+
+pub returns-clause-reads_not_heap : goal.returns-clause-reads_not_heap
+returns-clause-reads_not_heap g c tells none =
+    let read = c.in_ok-read.read in
+    let found = c.in_ok-read.ensures.sound tells in
+    absurd (readable_heap read.of found.0 read.state (g.D.Disk.bytes c.args.disk.now) found.2 none)
+
+pub returns-clause-reads_damaged : goal.returns-clause-reads_damaged
+returns-clause-reads_damaged g c tells at fault before =
+    let read = c.in_ok-read.read in
+    let found = c.in_ok-read.ensures.sound tells in
+    absurd (readable_late read.of found.0 read.state (g.D.Disk.bytes c.args.disk.now) at found.2 fault before)
