@@ -1,6 +1,6 @@
 -- What an opening reads of a log, and what it leaves.
 use Rattle.std.proofs.Common.{inl, inr, ◌≡◌, ◌≢◌, ◌⊎◌, ⊎_elim, ℕ, ◌+◌, ◌≤◌, List, [], ◌∷◌, ◌++◌, length, take, drop, take-append-drop, Option, None, Some, Result, Ok, Err, refl, sym, ap, ◌∙◌, subst, arith}
-use Rattle.std.specs.Prelude.{option_and_then, IfOk, IfErr, IsOk}
+use Rattle.std.specs.Prelude.{option_and_then, IsFalse, IfOk, IfErr, IsOk}
 use Rattle.std.proofs.lemmas.Option.{option_and_then_some}
 use Rattle.std.proofs.lemmas.Bool.Decides.{nat_tests}
 use Rattle.disk_model.specs.Disk.{part, Only, Narrows, SameOutside}
@@ -12,7 +12,8 @@ use Rattle.gated_log.specs.declared.LogError.TheVariants as logging
 use Rattle.gated_log.specs.Log.{records_of, with_batch, HoldsBatches, batches_bytes}
 use Rattle.gated_log.specs.LogLaws.{buffer_size-Keeps}
 use Rattle.gated_log.specs.LogRoom.{used_bytes}
-use Rattle.gated_log.specs.LogState.{log_place, log_room, log_tail, buffer_size, log_used, log_used_with, IsBufferEmpty, IsSameLog, Keeps}
+use Rattle.gated_log.specs.LogState.{log_place, log_room, log_tail, buffer_size, log_used, log_used_with, log_count, IsBufferEmpty, IsSameLog, Keeps}
+use Rattle.image_plan.specs.declared.plan.Plan.{Plan}
 use Rattle.image_plan.specs.declared.superblock.Super.{Super}
 use Rattle.image_plan.specs.Plan.{log_offset}
 use Rattle.log_records.specs.declared.Record.{Record}
@@ -20,22 +21,28 @@ use Rattle.log_records.specs.Record.{spellings}
 use Rattle.log_machine.specs.declared.replaying.ReplayError.{ReplayError}
 use Rattle.log_machine.specs.declared.replaying.ReplayError.TheVariants as replaying
 use Rattle.log_machine.specs.Replay.{IsFirstUnshaped}
-use Rattle.log_machine.specs.Machine.{State, Loser, after, after_all, losing, words, all_taken_back, rollback, abort_each, reserve}
-use Rattle.log_machine.specs.MachineLaws.{words-append}
+use Rattle.log_machine.specs.Machine.{State, Loser, after, after_all, losing, losing_in, words_in, all_taken_back, each_taken_back, rollback, abort_each, reserve}
 use Rattle.log_machine.specs.StateLaws.{commits-start}
-use Rattle.log_machine.specs.AbortLaws.{rollback_fits, rollback_words}
-use Rattle.log_machine.specs.CommittedLaws.{committed_words_at}
+use Rattle.log_machine.specs.AbortLaws.{rollback_fits}
+use Rattle.page_redo.specs.Pages.{Pages, pages_in}
+use Rattle.page_redo.specs.Redo.{EachLacks, redo_all, redone}
+use Rattle.page_redo.specs.RedoLaws.{redo_all-append, EachLacks-redone}
+use Rattle.page_store.specs.declared.store.PageStore.{PageStore}
+use Rattle.page_store.specs.StoreState.{store_plan, store_log, has_failed, Knows}
+use Rattle.page_store.specs.StoreLaws.{knows_behind_log}
+use Rattle.page_cache.specs.declared.cache.PageCache.{PageCache}
+use Rattle.page_cache.specs.CacheState.{cached, cache_store, cache_failed, cache_pages}
 use Rattle.object_layout.specs.Walk.{IsWalked, IsWalkFault}
 use Rattle.object_layout.specs.WalkLaws.{walked_fault}
 use Rattle.heap_model.specs.CoreLawsRoom.{records_of-with_batch}
 use Rattle.heap_model.specs.CoreLawsHeld.{held_with}
-use Rattle.heap_model.specs.Image.{words_of, IsShapedLog, Holds}
+use Rattle.heap_model.specs.Image.{redone_words, words_of, IsShapedLog, Holds}
 use Rattle.heap_model.specs.Opening.{IsLeftByOpening, rollback_in, rollback_of, rolled_back, used_in, next_in}
 use Rattle.heap_recovery.specs.declared.error.RecoverError.{RecoverError}
 use Rattle.heap_recovery.specs.declared.error.RecoverError.TheVariants.{NoMemory, NotHeap, Damaged, Disk}
 use Rattle.heap_recovery.specs.declared.reading.Reading.{Reading}
 use Rattle.heap_recovery.specs.declared.recovery.Recovered.{Recovered}
-use Rattle.heap_recovery.specs.Recovered.{IsRead, IsRecovered, IsFromOutside, ErrorPasses, OpenPasses, log_error, replay_error}
+use Rattle.heap_recovery.specs.Recovered.{plan_of, IsRedone, IsRead, IsRecovered, IsFromOutside, ErrorPasses, OpenPasses, log_error, replay_error}
 
 -- a log that is not damaged fails by the outside
 pub outside_of : (e : LogError) → ((offset : ℕ) → e ≢ logging.BadBatch offset) → IsFromOutside (log_error e)
@@ -102,7 +109,13 @@ error_passes n before now (Disk e) same outside = record {
   stopped = λ told any. (0, any, same);
 }
 
-module _ (s : Super) (batches : List (List Record)) (read : Reading) (is : IsRead s batches read) where
+-- each page in memory lacks the next record
+pub next_lacks : (of : Plan) (records : List Record) (stored : Pages) (cache : PageCache) (count : ℕ) → IsRedone of records stored cache → count ≡ length records → EachLacks (count + 1) (cached cache)
+next_lacks of records stored cache count is same =
+    subst (λ (n : ℕ). EachLacks (n + 1) (cached cache)) (sym same)
+    (subst (EachLacks (length records + 1)) (sym is.pages) (EachLacks-redone records stored is.behind))
+
+module _ (s : Super) (batches : List (List Record)) (stored : Pages) (read : Reading) (is : IsRead s batches stored read) where
   -- the records that roll back are those of what was read
   pub same_rollback : rollback_of s batches ≡ rollback read.state
   same_rollback = ap rollback_in is.state
@@ -117,7 +130,7 @@ module _ (s : Super) (batches : List (List Record)) (read : Reading) (is : IsRea
   pub held_there : (image now : List ℕ) → HoldsBatches (part image log_offset s.log_bytes) batches → now ≡ image → HoldsBatches (part now (log_place read.log) (log_room read.log)) batches
   held_there image now holds same = to_log (λ n m. HoldsBatches (part now n m) batches) (subst (λ (l : List ℕ). HoldsBatches (part l log_offset s.log_bytes) batches) (sym same) holds)
 
-  pub held : (image now : List ℕ) → Holds s batches image → now ≡ image → HoldsBatches (part now (log_place read.log) (log_room read.log)) batches
+  pub held : (image now : List ℕ) → Holds s batches stored image → now ≡ image → HoldsBatches (part now (log_place read.log) (log_room read.log)) batches
   held image now holds same = held_there image now holds.log same
 
   pub outside_log : (image now new : List ℕ) → now ≡ image → SameOutside (log_place read.log) (log_place read.log + log_room read.log) now new → SameOutside log_offset (log_offset + s.log_bytes) image new
@@ -129,46 +142,62 @@ module _ (s : Super) (batches : List (List Record)) (read : Reading) (is : IsRea
       (in_log (λ n m. HoldsBatches (part new n m) (with_batch batches (rollback read.state))) holds)
 
   -- the words without what is rolled back
-  pub committed : all_taken_back read.state read.words ≡ words_of s batches
-  committed = ap (all_taken_back read.state) is.words ∙ sym (committed_words_at read.state s.pages s.first (records_of batches) is.state)
+  pub committed : all_taken_back read.state (cached read.cache).words ≡ words_of s batches stored
+  committed =
+      ap (λ (pages : Pages). all_taken_back read.state pages.words) is.cache.pages
+      ∙ sym (ap (λ (o : Option State). each_taken_back (losing_in o) (redone_words batches stored)) is.state)
 
-  -- they are the words of all records, with those that roll back
-  pub rolled_words : all_taken_back read.state read.words ≡ words s.pages (records_of (rolled_back s batches))
-  rolled_words =
-      ap (all_taken_back read.state) is.words
-      ∙ sym (rollback_words read.state (words s.pages (records_of batches)))
-      ∙ sym (words-append s.pages (records_of batches) (rollback read.state))
-      ∙ ap (λ (rs : List Record). words s.pages (records_of batches ++ rs)) (sym same_rollback)
-      ∙ ap (words s.pages) (sym (records_of-with_batch batches (rollback_of s batches)))
+  -- the records that roll back are redone behind those of the log
+  pub rolled_pages : redo_all (log_count read.log + 1) (cached read.cache) (rollback read.state) ≡ redone stored (records_of (rolled_back s batches))
+  rolled_pages =
+      let first : log_count read.log + 1 ≡ 1 + length (records_of batches) = omega (arith, is.log.count) in
+      ap (λ (n : ℕ). redo_all n (cached read.cache) (rollback read.state)) first
+      ∙ ap (λ (pages : Pages). redo_all (1 + length (records_of batches)) pages (rollback read.state)) is.cache.pages
+      ∙ sym (redo_all-append 1 stored (records_of batches) (rollback read.state))
+      ∙ ap (λ (rs : List Record). redone stored (records_of batches ++ rs)) (sym same_rollback)
+      ∙ ap (redone stored) (sym (records_of-with_batch batches (rollback_of s batches)))
+
+  -- the pages that are stored are known still where only bytes of the log were written
+  pub known_still : (cache : PageCache) (image now new : List ℕ) → cache_store cache ≡ cache_store read.cache → Knows (cache_store read.cache) image → now ≡ image
+      → SameOutside (log_place read.log) (log_place read.log + log_room read.log) now new → Knows (cache_store cache) new
+  known_still cache image now new same knows still outside =
+      let bytes : s.log_bytes ≡ store_log (cache_store read.cache) = sym (ap (λ (of : Plan). of.log_bytes) is.cache.plan) in
+      let there = subst (λ (n : ℕ). SameOutside log_offset (log_offset + n) image new) bytes (outside_log image now new still outside) in
+      subst (λ (store : PageStore). Knows store new) (sym same) (knows_behind_log (cache_store read.cache) image new knows there)
 
   -- what was read is a shaped log, if the walk of its words passes
-  pub read_shaped : (used : log_used read.log + reserve read.state ≤ log_room read.log) (now : List ℕ) → now ≡ all_taken_back read.state read.words → IsWalked now read.state.base read.state.used → IsShapedLog s batches
+  pub read_shaped : (used : log_used read.log + reserve read.state ≤ log_room read.log) (now : List ℕ) → now ≡ all_taken_back read.state (cached read.cache).words → IsWalked now read.state.base read.state.used → IsShapedLog s batches stored
   read_shaped room now rolled walked = record {
     limits = is.limits;
     good = is.good;
     state = read.state;
     reached = is.state;
     room = omega (arith, room, used_of read.log batches is.log, is.room);
+    size = is.cache.size;
+    lsns_size = is.cache.lsns_size;
+    behind = is.cache.behind;
     walked = subst (λ (l : List ℕ). IsWalked l read.state.base read.state.used) (rolled ∙ committed) walked;
   }
 
   -- a shaped log has the room for its rollback, and its walk passes
-  pub shaped_walk : (shaped : IsShapedLog s batches) (state : State) → state ≡ read.state → (now : List ℕ) → now ≡ all_taken_back read.state read.words → IsWalked now state.base state.used
+  pub shaped_walk : (shaped : IsShapedLog s batches stored) (state : State) → state ≡ read.state → (now : List ℕ) → now ≡ all_taken_back read.state (cached read.cache).words → IsWalked now state.base state.used
   shaped_walk shaped state same now rolled =
       let one : shaped.state ≡ state = (let both : Some shaped.state ≡ Some read.state = sym shaped.reached ∙ is.state in cc) in
       subst (λ (x : State). IsWalked now x.base x.used) one (subst (λ (l : List ℕ). IsWalked l shaped.state.base shaped.state.used) (sym (rolled ∙ committed)) shaped.walked)
 
   -- what is opened
-  pub recovered : (r : Result Recovered RecoverError) (log : Log) (now : List ℕ) (of : Super) (state : State) → state ≡ read.state → of ≡ read.of → log_place log ≡ log_place read.log → log_room log ≡ log_room read.log
-      → now ≡ all_taken_back read.state read.words → Keeps log (with_batch batches (rollback read.state)) []
-      → IfOk r (λ found. found.log ≡ log) → IfOk r (λ found. found.words ≡ now) → IfOk r (λ found. found.pages ≡ of.pages)
-      → IfOk r (λ found. found.used ≡ state.used) → IfOk r (λ found. found.commits ≡ state.commits) → IfOk r (λ found. found.next ≡ state.next) → IfOk r (IsRecovered s batches)
-  recovered (Err e) log now of state same_state same_of at room taken keeps same_log same_words same_pages same_used same_commits next = tt
-  recovered (Ok found) log now of state same_state same_of at room taken keeps same_log same_words same_pages same_used same_commits next = record {
+  pub recovered : (r : Result Recovered RecoverError) (log : Log) (cache : PageCache) (of : Super) (state : State) → state ≡ read.state → of ≡ read.of → log_place log ≡ log_place read.log → log_room log ≡ log_room read.log
+      → cached cache ≡ redo_all (log_count read.log + 1) (cached read.cache) (rollback read.state) → cache_store cache ≡ cache_store read.cache → Keeps log (with_batch batches (rollback read.state)) []
+      → IfOk r (λ found. found.log ≡ log) → IfOk r (λ found. found.cache ≡ cache) → IfOk r (λ found. found.pages ≡ of.pages)
+      → IfOk r (λ found. found.used ≡ state.used) → IfOk r (λ found. found.commits ≡ state.commits) → IfOk r (λ found. found.next ≡ state.next) → IfOk r (IsRecovered s batches stored)
+  recovered (Err e) log cache of state same_state same_of at room pages store keeps same_log same_cache same_pages same_used same_commits next = tt
+  recovered (Ok found) log cache of state same_state same_of at room pages store keeps same_log same_cache same_pages same_used same_commits next = record {
     log = subst (λ (x : Log). Keeps x (rolled_back s batches) []) (sym same_log) (subst (λ (l : List Record). Keeps log (with_batch batches l) []) (sym same_rollback) keeps);
     place = ap log_place same_log ∙ at ∙ is.place;
     room = ap log_room same_log ∙ room ∙ is.room;
-    words = same_words ∙ taken ∙ rolled_words;
+    cached = ap cached same_cache ∙ pages ∙ rolled_pages;
+    plan = ap (λ (x : PageCache). store_plan (cache_store x)) same_cache ∙ ap store_plan store ∙ is.cache.plan;
+    unfailed = subst (λ (x : PageStore). IsFalse (has_failed x)) (sym (ap cache_store same_cache ∙ store)) is.cache.unfailed;
     pages = same_pages ∙ ap (λ (x : Super). x.pages) (same_of ∙ is.of);
     used = ap (λ (o : Option State). used_in o) is.state ∙ ap (λ (x : State). x.used) (sym same_state) ∙ sym same_used;
     commits = same_commits ∙ ap (λ (x : State). x.commits) same_state ∙ commits-start s.pages s.first read.state (records_of batches) is.state;
@@ -176,14 +205,19 @@ module _ (s : Super) (batches : List (List Record)) (read : Reading) (is : IsRea
   }
 
 -- what is opened is a shaped log
-pub opened_shaped : (s : Super) (batches : List (List Record)) (read : Reading) (is : IsRead s batches read) (r : Result Recovered RecoverError) (now : List ℕ) (state : State) (fault : Option ℕ)
-    → log_used read.log + reserve read.state ≤ log_room read.log → state ≡ read.state → now ≡ all_taken_back read.state read.words
-    → (fault ≡ None → IsWalked now state.base state.used) → IfOk r (λ found. fault ≡ None) → IfOk r (IsRecovered s batches)
-    → IfOk r (λ found. (t : Super) × (bs : List (List Record)) × IsShapedLog t bs × IsRecovered t bs found)
-opened_shaped s batches read is (Err e) now state fault room same taken passes none found = tt
-opened_shaped s batches read is (Ok f) now state fault room same taken passes none found =
+pub opened_shaped : (s : Super) (batches : List (List Record)) (stored : Pages) (read : Reading) (is : IsRead s batches stored read) (r : Result Recovered RecoverError) (now : List ℕ) (state : State) (fault : Option ℕ)
+    → log_used read.log + reserve read.state ≤ log_room read.log → state ≡ read.state → now ≡ all_taken_back read.state (cached read.cache).words
+    → (fault ≡ None → IsWalked now state.base state.used) → IfOk r (λ found. fault ≡ None) → IfOk r (IsRecovered s batches stored)
+    → IfOk r (λ found. (t : Super) × (bs : List (List Record)) × (pages : Pages) × IsShapedLog t bs pages × IsRecovered t bs pages found)
+opened_shaped s batches stored read is (Err e) now state fault room same taken passes none found = tt
+opened_shaped s batches stored read is (Ok f) now state fault room same taken passes none found =
     let walked = subst (λ (x : State). IsWalked now x.base x.used) same (passes none) in
-    (s, batches, read_shaped s batches read is room now taken walked, found)
+    (s, batches, stored, read_shaped s batches stored read is room now taken walked, found)
+
+-- what is known of the pages is known of those that were opened
+pub known_found : (r : Result Recovered RecoverError) (cache : PageCache) (image : List ℕ) → IfOk r (λ found. found.cache ≡ cache) → Knows (cache_store cache) image → IfOk r (λ found. Knows (cache_store found.cache) image)
+known_found (Ok found) cache image same knows = subst (λ (x : PageCache). Knows (cache_store x) image) (sym same) knows
+known_found (Err e) cache image same knows = tt
 
 -- a walk that passes finds no fault
 pub no_fault : (words : List ℕ) (base used : ℕ) (fault : Option ℕ) → IsWalked words base used → ((at : ℕ) → fault ≡ Some at → IsWalkFault words base used at) → fault ≡ None
@@ -217,13 +251,13 @@ keeps_same old new batches pending same keeps = record {
 }
 
 -- A crash at any moment of an opening leaves the image as it was, or with its log rolled back.
-pub opening_moments : {D : Type 0} (moment : D → ℕ) (left_since : D → ℕ → List ℕ → Type 0) (old mid new : D) (may_leave : List ℕ → Type 0) (now image : List ℕ) (s : Super) (batches : List (List Record)) → Holds s batches image → (read : Reading)
-    → IsRead s batches read → Only image may_leave → now ≡ image → LeavesOnly moment left_since old mid may_leave
+pub opening_moments : {D : Type 0} (moment : D → ℕ) (left_since : D → ℕ → List ℕ → Type 0) (old mid new : D) (may_leave : List ℕ → Type 0) (now image : List ℕ) (s : Super) (batches : List (List Record)) (stored : Pages) → Holds s batches stored image → (read : Reading)
+    → IsRead s batches stored read → Only image may_leave → now ≡ image → LeavesOnly moment left_since old mid may_leave
     → LeavesOnly moment left_since mid new (λ c. SameOutside (log_place read.log) (log_place read.log + log_room read.log) now c × (HoldsBatches (part c (log_place read.log) (log_room read.log)) batches ⊎ HoldsBatches (part c (log_place read.log) (log_room read.log)) (with_batch batches (rollback read.state))))
-    → LeavesOnly moment left_since old new (IsLeftByOpening s batches)
-opening_moments moment left_since old mid new may_leave now image s batches here read is only same first second =
-    let outside = outside_log s batches read is image now in
-    weaker moment left_since old new _ (IsLeftByOpening s batches) (joined moment left_since old mid new _ _ first second)
-    (λ c. ⊎_elim (λ left. inl (subst (Holds s batches) (sym (only c left)) here))
-    (λ found. ⊎_elim (λ holds. inl (held_with s batches batches image c here (outside c same found.0) (in_log s batches read is (λ n m. HoldsBatches (part c n m) batches) holds)))
-    (λ holds. inr (held_with s batches (rolled_back s batches) image c here (outside c same found.0) (rolled_held s batches read is c holds))) found.1))
+    → LeavesOnly moment left_since old new (IsLeftByOpening s batches stored)
+opening_moments moment left_since old mid new may_leave now image s batches stored here read is only same first second =
+    let outside = outside_log s batches stored read is image now in
+    weaker moment left_since old new _ (IsLeftByOpening s batches stored) (joined moment left_since old mid new _ _ first second)
+    (λ c. ⊎_elim (λ left. inl (subst (Holds s batches stored) (sym (only c left)) here))
+    (λ found. ⊎_elim (λ holds. inl (held_with s batches batches stored image c here (outside c same found.0) (in_log s batches stored read is (λ n m. HoldsBatches (part c n m) batches) holds)))
+    (λ holds. inr (held_with s batches (rolled_back s batches) stored image c here (outside c same found.0) (rolled_held s batches stored read is c holds))) found.1))

@@ -1,5 +1,5 @@
 -- What an opening tells of an image that it refuses, and what it leaves of it.
-use Rattle.std.proofs.Common.{inl, inr, ◌≡◌, ◌≢◌, ◌⊎◌, ⊎_elim, ℕ, ◌+◌, ◌≤◌, List, Option, None, Some, Result, Ok, Err, refl, sym, ap, ◌∙◌, subst, arith}
+use Rattle.std.proofs.Common.{inl, inr, ◌≡◌, ◌≢◌, ◌⊎◌, ⊎_elim, ℕ, ◌+◌, ◌≤◌, List, length, Option, None, Some, Result, Ok, Err, refl, sym, ap, ◌∙◌, subst, arith}
 use Rattle.std.specs.Prelude.{IfOk, IfErr, IsOk, IsErrAnd}
 use Rattle.std.specs.List.{AllByRecursion}
 use Rattle.disk_model.specs.Disk.{part, Only, Narrows, SameOutside}
@@ -19,16 +19,21 @@ use Rattle.log_machine.specs.declared.replaying.ReplayError.TheVariants as repla
 use Rattle.log_machine.specs.Machine.{State, start, after_all, all_taken_back, rollback, reserve}
 use Rattle.log_machine.specs.Replay.{IsFirstUnshaped}
 use Rattle.object_layout.specs.Walk.{IsWalked, IsWalkFault}
-use Rattle.heap_model.specs.Image.{IsShapedLog}
+use Rattle.page_redo.specs.Pages.{Pages}
+use Rattle.page_redo.specs.Redo.{EachLacks}
+use Rattle.page_cache.specs.FirstPast.{IsFirstPast}
+use Rattle.page_cache.specs.ImageLaws.{stored_behind_log}
+use Rattle.page_cache.specs.CacheState.{cached}
+use Rattle.heap_model.specs.Image.{Holds, IsShaped}
 use Rattle.heap_model.specs.Opening.{rolled_back}
 use Rattle.heap_recovery.specs.declared.at.At.{At}
-use Rattle.heap_recovery.specs.declared.at.At.TheVariants.{Address}
+use Rattle.heap_recovery.specs.declared.at.At.TheVariants.{Batch, Rec, Reserve, Page, Address}
 use Rattle.heap_recovery.specs.declared.error.RecoverError.{RecoverError}
 use Rattle.heap_recovery.specs.declared.error.RecoverError.TheVariants.{NoMemory, NotHeap, Damaged, Disk}
 use Rattle.heap_recovery.specs.declared.reading.Reading.{Reading}
 use Rattle.heap_recovery.specs.declared.recovery.Recovered.{Recovered}
-use Rattle.heap_recovery.specs.Faults.{HasSuper, IsNoHeap, HoldsLog, IsReplayed, IsReadable, IsFaultAt, IsToldOf, IsErrorOrOutside, ComesBeforeWrites, IsLogLeft}
-use Rattle.heap_recovery.specs.FaultLaws.{one_numbers, one_batches, shaped_log_whole, told_not_heap, told_damaged, left_fault, rolled_spelled}
+use Rattle.heap_recovery.specs.Faults.{stored_in, HasSuper, IsNoHeap, HoldsLog, IsReplayed, HasRoom, IsReadable, IsFaultAt, IsToldOf, IsToldOfPages, IsErrorOrOutside, ComesBeforeWrites, IsLogLeft}
+use Rattle.heap_recovery.specs.FaultLaws.{one_numbers, one_batches, shaped_log, shaped_whole, told_not_heap, told_damaged, left_fault, rolled_spelled}
 use Rattle.heap_recovery.specs.Recovered.{IsRead, IsRecovered, IsFromOutside, log_error, replay_error}
 use Rattle.heap_recovery.proofs.Opening.{committed, only_still, in_log, held_there, outside_log, rolled_held, placed_there, read_shaped}
 
@@ -66,18 +71,40 @@ pub replayed : (s : Super) (batches : List (List Record)) (image : List ℕ) (re
     → after_all (start s.pages s.first) records ≡ Some state → IsReplayed s batches state image
 replayed s batches image records state log are reached = record { log = log; reached = ap (λ (rs : List Record). after_all (start s.pages s.first) rs) (sym are) ∙ reached }
 
--- What is opened is a shaped log, and the image's.
+-- a page that is told is the first ahead of the log, which has room for the rollback
+pub pages_told : (s : Super) (batches : List (List Record)) (state : State) (image : List ℕ) (count : ℕ) (e : RecoverError) → HasRoom s batches state image → count ≡ length (records_of batches) → IsToldOfPages count (stored_in s image) e → IsToldOf e image
+pages_told s batches state image count NoMemory roomy same told = tt
+pages_told s batches state image count NotHeap roomy same told = absurd told
+pages_told s batches state image count (Damaged (Batch offset)) roomy same told = absurd told
+pages_told s batches state image count (Damaged (Rec lsn)) roomy same told = absurd told
+pages_told s batches state image count (Damaged Reserve) roomy same told = absurd told
+pages_told s batches state image count (Damaged (Page page)) roomy same told = (s, batches, state, roomy, subst (λ (n : ℕ). IsFirstPast n page (stored_in s image)) same told)
+pages_told s batches state image count (Damaged (Address address)) roomy same told = absurd told
+pages_told s batches state image count (Disk e) roomy same told = tt
+
+-- where no page is ahead an opening of the pages fails by the outside
+pub pages_outside : (count : ℕ) (stored : Pages) (e : RecoverError) → EachLacks (count + 1) stored → IsToldOfPages count stored e → IsFromOutside e
+pages_outside count stored NoMemory behind told = tt
+pages_outside count stored NotHeap behind told = absurd told
+pages_outside count stored (Damaged (Batch offset)) behind told = absurd told
+pages_outside count stored (Damaged (Rec lsn)) behind told = absurd told
+pages_outside count stored (Damaged Reserve) behind told = absurd told
+pages_outside count stored (Damaged (Page page)) behind told = absurd (omega (arith, told.past, behind page))
+pages_outside count stored (Damaged (Address address)) behind told = absurd told
+pages_outside count stored (Disk e) behind told = tt
+
+-- What is opened are a shaped log and its pages, and the image's.
 abbrev pub IsFoundOn : List ℕ → Recovered → Type 0
-IsFoundOn image found = (s : Super) × (batches : List (List Record)) × HoldsLog s batches image × IsShapedLog s batches × IsRecovered s batches found
+IsFoundOn image found = (s : Super) × (batches : List (List Record)) × (stored : Pages) × IsShaped s batches stored image × IsRecovered s batches stored found
 
 -- of what is no heap nothing is opened, and an error tells that
 pub not_heap_told : (r : Result Recovered RecoverError) (image : List ℕ) → IfErr r (λ e. IsToldOf e image) → IfOk r (IsFoundOn image) → IsNoHeap image → IsErrAnd r (IsErrorOrOutside NotHeap)
-not_heap_told (Ok found) image told sound none = absurd (none sound.0 sound.2.super)
+not_heap_told (Ok found) image told sound none = absurd (none sound.0 (shaped_log sound.0 sound.1 sound.2 image sound.3).super)
 not_heap_told (Err e) image told sound none = told_not_heap e image told none
 
 -- nor of what is damaged
 pub damaged_told : (r : Result Recovered RecoverError) (image : List ℕ) → IfErr r (λ e. IsToldOf e image) → IfOk r (IsFoundOn image) → (at : At) → IsFaultAt at image → IsErrAnd r (IsErrorOrOutside (Damaged at))
-damaged_told (Ok found) image told sound at fault = absurd (shaped_log_whole sound.0 sound.1 image at sound.2 sound.3 fault)
+damaged_told (Ok found) image told sound at fault = absurd (shaped_whole sound.0 sound.1 sound.2 image at sound.3 fault)
 damaged_told (Err e) image told sound at fault = told_damaged e image at told fault
 
 -- Where the walk has found a fault, or none.
@@ -98,21 +125,23 @@ module _ (r : Result Recovered RecoverError) (fault : Option ℕ) (damaged : (at
   pub finish_late : (P : Type 0) → IfErr r (λ e. ComesBeforeWrites e → P)
   finish_late P = ended fault (λ e. ComesBeforeWrites e → P) refl (λ at is early. absurd early)
 
-module _ (s : Super) (batches : List (List Record)) (read : Reading) (is : IsRead s batches read) (image : List ℕ) (readable : IsReadable s batches read.state image) where
+module _ (s : Super) (batches : List (List Record)) (image : List ℕ) (read : Reading) (is : IsRead s batches (stored_in s image) read) (readable : IsReadable s batches read.state image) where
   -- a fault of the walk is the image's
-  pub walk_told : (state : State) → state ≡ read.state → (now : List ℕ) → now ≡ all_taken_back read.state read.words → (address : ℕ) → IsWalkFault now state.base state.used address → IsFaultAt (Address address) image
+  pub walk_told : (state : State) → state ≡ read.state → (now : List ℕ) → now ≡ all_taken_back read.state (cached read.cache).words → (address : ℕ) → IsWalkFault now state.base state.used address → IsFaultAt (Address address) image
   walk_told state same now rolled address fault =
       let P : State → Type 0 = λ x. IsWalkFault now x.base x.used address in
-      (s, batches, read.state, readable, subst (λ (ws : List ℕ). IsWalkFault ws read.state.base read.state.used address) (rolled ∙ committed s batches read is) (subst P same fault))
+      (s, batches, read.state, readable, subst (λ (ws : List ℕ). IsWalkFault ws read.state.base read.state.used address) (rolled ∙ committed s batches (stored_in s image) read is) (subst P same fault))
 
   -- what was opened is the image's log
   pub found_on : (r : Result Recovered RecoverError) (now : List ℕ) (state : State) (fault : Option ℕ)
-      → log_used read.log + reserve read.state ≤ log_room read.log → state ≡ read.state → now ≡ all_taken_back read.state read.words
-      → (fault ≡ None → IsWalked now state.base state.used) → IfOk r (λ found. fault ≡ None) → IfOk r (IsRecovered s batches) → IfOk r (IsFoundOn image)
+      → log_used read.log + reserve read.state ≤ log_room read.log → state ≡ read.state → now ≡ all_taken_back read.state (cached read.cache).words
+      → (fault ≡ None → IsWalked now state.base state.used) → IfOk r (λ found. fault ≡ None) → IfOk r (IsRecovered s batches (stored_in s image)) → IfOk r (IsFoundOn image)
   found_on (Err e) now state fault room same taken passes none found = tt
   found_on (Ok f) now state fault room same taken passes none found =
       let walked = subst (λ (x : State). IsWalked now x.base x.used) same (passes none) in
-      (s, batches, readable.replayed.log, read_shaped s batches read is room now taken walked, found)
+      let log = readable.roomy.replayed.log in
+      let held : Holds s batches (stored_in s image) image = record { size = log.super.size; super = log.super.super; log = log.held; pages = refl } in
+      (s, batches, stored_in s image, record { log = read_shaped s batches (stored_in s image) read is room now taken walked; held = held }, found)
 
 -- an image with the same bytes outside of the log, whose log holds other batches
 log_with : (s : Super) (batches others : List (List Record)) (old new : List ℕ) → HoldsLog s batches old → SameOutside log_offset (log_offset + s.log_bytes) old new
@@ -136,36 +165,45 @@ module _ {D : Type 0} (moment : D → ℕ) (left_since : D → ℕ → List ℕ 
   still_moments old new image may_leave P only here run = weaker moment left_since old new may_leave P run (λ c left. subst P (sym (only c left)) here)
 
   -- A crash at any moment of a rollback leaves an image with the log that was read, or with that log rolled back.
-  module _ (s : Super) (batches : List (List Record)) (read : Reading) (is : IsRead s batches read) (image : List ℕ) (readable : IsReadable s batches read.state image) (old mid new : D) where
+  module _ (s : Super) (batches : List (List Record)) (image : List ℕ) (read : Reading) (is : IsRead s batches (stored_in s image) read) (readable : IsReadable s batches read.state image) (old mid new : D) where
+    abbrev stored : Pages
+    stored = stored_in s image
+
     pub forced_run : (before between : List ℕ → Type 0) (now : List ℕ) (log : Log) → log_place log ≡ log_place read.log → log_room log ≡ log_room read.log → Keeps log batches (rollback read.state)
         → Only image before → now ≡ image → Narrows before between → LeavesOnly moment left_since old mid before
         → (Only now between → (bs : List (List Record)) (ps : List Record) → Keeps log bs ps → HoldsBatches (part now (log_place log) (log_room log)) bs → LeavesOnly moment left_since mid new (λ c. SameOutside (log_place log) (log_place log + log_room log) now c × (HoldsBatches (part c (log_place log) (log_room log)) bs ⊎ HoldsBatches (part c (log_place log) (log_room log)) (with_batch bs ps))))
-        → LeavesOnly moment left_since old new (IsLogLeft s batches)
+        → LeavesOnly moment left_since old new (IsLogLeft s batches stored)
     forced_run before between now log place room keeps only same narrows first forcing =
-        let here = readable.replayed.log in
+        let here = readable.roomy.replayed.log in
         let spelled = rolled_spelled s batches read.state image readable in
-        let stand = placed_there log read.log (λ n m. HoldsBatches (part now n m) batches) (sym place) (sym room) (held_there s batches read is image now here.held same) in
+        let stand = placed_there log read.log (λ n m. HoldsBatches (part now n m) batches) (sym place) (sym room) (held_there s batches stored read is image now here.held same) in
         let Left : ℕ → ℕ → List ℕ → Type 0 = λ n m c. SameOutside n (n + m) now c × (HoldsBatches (part c n m) batches ⊎ HoldsBatches (part c n m) (with_batch batches (rollback read.state))) in
         let second = placed_there read.log log (λ n m. LeavesOnly moment left_since mid new (Left n m)) place room (forcing (only_still image now before between only same narrows) batches (rollback read.state) keeps stand) in
-        weaker moment left_since old new _ (IsLogLeft s batches) (joined moment left_since old mid new _ _ first second)
-        (λ c. ⊎_elim (λ left. inl (subst (HoldsLog s batches) (sym (only c left)) here))
-        (λ found. ⊎_elim (λ holds. inl (log_with s batches batches image c here (outside_log s batches read is image now c same found.0) (in_log s batches read is (λ n m. HoldsBatches (part c n m) batches) holds) here.good))
-        (λ holds. inr (log_with s batches (rolled_back s batches) image c here (outside_log s batches read is image now c same found.0) (rolled_held s batches read is c holds) spelled)) found.1))
+        let outside : (c : List ℕ) → SameOutside (log_place read.log) (log_place read.log + log_room read.log) now c → SameOutside log_offset (log_offset + s.log_bytes) image c = λ c. outside_log s batches stored read is image now c same in
+        weaker moment left_since old new _ (IsLogLeft s batches stored) (joined moment left_since old mid new _ _ first second)
+        (λ c. ⊎_elim (λ left. (inl (subst (HoldsLog s batches) (sym (only c left)) here), ap (stored_in s) (only c left)))
+        (λ found. (
+          ⊎_elim (λ holds. inl (log_with s batches batches image c here (outside c found.0) (in_log s batches stored read is (λ n m. HoldsBatches (part c n m) batches) holds) here.good))
+          (λ holds. inr (log_with s batches (rolled_back s batches) image c here (outside c found.0) (rolled_held s batches stored read is c holds) spelled)) found.1,
+          stored_behind_log s.pages s.log_bytes image c (outside c found.0),
+        )))
 
-    module _ (run : LeavesOnly moment left_since old new (IsLogLeft s batches)) where
+    module _ (run : LeavesOnly moment left_since old new (IsLogLeft s batches stored)) where
       -- whatever the log is called
-      pub left_readable : (r : Super) (bs : List (List Record)) (state : State) → IsReadable r bs state image → LeavesOnly moment left_since old new (IsLogLeft r bs)
+      pub left_readable : (r : Super) (bs : List (List Record)) (state : State) → IsReadable r bs state image → LeavesOnly moment left_since old new (IsLogLeft r bs (stored_in r image))
       left_readable r bs state other =
-          let numbers = one_numbers s r image readable.replayed.log.super other.replayed.log.super in
-          let mine = (let P : Super → Type 0 = λ x. HoldsLog x batches image in subst P numbers readable.replayed.log) in
-          let Q : Super → Type 0 = λ x. LeavesOnly moment left_since old new (IsLogLeft x batches) in
-          let R : List (List Record) → Type 0 = λ l. LeavesOnly moment left_since old new (IsLogLeft r l) in
-          subst R (one_batches r batches bs image mine other.replayed.log) (subst Q numbers run)
+          let log = readable.roomy.replayed.log in
+          let there = other.roomy.replayed.log in
+          let numbers = one_numbers s r image log.super there.super in
+          let mine = (let P : Super → Type 0 = λ x. HoldsLog x batches image in subst P numbers log) in
+          let Q : Super → Type 0 = λ x. LeavesOnly moment left_since old new (IsLogLeft x batches (stored_in x image)) in
+          let R : List (List Record) → Type 0 = λ l. LeavesOnly moment left_since old new (IsLogLeft r l (stored_in r image)) in
+          subst R (one_batches r batches bs image mine there) (subst Q numbers run)
 
       -- an image whose log can be read is a heap
       pub left_no_heap : IsNoHeap image → LeavesOnly moment left_since old new IsNoHeap
-      left_no_heap none = absurd (none s readable.replayed.log.super)
+      left_no_heap none = absurd (none s readable.roomy.replayed.log.super)
 
       -- a fault stays
       pub left_damaged : (at : At) → IsFaultAt at image → LeavesOnly moment left_since old new (IsFaultAt at)
-      left_damaged at fault = weaker moment left_since old new (IsLogLeft s batches) (IsFaultAt at) run (left_fault s batches read.state image readable at fault)
+      left_damaged at fault = weaker moment left_since old new (IsLogLeft s batches stored) (IsFaultAt at) run (left_fault s batches read.state image readable at fault)

@@ -1,5 +1,6 @@
 -- What is wrong with an image, and where: what an opening looks for, in this order, is numbers of a heap, batches in the log, records that follow
--- one another, room for their rollback, and objects in the words. Frames are not read, so nothing is said of them.
+-- one another, room for their rollback, pages that are not ahead of the log, and objects in the words. A frame is not checked further: what it
+-- holds is a page's LSN and words, whatever they are.
 use Rattle.std.specs.Prelude.{◌≡◌, ◌⊎◌, ℕ, ◌+◌, ◌<◌, ◌≤◌, List, length, take, Some}
 use Rattle.std.specs.List.{AllByRecursion}
 use Rattle.disk_model.specs.Disk.{part}
@@ -11,6 +12,10 @@ use Rattle.log_records.specs.declared.Record.{Record}
 use Rattle.log_records.specs.Record.{IsRecord}
 use Rattle.log_machine.specs.Machine.{State, start, after_all, reserve}
 use Rattle.log_machine.specs.Replay.{IsFirstUnshaped}
+use Rattle.page_redo.specs.Pages.{Pages}
+use Rattle.page_redo.specs.Redo.{EachLacks}
+use Rattle.page_cache.specs.FirstPast.{IsFirstPast}
+use Rattle.page_cache.specs.Stored.{stored_pages}
 use Rattle.object_layout.specs.Walk.{IsWalkFault}
 use Rattle.heap_model.specs.Image.{words_of}
 use Rattle.heap_model.specs.Opening.{rolled_back}
@@ -19,6 +24,10 @@ use Rattle.heap_recovery.specs.declared.at.At.TheVariants.{Batch, Rec, Reserve, 
 use Rattle.heap_recovery.specs.declared.error.RecoverError.{RecoverError}
 use Rattle.heap_recovery.specs.declared.error.RecoverError.TheVariants.{NoMemory, NotHeap, Damaged, Disk}
 use Rattle.heap_recovery.specs.Recovered.{IsFromOutside}
+
+-- the pages that the image of a heap with these numbers has stored
+abbrev pub stored_in : Super → List ℕ → Pages
+stored_in s image = stored_pages s.pages s.log_bytes image
 
 -- The image begins with the superblock of a heap with these numbers, and has the bytes of its plan.
 pub record HasSuper (s : Super) (image : List ℕ) : Type 0 where
@@ -42,18 +51,24 @@ pub record IsReplayed (s : Super) (batches : List (List Record)) (state : State)
   pub reached : after_all (start s.pages s.first) (records_of batches) ≡ Some state
 
 -- And the log has room for the rollback of what has not ended.
-pub record IsReadable (s : Super) (batches : List (List Record)) (state : State) (image : List ℕ) : Type 0 where
+pub record HasRoom (s : Super) (batches : List (List Record)) (state : State) (image : List ℕ) : Type 0 where
   pub replayed : IsReplayed s batches state image
   pub room : length (batches_bytes batches) + 1 + reserve state ≤ s.log_bytes
 
--- Where an image is damaged: what comes first in the order in which it is checked. No page is read.
+-- And no page is ahead of it.
+pub record IsReadable (s : Super) (batches : List (List Record)) (state : State) (image : List ℕ) : Type 0 where
+  pub roomy : HasRoom s batches state image
+  pub behind : EachLacks (length (records_of batches) + 1) (stored_in s image)
+
+-- Where an image is damaged: what comes first in the order in which it is checked.
 abbrev pub IsFaultAt : At → List ℕ → Type 0
 IsFaultAt (Batch offset) image = (s : Super) × HasSuper s image × BreaksAt (part image log_offset s.log_bytes) offset
 IsFaultAt (Rec lsn) image = (s : Super) × (batches : List (List Record)) × HoldsLog s batches image × IsFirstUnshaped (start s.pages s.first) (records_of batches) lsn
 IsFaultAt Reserve image = (s : Super) × (batches : List (List Record)) × (state : State) × IsReplayed s batches state image × (s.log_bytes < length (batches_bytes batches) + 1 + reserve state)
-IsFaultAt (Page page) image = ⊥
+IsFaultAt (Page page) image =
+    (s : Super) × (batches : List (List Record)) × (state : State) × HasRoom s batches state image × IsFirstPast (length (records_of batches)) page (stored_in s image)
 IsFaultAt (Address address) image =
-    (s : Super) × (batches : List (List Record)) × (state : State) × IsReadable s batches state image × IsWalkFault (words_of s batches) state.base state.used address
+    (s : Super) × (batches : List (List Record)) × (state : State) × IsReadable s batches state image × IsWalkFault (words_of s batches (stored_in s image)) state.base state.used address
 
 -- what an error tells of the image
 abbrev pub IsToldOf : RecoverError → List ℕ → Type 0
@@ -61,6 +76,11 @@ IsToldOf NoMemory image = Unit {0}
 IsToldOf NotHeap image = IsNoHeap image
 IsToldOf (Damaged at) image = IsFaultAt at image
 IsToldOf (Disk e) image = Unit {0}
+
+-- what an error tells of pages that were stored beside so many records: which is the first that is ahead of them
+abbrev pub IsToldOfPages : ℕ → Pages → RecoverError → Type 0
+IsToldOfPages count stored (Damaged (Page page)) = IsFirstPast count page stored
+IsToldOfPages count stored e = IsFromOutside e
 
 -- the error is this one, or tells nothing of the image
 abbrev pub IsErrorOrOutside : RecoverError → RecoverError → Type 0
@@ -72,6 +92,6 @@ ComesBeforeWrites (Damaged (Address address)) = ⊥
 ComesBeforeWrites (Disk e) = ⊥
 ComesBeforeWrites e = Unit {0}
 
--- An opening of an image that holds this log leaves one that holds it, or the log behind the opening.
-abbrev pub IsLogLeft : Super → List (List Record) → List ℕ → Type 0
-IsLogLeft s batches image = HoldsLog s batches image ⊎ HoldsLog s (rolled_back s batches) image
+-- An opening of an image that holds this log leaves one that holds it, or the log behind the opening. It stores no page.
+abbrev pub IsLogLeft : Super → List (List Record) → Pages → List ℕ → Type 0
+IsLogLeft s batches stored image = (HoldsLog s batches image ⊎ HoldsLog s (rolled_back s batches) image) × (stored_in s image ≡ stored)

@@ -1,11 +1,12 @@
 -- What an opening finds, and what it leaves.
-use Rattle.std.specs.Prelude.{◌≡◌, ℕ, List, [], Result, Ok, Err, Some}
+use Rattle.std.specs.Prelude.{◌≡◌, ℕ, ◌+◌, List, [], length, Result, Ok, Err, Some, IsFalse}
 use Rattle.std.specs.List.{AllByRecursion}
 use Rattle.gate_slot.specs.Passing.{Passes}
 use Rattle.gated_log.specs.declared.LogError.{LogError}
 use Rattle.gated_log.specs.declared.LogError.TheVariants as logging
 use Rattle.gated_log.specs.Log.{records_of}
 use Rattle.gated_log.specs.LogState.{Keeps, log_place, log_room}
+use Rattle.image_plan.specs.declared.plan.Plan.{Plan}
 use Rattle.image_plan.specs.declared.superblock.Super.{Super}
 use Rattle.image_plan.specs.Plan.{log_offset}
 use Rattle.image_plan.specs.Super.{IsSuper}
@@ -13,7 +14,14 @@ use Rattle.log_records.specs.declared.Record.{Record}
 use Rattle.log_records.specs.Record.{IsRecord}
 use Rattle.log_machine.specs.declared.replaying.ReplayError.{ReplayError}
 use Rattle.log_machine.specs.declared.replaying.ReplayError.TheVariants as replaying
-use Rattle.log_machine.specs.Machine.{words, commits}
+use Rattle.log_machine.specs.Machine.{words_in, commits}
+use Rattle.page_redo.specs.Pages.{Pages, pages_in}
+use Rattle.page_redo.specs.Redo.{EachLacks, redone}
+use Rattle.page_store.specs.declared.store.OpenError.{OpenError}
+use Rattle.page_store.specs.declared.store.OpenError.TheVariants as storing
+use Rattle.page_store.specs.StoreState.{store_plan}
+use Rattle.page_cache.specs.declared.cache.PageCache.{PageCache}
+use Rattle.page_cache.specs.CacheState.{cached, cache_store, cache_failed}
 use Rattle.heap_model.specs.Opening.{state_of, rolled_back, used_of, next_of}
 use Rattle.heap_recovery.specs.Causes.{error_device}
 use Rattle.heap_recovery.specs.declared.at.At.TheVariants.{Batch, Rec}
@@ -22,23 +30,38 @@ use Rattle.heap_recovery.specs.declared.error.RecoverError.TheVariants.{NoMemory
 use Rattle.heap_recovery.specs.declared.reading.Reading.{Reading}
 use Rattle.heap_recovery.specs.declared.recovery.Recovered.{Recovered}
 
--- What was read is the log of a heap with these numbers, which holds these batches.
-pub record IsRead (s : Super) (batches : List (List Record)) (read : Reading) : Type 0 where
+-- the plan of a heap with these numbers
+abbrev pub plan_of : Super → Plan
+plan_of s = record { pages = s.pages; log_bytes = s.log_bytes }
+
+-- In memory are the pages of an image with this plan: these records were redone on the ones that were stored, none of which is ahead of them.
+pub record IsRedone (of : Plan) (records : List Record) (stored : Pages) (cache : PageCache) : Type 0 where
+  pub plan : store_plan (cache_store cache) ≡ of
+  pub unfailed : IsFalse (cache_failed cache)
+  pub size : length stored.words ≡ words_in of.pages
+  pub lsns_size : length stored.lsns ≡ pages_in of.pages
+  pub behind : EachLacks (length records + 1) stored
+  pub pages : cached cache ≡ redone stored records
+
+-- What was read is the log of a heap with these numbers, which holds these batches, and its pages, which were stored so.
+pub record IsRead (s : Super) (batches : List (List Record)) (stored : Pages) (read : Reading) : Type 0 where
   pub of : read.of ≡ s
   pub limits : IsSuper s
   pub good : AllByRecursion IsRecord (records_of batches)
   pub log : Keeps read.log batches []
   pub place : log_place read.log ≡ log_offset
   pub room : log_room read.log ≡ s.log_bytes
-  pub words : read.words ≡ words s.pages (records_of batches)
+  pub cache : IsRedone (plan_of s) (records_of batches) stored read.cache
   pub state : state_of s batches ≡ Some read.state
 
--- What was opened is a heap with these numbers, whose log held these batches and holds them now rolled back.
-pub record IsRecovered (s : Super) (batches : List (List Record)) (found : Recovered) : Type 0 where
+-- What was opened is a heap with these numbers, whose log held these batches and holds them now rolled back, and whose pages were stored so.
+pub record IsRecovered (s : Super) (batches : List (List Record)) (stored : Pages) (found : Recovered) : Type 0 where
   pub log : Keeps found.log (rolled_back s batches) []
   pub place : log_place found.log ≡ log_offset
   pub room : log_room found.log ≡ s.log_bytes
-  pub words : found.words ≡ words s.pages (records_of (rolled_back s batches))
+  pub cached : cached found.cache ≡ redone stored (records_of (rolled_back s batches))
+  pub plan : store_plan (cache_store found.cache) ≡ plan_of s
+  pub unfailed : IsFalse (cache_failed found.cache)
   pub pages : found.pages ≡ s.pages
   pub used : used_of s batches ≡ found.used
   pub commits : found.commits ≡ commits (records_of batches)
@@ -71,3 +94,8 @@ log_error (logging.Disk e) = Disk e
 abbrev pub replay_error : ReplayError → RecoverError
 replay_error replaying.NoMemory = NoMemory
 replay_error (replaying.Unshaped lsn) = Damaged (Rec lsn)
+
+-- what an error of the pages' opening is of an opening
+abbrev pub pages_error : OpenError → RecoverError
+pages_error storing.NoMemory = NoMemory
+pages_error (storing.Disk e) = Disk e

@@ -3,6 +3,7 @@ use crate::at::At;
 use disk_model::DiskError;
 use gated_log::LogError;
 use log_machine::ReplayError;
+use page_store::OpenError;
 use std::alloc::AllocError;
 
 /// Why an image can't be opened.
@@ -65,6 +66,20 @@ impl From<ReplayError> for RecoverError {
         match e {
             ReplayError::NoMemory => RecoverError::NoMemory,
             ReplayError::Unshaped { lsn } => RecoverError::Damaged { at: At::Rec(lsn) },
+        }
+    }
+}
+
+impl From<OpenError> for RecoverError {
+    ghost use Rattle.std.specs.Prelude.{◌≡◌};
+    ghost use Rattle.heap_recovery.specs.Recovered.{pages_error};
+
+    ghost from_gives = { λ e error. error ≡ pages_error e };
+
+    fn from(e: OpenError) -> Self {
+        match e {
+            OpenError::NoMemory => RecoverError::NoMemory,
+            OpenError::Disk(e) => RecoverError::Disk(e),
         }
     }
 }

@@ -1,4 +1,4 @@
-//! An image is opened: what its superblock, its log and its words say, with the writes of unfinished transactions rolled back.
+//! An image is opened: what its superblock, its log and its pages say, with the writes of unfinished transactions rolled back.
 #![tactic(auto)]
 
 mod at;

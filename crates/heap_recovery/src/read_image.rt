@@ -1,44 +1,55 @@
-//! What an image says before anything is rolled back: its superblock, its log, and the words that the records leave.
-ghost use Rattle.std.specs.Prelude.{◌≡◌, ◌≢◌, ℕ, ◌+◌, ◌≤◌, List, take, Err, IsTrue, IfOk, IfErr};
+//! What an image says before anything is rolled back: its superblock, its log, and the pages on which the log's records are redone.
+ghost use Rattle.std.specs.Prelude.{◌≡◌, ◌≢◌, ℕ, ◌+◌, ◌^◌, ◌<◌, ◌≤◌, List, length, take, Err, IsTrue, IfOk, IfErr};
 ghost use Rattle.disk_model.specs.Disk.{part};
 ghost use Rattle.disk_model.specs.Keeps.{OnlyReads};
 ghost use Rattle.gated_log.specs.Log.{HoldsBatches};
-ghost use Rattle.gated_log.specs.LogState.{log_place, log_room, log_used};
+ghost use Rattle.gated_log.specs.LogState.{log_place, log_room, log_used, log_count};
 ghost use Rattle.image_plan.specs.declared.superblock.Super.{Super};
 ghost use Rattle.image_plan.specs.Plan.{log_offset, image_size};
 ghost use Rattle.image_plan.specs.Super.{IsSuper, superblock};
 ghost use Rattle.log_records.specs.declared.Record.{Record};
-ghost use Rattle.log_machine.specs.Machine.{reserve};
+ghost use Rattle.log_machine.specs.Effect.{EachWritesBelow};
+ghost use Rattle.log_machine.specs.Machine.{words_in, reserve};
+ghost use Rattle.page_redo.specs.Pages.{Pages};
+ghost use Rattle.page_redo.specs.Redo.{EachLacks};
+ghost use Rattle.page_store.specs.StoreState.{Knows};
+ghost use Rattle.page_cache.specs.CacheState.{cached, cache_store};
+ghost use Rattle.page_cache.specs.Stored.{stored_pages};
 ghost use Rattle.heap_model.specs.Image.{IsShapedLog, IsShaped};
 ghost use Rattle.heap_recovery.specs.declared.at.At.{At};
 ghost use Rattle.heap_recovery.specs.declared.error.RecoverError.TheVariants.{Damaged};
 ghost use Rattle.heap_recovery.specs.Causes.{open_device};
-ghost use Rattle.heap_recovery.specs.Faults.{HasSuper, IsReadable, IsToldOf};
-ghost use Rattle.heap_recovery.specs.Recovered.{IsRead, IsFromOutside};
+ghost use Rattle.heap_recovery.specs.Faults.{stored_in, HasSuper, IsReadable, IsToldOf, IsToldOfPages};
+ghost use Rattle.heap_recovery.specs.Recovered.{IsRedone, IsRead, IsFromOutside};
 
 use crate::at::At;
 use crate::error::RecoverError;
 use crate::reading::Reading;
 use disk_model::Disk;
 use gated_log::Log;
-use image_plan::{SUPER_BYTES, Super, read_super};
+use image_plan::{Plan, SUPER_BYTES, Super, read_super};
 use log_machine::replay;
+use log_records::Record;
+use page_cache::PageCache;
 use std::alloc::Global;
 
 /// Reads the image on the disk.
 pub fn read_image<D: Disk>(alloc: Global, disk: &mut D) -> Result<Reading, RecoverError>
-    // What was read are the batches of some log, whose records follow one another.
-    ensures read { IfOk result (λ read. (batches : List (List Record)) × IsRead read.of batches read) }
+    // What was read are the batches of some log, whose records follow one another and were redone on some pages.
+    ensures read { IfOk result (λ read. (batches : List (List Record)) × (stored : Pages) × IsRead read.of batches stored read) }
     ensures inside { IfOk result (λ read. log_place read.log + log_room read.log ≤ D.extent disk.new) }
     ensures room { IfOk result (λ read. log_used read.log + reserve read.state ≤ log_room read.log) }
+    ensures next { IfOk result (λ read. EachLacks (log_count read.log + 1) (cached read.cache)) }
+    ensures few { IfOk result (λ read. log_count read.log < 2 ^ 32) }
 
     // They are the image's own, and an error tells what is wrong with it.
-    ensures sound { IsTrue D.tells → IfOk result (λ read. (batches : List (List Record)) × IsRead read.of batches read × IsReadable read.of batches read.state (D.bytes disk.old)) }
+    ensures sound { IsTrue D.tells → IfOk result (λ read. (batches : List (List Record)) × IsRead read.of batches (stored_in read.of (D.bytes disk.old)) read × IsReadable read.of batches read.state (D.bytes disk.old)) }
     ensures refused { IsTrue D.tells → IfErr result (λ e. IsToldOf e (D.bytes disk.old)) }
+    ensures known { IsTrue D.tells → IfOk result (λ read. Knows (cache_store read.cache) (D.bytes disk.old)) }
 
     // Of a shaped image its own are read.
-    ensures found { IsTrue D.tells → (s : Super) (batches : List (List Record)) → IsShaped s batches (D.bytes disk.old) → IfOk result (IsRead s batches) }
-    ensures shaped { IsTrue D.tells → (s : Super) (batches : List (List Record)) → IsShaped s batches (D.bytes disk.old) → IfErr result IsFromOutside }
+    ensures found { IsTrue D.tells → (s : Super) (batches : List (List Record)) (stored : Pages) → IsShaped s batches stored (D.bytes disk.old) → IfOk result (IsRead s batches stored) }
+    ensures shaped { IsTrue D.tells → (s : Super) (batches : List (List Record)) (stored : Pages) → IsShaped s batches stored (D.bytes disk.old) → IfErr result IsFromOutside }
     ensures disk { OnlyReads D.Disk disk.old disk.new (open_device result) }
 {
     let of = read_numbers(disk)?;
@@ -67,29 +78,60 @@ fn read_numbers<D: Disk>(disk: &mut D) -> Result<Super, RecoverError>
     Ok(found)
 }
 
-/// Reads the log of a heap with these numbers, and what its records leave.
+/// Reads the log of a heap with these numbers, and the pages, on which it redoes the log's records.
 fn read_log<D: Disk>(alloc: Global, disk: &mut D, of: Super) -> Result<Reading, RecoverError>
     requires good { IsSuper of }
     requires fits { image_size of.pages of.log_bytes ≤ D.extent disk.old }
 
-    ensures read { IfOk result (λ read. (batches : List (List Record)) × IsRead of batches read) }
+    ensures read { IfOk result (λ read. (batches : List (List Record)) × (stored : Pages) × IsRead of batches stored read) }
     ensures inside { IfOk result (λ read. log_place read.log + log_room read.log ≤ D.extent disk.new) }
     ensures room { IfOk result (λ read. log_used read.log + reserve read.state ≤ log_room read.log) }
-    ensures sound { IsTrue D.tells → HasSuper of (D.bytes disk.old) → IfOk result (λ read. (batches : List (List Record)) × IsRead read.of batches read × IsReadable read.of batches read.state (D.bytes disk.old)) }
+    ensures next { IfOk result (λ read. EachLacks (log_count read.log + 1) (cached read.cache)) }
+    ensures few { IfOk result (λ read. log_count read.log < 2 ^ 32) }
+    ensures sound { IsTrue D.tells → HasSuper of (D.bytes disk.old) → IfOk result (λ read. (batches : List (List Record)) × IsRead read.of batches (stored_in read.of (D.bytes disk.old)) read × IsReadable read.of batches read.state (D.bytes disk.old)) }
     ensures refused { IsTrue D.tells → HasSuper of (D.bytes disk.old) → IfErr result (λ e. IsToldOf e (D.bytes disk.old)) }
-    ensures found { IsTrue D.tells → (batches : List (List Record)) → HoldsBatches (part (D.bytes disk.old) log_offset of.log_bytes) batches → IsShapedLog of batches → IfOk result (IsRead of batches) }
-    ensures shaped { IsTrue D.tells → (batches : List (List Record)) → HoldsBatches (part (D.bytes disk.old) log_offset of.log_bytes) batches → IsShapedLog of batches → IfErr result IsFromOutside }
+    ensures known { IsTrue D.tells → IfOk result (λ read. Knows (cache_store read.cache) (D.bytes disk.old)) }
+    ensures found { IsTrue D.tells → (batches : List (List Record)) → HoldsBatches (part (D.bytes disk.old) log_offset of.log_bytes) batches → IsShapedLog of batches (stored_in of (D.bytes disk.old)) → IfOk result (IsRead of batches (stored_in of (D.bytes disk.old))) }
+    ensures shaped { IsTrue D.tells → (batches : List (List Record)) → HoldsBatches (part (D.bytes disk.old) log_offset of.log_bytes) batches → IsShapedLog of batches (stored_in of (D.bytes disk.old)) → IfErr result IsFromOutside }
     ensures disk { OnlyReads D.Disk disk.old disk.new (open_device result) }
 {
     let (log, records) = Log::open(alloc, disk, of.plan().log_at(), of.log_bytes)?;
-    let (state, words) = replay(alloc, of.pages, of.first, &records)?;
+    let state = replay(alloc, of.pages, of.first, &records)?;
     if log.used() + state.reserve() > log.room() {
         return Err(RecoverError::Damaged { at: At::Reserve });
     }
+    let cache = read_pages(alloc, disk, of.plan(), &records)?;
     Ok(Reading {
         of,
         log,
-        words,
+        cache,
         state,
     })
+}
+
+/// Reads the pages of an image with that plan, none of which may be ahead of these records, and redoes on each page those that
+/// it lacks.
+fn read_pages<D: Disk>(
+    alloc: Global,
+    disk: &mut D,
+    plan: Plan,
+    records: &[Record],
+) -> Result<PageCache, RecoverError>
+    requires few_pages { plan.pages ≤ 16384 }
+    requires fits { image_size plan.pages plan.log_bytes ≤ D.extent disk.old }
+    requires inside { EachWritesBelow (words_in plan.pages) records.now }
+    requires few { length records.now < 2 ^ 32 }
+
+    ensures read { IfOk result (λ cache. (stored : Pages) × IsRedone plan records.now stored cache) }
+    ensures own { IsTrue D.tells → IfOk result (IsRedone plan records.now (stored_pages plan.pages plan.log_bytes (D.bytes disk.old))) }
+    ensures known { IsTrue D.tells → IfOk result (λ cache. Knows (cache_store cache) (D.bytes disk.old)) }
+    ensures refused { IsTrue D.tells → IfErr result (IsToldOfPages (length records.now) (stored_pages plan.pages plan.log_bytes (D.bytes disk.old))) }
+    ensures disk { OnlyReads D.Disk disk.old disk.new (open_device result) }
+{
+    let mut cache = PageCache::open(alloc, disk, plan)?;
+    if let Some(page) = cache.first_past(records.len() as u64) {
+        return Err(RecoverError::Damaged { at: At::Page(page) });
+    }
+    cache.redo_all(1, records);
+    Ok(cache)
 }

@@ -1,9 +1,11 @@
 //! What is read of an image before anything is rolled back.
 ghost use Rattle.std.specs.Prelude.{◌≡◌, ◌*◌, ◌≤◌, length};
+ghost use Rattle.page_cache.specs.CacheState.{cached};
 
 use gated_log::Log;
 use image_plan::Super;
-use log_machine::{LogState, PageWords};
+use log_machine::LogState;
+use page_cache::PageCache;
 
 /// What is read of an image.
 #[derive(Debug, Drop)]
@@ -12,11 +14,11 @@ pub struct Reading {
     pub of: Super,
     /// The log, in which no record waits.
     pub log: Log,
-    /// The words after the log's records.
-    pub words: PageWords,
+    /// The pages in memory, on each of which the log's records were redone that it lacked.
+    pub cache: PageCache,
     /// What the records say.
     pub state: LogState,
     ghost few_pages: { of.pages ≤ 16384 },
     ghost same_pages: { state.pages ≡ of.pages },
-    ghost sized: { length words ≡ 128 * of.pages },
+    ghost sized: { length (cached cache).words ≡ 128 * of.pages },
 }

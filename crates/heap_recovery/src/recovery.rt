@@ -1,12 +1,16 @@
 //! An image is opened, and the writes of unfinished transactions are rolled back.
-ghost use Rattle.std.specs.Prelude.{◌≡◌, ◌+◌, ◌≤◌, ℕ, List, [], None, Some, Ok, Err, IsTrue, IsOk, IfOk, IfErr, OnOk, IsErrAnd};
+ghost use Rattle.std.specs.Prelude.{◌≡◌, ◌+◌, ◌^◌, ◌<◌, ◌≤◌, ℕ, List, [], None, Some, Ok, Err, IsTrue, IsOk, IfOk, IfErr, OnOk, IsErrAnd};
 ghost use Rattle.disk_model.specs.Disk.{Only};
 ghost use Rattle.disk_model.specs.Keeps.{KeepsDisk, OnlyReads};
 ghost use Rattle.disk_model.specs.Moments.{LeavesOnly};
-ghost use Rattle.gated_log.specs.LogState.{log_place, log_room, log_used, IsReady, Keeps};
+ghost use Rattle.gated_log.specs.LogState.{log_place, log_room, log_used, log_count, IsReady, Keeps};
 ghost use Rattle.image_plan.specs.declared.superblock.Super.{Super};
 ghost use Rattle.log_records.specs.declared.Record.{Record};
 ghost use Rattle.log_machine.specs.Machine.{State, rollback, all_taken_back, reserve};
+ghost use Rattle.page_redo.specs.Pages.{Pages};
+ghost use Rattle.page_redo.specs.Redo.{EachLacks, redo_all};
+ghost use Rattle.page_store.specs.StoreState.{Knows};
+ghost use Rattle.page_cache.specs.CacheState.{cached, cache_store};
 ghost use Rattle.object_layout.specs.Walk.{IsWalked, IsWalkFault};
 ghost use Rattle.heap_model.specs.Image.{IsShapedLog, Holds, IsShaped};
 ghost use Rattle.heap_model.specs.Opening.{rollback_of, rolled_back, opening_calls, IsLeftByOpening};
@@ -14,7 +18,7 @@ ghost use Rattle.heap_recovery.specs.Causes.{open_device};
 ghost use Rattle.heap_recovery.specs.declared.at.At.{At};
 ghost use Rattle.heap_recovery.specs.declared.at.At.TheVariants.{Address};
 ghost use Rattle.heap_recovery.specs.declared.error.RecoverError.TheVariants.{NoMemory, NotHeap, Damaged};
-ghost use Rattle.heap_recovery.specs.Faults.{IsNoHeap, HoldsLog, IsReadable, IsFaultAt, IsToldOf, IsErrorOrOutside, ComesBeforeWrites, IsLogLeft};
+ghost use Rattle.heap_recovery.specs.Faults.{stored_in, IsNoHeap, IsReadable, IsFaultAt, IsToldOf, IsErrorOrOutside, ComesBeforeWrites, IsLogLeft};
 ghost use Rattle.heap_recovery.specs.Recovered.{IsRecovered, IsFromOutside, OpenPasses};
 
 use crate::at::At;
@@ -23,8 +27,8 @@ use crate::read_image::read_image;
 use crate::reading::Reading;
 use disk_model::Disk;
 use gated_log::Log;
-use log_machine::PageWords;
 use object_layout::{WalkError, WordSlice, walk};
+use page_cache::PageCache;
 use std::alloc::Global;
 
 /// A heap that was opened, in which no writes may be taken back any more.
@@ -32,8 +36,8 @@ use std::alloc::Global;
 pub struct Recovered {
     /// The log, in which no record waits.
     pub log: Log,
-    /// The words of both spaces after the log's records.
-    pub words: PageWords,
+    /// The pages of both spaces in memory, as they are after the log's records.
+    pub cache: PageCache,
     /// How many pages each space has.
     pub pages: u32,
     /// How many words of the current space its objects take.
@@ -49,34 +53,38 @@ pub struct Recovered {
 /// `NotHeap` and `Damaged` tell the first fault of the image. The disk is then as it was, but for a fault at an address: that is told
 /// after the rollback was forced.
 pub fn recover<D: Disk>(alloc: Global, disk: &mut D) -> Result<Recovered, RecoverError>
-    // On every disk what is opened is a shaped log, rolled back.
-    ensures opens { IfOk result (λ found. (s : Super) × (batches : List (List Record)) × IsShapedLog s batches × IsRecovered s batches found) }
+    // On every disk what is opened is a log that is shaped beside some pages, rolled back.
+    ensures opens { IfOk result (λ found. (s : Super) × (batches : List (List Record)) × (stored : Pages) × IsShapedLog s batches stored × IsRecovered s batches stored found) }
     ensures inside { IfOk result (λ found. log_place found.log + log_room found.log ≤ D.extent disk.new) }
     ensures disk { KeepsDisk D.Disk disk.old disk.new (open_device result) }
 
-    // It is the log of the image. An error tells what is wrong with the image, and what is wrong is told.
-    ensures sound { IsTrue D.tells → IfOk result (λ found. (s : Super) × (batches : List (List Record)) × HoldsLog s batches (D.bytes disk.old) × IsShapedLog s batches × IsRecovered s batches found) }
+    // They are the log and the pages of the image. An error tells what is wrong with the image, and what is wrong is told.
+    ensures sound { IsTrue D.tells → IfOk result (λ found. (s : Super) × (batches : List (List Record)) × (stored : Pages) × IsShaped s batches stored (D.bytes disk.old) × IsRecovered s batches stored found) }
     ensures refused { IsTrue D.tells → IfErr result (λ e. IsToldOf e (D.bytes disk.old)) }
     ensures not_heap { IsTrue D.tells → IsNoHeap (D.bytes disk.old) → IsErrAnd result (IsErrorOrOutside NotHeap) }
     ensures damaged { IsTrue D.tells → (at : At) → IsFaultAt at (D.bytes disk.old) → IsErrAnd result (IsErrorOrOutside (Damaged at)) }
     ensures left_alone { IfErr result (λ e. ComesBeforeWrites e → OnlyReads D.Disk disk.old disk.new (open_device result)) }
+    // An image with a fault that comes before writes is only read, whatever the end: the first stop of its disk doesn't come here.
+    ensures reads_not_heap { IsTrue D.tells → IsNoHeap (D.bytes disk.old) → OnlyReads D.Disk disk.old disk.new (open_device result) }
+    ensures reads_damaged { IsTrue D.tells → (at : At) → IsFaultAt at (D.bytes disk.old) → ComesBeforeWrites (Damaged at) → OnlyReads D.Disk disk.old disk.new (open_device result) }
 
     // A crash at any moment leaves an image with the same log, or that log rolled back; where it is wrong, with the same fault.
-    ensures moments_readable { IsTrue D.tells → Only (D.bytes disk.old) (D.may_leave disk.old) → (s : Super) (batches : List (List Record)) (state : State) → IsReadable s batches state (D.bytes disk.old) → LeavesOnly D.moment D.left_since disk.old disk.new (IsLogLeft s batches) }
+    ensures moments_readable { IsTrue D.tells → Only (D.bytes disk.old) (D.may_leave disk.old) → (s : Super) (batches : List (List Record)) (state : State) → IsReadable s batches state (D.bytes disk.old) → LeavesOnly D.moment D.left_since disk.old disk.new (IsLogLeft s batches (stored_in s (D.bytes disk.old))) }
     ensures moments_not_heap { IsTrue D.tells → Only (D.bytes disk.old) (D.may_leave disk.old) → IsNoHeap (D.bytes disk.old) → LeavesOnly D.moment D.left_since disk.old disk.new IsNoHeap }
     ensures moments_damaged { IsTrue D.tells → Only (D.bytes disk.old) (D.may_leave disk.old) → (at : At) → IsFaultAt at (D.bytes disk.old) → LeavesOnly D.moment D.left_since disk.old disk.new (IsFaultAt at) }
 
-    // A shaped image is opened as it is, and the disk then holds it rolled back.
-    ensures found { IsTrue D.tells → (s : Super) (batches : List (List Record)) → IsShaped s batches (D.bytes disk.old) → IfOk result (IsRecovered s batches) }
-    ensures shaped { IsTrue D.tells → (s : Super) (batches : List (List Record)) → IsShaped s batches (D.bytes disk.old) → IfErr result IsFromOutside }
-    ensures holds { IsTrue D.tells → (s : Super) (batches : List (List Record)) → IsShaped s batches (D.bytes disk.old) → IfOk result (λ found. Holds s (rolled_back s batches) (D.bytes disk.new)) }
+    // A shaped image is opened as it is, and the disk then holds it rolled back. The pages that it stores are known.
+    ensures found { IsTrue D.tells → (s : Super) (batches : List (List Record)) (stored : Pages) → IsShaped s batches stored (D.bytes disk.old) → IfOk result (IsRecovered s batches stored) }
+    ensures shaped { IsTrue D.tells → (s : Super) (batches : List (List Record)) (stored : Pages) → IsShaped s batches stored (D.bytes disk.old) → IfErr result IsFromOutside }
+    ensures holds { IsTrue D.tells → (s : Super) (batches : List (List Record)) (stored : Pages) → IsShaped s batches stored (D.bytes disk.old) → IfOk result (λ found. Holds s (rolled_back s batches) stored (D.bytes disk.new)) }
+    ensures known { IsTrue D.tells → IfOk result (λ found. Knows (cache_store found.cache) (D.bytes disk.new)) }
     ensures durable { IsTrue D.tells → Only (D.bytes disk.old) (D.may_leave disk.old) → IfOk result (λ found. Only (D.bytes disk.new) (D.may_leave disk.new)) }
 
     // A crash at any moment leaves the image as it was, or with its log rolled back: both stand for the same graph and commits.
-    ensures moments { IsTrue D.tells → Only (D.bytes disk.old) (D.may_leave disk.old) → (s : Super) (batches : List (List Record)) → IsShaped s batches (D.bytes disk.old) → LeavesOnly D.moment D.left_since disk.old disk.new (IsLeftByOpening s batches) }
-    ensures passes { IsTrue D.tells → (s : Super) (batches : List (List Record)) → IsShaped s batches (D.bytes disk.old) → OpenPasses (opening_calls s batches) (D.passed disk.old) (D.passed disk.new) result }
+    ensures moments { IsTrue D.tells → Only (D.bytes disk.old) (D.may_leave disk.old) → (s : Super) (batches : List (List Record)) (stored : Pages) → IsShaped s batches stored (D.bytes disk.old) → LeavesOnly D.moment D.left_since disk.old disk.new (IsLeftByOpening s batches stored) }
+    ensures passes { IsTrue D.tells → (s : Super) (batches : List (List Record)) (stored : Pages) → IsShaped s batches stored (D.bytes disk.old) → OpenPasses (opening_calls s batches) (D.passed disk.old) (D.passed disk.new) result }
     // Where nothing is rolled back the disk is only read.
-    ensures no_first_stop { IsTrue D.tells → (s : Super) (batches : List (List Record)) → IsShaped s batches (D.bytes disk.old) → rollback_of s batches ≡ [] → D.stops disk.old ≡ 0 → D.stops disk.new ≡ 0 }
+    ensures no_first_stop { IsTrue D.tells → (s : Super) (batches : List (List Record)) (stored : Pages) → IsShaped s batches stored (D.bytes disk.old) → rollback_of s batches ≡ [] → D.stops disk.old ≡ 0 → D.stops disk.new ≡ 0 }
 {
     let mut read = read_image(alloc, disk)?;
     read.roll_back()?;
@@ -87,11 +95,16 @@ pub fn recover<D: Disk>(alloc: Global, disk: &mut D) -> Result<Recovered, Recove
 }
 
 impl Reading {
-    /// Rolls back the writes of unfinished transactions in memory. The records that do so wait to be forced.
+    /// Rolls back the writes of unfinished transactions in memory. The records that do so wait to be forced, and their pages have
+    /// them.
     fn roll_back(&mut self) -> Result<(), RecoverError>
-        requires { log_used self.old.log + reserve self.old.state ≤ log_room self.old.log }
+        requires room { log_used self.old.log + reserve self.old.state ≤ log_room self.old.log }
+        requires next { EachLacks (log_count self.old.log + 1) (cached self.old.cache) }
+        requires few { log_count self.old.log < 2 ^ 32 }
 
-        ensures words { OnOk result (self.new.words ≡ all_taken_back self.old.state self.old.words) }
+        ensures words { OnOk result ((cached self.new.cache).words ≡ all_taken_back self.old.state (cached self.old.cache).words) }
+        ensures pages { OnOk result (cached self.new.cache ≡ redo_all (log_count self.old.log + 1) (cached self.old.cache) (rollback self.old.state)) }
+        ensures store { cache_store self.new.cache ≡ cache_store self.old.cache }
         ensures state { self.new.state ≡ self.old.state }
         ensures of { self.new.of ≡ self.old.of }
         ensures place { log_place self.new.log ≡ log_place self.old.log }
@@ -101,19 +114,20 @@ impl Reading {
         ensures error { IfErr result (λ e. e ≡ NoMemory) }
     {
         let records = self.state.rollback()?;
+        let first = self.log.records() + 1;
         self.log.append_all(&records)?;
         self.log.reserve(0)?;
-        self.words.apply_all(&records);
+        self.cache.apply_all(first, &records);
         Ok(())
     }
 
     /// The first address at which the used words are no objects that refer to one another, if there is one.
     fn walk_fault(&self, alloc: Global) -> Result<Option<u32>, RecoverError>
-        ensures passes { IfOk result (λ fault. fault ≡ None → IsWalked self.now.words self.now.state.base self.now.state.used) }
-        ensures fault { IfOk result (λ fault. (at : ℕ) → fault ≡ Some at → IsWalkFault self.now.words self.now.state.base self.now.state.used at) }
+        ensures passes { IfOk result (λ fault. fault ≡ None → IsWalked (cached self.now.cache).words self.now.state.base self.now.state.used) }
+        ensures fault { IfOk result (λ fault. (at : ℕ) → fault ≡ Some at → IsWalkFault (cached self.now.cache).words self.now.state.base self.now.state.used at) }
         ensures error { IfErr result (λ e. e ≡ NoMemory) }
     {
-        let mut words = WordSlice::of(self.words.as_slice());
+        let mut words = WordSlice::of(self.cache.as_slice());
         match walk(alloc, &mut words, self.state.base(), self.state.used()) {
             Ok(()) => Ok(None),
             Err(WalkError::Damaged { address }) => Ok(Some(address)),
@@ -128,7 +142,7 @@ impl Reading {
         ensures whole { fault ≡ None → IsOk result }
         ensures walked { IfOk result (λ found. fault ≡ None) }
         ensures log { IfOk result (λ found. found.log ≡ self.log) }
-        ensures words { IfOk result (λ found. found.words ≡ self.words) }
+        ensures cache { IfOk result (λ found. found.cache ≡ self.cache) }
         ensures pages { IfOk result (λ found. found.pages ≡ self.of.pages) }
         ensures used { IfOk result (λ found. found.used ≡ self.state.used) }
         ensures commits { IfOk result (λ found. found.commits ≡ self.state.commits) }
@@ -146,7 +160,7 @@ impl Reading {
             commits: self.state.commits(),
             next: self.state.next(),
             log: self.log,
-            words: self.words,
+            cache: self.cache,
         })
     }
 }

@@ -4,23 +4,31 @@ use Rattle.log_records.specs.declared.Record.{Record}
 use Rattle.log_machine.specs.AbortLaws.{rollback_words}
 use Rattle.log_machine.specs.Machine.{put_record, losing, rollback, all_taken_back}
 use Rattle.log_machine.specs.WordsLaws.{length-each_taken_back}
+use Rattle.page_redo.specs.Redo.{redo_all}
+use Rattle.page_cache.specs.CacheState.{cached}
 use Rattle.heap_recovery.proofs.Opening.{roll_fits}
 use Rattle.heap_recovery.proofs.reading.Reading.roll_back.Goals as goal
 
 pub append_all-requires : goal.append_all-requires
-append_all-requires c = roll_fits c.args.self.now.log c.args.self.now.state c.deref.result.now c.requires (c.deref.ensures.value ∙ c.in_ok-records.ensures.records)
+append_all-requires c = roll_fits c.args.self.now.log c.args.self.now.state c.deref.result.now c.requires.room (c.deref.ensures.value ∙ c.in_ok-records.ensures.records)
 
 pub invariant_of-self-2-clause-sized : goal.invariant_of-self-2-clause-sized
 invariant_of-self-2-clause-sized c =
-    let old = c.args.self.now.words in
+    let old = (cached c.args.self.now.cache).words in
     let state = c.args.self.now.state in
     let records : c.deref-2.result.now ≡ rollback state = c.deref-2.ensures.value ∙ c.in_ok-records.ensures.records in
-    let now : c.apply_all.new.self ≡ all_taken_back state old = c.apply_all.ensures ∙ ap (λ (rs : List Record). fold put_record old rs) records ∙ rollback_words state old in
+    let now : (cached c.apply_all.new.self).words ≡ all_taken_back state old = c.apply_all.ensures.words ∙ ap (λ (rs : List Record). fold put_record old rs) records ∙ rollback_words state old in
     ap length now ∙ length-each_taken_back (losing state) old ∙ c.args.self.now.sized
 
 pub returns-clause-words : goal.returns-clause-words
 returns-clause-words c =
-    let old = c.args.self.now.words in
+    let old = (cached c.args.self.now.cache).words in
     let state = c.args.self.now.state in
     let records : c.deref-2.result.now ≡ rollback state = c.deref-2.ensures.value ∙ c.in_ok-records.ensures.records in
-    c.apply_all.ensures ∙ ap (λ (rs : List Record). fold put_record old rs) records ∙ rollback_words state old
+    c.apply_all.ensures.words ∙ ap (λ (rs : List Record). fold put_record old rs) records ∙ rollback_words state old
+
+pub returns-clause-pages : goal.returns-clause-pages
+returns-clause-pages c =
+    let old = cached c.args.self.now.cache in
+    let records : c.deref-2.result.now ≡ rollback c.args.self.now.state = c.deref-2.ensures.value ∙ c.in_ok-records.ensures.records in
+    c.apply_all.ensures.redone ∙ ap (λ (rs : List Record). redo_all c.first rs old) records
