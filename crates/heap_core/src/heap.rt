@@ -16,6 +16,7 @@ ghost use Rattle.graph_model.specs.declared.event.Event.TheVariants.{Force};
 ghost use Rattle.graph_model.specs.declared.reply.Refusal.TheVariants.{DiskFault, Stopped};
 ghost use Rattle.image_plan.specs.declared.superblock.Super.{Super};
 ghost use Rattle.log_records.specs.declared.Record.{Record};
+ghost use Rattle.page_redo.specs.Pages.{Pages};
 ghost use Rattle.heap_model.specs.Image.{IsShapedLog, Holds, IsShaped, IsLegal};
 ghost use Rattle.graph_model.specs.declared.id.Id.{Id};
 ghost use Rattle.graph_words.specs.Places.{Places};
@@ -117,20 +118,21 @@ impl<D: Disk> Heap<D> {
     ghost use Rattle.heap_core.specs.Refusals.{IsToldOf, IsErrorOrOutside, ComesBeforeWrites};
     ghost use Rattle.heap_core.specs.declared.errors.OpenError.TheVariants.{NotHeap, Damaged};
     ghost use Rattle.heap_recovery.specs.declared.at.At.{At};
-    ghost use Rattle.heap_recovery.specs.Faults.{IsNoHeap, HoldsLog, IsFaultAt};
+    ghost use Rattle.heap_recovery.specs.Faults.{IsNoHeap, IsFaultAt};
 
     /// Opens the heap on the disk. An error gives the disk back. `NotHeap` and `Damaged` tell the first fault of its image, and the disk is then as it
     /// was, but for a fault at an address: that is told after the rollback was forced.
     pub fn open(alloc: Global, mut disk: D) -> Result<Heap<D>, (OpenError, D)>
         ensures disk { KeepsDisk D.Disk disk (opened_disk result) (opened_device result) }
 
-        // What is opened is the core that a shaped log says, whatever graph stands in it, under whatever names: the log that was read.
-        ensures opens { IfOk result (λ heap. (s : Super) × (batches : List (List Record)) × (shaped : IsShapedLog s batches) × ((born : Bool) (places : Places) (g : Graph) → IsFound s batches shaped born places g → IsCore (opened s batches born places g) heap)) }
+        // What is opened is the core that a shaped log says beside stored pages, whatever graph stands in it, under whatever names: the log and the
+        // pages that were read.
+        ensures opens { IfOk result (λ heap. (s : Super) × (batches : List (List Record)) × (stored : Pages) × (shaped : IsShapedLog s batches stored) × ((born : Bool) (places : Places) (g : Graph) → IsFound s batches stored shaped born places g → IsCore (opened s batches stored born places g) heap)) }
 
         ensures unfailed { IfOk result (λ heap. failed_at heap ≡ None) }
 
-        // Of a disk that tells it is the log of its image. An error tells what is wrong with the image, and what is wrong is told.
-        ensures sound { IsTrue D.tells → IfOk result (λ heap. (s : Super) × (batches : List (List Record)) × HoldsLog s batches (D.bytes disk) × (shaped : IsShapedLog s batches) × ((born : Bool) (places : Places) (g : Graph) → IsFound s batches shaped born places g → IsCore (opened s batches born places g) heap)) }
+        // Of a disk that tells they are those of its image. An error tells what is wrong with the image, and what is wrong is told.
+        ensures sound { IsTrue D.tells → IfOk result (λ heap. (s : Super) × (batches : List (List Record)) × (stored : Pages) × (shaped : IsShaped s batches stored (D.bytes disk)) × ((born : Bool) (places : Places) (g : Graph) → IsFound s batches stored shaped.log born places g → IsCore (opened s batches stored born places g) heap)) }
         ensures refused { IsTrue D.tells → IfErr result (λ e. IsToldOf e.0 (D.bytes disk)) }
         ensures not_heap { IsTrue D.tells → IsNoHeap (D.bytes disk) → IsErrAnd result (λ e. IsErrorOrOutside NotHeap e.0) }
         ensures damaged { IsTrue D.tells → (at : At) → IsFaultAt at (D.bytes disk) → IsErrAnd result (λ e. IsErrorOrOutside (Damaged at) e.0) }
@@ -139,20 +141,20 @@ impl<D: Disk> Heap<D> {
         ensures moments_not_heap { IsTrue D.tells → Only (D.bytes disk) (D.may_leave disk) → IsNoHeap (D.bytes disk) → LeavesOnly D.moment D.left_since disk (opened_disk result) IsNoHeap }
         ensures moments_damaged { IsTrue D.tells → Only (D.bytes disk) (D.may_leave disk) → (at : At) → IsFaultAt at (D.bytes disk) → LeavesOnly D.moment D.left_since disk (opened_disk result) (IsFaultAt at) }
 
-        // Of a shaped image it is the log that the disk holds; where that is legal the disk then holds the core.
-        ensures found { IsTrue D.tells → (s : Super) (batches : List (List Record)) → (shaped : IsShaped s batches (D.bytes disk)) → IfOk result (λ heap. (born : Bool) (places : Places) (g : Graph) → IsFound s batches shaped.log born places g → IsCore (opened s batches born places g) heap) }
-        ensures holds { IsTrue D.tells → (s : Super) (batches : List (List Record)) → (legal : IsLegal s batches (D.bytes disk)) → Only (D.bytes disk) (D.may_leave disk) → IfOk result (λ heap. (places : Places) (g : Graph) → IsFound s batches legal.log.shaped true places g → IsHeap s (opened s batches true places g) heap) }
+        // Of a shaped image they are the log and the pages that the disk holds; where that is legal the disk then holds the core.
+        ensures found { IsTrue D.tells → (s : Super) (batches : List (List Record)) (stored : Pages) → (shaped : IsShaped s batches stored (D.bytes disk)) → IfOk result (λ heap. (born : Bool) (places : Places) (g : Graph) → IsFound s batches stored shaped.log born places g → IsCore (opened s batches stored born places g) heap) }
+        ensures holds { IsTrue D.tells → (s : Super) (batches : List (List Record)) (stored : Pages) → (legal : IsLegal s batches stored (D.bytes disk)) → Only (D.bytes disk) (D.may_leave disk) → IfOk result (λ heap. (places : Places) (g : Graph) → IsFound s batches stored legal.log.shaped true places g → IsHeap s (opened s batches stored true places g) heap) }
         // A shaped image is refused only for want of memory or by the disk.
-        ensures shaped { IsTrue D.tells → (s : Super) (batches : List (List Record)) → IsShaped s batches (D.bytes disk) → IfErr result (λ e. IsFromOutside e.0) }
+        ensures shaped { IsTrue D.tells → (s : Super) (batches : List (List Record)) (stored : Pages) → IsShaped s batches stored (D.bytes disk) → IfErr result (λ e. IsFromOutside e.0) }
         // At each moment of it a crash leaves the image as it was, or with its log rolled back: both stand for the same graph and commits.
-        ensures moments { IsTrue D.tells → Only (D.bytes disk) (D.may_leave disk) → (s : Super) (batches : List (List Record)) → IsShaped s batches (D.bytes disk) → LeavesOnly D.moment D.left_since disk (opened_disk result) (IsLeftByOpening s batches) }
-        ensures crash { IsTrue D.tells → Only (D.bytes disk) (D.may_leave disk) → (s : Super) (batches : List (List Record)) → IsShaped s batches (D.bytes disk) → (image : List ℕ) → D.may_leave (opened_disk result) image → IsLeftByOpening s batches image }
+        ensures moments { IsTrue D.tells → Only (D.bytes disk) (D.may_leave disk) → (s : Super) (batches : List (List Record)) (stored : Pages) → IsShaped s batches stored (D.bytes disk) → LeavesOnly D.moment D.left_since disk (opened_disk result) (IsLeftByOpening s batches stored) }
+        ensures crash { IsTrue D.tells → Only (D.bytes disk) (D.may_leave disk) → (s : Super) (batches : List (List Record)) (stored : Pages) → IsShaped s batches stored (D.bytes disk) → (image : List ℕ) → D.may_leave (opened_disk result) image → IsLeftByOpening s batches stored image }
         // It writes only where it has to take transactions' writes back.
-        ensures passes { IsTrue D.tells → (s : Super) (batches : List (List Record)) → IsShaped s batches (D.bytes disk) → OpenedPasses (opening_calls s batches) (D.passed disk) (D.passed (opened_disk result)) result }
-        // The disk then holds the log rolled back, and a crash leaves nothing else.
-        ensures rolled { IsTrue D.tells → (s : Super) (batches : List (List Record)) → IsShaped s batches (D.bytes disk) → IfOk result (λ heap. Holds s (rolled_back s batches) (D.bytes (heap_disk heap))) }
+        ensures passes { IsTrue D.tells → (s : Super) (batches : List (List Record)) (stored : Pages) → IsShaped s batches stored (D.bytes disk) → OpenedPasses (opening_calls s batches) (D.passed disk) (D.passed (opened_disk result)) result }
+        // The disk then holds the log rolled back beside the same pages, and a crash leaves nothing else.
+        ensures rolled { IsTrue D.tells → (s : Super) (batches : List (List Record)) (stored : Pages) → IsShaped s batches stored (D.bytes disk) → IfOk result (λ heap. Holds s (rolled_back s batches) stored (D.bytes (heap_disk heap))) }
         ensures durable { IsTrue D.tells → Only (D.bytes disk) (D.may_leave disk) → IfOk result (λ heap. Only (D.bytes (heap_disk heap)) (D.may_leave (heap_disk heap))) }
-        ensures no_first_stop { IsTrue D.tells → (s : Super) (batches : List (List Record)) → IsShaped s batches (D.bytes disk) → rollback_of s batches ≡ [] → D.stops disk ≡ 0 → D.stops (opened_disk result) ≡ 0 }
+        ensures no_first_stop { IsTrue D.tells → (s : Super) (batches : List (List Record)) (stored : Pages) → IsShaped s batches stored (D.bytes disk) → rollback_of s batches ≡ [] → D.stops disk ≡ 0 → D.stops (opened_disk result) ≡ 0 }
     {
         // The table takes its memory before the disk is written.
         let mut table = match TxnTable::new(alloc, 1) {
@@ -163,7 +165,7 @@ impl<D: Disk> Heap<D> {
             Ok(found) => {
                 let Recovered {
                     log,
-                    words,
+                    cache,
                     pages,
                     used,
                     commits,
@@ -171,7 +173,7 @@ impl<D: Disk> Heap<D> {
                 } = found;
                 table.set_next(next);
                 let spaces = Spaces::new(pages, 0, used, 0);
-                let working = Working::new(alloc, log, words, spaces, table);
+                let working = Working::new(alloc, log, cache, spaces, table);
                 Ok(Heap {
                     disk,
                     working,
