@@ -137,6 +137,9 @@ impl<D: Disk> Heap<D> {
         ensures not_heap { IsTrue D.tells → IsNoHeap (D.bytes disk) → IsErrAnd result (λ e. IsErrorOrOutside NotHeap e.0) }
         ensures damaged { IsTrue D.tells → (at : At) → IsFaultAt at (D.bytes disk) → IsErrAnd result (λ e. IsErrorOrOutside (Damaged at) e.0) }
         ensures left_alone { IfErr result (λ e. ComesBeforeWrites e.0 → OnlyReads D.Disk disk (opened_disk result) (opened_device result)) }
+        // An image with a fault that comes before writes is only read, whatever the end: the first stop of its disk doesn't come here.
+        ensures reads_not_heap { IsTrue D.tells → IsNoHeap (D.bytes disk) → OnlyReads D.Disk disk (opened_disk result) (opened_device result) }
+        ensures reads_damaged { IsTrue D.tells → (at : At) → IsFaultAt at (D.bytes disk) → ComesBeforeWrites (Damaged at) → OnlyReads D.Disk disk (opened_disk result) (opened_device result) }
         // A crash at any moment leaves an image that is refused as this one is.
         ensures moments_not_heap { IsTrue D.tells → Only (D.bytes disk) (D.may_leave disk) → IsNoHeap (D.bytes disk) → LeavesOnly D.moment D.left_since disk (opened_disk result) IsNoHeap }
         ensures moments_damaged { IsTrue D.tells → Only (D.bytes disk) (D.may_leave disk) → (at : At) → IsFaultAt at (D.bytes disk) → LeavesOnly D.moment D.left_since disk (opened_disk result) (IsFaultAt at) }

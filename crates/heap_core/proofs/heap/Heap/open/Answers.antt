@@ -1,12 +1,14 @@
 use Rattle.log_machine.specs.Machine.{words_in}
-use Rattle.std.proofs.Common.{◌≤◌, true, sym, ap, ◌∙◌, subst}
+use Rattle.std.proofs.Common.{◌≤◌, true, Result, sym, ap, ◌∙◌, subst}
+use Rattle.disk_model.specs.declared.disk.DiskError.{DiskError}
+use Rattle.disk_model.specs.Keeps.{OnlyReads}
 use Rattle.disk_model.specs.Moments.{begins}
 use Rattle.heap_recovery.specs.Faults.{IsNoHeap}
 use Rattle.heap_model.specs.Image.{shaped_image}
 use Rattle.heap_model.specs.Opening.{opening_calls}
-use Rattle.heap_core.specs.Causes.{IsFromOutside, ErrorPasses}
+use Rattle.heap_core.specs.Causes.{IsFromOutside, ErrorPasses, error_device}
 use Rattle.heap_core.proofs.RefinementOpen.{opened_bounds, opened_memory, opened_disk_holds, is_fresh}
-use Rattle.heap_core.proofs.OpenErrors.{outside_as, passes_as}
+use Rattle.heap_core.proofs.OpenErrors.{device_as, outside_as, passes_as}
 use Rattle.heap_core.proofs.heap.Heap.open.Goals as goal
 
 pub new-spaces-requires : goal.new-spaces-requires
@@ -85,6 +87,12 @@ returns-in-Err-recover-clause-passes g c tells s batches shaped =
     let d = g.D.Disk in
     subst (λ e. ErrorPasses (opening_calls s batches) (d.passed c.args.disk) (d.passed c.recover.new.disk) e) (sym c.from.ensures)
     (passes_as (opening_calls s batches) (d.passed c.args.disk) (d.passed c.recover.new.disk) c.in-Err-recover.e (c.in-Err-recover.ensures.passes tells s batches shaped))
+
+-- an error of the disk is the recovery's
+pub returns-in-Err-recover-clause-reads_not_heap : goal.returns-in-Err-recover-clause-reads_not_heap
+returns-in-Err-recover-clause-reads_not_heap g c tells none =
+    let P : Result (Unit {0}) DiskError → Type 0 = λ r. OnlyReads g.D.Disk c.args.disk c.recover.new.disk r in
+    subst P (device_as c.in-Err-recover.e ∙ ap error_device (sym c.from.ensures)) (c.in-Err-recover.ensures.reads_not_heap tells none)
 
 -- a crash now leaves what one at some moment of the opening does
 pub returns-in-Ok-recover-clause-crash : goal.returns-in-Ok-recover-clause-crash
