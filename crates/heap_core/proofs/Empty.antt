@@ -1,5 +1,5 @@
 -- An empty heap, as it is written over an image.
-use Rattle.std.proofs.Common.{lit<, ◌≡◌, ◌⊎◌, inl, inr, ⊎_elim, ℕ, ◌+◌, ◌-◌, ◌*◌, ◌<◌, ◌≤◌, List, [], ◌∷◌, ◌++◌, length, get_or, take, drop, slice_index, ◌==◌, if◌then◌else◌, Result, Err, refl, sym, ◌∙◌, ap, subst, arith, append_assoc, length-append, length-drop}
+use Rattle.std.proofs.Common.{lit<, false, ◌≡◌, ◌⊎◌, inl, inr, ⊎_elim, ℕ, ◌+◌, ◌-◌, ◌*◌, ◌<◌, ◌≤◌, List, [], ◌∷◌, ◌++◌, length, get_or, take, drop, slice_index, ◌==◌, if◌then◌else◌, Result, Err, refl, sym, ◌∙◌, ap, subst, arith, append_assoc, length-append, length-drop}
 use Rattle.std.proofs.lemmas.Bool.{cases_eq}
 use Rattle.std.proofs.lemmas.Grind.{same_number_lists}
 use Rattle.std.proofs.lemmas.List.{take_at, drop_at, drop_more, get_or-drop, length-take-le}
@@ -8,6 +8,7 @@ use Rattle.disk_model.specs.declared.disk.DiskError.{DiskError}
 use Rattle.disk_model.specs.Disk.{part, Only, SameOutside}
 use Rattle.disk_model.specs.Moments.{LeavesOnly, weaker, joined}
 use Rattle.gate_slot.specs.Gate.{filled, IsClosed, SameButGate, IsFilling}
+use Rattle.gate_slot.specs.Images.{part_index}
 use Rattle.gate_slot.specs.Passing.{Passes, counted-add, joined as then_all, cut_short}
 use Rattle.gated_log.specs.Log.{HoldsBatches}
 use Rattle.image_plan.specs.declared.superblock.Super.{Super}
@@ -16,6 +17,12 @@ use Rattle.image_plan.specs.Super.{IsSuper, superblock}
 use Rattle.heap_core.proofs.Calls.{then_err}
 use Rattle.heap_core.specs.Format.{AreZero, IsEmptyHeap, IsFormatting, zero_writes, format_calls}
 use Rattle.heap_model.specs.CoreLawsNew.{new_legal}
+use Rattle.page_redo.specs.Pages.{pages_in, first_pages}
+use Rattle.page_store.specs.declared.frame.Frame.{Frame}
+use Rattle.page_store.specs.declared.frame.Frame.TheVariants.{First, Second}
+use Rattle.page_store.specs.Frame.{is_frame_open}
+use Rattle.page_store.specs.Page.{frame_of}
+use Rattle.page_cache.specs.ImageLaws.{none_stored}
 use Rattle.heap_model.specs.Image.{IsLegal}
 
 -- what is written over the front of an image, behind its first byte
@@ -61,16 +68,29 @@ module _ (s : Super) (image : List ℕ) (large : image_size s.pages s.log_bytes 
         shut = λ is_open. absurd (omega (arith, first, is_open));
       }
 
-  pub empty : IsSuper s → AreZero 64 (image_size s.pages s.log_bytes) image → IsLegal s [] (filled 0 1 (drop 1 (superblock s)) image)
+  -- the gates of all frames are closed
+  gate_shut : AreZero 64 (image_size s.pages s.log_bytes) image → (p f : ℕ) → p < pages_in s.pages → f ≤ 1
+      → (slice_index (part (filled 0 1 (drop 1 (superblock s)) image) (frame_offset s.log_bytes p f) 528) 0 == 1) ≡ false
+  gate_shut zero p f low one =
+      let made = filled 0 1 (drop 1 (superblock s)) image in
+      let at = frame_offset s.log_bytes p f in
+      let first : at + 0 ≡ at = omega arith in
+      let there : 64 + s.log_bytes + (2 * p + f) * 528 < image_size s.pages s.log_bytes = omega arith in
+      ap (λ (n : ℕ). n == 1) (part_index made at 528 0 (lit< tt) ∙ ap (λ (k : ℕ). slice_index made k) first ∙ behind_at at (omega arith) ∙ zero at (omega arith) there)
+
+  frames_shut : AreZero 64 (image_size s.pages s.log_bytes) image → (p : ℕ) → p < pages_in s.pages → (frame : Frame)
+      → is_frame_open (frame_of s.log_bytes p (filled 0 1 (drop 1 (superblock s)) image) frame) ≡ false
+  frames_shut zero p low First = gate_shut zero p 0 low (omega arith)
+  frames_shut zero p low Second = gate_shut zero p 1 low (omega arith)
+
+  pub empty : IsSuper s → AreZero 64 (image_size s.pages s.log_bytes) image → IsLegal s [] (first_pages s.pages) (filled 0 1 (drop 1 (superblock s)) image)
   empty good zero = record {
     log = new_legal s good;
     held = record {
       size = omega (arith, long, large);
       super = ap (λ (l : List ℕ). take 64 l) front ∙ take_at (superblock s) (drop 64 image) 64 size;
       log = subst (λ (l : List ℕ). HoldsBatches (take s.log_bytes l) []) (sym behind) (zero_log good zero);
-      frames = λ p f low one is_open.
-          let there : 64 + s.log_bytes + (2 * p + f) * 528 < image_size s.pages s.log_bytes = omega arith in
-          absurd (omega (arith, is_open, behind_at (frame_offset s.log_bytes p f) (omega arith), zero (frame_offset s.log_bytes p f) (omega arith) there));
+      pages = none_stored s.pages s.log_bytes (filled 0 1 (drop 1 (superblock s)) image) (λ p low frame. frames_shut zero p low frame);
     };
   }
 
@@ -102,7 +122,7 @@ zeroing s old d c end shut outside = inl (λ is_open. shut (sym (outside.before 
 -- while the superblock is filled in
 pub filling : (s : Super) (old seen d c : List ℕ) → image_size s.pages s.log_bytes ≤ length seen → IsSuper s → AreZero 64 (image_size s.pages s.log_bytes) seen → IsFilling 0 1 (drop 1 (superblock s)) seen d c → IsFormatting s old c
 filling s old seen d c large good zero fill = elim (cases_eq (get_or c 0 0) 1) [
-  | inl is_open ↦ inr (inr (subst (λ (x : List ℕ). IsLegal s [] x) (sym (fill.whole is_open)) (empty s seen large good zero)))
+  | inl is_open ↦ inr (inr (subst (λ (x : List ℕ). IsLegal s [] (first_pages s.pages) x) (sym (fill.whole is_open)) (empty s seen large good zero)))
   | inr shut ↦ inl shut
 ]
 

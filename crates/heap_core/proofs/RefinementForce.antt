@@ -30,13 +30,15 @@ use Rattle.core_laws.specs.Valid.{RunsLocked, IsValid, IsSound, IsReached}
 use Rattle.image_plan.specs.declared.superblock.Super.{Super}
 use Rattle.log_records.specs.declared.Record.{Record}
 use Rattle.log_records.specs.Record.{spellings}
-use Rattle.heap_model.specs.Core.{Core, ground, state_behind, next_number, core_refusal, answer, with_entry, after_refusal, after, force_calls}
-use Rattle.heap_model.specs.CoreCrash.{IsSuperOf, IsOnDisk, IsCommitPrefix}
+use Rattle.page_redo.specs.Pages.{Pages}
+use Rattle.page_cache.specs.CacheState.{cached}
+use Rattle.heap_model.specs.Core.{Core, ground, all_words, state_behind, next_number, core_refusal, answer, with_entry, after_refusal, after, force_calls}
+use Rattle.heap_model.specs.CoreCrash.{IsLogged, IsSuperOf, IsOnDisk, IsCommitPrefix}
 use Rattle.heap_model.specs.CoreLawsRoom.{forced-with_batch, records_of-with_batch}
 use Rattle.heap_model.specs.CoreLawsHeld.{held_with}
+use Rattle.heap_model.specs.CoreLawsLogged.{logged_step}
 use Rattle.heap_model.specs.CoreLawsRun.{failed_refusal, failed_after, calls-force, calls-unfailed, after_history, step_history, same_step}
 use Rattle.heap_model.specs.Image.{Holds}
-use Rattle.log_machine.specs.Machine.{words}
 use Rattle.heap_core.specs.Refinement.{OnDisk, Remembers, DiskHolds, Steps, StepsOn}
 use Rattle.heap_core.proofs.RefinementLeft.{keeps_refused, keeps_cut}
 use Rattle.memory_laws.specs.LogLaws.{keeps_same}
@@ -61,15 +63,15 @@ pub force_does : (m new : Memory) (c : Core) (reply : Reply) → IsValid c → I
 force_does m new c reply valid is keeps at room stored spaces table locks sealed replied =
     let a = account c.history in
     let same = records_forced c.batches c.pending in
-    let d = record c { batches = with_batch c.batches c.pending; pending = [] } in
-    let here : ground d ≡ ground c = ap (λ rs. record { places = c.places; words = words c.pages rs; state = state_behind c rs }) same in
+    let d = record c { batches = with_batch c.batches c.pending; words = all_words c; pending = [] } in
+    let here : ground d ≡ ground c = ap (λ rs. record { places = c.places; words = all_words c; state = state_behind c rs }) same in
     let P : Core → Type 0 = λ d. IsMemory new (account_after a (record { event = Force; reply = Durable (length a.sealed) })) d in
     does c Force None (Durable m.sealed) reply new (force_granted c valid) replied (λ e. ap Durable (sym is.sealed))
     (λ e granted. subst P (sym (forced-with_batch c)) (record {
       log = keeps;
       place = at ∙ is.place;
       room = room ∙ is.room;
-      stored = stored ∙ is.stored ∙ ap (words c.pages) (sym same);
+      stored = stored ∙ is.stored;
       state = is.state;
       reached = ap (state_behind c) same ∙ is.reached;
       spaces = spaces ∙ is.spaces;
@@ -102,13 +104,19 @@ same_disk None c event other = let P : Core → Type 0 = λ d. SameDisk c d in s
 pub born_after : (c : Core) (event : Event) → IsTrue c.born → IsTrue (after c event).born
 born_after c event born = (same_step c (after c event) event (answer c event) (inl (refl, refl))).born ∙ born
 
+-- its words are those that its log leaves, if they were before, and stored pages hold as many records as their LSNs say
+logged_after : (c : Core) (event : Event) (stored : Pages) → IsLogged c stored → IsLogged (after c event) stored
+logged_after c event stored logged = logged_step c (after c event) stored event (answer c event) (inl (refl, refl)) logged
+
 -- only a force asks anything of the disk
 pub disk_stays : (s : Super) (c : Core) (event : Event) (image : List ℕ) (may_leave : List ℕ → Type 0) → (event ≡ Force → ⊥) → OnDisk s c image may_leave → OnDisk s (after c event) image may_leave
 disk_stays s c event image may_leave other disk =
     let same = same_disk (core_refusal c event) c event other in
     record {
       of = of_same s c (after c event) disk.of same.pages same.room same.lowest;
-      held = let P : List (List Record) → Type 0 = λ bs. Holds s bs image in subst P (sym same.batches) disk.held;
+      stored = disk.stored;
+      logged = logged_after c event disk.stored disk.logged;
+      held = let P : List (List Record) → Type 0 = λ bs. Holds s bs disk.stored image in subst P (sym same.batches) disk.held;
       only = disk.only;
     }
 
@@ -116,12 +124,15 @@ disk_stays s c event image may_leave other disk =
 pub disk_forced : (s : Super) (c : Core) (old new : List ℕ) (may_leave' may_leave : List ℕ → Type 0) → IsValid c → OnDisk s c old may_leave' → SameOutside 64 (64 + s.log_bytes) old new
     → HoldsBatches (part new 64 s.log_bytes) (with_batch c.batches c.pending) → Only new may_leave → OnDisk s (after c Force) new may_leave
 disk_forced s c old new may_leave' may_leave valid disk outside holds only =
-    let forced_now : after_refusal (core_refusal c Force) c Force ≡ record c { batches = with_batch c.batches c.pending; pending = [] } =
+    let forced_now : after_refusal (core_refusal c Force) c Force ≡ record c { batches = with_batch c.batches c.pending; words = all_words c; pending = [] } =
     ap (λ (o : Option Refusal). after_refusal o c Force) (force_granted c valid) ∙ forced-with_batch c in
     let P : Core → Type 0 = λ d. OnDisk s (with_entry d Force (answer c Force)) new may_leave in
+    let logged = logged_after c Force disk.stored disk.logged in
     subst P (sym forced_now) (record {
       of = of_same s c _ disk.of refl refl refl;
-      held = held_with s c.batches (with_batch c.batches c.pending) old new disk.held outside holds;
+      stored = disk.stored;
+      logged = subst (λ d. IsLogged (with_entry d Force (answer c Force)) disk.stored) forced_now logged;
+      held = held_with s c.batches (with_batch c.batches c.pending) disk.stored old new disk.held outside holds;
       only = only;
     })
 
@@ -240,7 +251,7 @@ module _ (c : Core) (w : Working) (log : Log) (works : IsMemory (memory w) (acco
 
   -- a force that the disk did
   abbrev pub ok_steps : (new : Working) (reply : Reply) (failed : Option ℕ) → IsValid c → RunsLocked c.g0 c.first c.history → failed ≡ None → Keeps new.log (with_batch c.batches c.pending) []
-      → log_place new.log ≡ log_place log → log_room new.log ≡ log_room log → new.words ≡ w.words → new.spaces ≡ w.spaces → new.table ≡ w.table → new.locks ≡ w.locks → new.sealed ≡ w.sealed → reply ≡ Durable w.sealed
+      → log_place new.log ≡ log_place log → log_room new.log ≡ log_room log → (cached new.cache).words ≡ (cached w.cache).words → new.spaces ≡ w.spaces → new.table ≡ w.table → new.locks ≡ w.locks → new.sealed ≡ w.sealed → reply ≡ Durable w.sealed
       → Steps c Force reply new failed
   ok_steps new reply failed valid runs none kept new_at new_room stored spaces table locks sealed replied =
       whole_steps c Force reply new failed (valid_after c Force valid runs tt) none
@@ -270,7 +281,7 @@ module _ (c : Core) (w : Working) (log : Log) (works : IsMemory (memory w) (acco
 
     pub ok_on : (image : List ℕ) (may_leave : List ℕ → Type 0) (reply : Reply) (new : Working) (failed : Option ℕ) → IsValid c → RunsLocked c.g0 c.first c.history → failed ≡ None → Keeps new.log (with_batch c.batches c.pending) []
         → HoldsBatches (part image (log_place log) (log_room log)) (with_batch c.batches c.pending) → SameOutside (log_place log) (log_place log + log_room log) old image → Only image may_leave
-        → log_place new.log ≡ log_place log → log_room new.log ≡ log_room log → new.words ≡ w.words → new.spaces ≡ w.spaces → new.table ≡ w.table → new.locks ≡ w.locks → new.sealed ≡ w.sealed → reply ≡ Durable w.sealed
+        → log_place new.log ≡ log_place log → log_room new.log ≡ log_room log → (cached new.cache).words ≡ (cached w.cache).words → new.spaces ≡ w.spaces → new.table ≡ w.table → new.locks ≡ w.locks → new.sealed ≡ w.sealed → reply ≡ Durable w.sealed
         → StepsOn s c Force reply new failed image may_leave
     ok_on image may_leave reply new failed valid runs none kept held outside only new_at new_room stored spaces table locks sealed replied = record {
       steps = ok_steps new reply failed valid runs none kept new_at new_room stored spaces table locks sealed replied;
@@ -286,7 +297,7 @@ module _ (c : Core) (w : Working) (log : Log) (works : IsMemory (memory w) (acco
 
     kept_batches : (bs : List (List Record)) (image : List ℕ) → IsSound c → IsOnDisk c bs → SameOutside 64 (64 + s.log_bytes) old image → HoldsBatches (part image (log_place log) (log_room log)) bs → IsCommitPrefix c image
     kept_batches bs image sound on outside held =
-        crash_law c s bs sound born on disk.of image (held_with s c.batches bs old image disk.held outside (let P : ℕ → ℕ → Type 0 = λ n m. HoldsBatches (part image n m) bs in in_log P held))
+        crash_law c s bs disk.stored sound born disk.logged on disk.of image (held_with s c.batches bs disk.stored old image disk.held outside (let P : ℕ → ℕ → Type 0 = λ n m. HoldsBatches (part image n m) bs in in_log P held))
 
     -- what a crash leaves during a force are first commits
     pub force_keeps : (image : List ℕ) → IsSound c → SameOutside (log_place log) (log_place log + log_room log) old image × (HoldsBatches (part image (log_place log) (log_room log)) c.batches ⊎ HoldsBatches (part image (log_place log) (log_room log)) (with_batch c.batches c.pending))

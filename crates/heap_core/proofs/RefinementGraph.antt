@@ -1,18 +1,18 @@
 -- The graph in memory: the words without what active transactions wrote are those in which the sealed transactions' graph is seen.
-use Rattle.std.proofs.Common.{◌≡◌, ℕ, List, [], ◌∷◌, length, Option, Some, None, refl, sym, ap, ◌∙◌, subst}
+use Rattle.std.proofs.Common.{◌≡◌, inl, ℕ, List, [], ◌∷◌, length, Option, Some, None, refl, sym, ap, ◌∙◌, subst}
 use Rattle.commit_order.specs.OrderLaws.{two_phase_ordered}
 use Rattle.core_laws.specs.CoreGraph.{core_seen}
 use Rattle.core_laws.specs.TakenBack.{session_undo, taken_by, committed_by_session}
-use Rattle.core_laws.specs.Valid.{RunsLocked, IsValid, IsSound}
+use Rattle.core_laws.specs.Valid.{RunsLocked, IsValid}
 use Rattle.graph_model.specs.Graph.{Graph}
 use Rattle.graph_model.specs.History.{Account, account, sealed, sessions}
 use Rattle.graph_model.specs.Transaction.{Transaction, serial}
 use Rattle.log_machine.specs.declared.UndoEntry.{UndoEntry}
-use Rattle.log_machine.specs.Machine.{State, undo_of, taken_back, committed_words}
+use Rattle.log_machine.specs.Machine.{State, undo_of, taken_back, all_taken_back}
 use Rattle.log_machine.specs.WordsLaws.{length-taken_back}
 use Rattle.object_layout.specs.Layout.{IsSeenAs}
 use Rattle.graph_words.specs.Places.{name_at}
-use Rattle.heap_model.specs.Core.{Core, Ground, ground, all_records, undo_with}
+use Rattle.heap_model.specs.Core.{Core, Ground, ground, all_words, undo_with}
 use Rattle.memory_laws.specs.CoreMemory.{IsMemory, kept_of}
 use Rattle.txn_table.specs.Table.{TableState, transaction_of}
 use Rattle.working_state.specs.declared.working.Working.{Working}
@@ -32,19 +32,19 @@ taken_same table undo a same (s ∷ ss) now =
     taken_same table undo a same ss (taken_back (undo_if (transaction_of table s)) now) ∙ ap (λ (us : List UndoEntry). taken_by undo a ss (taken_back us now)) (same s)
 
 -- what is in memory without it
-memory_committed : (c : Core) (w : Working) → (valid : IsValid c) → RunsLocked c.g0 c.first c.history → IsMemory (memory w) (account c.history) c → committed w ≡ committed_words c.pages c.lowest (all_records c)
+memory_committed : (c : Core) (w : Working) → (valid : IsValid c) → RunsLocked c.g0 c.first c.history → IsMemory (memory w) (account c.history) c → committed w ≡ all_taken_back valid.behind (all_words c)
 memory_committed c w valid runs is =
     let a = account c.history in
     let undo = undo_of valid.behind in
-    taken_same w.table undo a (λ s. ap undo_if (is.transactions s) ∙ undo_kept (ground c) valid.behind c.g0 a (a.active s) valid.told.reached) sessions w.words
+    taken_same w.table undo a (λ s. ap undo_if (is.transactions s) ∙ undo_kept (ground c) valid.behind c.g0 a (a.active s) valid.told.reached) sessions (memory w).words
     ∙ ap (taken_by undo a sessions) is.stored
     ∙ committed_by_session a c valid (two_phase_ordered c.g0 c.history runs.plain runs.two_phase)
 
 -- the graph of the sealed transactions is seen in it
-pub memory_seen : (c : Core) (w : Working) → IsSound c → IsValid c → RunsLocked c.g0 c.first c.history → IsMemory (memory w) (account c.history) c
+pub memory_seen : (c : Core) (w : Working) → IsValid c → RunsLocked c.g0 c.first c.history → IsMemory (memory w) (account c.history) c
     → IsSeenAs (name_at c.places) (committed w) 0 (serial c.g0 (sealed c.history))
-memory_seen c w sound valid runs is =
-    subst (λ (ws : List ℕ). IsSeenAs (name_at c.places) ws 0 (serial c.g0 (sealed c.history))) (sym (memory_committed c w valid runs is)) (core_seen c sound)
+memory_seen c w valid runs is =
+    subst (λ (ws : List ℕ). IsSeenAs (name_at c.places) ws 0 (serial c.g0 (sealed c.history))) (sym (memory_committed c w valid runs is)) (core_seen c (inl valid))
 
 -- taking back changes words where they are
 pub length-without_writes : (table : TableState) (ss now : List ℕ) → length (without_writes table now ss) ≡ length now

@@ -50,7 +50,10 @@ keeps_entry c event reply b image is same_sealed same_doubt same_acknowledged ke
         stands = record {
           super = first.stands.super;
           batches = first.stands.batches;
-          says = subst (λ (ts : List Transaction). Says (serial c.g0 (take k ts)) (c.before + k) first.stands.super first.stands.batches) (sym all) first.stands.says;
+          stored = first.stands.stored;
+          says =
+              subst (λ (ts : List Transaction). Says (serial c.g0 (take k ts)) (c.before + k) first.stands.super first.stands.batches first.stands.stored) (sym all)
+              first.stands.says;
           held = first.stands.held;
         };
         of = record { limits = first.of.limits; pages = first.of.pages; room = first.of.room; first = first.of.first };

@@ -1,5 +1,5 @@
 -- A heap that has just been opened.
-use Rattle.std.proofs.Common.{◌≡◌, inl, ℕ, ◌≤◌, Bool, true, false, List, length, None, is_some, refl, sym, ap, ◌∙◌, arith}
+use Rattle.std.proofs.Common.{◌≡◌, inl, ℕ, ◌+◌, ◌≤◌, Bool, true, false, List, length, None, is_some, refl, sym, ap, ◌∙◌, arith}
 use Rattle.std.specs.FinMap.{get-empty}
 use Rattle.std.specs.FinSet as set
 use Rattle.std.specs.FinSet.{contains-empty}
@@ -7,21 +7,26 @@ use Rattle.std.specs.Ordering.{nat_cmp}
 use Rattle.std.proofs.lemmas.List.{append-nil}
 use Rattle.disk_model.specs.Disk.{Only}
 use Rattle.gated_log.specs.Log.{records_of}
+use Rattle.gated_log.specs.LogState.{log_count}
 use Rattle.graph_model.specs.Graph.{Graph}
 use Rattle.graph_model.specs.History.{account, nothing_yet}
 use Rattle.heap_spaces.specs.Spaces.{SpacesState, IsSpaces}
 use Rattle.image_plan.specs.declared.superblock.Super.{Super}
-use Rattle.image_plan.specs.Super.{IsSuper}
 use Rattle.log_records.specs.declared.Record.{Record}
 use Rattle.log_machine.specs.AbortLaws.{settled}
-use Rattle.log_machine.specs.Machine.{start, words, words_in}
+use Rattle.log_machine.specs.Machine.{start, words_in}
 use Rattle.log_machine.specs.StateLaws.{leads_after_all, room_after_all}
-use Rattle.log_machine.specs.WordsLaws.{length-words}
+use Rattle.page_redo.specs.Pages.{Pages, lsn_of}
+use Rattle.page_redo.specs.PrefixLaws.{redone-words}
+use Rattle.page_redo.specs.Redo.{EachLacks}
+use Rattle.page_redo.specs.RedoLaws.{EachLacks-redone}
+use Rattle.page_cache.specs.CacheState.{cached}
 use Rattle.graph_words.specs.Places.{Places}
-use Rattle.heap_model.specs.CoreLawsOpening.{next_is, rolled_reached}
+use Rattle.heap_model.specs.CoreCrash.{IsLogged}
+use Rattle.heap_model.specs.CoreLawsOpening.{next_is, rolled_reached, redone_words-rolled_back, length-rolled_words, rolled_behind, rolled_prefixes}
 use Rattle.heap_model.specs.Core.{state_behind}
-use Rattle.heap_model.specs.Image.{IsShapedLog, Holds}
-use Rattle.heap_model.specs.Opening.{rolled_back, opened, used_in}
+use Rattle.heap_model.specs.Image.{IsShapedLog, IsLegalLog, Holds}
+use Rattle.heap_model.specs.Opening.{rolled_back, rolled_words, opened, used_in}
 use Rattle.heap_recovery.specs.declared.recovery.Recovered.{Recovered}
 use Rattle.heap_recovery.specs.Recovered.{IsRecovered}
 use Rattle.heap_memory.specs.Memory.{Memory}
@@ -34,8 +39,22 @@ use Rattle.working_state.specs.State.{memory}
 use Rattle.heap_core.specs.Refinement.{Remembers, DiskHolds}
 
 -- as many words are used as the log says
-used_found : (s : Super) (batches : List (List Record)) (found : Recovered) (shaped : IsShapedLog s batches) → IsRecovered s batches found → found.used ≡ shaped.state.used
-used_found s batches found shaped recovered = sym recovered.used ∙ ap used_in shaped.reached
+used_found : (s : Super) (batches : List (List Record)) (stored : Pages) (found : Recovered) (shaped : IsShapedLog s batches stored) → IsRecovered s batches stored found → found.used ≡ shaped.state.used
+used_found s batches stored found shaped recovered = sym recovered.used ∙ ap used_in shaped.reached
+
+-- the words in memory are those behind the opening
+words_found : (s : Super) (batches : List (List Record)) (stored : Pages) (found : Recovered) → IsShapedLog s batches stored → IsRecovered s batches stored found
+    → (cached found.cache).words ≡ rolled_words s batches stored
+words_found s batches stored found shaped recovered = ap (λ (at : Pages). at.words) recovered.cached ∙ redone_words-rolled_back s batches stored shaped
+
+-- no page has a record that the log lacks
+next_is_new : (s : Super) (batches : List (List Record)) (stored : Pages) (found : Recovered) → IsShapedLog s batches stored → IsRecovered s batches stored found
+    → EachLacks (log_count found.log + 1) (cached found.cache)
+next_is_new s batches stored found shaped recovered p =
+    let lacking = EachLacks-redone (records_of (rolled_back s batches)) stored (rolled_behind s batches stored shaped) p in
+    let same = ap (λ (at : Pages). lsn_of at p) recovered.cached in
+    let count = recovered.log.count in
+    omega arith
 
 -- a new table has no transaction
 none_begun : (table : TableState) (next : ℕ) → table ≡ new_table next → (s : ℕ) → transaction_of table s ≡ None
@@ -52,13 +71,13 @@ none_held locks places g is h = (
 -- transaction, and no lock.
 pub record IsFresh (found : Recovered) (m : Memory) : Type 0 where
   pub log : m.log ≡ found.log
-  pub words : m.words ≡ found.words
+  pub words : m.words ≡ (cached found.cache).words
   pub spaces : m.spaces ≡ record { pages = found.pages; base = 0; used = found.used; owed = 0 }
   pub table : m.table ≡ new_table found.next
   pub locks : m.locks ≡ set.empty
   pub sealed : m.sealed ≡ 0
 
-pub is_fresh : (found : Recovered) (spaces : SpacesState) (table first : TableState) (m : Memory) → m ≡ state.opened found.log found.words spaces table.next
+pub is_fresh : (found : Recovered) (spaces : SpacesState) (table first : TableState) (m : Memory) → m ≡ state.opened found.log (cached found.cache).words spaces table.next
     → spaces ≡ record { pages = found.pages; base = 0; used = found.used; owed = 0 } → table ≡ record { next = found.next; active = first.active } → IsFresh found m
 is_fresh found spaces table first m is space transactions = record {
   log = ap (λ x. x.log) is;
@@ -70,69 +89,86 @@ is_fresh found spaces table first m is space transactions = record {
 }
 
 -- what was found is the core of a heap that has just been opened, whatever graph stands in it
-fresh_memory : (s : Super) (batches : List (List Record)) (born : Bool) (places : Places) (g : Graph) (found : Recovered) (m : Memory) → (shaped : IsShapedLog s batches) → IsRecovered s batches found
-    → IsFresh found m → IsMemory m (account (opened s batches born places g).history) (opened s batches born places g)
-fresh_memory s batches born places g found m shaped recovered fresh =
-    let c = opened s batches born places g in
+fresh_memory : (s : Super) (batches : List (List Record)) (stored : Pages) (born : Bool) (places : Places) (g : Graph) (found : Recovered) (m : Memory) → (shaped : IsShapedLog s batches stored)
+    → IsRecovered s batches stored found → IsFresh found m → IsMemory m (account (opened s batches stored born places g).history) (opened s batches stored born places g)
+fresh_memory s batches stored born places g found m shaped recovered fresh =
+    let c = opened s batches stored born places g in
     let to = leads_after_all (start s.pages s.first) shaped.state (records_of batches) shaped.reached in
     let none = append-nil (records_of (rolled_back s batches)) in
     record {
       log = rw fresh.log recovered.log;
       place = rw fresh.log recovered.place;
       room = rw fresh.log recovered.room;
-      stored = fresh.words ∙ recovered.words ∙ ap (words s.pages) (sym none);
+      stored = fresh.words ∙ words_found s batches stored found shaped recovered;
       state = settled shaped.state;
-      reached = ap (state_behind c) none ∙ rolled_reached s batches shaped;
+      reached = ap (state_behind c) none ∙ rolled_reached s batches stored shaped;
       spaces = fresh.spaces ∙ ap (λ n. record { pages = n; base = 0; used = found.used; owed = 0 }) (recovered.pages ∙ sym to.pages)
           ∙ ap (λ n. record { pages = shaped.state.pages; base = n; used = found.used; owed = 0 }) (sym to.base)
-          ∙ ap (λ n. record { pages = shaped.state.pages; base = shaped.state.base; used = n; owed = 0 }) (used_found s batches found shaped recovered);
+          ∙ ap (λ n. record { pages = shaped.state.pages; base = shaped.state.base; used = n; owed = 0 }) (used_found s batches stored found shaped recovered);
       transactions = none_begun m.table found.next fresh.table;
       locks = none_held m.locks places g fresh.locks;
       next = ap (λ t. t.next) fresh.table ∙ omega (arith, recovered.next);
       sealed = fresh.sealed;
     }
 
-pub opened_memory : (s : Super) (batches : List (List Record)) (born : Bool) (places : Places) (g : Graph) (found : Recovered) (w : Working) → (shaped : IsShapedLog s batches) → IsRecovered s batches found
-    → IsFresh found (memory w) → Remembers (opened s batches born places g) w None
-opened_memory s batches born places g found w shaped recovered fresh = record {
+pub opened_memory : (s : Super) (batches : List (List Record)) (stored : Pages) (born : Bool) (places : Places) (g : Graph) (found : Recovered) (w : Working) → (shaped : IsShapedLog s batches stored)
+    → IsRecovered s batches stored found → IsFresh found (memory w) → Remembers (opened s batches stored born places g) w None
+opened_memory s batches stored born places g found w shaped recovered fresh = record {
   failure = refl;
-  works = λ none. fresh_memory s batches born places g found (memory w) shaped recovered fresh;
+  works = λ none. fresh_memory s batches stored born places g found (memory w) shaped recovered fresh;
   lost = λ some. absurd (some refl);
   sealed = fresh.sealed;
   active = λ s. ap is_some (none_begun (memory w).table found.next fresh.table s);
 }
 
+-- its words are those that a legal log leaves, beside pages that may stand there
+opened_logged : (s : Super) (batches : List (List Record)) (stored : Pages) → IsLegalLog s batches stored → (places : Places) (g : Graph) → IsLogged (opened s batches stored true places g) stored
+opened_logged s batches stored legal places g =
+    let prefixes = rolled_prefixes s batches stored legal in
+    record {
+      words = sym (redone_words-rolled_back s batches stored legal.shaped) ∙ redone-words s.pages (records_of (rolled_back s batches)) stored prefixes;
+      prefixes = prefixes;
+    }
+
 -- the disk of such a heap holds it
-pub opened_disk_holds : (s : Super) (batches : List (List Record)) (places : Places) (g : Graph) (new : List ℕ) (may_leave : List ℕ → Type 0) → IsSuper s → Holds s (rolled_back s batches) new → Only new may_leave
-    → DiskHolds s (opened s batches true places g) new may_leave
-opened_disk_holds s batches places g new may_leave limits held only = record {
+pub opened_disk_holds : (s : Super) (batches : List (List Record)) (stored : Pages) (places : Places) (g : Graph) (new : List ℕ) (may_leave : List ℕ → Type 0) → IsLegalLog s batches stored
+    → Holds s (rolled_back s batches) stored new → Only new may_leave → DiskHolds s (opened s batches stored true places g) new may_leave
+opened_disk_holds s batches stored places g new may_leave legal held only = record {
   born = refl;
-  unfailed = λ none. record { of = record { limits = limits; pages = refl; room = refl; first = refl }; held = held; only = only };
+  unfailed = λ none. record {
+    of = record { limits = legal.shaped.limits; pages = refl; room = refl; first = refl };
+    stored = stored;
+    logged = opened_logged s batches stored legal places g;
+    held = held;
+    only = only;
+  };
   failed = λ some. absurd (some refl);
 }
 
--- Numbers of every heap that was opened: there is a next transaction, the words are those of both spaces, and the objects' words are in the
--- first.
+-- Numbers of every heap that was opened: there is a next transaction, the words are those of both spaces, the objects' words are in the first,
+-- and the log's next record is new to each page.
 pub record IsBounded (found : Recovered) : Type 0 where
   pub next : 1 ≤ found.next
-  pub size : length found.words ≡ words_in found.pages
+  pub size : length (cached found.cache).words ≡ words_in found.pages
+  pub new : EachLacks (log_count found.log + 1) (cached found.cache)
   pub spaces : IsSpaces (record { pages = found.pages; base = 0; used = found.used; owed = 0 })
 
-pub opened_bounds : (s : Super) (batches : List (List Record)) (found : Recovered) → IsShapedLog s batches → IsRecovered s batches found → IsBounded found
-opened_bounds s batches found shaped recovered =
+pub opened_bounds : (s : Super) (batches : List (List Record)) (stored : Pages) (found : Recovered) → IsShapedLog s batches stored → IsRecovered s batches stored found → IsBounded found
+opened_bounds s batches stored found shaped recovered =
     let to = leads_after_all (start s.pages s.first) shaped.state (records_of batches) shaped.reached in
     let room = room_after_all s.pages s.first shaped.state (records_of batches) shaped.limits.some_pages shaped.reached in
-    let used = used_found s batches found shaped recovered in
+    let used = used_found s batches stored found shaped recovered in
     let first = shaped.limits.some_first in
     let grows = to.grows in
     let next = recovered.next in
-    let known = next_is s batches shaped in
+    let known = next_is s batches stored shaped in
     let pages = recovered.pages in
     let few = shaped.limits.few_pages in
     let within = room.3 in
-    let size = ap length recovered.words ∙ length-words s.pages (records_of (rolled_back s batches)) ∙ ap words_in (sym pages) in
+    let size = ap length (words_found s batches stored found shaped recovered) ∙ length-rolled_words s batches stored shaped ∙ ap words_in (sym pages) in
     record {
       next = omega arith;
       size = size;
+      new = next_is_new s batches stored found shaped recovered;
       spaces = record { few = omega arith; first = inl refl; room = omega arith };
     }

@@ -23,17 +23,17 @@ use Rattle.heap_core.specs.Refinement.{IsHeap}
 use Rattle.heap_core.specs.Rounds.{IsGoing, IsRound, HasGone}
 
 -- the legal image in what stands for a graph and commits
-abbrev pub legal_of : (g : Graph) (k : ℕ) (image : List ℕ) → (stands : StandsFor g k image) → IsLegal stands.super stands.batches image
+abbrev pub legal_of : (g : Graph) (k : ℕ) (image : List ℕ) → (stands : StandsFor g k image) → IsLegal stands.super stands.batches stands.stored image
 legal_of g k image stands = record { log = stands.says.legal; held = stands.held }
 
 -- the graph that stands in what its log leaves, under the names of births
 abbrev pub found_of : (g : Graph) (k : ℕ) (image : List ℕ) → (stands : StandsFor g k image)
-    → (places : Places) × (h : Graph) × IsFound stands.super stands.batches stands.says.legal.shaped true places h × (canon h ≡ canon stands.says.seen) × SaysOn h stands.super stands.batches
-found_of g k image stands = saying_law stands.super stands.batches stands.says.legal stands.says.seen stands.says.shows
+    → (places : Places) × (h : Graph) × IsFound stands.super stands.batches stands.stored stands.says.legal.shaped true places h × (canon h ≡ canon stands.says.seen) × SaysOn h stands.super stands.batches stands.stored
+found_of g k image stands = saying_law stands.super stands.batches stands.stored stands.says.legal stands.says.seen stands.says.shows
 
 -- the core that is opened on it
 abbrev pub core_of : (g : Graph) (k : ℕ) (image : List ℕ) → StandsFor g k image → Core
-core_of g k image stands = let found = found_of g k image stands in opened stands.super stands.batches true found.0 found.1
+core_of g k image stands = let found = found_of g k image stands in opened stands.super stands.batches stands.stored true found.0 found.1
 
 -- a heap was opened on it
 pub going_opened : (g : Graph) (k : ℕ) (image : List ℕ) → (stands : StandsFor g k image) → IsGoing g k [] (core_of g k image stands)
@@ -45,7 +45,7 @@ going_opened g k image stands =
       graph = found.3 ∙ stands.says.graph;
       before = stands.says.count;
       run = refl;
-      reached = opened_reached stands.super stands.batches stands.says.legal.shaped true found.0 found.1 found.2;
+      reached = opened_reached stands.super stands.batches stands.stored stands.says.legal.shaped true found.0 found.1 found.2;
     }
 
 -- one event more

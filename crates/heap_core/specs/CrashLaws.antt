@@ -13,7 +13,7 @@ module _ (s : Super) (c : Core) (image : List ℕ) (may_leave : List ℕ → Typ
   keeps_as : (o : Option ℕ) → (account c.history).failed ≡ o → (d : List ℕ) → may_leave d → IsCommitPrefix c d
   keeps_as None is d left =
       let disk = holds.unfailed is in
-      crash_law c s c.batches sound holds.born (inl refl) disk.of d (subst (λ (x : List ℕ). Holds s c.batches x) (sym (disk.only d left)) disk.held)
+      crash_law c s c.batches disk.stored sound holds.born disk.logged (inl refl) disk.of d (subst (λ (x : List ℕ). Holds s c.batches disk.stored x) (sym (disk.only d left)) disk.held)
   keeps_as (Some entry) is d left = holds.failed (λ none. let never : None ≡ Some entry = sym none ∙ is in cc) d left
 
   -- a crash leaves the heap's first commits

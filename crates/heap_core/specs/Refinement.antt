@@ -9,16 +9,19 @@ use Rattle.image_plan.specs.declared.superblock.Super.{Super}
 use Rattle.heap_core.specs.declared.heap.Heap.{Heap}
 use Rattle.heap_memory.specs.Memory.{own}
 use Rattle.heap_model.specs.Core.{Core, IsStep}
-use Rattle.heap_model.specs.CoreCrash.{IsSuperOf, IsCommitPrefix}
+use Rattle.page_redo.specs.Pages.{Pages}
+use Rattle.heap_model.specs.CoreCrash.{IsLogged, IsSuperOf, IsCommitPrefix}
 use Rattle.heap_model.specs.Image.{Holds}
 use Rattle.memory_laws.specs.CoreMemory.{IsMemory}
 use Rattle.working_state.specs.declared.working.Working.{Working}
 use Rattle.working_state.specs.State.{memory}
 
--- The disk holds a core's batches, and a crash can leave nothing else.
+-- The disk holds a core's batches, and pages that hold as many of its records as their LSNs say. A crash can leave nothing else.
 pub record OnDisk (s : Super) (c : Core) (image : List ℕ) (may_leave : List ℕ → Type 0) : Type 0 where
   pub of : IsSuperOf s c
-  pub held : Holds s c.batches image
+  pub stored : Pages
+  pub logged : IsLogged c stored
+  pub held : Holds s c.batches stored image
   pub only : Only image may_leave
 
 -- What is kept in memory is a core. What waited is lost where the disk stopped or failed, and nothing else is.

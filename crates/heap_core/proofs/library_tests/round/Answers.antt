@@ -14,7 +14,7 @@ loop-event-init g c tells only gr k stands =
       super = stands.super;
       core = core_of gr k image stands;
       going = going_opened gr k image stands;
-      is = c.in-Ok.ensures.holds tells stands.super stands.batches (legal_of gr k image stands) only found.0 found.1 found.2;
+      is = c.in-Ok.ensures.holds tells stands.super stands.batches stands.stored (legal_of gr k image stands) only found.0 found.1 found.2;
     }
 
 pub loop-event-preserved : goal.loop-event-preserved

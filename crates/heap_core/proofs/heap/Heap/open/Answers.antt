@@ -14,22 +14,27 @@ use Rattle.heap_core.proofs.heap.Heap.open.Goals as goal
 pub new-spaces-requires : goal.new-spaces-requires
 new-spaces-requires g c =
     let found = c.in-Ok-recover.ensures.opens in
-    (opened_bounds found.0 found.1 c.in-Ok-recover.found found.2 found.3).spaces
+    (opened_bounds found.0 found.1 found.2 c.in-Ok-recover.found found.3 found.4).spaces
 
 pub new-working-requires-clause-sized : goal.new-working-requires-clause-sized
 new-working-requires-clause-sized g c =
     let found = c.in-Ok-recover.ensures.opens in
-    (opened_bounds found.0 found.1 c.in-Ok-recover.found found.2 found.3).size ∙ ap (λ x. words_in x.pages) (sym c.new-spaces.ensures)
+    (opened_bounds found.0 found.1 found.2 c.in-Ok-recover.found found.3 found.4).size ∙ ap (λ x. words_in x.pages) (sym c.new-spaces.ensures)
+
+pub new-working-requires-clause-new : goal.new-working-requires-clause-new
+new-working-requires-clause-new g c =
+    let found = c.in-Ok-recover.ensures.opens in
+    (opened_bounds found.0 found.1 found.2 c.in-Ok-recover.found found.3 found.4).new
 
 pub new-working-requires-clause-few : goal.new-working-requires-clause-few
 new-working-requires-clause-few g c =
     let found = c.in-Ok-recover.ensures.opens in
-    subst (λ x. x.pages ≤ 16384) (sym c.new-spaces.ensures) (opened_bounds found.0 found.1 c.in-Ok-recover.found found.2 found.3).spaces.few
+    subst (λ x. x.pages ≤ 16384) (sym c.new-spaces.ensures) (opened_bounds found.0 found.1 found.2 c.in-Ok-recover.found found.3 found.4).spaces.few
 
 pub new-working-requires-clause-number : goal.new-working-requires-clause-number
 new-working-requires-clause-number g c =
     let found = c.in-Ok-recover.ensures.opens in
-    subst (λ x. 1 ≤ x.next) (sym c.set_next.ensures) (opened_bounds found.0 found.1 c.in-Ok-recover.found found.2 found.3).next
+    subst (λ x. 1 ≤ x.next) (sym c.set_next.ensures) (opened_bounds found.0 found.1 found.2 c.in-Ok-recover.found found.3 found.4).next
 
 pub returns-in-Ok-recover-clause-opens : goal.returns-in-Ok-recover-clause-opens
 returns-in-Ok-recover-clause-opens g c =
@@ -38,10 +43,11 @@ returns-in-Ok-recover-clause-opens g c =
       found.0,
       found.1,
       found.2,
+      found.3,
       λ born places gr stands. record {
         history = c.new-in-Ok-recover.ensures;
-        before = found.3.commits;
-        memory = opened_memory found.0 found.1 born places gr c.in-Ok-recover.found _ found.2 found.3 fresh;
+        before = found.4.commits;
+        memory = opened_memory found.0 found.1 found.2 born places gr c.in-Ok-recover.found _ found.3 found.4 fresh;
       },
     )
 
@@ -56,7 +62,7 @@ returns-in-Ok-recover-clause-sound g c tells =
       λ born places gr stands. record {
         history = c.new-in-Ok-recover.ensures;
         before = found.4.commits;
-        memory = opened_memory found.0 found.1 born places gr c.in-Ok-recover.found _ found.3 found.4 fresh;
+        memory = opened_memory found.0 found.1 found.2 born places gr c.in-Ok-recover.found _ found.3.log found.4 fresh;
       },
     )
 
@@ -66,27 +72,27 @@ returns-in-Err-clause-moments_not_heap g c tells only none =
     begins d.moment d.left_since c.args.disk IsNoHeap (λ image left. subst IsNoHeap (sym (only image (g.met.D.Disk.only_now tells c.args.disk image left))) none)
 
 pub returns-in-Ok-recover-clause-found : goal.returns-in-Ok-recover-clause-found
-returns-in-Ok-recover-clause-found g c tells s batches shaped born places gr stands =
-    let found = c.in-Ok-recover.ensures.found tells s batches shaped in
+returns-in-Ok-recover-clause-found g c tells s batches stored shaped born places gr stands =
+    let found = c.in-Ok-recover.ensures.found tells s batches stored shaped in
     let fresh = is_fresh c.in-Ok-recover.found c.new-spaces.result c.set_next.new.self c.in-Ok.table _ c.new-working.ensures c.new-spaces.ensures c.set_next.ensures in
-    record { history = c.new-in-Ok-recover.ensures; before = found.commits; memory = opened_memory s batches born places gr c.in-Ok-recover.found _ shaped.log found fresh }
+    record { history = c.new-in-Ok-recover.ensures; before = found.commits; memory = opened_memory s batches stored born places gr c.in-Ok-recover.found _ shaped.log found fresh }
 
 pub returns-in-Ok-recover-clause-holds : goal.returns-in-Ok-recover-clause-holds
-returns-in-Ok-recover-clause-holds g c tells s batches legal only places gr stands =
+returns-in-Ok-recover-clause-holds g c tells s batches stored legal only places gr stands =
     let shaped = shaped_image legal in
     record {
-      core = returns-in-Ok-recover-clause-found g c tells s batches shaped true places gr stands;
-      disk = opened_disk_holds s batches places gr _ _ legal.log.shaped.limits (c.in-Ok-recover.ensures.holds tells s batches shaped) (c.in-Ok-recover.ensures.durable tells only);
+      core = returns-in-Ok-recover-clause-found g c tells s batches stored shaped true places gr stands;
+      disk = opened_disk_holds s batches stored places gr _ _ legal.log (c.in-Ok-recover.ensures.holds tells s batches stored shaped) (c.in-Ok-recover.ensures.durable tells only);
     }
 
 pub returns-in-Err-recover-clause-shaped : goal.returns-in-Err-recover-clause-shaped
-returns-in-Err-recover-clause-shaped g c tells s batches shaped = subst IsFromOutside (sym c.from.ensures) (outside_as c.in-Err-recover.e (c.in-Err-recover.ensures.shaped tells s batches shaped))
+returns-in-Err-recover-clause-shaped g c tells s batches stored shaped = subst IsFromOutside (sym c.from.ensures) (outside_as c.in-Err-recover.e (c.in-Err-recover.ensures.shaped tells s batches stored shaped))
 
 pub returns-in-Err-recover-clause-passes : goal.returns-in-Err-recover-clause-passes
-returns-in-Err-recover-clause-passes g c tells s batches shaped =
+returns-in-Err-recover-clause-passes g c tells s batches stored shaped =
     let d = g.D.Disk in
     subst (λ e. ErrorPasses (opening_calls s batches) (d.passed c.args.disk) (d.passed c.recover.new.disk) e) (sym c.from.ensures)
-    (passes_as (opening_calls s batches) (d.passed c.args.disk) (d.passed c.recover.new.disk) c.in-Err-recover.e (c.in-Err-recover.ensures.passes tells s batches shaped))
+    (passes_as (opening_calls s batches) (d.passed c.args.disk) (d.passed c.recover.new.disk) c.in-Err-recover.e (c.in-Err-recover.ensures.passes tells s batches stored shaped))
 
 -- an error of the disk is the recovery's
 pub returns-in-Err-recover-clause-reads_not_heap : goal.returns-in-Err-recover-clause-reads_not_heap
@@ -96,17 +102,17 @@ returns-in-Err-recover-clause-reads_not_heap g c tells none =
 
 -- a crash now leaves what one at some moment of the opening does
 pub returns-in-Ok-recover-clause-crash : goal.returns-in-Ok-recover-clause-crash
-returns-in-Ok-recover-clause-crash g c tells only s batches shaped image left =
-    let run = c.recover.ensures.moments tells only s batches shaped in
+returns-in-Ok-recover-clause-crash g c tells only s batches stored shaped image left =
+    let run = c.recover.ensures.moments tells only s batches stored shaped in
     run.each image (g.met.D.Disk.counts_now tells c.recover.new.disk _ image run.later left)
 
 pub returns-in-Err-recover-clause-crash : goal.returns-in-Err-recover-clause-crash
-returns-in-Err-recover-clause-crash g c tells only s batches shaped image left =
-    let run = c.recover.ensures.moments tells only s batches shaped in
+returns-in-Err-recover-clause-crash g c tells only s batches stored shaped image left =
+    let run = c.recover.ensures.moments tells only s batches stored shaped in
     run.each image (g.met.D.Disk.counts_now tells c.recover.new.disk _ image run.later left)
 
 pub returns-in-Ok-recover-clause-rolled : goal.returns-in-Ok-recover-clause-rolled
-returns-in-Ok-recover-clause-rolled g c tells s batches shaped = c.in-Ok-recover.ensures.holds tells s batches shaped
+returns-in-Ok-recover-clause-rolled g c tells s batches stored shaped = c.in-Ok-recover.ensures.holds tells s batches stored shaped
 
 pub returns-in-Ok-recover-clause-durable : goal.returns-in-Ok-recover-clause-durable
 returns-in-Ok-recover-clause-durable g c tells only = c.in-Ok-recover.ensures.durable tells only
