@@ -18,7 +18,6 @@ pub mod PromotionBytes
 pub mod PromotionLaws
 pub mod PromotionNone
 pub mod PromotionParts
-pub mod PromotionState
 pub mod ReadBackLaws
 pub mod RecordsLaws
 pub mod RunLaws

@@ -8,7 +8,7 @@ pub mod Sound
 pub mod StateLaws
 pub mod AbortLaws
 pub mod Apart
-pub mod CommittedLaws
+pub mod TakenBackLaws
 pub mod ReserveLaws
 pub mod WordsLaws
 pub mod WordsFrom
@@ -18,4 +18,3 @@ pub mod Effect
 pub mod Replay
 pub mod Promotion
 pub mod PromotionLaws
-pub mod PromotionWords

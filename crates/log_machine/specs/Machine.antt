@@ -200,10 +200,6 @@ abbrev pub losing_in : Option State → List Loser
 losing_in None = []
 losing_in (Some s) = losing s
 
--- the words after these records, without the writes of transactions that have not ended
-abbrev pub committed_words : ℕ → ℕ → List Record → List ℕ
-committed_words pages first records = each_taken_back (losing_in (after_all (start pages first) records)) (words pages records)
-
 -- the records that take a transaction's writes back, the newest first, and end it
 abbrev pub abort_records : ℕ → List UndoEntry → List Record
 abort_records t [] = End t ∷ []

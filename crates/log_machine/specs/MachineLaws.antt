@@ -153,34 +153,6 @@ after-Base s t address words number free own =
     of_number s (Base t address words) number
     ∙ ap (λ b. cond b (Some (promoted s t (length words))) None) (and_from _ _ (free_from s address (length words) free) own)
 
--- What it says that an object becomes stable.
-pub record TellsBase (s : State) (t address : ℕ) (words : List ℕ) (n : State) : Type 0 where
-  pub number : is_number t ≡ true
-  pub free : IsNextFree s address (length words)
-  pub own : is_promoted_by t words ≡ true
-  pub is : promoted s t (length words) ≡ n
-
-pub told-Base : (s n : State) (t address : ℕ) (words : List ℕ) → after s (Base t address words) ≡ Some n → TellsBase s t address words n
-told-Base s n t address words e =
-    let told = told_if _ _ _ e in
-    let row = cond_some _ _ _ told.1 in
-    let both = and_parts _ _ row.0 in
-    record { number = told.0; free = free_told s address (length words) both.0; own = both.1; is = row.1 }
-
--- What it says that a field comes to refer to a stable object.
-pub record TellsFix (s : State) (t object field word : ℕ) (n : State) : Type 0 where
-  pub number : is_number t ≡ true
-  pub inside : lies_inside s object field ≡ true
-  pub stable : is_stable word ≡ true
-  pub is : turned s t s.undo 0 ≡ n
-
-pub told-Fix : (s n : State) (t object field word : ℕ) → after s (Fix t object field word) ≡ Some n → TellsFix s t object field word n
-told-Fix s n t object field word e =
-    let told = told_if _ _ _ e in
-    let row = cond_some _ _ _ told.1 in
-    let both = and_parts _ _ row.0 in
-    record { number = told.0; inside = both.0; stable = both.1; is = row.1 }
-
 -- what is chosen is there where both hold
 told_both : {X : Type 0} (a b : Bool) (x : X) → is_some (cond a (cond b (Some x) None) None) ≡ true → (a ≡ true) × (b ≡ true)
 told_both true true x e = (refl, refl)

@@ -1,13 +1,13 @@
--- How the state and the words follow records, one after another from the first, and the first that can't follow.
+-- How the state follows records, one after another from the first, and the first that can't follow.
 use Rattle.std.proofs.Common.{◌≡◌, ℕ, ◌+◌, ◌-◌, ◌*◌, ◌<◌, ◌≤◌, true, List, [], ◌∷◌, ◌++◌, length, get_or, take, drop, Option, None, Some, is_some, refl, sym, ◌∙◌, ap, subst, arith, take-append-drop}
 use Rattle.std.specs.Prelude.{option_and_then}
 use Rattle.std.proofs.lemmas.List.{take_more}
 use Rattle.log_records.specs.declared.Record.{Record}
-use Rattle.log_machine.specs.Machine.{State, start, after, after_all, put_record, words, words_in, reserve}
-use Rattle.log_machine.specs.MachineLaws.{after_all-append, words-append}
-use Rattle.log_machine.specs.Effect.{WritesBelow}
+use Rattle.log_machine.specs.Machine.{State, start, after, after_all, reserve}
+use Rattle.log_machine.specs.ListLaws.{AllByRecursion-append}
+use Rattle.log_machine.specs.MachineLaws.{after_all-append}
+use Rattle.log_machine.specs.Effect.{WritesBelow, EachWritesBelow}
 use Rattle.log_machine.specs.Sound.{IsSound}
-use Rattle.log_machine.specs.WordsLaws.{length-words}
 use Rattle.log_machine.specs.StateLaws.{sound_start, sound_after, leads_after, commits_few}
 use Rattle.log_machine.specs.ReserveLaws.{reserve-start, reserve-after}
 
@@ -45,10 +45,9 @@ front rs i r lt at = take_more rs i r lt ∙ ap (λ (x : Record). take i rs ++ x
 pub state_on : (s : State) (rs : List Record) (i : ℕ) (r : Record) (m n : State) → i < length rs → r ≡ get_or rs i r → after_all s (take i rs) ≡ Some m → after m r ≡ Some n → after_all s (take (i + 1) rs) ≡ Some n
 state_on s rs i r m n lt at so_far is = ap (λ (l : List Record). after_all s l) (front rs i r lt at) ∙ after_all-append s m (take i rs) r so_far ∙ is
 
--- the words with the record at a place
-pub words_on : (pages : ℕ) (rs : List Record) (i : ℕ) (r : Record) (old new : List ℕ) → i < length rs → r ≡ get_or rs i r → old ≡ words pages (take i rs) → new ≡ put_record old r → new ≡ words pages (take (i + 1) rs)
-words_on pages rs i r old new lt at so_far is =
-    is ∙ ap (λ (l : List ℕ). put_record l r) so_far ∙ sym (words-append pages (take i rs) (r ∷ [])) ∙ ap (words pages) (sym (front rs i r lt at))
+-- the records with the one at a place write below an address, where that one does
+pub below_on : (end : ℕ) (rs : List Record) (i : ℕ) (r : Record) → i < length rs → r ≡ get_or rs i r → EachWritesBelow end (take i rs) → WritesBelow end r → EachWritesBelow end (take (i + 1) rs)
+below_on end rs i r lt at so_far below = subst (EachWritesBelow end) (sym (front rs i r lt at)) (AllByRecursion-append (WritesBelow end) (take i rs) (r ∷ []) so_far (below, tt))
 
 -- the record at a place is the first that can't follow, where those before it do
 pub unshaped_at : (s : State) (rs : List Record) (i : ℕ) (r : Record) (m : State) → i < length rs → r ≡ get_or rs i r → after_all s (take i rs) ≡ Some m → after m r ≡ None → IsFirstUnshaped s rs (i + 1)
@@ -70,11 +69,3 @@ stuck_behind s (r ∷ rs) rest stuck = stuck_in (after s r) rs rest (λ n. stuck
 -- and then the records can't all follow one another
 pub none_follow : (s : State) (rs : List Record) (lsn : ℕ) → IsFirstUnshaped s rs lsn → after_all s rs ≡ None
 none_follow s rs lsn first = ap (λ (l : List Record). after_all s l) (sym (take-append-drop lsn rs)) ∙ stuck_behind s (take lsn rs) (drop lsn rs) first.stuck
-
--- there are as many words as the state's pages have
-pub same_size : (pages : ℕ) (rs : List Record) (now : List ℕ) (s : State) → now ≡ words pages rs → s.pages ≡ pages → length now ≡ words_in s.pages
-same_size pages rs now s is same = ap length is ∙ length-words pages rs ∙ ap words_in (sym same)
-
--- what the state lets a record write lies within the words
-pub within_words : (pages : ℕ) (rs : List Record) (now : List ℕ) (s : State) (r : Record) → now ≡ words pages rs → s.pages ≡ pages → WritesBelow (words_in s.pages) r → WritesBelow (length now) r
-within_words pages rs now s r is same below = subst (λ n. WritesBelow n r) (sym (same_size pages rs now s is same)) below

@@ -1,10 +1,9 @@
 -- Words that are put one after another from an address on.
 use Rattle.std.proofs.Common.{◌≡◌, ℕ, ◌+◌, ◌<◌, ◌≤◌, zero, suc, List, [], ◌∷◌, ◌++◌, length, get_or, take, drop, set, refl, ap, ◌∙◌, subst, arith, length-set, get_or-set_same, get_or-set_other}
 use Rattle.std.specs.List.{AllByRecursion, enumerate_from}
-use Rattle.std.proofs.lemmas.List.{take_more, length-take-le, set_comm}
+use Rattle.std.proofs.lemmas.List.{take_more, length-take-le}
 use Rattle.std.proofs.lemmas.List.Edits.{sets, sets-eq}
 use Rattle.std.proofs.lemmas.List.FromFn.{length-enumerate_from, get_or-enumerate_from}
-use Rattle.std.proofs.lemmas.List.Sums.{fold-append}
 use Rattle.log_machine.specs.Machine.{put_all}
 use Rattle.log_machine.specs.ListLaws.{AllByRecursion-at}
 
@@ -32,22 +31,6 @@ from_more address i words lt =
     ap (enumerate_from address) (take_more words i 0 lt)
     ∙ enumerate_from-push address (take i words) (get_or words i 0)
     ∙ ap (λ (n : ℕ). enumerate_from address (take i words) ++ (address + n, get_or words i 0) ∷ []) (length-take-le i words (omega arith))
-
--- one more is put behind those before it
-pub put_more : (now : List ℕ) (address i : ℕ) (words : List ℕ) → i < length words → put_all now (enumerate_from address (take (i + 1) words)) ≡ set (put_all now (enumerate_from address (take i words))) (address + i) (get_or words i 0)
-put_more now address i words lt =
-    ap (put_all now) (from_more address i words lt) ∙ fold-append (λ (l : List ℕ) (w : ℕ × ℕ). set l w.0 w.1) now (enumerate_from address (take i words)) ((address + i, get_or words i 0) ∷ [])
-
--- Words put end to end are put as one.
-pub enumerate_from-append : (address : ℕ) (xs ys : List ℕ) → enumerate_from address (xs ++ ys) ≡ enumerate_from address xs ++ enumerate_from (address + length xs) ys
-enumerate_from-append address [] ys = let here : address ≡ address + 0 = omega arith in ap (λ (a : ℕ). enumerate_from a ys) here
-enumerate_from-append address (x ∷ xs) ys =
-    let there : address + 1 + length xs ≡ address + length (x ∷ xs) = omega arith in
-    ap (λ (l : List (ℕ × ℕ)). (address, x) ∷ l) (enumerate_from-append (address + 1) xs ys ∙ ap (λ (a : ℕ). enumerate_from (address + 1) xs ++ enumerate_from a ys) there)
-
-pub put_from-append : (now : List ℕ) (address : ℕ) (xs ys : List ℕ) → put_all now (enumerate_from address (xs ++ ys)) ≡ put_all (put_all now (enumerate_from address xs)) (enumerate_from (address + length xs) ys)
-put_from-append now address xs ys =
-    ap (put_all now) (enumerate_from-append address xs ys) ∙ fold-append (λ (l : List ℕ) (w : ℕ × ℕ). set l w.0 w.1) now (enumerate_from address xs) (enumerate_from (address + length xs) ys)
 
 put_sets : (now : List ℕ) (address : ℕ) (words : List ℕ) → put_all now (enumerate_from address words) ≡ sets now address words
 put_sets now address [] = refl
@@ -83,10 +66,3 @@ pub put_from-behind : (now : List ℕ) (address i : ℕ) (words : List ℕ) → 
 put_from-behind now address i [] le = refl
 put_from-behind now address i (w ∷ ws) le =
     put_from-behind (set now address w) (address + 1) i ws (omega arith) ∙ get_or-set_other now address i w 0 (omega arith)
-
--- a word before the address is put before or after them
-pub set-put_from : (now : List ℕ) (address at word : ℕ) (words : List ℕ) → at < address → set (put_all now (enumerate_from address words)) at word ≡ put_all (set now at word) (enumerate_from address words)
-set-put_from now address at word [] lt = refl
-set-put_from now address at word (w ∷ ws) lt =
-    set-put_from (set now address w) (address + 1) at word ws (omega arith)
-    ∙ ap (λ (l : List ℕ). put_all l (enumerate_from (address + 1) ws)) (set_comm now address at w word (λ same. absurd (omega arith)))

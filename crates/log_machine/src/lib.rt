@@ -1,4 +1,4 @@
-//! The state of a heap after the records of its log, and the words that they leave.
+//! The state of a heap after the records of its log, what each of them writes, and which writes may be taken back.
 #![tactic(auto)]
 
 mod abort;
@@ -11,7 +11,7 @@ mod undo_lists;
 pub use abort::abort_records;
 pub use effects::effect;
 pub use log_state::{AfterError, LAST_NUMBER, LogState};
-pub use page_words::{FIELDS_AT, PAGE_WORDS, PageWords, ROOT_FIELDS, ROOT_WORDS};
+pub use page_words::{FIELDS_AT, PAGE_WORDS, PageWords, ROOT_WORDS};
 pub use replaying::{ReplayError, replay};
 pub use undo_lists::end_bytes;
 

@@ -1,10 +1,11 @@
-//! The state and the words after all records of a log.
+//! The state after all records of a log.
 ghost use Rattle.std.specs.Prelude.{◌≡◌, ◌*◌, ◌<◌, ◌≤◌, ◌^◌, ℕ, Some, IfOk, IfErr, length};
 ghost use Rattle.log_machine.specs.declared.replaying.ReplayError.TheVariants.{Unshaped};
-ghost use Rattle.log_machine.specs.Machine.{start, after_all, words, words_in, reserve};
+ghost use Rattle.log_machine.specs.Machine.{start, after_all, words_in, reserve};
+ghost use Rattle.log_machine.specs.Effect.{EachWritesBelow};
 ghost use Rattle.log_machine.specs.Replay.{IsFirstUnshaped};
 
-use crate::{AfterError, LogState, PageWords};
+use crate::{AfterError, LogState};
 use log_records::Record;
 use std::alloc::{AllocError, Global};
 
@@ -28,34 +29,33 @@ impl From<AllocError> for ReplayError {
     }
 }
 
-/// The state and the words after these records of a heap with two spaces of so many pages, whose first transaction has the
-/// number `first`.
+/// The state after these records of a heap with two spaces of so many pages, whose first transaction has the number `first`.
 pub fn replay(
     alloc: Global,
     pages: u32,
     first: u32,
     records: &[Record],
-) -> Result<(LogState, PageWords), ReplayError>
+) -> Result<LogState, ReplayError>
     requires some { 1 ≤ pages }
     requires addresses { words_in pages ≤ 2 ^ 32 }
     requires few { length records.now < 2 ^ 32 }
-    ensures state { IfOk result (λ found. after_all (start pages first) records.now ≡ Some found.0) }
-    ensures words { IfOk result (λ found. found.1 ≡ words pages records.now) }
-    ensures size { IfOk result (λ found. length found.1 ≡ words_in found.0.pages) }
-    ensures few_writes { IfOk result (λ found. reserve found.0 ≤ 29 * length records.now) }
+    ensures state { IfOk result (λ state. after_all (start pages first) records.now ≡ Some state) }
+    ensures pages { IfOk result (λ state. state.pages ≡ pages) }
+    // Each record writes words of these pages alone, so it can be redone on them.
+    ensures inside { IfOk result (λ state. EachWritesBelow (words_in pages) records.now) }
+    ensures few_writes { IfOk result (λ state. reserve state ≤ 29 * length records.now) }
     // The record that is told is the first that can't follow.
     ensures unshaped { IfErr result (λ e. (lsn : ℕ) → e ≡ Unshaped lsn → IsFirstUnshaped (start pages first) records.now lsn) }
 {
     let mut state = LogState::start(alloc, pages, first);
-    let mut words = PageWords::first_contents(alloc, pages)?;
     for (i, record) in records.iter().enumerate() {
         match state.after(record) {
-            Ok(()) => words.apply(record),
+            Ok(()) => {}
             Err(AfterError::NoMemory) => return Err(ReplayError::NoMemory),
             Err(AfterError::Unshaped) => {
                 return Err(ReplayError::Unshaped { lsn: i as u64 + 1 });
             }
         }
     }
-    Ok((state, words))
+    Ok(state)
 }

@@ -1,4 +1,7 @@
 //! Records of several transactions one after another: what each of them leaves, which can't follow, and which take writes back.
+ghost use Rattle.std.specs.Prelude.{IfOk};
+ghost use Rattle.log_machine.specs.Effect.{WritesBelow};
+
 use super::*;
 use heap_words::birth;
 use log_records::{ObjectWords, Record};
@@ -14,69 +17,29 @@ const LAST: u32 = 4_294_967_294;
 /// number, and the bytes that are kept.
 type Behind = (usize, usize, u64, u32, u64);
 
-/// A record, whether it can follow those before it, and what stands behind it, with the root's fields.
-type Step = (Record, bool, Behind, [u64; ROOT_FIELDS]);
+/// A record, whether it can follow those before it, and what stands behind it.
+type Step = (Record, bool, Behind);
 
 fn steps() -> [Step; 18] {
     [
-        (update(2, 0, 0, 29), true, (1, 0, 0, 3, 29), [29, 0, 0, 0]),
-        (update(3, 1, 0, 37), true, (1, 1, 0, 4, 58), [29, 37, 0, 0]),
-        (update(2, 0, 29, 33), true, (2, 1, 0, 4, 77), [33, 37, 0, 0]),
-        (update(2, 4, 0, 33), false, (2, 1, 0, 4, 77), [33, 37, 0, 0]),
-        (update(0, 2, 0, 33), false, (2, 1, 0, 4, 77), [33, 37, 0, 0]),
-        (
-            Record::Commit { t: LAST + 1 },
-            false,
-            (2, 1, 0, 4, 77),
-            [33, 37, 0, 0],
-        ),
-        (
-            Record::Commit { t: 0 },
-            false,
-            (2, 1, 0, 4, 77),
-            [33, 37, 0, 0],
-        ),
-        (
-            Record::End { t: LAST + 1 },
-            false,
-            (2, 1, 0, 4, 77),
-            [33, 37, 0, 0],
-        ),
-        (
-            Record::End { t: 2 },
-            false,
-            (2, 1, 0, 4, 77),
-            [33, 37, 0, 0],
-        ),
-        (undo(3, 0, 29), false, (2, 1, 0, 4, 77), [33, 37, 0, 0]),
-        (undo(2, 0, 0), false, (2, 1, 0, 4, 77), [33, 37, 0, 0]),
-        (undo(2, 0, 29), true, (1, 1, 0, 4, 58), [29, 37, 0, 0]),
-        (
-            Record::Commit { t: 3 },
-            true,
-            (1, 0, 1, 4, 29),
-            [29, 37, 0, 0],
-        ),
-        (undo(3, 1, 0), false, (1, 0, 1, 4, 29), [29, 37, 0, 0]),
-        (Record::End { t: 7 }, true, (1, 0, 1, 8, 29), [29, 37, 0, 0]),
-        (
-            update(LAST, 2, 0, 41),
-            true,
-            (1, 0, 1, LAST + 1, 58),
-            [29, 37, 41, 0],
-        ),
-        (
-            update(9, 3, 0, 45),
-            true,
-            (1, 0, 1, LAST + 1, 87),
-            [29, 37, 41, 45],
-        ),
-        (
-            update(9, 3, 45, 49),
-            true,
-            (1, 0, 1, LAST + 1, 106),
-            [29, 37, 41, 49],
-        ),
+        (update(2, 0, 0, 29), true, (1, 0, 0, 3, 29)),
+        (update(3, 1, 0, 37), true, (1, 1, 0, 4, 58)),
+        (update(2, 0, 29, 33), true, (2, 1, 0, 4, 77)),
+        (update(2, 4, 0, 33), false, (2, 1, 0, 4, 77)),
+        (update(0, 2, 0, 33), false, (2, 1, 0, 4, 77)),
+        (Record::Commit { t: LAST + 1 }, false, (2, 1, 0, 4, 77)),
+        (Record::Commit { t: 0 }, false, (2, 1, 0, 4, 77)),
+        (Record::End { t: LAST + 1 }, false, (2, 1, 0, 4, 77)),
+        (Record::End { t: 2 }, false, (2, 1, 0, 4, 77)),
+        (undo(3, 0, 29), false, (2, 1, 0, 4, 77)),
+        (undo(2, 0, 0), false, (2, 1, 0, 4, 77)),
+        (undo(2, 0, 29), true, (1, 1, 0, 4, 58)),
+        (Record::Commit { t: 3 }, true, (1, 0, 1, 4, 29)),
+        (undo(3, 1, 0), false, (1, 0, 1, 4, 29)),
+        (Record::End { t: 7 }, true, (1, 0, 1, 8, 29)),
+        (update(LAST, 2, 0, 41), true, (1, 0, 1, LAST + 1, 58)),
+        (update(9, 3, 0, 45), true, (1, 0, 1, LAST + 1, 87)),
+        (update(9, 3, 45, 49), true, (1, 0, 1, LAST + 1, 106)),
     ]
 }
 
@@ -111,13 +74,6 @@ fn undo(t: u32, field: u16, word: u64) -> Record {
     }
 }
 
-fn fields(words: &PageWords) -> Option<[u64; ROOT_FIELDS]> {
-    if words.len() < 6 {
-        return None;
-    }
-    Some([words.word(2), words.word(3), words.word(4), words.word(5)])
-}
-
 // Each test leaves what it looks at to functions of few lines, since a function's proof takes the square of its length.
 
 /// Compares what was found.
@@ -137,24 +93,9 @@ fn behind(state: &LogState) -> Behind {
     (of_2, of_3, state.commits(), state.next(), state.reserve())
 }
 
-fn replayed(
-    rt: &impl Abort,
-    alloc: Global,
-    records: &[Record],
-) -> Result<(LogState, PageWords), ReplayError> {
+fn replayed(rt: &impl Abort, alloc: Global, records: &[Record]) -> Result<LogState, ReplayError> {
     assert!(rt; records.len() < 99);
     replay(alloc, 1, 1, records)
-}
-
-/// The root's fields behind so many of the records.
-fn root_behind(
-    rt: &impl Abort,
-    alloc: Global,
-    records: &[Record],
-    taken: usize,
-) -> Result<Option<[u64; ROOT_FIELDS]>, ReplayError> {
-    let (_, words) = replayed(rt, alloc, records.get(..taken).unwrap_or(&[]))?;
-    Ok(fields(&words))
 }
 
 fn check_losers(rt: &impl Abort, state: &LogState) -> Result<(), Fail> {
@@ -165,19 +106,18 @@ fn check_losers(rt: &impl Abort, state: &LogState) -> Result<(), Fail> {
 
 #[test]
 fn record_by_record(rt: HostRuntime) -> Result<(), Fail> {
-    let all = followed(rt.alloc())?;
     let mut state = LogState::start(rt.alloc(), 1, 1);
-    let mut taken = 0usize;
-    for (record, follows, want, root) in &steps() {
+    for (record, follows, want) in &steps() {
         let takes = take(&rt, &mut state, record);
-        taken = taken.saturating_add(usize::from(takes));
-        let words = root_behind(&rt, rt.alloc(), &all, taken)?;
-        same(
-            &rt,
-            (takes, behind(&state), words),
-            (*follows, *want, Some(*root)),
-        );
+        same(&rt, (takes, behind(&state)), (*follows, *want));
     }
+    check_losers(&rt, &state)
+}
+
+#[test]
+fn all_at_once(rt: HostRuntime) -> Result<(), Fail> {
+    let state = replayed(&rt, rt.alloc(), &followed(rt.alloc())?)?;
+    same(&rt, behind(&state), (1, 0, 1, LAST + 1, 106));
     check_losers(&rt, &state)
 }
 
@@ -300,47 +240,10 @@ fn check_fixes(rt: &impl Abort, mut state: LogState) {
     }
 }
 
-/// Lets the root refer to the first of the promoted objects.
-fn refer(rt: &impl Abort, words: &mut PageWords) {
-    assert!(rt; words.len() > 127);
-    words.apply(&Record::Fix {
-        t: 3,
-        object: 0,
-        field: 1,
-        word: 26,
-    });
-}
-
-/// The root, the first of the promoted objects, and the front of the second.
-const PROMOTED: [u64; 13] = [
-    17,
-    0,
-    0,
-    26,
-    0,
-    0,
-    9,
-    3 << 32 | 1,
-    2,
-    2,
-    209,
-    3 << 32 | 2,
-    29,
-];
-
-/// The front of the words, and where the second object ends.
-fn check_promoted(rt: &impl Abort, words: &[u64]) {
-    same(rt, words.get(..13), Some(&PROMOTED));
-    same(rt, words.get(63..66), Some(&[29, 0, 0]));
-}
-
 #[test]
 fn fields_refer_to_stable_objects(rt: HostRuntime) -> Result<(), Fail> {
-    let records = promoted(rt.alloc())?;
-    let (state, mut words) = replayed(&rt, rt.alloc(), &records)?;
+    let state = replayed(&rt, rt.alloc(), &promoted(rt.alloc())?)?;
     check_fixes(&rt, state);
-    refer(&rt, &mut words);
-    check_promoted(&rt, words.as_slice());
     Ok(())
 }
 
@@ -355,26 +258,9 @@ fn followed(alloc: Global) -> Result<Vec<Record>, AllocError> {
     Ok(records)
 }
 
-/// The words behind the records, without the writes of the transactions that have not ended.
-fn taken_back(rt: &impl Abort, alloc: Global, records: &[Record]) -> Result<PageWords, Fail> {
-    assert!(rt; records.len() < 99);
-    let (state, mut words) = replay(alloc, 1, 1, records)?;
-    same(rt, state.commits(), 1);
-    words.apply_all(&state.rollback()?);
-    Ok(words)
-}
-
-/// The root alone, in the first of 128 words.
-fn check_taken_back(rt: &impl Abort, words: &[u64]) {
-    let found = (words.get(..6), words.get(6..).map(|rest| rest.len()));
-    let root = [17, 0, 0, 37, 0, 0];
-    same(rt, found, (Some(root.as_slice()), Some(122)));
-    assert!(rt; words.iter().skip(6).all(|word| *word == 0));
-}
-
 /// Takes back two writes of one field, the newer one last.
 fn take_back_twice(rt: &impl Abort, words: &mut PageWords) {
-    assert!(rt; words.len() > 127);
+    assert!(rt; words.len() > 5);
     words.take_back(&[
         UndoEntry {
             object: 0,
@@ -390,13 +276,25 @@ fn take_back_twice(rt: &impl Abort, words: &mut PageWords) {
 }
 
 #[test]
-fn read_again(rt: HostRuntime) -> Result<(), Fail> {
-    let records = followed(rt.alloc())?;
-    let mut words = taken_back(&rt, rt.alloc(), &records)?;
-    check_taken_back(&rt, words.as_slice());
-    take_back_twice(&rt, &mut words);
-    same(&rt, fields(&words), Some([0, 53, 0, 0]));
+fn from_a_copy(rt: HostRuntime) -> Result<(), Fail> {
+    let words = [17, 0, 29, 61, 41, 49];
+    let mut copy = PageWords::copy_of(rt.alloc(), &words)?;
+    same(&rt, copy.as_slice(), words.as_slice());
+    take_back_twice(&rt, &mut copy);
+    same(&rt, copy.as_slice(), &[17, 0, 29, 53, 41, 49]);
     Ok(())
+}
+
+/// An object of one field at address 60.
+fn small_object(alloc: Global) -> Result<Record, AllocError>
+    ensures { IfOk result (λ rec. WritesBelow 2097152 rec) }
+{
+    let words = vec![in alloc; 5, 12_884_901_889, 29]?;
+    Ok(Record::Base {
+        t: 3,
+        address: 60,
+        words: ObjectWords::new(words),
+    })
 }
 
 #[test]
@@ -411,6 +309,22 @@ fn what_a_record_puts(rt: HostRuntime) -> Result<(), Fail> {
     effect(&undo, &mut all)?;
     effect(&Record::End { t: 9 }, &mut all)?;
     same(&rt, all.as_slice(), &[(65, 45)]);
+    Ok(())
+}
+
+#[test]
+fn what_an_object_puts(rt: HostRuntime) -> Result<(), Fail> {
+    let mut all = Vec::new(rt.alloc());
+    let refers = Record::Fix {
+        t: 3,
+        object: 0,
+        field: 1,
+        word: 242,
+    };
+    effect(&small_object(rt.alloc())?, &mut all)?;
+    effect(&refers, &mut all)?;
+    let want = [(60, 5), (61, 12_884_901_889), (62, 29), (3, 242)];
+    same(&rt, all.as_slice(), want.as_slice());
     Ok(())
 }
 

@@ -31,6 +31,14 @@ redo_all-more lsn at rs i r lt is =
 pub words-redo_record : (lsn : ℕ) (at : Pages) (rec : Record) → length (redo_record lsn at rec).words ≡ length at.words
 words-redo_record lsn at rec = length-put_all (filter (λ (w : ℕ × ℕ). lacks at lsn (page_of w.0)) (effect rec)) at.words
 
+words-redo_all : (lsn : ℕ) (at : Pages) (rs : List Record) → length (redo_all lsn at rs).words ≡ length at.words
+words-redo_all lsn at [] = refl
+words-redo_all lsn at (r ∷ rs) = words-redo_all (lsn + 1) (redo_record lsn at r) rs ∙ words-redo_record lsn at r
+
+-- so they do after a whole log
+pub length-redone : (stored : Pages) (records : List Record) → length (redone stored records).words ≡ length stored.words
+length-redone stored records = words-redo_all 1 stored records
+
 filter_all : (test : ℕ × ℕ → Bool) (ws : List (ℕ × ℕ)) → ((w : ℕ × ℕ) → test w ≡ true) → filter test ws ≡ ws
 filter_all test [] each = refl
 filter_all test (w ∷ ws) each = cond-true (test w) (w ∷ filter test ws) (filter test ws) (each w) ∙ ap (λ (l : List (ℕ × ℕ)). w ∷ l) (filter_all test ws each)
@@ -110,6 +118,12 @@ EachLacks-redo_all lsn at rs lacking p = elim (cases_lt p (length at.lsns)) [
 -- so do those after a whole log, if no LSN of the stored pages is above that of its last record
 pub EachLacks-redone : (records : List Record) (stored : Pages) → EachLacks (length records + 1) stored → EachLacks (length records + 1) (redone stored records)
 EachLacks-redone records stored lacking p = omega (arith, EachLacks-redo_all 0 stored records (λ q. omega (arith, lacking q)) p)
+
+-- then the words go on with more records as any words do
+pub redone_words-append : (stored : Pages) (records more : List Record) → EachLacks (length records + 1) stored → (redone stored (records ++ more)).words ≡ fold put_record (redone stored records).words more
+redone_words-append stored records more lacking =
+    ap (λ (at : Pages). at.words) (redo_all-append 1 stored records more)
+    ∙ redo_all-words (1 + length records) (redone stored records) more (λ p. omega (arith, EachLacks-redone records stored lacking p))
 
 -- each of the pages that may stand beside records lacks the next one
 pub EachLacks-prefixes : (pages : ℕ) (records : List Record) (at : Pages) → EachHoldsPrefix pages records at → EachLacks (length records + 1) at
