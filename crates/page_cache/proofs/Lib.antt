@@ -1,4 +1,3 @@
 pub mod Putting
 pub mod Opening
-pub mod Newest
 pub mod Flushing

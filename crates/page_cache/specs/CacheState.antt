@@ -1,5 +1,5 @@
 -- A page cache, as its callers see it.
-use Rattle.std.specs.Prelude.{ℕ, ◌==◌, Bool, not, List}
+use Rattle.std.specs.Prelude.{ℕ, ◌<◌, ◌≤◌, ◌==◌, Bool, not, List, length}
 use Rattle.log_records.specs.declared.Record.{Record}
 use Rattle.page_redo.specs.Pages.{Pages, page_words, lsn_of}
 use Rattle.page_redo.specs.Prefix.{EachHoldsPrefix, IsPresent}
@@ -35,6 +35,12 @@ cached_page cache p = page_words cache.pages.words p
 -- its LSN
 abbrev pub cached_lsn : PageCache → ℕ → ℕ
 cached_lsn cache p = lsn_of cache.pages p
+
+-- Page p is the first whose LSN is past that one: beside a log that ends there it is ahead of the log.
+pub record IsFirstPast (lsn p : ℕ) (at : Pages) : Type 0 where
+  pub page : p < length at.lsns
+  pub past : lsn < lsn_of at p
+  pub before : (q : ℕ) → q < p → lsn_of at q ≤ lsn
 
 -- the LSN with which it was stored, or 0
 abbrev pub flushed_lsn : PageCache → ℕ → ℕ

@@ -1,5 +1,5 @@
 //! The page cache: the pages of a heap in memory, over those that are stored on a disk.
-ghost use Rattle.std.specs.Prelude.{◌≡◌, ◌≢◌, ℕ, ◌+◌, ◌*◌, ◌^◌, ◌<◌, ◌≤◌, List, length, fold, max, take, slice_index, is_err, Some, IsTrue, IsFalse, OnOk, OnErr, IfOk};
+ghost use Rattle.std.specs.Prelude.{◌≡◌, ◌≢◌, ℕ, ◌+◌, ◌*◌, ◌^◌, ◌<◌, ◌≤◌, List, length, fold, take, slice_index, is_err, None, Some, IsTrue, IsFalse, OnOk, OnErr, IfOk};
 ghost use Rattle.log_records.specs.declared.Record.{Record};
 ghost use Rattle.log_machine.specs.Machine.{put_record};
 ghost use Rattle.log_machine.specs.Effect.{WritesBelow, EachWritesBelow};
@@ -35,7 +35,7 @@ pub struct PageCache {
 
 impl PageCache {
     ghost use Rattle.page_store.specs.StoreState.{store_plan, stored_frame, Knows};
-    ghost use Rattle.page_cache.specs.CacheState.{cached, cache_store, cache_pages, cache_size, cache_log, cached_page, cached_lsn, flushed_lsn, is_dirty, cache_failed, ArePresent, MayStandBeside};
+    ghost use Rattle.page_cache.specs.CacheState.{cached, cache_store, cache_pages, cache_size, cache_log, cached_page, cached_lsn, flushed_lsn, is_dirty, cache_failed, IsFirstPast, ArePresent, MayStandBeside};
 
     /// Reads the pages that are stored behind the log of an image.
     pub fn open<D: Disk>(alloc: Global, disk: &mut D, plan: Plan) -> Result<PageCache, OpenError>
@@ -101,12 +101,13 @@ impl PageCache {
         self.pages.lsn(p)
     }
 
-    /// The greatest LSN of a page, or 0: the record after it is new to each page.
-    pub fn newest(&self) -> u64
-        ensures value { result ≡ fold max 0 (cached self.now).lsns }
-        ensures next { EachLacks (result + 1) (cached self.now) }
+    /// The first page whose LSN is past this one. If there is none, each page lacks the record after it.
+    pub fn first_past(&self, lsn: u64) -> Option<u32>
+        ensures none { result ≡ None → EachLacks (lsn + 1) (cached self.now) }
+        ensures found { (p : ℕ) → result ≡ Some p → IsFirstPast lsn p (cached self.now) }
+        ensures page { (p : ℕ) → result ≡ Some p → p < cache_pages self.now }
     {
-        self.pages.newest()
+        self.pages.first_past(lsn)
     }
 
     /// Whether page `p` has changed since it was stored.

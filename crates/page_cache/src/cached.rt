@@ -1,5 +1,5 @@
 //! Pages in memory: records are put on those that lack them.
-ghost use Rattle.std.specs.Prelude.{◌≡◌, ℕ, ◌+◌, ◌*◌, ◌≤◌, ◌<◌, ◌^◌, length, map, filter, fold, max, nat_lt, slice_index, vec_len};
+ghost use Rattle.std.specs.Prelude.{◌≡◌, ℕ, ◌+◌, ◌*◌, ◌≤◌, ◌<◌, ◌^◌, None, Some, length, map, filter, nat_lt, slice_index, vec_len};
 ghost use Rattle.std.specs.List.{AllByRecursion, enumerate_from, range_with_len};
 ghost use Rattle.log_records.specs.declared.Record.{Record};
 ghost use Rattle.log_machine.specs.Machine.{field_at, put_all, put_record};
@@ -33,6 +33,8 @@ impl Model for CachedPages {
 }
 
 impl CachedPages {
+    ghost use Rattle.page_cache.specs.CacheState.{IsFirstPast};
+
     /// Pages with these words and LSNs.
     pub fn of(words: Vec<u64>, lsns: Vec<u64>) -> CachedPages
         requires { vec_len words ≡ 64 * vec_len lsns }
@@ -65,16 +67,18 @@ impl CachedPages {
         self.lsns[p as usize]
     }
 
-    /// The greatest LSN of a page, or 0.
-    pub fn newest(&self) -> u64
-        ensures value { result ≡ fold max 0 self.now.lsns }
-        ensures next { EachLacks (result + 1) self.now }
+    /// The first page whose LSN is past this one.
+    pub fn first_past(&self, lsn: u64) -> Option<u32>
+        requires { length self.now.lsns < 2 ^ 32 }
+        ensures none { result ≡ None → EachLacks (lsn + 1) self.now }
+        ensures found { (p : ℕ) → result ≡ Some p → IsFirstPast lsn p self.now }
     {
-        let mut newest = 0;
-        for lsn in &self.lsns {
-            newest = newest.max(*lsn);
+        for (p, own) in self.lsns.iter().enumerate() {
+            if *own > lsn {
+                return Some(p as u32);
+            }
         }
-        newest
+        None
     }
 
     /// The words of page `p`.

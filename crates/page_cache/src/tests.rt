@@ -5,7 +5,6 @@ ghost use Rattle.log_machine.specs.Effect.{WritesBelow, EachWritesBelow};
 use super::*;
 use disk_model::{Disk, MemoryDisk, Pick};
 use image_plan::Plan;
-use log_machine::PageWords;
 use log_records::{ObjectWords, Record};
 use std::alloc::{AllocError, Global};
 use std::process::Abort;
@@ -129,8 +128,10 @@ fn play(
     for (i, rec) in records.iter().enumerate() {
         let lsn = i as u64 + 1;
         assert!(rt; cache.as_slice().len() == 256);
-        assert!(rt; cache.newest() < lsn);
-        cache.apply(lsn, rec);
+        match cache.first_past(i as u64) {
+            None => cache.apply(lsn, rec),
+            Some(p) => panic!(rt; "page {p} is ahead of record {i}"),
+        }
         for (at, p) in flushes {
             if at == lsn {
                 flush(rt, &mut cache, disk, p, lsn)?;
@@ -138,6 +139,17 @@ fn play(
         }
     }
     Ok(())
+}
+
+/// The first pages past LSNs 0, 4, 6, 7 and 8.
+fn firsts_past(cache: &PageCache) -> [Option<u32>; 5] {
+    [
+        cache.first_past(0),
+        cache.first_past(4),
+        cache.first_past(6),
+        cache.first_past(7),
+        cache.first_past(8),
+    ]
 }
 
 /// The LSNs of the four pages.
@@ -164,13 +176,62 @@ fn redone(
     Ok(cache)
 }
 
+/// Puts a word at an address.
+fn put(words: &mut [u64], at: usize, word: u64) {
+    if let Some(place) = words.get_mut(at) {
+        *place = word;
+    }
+}
+
+/// Puts a record's words, whatever the pages have.
+fn replay_one(words: &mut [u64], rec: &Record) {
+    match rec {
+        Record::Update {
+            object,
+            field,
+            word,
+            ..
+        }
+        | Record::Fix {
+            object,
+            field,
+            word,
+            ..
+        }
+        | Record::Undo {
+            object,
+            field,
+            word,
+            ..
+        } => put(words, *object as usize + 2 + *field as usize, *word),
+        Record::Base {
+            address,
+            words: object,
+            ..
+        } => {
+            for (i, word) in object.as_slice().iter().enumerate() {
+                put(words, i.saturating_add(*address as usize), *word);
+            }
+        }
+        Record::Commit { .. } | Record::End { .. } => {}
+    }
+}
+
+/// The words of the four pages after all records, from the first contents on.
+fn replayed(alloc: Global, records: &[Record]) -> Result<Vec<u64>, AllocError> {
+    let mut words = vec![in alloc; 0u64; 256]?;
+    words[0] = 17;
+    for rec in records {
+        replay_one(&mut words, rec);
+    }
+    Ok(words)
+}
+
 #[test]
 fn redone_as_replayed(rt: HostRuntime) -> Result<(), Fail> {
     let alloc = rt.alloc();
     let records = records(alloc)?;
-    let mut plain = PageWords::first_contents(alloc, 2)?;
-    assert!(rt; plain.len() == 256);
-    plain.apply_all(&records);
+    let plain = replayed(alloc, &records)?;
     for (flushes, stored) in ROWS {
         let bytes = vec![in alloc; 0u8; 4352]?;
         let none = Vec::new(alloc);
@@ -194,5 +255,17 @@ fn words_by_address(rt: HostRuntime) -> Result<(), Fail> {
     assert!(rt; cache.as_slice().len() == 256);
     let found = [cache.word(2), cache.word(65), cache.word(255)];
     assert_eq!(rt; found, [5, 9, 25]);
+    Ok(())
+}
+
+#[test]
+fn pages_ahead_of_a_log(rt: HostRuntime) -> Result<(), Fail> {
+    let alloc = rt.alloc();
+    let bytes = vec![in alloc; 0u8; 4352]?;
+    let none = Vec::new(alloc);
+    let mut disk = MemoryDisk::of(alloc, bytes, Pick::AllOnes, 99_999, none, Vec::new(alloc))?;
+    let cache = redone(&rt, alloc, &mut disk, &records(alloc)?, [0; 4])?;
+    let want = [Some(0), Some(0), Some(1), Some(3), None];
+    assert_eq!(rt; firsts_past(&cache), want);
     Ok(())
 }
