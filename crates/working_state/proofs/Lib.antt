@@ -1,3 +1,4 @@
+pub mod Applied
 pub mod Committed
 pub mod Found
 pub mod Left

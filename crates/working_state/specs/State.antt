@@ -4,6 +4,7 @@ use Rattle.std.specs.FinSet as set
 use Rattle.gated_log.specs.declared.Log.{Log}
 use Rattle.graph_model.specs.History.{sessions}
 use Rattle.log_machine.specs.Machine.{taken_back}
+use Rattle.page_cache.specs.CacheState.{cached}
 use Rattle.heap_spaces.specs.Spaces.{SpacesState}
 use Rattle.txn_table.specs.Table.{TableState, new_table, transaction_of}
 use Rattle.heap_memory.specs.Memory.{Memory}
@@ -12,7 +13,7 @@ use Rattle.working_state.specs.declared.working.Working.{Working}
 
 -- what it keeps
 abbrev pub memory : Working → Memory
-memory w = record { log = w.log; words = w.words; spaces = w.spaces; table = w.table; locks = w.locks; sealed = w.sealed }
+memory w = record { log = w.log; words = (cached w.cache).words; spaces = w.spaces; table = w.table; locks = w.locks; sealed = w.sealed }
 
 -- what that of a heap keeps that was just opened
 abbrev pub opened : Log → List ℕ → SpacesState → ℕ → Memory
@@ -24,4 +25,4 @@ without_writes table words ss = fold (λ now s. taken_back (undo_if (transaction
 
 -- the words without what active transactions wrote
 abbrev pub committed : Working → List ℕ
-committed w = without_writes w.table w.words sessions
+committed w = without_writes w.table (cached w.cache).words sessions

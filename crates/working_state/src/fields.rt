@@ -4,6 +4,7 @@ ghost use Rattle.heap_words.specs.Word.{bits, meaning, IsWord};
 ghost use Rattle.graph_model.specs.Plain.{reply_of};
 ghost use Rattle.graph_model.specs.declared.reply.Reply.TheVariants.{Done};
 ghost use Rattle.object_layout.specs.Layout.{field_words};
+ghost use Rattle.page_cache.specs.CacheState.{cached};
 ghost use Rattle.heap_memory.specs.Memory.{own, own_fields, fields_at as words_at};
 ghost use Rattle.working_state.specs.Reserve.{can_refer};
 
@@ -47,10 +48,10 @@ impl Working {
     /// The words of the fields of the object at a place, in order, and none where no object stands.
     pub(crate) fn fields(&self, session: u32, place: Place) -> &[u64]
         requires { IsSome (own (memory self.now) session) }
-        ensures { IfSome (own (memory self.now) session) (λ t. result.now ≡ words_at self.now.words t.area place) }
+        ensures { IfSome (own (memory self.now) session) (λ t. result.now ≡ words_at (cached self.now.cache).words t.area place) }
     {
         match place {
-            Place::Stable(at) => fields_at(self.words.as_slice(), at),
+            Place::Stable(at) => fields_at(self.cache.as_slice(), at),
             Place::Volatile(at) => self.own_fields(session, at),
         }
     }
@@ -104,14 +105,14 @@ impl Working {
         word: u64,
     ) -> Result<Reply, AllocError>
         requires active { IsSome (own (memory self.old) session) }
-        requires there { field < length (field_words self.old.words object) }
+        requires there { field < length (field_words (cached self.old.cache).words object) }
         ensures reply { IfOk result (λ reply. reply ≡ reply_of (write_refusal (memory self.old) session (Place.Stable object) field) Done) }
         ensures done { result ≡ Ok Done → Writes (memory self.old) (memory self.new) session (Place.Stable object) field word }
         ensures refused { (why : _) → result ≡ Ok (Reply.Refused why) → IsAsItWas (memory self.old) (memory self.new) }
         ensures err { OnErr result (IsAsItWas (memory self.old) (memory self.new)) }
     {
         let was = self
-            .words
+            .cache
             .word(object + FIELDS_AT as u32 + u32::from(field));
         let t = self.table.number(session);
         let rec = Record::Update {
@@ -132,7 +133,7 @@ impl Working {
         let entry = UndoEntry { object, field, was };
         keep_write(&mut self.table, &mut self.locks, session, entry)?;
         self.log.append(&rec)?;
-        self.words.apply(&rec);
+        self.cache.apply(self.log.records(), &rec);
         self.reserved = reserved;
         Ok(Reply::Done)
     }

@@ -7,6 +7,7 @@ ghost use Rattle.heap_memory.specs.Refusals.{space_refusal};
 ghost use Rattle.heap_spaces.specs.Spaces.{open_words};
 ghost use Rattle.log_machine.specs.Effect.{EachWritesBelow};
 ghost use Rattle.log_records.specs.Record.{spellings};
+ghost use Rattle.page_cache.specs.CacheState.{cached};
 ghost use Rattle.working_state.specs.Seal.{IsFound};
 
 use crate::log_room::{log_refusal, need_of};
@@ -59,8 +60,9 @@ impl Working {
         if let Some(why) = log_refusal(&self.log, need_of(&self.log, &records), others) {
             return Ok(refused(why));
         }
+        let first = self.log.records() + 1;
         self.log.append_all(&records)?;
-        self.words.apply_all(&records);
+        self.cache.apply_all(first, &records);
         let _taken = self.spaces.take(sealing.need());
         self.locks.release(self.table.number(session));
         self.table.end(session);
@@ -76,7 +78,7 @@ impl Working {
     {
         let area = self.table.area(session);
         let undo = self.table.undo(session);
-        Sealing::new(alloc, area, self.words.as_slice(), undo)
+        Sealing::new(alloc, area, self.cache.as_slice(), undo)
     }
 
     /// The records of the seal of the transaction, which promotes this.
@@ -90,11 +92,11 @@ impl Working {
         requires found { IfSome (own (memory self.now) session) (λ t. IsFound (memory self.now) t sealing.now) }
         requires room { sealing.now.need ≤ open_words self.now.spaces }
         ensures records { IfOk result (λ records. IfSome (own (memory self.now) session) (λ t. records.items ≡ sealing_records (memory self.now) t)) }
-        ensures inside { IfOk result (λ records. EachWritesBelow (length self.now.words) records.items) }
+        ensures inside { IfOk result (λ records. EachWritesBelow (length (cached self.now.cache).words) records.items) }
         ensures few { IfOk result (λ records. length (spellings records.items) < 2 ^ 32 + 2 ^ 24) }
     {
         let area = self.table.area(session);
         let address = self.spaces.next_free();
-        sealing.records(alloc, area, self.words.as_slice(), address)
+        sealing.records(alloc, area, self.cache.as_slice(), address)
     }
 }

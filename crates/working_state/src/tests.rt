@@ -5,29 +5,33 @@ use disk_model::{MemoryDisk, Pick};
 use gated_log::Log;
 use graph_model::{Event, Refusal, Reply};
 use heap_spaces::Spaces;
-use log_machine::PageWords;
+use image_plan::Plan;
+use page_cache::PageCache;
 use std::alloc::{AllocError, Global};
 use std::fmt::Debug;
 use std::process::Abort;
 use std::test::Fail;
 use txn_table::TxnTable;
 
-// An empty heap with a log of 500 bytes.
-fn opened(alloc: Global) -> Result<Working, Fail> {
-    let bytes = vec![in alloc; 0u8; 500]?;
-    let mut disk = MemoryDisk::of(
-        alloc,
-        bytes,
-        Pick::Newest,
-        1000,
-        Vec::new(alloc),
-        Vec::new(alloc),
-    )?;
-    let (log, _) = Log::open(alloc, &mut disk, 0, 500)?;
-    let words = PageWords::first_contents(alloc, 1)?;
+/// A heap of one page a space, with a log of 500 bytes.
+const PLAN: Plan = Plan {
+    pages: 1,
+    log_bytes: 500,
+};
+
+// That heap, when it is new.
+fn opened(rt: &impl Abort, alloc: Global) -> Result<Working, Fail> {
+    let bytes = vec![in alloc; 0u8; PLAN.size() as usize]?;
+    let none = Vec::new(alloc);
+    let mut disk = MemoryDisk::of(alloc, bytes, Pick::Newest, 1000, none, Vec::new(alloc))?;
+    assert!(rt; disk.size() >= PLAN.size());
+    let (log, _) = Log::open(alloc, &mut disk, PLAN.log_at(), PLAN.log_bytes)?;
+    assert!(rt; disk.size() >= PLAN.size());
+    let cache = PageCache::open(alloc, &mut disk, PLAN)?;
+    assert!(rt; cache.first_past(log.records()).is_none());
     let spaces = Spaces::new(1, 0, 6, 0);
     let table = TxnTable::new(alloc, 1)?;
-    Ok(Working::new(alloc, log, words, spaces, table))
+    Ok(Working::new(alloc, log, cache, spaces, table))
 }
 
 /// An event of a session, and what it is answered.
@@ -283,11 +287,11 @@ fn play(
 
 #[test]
 fn what_was_sealed_stays(rt: HostRuntime) -> Result<(), Fail> {
-    let mut heap = opened(rt.alloc())?;
+    let mut heap = opened(&rt, rt.alloc())?;
     play(&rt, rt.alloc(), &mut heap, &MADE)?;
     same(&rt, (heap.spaces.used(), heap.reserved), (10, 0));
     play(&rt, rt.alloc(), &mut heap, &WRITTEN_IN_VAIN)?;
-    let word = heap.words.as_slice().get(9).copied();
+    let word = heap.cache.as_slice().get(9).copied();
     same(&rt, (word, heap.log.records()), (Some(29), 7));
     Ok(())
 }
@@ -295,13 +299,13 @@ fn what_was_sealed_stays(rt: HostRuntime) -> Result<(), Fail> {
 /// The word of the root's first field, as it is and as it is committed.
 fn first_field(alloc: Global, heap: &Working) -> Result<(Option<u64>, Option<u64>), AllocError> {
     let committed = heap.committed_words(alloc)?;
-    let now = heap.words.as_slice().get(2).copied();
+    let now = heap.cache.as_slice().get(2).copied();
     Ok((now, committed.as_slice().get(2).copied()))
 }
 
 #[test]
 fn sessions_give_way(rt: HostRuntime) -> Result<(), Fail> {
-    let mut heap = opened(rt.alloc())?;
+    let mut heap = opened(&rt, rt.alloc())?;
     play(&rt, rt.alloc(), &mut heap, &THREE)?;
     same(&rt, heap.reserved, 30);
     play(&rt, rt.alloc(), &mut heap, &READERS_FIRST)?;

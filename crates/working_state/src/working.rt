@@ -1,9 +1,11 @@
 //! The working state of an open heap, and how a session's transaction begins, asks and ends.
 ghost use Rattle.std.specs.Prelude.{◌≡◌, ◌+◌, ◌*◌, ◌≤◌, length, true, Ok, Some, None, OnErr, IfOk, IfSome, IsTrue, IsSome, ◌↔◌};
-ghost use Rattle.gated_log.specs.LogState.{log_room, log_used};
+ghost use Rattle.gated_log.specs.LogState.{log_count, log_room, log_used};
 ghost use Rattle.graph_model.specs.Plain.{reply_of};
 ghost use Rattle.graph_model.specs.declared.reply.Reply.TheVariants.{Begun, Done, Aborted};
 ghost use Rattle.log_machine.specs.Machine.{words_in};
+ghost use Rattle.page_redo.specs.Redo.{EachLacks};
+ghost use Rattle.page_cache.specs.CacheState.{cached};
 ghost use Rattle.txn_table.specs.Table.{new_table};
 ghost use Rattle.heap_words.specs.Word.{IsWord};
 ghost use Rattle.heap_memory.specs.Memory.{own, root_place, place_word, held_place};
@@ -16,6 +18,7 @@ use heap_spaces::Spaces;
 use heap_words::{NO_INT, Word, decode};
 use log_machine::{LAST_NUMBER, PageWords, abort_records, end_bytes};
 use object_locks::LockTable;
+use page_cache::PageCache;
 use std::alloc::{AllocError, Global};
 use txn_table::{HANDLES, Place, SESSIONS, TxnTable};
 use volatile_area::AreaError;
@@ -34,8 +37,8 @@ const MOST_FIELDS: u64 = 510;
 pub struct Working {
     /// The log, with the records that wait.
     pub log: Log,
-    /// The words of both spaces.
-    pub words: PageWords,
+    /// The pages of both spaces in memory.
+    pub cache: PageCache,
     /// Which words of the current space are taken.
     pub spaces: Spaces,
     /// The transactions of the sessions that have not ended, and the next one's number.
@@ -48,9 +51,11 @@ pub struct Working {
     pub sealed: u64,
     // The log has room for what is kept.
     pub ghost room: { log_used log + reserved ≤ log_room log },
-    pub ghost sound: { AreSound table (length words) reserved sealed },
-    pub ghost sized: { length words ≡ words_in spaces.pages },
-    pub ghost few: { length words ≤ 2097152 },
+    pub ghost sound: { AreSound table (length (cached cache).words) reserved sealed },
+    pub ghost sized: { length (cached cache).words ≡ words_in spaces.pages },
+    pub ghost few: { length (cached cache).words ≤ 2097152 },
+    // No page has a record that the log lacks: the next record is new to each of them.
+    pub ghost logged: { EachLacks (log_count log + 1) (cached cache) },
 }
 
 /// The answer of an event that is refused.
@@ -70,19 +75,20 @@ impl Working {
     pub fn new(
         alloc: Global,
         log: Log,
-        words: PageWords,
+        cache: PageCache,
         spaces: Spaces,
         table: TxnTable,
     ) -> Working
         requires number { 1 ≤ table.next }
         requires idle { table ≡ new_table table.next }
-        requires sized { length words ≡ words_in spaces.pages }
+        requires sized { length (cached cache).words ≡ words_in spaces.pages }
         requires few { spaces.pages ≤ 16384 }
-        ensures { memory result ≡ opened log words spaces table.next }
+        requires new { EachLacks (log_count log + 1) (cached cache) }
+        ensures { memory result ≡ opened log (cached cache).words spaces table.next }
     {
         Working {
             log,
-            words,
+            cache,
             spaces,
             table,
             locks: LockTable::new(alloc),
@@ -310,8 +316,9 @@ impl Working {
         let number = self.table.number(session);
         let undo = self.table.undo(session);
         let records = abort_records(alloc, number, undo)?;
+        let first = self.log.records() + 1;
         self.log.append_all(&records)?;
-        self.words.take_back(undo);
+        self.cache.apply_all(first, &records);
         self.locks.release(number);
         self.table.end(session);
         self.reserved = others;
@@ -322,7 +329,7 @@ impl Working {
     pub fn committed_words(&self, alloc: Global) -> Result<PageWords, AllocError>
         ensures { IfOk result (λ words. words ≡ committed self.now) }
     {
-        let mut words = self.words.copy(alloc)?;
+        let mut words = PageWords::copy_of(alloc, self.cache.as_slice())?;
         for session in 1..=SESSIONS {
             if self.table.active(session) {
                 words.take_back(self.table.undo(session));

@@ -1,18 +1,20 @@
 use Rattle.std.proofs.Common.{◌≡◌, ℕ, ◌+◌, ◌≤◌, List, ◌++◌, length, reverse, Some, refl, sym, ap, ◌∙◌, subst, arith}
-use Rattle.std.specs.Prelude.{IsSome, IfSome}
-use Rattle.gated_log.specs.LogState.{log_room, log_used_with, Keeps}
+use Rattle.std.specs.Prelude.{◌<◌, IsSome, IfSome, fold}
+use Rattle.std.proofs.lemmas.List.Elements.{recursion_from_All}
+use Rattle.gated_log.specs.LogState.{log_count, log_room, log_used_with, Keeps}
 use Rattle.log_records.specs.declared.Record.{Record}
 use Rattle.log_records.specs.Record.{spellings}
 use Rattle.log_machine.specs.declared.UndoEntry.{UndoEntry}
-use Rattle.log_machine.specs.Machine.{taken_back, abort_records, end_bytes}
-use Rattle.log_machine.specs.AbortLaws.{abort_words}
-use Rattle.log_machine.specs.WordsLaws.{length-taken_back}
+use Rattle.log_machine.specs.Machine.{field_at, put_record, abort_records, end_bytes}
+use Rattle.log_machine.specs.Effect.{EachWritesBelow}
+use Rattle.log_machine.specs.WordsLaws.{length-put_records}
+use Rattle.page_cache.specs.CacheState.{cached}
 use Rattle.txn_table.specs.Table.{TransactionState, transaction_of, with_ended}
 use Rattle.object_locks.specs.Holdings.{without}
 use Rattle.working_state.specs.declared.working.Working.{Working}
-use Rattle.working_state.specs.Reserve.{undo_if}
-use Rattle.working_state.proofs.Tables.{there, told, told_undo, inside_of, sound_same, sound_ended}
-use Rattle.working_state.proofs.Room.{abort_room, turned_below}
+use Rattle.working_state.proofs.Tables.{there, told, sound_same, sound_ended}
+use Rattle.working_state.proofs.Room.{abort_room}
+use Rattle.working_state.proofs.Applied.{count_few, next_lacking, still_lacking, abort_below}
 use Rattle.working_state.proofs.working.Working.abort.Goals as goal
 
 -- The transaction that is aborted, the records that abort it, and what is kept for the others.
@@ -50,12 +52,33 @@ append_all-requires c =
     c.reserved_without-others.ensures.kept c.number-number.ensures c.undo-undo.ensures (c.deref.ensures.value ∙ c.in_ok-records.ensures) in
     omega (arith, fits s c.args.session c.reserved_without-others.result c.deref.result.now a)
 
-pub take_back-requires : goal.take_back-requires
-take_back-requires c =
+-- each write that is taken back lies in the words
+below : (s : Working) (session others : ℕ) (records : List Record) → IsAborted s session others records → EachWritesBelow (length (cached s.cache).words) records
+below s session others records a =
+    let t = a.transaction in
+    let size = length (cached s.cache).words in
+    let wrote = recursion_from_All (λ (u : UndoEntry). field_at u.object u.field < size) t.undo (s.sound.each session t a.was).inside in
+    subst (λ (rs : List Record). EachWritesBelow size rs) (sym a.is) (abort_below size t.number t.undo wrote)
+
+pub overflow_add-first : goal.overflow_add-first
+overflow_add-first c = omega (arith, c.records.ensures, count_few c.args.self.now.log)
+
+pub apply_all-requires-clause-new : goal.apply_all-requires-clause-new
+apply_all-requires-clause-new c =
     let s = c.args.self.now in
-    let o = transaction_of s.table c.args.session in
-    let is = told_undo o c.undo-undo.result.now (c.active.ensures.0 c.if-not-active.false) c.undo-undo.ensures in
-    turned_below (length s.words) c.undo-undo.result.now (undo_if o) is (inside_of s.table (length s.words) s.reserved s.sealed c.args.session s.sound)
+    next_lacking (log_count s.log) (c.records.result + 1) (cached s.cache) s.logged (omega (arith, c.records.ensures))
+
+pub apply_all-requires-clause-inside : goal.apply_all-requires-clause-inside
+apply_all-requires-clause-inside c =
+    let s = c.args.self.now in
+    let a = aborted s c.args.session c.reserved_without-others.result c.number-number.result c.undo-undo.result.now c.deref-2.result.now (c.active.ensures.0 c.if-not-active.false)
+    c.reserved_without-others.ensures.kept c.number-number.ensures c.undo-undo.ensures (c.deref-2.ensures.value ∙ c.in_ok-records.ensures) in
+    below s c.args.session c.reserved_without-others.result c.deref-2.result.now a
+
+pub apply_all-requires-clause-lsns : goal.apply_all-requires-clause-lsns
+apply_all-requires-clause-lsns c =
+    let same = ap length (c.deref.ensures.value ∙ sym c.deref-2.ensures.value) in
+    omega (arith, same, c.records.ensures, c.in_ok-append_all.ensures.count, count_few c.append_all.new.self)
 
 pub invariant_of-self-2-clause-room : goal.invariant_of-self-2-clause-room
 invariant_of-self-2-clause-room c =
@@ -70,18 +93,27 @@ invariant_of-self-2-clause-sound c =
     let others = c.reserved_without-others.result in
     let a = aborted s c.args.session c.reserved_without-others.result c.number-number.result c.undo-undo.result.now c.deref.result.now (c.active.ensures.0 c.if-not-active.false)
     c.reserved_without-others.ensures.kept c.number-number.ensures c.undo-undo.ensures (c.deref.ensures.value ∙ c.in_ok-records.ensures) in
-    let ended = sound_ended s.table (length s.words) s.reserved others s.sealed s.sealed c.args.session a.transaction s.sound a.was a.kept (omega arith) in
-    let long : length c.take_back.new.self ≡ length s.words = ap length c.take_back.ensures ∙ length-taken_back (reverse c.undo-undo.result.now) s.words in
-    sound_same (with_ended s.table c.args.session) c.end.new.self (length s.words) (length c.take_back.new.self) others others s.sealed ended c.end.ensures long refl
+    let ended = sound_ended s.table (length (cached s.cache).words) s.reserved others s.sealed s.sealed c.args.session a.transaction s.sound a.was a.kept (omega arith) in
+    let long : length (cached c.apply_all.new.self).words ≡ length (cached s.cache).words = ap length c.apply_all.ensures.words ∙ length-put_records c.deref-2.result.now (cached s.cache).words in
+    sound_same (with_ended s.table c.args.session) c.end.new.self (length (cached s.cache).words) (length (cached c.apply_all.new.self).words) others others s.sealed ended c.end.ensures long refl
 
 pub invariant_of-self-2-clause-sized : goal.invariant_of-self-2-clause-sized
 invariant_of-self-2-clause-sized c =
-    ap length c.take_back.ensures ∙ length-taken_back (reverse c.undo-undo.result.now) c.args.self.now.words ∙ c.args.self.now.sized
+    let s = c.args.self.now in
+    ap length c.apply_all.ensures.words ∙ length-put_records c.deref-2.result.now (cached s.cache).words ∙ s.sized
 
 pub invariant_of-self-2-clause-few : goal.invariant_of-self-2-clause-few
 invariant_of-self-2-clause-few c =
-    let same = ap length c.take_back.ensures ∙ length-taken_back (reverse c.undo-undo.result.now) c.args.self.now.words in
-    omega (arith, same, c.args.self.now.few)
+    let s = c.args.self.now in
+    omega (arith, ap length c.apply_all.ensures.words, length-put_records c.deref-2.result.now (cached s.cache).words, s.few)
+
+pub invariant_of-self-2-clause-logged : goal.invariant_of-self-2-clause-logged
+invariant_of-self-2-clause-logged c =
+    let s = c.args.self.now in
+    let first : c.records.result + 1 ≡ log_count s.log + 1 = omega (arith, c.records.ensures) in
+    let same = ap length (c.deref.ensures.value ∙ sym c.deref-2.ensures.value) in
+    let last : log_count c.append_all.new.self ≡ log_count s.log + length c.deref-2.result.now = omega (arith, same, c.in_ok-append_all.ensures.count) in
+    still_lacking (log_count s.log) (c.records.result + 1) (log_count c.append_all.new.self) (cached s.cache) (cached c.apply_all.new.self) c.deref-2.result.now s.logged first last c.apply_all.ensures.redone
 
 pub returns-clause-aborted : goal.returns-clause-aborted
 returns-clause-aborted c is =
@@ -91,7 +123,6 @@ returns-clause-aborted c is =
     c.reserved_without-others.ensures.kept c.number-number.ensures c.undo-undo.ensures (c.deref.ensures.value ∙ c.in_ok-records.ensures) in
     let t = a.transaction in
     let number = told o t (λ v. c.number-number.result ≡ v.number) a.was c.number-number.ensures in
-    let undo = told o t (λ v. reverse c.undo-undo.result.now ≡ v.undo) a.was c.undo-undo.ensures in
     record {
       transaction = t;
       was = a.was;
@@ -100,7 +131,7 @@ returns-clause-aborted c is =
           place = c.in_ok-append_all.ensures.place;
           kept = λ batches pending keeps. subst (λ (rs : List Record). Keeps c.append_all.new.self batches (pending ++ rs)) a.is (c.in_ok-append_all.ensures.added batches pending keeps);
         };
-        words = c.take_back.ensures ∙ ap (λ (us : List UndoEntry). taken_back us s.words) undo ∙ sym (abort_words t.number t.undo s.words);
+        words = c.apply_all.ensures.words ∙ ap (λ (rs : List Record). fold put_record (cached s.cache).words rs) (c.deref-2.ensures.value ∙ sym c.deref.ensures.value ∙ a.is);
         table = c.end.ensures;
         locks = c.release.ensures ∙ ap (without s.locks) number;
         spaces = refl;

@@ -1,5 +1,6 @@
 use Rattle.std.proofs.Common.{◌+◌, ◌<◌, ◌^◌, length, refl, sym, ◌∙◌, arith}
 use Rattle.log_machine.specs.Machine.{end_bytes}
+use Rattle.page_cache.specs.CacheState.{cached}
 use Rattle.txn_table.specs.Table.{transaction_of, with_begun}
 use Rattle.working_state.proofs.Tables.{idle, sound_same, sound_begun}
 use Rattle.working_state.proofs.Room.{room_left}
@@ -10,8 +11,8 @@ invariant_of-self-clause-sound c =
     let old = c.args.self.now in
     let none = idle (transaction_of old.table c.args.session) c.active.result c.active.ensures c.if-active.false in
     let small : old.table.next + 1 < 2 ^ 32 = omega arith in
-    let begun = sound_begun old.table (length old.words) old.reserved old.sealed c.args.session old.sound (c.requires.first, c.requires.last) none small in
-    sound_same (with_begun old.table c.args.session) c.begin-number.new.self (length old.words) (length old.words) (old.reserved + end_bytes 0) (old.reserved + c.end_bytes.result) old.sealed
+    let begun = sound_begun old.table (length (cached old.cache).words) old.reserved old.sealed c.args.session old.sound (c.requires.first, c.requires.last) none small in
+    sound_same (with_begun old.table c.args.session) c.begin-number.new.self (length (cached old.cache).words) (length (cached old.cache).words) (old.reserved + end_bytes 0) (old.reserved + c.end_bytes.result) old.sealed
     begun c.begin-number.ensures.begun refl (omega (arith, c.end_bytes.ensures))
 
 pub invariant_of-self-clause-room : goal.invariant_of-self-clause-room

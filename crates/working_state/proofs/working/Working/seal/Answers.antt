@@ -1,6 +1,7 @@
 use Rattle.std.proofs.Common.{◌≡◌, ◌+◌, ◌<◌, ◌++◌, List, length, refl, sym, ap, ◌∙◌, subst, arith}
 use Rattle.std.specs.Prelude.{◌^◌, fold}
-use Rattle.gated_log.specs.LogState.{log_need, Keeps}
+use Rattle.gated_log.specs.LogState.{log_count, log_need, Keeps}
+use Rattle.page_cache.specs.CacheState.{cached}
 use Rattle.heap_spaces.specs.Spaces.{SpacesState, with_taken}
 use Rattle.log_records.specs.declared.Record.{Record}
 use Rattle.log_records.specs.Record.{spellings}
@@ -14,6 +15,7 @@ use Rattle.working_state.specs.Seal.{IsFound}
 use Rattle.working_state.specs.State.{memory}
 use Rattle.working_state.proofs.Tables.{there, told, sound_same, sound_ended}
 use Rattle.working_state.proofs.Room.{room_left, need_little, used_with_need, space_left, taken_is}
+use Rattle.working_state.proofs.Applied.{count_few, next_lacking, still_lacking}
 use Rattle.working_state.proofs.working.Working.seal.Goals as goal
 
 pub need_of-requires : goal.need_of-requires
@@ -26,9 +28,22 @@ log_refusal-requires-clause-need c =
     let little = need_little c.args.self.now.log (length (spellings c.deref.result.now)) in
     omega (arith, few, same, little, c.need_of.ensures)
 
-pub apply_all-requires : goal.apply_all-requires
-apply_all-requires c =
-    subst (λ (rs : List Record). EachWritesBelow (length c.args.self.now.words) rs) (sym c.deref-3.ensures.value) c.in_ok-records.ensures.inside
+pub overflow_add-first : goal.overflow_add-first
+overflow_add-first c = omega (arith, c.records.ensures, count_few c.args.self.now.log)
+
+pub apply_all-requires-clause-new : goal.apply_all-requires-clause-new
+apply_all-requires-clause-new c =
+    let s = c.args.self.now in
+    next_lacking (log_count s.log) (c.records.result + 1) (cached s.cache) s.logged (omega (arith, c.records.ensures))
+
+pub apply_all-requires-clause-inside : goal.apply_all-requires-clause-inside
+apply_all-requires-clause-inside c =
+    subst (λ (rs : List Record). EachWritesBelow (length (cached c.args.self.now.cache).words) rs) (sym c.deref-3.ensures.value) c.in_ok-records.ensures.inside
+
+pub apply_all-requires-clause-lsns : goal.apply_all-requires-clause-lsns
+apply_all-requires-clause-lsns c =
+    let same = ap length (c.deref-2.ensures.value ∙ sym c.deref-3.ensures.value) in
+    omega (arith, same, c.records.ensures, c.in_ok-append_all.ensures.count, count_few c.append_all.new.self)
 
 pub log_refusal-requires-clause-reserved : goal.log_refusal-requires-clause-reserved
 log_refusal-requires-clause-reserved c =
@@ -59,14 +74,14 @@ invariant_of-self-3-clause-sound c =
     let o = transaction_of s.table c.args.session in
     let t = there o (c.active.ensures.0 c.if-not-active.false) in
     let kept = told o t.0 (λ v. others + end_bytes (length v.undo) ≡ s.reserved) t.1 c.reserved_without-others.ensures.kept in
-    let ended = sound_ended s.table (length s.words) s.reserved others s.sealed (s.sealed + 1) c.args.session t.0 s.sound t.1 kept (omega arith) in
-    let long : length c.apply_all.new.self ≡ length s.words = ap length c.apply_all.ensures ∙ length-records c.deref-3.result.now s.words in
-    sound_same (with_ended s.table c.args.session) c.end.new.self (length s.words) (length c.apply_all.new.self) others others (s.sealed + 1) ended c.end.ensures long refl
+    let ended = sound_ended s.table (length (cached s.cache).words) s.reserved others s.sealed (s.sealed + 1) c.args.session t.0 s.sound t.1 kept (omega arith) in
+    let long : length (cached c.apply_all.new.self).words ≡ length (cached s.cache).words = ap length c.apply_all.ensures.words ∙ length-records c.deref-3.result.now (cached s.cache).words in
+    sound_same (with_ended s.table c.args.session) c.end.new.self (length (cached s.cache).words) (length (cached c.apply_all.new.self).words) others others (s.sealed + 1) ended c.end.ensures long refl
 
 pub invariant_of-self-3-clause-sized : goal.invariant_of-self-3-clause-sized
 invariant_of-self-3-clause-sized c =
     let s = c.args.self.now in
-    let long : length c.apply_all.new.self ≡ length s.words = ap length c.apply_all.ensures ∙ length-records c.deref-3.result.now s.words in
+    let long : length (cached c.apply_all.new.self).words ≡ length (cached s.cache).words = ap length c.apply_all.ensures.words ∙ length-records c.deref-3.result.now (cached s.cache).words in
     let room = space_left s.spaces c.need.result (sym c.space_refusal.ensures ∙ c.in_default.is) in
     let taken = taken_is c.take-taken.result s.spaces c.take-taken.new.self c.need.result c.need-2.result c.take-taken.ensures.exhausted c.take-taken.ensures.taken (c.need-2.ensures ∙ sym c.need.ensures) room in
     long ∙ s.sized ∙ sym (ap (λ (spaces : SpacesState). words_in spaces.pages) taken)
@@ -74,7 +89,15 @@ invariant_of-self-3-clause-sized c =
 pub invariant_of-self-3-clause-few : goal.invariant_of-self-3-clause-few
 invariant_of-self-3-clause-few c =
     let s = c.args.self.now in
-    omega (arith, s.few, ap length c.apply_all.ensures ∙ length-records c.deref-3.result.now s.words)
+    omega (arith, s.few, ap length c.apply_all.ensures.words ∙ length-records c.deref-3.result.now (cached s.cache).words)
+
+pub invariant_of-self-3-clause-logged : goal.invariant_of-self-3-clause-logged
+invariant_of-self-3-clause-logged c =
+    let s = c.args.self.now in
+    let first : c.records.result + 1 ≡ log_count s.log + 1 = omega (arith, c.records.ensures) in
+    let same = ap length (c.deref-2.ensures.value ∙ sym c.deref-3.ensures.value) in
+    let last : log_count c.append_all.new.self ≡ log_count s.log + length c.deref-3.result.now = omega (arith, same, c.in_ok-append_all.ensures.count) in
+    still_lacking (log_count s.log) (c.records.result + 1) (log_count c.append_all.new.self) (cached s.cache) (cached c.apply_all.new.self) c.deref-3.result.now s.logged first last c.apply_all.ensures.redone
 
 pub returns-clause-sealed : goal.returns-clause-sealed
 returns-clause-sealed c number is =
@@ -94,7 +117,7 @@ returns-clause-sealed c number is =
           place = c.in_ok-append_all.ensures.place;
           kept = λ batches pending keeps. subst (λ (rs : List Record). Keeps c.append_all.new.self batches (pending ++ rs)) (c.deref-2.ensures.value ∙ same) (c.in_ok-append_all.ensures.added batches pending keeps);
         };
-        words = c.apply_all.ensures ∙ ap (λ (rs : List Record). fold put_record s.words rs) (c.deref-3.ensures.value ∙ same);
+        words = c.apply_all.ensures.words ∙ ap (λ (rs : List Record). fold put_record (cached s.cache).words rs) (c.deref-3.ensures.value ∙ same);
         table = c.end.ensures;
         locks = c.release.ensures ∙ ap (without s.locks) as_number;
         spaces = taken ∙ ap (with_taken s.spaces) (c.need.ensures ∙ found.need);

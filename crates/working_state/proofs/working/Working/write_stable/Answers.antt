@@ -1,23 +1,37 @@
 use Rattle.std.proofs.Common.{◌≡◌, ◌+◌, length, refl, sym, ap, ◌∙◌, arith}
 use Rattle.std.proofs.lemmas.List.{length-set}
 use Rattle.gated_log.specs.LogRoom.{used_bytes, need_bytes}
-use Rattle.gated_log.specs.LogState.{log_used, log_need}
+use Rattle.gated_log.specs.LogState.{log_count, log_used, log_need}
 use Rattle.log_machine.specs.declared.UndoEntry.{UndoEntry}
 use Rattle.log_machine.specs.Machine.{field_at}
+use Rattle.page_cache.specs.CacheState.{cached}
 use Rattle.working_state.proofs.Tables.{sound_same, sound_write}
 use Rattle.working_state.proofs.ObjectFields.{field_within}
 use Rattle.working_state.proofs.Room.{room_left}
+use Rattle.working_state.proofs.Applied.{next_lacking, still_lacking}
 use Rattle.working_state.proofs.working.Working.write_stable.Goals as goal
 
 pub invariant_of-self-2-clause-sound : goal.invariant_of-self-2-clause-sound
 invariant_of-self-2-clause-sound c =
     let s = c.args.self.now in
     let entry : UndoEntry = record { object = c.args.object; field = c.args.field; was = c.word-was.result } in
-    let long : length c.apply.new.self ≡ length s.words = ap length c.apply.ensures ∙ length-set s.words (field_at c.args.object c.args.field) c.args.word in
-    let here = field_within s.words c.args.object c.args.field c.requires.there in
+    let long : length (cached c.apply.new.self).words ≡ length (cached s.cache).words = ap length c.apply.ensures.words ∙ length-set (cached s.cache).words (field_at c.args.object c.args.field) c.args.word in
+    let here = field_within (cached s.cache).words c.args.object c.args.field c.requires.there in
     let table = c.keep_write.new.table in
-    let written = sound_write s.table table (length s.words) s.reserved s.sealed c.args.session entry s.sound c.requires.active c.in_ok-keep_write.ensures.kept here in
-    sound_same table table (length s.words) (length c.apply.new.self) (s.reserved + 19) (s.reserved + 19) s.sealed written refl long refl
+    let written = sound_write s.table table (length (cached s.cache).words) s.reserved s.sealed c.args.session entry s.sound c.requires.active c.in_ok-keep_write.ensures.kept here in
+    sound_same table table (length (cached s.cache).words) (length (cached c.apply.new.self).words) (s.reserved + 19) (s.reserved + 19) s.sealed written refl long refl
+
+pub apply-requires-clause-new : goal.apply-requires-clause-new
+apply-requires-clause-new c =
+    let s = c.args.self.now in
+    next_lacking (log_count s.log) c.records.result (cached s.cache) s.logged (omega (arith, c.records.ensures, c.in_ok-append.ensures.count, c.in_ok-reserve.ensures.same.count))
+
+pub invariant_of-self-2-clause-logged : goal.invariant_of-self-2-clause-logged
+invariant_of-self-2-clause-logged c =
+    let s = c.args.self.now in
+    let first : c.records.result ≡ log_count s.log + 1 = omega (arith, c.records.ensures, c.in_ok-append.ensures.count, c.in_ok-reserve.ensures.same.count) in
+    let last : log_count c.append.new.self ≡ log_count s.log + 1 = omega (arith, c.in_ok-append.ensures.count, c.in_ok-reserve.ensures.same.count) in
+    still_lacking (log_count s.log) c.records.result (log_count c.append.new.self) (cached s.cache) (cached c.apply.new.self) _ s.logged first last c.apply.ensures.redone
 
 pub invariant_of-self-2-clause-room : goal.invariant_of-self-2-clause-room
 invariant_of-self-2-clause-room c =
