@@ -22,3 +22,5 @@ mod object_tests;
 mod opening_tests;
 #[cfg(test)]
 mod session_tests;
+#[cfg(test)]
+mod stored_tests;

@@ -11,27 +11,27 @@ use std::test::Fail;
 /// An event and what it is answered.
 pub type Step = (Event, Reply);
 
-fn begin(n: u64) -> Step {
+pub fn begin(n: u64) -> Step {
     (Event::Begin { s: 1 }, Reply::Begun { n })
 }
 
-fn root(h: u64) -> Step {
+pub fn root(h: u64) -> Step {
     (Event::Root { s: 1, h }, Reply::Done)
 }
 
-fn new(h: u64, len: u64) -> Step {
+pub fn new(h: u64, len: u64) -> Step {
     (Event::New { s: 1, h, len }, Reply::Done)
 }
 
-fn put(h: u64, i: u64, v: u64) -> Step {
+pub fn put(h: u64, i: u64, v: u64) -> Step {
     (Event::Put { s: 1, h, i, v }, Reply::Done)
 }
 
-fn link(h: u64, i: u64, h2: u64) -> Step {
+pub fn link(h: u64, i: u64, h2: u64) -> Step {
     (Event::Link { s: 1, h, i, h2 }, Reply::Done)
 }
 
-fn get(h: u64, i: u64, h2: u64, reply: Reply) -> Step {
+pub fn get(h: u64, i: u64, h2: u64, reply: Reply) -> Step {
     (Event::Get { s: 1, h, i, h2 }, reply)
 }
 
@@ -39,11 +39,11 @@ fn same(h: u64, h2: u64, reply: Reply) -> Step {
     (Event::Same { s: 1, h, h2 }, reply)
 }
 
-fn seal(n: u64) -> Step {
+pub fn seal(n: u64) -> Step {
     (Event::Seal { s: 1 }, Reply::Sealed { n })
 }
 
-fn force(n: u64) -> Step {
+pub fn force(n: u64) -> Step {
     (Event::Force, Reply::Durable { n })
 }
 

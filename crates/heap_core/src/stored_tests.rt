@@ -1,0 +1,223 @@
+//! Images whose pages were stored at different times: an opening redoes on each page what it lacks, and nothing else.
+use crate::errors::OpenError;
+use crate::heap::Heap;
+use crate::object_tests::{Step, begin, force, get, link, new, play, put, root, seal};
+use crate::opening_tests::{LOG_BYTES, compare, expect, make_disk, make_heap, open};
+use disk_model::{Disk, MemoryDisk, Pick};
+use gated_log::Log;
+use graph_model::Reply;
+use heap_recovery::At;
+use image_plan::Plan;
+use log_machine::replay;
+use log_records::Record;
+use page_cache::PageCache;
+use page_store::PageStore;
+use std::alloc::{AllocError, Global};
+use std::process::Abort;
+use std::test::Fail;
+
+/// A heap of two pages a space, so of four pages, whose objects lie on the first two.
+const PLAN: Plan = Plan {
+    pages: 2,
+    log_bytes: LOG_BYTES,
+};
+
+/// How many records its log holds.
+const RECORDS: usize = 10;
+
+/// Transactions 1 and 2 are committed, and what 3 wrote has to be taken back. Each of them writes both pages.
+fn steps() -> [Step; 21] {
+    [
+        begin(1),
+        root(0),
+        new(1, 60),
+        put(1, 0, 5),
+        link(0, 0, 1),
+        seal(1),
+        force(1),
+        begin(2),
+        root(0),
+        get(0, 0, 1, Reply::Reference),
+        put(0, 1, 7),
+        put(1, 59, 8),
+        seal(2),
+        force(2),
+        begin(3),
+        root(0),
+        get(0, 0, 1, Reply::Reference),
+        put(1, 0, 9),
+        put(1, 59, 10),
+        put(0, 1, 11),
+        force(2),
+    ]
+}
+
+/// A disk on which these steps were made, and no page is stored.
+fn make_played(rt: &impl Abort, alloc: Global) -> Result<MemoryDisk, AllocError> {
+    match Heap::format(
+        make_disk(alloc, Pick::Newest)?,
+        PLAN.pages,
+        PLAN.log_bytes,
+        1,
+    ) {
+        Ok(disk) => play(rt, alloc, disk, &steps()),
+        Err((e, _)) => panic!(rt; "not made: {e:?}"),
+    }
+}
+
+/// The records of the log.
+fn read_log(rt: &impl Abort, alloc: Global, disk: &mut MemoryDisk) -> Result<Vec<Record>, Fail> {
+    assert!(rt; disk.size() >= PLAN.size());
+    let (_, records) = Log::open(alloc, disk, PLAN.log_at(), PLAN.log_bytes)?;
+    Ok(records)
+}
+
+/// Redoes these records on the pages.
+fn redo(rt: &impl Abort, alloc: Global, cache: &mut PageCache, records: &[Record]) {
+    assert!(rt; cache.as_slice().len() == 256 && records.len() < 99);
+    let Ok(_) = replay(alloc, PLAN.pages, 1, records) else {
+        panic!(rt; "not replayed");
+    };
+    cache.redo_all(1, records);
+}
+
+/// Stores page `p` as it is in memory, where the disk has it otherwise. The log has so many records.
+fn flush(
+    rt: &impl Abort,
+    cache: &mut PageCache,
+    disk: &mut MemoryDisk,
+    p: u32,
+    forced: u64,
+) -> Result<(), Fail> {
+    assert!(rt; p < cache.pages() && disk.size() >= cache.plan().size());
+    if cache.dirty(p) {
+        assert!(rt; !cache.failed() && cache.lsn(p) <= forced);
+        cache.flush(disk, p, forced)?;
+    }
+    Ok(())
+}
+
+/// When a page is stored: behind so many of the log's records.
+type Store = (usize, u32);
+
+/// Stores a page as it is then, if it isn't stored as it was later.
+fn store(
+    rt: &impl Abort,
+    alloc: Global,
+    disk: &mut MemoryDisk,
+    (after, p): Store,
+) -> Result<(), Fail> {
+    let records = read_log(rt, alloc, disk)?;
+    compare(rt, records.len(), RECORDS);
+    assert!(rt; after <= records.len() && disk.size() >= PLAN.size());
+    let mut cache = PageCache::open(alloc, disk, PLAN)?;
+    redo(rt, alloc, &mut cache, &records[..after]);
+    flush(rt, &mut cache, disk, p, records.len() as u64)
+}
+
+/// How many commits are found on the disk, and which graph.
+fn found(rt: &impl Abort, alloc: Global, disk: MemoryDisk) -> Result<(u64, Vec<u8>), Fail> {
+    let heap = open(rt, alloc, disk);
+    Ok((heap.commits(), heap.graph(alloc)?))
+}
+
+/// Stores pages one after another, and compares what is then found.
+fn check(rt: &impl Abort, alloc: Global, stores: [Store; 3], graph: &[u8]) -> Result<(), Fail> {
+    let mut disk = make_played(rt, alloc)?;
+    for at in stores {
+        store(rt, alloc, &mut disk, at)?;
+    }
+    let now = found(rt, alloc, disk)?;
+    compare(rt, (stores, now.0, now.1.as_slice()), (stores, 2, graph));
+    Ok(())
+}
+
+#[test]
+fn pages_of_any_age_give_the_same_graph(rt: HostRuntime) -> Result<(), Fail> {
+    let alloc = rt.alloc();
+    let graph = found(&rt, alloc, make_played(&rt, alloc)?)?.1;
+    for first in 0..=RECORDS {
+        for second in 0..=RECORDS {
+            check(&rt, alloc, [(first, 0), (second, 1), (0, 0)], &graph)?;
+            check(&rt, alloc, [(first, 1), (second, 0), (second, 1)], &graph)?;
+        }
+    }
+    Ok(())
+}
+
+/// The heap of one page a space.
+const SMALL: Plan = Plan {
+    pages: 1,
+    log_bytes: LOG_BYTES,
+};
+
+/// Transaction 1 writes 7 by record 1, and transaction 2 writes 8 by record 3. Records 2 and 4 are their commits.
+fn small_steps() -> [Step; 10] {
+    [
+        begin(1),
+        root(0),
+        put(0, 0, 7),
+        seal(1),
+        force(1),
+        begin(2),
+        root(0),
+        put(0, 1, 8),
+        seal(2),
+        force(2),
+    ]
+}
+
+/// A page on which no record left what it holds: the root with 99 and 98 as its first fields.
+fn wrong_page() -> [u64; 64] {
+    let mut page = [0u64; 64];
+    page[0] = 17;
+    page[2] = 397;
+    page[3] = 393;
+    page
+}
+
+/// A disk on which these steps were made and page `p` is stored wrongly, with this LSN.
+fn make_wrong(rt: &impl Abort, alloc: Global, p: u32, lsn: u64) -> Result<MemoryDisk, Fail> {
+    let mut disk = play(
+        rt,
+        alloc,
+        make_heap(rt, alloc, Pick::Newest)?,
+        &small_steps(),
+    )?;
+    assert!(rt; disk.size() >= SMALL.size());
+    let (mut store, _) = PageStore::open(alloc, &mut disk, SMALL)?;
+    assert!(rt; p < store.pages() && disk.size() >= store.plan().size());
+    assert!(rt; store.stored_lsn(p) < lsn && !store.failed());
+    store.store(&mut disk, p, lsn, &wrong_page())?;
+    Ok(disk)
+}
+
+/// With which LSN the wrong page is stored, and what is then found: only records behind the LSN are redone.
+const WRONG: [(u64, &str); 4] = [
+    (1, "graph 1\n0: 99 8 - -\n"),
+    (2, "graph 1\n0: 99 8 - -\n"),
+    (3, "graph 1\n0: 99 98 - -\n"),
+    (4, "graph 1\n0: 99 98 - -\n"),
+];
+
+#[test]
+fn what_a_page_has_is_not_redone(rt: HostRuntime) -> Result<(), Fail> {
+    let alloc = rt.alloc();
+    for (lsn, graph) in WRONG {
+        let disk = make_wrong(&rt, alloc, 0, lsn)?;
+        expect(&rt, alloc, disk, 2, graph)?;
+    }
+    Ok(())
+}
+
+#[test]
+fn a_page_ahead_of_the_log_is_refused(rt: HostRuntime) -> Result<(), Fail> {
+    let alloc = rt.alloc();
+    for p in 0..2 {
+        let Err((e, _)) = Heap::open(alloc, make_wrong(&rt, alloc, p, 5)?) else {
+            panic!(rt; "page {p} is not refused");
+        };
+        compare(&rt, e, OpenError::Damaged { at: At::Page(p) });
+    }
+    Ok(())
+}
