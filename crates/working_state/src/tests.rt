@@ -1,7 +1,7 @@
 //! Transactions of a heap of one page: what is sealed is there afterwards, what is aborted is not, and sessions that are side by side are in
 //! each other's way where both use an object and one writes it.
 use super::*;
-use disk_model::{MemoryDisk, Pick};
+use disk_model::{Disk, MemoryDisk, Pick};
 use gated_log::Log;
 use graph_model::{Event, Refusal, Reply};
 use heap_spaces::Spaces;

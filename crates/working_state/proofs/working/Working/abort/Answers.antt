@@ -61,12 +61,12 @@ below s session others records a =
     subst (λ (rs : List Record). EachWritesBelow size rs) (sym a.is) (abort_below size t.number t.undo wrote)
 
 pub overflow_add-first : goal.overflow_add-first
-overflow_add-first c = omega (arith, c.records.ensures, count_few c.args.self.now.log)
+overflow_add-first c = omega (arith, c.records-first.ensures, count_few c.args.self.now.log)
 
 pub apply_all-requires-clause-new : goal.apply_all-requires-clause-new
 apply_all-requires-clause-new c =
     let s = c.args.self.now in
-    next_lacking (log_count s.log) (c.records.result + 1) (cached s.cache) s.logged (omega (arith, c.records.ensures))
+    next_lacking (log_count s.log) (c.records-first.result + 1) (cached s.cache) s.logged (omega (arith, c.records-first.ensures))
 
 pub apply_all-requires-clause-inside : goal.apply_all-requires-clause-inside
 apply_all-requires-clause-inside c =
@@ -78,7 +78,7 @@ apply_all-requires-clause-inside c =
 pub apply_all-requires-clause-lsns : goal.apply_all-requires-clause-lsns
 apply_all-requires-clause-lsns c =
     let same = ap length (c.deref.ensures.value ∙ sym c.deref-2.ensures.value) in
-    omega (arith, same, c.records.ensures, c.in_ok-append_all.ensures.count, count_few c.append_all.new.self)
+    omega (arith, same, c.records-first.ensures, c.in_ok-append_all.ensures.count, count_few c.append_all.new.self)
 
 pub invariant_of-self-2-clause-room : goal.invariant_of-self-2-clause-room
 invariant_of-self-2-clause-room c =
@@ -110,10 +110,10 @@ invariant_of-self-2-clause-few c =
 pub invariant_of-self-2-clause-logged : goal.invariant_of-self-2-clause-logged
 invariant_of-self-2-clause-logged c =
     let s = c.args.self.now in
-    let first : c.records.result + 1 ≡ log_count s.log + 1 = omega (arith, c.records.ensures) in
+    let first : c.records-first.result + 1 ≡ log_count s.log + 1 = omega (arith, c.records-first.ensures) in
     let same = ap length (c.deref.ensures.value ∙ sym c.deref-2.ensures.value) in
     let last : log_count c.append_all.new.self ≡ log_count s.log + length c.deref-2.result.now = omega (arith, same, c.in_ok-append_all.ensures.count) in
-    still_lacking (log_count s.log) (c.records.result + 1) (log_count c.append_all.new.self) (cached s.cache) (cached c.apply_all.new.self) c.deref-2.result.now s.logged first last c.apply_all.ensures.redone
+    still_lacking (log_count s.log) (c.records-first.result + 1) (log_count c.append_all.new.self) (cached s.cache) (cached c.apply_all.new.self) c.deref-2.result.now s.logged first last c.apply_all.ensures.redone
 
 pub returns-clause-aborted : goal.returns-clause-aborted
 returns-clause-aborted c is =

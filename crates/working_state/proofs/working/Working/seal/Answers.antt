@@ -29,12 +29,12 @@ log_refusal-requires-clause-need c =
     omega (arith, few, same, little, c.need_of.ensures)
 
 pub overflow_add-first : goal.overflow_add-first
-overflow_add-first c = omega (arith, c.records.ensures, count_few c.args.self.now.log)
+overflow_add-first c = omega (arith, c.records-first.ensures, count_few c.args.self.now.log)
 
 pub apply_all-requires-clause-new : goal.apply_all-requires-clause-new
 apply_all-requires-clause-new c =
     let s = c.args.self.now in
-    next_lacking (log_count s.log) (c.records.result + 1) (cached s.cache) s.logged (omega (arith, c.records.ensures))
+    next_lacking (log_count s.log) (c.records-first.result + 1) (cached s.cache) s.logged (omega (arith, c.records-first.ensures))
 
 pub apply_all-requires-clause-inside : goal.apply_all-requires-clause-inside
 apply_all-requires-clause-inside c =
@@ -43,7 +43,7 @@ apply_all-requires-clause-inside c =
 pub apply_all-requires-clause-lsns : goal.apply_all-requires-clause-lsns
 apply_all-requires-clause-lsns c =
     let same = ap length (c.deref-2.ensures.value ∙ sym c.deref-3.ensures.value) in
-    omega (arith, same, c.records.ensures, c.in_ok-append_all.ensures.count, count_few c.append_all.new.self)
+    omega (arith, same, c.records-first.ensures, c.in_ok-append_all.ensures.count, count_few c.append_all.new.self)
 
 pub log_refusal-requires-clause-reserved : goal.log_refusal-requires-clause-reserved
 log_refusal-requires-clause-reserved c =
@@ -94,10 +94,10 @@ invariant_of-self-3-clause-few c =
 pub invariant_of-self-3-clause-logged : goal.invariant_of-self-3-clause-logged
 invariant_of-self-3-clause-logged c =
     let s = c.args.self.now in
-    let first : c.records.result + 1 ≡ log_count s.log + 1 = omega (arith, c.records.ensures) in
+    let first : c.records-first.result + 1 ≡ log_count s.log + 1 = omega (arith, c.records-first.ensures) in
     let same = ap length (c.deref-2.ensures.value ∙ sym c.deref-3.ensures.value) in
     let last : log_count c.append_all.new.self ≡ log_count s.log + length c.deref-3.result.now = omega (arith, same, c.in_ok-append_all.ensures.count) in
-    still_lacking (log_count s.log) (c.records.result + 1) (log_count c.append_all.new.self) (cached s.cache) (cached c.apply_all.new.self) c.deref-3.result.now s.logged first last c.apply_all.ensures.redone
+    still_lacking (log_count s.log) (c.records-first.result + 1) (log_count c.append_all.new.self) (cached s.cache) (cached c.apply_all.new.self) c.deref-3.result.now s.logged first last c.apply_all.ensures.redone
 
 pub returns-clause-sealed : goal.returns-clause-sealed
 returns-clause-sealed c number is =

@@ -1,7 +1,9 @@
-use Rattle.std.proofs.Common.{◌≡◌, ◌+◌, length, refl, sym, ap, ◌∙◌, arith}
+use Rattle.std.proofs.Common.{◌≡◌, ◌+◌, [], ◌∷◌, length, refl, sym, ap, ◌∙◌, arith}
 use Rattle.std.proofs.lemmas.List.{length-set}
 use Rattle.gated_log.specs.LogRoom.{used_bytes, need_bytes}
 use Rattle.gated_log.specs.LogState.{log_count, log_used, log_need}
+use Rattle.log_records.specs.declared.Record.{Record}
+use Rattle.log_records.specs.declared.Record.TheVariants.{Update}
 use Rattle.log_machine.specs.declared.UndoEntry.{UndoEntry}
 use Rattle.log_machine.specs.Machine.{field_at}
 use Rattle.page_cache.specs.CacheState.{cached}
@@ -29,9 +31,10 @@ apply-requires-clause-new c =
 pub invariant_of-self-2-clause-logged : goal.invariant_of-self-2-clause-logged
 invariant_of-self-2-clause-logged c =
     let s = c.args.self.now in
+    let rec : Record = Update c.number-t.result c.args.object c.args.field c.word-was.result c.args.word in
     let first : c.records.result ≡ log_count s.log + 1 = omega (arith, c.records.ensures, c.in_ok-append.ensures.count, c.in_ok-reserve.ensures.same.count) in
     let last : log_count c.append.new.self ≡ log_count s.log + 1 = omega (arith, c.in_ok-append.ensures.count, c.in_ok-reserve.ensures.same.count) in
-    still_lacking (log_count s.log) c.records.result (log_count c.append.new.self) (cached s.cache) (cached c.apply.new.self) _ s.logged first last c.apply.ensures.redone
+    still_lacking (log_count s.log) c.records.result (log_count c.append.new.self) (cached s.cache) (cached c.apply.new.self) (rec ∷ []) s.logged first last c.apply.ensures.redone
 
 pub invariant_of-self-2-clause-room : goal.invariant_of-self-2-clause-room
 invariant_of-self-2-clause-room c =
