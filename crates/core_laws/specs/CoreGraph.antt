@@ -1,5 +1,5 @@
 -- What a sound core says of the records and words in memory.
-use Rattle.std.proofs.Common.{◌≡◌, ◌≢◌, ℕ, Some, None, sym, ap, ◌∙◌, subst, append_assoc}
+use Rattle.std.proofs.Common.{◌≡◌, ◌≢◌, ℕ, List, Some, None, sym, ap, ◌∙◌, subst, append_assoc}
 use Rattle.graph_model.specs.declared.event.Event.{Event}
 use Rattle.graph_model.specs.declared.event.Event.TheVariants.{Force}
 use Rattle.graph_model.specs.Transaction.{Transaction, serial}

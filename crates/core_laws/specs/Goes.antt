@@ -133,7 +133,7 @@ goes_on a c b more placed h go =
       behind = go.behind;
       told =
           let told = subst (λ (rs : List Record). IsTold c.pages c.lowest c.born (c.places ++ placed) (serial c.g0 b.sealed) (c.before + length b.sealed) rs (words_with c more) go.behind) records go.told in
-          subst (λ (ws : List ℕ). IsTold c.pages c.lowest c.born (c.places ++ placed) (serial c.g0 b.sealed) (c.before + length b.sealed) (records_of c.batches ++ c.pending ++ more) ws go.behind) words told;
+          subst (λ (ws : List ℕ). IsTold c.pages c.lowest c.born (c.places ++ placed) (serial c.g0 b.sealed) (c.before + length b.sealed) (records_of c.batches ++ (c.pending ++ more)) ws go.behind) words told;
       next_known = go.next_known;
       losers = go.losers;
       writers = λ s. subst (λ (ws : List ℕ). IsWriter (c.places ++ placed) c.g0 b (b.active s) ws go.behind) words (go.writers s);

@@ -41,7 +41,7 @@ use Rattle.core_laws.specs.Granted.{HasRoom, reserved_told, quiet_goes, locked_o
 use Rattle.core_laws.specs.Others.{stays_write}
 use Rattle.core_laws.specs.OthersLaws.{IsAway, others_own_write}
 use Rattle.core_laws.specs.Sessions.{each_session, writer_by, after_call, called, called_active, called_sessions, called_numbered, called_actives}
-use Rattle.core_laws.specs.Told.{IsWriteAt, write_told, write_words}
+use Rattle.core_laws.specs.Told.{IsWriteAt, write_told}
 use Rattle.core_laws.specs.Valid.{IsActive, AreLocked, IsWriting, IsWriter, Agrees}
 
 -- What the transaction sees.

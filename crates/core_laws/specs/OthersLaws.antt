@@ -13,7 +13,7 @@ use Rattle.log_machine.specs.Machine.{State, Loser, field_at, effect, put_all, p
 use Rattle.log_machine.specs.Apart.{written, AreApart, IsApart, others_taken_back}
 use Rattle.log_machine.specs.MapLaws.{EachEntry, tied, get_removed, insert_remove, insert_known, remove_absent, remove_remove, each_entry, each_remove, each_other}
 use Rattle.log_machine.specs.MachineLaws.{undo_beside, with_with}
-use Rattle.log_machine.specs.CommittedLaws.{taken_back-swap}
+use Rattle.log_machine.specs.TakenBackLaws.{taken_back-swap}
 use Rattle.log_machine.specs.Sound.{IsSound}
 use Rattle.log_machine.specs.WordsLaws.{length-each_taken_back}
 

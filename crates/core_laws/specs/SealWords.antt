@@ -12,7 +12,7 @@ use Rattle.log_records.specs.declared.Record.{Record}
 use Rattle.log_records.specs.declared.Record.TheVariants.{Commit}
 use Rattle.log_machine.specs.declared.UndoEntry.{UndoEntry}
 use Rattle.log_machine.specs.Apart.{written, AreApart, IsApart, others_taken_back}
-use Rattle.log_machine.specs.CommittedLaws.{taken_back-swap, all_taken_back-first}
+use Rattle.log_machine.specs.TakenBackLaws.{taken_back-swap, all_taken_back-first}
 use Rattle.log_machine.specs.ListLaws.{AllByRecursion-append, AllByRecursion-map}
 use Rattle.log_machine.specs.Machine.{State, Loser, effect, field_at, put_all, put_record, undo_of, taken_back, each_taken_back, all_taken_back}
 use Rattle.log_machine.specs.MapLaws.{each_entry, each_other}

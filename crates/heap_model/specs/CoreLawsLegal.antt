@@ -31,10 +31,12 @@ module _ (s : Super) (batches : List (List Record)) (stored : Pages) (born : Boo
   told_words : words_of s batches stored ≡ all_taken_back state now
   told_words = ap (λ (o : Option State). each_taken_back (losing_in o) (redone_words batches stored)) told.reached ∙ ap (all_taken_back state) told_redone
 
-  told_stands : StandsCommitted places g (words_of s batches stored) state.base state.used
+  -- so the graph stands there
+  pub told_stands : StandsCommitted places g (words_of s batches stored) state.base state.used
   told_stands = subst (λ (ws : List ℕ). StandsCommitted places g ws state.base state.used) (sym told_words) told.stands
 
-  told_births : IsTrue born → AreNamedByBirth places (words_of s batches stored)
+  -- under the names of births where it did so before
+  pub told_births : IsTrue born → AreNamedByBirth places (words_of s batches stored)
   told_births by_birth = subst (AreNamedByBirth places) (sym told_words) (told.births by_birth)
 
   -- the records are a shaped log

@@ -79,7 +79,8 @@ module _ (s : Super) (batches : List (List Record)) (stored : Pages) (shaped : I
       ∙ after_all-append2 (start s.pages s.first) shaped.state rs taken shaped.reached
       ∙ rollback_reaches shaped.state can.sound
 
-  now : List ℕ
+  -- the words as the log leaves them of the pages
+  abbrev now : List ℕ
   now = redone_words batches stored
 
   -- the words without the writes of transactions that have not ended, where the state is known
@@ -110,7 +111,7 @@ module _ (s : Super) (batches : List (List Record)) (stored : Pages) (shaped : I
   length-rolled_words = ap length (sym redone_words-rolled_back) ∙ length-redone stored (records_of (rolled_back s batches)) ∙ shaped.size
 
   -- no page is ahead of the log behind the opening
-  rolled_behind : EachLacks (length (records_of (rolled_back s batches)) + 1) stored
+  pub rolled_behind : EachLacks (length (records_of (rolled_back s batches)) + 1) stored
   rolled_behind =
       let more : length (records_of (rolled_back s batches)) ≡ length rs + length taken = ap length rolled_records ∙ length-append rs taken in
       EachLacks-later (length rs + 1) (length (records_of (rolled_back s batches)) + 1) stored (omega (arith, more)) shaped.behind
@@ -170,7 +171,8 @@ module _ (s : Super) (batches : List (List Record)) (stored : Pages) (legal : Is
   pub rolled_walks : Walks (settled legal.shaped.state) (words_of s (rolled_back s batches) stored)
   rolled_walks = subst (Walks (settled legal.shaped.state)) (sym (words_of-rolled_back s batches stored legal.shaped)) (legal.shaped.walked, legal.own_births, legal.born_before)
 
-  rolled_prefixes : EachHoldsPrefix s.pages (records_of (rolled_back s batches)) stored
+  -- each page holds as many of its records as its LSN says
+  pub rolled_prefixes : EachHoldsPrefix s.pages (records_of (rolled_back s batches)) stored
   rolled_prefixes =
       subst (λ (l : List Record). EachHoldsPrefix s.pages l stored) (sym (rolled_records s batches stored legal.shaped))
       (EachHoldsPrefix-append s.pages (records_of batches) (rollback legal.shaped.state) stored legal.prefixes)

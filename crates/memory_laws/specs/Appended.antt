@@ -1,6 +1,7 @@
 -- What an event appends leaves the memory of the core after it: what holds of each event.
 use Rattle.std.proofs.Common.{◌≡◌, ◌≢◌, ℕ, ◌+◌, List, [], ◌++◌, length, Option, Some, None, refl, sym, ap, ◌∙◌, subst, append_assoc}
 use Rattle.std.specs.Prelude.{fold}
+use Rattle.std.proofs.lemmas.List.Sums.{fold-append}
 use Rattle.std.proofs.lemmas.List.{append-nil}
 use Rattle.gated_log.specs.Log.{records_of}
 use Rattle.gated_log.specs.LogState.{Keeps}
@@ -12,15 +13,14 @@ use Rattle.graph_model.specs.History.{Account, account, session_of, with_call}
 use Rattle.graph_model.specs.HistoryLaws.{run-append}
 use Rattle.graph_model.specs.Plain.{view}
 use Rattle.log_records.specs.declared.Record.{Record}
-use Rattle.log_machine.specs.Machine.{State, words, undo_of, put_record}
-use Rattle.log_machine.specs.MachineLaws.{words-append}
+use Rattle.log_machine.specs.Machine.{State, undo_of, put_record}
 use Rattle.log_machine.specs.declared.UndoEntry.{UndoEntry}
 use Rattle.object_locks.specs.Holdings.{Holdings}
 use Rattle.txn_table.specs.Table.{TransactionState, TableState, transaction_of, with_transaction}
 use Rattle.txn_table.specs.TableLaws.{with_transaction_same, with_transaction_other}
 use Rattle.heap_spaces.specs.Spaces.{SpacesState}
 use Rattle.graph_words.specs.Places.{Places}
-use Rattle.heap_model.specs.Core.{Core, Ground, all_records, next_number, state_behind, undo_with, event_records, done}
+use Rattle.heap_model.specs.Core.{Core, Ground, all_records, all_words, next_number, state_behind, undo_with, event_records, done}
 use Rattle.core_laws.specs.Events.{call_places, done_records, no_call}
 use Rattle.core_laws.specs.Step.{call_account}
 use Rattle.core_laws.specs.Sessions.{each_session, called}
@@ -43,7 +43,7 @@ call_done c event more is records =
 
 -- where the heap is found with these places, in this state
 abbrev pub ground_in : Core → Places → State → Ground
-ground_in c places state = record { places = places; words = words c.pages (all_records c); state = Some state }
+ground_in c places state = record { places = places; words = all_words c; state = Some state }
 
 -- what is kept of a transaction that has made one call more
 kept_call : (g : Ground) (g0 : Graph) (a : Account) (o : Option Transaction) (t : Transaction) (event : Event) → o ≡ Some t
@@ -78,7 +78,7 @@ module _ (m n : Memory) (c : Core) (valid : IsValid c) (is : IsMemory m (account
   -- each session's transaction is in memory what the core keeps of it
   pub own_kept : (s : ℕ) → own m s ≡ kept_of (ground_in c c.places behind) c.g0 a (a.active s)
   own_kept s =
-      is.transactions s ∙ ap (λ (o : Option State). kept_of (record { places = c.places; words = words c.pages (all_records c); state = o }) c.g0 a (a.active s)) valid.told.reached
+      is.transactions s ∙ ap (λ (o : Option State). kept_of (record { places = c.places; words = all_words c; state = o }) c.g0 a (a.active s)) valid.told.reached
 
   -- the transaction of a session in memory is the core's
   pub mine : (s : ℕ) (x : TransactionState) → own m s ≡ Some x → (t : Transaction) × (a.active s ≡ Some t) × (x ≡ kept c.places (view c.g0 a t) t.number (undo_of behind t.number))
@@ -100,12 +100,12 @@ module _ (m n : Memory) (c : Core) (valid : IsValid c) (is : IsMemory m (account
         log = left.log.kept c.batches c.pending is.log;
         place = left.log.place.at ∙ is.place;
         room = left.log.place.room ∙ is.room;
-        stored = left.words ∙ ap (λ (ws : List ℕ). fold put_record ws more) is.stored ∙ sym (words-append c.pages (all_records c) more) ∙ ap (words c.pages) all;
+        stored = left.words ∙ ap (λ (ws : List ℕ). fold put_record ws more) is.stored ∙ sym (fold-append put_record c.words c.pending more);
         state = later;
         reached = then;
         spaces = left.spaces ∙ room;
         transactions = λ r. ap (λ (t : TableState). transaction_of t r) left.table ∙ there r
-            ∙ ap (λ (o : Option State). kept_of (record { places = c.places ++ placed; words = words c.pages (all_records c); state = o }) c.g0 b (b.active r)) (sym then);
+            ∙ ap (λ (o : Option State). kept_of (record { places = c.places ++ placed; words = all_words c; state = o }) c.g0 b (b.active r)) (sym then);
         locks = subst (λ (ls : Holdings). AreHeld ls (c.places ++ placed) c.g0 b) (sym left.locks) held;
         next = ap (λ (t : TableState). t.next) left.table ∙ next;
         sealed = left.sealed ∙ sealed;

@@ -15,7 +15,7 @@ use Rattle.graph_model.specs.Transaction.{View, Transaction, serial}
 use Rattle.heap_spaces.specs.Spaces.{SpacesState}
 use Rattle.image_plan.specs.Plan.{log_offset}
 use Rattle.log_machine.specs.declared.UndoEntry.{UndoEntry}
-use Rattle.log_machine.specs.Machine.{State, words}
+use Rattle.log_machine.specs.Machine.{State}
 use Rattle.object_locks.specs.declared.holding.Holding.{Holding}
 use Rattle.object_locks.specs.declared.holding.Mode as table
 use Rattle.object_locks.specs.declared.holding.Mode.TheVariants as locked
@@ -25,7 +25,7 @@ use Rattle.txn_table.specs.declared.place.Place.TheVariants.{Stable, Volatile}
 use Rattle.txn_table.specs.Table.{TransactionState}
 use Rattle.graph_words.specs.Places.{Places, address_of, index_of}
 use Rattle.heap_memory.specs.Memory.{Memory, own}
-use Rattle.heap_model.specs.Core.{Core, Ground, ground, all_records, state_behind, undo_with, area_in, answer, after}
+use Rattle.heap_model.specs.Core.{Core, Ground, ground, all_records, all_words, state_behind, undo_with, area_in, answer, after}
 
 -- the place of an object by its address, if it has one, and by its index
 abbrev pub standing_place : Option ℕ → ℕ → Place
@@ -73,7 +73,7 @@ pub record IsMemory (m : Memory) (a : Account) (c : Core) : Type 0 where
   pub log : Keeps m.log c.batches c.pending
   pub place : log_place m.log ≡ log_offset
   pub room : log_room m.log ≡ c.room
-  pub stored : m.words ≡ words c.pages (all_records c)
+  pub stored : m.words ≡ all_words c
   pub state : State
   pub reached : state_behind c (all_records c) ≡ Some state
   pub spaces : m.spaces ≡ spaces_of state

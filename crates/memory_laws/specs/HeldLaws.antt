@@ -18,7 +18,6 @@ use Rattle.commit_order.specs.OrderLaws.{two_phase_ordered}
 use Rattle.object_layout.specs.Layout.{field_words}
 use Rattle.volatile_area.specs.Area.{starts_of, AreaState}
 use Rattle.log_machine.specs.declared.UndoEntry.{UndoEntry}
-use Rattle.log_machine.specs.Machine.{words}
 use Rattle.txn_table.specs.declared.place.Place.TheVariants.{Stable, Volatile}
 use Rattle.txn_table.specs.declared.place.Place.{Place}
 use Rattle.graph_words.specs.Area.{HasMade, area_of, area_starts}
@@ -27,7 +26,7 @@ use Rattle.graph_words.specs.AreaState.{starts_of-area_of, own_words}
 use Rattle.graph_words.specs.MadeLaws.{own_apart}
 use Rattle.graph_words.specs.Places.{Places, address_of, index_of, standing, place_of, bits_of, IsAtHand, IsOwn}
 use Rattle.graph_words.specs.PlacesLaws.{some_address}
-use Rattle.heap_model.specs.Core.{Core, all_records, area_in}
+use Rattle.heap_model.specs.Core.{Core, all_words, area_in}
 use Rattle.core_laws.specs.Apart.{length_now, fields_now}
 use Rattle.core_laws.specs.Goes.{writing_of}
 use Rattle.core_laws.specs.Valid.{IsValid, RunsLocked}
@@ -107,7 +106,7 @@ module _ (m : Memory) (c : Core) (valid : IsValid c) (runs : RunsLocked c.g0 c.f
   area = area_in c.places v t.number
 
   -- the object as the words of memory have it
-  stored_at : (id : Id) (at : ℕ) → address_of c.places id ≡ Some at → fields_at m.words area (place_in c.places v.graph id) ≡ field_words (words c.pages (all_records c)) at
+  stored_at : (id : Id) (at : ℕ) → address_of c.places id ≡ Some at → fields_at m.words area (place_in c.places v.graph id) ≡ field_words (all_words c) at
   stored_at id at place = ap (fields_at m.words area) (place_in-placed c.places v.graph id at place) ∙ ap (λ (ws : List ℕ). field_words ws at) is.stored
 
   -- an object at hand has as many fields in memory as the transaction sees

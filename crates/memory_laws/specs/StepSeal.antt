@@ -20,7 +20,7 @@ use Rattle.commit_order.specs.SerialOrder.{numbers_begun}
 use Rattle.log_records.specs.declared.Record.{Record}
 use Rattle.log_machine.specs.declared.UndoEntry.{UndoEntry}
 use Rattle.log_machine.specs.ListLaws.{AllByRecursion-map}
-use Rattle.log_machine.specs.Machine.{State, words, field_at, undo_of}
+use Rattle.log_machine.specs.Machine.{State, field_at, undo_of}
 use Rattle.volatile_area.specs.Area.{AreaState}
 use Rattle.heap_spaces.specs.Spaces.{SpacesState, with_taken}
 use Rattle.object_locks.specs.Holdings.{without}
@@ -29,7 +29,7 @@ use Rattle.txn_table.specs.TableLaws.{with_ended_same, with_ended_other}
 use Rattle.graph_words.specs.Places.{address_of, Places, made_by}
 use Rattle.graph_words.specs.Promotion.{Field, promoted_need, seal_records, written_fields}
 use Rattle.graph_words.specs.SealingPlaces.{address_of-append_left}
-use Rattle.heap_model.specs.Core.{Core, ground, all_records, state_behind, area_in, seal_of, seal_need, sealed_places, space_refusal, room_refusal, call_records, event_records, event_places, core_refusal}
+use Rattle.heap_model.specs.Core.{Core, ground, all_records, all_words, state_behind, area_in, seal_of, seal_need, sealed_places, space_refusal, room_refusal, call_records, event_records, event_places, core_refusal}
 use Rattle.core_laws.specs.Apart.{own_away}
 use Rattle.core_laws.specs.Goes.{writing_of}
 use Rattle.core_laws.specs.OthersLaws.{IsAway, others_at, undo_other}
@@ -73,7 +73,7 @@ module _ (c : Core) (valid : IsValid c) (runs : RunsLocked c.g0 c.first c.histor
 
   -- all words
   abbrev now : List ℕ
-  now = words c.pages (all_records c)
+  now = all_words c
 
   -- its writes that may be taken back
   abbrev undo : List UndoEntry

@@ -21,7 +21,7 @@ use Rattle.graph_model.specs.PlainLaws.{call_reply-done}
 use Rattle.heap_words.specs.Word.{bits}
 use Rattle.log_records.specs.declared.Record.TheVariants.{Update}
 use Rattle.log_machine.specs.declared.UndoEntry.{UndoEntry}
-use Rattle.log_machine.specs.Machine.{State, words, undo_of}
+use Rattle.log_machine.specs.Machine.{State, undo_of}
 use Rattle.log_machine.specs.MachineLaws.{undo_with as machine_undo_with}
 use Rattle.object_locks.specs.declared.holding.Mode.TheVariants as locked
 use Rattle.txn_table.specs.declared.place.Place.{Place}
@@ -30,7 +30,7 @@ use Rattle.txn_table.specs.Table.{TransactionState}
 use Rattle.graph_words.specs.MadeLaws.{own_apart}
 use Rattle.graph_words.specs.Places.{IsOwn, IsVisible, address_of, index_of, place_of, bits_of}
 use Rattle.graph_words.specs.PlacesLaws.{some_address}
-use Rattle.heap_model.specs.Core.{Core, ground, all_records, view_records, call_records, event_records, core_refusal}
+use Rattle.heap_model.specs.Core.{Core, ground, all_records, all_words, view_records, call_records, event_records, core_refusal}
 use Rattle.core_laws.specs.Apart.{apart_with, free_shared, word_now}
 use Rattle.core_laws.specs.Goes.{writing_of, numbered_as}
 use Rattle.core_laws.specs.OthersLaws.{undo_other}
@@ -72,7 +72,7 @@ module _ (m n : Memory) (c : Core) (valid : IsValid c) (runs : RunsLocked c.g0 c
 
   -- all words
   abbrev now : List ℕ
-  now = words c.pages (all_records c)
+  now = all_words c
 
   -- a write that is not refused is of a field
   written_field : (o : Option TransactionState) (p : Place) (i : ℕ) → write_refusal_of m o p i ≡ None → field_refusal (length (fields_held m o (Ok p))) i ≡ None
@@ -156,7 +156,7 @@ module _ (m n : Memory) (c : Core) (valid : IsValid c) (runs : RunsLocked c.g0 c
 
     -- it is one that the records can tell
     write_at : (at : ℕ) → address_of c.places id ≡ Some at
-        → IsWriteAt c.pages c.lowest c.born c.places (serial c.g0 a.sealed) v.graph (c.before + length a.sealed) t.number v.made (all_records c) behind id at i x
+        → IsWriteAt c.pages c.lowest c.born c.places (serial c.g0 a.sealed) v.graph (c.before + length a.sealed) t.number v.made (all_records c) now behind id at i x
     write_at at place =
         let writing = writing_of a c s t write.active valid in
         let order = two_phase_ordered c.g0 c.history runs.plain runs.two_phase in
@@ -183,7 +183,7 @@ module _ (m n : Memory) (c : Core) (valid : IsValid c) (runs : RunsLocked c.g0 c
     stable_wrote at place =
         let one = write_at at place in
         let there = place_in-placed c.places v.graph id at place in
-        let told = write_told c.pages c.lowest c.born c.places (serial c.g0 a.sealed) v.graph (c.before + length a.sealed) t.number v.made (all_records c) behind id at i x one in
+        let told = write_told c.pages c.lowest c.born c.places (serial c.g0 a.sealed) v.graph (c.before + length a.sealed) t.number v.made (all_records c) now behind id at i x one in
         let locks = with_lock m.locks (kept c.places v t.number undo) locked.Exclusive (Stable at) in
         let L : ℕ → Type 0 = λ z. LeavesOwn m n s (Update t.number at i z w ∷ []) (kept c.places v t.number (record { object = at; field = i; was = z } ∷ undo)) locks in
         let left = subst L one.was (left_at (Stable at) there) in
