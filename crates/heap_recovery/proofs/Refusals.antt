@@ -21,7 +21,7 @@ use Rattle.log_machine.specs.Replay.{IsFirstUnshaped}
 use Rattle.object_layout.specs.Walk.{IsWalked, IsWalkFault}
 use Rattle.page_redo.specs.Pages.{Pages}
 use Rattle.page_redo.specs.Redo.{EachLacks}
-use Rattle.page_cache.specs.FirstPast.{IsFirstPast}
+use Rattle.page_cache.specs.CacheState.{IsFirstPast}
 use Rattle.page_cache.specs.ImageLaws.{stored_behind_log}
 use Rattle.page_cache.specs.CacheState.{cached}
 use Rattle.heap_model.specs.Image.{Holds, IsShaped}

@@ -23,7 +23,7 @@ use Rattle.log_machine.specs.StateLaws.{can_roll_back}
 use Rattle.page_redo.specs.Pages.{Pages}
 use Rattle.page_redo.specs.Redo.{EachLacks, redone}
 use Rattle.page_redo.specs.RedoLaws.{EachLacks-later, redone_words-append}
-use Rattle.page_cache.specs.FirstPast.{IsFirstPast}
+use Rattle.page_cache.specs.CacheState.{IsFirstPast}
 use Rattle.object_layout.specs.Walk.{IsWalked, IsWalkFault}
 use Rattle.object_layout.specs.WalkLaws.{walked_fault, fault_one}
 use Rattle.heap_model.specs.Core.{need}

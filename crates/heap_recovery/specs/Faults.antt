@@ -14,7 +14,7 @@ use Rattle.log_machine.specs.Machine.{State, start, after_all, reserve}
 use Rattle.log_machine.specs.Replay.{IsFirstUnshaped}
 use Rattle.page_redo.specs.Pages.{Pages}
 use Rattle.page_redo.specs.Redo.{EachLacks}
-use Rattle.page_cache.specs.FirstPast.{IsFirstPast}
+use Rattle.page_cache.specs.CacheState.{IsFirstPast}
 use Rattle.page_cache.specs.Stored.{stored_pages}
 use Rattle.object_layout.specs.Walk.{IsWalkFault}
 use Rattle.heap_model.specs.Image.{words_of}
