@@ -1,8 +1,10 @@
 -- What an opening reads of a log, and what it leaves.
-use Rattle.std.proofs.Common.{inl, inr, ◌≡◌, ◌≢◌, ◌⊎◌, ⊎_elim, ℕ, ◌+◌, ◌≤◌, List, [], ◌∷◌, ◌++◌, length, take, drop, take-append-drop, Option, None, Some, Result, Ok, Err, refl, sym, ap, ◌∙◌, subst, arith}
-use Rattle.std.specs.Prelude.{option_and_then, IsFalse, IfOk, IfErr, IsOk}
+use Rattle.std.proofs.Common.{inl, inr, ◌≡◌, ◌≢◌, ◌⊎◌, ⊎_elim, ℕ, ◌+◌, ◌<◌, ◌≤◌, cond, List, [], ◌∷◌, ◌++◌, length, length-append, take, drop, take-append-drop, Option, None, Some, Result, Ok, Err, refl, sym, ap, ◌∙◌, subst, arith}
+use Rattle.std.specs.Prelude.{option_and_then, nat_lt, if◌then◌else◌, IsFalse, IfOk, IfErr, IsOk}
 use Rattle.std.proofs.lemmas.Option.{option_and_then_some}
+use Rattle.std.proofs.lemmas.Bool.{lt-ltb}
 use Rattle.std.proofs.lemmas.Bool.Decides.{nat_tests}
+use Rattle.disk_model.specs.declared.disk.DiskError.{DiskError}
 use Rattle.disk_model.specs.Disk.{part, Only, Narrows, SameOutside}
 use Rattle.disk_model.specs.Moments.{LeavesOnly, joined, weaker}
 use Rattle.gate_slot.specs.Passing.{Passes}
@@ -12,37 +14,39 @@ use Rattle.gated_log.specs.declared.LogError.TheVariants as logging
 use Rattle.gated_log.specs.Log.{records_of, with_batch, HoldsBatches, batches_bytes}
 use Rattle.gated_log.specs.LogLaws.{buffer_size-Keeps}
 use Rattle.gated_log.specs.LogRoom.{used_bytes}
-use Rattle.gated_log.specs.LogState.{log_place, log_room, log_tail, buffer_size, log_used, log_used_with, log_count, IsBufferEmpty, IsSameLog, Keeps}
+use Rattle.gated_log.specs.LogState.{log_place, log_room, log_tail, buffer_size, log_used, log_used_with, log_count, is_waiting, IsBufferEmpty, IsSameLog, Keeps}
 use Rattle.image_plan.specs.declared.plan.Plan.{Plan}
 use Rattle.image_plan.specs.declared.superblock.Super.{Super}
 use Rattle.image_plan.specs.Plan.{log_offset}
 use Rattle.log_records.specs.declared.Record.{Record}
-use Rattle.log_records.specs.Record.{spellings}
+use Rattle.log_records.specs.Record.{spelling, spellings}
+use Rattle.log_records.specs.RecordLaws.{some_spelling}
 use Rattle.log_machine.specs.declared.replaying.ReplayError.{ReplayError}
 use Rattle.log_machine.specs.declared.replaying.ReplayError.TheVariants as replaying
 use Rattle.log_machine.specs.Replay.{IsFirstUnshaped}
 use Rattle.log_machine.specs.Machine.{State, Loser, after, after_all, losing, losing_in, words_in, all_taken_back, each_taken_back, rollback, abort_each, reserve}
 use Rattle.log_machine.specs.StateLaws.{commits-start}
 use Rattle.log_machine.specs.AbortLaws.{rollback_fits}
-use Rattle.page_redo.specs.Pages.{Pages, pages_in}
+use Rattle.page_redo.specs.Pages.{Pages}
 use Rattle.page_redo.specs.Redo.{EachLacks, redo_all, redone}
-use Rattle.page_redo.specs.RedoLaws.{redo_all-append, EachLacks-redone}
+use Rattle.page_redo.specs.RedoLaws.{redo_all-append, EachLacks-redone, length-redone}
 use Rattle.page_store.specs.declared.store.PageStore.{PageStore}
 use Rattle.page_store.specs.StoreState.{store_plan, store_log, has_failed, Knows}
 use Rattle.page_store.specs.StoreLaws.{knows_behind_log}
 use Rattle.page_cache.specs.declared.cache.PageCache.{PageCache}
-use Rattle.page_cache.specs.CacheState.{cached, cache_store, cache_failed, cache_pages}
+use Rattle.page_cache.specs.CacheState.{cached, cache_store}
 use Rattle.object_layout.specs.Walk.{IsWalked, IsWalkFault}
 use Rattle.object_layout.specs.WalkLaws.{walked_fault}
 use Rattle.heap_model.specs.CoreLawsRoom.{records_of-with_batch}
 use Rattle.heap_model.specs.CoreLawsHeld.{held_with}
 use Rattle.heap_model.specs.Image.{redone_words, words_of, IsShapedLog, Holds}
-use Rattle.heap_model.specs.Opening.{IsLeftByOpening, rollback_in, rollback_of, rolled_back, used_in, next_in}
+use Rattle.heap_model.specs.Core.{force_calls}
+use Rattle.heap_model.specs.Opening.{IsLeftByOpening, opening_calls, rollback_in, rollback_of, rolled_back, used_in, next_in}
 use Rattle.heap_recovery.specs.declared.error.RecoverError.{RecoverError}
 use Rattle.heap_recovery.specs.declared.error.RecoverError.TheVariants.{NoMemory, NotHeap, Damaged, Disk}
 use Rattle.heap_recovery.specs.declared.reading.Reading.{Reading}
 use Rattle.heap_recovery.specs.declared.recovery.Recovered.{Recovered}
-use Rattle.heap_recovery.specs.Recovered.{plan_of, IsRedone, IsRead, IsRecovered, IsFromOutside, ErrorPasses, OpenPasses, log_error, replay_error}
+use Rattle.heap_recovery.specs.Recovered.{IsRedone, IsRead, IsRecovered, IsFromOutside, ErrorPasses, OpenPasses, log_error, replay_error}
 
 -- a log that is not damaged fails by the outside
 pub outside_of : (e : LogError) → ((offset : ℕ) → e ≢ logging.BadBatch offset) → IsFromOutside (log_error e)
@@ -108,6 +112,15 @@ error_passes n before now (Disk e) same outside = record {
   some = (0, (omega arith), same);
   stopped = λ told any. (0, any, same);
 }
+
+-- a walk that passes finds no fault
+no_fault : (words : List ℕ) (base used : ℕ) (fault : Option ℕ) → IsWalked words base used → ((at : ℕ) → fault ≡ Some at → IsWalkFault words base used at) → fault ≡ None
+no_fault words base used None walked faults = refl
+no_fault words base used (Some at) walked faults = absurd (walked_fault words base used at walked (faults at refl))
+
+-- the words in memory are those of both spaces
+pub redone_size : (of : Plan) (records : List Record) (stored : Pages) (cache : PageCache) → IsRedone of records stored cache → length (cached cache).words ≡ words_in of.pages
+redone_size of records stored cache is = ap (λ (pages : Pages). length pages.words) is.pages ∙ length-redone stored records ∙ is.size
 
 -- each page in memory lacks the next record
 pub next_lacks : (of : Plan) (records : List Record) (stored : Pages) (cache : PageCache) (count : ℕ) → IsRedone of records stored cache → count ≡ length records → EachLacks (count + 1) (cached cache)
@@ -180,10 +193,15 @@ module _ (s : Super) (batches : List (List Record)) (stored : Pages) (read : Rea
   }
 
   -- a shaped log has the room for its rollback, and its walk passes
-  pub shaped_walk : (shaped : IsShapedLog s batches stored) (state : State) → state ≡ read.state → (now : List ℕ) → now ≡ all_taken_back read.state (cached read.cache).words → IsWalked now state.base state.used
+  shaped_walk : (shaped : IsShapedLog s batches stored) (state : State) → state ≡ read.state → (now : List ℕ) → now ≡ all_taken_back read.state (cached read.cache).words → IsWalked now state.base state.used
   shaped_walk shaped state same now rolled =
       let one : shaped.state ≡ state = (let both : Some shaped.state ≡ Some read.state = sym shaped.reached ∙ is.state in cc) in
       subst (λ (x : State). IsWalked now x.base x.used) one (subst (λ (l : List ℕ). IsWalked l shaped.state.base shaped.state.used) (sym (rolled ∙ committed)) shaped.walked)
+
+  -- so that finds no fault
+  pub shaped_fault : (shaped : IsShapedLog s batches stored) (state : State) → state ≡ read.state → (now : List ℕ) → now ≡ all_taken_back read.state (cached read.cache).words
+      → (fault : Option ℕ) → ((at : ℕ) → fault ≡ Some at → IsWalkFault now state.base state.used at) → fault ≡ None
+  shaped_fault shaped state same now rolled fault faults = no_fault now state.base state.used fault (shaped_walk shaped state same now rolled) faults
 
   -- what is opened
   pub recovered : (r : Result Recovered RecoverError) (log : Log) (cache : PageCache) (of : Super) (state : State) → state ≡ read.state → of ≡ read.of → log_place log ≡ log_place read.log → log_room log ≡ log_room read.log
@@ -219,11 +237,6 @@ pub known_found : (r : Result Recovered RecoverError) (cache : PageCache) (image
 known_found (Ok found) cache image same knows = subst (λ (x : PageCache). Knows (cache_store x) image) (sym same) knows
 known_found (Err e) cache image same knows = tt
 
--- a walk that passes finds no fault
-pub no_fault : (words : List ℕ) (base used : ℕ) (fault : Option ℕ) → IsWalked words base used → ((at : ℕ) → fault ≡ Some at → IsWalkFault words base used at) → fault ≡ None
-no_fault words base used None walked faults = refl
-no_fault words base used (Some at) walked faults = absurd (walked_fault words base used at walked (faults at refl))
-
 -- an opening that ended well
 pub ok_outside : (r : Result Recovered RecoverError) → IsOk r → IfErr r IsFromOutside
 ok_outside (Ok found) ok = tt
@@ -238,6 +251,26 @@ if_ok (Err e) P h = tt
 pub ok_passes : (r : Result Recovered RecoverError) (n before now : ℕ) → IsOk r → Passes n before now (Ok tt) → OpenPasses n before now r
 ok_passes (Ok found) n before now ok passes = passes
 ok_passes (Err e) n before now ok passes = cc ok
+
+-- a force makes four calls where a record waits
+some_bytes : (r : Record) (rs : List Record) → 0 < length (spellings (r ∷ rs))
+some_bytes r rs = omega (arith, some_spelling r, length-append (spelling r) (spellings rs))
+
+waiting_calls : (n : ℕ) (rs : List Record) → n ≡ 4 + length (spellings rs) → (if nat_lt 4 n then 4 else 0) ≡ force_calls rs
+waiting_calls n [] is = ap (λ (k : ℕ). if nat_lt 4 k then 4 else 0) is
+waiting_calls n (r ∷ rs) is = ap (λ b. cond b 4 0) (lt-ltb 4 n (omega (arith, is, some_bytes r rs)))
+
+module _ (s : Super) (batches : List (List Record)) (stored : Pages) (read : Reading) (is : IsRead s batches stored read) (log : Log) (keeps : Keeps log batches (rollback read.state)) where
+  -- so the calls of an opening are those of its force
+  pub forced_passes : (before mid now : ℕ) (r : Result (Unit {0}) DiskError) → mid ≡ before → Passes (if is_waiting log then 4 else 0) mid now r → Passes (opening_calls s batches) before now r
+  forced_passes before mid now r same passes =
+      let calls : (if is_waiting log then 4 else 0) ≡ opening_calls s batches =
+      waiting_calls (buffer_size log) (rollback read.state) (buffer_size-Keeps log batches (rollback read.state) keeps) ∙ ap force_calls (sym (same_rollback s batches stored read is)) in
+      subst (λ (n : ℕ). Passes n before now r) calls (subst (λ (n : ℕ). Passes (if is_waiting log then 4 else 0) n now r) same passes)
+
+  -- and no record waits where nothing is rolled back
+  pub nothing_waits : rollback_of s batches ≡ [] → IsBufferEmpty log
+  nothing_waits none = none_waits log batches (subst (λ (rs : List Record). Keeps log batches rs) (sym (same_rollback s batches stored read is) ∙ none) keeps)
 
 -- a log that only took memory keeps what it did
 pub keeps_same : (old new : Log) (batches : List (List Record)) (pending : List Record) → IsSameLog old new → Keeps old batches pending → Keeps new batches pending

@@ -184,7 +184,7 @@ module _ {D : Type 0} (moment : D → ℕ) (left_since : D → ℕ → List ℕ 
         (λ c. ⊎_elim (λ left. (inl (subst (HoldsLog s batches) (sym (only c left)) here), ap (stored_in s) (only c left)))
         (λ found. (
           ⊎_elim (λ holds. inl (log_with s batches batches image c here (outside c found.0) (in_log s batches stored read is (λ n m. HoldsBatches (part c n m) batches) holds) here.good))
-          (λ holds. inr (log_with s batches (rolled_back s batches) image c here (outside c found.0) (rolled_held s batches stored read is c holds) spelled)) found.1,
+              (λ holds. inr (log_with s batches (rolled_back s batches) image c here (outside c found.0) (rolled_held s batches stored read is c holds) spelled)) found.1,
           stored_behind_log s.pages s.log_bytes image c (outside c found.0),
         )))
 

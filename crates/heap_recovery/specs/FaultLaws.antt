@@ -2,7 +2,7 @@
 use Rattle.std.proofs.Common.{◌≡◌, inl, inr, ⊎_elim, ℕ, zero, suc, ◌+◌, ◌-◌, ◌<◌, ◌≤◌, ◌^◌, List, [], ◌∷◌, ◌++◌, length, length-append, take, None, Some, true, is_some, refl, sym, ap, ◌∙◌, subst, arith}
 use Rattle.std.proofs.lemmas.Bool.{cases_order}
 use Rattle.std.specs.List.{AllByRecursion}
-use Rattle.std.specs.Prelude.{fold, Option}
+use Rattle.std.specs.Prelude.{Option}
 use Rattle.disk_model.specs.Disk.{part}
 use Rattle.gate_slot.specs.Images.{length_part}
 use Rattle.gated_log.specs.Log.{BreaksAt, batches_bytes, records_of}
@@ -12,7 +12,7 @@ use Rattle.image_plan.specs.Plan.{log_offset}
 use Rattle.image_plan.specs.SuperLaws.{one_super}
 use Rattle.log_records.specs.declared.Record.{Record}
 use Rattle.log_records.specs.Record.{IsRecord}
-use Rattle.log_machine.specs.Machine.{State, start, after_all, put_record, losing_in, all_taken_back, each_taken_back, rollback, reserve}
+use Rattle.log_machine.specs.Machine.{State, start, after_all, losing_in, all_taken_back, each_taken_back, rollback, reserve}
 use Rattle.log_machine.specs.MachineLaws.{after_all-append2}
 use Rattle.log_machine.specs.Replay.{IsFirstUnshaped, none_follow}
 use Rattle.log_machine.specs.AbortLaws.{settled, rollback_reaches, rollback_good}

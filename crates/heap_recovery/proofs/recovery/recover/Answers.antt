@@ -1,12 +1,13 @@
-use Rattle.std.proofs.Common.{◌≡◌, ◌⊎◌, inl, ◌+◌, Err, refl, sym, ◌∙◌, rules}
+use Rattle.std.proofs.Common.{◌≡◌, ◌⊎◌, inl, ◌+◌, Ok, Err, refl, ap, sym, ◌∙◌, rules}
 use Rattle.disk_model.specs.Disk.{part, SameOutside}
 use Rattle.disk_model.specs.Moments.{LeavesOnly}
 use Rattle.gated_log.specs.Log.{with_batch, HoldsBatches}
 use Rattle.log_machine.specs.Machine.{rollback}
 use Rattle.heap_model.specs.CoreLawsHeld.{held_with}
 use Rattle.heap_model.specs.Opening.{opening_calls, rolled_back}
-use Rattle.heap_recovery.proofs.Opening.{error_passes, only_still, held, outside_log, rolled_held, recovered, opened_shaped, shaped_walk, known_still, known_found, no_fault, ok_outside, if_ok, placed_there, opening_moments}
+use Rattle.heap_recovery.proofs.Opening.{error_passes, only_still, held, outside_log, rolled_held, recovered, opened_shaped, shaped_fault, forced_passes, nothing_waits, known_still, known_found, ok_outside, ok_passes, if_ok, placed_there, opening_moments}
 use Rattle.page_cache.specs.CacheState.{cached}
+use Rattle.heap_recovery.specs.declared.error.RecoverError.TheVariants.{Disk}
 use Rattle.heap_recovery.specs.Faults.{stored_in, IsNoHeap, IsLogLeft}
 use Rattle.heap_recovery.specs.FaultLaws.{readable_heap, readable_late, told_not_heap, told_damaged}
 use Rattle.heap_recovery.proofs.Refusals.{not_heap_told, damaged_told, finish_told, walk_told, found_on, still_moments, forced_run, left_readable, left_no_heap, left_damaged}
@@ -48,9 +49,40 @@ returns-clause-shaped g c tells s batches stored shaped =
     let read = c.in_ok-read.read in
     let is = c.in_ok-read.ensures.found tells s batches stored shaped in
     let roll = c.in_ok-roll_back.ensures in
-    let state = c.roll_back.new.self.state in
-    let walked = shaped_walk s batches stored read is shaped.log state roll.state (cached c.roll_back.new.self.cache).words roll.words in
-    ok_outside c.finish.result (c.finish.ensures.whole (no_fault (cached c.roll_back.new.self.cache).words state.base state.used c.in_ok-fault.fault walked c.in_ok-fault.ensures.fault))
+    let none = shaped_fault s batches stored read is shaped.log c.roll_back.new.self.state roll.state (cached c.roll_back.new.self.cache).words roll.words c.in_ok-fault.fault c.in_ok-fault.ensures.fault in
+    ok_outside c.finish.result (c.finish.ensures.whole none)
+
+-- its opening makes the calls of a force
+pub returns-clause-passes : goal.returns-clause-passes
+returns-clause-passes g c tells s batches stored shaped =
+    let read = c.in_ok-read.read in
+    let is = c.in_ok-read.ensures.found tells s batches stored shaped in
+    let roll = c.in_ok-roll_back.ensures in
+    let none = shaped_fault s batches stored read is shaped.log c.roll_back.new.self.state roll.state (cached c.roll_back.new.self.cache).words roll.words c.in_ok-fault.fault c.in_ok-fault.ensures.fault in
+    let calls = forced_passes s batches stored read is c.roll_back.new.self.log (roll.kept batches is.log) _ _ _ (Ok tt) (c.read_image.ensures.disk.contents tells).passed (c.in_ok-force.ensures.passes tells) in
+    ok_passes c.finish.result (opening_calls s batches) _ _ (c.finish.ensures.whole none) calls
+
+pub returns-in_err-force-clause-passes : goal.returns-in_err-force-clause-passes
+returns-in_err-force-clause-passes g c tells s batches stored shaped =
+    let read = c.in_ok-read.read in
+    let is = c.in_ok-read.ensures.found tells s batches stored shaped in
+    let roll = c.in_ok-roll_back.ensures in
+    let e = c.in_err-force.field-0.0 in
+    let err : c.from_residual-in_err-force.result ≡ Err (Disk e) = search rules in
+    rw err (forced_passes s batches stored read is c.roll_back.new.self.log (roll.kept batches is.log) _ _ _ (Err e) (c.read_image.ensures.disk.contents tells).passed (c.in_err-force.ensures.passes tells))
+
+-- where nothing is rolled back a force does nothing
+pub returns-clause-no_first_stop : goal.returns-clause-no_first_stop
+returns-clause-no_first_stop g c tells s batches stored shaped none stops =
+    let is = c.in_ok-read.ensures.found tells s batches stored shaped in
+    let idle = c.force.ensures.idle (nothing_waits s batches stored c.in_ok-read.read is c.roll_back.new.self.log (c.in_ok-roll_back.ensures.kept batches is.log) none) in
+    ap g.D.Disk.stops idle.1 ∙ c.read_image.ensures.disk.no_first_stop stops
+
+pub returns-in_err-force-clause-no_first_stop : goal.returns-in_err-force-clause-no_first_stop
+returns-in_err-force-clause-no_first_stop g c tells s batches stored shaped none stops =
+    let is = c.in_ok-read.ensures.found tells s batches stored shaped in
+    let idle = c.force.ensures.idle (nothing_waits s batches stored c.in_ok-read.read is c.roll_back.new.self.log (c.in_ok-roll_back.ensures.kept batches is.log) none) in
+    ap g.D.Disk.stops idle.1 ∙ c.read_image.ensures.disk.no_first_stop stops
 
 pub returns-clause-holds : goal.returns-clause-holds
 returns-clause-holds g c tells s batches stored shaped =

@@ -1,5 +1,6 @@
-use Rattle.std.proofs.Common.{◌≡◌, List, length, ap, ◌∙◌}
+use Rattle.std.proofs.Common.{◌≡◌, ℕ, ◌+◌, List, length, ap, ◌∙◌, arith}
 use Rattle.std.specs.Prelude.{fold}
+use Rattle.gated_log.specs.LogState.{log_count}
 use Rattle.log_records.specs.declared.Record.{Record}
 use Rattle.log_machine.specs.AbortLaws.{rollback_words}
 use Rattle.log_machine.specs.Machine.{put_record, losing, rollback, all_taken_back}
@@ -30,5 +31,8 @@ returns-clause-words c =
 pub returns-clause-pages : goal.returns-clause-pages
 returns-clause-pages c =
     let old = cached c.args.self.now.cache in
-    let records : c.deref-2.result.now ≡ rollback c.args.self.now.state = c.deref-2.ensures.value ∙ c.in_ok-records.ensures.records in
-    c.apply_all.ensures.redone ∙ ap (λ (rs : List Record). redo_all c.first rs old) records
+    let state = c.args.self.now.state in
+    let first = c.records-first.result + 1 in
+    let is : first ≡ log_count c.args.self.now.log + 1 = omega (arith, c.records-first.ensures) in
+    let records : c.deref-2.result.now ≡ rollback state = c.deref-2.ensures.value ∙ c.in_ok-records.ensures.records in
+    c.apply_all.ensures.redone ∙ ap (redo_all first old) records ∙ ap (λ (n : ℕ). redo_all n old (rollback state)) is
