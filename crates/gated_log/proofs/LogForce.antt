@@ -2,7 +2,7 @@
 use Rattle.std.proofs.Common.{◌≡◌, ◌⊎◌, inl, inr, ℕ, ◌+◌, ◌-◌, ◌^◌, ◌<◌, ◌≤◌, List, [], ◌∷◌, ◌++◌, length, take, drop, true, nat_lt, vec_len, refl, sym, ◌∙◌, ap, subst, arith, length-append}
 use Rattle.std.proofs.lemmas.Bool.Decides.{nat_tests}
 use Rattle.std.proofs.lemmas.Bool.{cases_lt}
-use Rattle.std.proofs.lemmas.List.{append-nil, drop_at, length-take-le}
+use Rattle.std.proofs.lemmas.List.{append-nil, take_at, drop_at, length-take-le}
 use Rattle.std.proofs.lemmas.Grind.{flat_map-append}
 use Rattle.std.specs.Int.{w32, to_le_bytes}
 use Rattle.disk_model.specs.Disk.{part, Only}
@@ -58,6 +58,19 @@ module _ (log : Log) (image buffer : List ℕ) (batches : List (List Record)) (p
 
   fits : log.tail + 1 + length (framed pending ++ 0 ∷ []) ≤ log.room
   fits = omega (arith, log.fits, used_waiting log.tail (vec_len log.buffer) waits, size, batch_length)
+
+  -- without the next gate, the records that wait
+  pub keeps_still : (new : Log) (n : ℕ) → n + 1 ≡ length buffer → new.tail ≡ log.tail → new.buffer.items ≡ take n buffer → new.forced ≡ log.forced → new.waiting ≡ log.waiting → Keeps new batches pending
+  keeps_still new n end tail items forced waiting =
+      let whole : n ≡ length (framed pending) = omega (arith, end, ap length closed_buffer, length-append (framed pending) (0 ∷ [])) in
+      record {
+        tail = tail ∙ keeps.tail;
+        head = to_le_bytes w32 (length (spellings pending));
+        four = refl;
+        items = items ∙ ap (take n) closed_buffer ∙ take_at (framed pending) (0 ∷ []) n (sym whole);
+        forced = forced ∙ keeps.forced;
+        count = omega (arith, forced, waiting, keeps.count);
+      }
 
   -- the log in memory, behind the new batch
   pub keeps_forced : (new : Log) → new.tail ≡ log.tail + length buffer → new.buffer.items ≡ take 4 buffer → new.forced ≡ log.forced + log.waiting → new.waiting ≡ 0 → Keeps new (with_batch batches pending) []

@@ -222,8 +222,8 @@ impl Log {
         Ok(())
     }
 
-    /// Writes all records that wait as one batch, in four device calls. Without any it makes none. After an error
-    /// nothing waits any more, and the log is of no use before it is opened again.
+    /// Writes all records that wait as one batch, in four device calls. Without any it makes none. After an error it isn't known
+    /// whether they are on the disk: they wait as before, and the log is of no use before it is opened again.
     pub fn force<D: Disk>(&mut self, disk: &mut D) -> Result<(), DiskError>
         requires inside { log_place self.old + log_room self.old ≤ D.extent disk.old }
         requires ready { IsReady self.old }
@@ -243,7 +243,9 @@ impl Log {
             → LeavesOnly D.moment D.left_since disk.old disk.new (λ c. SameOutside (log_place self.old) (log_place self.old + log_room self.old) (D.bytes disk.old) c × (HoldsBatches (part c (log_place self.old) (log_room self.old)) batches ⊎ HoldsBatches (part c (log_place self.old) (log_room self.old)) (with_batch batches pending))) }
         ensures passes { IsTrue D.tells → Passes (if is_waiting self.old then 4 else 0) (D.passed disk.old) (D.passed disk.new) result }
 
-        ensures nothing_waits { IsBufferEmpty self.new }
+        ensures nothing_waits { OnOk result (IsBufferEmpty self.new) }
+        ensures waits { (batches : List (List Record)) (pending : List Record) → Keeps self.old batches pending → OnErr result (Keeps self.new batches pending) }
+        ensures count { log_count self.new ≡ log_count self.old }
         ensures used { log_used self.new ≤ log_used self.old }
         ensures at { log_place self.new ≡ log_place self.old }
         ensures same_room { log_room self.new ≡ log_room self.old }
@@ -258,11 +260,13 @@ impl Log {
         close_batch(&mut self.buffer);
         let size = self.buffer.len() as u32;
         let written = fill_and_open(disk, gate, gate + 1, &self.buffer);
-        self.waiting = 0;
-        self.buffer.truncate(NO_LENGTH.len());
+        // Without the next gate the buffer holds what waited, and it goes on to wait where the disk failed.
+        self.buffer.truncate(size as usize - 1);
         written?;
+        self.buffer.truncate(NO_LENGTH.len());
         self.tail += size;
         self.forced += waiting;
+        self.waiting = 0;
         Ok(())
     }
 }

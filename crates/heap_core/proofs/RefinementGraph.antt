@@ -1,7 +1,6 @@
 -- The graph in memory: the words without what active transactions wrote are those in which the sealed transactions' graph is seen.
-use Rattle.std.proofs.Common.{◌≡◌, inl, ℕ, List, [], ◌∷◌, length, Option, Some, None, refl, sym, ap, ◌∙◌, subst}
+use Rattle.std.proofs.Common.{◌≡◌, ℕ, List, [], ◌∷◌, length, Option, Some, None, refl, sym, ap, ◌∙◌, subst}
 use Rattle.commit_order.specs.OrderLaws.{two_phase_ordered}
-use Rattle.core_laws.specs.CoreGraph.{core_seen}
 use Rattle.core_laws.specs.TakenBack.{session_undo, taken_by, committed_by_session}
 use Rattle.core_laws.specs.Valid.{RunsLocked, IsValid}
 use Rattle.graph_model.specs.Graph.{Graph}
@@ -12,6 +11,7 @@ use Rattle.log_machine.specs.Machine.{State, undo_of, taken_back, all_taken_back
 use Rattle.log_machine.specs.WordsLaws.{length-taken_back}
 use Rattle.object_layout.specs.Layout.{IsSeenAs}
 use Rattle.graph_words.specs.Places.{name_at}
+use Rattle.graph_words.specs.StandsSeen.{stands_seen_at}
 use Rattle.heap_model.specs.Core.{Core, Ground, ground, all_words, undo_with}
 use Rattle.memory_laws.specs.CoreMemory.{IsMemory, kept_of}
 use Rattle.txn_table.specs.Table.{TableState, transaction_of}
@@ -44,7 +44,10 @@ memory_committed c w valid runs is =
 pub memory_seen : (c : Core) (w : Working) → IsValid c → RunsLocked c.g0 c.first c.history → IsMemory (memory w) (account c.history) c
     → IsSeenAs (name_at c.places) (committed w) 0 (serial c.g0 (sealed c.history))
 memory_seen c w valid runs is =
-    subst (λ (ws : List ℕ). IsSeenAs (name_at c.places) ws 0 (serial c.g0 (sealed c.history))) (sym (memory_committed c w valid runs is)) (core_seen c (inl valid))
+    let now = all_taken_back valid.behind (all_words c) in
+    let g = serial c.g0 (sealed c.history) in
+    let there : IsSeenAs (name_at c.places) now 0 g = subst (λ (base : ℕ). IsSeenAs (name_at c.places) now base g) valid.told.base (stands_seen_at valid.told.stands) in
+    subst (λ (ws : List ℕ). IsSeenAs (name_at c.places) ws 0 g) (sym (memory_committed c w valid runs is)) there
 
 -- taking back changes words where they are
 pub length-without_writes : (table : TableState) (ss now : List ℕ) → length (without_writes table now ss) ≡ length now

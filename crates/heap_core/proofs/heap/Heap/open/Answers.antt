@@ -88,6 +88,9 @@ returns-in-Ok-recover-clause-holds g c tells s batches stored legal only places 
 pub returns-in-Err-recover-clause-shaped : goal.returns-in-Err-recover-clause-shaped
 returns-in-Err-recover-clause-shaped g c tells s batches stored shaped = subst IsFromOutside (sym c.from.ensures) (outside_as c.in-Err-recover.e (c.in-Err-recover.ensures.shaped tells s batches stored shaped))
 
+pub returns-in-Ok-recover-clause-passes : goal.returns-in-Ok-recover-clause-passes
+returns-in-Ok-recover-clause-passes g c tells s batches stored shaped = c.in-Ok-recover.ensures.passes tells s batches stored shaped
+
 pub returns-in-Err-recover-clause-passes : goal.returns-in-Err-recover-clause-passes
 returns-in-Err-recover-clause-passes g c tells s batches stored shaped =
     let d = g.D.Disk in
