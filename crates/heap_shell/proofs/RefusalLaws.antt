@@ -1,6 +1,10 @@
 -- How what an opening tells of an image goes on to the status of a run.
-use Rattle.std.proofs.Common.{◌≡◌, ⊎_elim, ℕ, ◌≤◌, List, refl, subst, sym}
+use Rattle.std.proofs.Common.{◌≡◌, ⊎_elim, ℕ, ◌≤◌, List, Result, refl, subst, sym}
+use Rattle.std.specs.Prelude.{IsTrue}
 use Rattle.disk_model.specs.declared.disk.Disk.{Ghosts}
+use Rattle.disk_model.specs.declared.disk.DiskError.{DiskError}
+use Rattle.disk_model.specs.Keeps.{OnlyReads}
+use Rattle.disk_model.specs.KeepsLaws.{same_none}
 use Rattle.disk_model.specs.Moments.{LeavesOnly}
 use Rattle.heap_recovery.specs.declared.at.At.{At}
 use Rattle.heap_recovery.specs.declared.at.At.TheVariants as place
@@ -13,7 +17,7 @@ use Rattle.heap_shell.specs.declared.status.Status.{Status}
 use Rattle.heap_shell.specs.declared.status.Status.TheVariants as status
 use Rattle.heap_shell.specs.Causes.{IsInputError}
 use Rattle.heap_shell.specs.Headline.{IsEndOfPlay}
-use Rattle.heap_shell.specs.Refusals.{IsFault, IsToldOf, IsToldOfEach, EndsRefused, IsLeftAlone}
+use Rattle.heap_shell.specs.Refusals.{IsFault, IsToldOf, IsToldOfEach, EndsRefused, IsLeftAlone, LeavesAlone}
 use Rattle.heap_shell.specs.StatusOf.{open_status}
 
 -- what the error of an opening tells, its status tells
@@ -36,19 +40,6 @@ end_told status.DiskFault image end = tt
 end_told status.NotHeap image end = absurd end
 end_told (status.Damaged at) image end = absurd end
 end_told (status.TooSmall size need) image end = absurd end
-
--- nor is it one that leaves the disk alone
-pub end_not_alone : (s : Status) → IsEndOfPlay s → IsLeftAlone s → ⊥
-end_not_alone status.Done end alone = alone
-end_not_alone status.NoMemory end alone = alone
-end_not_alone status.Usage end alone = alone
-end_not_alone (status.Script line) end alone = alone
-end_not_alone status.ReadFault end alone = alone
-end_not_alone status.WriteFault end alone = alone
-end_not_alone status.DiskFault end alone = alone
-end_not_alone status.NotHeap end alone = end
-end_not_alone (status.Damaged at) end alone = end
-end_not_alone (status.TooSmall size need) end alone = alone
 
 outside_ends : (expected : Status) (e : OpenError) → IsFromOutside e → EndsRefused expected (open_status e)
 outside_ends expected opening.NoMemory outside = tt
@@ -87,19 +78,37 @@ not_opened status.NotHeap image fault no_heap damaged = no_heap fault
 not_opened (status.Damaged at) image fault no_heap damaged = damaged at fault
 not_opened (status.TooSmall size need) image fault no_heap damaged = fault
 
--- Such an error came before a write.
-pub alone_early : (e : OpenError) → IsLeftAlone (open_status e) → opening_refusals.ComesBeforeWrites e
-alone_early opening.NoMemory alone = tt
-alone_early opening.NotHeap alone = tt
-alone_early (opening.Damaged (place.Batch offset)) alone = tt
-alone_early (opening.Damaged (place.Rec lsn)) alone = tt
-alone_early (opening.Damaged place.Reserve) alone = tt
-alone_early (opening.Damaged (place.Page page)) alone = tt
-alone_early (opening.Damaged (place.Address address)) alone = absurd alone
-alone_early opening.DiskFault alone = absurd alone
-alone_early opening.Stopped alone = absurd alone
+-- A status that comes before a write is that of an error that does.
+alone_early : (at : At) → IsLeftAlone (status.Damaged at) → opening_refusals.ComesBeforeWrites (opening.Damaged at)
+alone_early (place.Batch offset) alone = tt
+alone_early (place.Rec lsn) alone = tt
+alone_early place.Reserve alone = tt
+alone_early (place.Page page) alone = tt
+alone_early (place.Address address) alone = absurd alone
 
 module _ {D : Type 0} (g : Ghosts D) where
+  -- An opening of an image with such a fault only reads.
+  pub only_read : {T : Type 0} (expected : Status) (image : List ℕ) (old new : D) (result : Result T DiskError) → IsFault expected image → IsLeftAlone expected → (IsNoHeap image → OnlyReads g old new result)
+      → ((at : At) → IsFaultAt at image → opening_refusals.ComesBeforeWrites (opening.Damaged at) → OnlyReads g old new result) → OnlyReads g old new result
+  only_read status.Done image old new result fault alone no_heap damaged = absurd fault
+  only_read status.NoMemory image old new result fault alone no_heap damaged = absurd fault
+  only_read status.Usage image old new result fault alone no_heap damaged = absurd fault
+  only_read (status.Script line) image old new result fault alone no_heap damaged = absurd fault
+  only_read status.ReadFault image old new result fault alone no_heap damaged = absurd fault
+  only_read status.WriteFault image old new result fault alone no_heap damaged = absurd fault
+  only_read status.DiskFault image old new result fault alone no_heap damaged = absurd fault
+  only_read status.NotHeap image old new result fault alone no_heap damaged = no_heap fault
+  only_read (status.Damaged at) image old new result fault alone no_heap damaged = damaged at fault (alone_early at alone)
+  only_read (status.TooSmall size need) image old new result fault alone no_heap damaged = absurd fault
+
+  -- and what only reads leaves the disk alone
+  pub alone_read : {T : Type 0} (old new : D) (result : Result T DiskError) → IsTrue g.tells → OnlyReads g old new result → LeavesAlone g old new
+  alone_read old new result tells reads = record { contents = reads.contents tells; restarts = reads.disk.restarts tells }
+
+  -- as does a run that did not come to the disk
+  pub alone_untouched : (disk : D) → ((image : List ℕ) → g.left_since disk (g.moment disk) image → g.may_leave disk image) → LeavesAlone g disk disk
+  alone_untouched disk now = record { contents = same_none g disk now; restarts = refl }
+
   -- At each moment of an opening the fault stays.
   pub fault_moments : (expected : Status) (image : List ℕ) (old new : D) → IsFault expected image → (IsNoHeap image → LeavesOnly g.moment g.left_since old new IsNoHeap)
       → ((at : At) → IsFaultAt at image → LeavesOnly g.moment g.left_since old new (IsFaultAt at)) → LeavesOnly g.moment g.left_since old new (IsFault expected)
@@ -161,15 +170,3 @@ input_told (status.TooSmall size need) image input = tt
 -- nor of those that a crash may leave
 pub input_told_each : (s : Status) (may_leave : List ℕ → Type 0) → IsInputError s → IsToldOfEach s may_leave
 input_told_each s may_leave input image may = input_told s image input
-
-pub input_not_alone : (s : Status) → IsInputError s → IsLeftAlone s → ⊥
-input_not_alone status.Done input alone = alone
-input_not_alone status.NoMemory input alone = alone
-input_not_alone status.Usage input alone = alone
-input_not_alone (status.Script line) input alone = alone
-input_not_alone status.ReadFault input alone = alone
-input_not_alone status.WriteFault input alone = alone
-input_not_alone status.DiskFault input alone = alone
-input_not_alone status.NotHeap input alone = input
-input_not_alone (status.Damaged at) input alone = input
-input_not_alone (status.TooSmall size need) input alone = alone

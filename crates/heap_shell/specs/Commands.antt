@@ -15,7 +15,6 @@ use Rattle.heap_model.specs.Opening.{rolled_back, opening_calls, IsLeftByOpening
 use Rattle.command_words.specs.declared.commands.Command.{Command}
 use Rattle.command_words.specs.declared.commands.Command.TheVariants as asked
 use Rattle.command_words.specs.declared.commands.Numbers.{Numbers}
-use Rattle.command_words.specs.declared.commands.Stop.{Stop}
 use Rattle.heap_shell.specs.declared.status.Status.{Status}
 use Rattle.heap_shell.specs.declared.status.Status.TheVariants as status
 use Rattle.heap_shell.specs.Causes.{IsOpenedEnd}
@@ -38,12 +37,6 @@ abbrev pub restarts_of : Command → ℕ
 restarts_of (asked.Format n) = 0
 restarts_of (asked.Play fresh stop) = restarts_asked stop
 restarts_of asked.Graph = 0
-
--- the stop that a command asks for
-abbrev pub stop_of : Command → Option Stop
-stop_of (asked.Format n) = None
-stop_of (asked.Play fresh stop) = stop
-stop_of asked.Graph = None
 
 -- What a command can be done on: a disk that is large enough for the heap that it makes, or one that holds a heap.
 abbrev pub CanRun : Command → ℕ → List ℕ → Type 0

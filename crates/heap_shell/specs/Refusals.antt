@@ -1,7 +1,7 @@
 -- What a run says against an image that can't be opened.
-use Rattle.std.specs.Prelude.{◌≡◌, List, ℕ, Option, None, Some}
-use Rattle.counts.specs.Count.{Rose}
-use Rattle.command_words.specs.declared.commands.Stop.{Stop}
+use Rattle.std.specs.Prelude.{◌≡◌, List, ℕ}
+use Rattle.disk_model.specs.declared.disk.Disk.{Ghosts}
+use Rattle.disk_model.specs.Keeps.{SameContents}
 use Rattle.heap_recovery.specs.Faults.{IsNoHeap, IsFaultAt}
 use Rattle.heap_recovery.specs.declared.at.At.TheVariants.{Address}
 use Rattle.heap_shell.specs.declared.status.Status.{Status}
@@ -38,7 +38,7 @@ IsLeftAlone (status.Damaged (Address address)) = ⊥
 IsLeftAlone (status.Damaged at) = Unit {0}
 IsLeftAlone s = ⊥
 
--- The disk was not started again: no stop was asked, or its count of restarts did not rise.
-abbrev pub IsUnstarted : Option Stop → ℕ → ℕ → Type 0
-IsUnstarted None before now = Unit {0}
-IsUnstarted (Some stop) before now = ¬ Rose before now
+-- The disk is as it was: nothing was written, and it was not started again.
+pub record LeavesAlone {D : Type 0} (g : Ghosts D) (old new : D) : Type 0 where
+  pub contents : SameContents g old new
+  pub restarts : g.restarts new ≡ g.restarts old

@@ -2,7 +2,6 @@
 ghost use Rattle.std.specs.Prelude.{◌≡◌, ◌≢◌, ◌⊎◌, ℕ, ◌<◌, ◌≤◌, List, [], None, Some, Ok, Err, IfOk, IfErr, IfSome, IsTrue, OnOk};
 ghost use Rattle.counts.specs.Count.{Rose};
 ghost use Rattle.disk_model.specs.Disk.{Only};
-ghost use Rattle.disk_model.specs.Keeps.{SameContents};
 ghost use Rattle.disk_model.specs.Moments.{LeavesOnly};
 ghost use Rattle.image_plan.specs.Plan.{image_size};
 ghost use Rattle.script_text.specs.declared.line.Line.{Line};
@@ -11,7 +10,7 @@ ghost use Rattle.command_words.specs.Limits.{IsPages};
 ghost use Rattle.heap_shell.specs.Causes.{StreamCause, RunsDisk, IsInputError, IsOpenedEnd, FailsByScript};
 ghost use Rattle.heap_shell.specs.Headline.{OfTold, IsPlayed, IsEndOfPlay, PrintsRun, PrintsSome, Runs, CanPlay, IsUntouching, EndsUnread, EndsUnmade, IsSound, RestartsDisk, restarts_asked, starts_asked, stop_after};
 ghost use Rattle.heap_shell.specs.Playable.{IsScript, IsReadFrom};
-ghost use Rattle.heap_shell.specs.Refusals.{IsFault, IsToldOf, IsToldOfEach, EndsRefused, IsLeftAlone, IsUnstarted};
+ghost use Rattle.heap_shell.specs.Refusals.{IsFault, IsToldOf, IsToldOfEach, EndsRefused, IsLeftAlone, LeavesAlone};
 ghost use Rattle.heap_shell.specs.Stored.{IsStored, stored_core, stored_calls};
 ghost use Rattle.heap_model.specs.Ending.{all_events};
 ghost use Rattle.heap_shell.specs.Output.{early_end};
@@ -66,11 +65,11 @@ pub fn run_play<D: Disk, S: Source, K: Sink>(
     // Where a heap is there, or one was to be made on a disk that is large enough, and the script is good, the run ends as a play.
     ensures complete { OfTold D.tells (D.bytes disk) (D.may_leave disk) (CanPlay fresh (D.extent disk) (D.bytes disk)
         → IsTrue S.tells → (lines : List Line) → script (S.left source.old) ≡ Ok lines → ¬ Rose (S.faults source.old) (S.faults source.new) → IsEndOfPlay result.0) }
-    // An image that can't be opened gives its own status, and nothing is written then; without a stop each status against it tells what is so.
-    ensures refused { IsTrue D.tells → fresh ≡ None → stop ≡ None → IsToldOf result.0 (D.bytes disk) }
+    // An image that can't be opened gives its own status, and nothing is written then; each status against it tells what is so, unless the disk was started again.
+    ensures refused { IsTrue D.tells → fresh ≡ None → (Rose (D.restarts disk) (D.restarts result.1) → stop ≡ None) → IsToldOf result.0 (D.bytes disk) }
     ensures refused_at_end { OfTold D.tells (D.bytes disk) (D.may_leave disk) (IsToldOfEach result.0 (D.may_leave result.1)) }
     ensures refuses { OfTold D.tells (D.bytes disk) (D.may_leave disk) (fresh ≡ None → (expected : Status) → IsFault expected (D.bytes disk) → EndsRefused expected result.0 × (sink.new ≡ sink.old)) }
-    ensures left_alone { IsTrue D.tells → fresh ≡ None → IsUnstarted stop (D.restarts disk) (D.restarts result.1) → IsLeftAlone result.0 → SameContents D.Disk disk result.1 }
+    ensures left_alone { IsTrue D.tells → fresh ≡ None → (expected : Status) → IsFault expected (D.bytes disk) → IsLeftAlone expected → LeavesAlone D.Disk disk result.1 }
     // A heap that it made is never refused.
     ensures sound { OfTold D.tells (D.bytes disk) (D.may_leave disk) ((pages : ℕ) → fresh ≡ Some pages → IsSound result.0) }
     ensures keeps_fault { OfTold D.tells (D.bytes disk) (D.may_leave disk) (fresh ≡ None → (expected : Status) → IsFault expected (D.bytes disk) → LeavesOnly D.moment D.left_since disk result.1 (IsFault expected)) }
@@ -106,11 +105,11 @@ fn play_script<D: Disk, K: Sink>(
     ensures prints { IsTrue K.tells → PrintsSome (stop_after stop) script.now result.0 (K.written sink.old) (K.written sink.new) }
     ensures played { IsTrue D.tells → (stored : IsStored (D.bytes disk)) → Only (D.bytes disk) (D.may_leave disk)
         → IsPlayed D.Disk stop (stored_calls stored) (stored_core stored) (all_events (stop_after stop) (stored_core stored) (events script.now)) disk result.1 result.0 K.tells (K.written sink.old) (K.written sink.new) }
-    // An image that can't be opened gives its own status, and nothing is written then; without a stop each status against it tells what is so.
-    ensures refused { IsTrue D.tells → stop ≡ None → IsToldOf result.0 (D.bytes disk) }
+    // An image that can't be opened gives its own status, and nothing is written then; each status against it tells what is so, unless the disk was started again.
+    ensures refused { IsTrue D.tells → (Rose (D.restarts disk) (D.restarts result.1) → stop ≡ None) → IsToldOf result.0 (D.bytes disk) }
     ensures refused_at_end { IsTrue D.tells → Only (D.bytes disk) (D.may_leave disk) → IsToldOfEach result.0 (D.may_leave result.1) }
     ensures refuses { IsTrue D.tells → Only (D.bytes disk) (D.may_leave disk) → (expected : Status) → IsFault expected (D.bytes disk) → EndsRefused expected result.0 × (sink.new ≡ sink.old) }
-    ensures left_alone { IsTrue D.tells → IsUnstarted stop (D.restarts disk) (D.restarts result.1) → IsLeftAlone result.0 → SameContents D.Disk disk result.1 }
+    ensures left_alone { IsTrue D.tells → (expected : Status) → IsFault expected (D.bytes disk) → IsLeftAlone expected → LeavesAlone D.Disk disk result.1 }
     // At each moment a crash leaves an image with the same fault.
     ensures keeps_fault { IsTrue D.tells → Only (D.bytes disk) (D.may_leave disk) → (expected : Status) → IsFault expected (D.bytes disk) → LeavesOnly D.moment D.left_since disk result.1 (IsFault expected) }
 {
@@ -152,7 +151,7 @@ fn play_whole<D: Disk, K: Sink>(
     ensures refused { IsTrue D.tells → IsToldOf result.0 (D.bytes disk) }
     ensures refused_at_end { IsTrue D.tells → Only (D.bytes disk) (D.may_leave disk) → IsToldOfEach result.0 (D.may_leave result.1) }
     ensures refuses { IsTrue D.tells → (expected : Status) → IsFault expected (D.bytes disk) → EndsRefused expected result.0 × (sink.new ≡ sink.old) }
-    ensures left_alone { IsTrue D.tells → IsLeftAlone result.0 → SameContents D.Disk disk result.1 }
+    ensures left_alone { IsTrue D.tells → (expected : Status) → IsFault expected (D.bytes disk) → IsLeftAlone expected → LeavesAlone D.Disk disk result.1 }
     ensures keeps_fault { IsTrue D.tells → Only (D.bytes disk) (D.may_leave disk) → (expected : Status) → IsFault expected (D.bytes disk) → LeavesOnly D.moment D.left_since disk result.1 (IsFault expected) }
 {
     let mut heap = match Heap::open(alloc, disk) {
@@ -185,9 +184,10 @@ fn play_stopped<D: Disk, K: Sink>(
     ensures prints { IsTrue K.tells → PrintsSome (Some stop.after) script.now result.0 (K.written sink.old) (K.written sink.new) }
     ensures played { IsTrue D.tells → (stored : IsStored (D.bytes disk)) → Only (D.bytes disk) (D.may_leave disk)
         → IsPlayed D.Disk (Some stop) (stored_calls stored) (stored_core stored) (events script.now) disk result.1 result.0 K.tells (K.written sink.old) (K.written sink.new) }
+    ensures refused { IsTrue D.tells → ¬ Rose (D.restarts disk) (D.restarts result.1) → IsToldOf result.0 (D.bytes disk) }
     ensures refused_at_end { IsTrue D.tells → Only (D.bytes disk) (D.may_leave disk) → IsToldOfEach result.0 (D.may_leave result.1) }
     ensures refuses { IsTrue D.tells → Only (D.bytes disk) (D.may_leave disk) → (expected : Status) → IsFault expected (D.bytes disk) → EndsRefused expected result.0 × (sink.new ≡ sink.old) }
-    ensures left_alone { IsTrue D.tells → ¬ Rose (D.restarts disk) (D.restarts result.1) → IsLeftAlone result.0 → SameContents D.Disk disk result.1 }
+    ensures left_alone { IsTrue D.tells → (expected : Status) → IsFault expected (D.bytes disk) → IsLeftAlone expected → LeavesAlone D.Disk disk result.1 }
     ensures keeps_fault { IsTrue D.tells → Only (D.bytes disk) (D.may_leave disk) → (expected : Status) → IsFault expected (D.bytes disk) → LeavesOnly D.moment D.left_since disk result.1 (IsFault expected) }
 {
     let mut heap = match Heap::open(alloc, FuseDisk::new(disk, stop.after)) {

@@ -1,7 +1,6 @@
 //! The commands that play no script: a heap is made, or its graph is printed.
 ghost use Rattle.std.specs.Prelude.{◌≡◌, ◌≢◌, ◌⊎◌, ℕ, ◌<◌, ◌≤◌, List, Bool, Some, IsTrue};
 ghost use Rattle.disk_model.specs.Disk.{Only};
-ghost use Rattle.disk_model.specs.Keeps.{SameContents};
 ghost use Rattle.disk_model.specs.Moments.{LeavesOnly};
 ghost use Rattle.graph_model.specs.Graph.{Graph};
 ghost use Rattle.graph_words.specs.Places.{Places};
@@ -17,7 +16,7 @@ ghost use Rattle.heap_shell.specs.Causes.{StreamCause, RunsDisk, IsOpenedEnd};
 ghost use Rattle.heap_shell.specs.Commands.{IsEndOf, RunsFormat, PrintsGraph, WritesText, formatted_line};
 ghost use Rattle.heap_shell.specs.Headline.{OfTold, IsEndOfPlay, IsSound, graph_text};
 ghost use Rattle.heap_shell.specs.Output.{WroteText};
-ghost use Rattle.heap_shell.specs.Refusals.{IsFault, IsToldOf, IsToldOfEach, EndsRefused, IsLeftAlone};
+ghost use Rattle.heap_shell.specs.Refusals.{IsFault, IsToldOf, IsToldOfEach, EndsRefused, IsLeftAlone, LeavesAlone};
 
 use crate::output::{WriteError, write_graph};
 use crate::status::{Status, status_after};
@@ -79,7 +78,7 @@ pub fn run_graph<D: Disk, K: Sink>(alloc: Global, disk: D, sink: &mut K) -> (Sta
     ensures refused { IsTrue D.tells → IsToldOf result.0 (D.bytes disk) }
     ensures refused_at_end { IsTrue D.tells → Only (D.bytes disk) (D.may_leave disk) → IsToldOfEach result.0 (D.may_leave result.1) }
     ensures refuses { IsTrue D.tells → (expected : Status) → IsFault expected (D.bytes disk) → EndsRefused expected result.0 × (sink.new ≡ sink.old) }
-    ensures left_alone { IsTrue D.tells → IsLeftAlone result.0 → SameContents D.Disk disk result.1 }
+    ensures left_alone { IsTrue D.tells → (expected : Status) → IsFault expected (D.bytes disk) → IsLeftAlone expected → LeavesAlone D.Disk disk result.1 }
     // At each moment a crash leaves an image with the same fault.
     ensures keeps_fault { IsTrue D.tells → Only (D.bytes disk) (D.may_leave disk) → (expected : Status) → IsFault expected (D.bytes disk) → LeavesOnly D.moment D.left_since disk result.1 (IsFault expected) }
 {

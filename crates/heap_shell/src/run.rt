@@ -2,7 +2,6 @@
 ghost use Rattle.std.specs.Prelude.{◌≡◌, ◌≢◌, ◌⊎◌, ℕ, ◌<◌, ◌≤◌, [], List, Bool, None, Some, Ok, Err, Option, map, string_bytes, IsTrue};
 ghost use Rattle.counts.specs.Count.{Rose};
 ghost use Rattle.disk_model.specs.Disk.{Only};
-ghost use Rattle.disk_model.specs.Keeps.{SameContents};
 ghost use Rattle.disk_model.specs.Moments.{LeavesOnly};
 ghost use Rattle.graph_model.specs.Graph.{Graph};
 ghost use Rattle.graph_words.specs.Places.{Places};
@@ -18,11 +17,11 @@ ghost use Rattle.command_words.specs.declared.commands.Stop.{Stop};
 ghost use Rattle.heap_model.specs.Image.{IsShaped};
 ghost use Rattle.heap_model.specs.Opening.{IsFound};
 ghost use Rattle.heap_shell.specs.Causes.{DiskRose, StreamCause, RunsDisk};
-ghost use Rattle.heap_shell.specs.Commands.{makes, numbers_of, restarts_of, stop_of, IsPlay, IsEndOf, CanRun, RunsFormat, PrintsGraph, WritesText, formatted_line};
+ghost use Rattle.heap_shell.specs.Commands.{makes, numbers_of, restarts_of, IsPlay, IsEndOf, CanRun, RunsFormat, PrintsGraph, WritesText, formatted_line};
 ghost use Rattle.heap_shell.specs.CrashSafe.{RunsSafely};
 ghost use Rattle.heap_shell.specs.Headline.{OfTold, PrintsRun, Runs, IsUntouching, EndsUnread, EndsUnmade, IsSound, RestartsDisk, graph_text, stop_after};
 ghost use Rattle.heap_shell.specs.Playable.{IsReadFrom};
-ghost use Rattle.heap_shell.specs.Refusals.{IsFault, IsToldOf, IsToldOfEach, EndsRefused, IsLeftAlone, IsUnstarted};
+ghost use Rattle.heap_shell.specs.Refusals.{IsFault, IsToldOf, IsToldOfEach, EndsRefused, IsLeftAlone, LeavesAlone};
 ghost use Rattle.script_text.specs.Script.{script};
 
 use crate::playing::run_play;
@@ -89,18 +88,18 @@ pub fn run<D: Disk, S: Source, K: Sink>(
     // On any disk, without a stop a status against the image comes before anything is written.
     ensures unwritten { (asked : Command) → command (map string_bytes words.now) ≡ Some asked → restarts_of asked ≡ 0 → ¬ IsSound result.0 → sink.new ≡ sink.old }
 
-    // Which images are no heap or damaged, and where: such an image gives its own status, with nothing written; without a stop each status against an
-    // image tells what is so. A heap that the run makes is never refused.
+    // Which images are no heap or damaged, and where: such an image gives its own status, with nothing written. Each status against an image tells
+    // what is so, unless the disk was started again, which only a stop asks for. A heap that the run makes is never refused.
     ensures refuses { OfTold D.tells (D.bytes disk) (D.may_leave disk) ((asked : Command) (expected : Status) → command (map string_bytes words.now) ≡ Some asked → makes asked ≡ None
         → IsFault expected (D.bytes disk) → EndsRefused expected result.0 × (sink.new ≡ sink.old)) }
     // At each moment a crash leaves such an image with the same fault.
     ensures keeps_fault { OfTold D.tells (D.bytes disk) (D.may_leave disk) ((asked : Command) (expected : Status) → command (map string_bytes words.now) ≡ Some asked → makes asked ≡ None
         → IsFault expected (D.bytes disk) → LeavesOnly D.moment D.left_since disk result.1 (IsFault expected)) }
-    ensures refused { IsTrue D.tells → (asked : Command) → command (map string_bytes words.now) ≡ Some asked → makes asked ≡ None → restarts_of asked ≡ 0 → IsToldOf result.0 (D.bytes disk) }
+    ensures refused { IsTrue D.tells → (asked : Command) → command (map string_bytes words.now) ≡ Some asked → makes asked ≡ None → (Rose (D.restarts disk) (D.restarts result.1) → restarts_of asked ≡ 0) → IsToldOf result.0 (D.bytes disk) }
     // With a stop too, such a status tells what is so of the disk that is given back: of what it reads as, and of each image that a crash may leave.
     ensures refused_at_end { OfTold D.tells (D.bytes disk) (D.may_leave disk) (IsToldOfEach result.0 (D.may_leave result.1)) }
-    // An image that is no heap is left as it was, with a stop too unless the disk was started again.
-    ensures left_alone { IsTrue D.tells → (asked : Command) → command (map string_bytes words.now) ≡ Some asked → makes asked ≡ None → IsUnstarted (stop_of asked) (D.restarts disk) (D.restarts result.1) → IsLeftAlone result.0 → SameContents D.Disk disk result.1 }
+    // An image that is no heap, or is damaged but not at an address, is left as it was, whatever the end: no stop that is asked for comes in its opening.
+    ensures left_alone { IsTrue D.tells → (asked : Command) → command (map string_bytes words.now) ≡ Some asked → makes asked ≡ None → (expected : Status) → IsFault expected (D.bytes disk) → IsLeftAlone expected → LeavesAlone D.Disk disk result.1 }
     ensures sound { OfTold D.tells (D.bytes disk) (D.may_leave disk) ((asked : Command) (s : Super) → command (map string_bytes words.now) ≡ Some asked → makes asked ≡ Some s → IsSound result.0) }
 
     // Which statuses each command has.

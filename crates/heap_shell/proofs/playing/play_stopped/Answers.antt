@@ -2,11 +2,11 @@ use Rattle.std.proofs.Common.{◌≡◌, ◌≢◌, ◌≤◌, ◌<◌, ◌+◌,
 use Rattle.counts.specs.Count.{Rose, greatest, counted}
 use Rattle.disk_model.specs.Disk.{Only}
 use Rattle.disk_model.specs.Fuse.{fuse_inner, fuse_passed}
-use Rattle.disk_model.specs.Keeps.{SameContents}
 use Rattle.disk_model.specs.KeepsLaws.{rose_until}
 use Rattle.disk_model.specs.Moments.{LeavesOnly, begins}
 use Rattle.heap_core.specs.declared.errors.OpenError.TheVariants as opening
 use Rattle.heap_core.specs.Causes.{ErrorPasses, error_device}
+use Rattle.heap_core.specs.Refusals as opening_refusals
 use Rattle.heap_model.specs.CoreCrash.{IsCommitPrefix}
 use Rattle.heap_model.specs.CoreLawsRun.{same_run}
 use Rattle.heap_model.specs.CoreRuns.{total_calls}
@@ -27,8 +27,8 @@ use Rattle.heap_shell.proofs.PlayOpen.{opening_then, few_calls, stored_running, 
 use Rattle.heap_shell.proofs.PrintRecovered.{whole_count, fails_few, fails_none, no_rollback, stops_before}
 use Rattle.heap_shell.proofs.Statuses.{early_none, early_some, halt_end, halt_not_done, open_not_done, open_fault}
 use Rattle.heap_recovery.specs.Faults.{IsNoHeap, IsFaultAt}
-use Rattle.heap_shell.specs.Refusals.{IsFault, IsLeftAlone}
-use Rattle.heap_shell.proofs.RefusalLaws.{told_each, end_told_each, end_not_alone, alone_early, refused_by, not_opened, fault_moments, at_end}
+use Rattle.heap_shell.specs.Refusals.{IsFault, LeavesAlone}
+use Rattle.heap_shell.proofs.RefusalLaws.{told_status, told_each, end_told, end_told_each, only_read, refused_by, not_opened, fault_moments, at_end}
 use Rattle.heap_shell.proofs.RunLaws.{restarts_none}
 use Rattle.heap_shell.proofs.PlayPrints.{prints_unplayed, prints_again, prints_early}
 use Rattle.heap_shell.proofs.playing.play_stopped.Goals as goal
@@ -301,40 +301,77 @@ returns-in-Some-clause-restarts g c tells =
     restarts_none (starts_asked c.args.stop.again) _ _ _ (λ done. absurd (halt_not_done halted.0 (sym halted.3 ∙ done)))
     (ap r (c.into_inner-in-Some.ensures ∙ ap fuse_inner c.close-in-Some.ensures) ∙ c.play_lines-played.ensures.disk.restarts tells ∙ c.in-Ok.ensures.disk.restarts tells ∙ ap r c.new.ensures.inner)
 
--- such an error comes before a write
+-- an image with a fault that comes before writes is only read
 pub returns-in-Err-clause-left_alone : goal.returns-in-Err-clause-left_alone
-returns-in-Err-clause-left_alone g c tells unstarted alone =
+returns-in-Err-clause-left_alone g c tells expected fault alone =
     let d = g.D.Disk in
     let first = fuse_inner c.new.result in
     let fuse = c.in-Err.fuse in
     let inner = c.new.ensures.inner in
     let e = c.in-Err.ensures in
-    let still = (e.left_alone (alone_early c.in-Err.e (subst IsLeftAlone c.from.ensures alone))).contents tells in
+    let here = subst (λ x. IsFault expected (d.bytes x)) (sym inner) fault in
+    let reads = only_read _ expected (d.bytes first) c.new.result fuse _ here alone (e.reads_not_heap tells) (e.reads_damaged tells) in
+    let still = reads.contents tells in
     let began = same_disk _ _ (e.disk.origin ∙ c.new.ensures.origin) ∙ sym inner in
-    let same : SameContents d first (fuse_inner fuse) = record {
-      bytes = still.bytes;
-      crash = still.crash;
-      moments = fuse_since c.new.result fuse (d.may_leave first) still.moments;
-      passed = fuse_none fuse first tells began (still.passed ∙ c.new.ensures.passed);
+    let same : LeavesAlone d first (fuse_inner fuse) = record {
+      contents = record {
+        bytes = still.bytes;
+        crash = still.crash;
+        moments = fuse_since c.new.result fuse (d.may_leave first) still.moments;
+        passed = fuse_none fuse first tells began (still.passed ∙ c.new.ensures.passed);
+      };
+      restarts = reads.disk.restarts tells;
     } in
-    rw c.into_inner.ensures (subst (λ x. SameContents d x (fuse_inner fuse)) inner same)
+    rw c.into_inner.ensures (subst (λ x. LeavesAlone d x (fuse_inner fuse)) inner same)
+
+-- so the stop that was asked for does not come in its opening
+pub returns-then-eq-clause-left_alone : goal.returns-then-eq-clause-left_alone
+returns-then-eq-clause-left_alone g c tells expected fault alone =
+    let d = g.D.Disk in
+    let fuse = c.in-Err.fuse in
+    let e = c.in-Err.ensures in
+    let is : c.in-Err.e ≡ opening.Stopped = search rules in
+    let some = rose_some c.new.result.stops fuse.stops e.disk.cause.stops_kept (e.disk.cause.stopped (ap error_device is)) in
+    let here = subst (λ x. IsFault expected (d.bytes x)) (sym c.new.ensures.inner) fault in
+    let reads = only_read _ expected (d.bytes (fuse_inner c.new.result)) c.new.result fuse _ here alone (e.reads_not_heap tells) (e.reads_damaged tells) in
+    absurd (some (reads.no_first_stop c.new.ensures.stops))
+
+-- and it is not opened
+pub returns-in-None-clause-left_alone : goal.returns-in-None-clause-left_alone
+returns-in-None-clause-left_alone g c tells expected fault alone =
+    let d = g.D.Disk in
+    let at = subst (λ x. IsFault expected (d.bytes x)) (sym c.new.ensures.inner) fault in
+    absurd (not_opened expected (d.bytes (fuse_inner c.new.result)) at (c.in-Ok.ensures.not_heap tells) (c.in-Ok.ensures.damaged tells))
+
+pub returns-in-Some-clause-left_alone : goal.returns-in-Some-clause-left_alone
+returns-in-Some-clause-left_alone g c tells expected fault alone =
+    let d = g.D.Disk in
+    let at = subst (λ x. IsFault expected (d.bytes x)) (sym c.new.ensures.inner) fault in
+    absurd (not_opened expected (d.bytes (fuse_inner c.new.result)) at (c.in-Ok.ensures.not_heap tells) (c.in-Ok.ensures.damaged tells))
+
+-- a status against the image tells what is so of it
+pub returns-in-Err-clause-refused : goal.returns-in-Err-clause-refused
+returns-in-Err-clause-refused g c tells unstarted =
+    let d = g.D.Disk in
+    let told = subst (λ x. opening_refusals.IsToldOf c.in-Err.e (d.bytes x)) c.new.ensures.inner (c.in-Err.ensures.refused tells) in
+    rw c.from.ensures (told_status c.in-Err.e (d.bytes c.args.disk) told)
 
 -- else the disk was started again, or the run ended in its events
-pub returns-then-eq-clause-left_alone : goal.returns-then-eq-clause-left_alone
-returns-then-eq-clause-left_alone g c tells unstarted alone =
+pub returns-then-eq-clause-refused : goal.returns-then-eq-clause-refused
+returns-then-eq-clause-refused g c tells unstarted =
     let r = g.D.Disk.restarts in
     absurd (unstarted (subst (λ (n : ℕ). Rose n (r c.start_again.result.1)) (c.in-Err.ensures.disk.restarts tells ∙ ap r c.new.ensures.inner) (c.start_again.ensures.started tells)))
 
-pub returns-in-None-clause-left_alone : goal.returns-in-None-clause-left_alone
-returns-in-None-clause-left_alone g c tells unstarted alone =
+pub returns-in-None-clause-refused : goal.returns-in-None-clause-refused
+returns-in-None-clause-refused g c tells unstarted =
     let r = g.D.Disk.restarts in
     absurd (unstarted (subst (λ (n : ℕ). Rose n (r c.start_again-in-None.result.1))
     (ap (λ x. r (fuse_inner x)) c.close.ensures ∙ c.play_lines-played.ensures.disk.restarts tells ∙ c.in-Ok.ensures.disk.restarts tells ∙ ap r c.new.ensures.inner) (c.start_again-in-None.ensures.started tells)))
 
-pub returns-in-Some-clause-left_alone : goal.returns-in-Some-clause-left_alone
-returns-in-Some-clause-left_alone g c tells unstarted alone =
+pub returns-in-Some-clause-refused : goal.returns-in-Some-clause-refused
+returns-in-Some-clause-refused g c tells unstarted =
     let halted = early_some c.play_lines-played.result c.in-Some.status (sym c.early_end.ensures ∙ c.in-Some.is) in
-    absurd (end_not_alone _ (halt_end halted.0) (subst IsLeftAlone halted.3 alone))
+    rw halted.3 (end_told _ (g.D.Disk.bytes c.args.disk) (halt_end halted.0))
 
 -- what can't be opened gives its own status
 pub returns-in-Err-clause-refuses : goal.returns-in-Err-clause-refuses

@@ -15,8 +15,7 @@ use Rattle.heap_shell.proofs.Counts.{counted_mono}
 use Rattle.heap_shell.proofs.PlayEnds.{run_reached, unfailed_only, lines_wrote, halt_part, halt_lines, keeps_own, ends_early, ends_whole, exact_none, exact_passes, passes_most}
 use Rattle.heap_shell.proofs.PlayOpen.{stored_running, stored_keeps, stored_moments, ends_unopened, opened_core, played_unfailed}
 use Rattle.heap_shell.proofs.PrintRecovered.{fails_most, fails_none}
-use Rattle.heap_shell.proofs.RefusalLaws.{told_status, told_each, end_told, end_told_each, end_not_alone, refused_by, not_opened, alone_early, fault_moments}
-use Rattle.heap_shell.specs.Refusals.{IsLeftAlone}
+use Rattle.heap_shell.proofs.RefusalLaws.{told_status, told_each, end_told, end_told_each, refused_by, not_opened, only_read, alone_read, fault_moments}
 use Rattle.heap_shell.proofs.Statuses.{written_end, halt_end, halt_not_done, open_not_done, open_harm}
 use Rattle.heap_shell.proofs.PlayPrints.{reached, prints_early, prints_whole}
 use Rattle.heap_shell.proofs.RunLaws.{end_sound}
@@ -153,13 +152,15 @@ pub returns-in-Err-play_all-clause-refuses : goal.returns-in-Err-play_all-clause
 returns-in-Err-play_all-clause-refuses g c tells expected fault = absurd (not_opened expected (g.D.Disk.bytes c.args.disk) fault (c.in-Ok.ensures.not_heap tells) (c.in-Ok.ensures.damaged tells))
 
 pub returns-in-Err-clause-left_alone : goal.returns-in-Err-clause-left_alone
-returns-in-Err-clause-left_alone g c tells alone = (c.in-Err.ensures.left_alone (alone_early c.in-Err.e (subst IsLeftAlone c.from.ensures alone))).contents tells
+returns-in-Err-clause-left_alone g c tells expected fault alone =
+    let d = g.D.Disk in
+    alone_read d c.args.disk c.in-Err.disk _ tells (only_read d expected (d.bytes c.args.disk) c.args.disk c.in-Err.disk _ fault alone (c.in-Err.ensures.reads_not_heap tells) (c.in-Err.ensures.reads_damaged tells))
 
 pub returns-in-Ok-play_all-clause-left_alone : goal.returns-in-Ok-play_all-clause-left_alone
-returns-in-Ok-play_all-clause-left_alone g c tells alone = absurd (end_not_alone _ (written_end c.write_graph.result) (subst IsLeftAlone c.status_after-status.ensures alone))
+returns-in-Ok-play_all-clause-left_alone g c tells expected fault alone = absurd (not_opened expected (g.D.Disk.bytes c.args.disk) fault (c.in-Ok.ensures.not_heap tells) (c.in-Ok.ensures.damaged tells))
 
 pub returns-in-Err-play_all-clause-left_alone : goal.returns-in-Err-play_all-clause-left_alone
-returns-in-Err-play_all-clause-left_alone g c tells alone = absurd (end_not_alone _ (halt_end c.in-Err-play_all.halt) (subst IsLeftAlone c.from-in-Err-play_all.ensures alone))
+returns-in-Err-play_all-clause-left_alone g c tells expected fault alone = absurd (not_opened expected (g.D.Disk.bytes c.args.disk) fault (c.in-Ok.ensures.not_heap tells) (c.in-Ok.ensures.damaged tells))
 
 pub returns-in-Err-clause-keeps_fault : goal.returns-in-Err-clause-keeps_fault
 returns-in-Err-clause-keeps_fault g c tells only expected fault =

@@ -8,7 +8,7 @@ use Rattle.heap_shell.specs.Headline.{made_super, PrintsRun, stop_after, IsPlaye
 use Rattle.heap_shell.specs.Playable.{IsScript, IsReadFrom}
 use Rattle.heap_shell.proofs.PlayOpen.{new_stored, no_calls}
 use Rattle.heap_shell.proofs.RunLaws.{large_made, format_not_done, not_made, not_read, restarts_none, end_sound}
-use Rattle.heap_shell.proofs.RefusalLaws.{input_told_each}
+use Rattle.heap_shell.proofs.RefusalLaws.{input_told_each, alone_untouched}
 use Rattle.heap_shell.proofs.playing.run_play.Goals as goal
 
 pub play_script-requires : goal.play_script-requires
@@ -76,3 +76,7 @@ returns-in-Err-clause-headline g c tells only =
     let d = g.D.Disk in
     not_read d c.args.disk only (λ image since. g.met.D.Disk.only_now tells c.args.disk image since) c.args.fresh c.args.stop (IsReadFrom g.S.Source.tells (g.S.Source.left c.args.source.now)) c.in-Err.status g.K.Sink.tells (g.K.Sink.written c.args.sink.now)
     c.in-Err.ensures.status
+
+-- a script that was not read left the disk alone
+pub returns-in-Err-clause-left_alone : goal.returns-in-Err-clause-left_alone
+returns-in-Err-clause-left_alone g c tells none expected fault alone = alone_untouched g.D.Disk c.args.disk (λ image since. g.met.D.Disk.only_now tells c.args.disk image since)

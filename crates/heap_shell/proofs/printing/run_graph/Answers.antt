@@ -8,8 +8,7 @@ use Rattle.heap_model.specs.Opening.{opened, opening_calls, IsLeftByOpening}
 use Rattle.heap_shell.specs.Headline.{IsEndOfPlay, graph_text}
 use Rattle.heap_shell.proofs.PlayOpen.{opened_core, opened_unfailed}
 use Rattle.heap_shell.proofs.PrintRecovered.{fails_most}
-use Rattle.heap_shell.proofs.RefusalLaws.{told_status, told_each, end_told, end_told_each, end_not_alone, refused_by, not_opened, alone_early, fault_moments}
-use Rattle.heap_shell.specs.Refusals.{IsLeftAlone}
+use Rattle.heap_shell.proofs.RefusalLaws.{told_status, told_each, end_told, end_told_each, refused_by, not_opened, only_read, alone_read, fault_moments}
 use Rattle.heap_shell.proofs.Statuses.{open_end, open_not_done, written_end, wrote_all}
 use Rattle.heap_shell.proofs.Written.{none_written, wrote_some}
 use Rattle.heap_shell.proofs.RunLaws.{end_sound}
@@ -85,10 +84,12 @@ pub returns-in-Err-clause-refuses : goal.returns-in-Err-clause-refuses
 returns-in-Err-clause-refuses g c tells expected fault = (rw c.from.ensures (refused_by expected (g.D.Disk.bytes c.args.disk) c.in-Err.e fault (c.in-Err.ensures.not_heap tells) (c.in-Err.ensures.damaged tells)), refl)
 
 pub returns-in-Ok-clause-left_alone : goal.returns-in-Ok-clause-left_alone
-returns-in-Ok-clause-left_alone g c tells alone = absurd (end_not_alone _ (written_end c.write_graph.result) (subst IsLeftAlone c.status_after-status.ensures alone))
+returns-in-Ok-clause-left_alone g c tells expected fault alone = absurd (not_opened expected (g.D.Disk.bytes c.args.disk) fault (c.in-Ok.ensures.not_heap tells) (c.in-Ok.ensures.damaged tells))
 
 pub returns-in-Err-clause-left_alone : goal.returns-in-Err-clause-left_alone
-returns-in-Err-clause-left_alone g c tells alone = (c.in-Err.ensures.left_alone (alone_early c.in-Err.e (subst IsLeftAlone c.from.ensures alone))).contents tells
+returns-in-Err-clause-left_alone g c tells expected fault alone =
+    let d = g.D.Disk in
+    alone_read d c.args.disk c.in-Err.disk _ tells (only_read d expected (d.bytes c.args.disk) c.args.disk c.in-Err.disk _ fault alone (c.in-Err.ensures.reads_not_heap tells) (c.in-Err.ensures.reads_damaged tells))
 
 pub returns-in-Err-clause-keeps_fault : goal.returns-in-Err-clause-keeps_fault
 returns-in-Err-clause-keeps_fault g c tells only expected fault =

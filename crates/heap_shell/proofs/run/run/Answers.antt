@@ -4,15 +4,14 @@ use Rattle.command_words.specs.declared.commands.Command.TheVariants as asked
 use Rattle.command_words.specs.declared.commands.CommandError.{CommandError}
 use Rattle.command_words.specs.declared.commands.CommandError.TheVariants as asking
 use Rattle.command_words.specs.declared.commands.Command.{Command}
-use Rattle.command_words.specs.declared.commands.Stop.{Stop}
 use Rattle.command_words.specs.Limits.{IsPages, IsWithin}
 use Rattle.heap_core.specs.Format.{heap_of}
 use Rattle.heap_model.specs.CoreLawsOpened.{address_found}
-use Rattle.heap_shell.specs.Commands.{makes, restarts_of, stop_of, CanRun}
+use Rattle.heap_shell.specs.Commands.{makes, restarts_of, CanRun}
 use Rattle.heap_shell.specs.CrashSafe.{RunsSafely}
 use Rattle.heap_shell.specs.Headline.{made_super}
-use Rattle.heap_shell.specs.Refusals.{IsUnstarted}
 use Rattle.heap_shell.proofs.CommandLaws.{same_play, graph_unread, play_ends, unread_ends, format_told_each, format_sound, no_stop, not_made}
+use Rattle.heap_shell.proofs.RefusalLaws.{alone_untouched}
 use Rattle.heap_shell.proofs.RunLaws.{runs_safely, end_done}
 use Rattle.heap_shell.proofs.run.run.Goals as goal
 
@@ -87,9 +86,18 @@ returns-in-Play-clause-unwritten g c which is none against =
     let same : which ≡ asked.Play c.in-Play.fresh c.in-Play.stop = cc (is, c.in-Ok.ensures.read, c.in-Play.is) in
     c.run_play.ensures.unwritten (no_stop c.in-Play.stop (subst (λ (x : Command). restarts_of x ≡ 0) same none)) against
 
-pub returns-in-Play-clause-left_alone : goal.returns-in-Play-clause-left_alone
-returns-in-Play-clause-left_alone g c tells which is none unstarted alone =
-    let r = g.D.Disk.restarts in
+-- a disk that was started again where a stop was asked is not told of
+pub returns-in-Play-clause-refused : goal.returns-in-Play-clause-refused
+returns-in-Play-clause-refused g c tells which is none unstarted =
     let same : which ≡ asked.Play c.in-Play.fresh c.in-Play.stop = cc (is, c.in-Ok.ensures.read, c.in-Play.is) in
-    c.run_play.ensures.left_alone tells (not_made c.in-Play.fresh c.in-Play.stop (subst (λ (x : Command). makes x ≡ None) same none))
-    (subst (λ (x : Command). IsUnstarted (stop_of x) (r c.args.disk) (r c.run_play.result.1)) same unstarted) alone
+    c.run_play.ensures.refused tells (not_made c.in-Play.fresh c.in-Play.stop (subst (λ (x : Command). makes x ≡ None) same none))
+    (λ rose. no_stop c.in-Play.stop (subst (λ (x : Command). restarts_of x ≡ 0) same (unstarted rose)))
+
+pub returns-in-Play-clause-left_alone : goal.returns-in-Play-clause-left_alone
+returns-in-Play-clause-left_alone g c tells which is none expected fault alone =
+    let same : which ≡ asked.Play c.in-Play.fresh c.in-Play.stop = cc (is, c.in-Ok.ensures.read, c.in-Play.is) in
+    c.run_play.ensures.left_alone tells (not_made c.in-Play.fresh c.in-Play.stop (subst (λ (x : Command). makes x ≡ None) same none)) expected fault alone
+
+-- a run that did not come to the disk left it alone
+pub returns-in-Err-clause-left_alone : goal.returns-in-Err-clause-left_alone
+returns-in-Err-clause-left_alone g c tells which is none expected fault alone = alone_untouched g.D.Disk c.args.disk (λ image since. g.met.D.Disk.only_now tells c.args.disk image since)
