@@ -11,6 +11,7 @@ use Rattle.command_words.specs.declared.commands.Command.TheVariants as asked
 use Rattle.command_words.specs.declared.commands.CommandError.{CommandError}
 use Rattle.command_words.specs.declared.commands.CommandError.TheVariants as asking
 use Rattle.command_words.specs.declared.commands.Stop.{Stop}
+use Rattle.page_redo.specs.Pages.{Pages}
 use Rattle.heap_model.specs.Image.{Holds}
 use Rattle.heap_model.specs.Opening.{IsLeftByOpening}
 use Rattle.heap_shell.specs.declared.status.Status.{Status}
@@ -30,13 +31,13 @@ same_play a s b t same = (cc, cc)
 
 -- Memory was refused while the words were read: nothing was done.
 pub graph_unread : {D : Type 0} (g : Ghosts D) (disk : D) (e : CommandError) (words : Option Command) → words ≡ Some asked.Graph → (e ≡ asking.Usage → words ≡ None) → (by : Status) → by ≡ command_status e
-    → ((image : List ℕ) → g.left_since disk (g.moment disk) image → g.may_leave disk image) → Only (g.bytes disk) (g.may_leave disk) → (s : Super) (batches : List (List Record)) (graph : Graph) → Holds s batches (g.bytes disk)
-    → (told : Bool) (before : List ℕ) → PrintsGraph g s batches graph disk disk by told before before
-graph_unread g disk asking.Usage words is usage by by_is now only s batches graph held told before = let none : words ≡ None = usage refl in cc
-graph_unread g disk asking.NoMemory words is usage by by_is now only s batches graph held told before =
-    let still : (image : List ℕ) → g.may_leave disk image → IsLeftByOpening s batches image = λ image may. inl (subst (Holds s batches) (sym (only image may)) held) in
+    → ((image : List ℕ) → g.left_since disk (g.moment disk) image → g.may_leave disk image) → Only (g.bytes disk) (g.may_leave disk) → (s : Super) (batches : List (List Record)) (stored : Pages) (graph : Graph) → Holds s batches stored (g.bytes disk)
+    → (told : Bool) (before : List ℕ) → PrintsGraph g s batches stored graph disk disk by told before before
+graph_unread g disk asking.Usage words is usage by by_is now only s batches stored graph held told before = let none : words ≡ None = usage refl in cc
+graph_unread g disk asking.NoMemory words is usage by by_is now only s batches stored graph held told before =
+    let still : (image : List ℕ) → g.may_leave disk image → IsLeftByOpening s batches stored image = λ image may. inl (subst (Holds s batches stored) (sym (only image may)) held) in
     record {
-      moments = begins g.moment g.left_since disk (IsLeftByOpening s batches) (λ image since. still image (now image since));
+      moments = begins g.moment g.left_since disk (IsLeftByOpening s batches stored) (λ image since. still image (now image since));
       left = still;
       calls = record { times = 0; most = omega arith; all = λ done. cc; told = refl };
       restarts = refl;

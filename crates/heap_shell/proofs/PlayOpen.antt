@@ -34,6 +34,7 @@ use Rattle.heap_shell.proofs.Reopened.{recovered_only}
 use Rattle.heap_shell.proofs.Lines.{some_writes, all_writes, lines_more}
 use Rattle.graph_model.specs.Transaction.{serial}
 use Rattle.heap_shell.specs.Playable.{IsScript}
+use Rattle.page_redo.specs.Pages.{Pages, first_pages}
 use Rattle.heap_model.specs.Image.{IsShapedLog, IsLegal}
 use Rattle.counts.specs.Count.{counted}
 use Rattle.log_machine.specs.MapLaws.{entries_empty}
@@ -55,12 +56,13 @@ use Rattle.heap_shell.proofs.Statuses.{open_end, open_not_done}
 use Rattle.heap_shell.proofs.Written.{none_written, whole_front}
 
 -- A new heap, as one that is there.
-abbrev pub new_stored : (pages : ℕ) (image : List ℕ) → IsLegal (made_super pages) [] image → IsStored image
+abbrev pub new_stored : (pages : ℕ) (image : List ℕ) → IsLegal (made_super pages) [] (first_pages pages) image → IsStored image
 new_stored pages image legal =
     let limits = legal.log.shaped.limits in
     record {
       super = made_super pages;
       batches = [];
+      pages = first_pages pages;
       legal = record { log = new_legal (made_super pages) limits; held = legal.held };
       places = root_place;
       graph = new_graph;
@@ -125,15 +127,15 @@ module _ {D : Type 0} (g : Ghosts D) {bytes : List ℕ} (stored : IsStored bytes
 
   -- a heap that is there runs when it is opened
   pub stored_running : IsRunning c
-  stored_running = record { reached = opened_reached stored.super stored.batches stored.legal.log.shaped true stored.places stored.graph stored.found; unfailed = refl }
+  stored_running = record { reached = opened_reached stored.super stored.batches stored.pages stored.legal.log.shaped true stored.places stored.graph stored.found; unfailed = refl }
 
   -- an opening of its image leaves one of its first commits
-  pub stored_keeps : (image : List ℕ) → IsLeftByOpening stored.super stored.batches image → IsCommitPrefix c image
-  stored_keeps image left = opened_keeps stored.super stored.batches stored.legal.log stored.places stored.graph stored.found image left
+  pub stored_keeps : (image : List ℕ) → IsLeftByOpening stored.super stored.batches stored.pages image → IsCommitPrefix c image
+  stored_keeps image left = opened_keeps stored.super stored.batches stored.pages stored.legal.log stored.places stored.graph stored.found image left
 
   -- so it does at each moment
-  pub stored_moments : (old new : D) → LeavesOnly g.moment g.left_since old new (IsLeftByOpening stored.super stored.batches) → LeavesOnly g.moment g.left_since old new (IsCommitPrefix c)
-  stored_moments old new moments = weaker g.moment g.left_since old new (IsLeftByOpening stored.super stored.batches) (IsCommitPrefix c) moments stored_keeps
+  pub stored_moments : (old new : D) → LeavesOnly g.moment g.left_since old new (IsLeftByOpening stored.super stored.batches stored.pages) → LeavesOnly g.moment g.left_since old new (IsCommitPrefix c)
+  stored_moments old new moments = weaker g.moment g.left_since old new (IsLeftByOpening stored.super stored.batches stored.pages) (IsCommitPrefix c) moments stored_keeps
 
   -- The heap was not opened: no event was made, and nothing was written.
   pub ends_unopened : (stop : Option Stop) (events : List Event) (e : OpenError) (by : Status) (start final : D) (told : Bool) (before : List ℕ) → by ≡ open_status e → IsFromOutside e
@@ -254,14 +256,15 @@ pub record IsNew (c : Core) : Type 0 where
   pub opened : IsOpened c
 
 pub opened_core : {D : Type 0} {g : Ghosts D} (heap : Heap D g)
-    → (s : Super) × (batches : List (List Record)) × (shaped : IsShapedLog s batches) × ((born : Bool) (places : Places) (graph : Graph) → IsFound s batches shaped born places graph → IsCore (opened s batches born places graph) heap)
+    → (s : Super) × (batches : List (List Record)) × (stored : Pages) × (shaped : IsShapedLog s batches stored)
+        × ((born : Bool) (places : Places) (graph : Graph) → IsFound s batches stored shaped born places graph → IsCore (opened s batches stored born places graph) heap)
     → (c : Core) × IsNew c × IsCore c heap
 opened_core heap is =
-    let found = address_found is.0 is.1 is.2 in
-    let c = opened is.0 is.1 false found.0 found.1 in
-    let running : IsRunning c = record { reached = opened_reached is.0 is.1 is.2 false found.0 found.1 found.2; unfailed = refl } in
-    let new : IsOpened c = record { super = is.0; batches = is.1; shaped = is.2; born = false; places = found.0; graph = found.1; found = found.2; is = refl } in
-    (c, record { running = running; nothing = refl; opened = new }, is.3 false found.0 found.1 found.2)
+    let found = address_found is.0 is.1 is.2 is.3 in
+    let c = opened is.0 is.1 is.2 false found.0 found.1 in
+    let running : IsRunning c = record { reached = opened_reached is.0 is.1 is.2 is.3 false found.0 found.1 found.2; unfailed = refl } in
+    let new : IsOpened c = record { super = is.0; batches = is.1; stored = is.2; shaped = is.3; born = false; places = found.0; graph = found.1; found = found.2; is = refl } in
+    (c, record { running = running; nothing = refl; opened = new }, is.4 false found.0 found.1 found.2)
 
 -- it has not failed
 pub opened_unfailed : {D : Type 0} {g : Ghosts D} (heap : Heap D g) (c : Core) → IsNew c → IsCore c heap → failed_at heap ≡ None

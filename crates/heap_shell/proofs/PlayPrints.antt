@@ -18,6 +18,7 @@ use Rattle.heap_model.specs.Core.{Core}
 use Rattle.core_laws.specs.Calls.{of_session_front}
 use Rattle.core_laws.specs.Run.{run_reached}
 use Rattle.core_laws.specs.Valid.{IsReached}
+use Rattle.page_redo.specs.Pages.{first_pages}
 use Rattle.heap_model.specs.CoreLawsNew.{root_place, new_legal, new_found}
 use Rattle.heap_model.specs.Ending.{all_events}
 use Rattle.heap_shell.specs.declared.output.WriteError.{WriteError}
@@ -52,7 +53,7 @@ prints_unplayed n script by before after (inr again) =
     let wrote = again.2 in
     inr (record {
       first = c;
-      opened = record { super = made_super 1; batches = []; shaped = (new_legal (made_super 1) limits).shaped; born = true; places = root_place; graph = new_graph; found = new_found (made_super 1) limits; is = refl };
+      opened = record { super = made_super 1; batches = []; stored = first_pages 1; shaped = (new_legal (made_super 1) limits).shaped; born = true; places = root_place; graph = new_graph; found = new_found (made_super 1) limits; is = refl };
       made = [];
       behind = events script;
       parts = refl;

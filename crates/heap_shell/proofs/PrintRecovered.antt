@@ -28,6 +28,7 @@ use Rattle.heap_shell.specs.declared.status.Status.{Status}
 use Rattle.heap_shell.specs.declared.status.Status.TheVariants.{NoMemory, DiskFault}
 use Rattle.heap_model.specs.Core.{Core, force_calls}
 use Rattle.heap_model.specs.CoreCrash.{StandsForFirst, IsCommitPrefix}
+use Rattle.page_redo.specs.Pages.{Pages}
 use Rattle.heap_model.specs.Image.{IsLegalLog, IsLegal}
 use Rattle.heap_model.specs.CoreLawsHeld.{left_first}
 use Rattle.heap_model.specs.Opening.{IsLeftByOpening}
@@ -67,8 +68,8 @@ few_in_batches (b ∷ bs) =
     let inside = length-append (to_le_bytes w32 (length (spellings b))) (spellings b) in
     omega arith
 
-pub few_commits : (s : Super) (bs : List (List Record)) → IsLegalLog s bs → commits (records_of bs) ≤ 1073741824
-few_commits s bs legal =
+pub few_commits : (s : Super) (bs : List (List Record)) (stored : Pages) → IsLegalLog s bs stored → commits (records_of bs) ≤ 1073741824
+few_commits s bs stored legal =
     let few = few_in_batches bs in
     let room = legal.shaped.room in
     let small = legal.shaped.limits.small_log in
@@ -105,13 +106,13 @@ fails_none n before now opening.DiskFault is passes = cc
 fails_none n before now opening.Stopped is passes = cc
 
 -- the legal image in one of first commits
-abbrev pub legal_of : {c : Core} {k : ℕ} {image : List ℕ} → (first : StandsForFirst c k image) → IsLegal first.stands.super first.stands.batches image
+abbrev pub legal_of : {c : Core} {k : ℕ} {image : List ℕ} → (first : StandsForFirst c k image) → IsLegal first.stands.super first.stands.batches first.stands.stored image
 legal_of first = record { log = first.stands.says.legal; held = first.stands.held }
 
 module _ {D : Type 0} (g : Ghosts D) (c : Core) (k : ℕ) (old new : D) (first : StandsForFirst c k (g.bytes old)) where
   -- what an opening may leave of it
   abbrev pub Left : List ℕ → Type 0
-  Left = IsLeftByOpening first.stands.super first.stands.batches
+  Left = IsLeftByOpening first.stands.super first.stands.batches first.stands.stored
 
   -- it keeps the commits
   abbrev pub keeps_first : LeavesOnly g.moment g.left_since old new Left → ((left : List ℕ) → g.may_leave new left → Left left) → g.restarts new ≡ g.restarts old → KeepsFirst g c k old new

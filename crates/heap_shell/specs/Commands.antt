@@ -10,6 +10,7 @@ use Rattle.image_plan.specs.declared.superblock.Super.{Super}
 use Rattle.image_plan.specs.Plan.{image_size}
 use Rattle.log_records.specs.declared.Record.{Record}
 use Rattle.heap_core.specs.Format.{heap_of}
+use Rattle.page_redo.specs.Pages.{Pages}
 use Rattle.heap_model.specs.Image.{Holds, IsShaped}
 use Rattle.heap_model.specs.Opening.{rolled_back, opening_calls, IsLeftByOpening}
 use Rattle.command_words.specs.declared.commands.Command.{Command}
@@ -42,7 +43,7 @@ restarts_of asked.Graph = 0
 abbrev pub CanRun : Command → ℕ → List ℕ → Type 0
 CanRun (asked.Format n) extent image = image_size n.pages n.log_bytes ≤ extent
 CanRun (asked.Play fresh stop) extent image = CanPlay fresh extent image
-CanRun asked.Graph extent image = (s : Super) × (batches : List (List Record)) × IsShaped s batches image
+CanRun asked.Graph extent image = (s : Super) × (batches : List (List Record)) × (stored : Pages) × IsShaped s batches stored image
 
 -- A command that reads a script.
 abbrev pub IsPlay : Command → Type 0
@@ -84,13 +85,13 @@ module _ {D : Type 0} (g : Ghosts D) where
   abbrev pub RunsFormat : Super → D → D → Status → Bool → List ℕ → List ℕ → Type 0
   RunsFormat s old new result told before after = IsNotMade g s old new result told before after ⊎ MakesHeap s old new result told before after
 
-  -- The graph of a heap was written, whose log holds these batches. At each moment a crash left the image as it was, or with its log rolled back.
-  pub record PrintsGraph (s : Super) (batches : List (List Record)) (graph : Graph) (old new : D) (result : Status) (told : Bool) (before after : List ℕ) : Type 0 where
-    pub moments : LeavesOnly g.moment g.left_since old new (IsLeftByOpening s batches)
-    pub left : (image : List ℕ) → g.may_leave new image → IsLeftByOpening s batches image
+  -- The graph of a heap was written, whose log holds these batches and whose pages are stored so. At each moment a crash left the image as it was, or with its log rolled back.
+  pub record PrintsGraph (s : Super) (batches : List (List Record)) (stored : Pages) (graph : Graph) (old new : D) (result : Status) (told : Bool) (before after : List ℕ) : Type 0 where
+    pub moments : LeavesOnly g.moment g.left_since old new (IsLeftByOpening s batches stored)
+    pub left : (image : List ℕ) → g.may_leave new image → IsLeftByOpening s batches stored image
     pub calls : CallsOpening (opening_calls s batches) result (g.passed old) (g.passed new)
     pub restarts : g.restarts new ≡ g.restarts old
     -- a run that is done leaves the log rolled back, and nothing unsynced
-    pub holds : result ≡ status.Done → Holds s (rolled_back s batches) (g.bytes new) × Only (g.bytes new) (g.may_leave new)
+    pub holds : result ≡ status.Done → Holds s (rolled_back s batches) stored (g.bytes new) × Only (g.bytes new) (g.may_leave new)
     pub written : IsTrue told → WritesText result (graph_text graph) before after
     pub end : IsEndOfPlay result

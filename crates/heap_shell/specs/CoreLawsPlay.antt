@@ -18,6 +18,7 @@ use Rattle.core_laws.specs.Opened.{opened_reached}
 use Rattle.core_laws.specs.Run.{step_reached}
 use Rattle.core_laws.specs.Valid.{IsReached}
 use Rattle.heap_model.specs.CoreLawsCalls.{whole_run, run_step}
+use Rattle.page_redo.specs.Pages.{first_pages}
 use Rattle.heap_model.specs.CoreLawsNew.{root_place, new_legal, new_found}
 use Rattle.heap_model.specs.ListLaws.{AllByRecursion-behind}
 use Rattle.heap_model.specs.Ending.{all_events}
@@ -31,7 +32,7 @@ made_limits pages some few = record { some_pages = some; few_pages = few; some_l
 
 -- a new heap is reached
 pub made_reached : (pages : ℕ) → IsSuper (made_super pages) → IsReached (made_core pages)
-made_reached pages limits = opened_reached (made_super pages) [] (new_legal (made_super pages) limits).shaped true root_place new_graph (new_found (made_super pages) limits)
+made_reached pages limits = opened_reached (made_super pages) [] (first_pages pages) (new_legal (made_super pages) limits).shaped true root_place new_graph (new_found (made_super pages) limits)
 
 -- a core may be asked the first of the events that it may be asked
 pub ready_front : (c : Core) (before behind : List Event) → AreReady c (before ++ behind) → AreReady c before

@@ -28,6 +28,7 @@ use Rattle.heap_model.specs.CoreRuns.{after_events, total_calls, StopsAt}
 use Rattle.heap_model.specs.Ending.{all_events}
 use Rattle.graph_words.specs.Places.{Places}
 use Rattle.log_records.specs.declared.Record.{Record}
+use Rattle.page_redo.specs.Pages.{Pages, first_pages}
 use Rattle.heap_model.specs.Image.{IsShapedLog, IsLegal}
 use Rattle.heap_model.specs.Opening.{opened, opening_calls, IsFound}
 use Rattle.script_text.specs.declared.line.Line.{Line}
@@ -50,7 +51,7 @@ made_super pages = record { pages = pages; log_bytes = 1048576; first = 1 }
 
 -- that heap, when it has been opened
 abbrev pub made_core : ℕ → Core
-made_core pages = opened (made_super pages) [] true root_place new_graph
+made_core pages = opened (made_super pages) [] (first_pages pages) true root_place new_graph
 
 -- what is printed of a graph
 abbrev pub graph_text : Graph → List ℕ
@@ -125,16 +126,17 @@ IsExact None at_opening c made d = IsWhole c made d
 IsExact (Some n) at_opening c made d =
     (IsWhole c made d × (at_opening + total_calls c made ≤ n)) ⊎ ((at_opening ≤ n) × StopsLast (n - at_opening) c made d) ⊎ StopsOpening (Some n) at_opening made
 
--- A core that is opened on a shaped log, with a graph that stands in it.
+-- A core that is opened on a shaped log beside stored pages, with a graph that stands in it.
 pub record IsOpened (c : Core) : Type 0 where
   pub super : Super
   pub batches : List (List Record)
-  pub shaped : IsShapedLog super batches
+  pub stored : Pages
+  pub shaped : IsShapedLog super batches stored
   pub born : Bool
   pub places : Places
   pub graph : Graph
-  pub found : IsFound super batches shaped born places graph
-  pub is : c ≡ opened super batches born places graph
+  pub found : IsFound super batches stored shaped born places graph
+  pub is : c ≡ opened super batches stored born places graph
 
 -- On any disk: a heap was opened with some graph, the events that were made are a run of that core, and what was written is a first
 -- part of the lines of its history, of how many commits came back where a stop was asked, and of a graph. Of a run that is done it is
@@ -296,7 +298,7 @@ module _ {D : Type 0} (g : Ghosts D) where
   -- An empty heap was made. Meanwhile a crash left no heap, the old image, or the new heap.
   pub record IsFormatted (s : Super) (old made : D) : Type 0 where
     pub moments : LeavesOnly g.moment g.left_since old made (IsFormatting s (g.bytes old))
-    pub empty : IsLegal s [] (g.bytes made)
+    pub empty : IsLegal s [] (first_pages s.pages) (g.bytes made)
     -- a superblock with these numbers, and zeros up to the end of the plan
     pub zeros : IsEmptyHeap s (g.bytes made)
     -- each byte behind the plan is as it was, and so it was at each moment

@@ -4,22 +4,24 @@ use Rattle.graph_model.specs.Graph.{Graph}
 use Rattle.graph_words.specs.Places.{Places}
 use Rattle.image_plan.specs.declared.superblock.Super.{Super}
 use Rattle.log_records.specs.declared.Record.{Record}
+use Rattle.page_redo.specs.Pages.{Pages}
 use Rattle.heap_model.specs.Core.{Core}
 use Rattle.heap_model.specs.Image.{IsLegal}
 use Rattle.heap_model.specs.Opening.{IsFound, opened, opening_calls}
 
--- A legal image, and a graph that is found in its log, each object at its place and under the name of its birth. All such graphs have one canon.
+-- A legal image, and a graph that is found in its log beside its pages, each object at its place and under the name of its birth. All such graphs have one canon.
 pub record IsStored (image : List ℕ) : Type 0 where
   pub super : Super
   pub batches : List (List Record)
-  pub legal : IsLegal super batches image
+  pub pages : Pages  -- as they are stored in it
+  pub legal : IsLegal super batches pages image
   pub places : Places
   pub graph : Graph
-  pub found : IsFound super batches legal.log.shaped true places graph
+  pub found : IsFound super batches pages legal.log.shaped true places graph
 
 -- the core of the heap that is opened on it
 abbrev pub stored_core : {image : List ℕ} → IsStored image → Core
-stored_core stored = opened stored.super stored.batches true stored.places stored.graph
+stored_core stored = opened stored.super stored.batches stored.pages true stored.places stored.graph
 
 -- the writes and syncs of its opening
 abbrev pub stored_calls : {image : List ℕ} → IsStored image → ℕ

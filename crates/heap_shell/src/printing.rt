@@ -8,6 +8,7 @@ ghost use Rattle.image_plan.specs.declared.superblock.Super.{Super};
 ghost use Rattle.image_plan.specs.Plan.{image_size};
 ghost use Rattle.log_records.specs.declared.Record.{Record};
 ghost use Rattle.heap_core.specs.Format.{heap_of};
+ghost use Rattle.page_redo.specs.Pages.{Pages};
 ghost use Rattle.heap_model.specs.Image.{IsShaped};
 ghost use Rattle.heap_model.specs.Opening.{IsFound};
 ghost use Rattle.command_words.specs.Limits.{AreNumbers};
@@ -69,8 +70,8 @@ pub fn run_graph<D: Disk, K: Sink>(alloc: Global, disk: D, sink: &mut K) -> (Sta
     ensures disk { RunsDisk D.Disk disk result.1 (result.0 ≡ Status.DiskFault) }
     ensures sink { StreamCause (K.faults sink.old) (K.faults sink.new) (result.0 ≡ Status.WriteFault) }
     // Of each shaped image, whatever graph stands in it, under whatever names.
-    ensures graph { OfTold D.tells (D.bytes disk) (D.may_leave disk) ((s : Super) (batches : List (List Record)) → (shaped : IsShaped s batches (D.bytes disk)) → (born : Bool) (places : Places) (g : Graph) → IsFound s batches shaped.log born places g
-        → PrintsGraph D.Disk s batches g disk result.1 result.0 K.tells (K.written sink.old) (K.written sink.new)) }
+    ensures graph { OfTold D.tells (D.bytes disk) (D.may_leave disk) ((s : Super) (batches : List (List Record)) (stored : Pages) → (shaped : IsShaped s batches stored (D.bytes disk)) → (born : Bool) (places : Places) (g : Graph) → IsFound s batches stored shaped.log born places g
+        → PrintsGraph D.Disk s batches stored g disk result.1 result.0 K.tells (K.written sink.old) (K.written sink.new)) }
     ensures prints { IsTrue K.tells → ((result.0 ≢ Status.Done) × (K.written sink.new ≡ K.written sink.old)) ⊎ ((g : Graph) × WritesText result.0 (graph_text g) (K.written sink.old) (K.written sink.new)) }
     ensures unwritten { ¬ IsSound result.0 → sink.new ≡ sink.old }
     ensures restarts { IsTrue D.tells → D.restarts result.1 ≡ D.restarts disk }

@@ -14,6 +14,7 @@ ghost use Rattle.command_words.specs.Command.{command};
 ghost use Rattle.command_words.specs.declared.commands.Command.{Command};
 ghost use Rattle.command_words.specs.declared.commands.Command.TheVariants as asked;
 ghost use Rattle.command_words.specs.declared.commands.Stop.{Stop};
+ghost use Rattle.page_redo.specs.Pages.{Pages};
 ghost use Rattle.heap_model.specs.Image.{IsShaped};
 ghost use Rattle.heap_model.specs.Opening.{IsFound};
 ghost use Rattle.heap_shell.specs.Causes.{DiskRose, StreamCause, RunsDisk};
@@ -76,8 +77,8 @@ pub fn run<D: Disk, S: Source, K: Sink>(
         → RunsFormat D.Disk s disk result.1 result.0 K.tells (K.written sink.old) (K.written sink.new)) }
     // The graph of a shaped image was written, whatever stands in it, under whatever names.
     ensures graph { OfTold D.tells (D.bytes disk) (D.may_leave disk) (command (map string_bytes words.now) ≡ Some asked.Graph
-        → (s : Super) (batches : List (List Record)) → (shaped : IsShaped s batches (D.bytes disk)) → (born : Bool) (places : Places) (g : Graph) → IsFound s batches shaped.log born places g
-        → PrintsGraph D.Disk s batches g disk result.1 result.0 K.tells (K.written sink.old) (K.written sink.new)) }
+        → (s : Super) (batches : List (List Record)) (stored : Pages) → (shaped : IsShaped s batches stored (D.bytes disk)) → (born : Bool) (places : Places) (g : Graph) → IsFound s batches stored shaped.log born places g
+        → PrintsGraph D.Disk s batches stored g disk result.1 result.0 K.tells (K.written sink.old) (K.written sink.new)) }
 
     // On any disk, what was written are lines of one history, a number of commits and a graph; or the size of an image; or a graph.
     ensures prints { IsTrue K.tells → (fresh : Option ℕ) (stop : Option Stop) → command (map string_bytes words.now) ≡ Some (asked.Play fresh stop)

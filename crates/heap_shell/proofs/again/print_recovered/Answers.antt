@@ -26,7 +26,7 @@ pub returns-in-Err-clause-moments : goal.returns-in-Err-clause-moments
 returns-in-Err-clause-moments g c tells core k first only =
     let d = g.D.Disk in
     weaker d.moment d.left_since c.args.disk c.in-Err.disk (Left d core k c.args.disk c.in-Err.disk first) (StandsForFirst core k)
-    (c.in-Err.ensures.moments tells only first.stands.super first.stands.batches (shaped_image (legal_of first))) (left_first core k (d.bytes c.args.disk) first)
+    (c.in-Err.ensures.moments tells only first.stands.super first.stands.batches first.stands.stored (shaped_image (legal_of first))) (left_first core k (d.bytes c.args.disk) first)
 
 -- a legal image is refused by the outside alone
 pub returns-in-Err-clause-recovers : goal.returns-in-Err-clause-recovers
@@ -34,16 +34,17 @@ returns-in-Err-clause-recovers g c = λ tells core k first only none.
     let d = g.D.Disk in
     let s = first.stands.super in
     let batches = first.stands.batches in
+    let stored = first.stands.stored in
     let legal = legal_of first in
-    let keeps = keeps_first d core k c.args.disk c.in-Err.disk first (c.in-Err.ensures.moments tells only s batches (shaped_image legal)) (c.in-Err.ensures.crash tells only s batches (shaped_image legal)) (c.in-Err.ensures.disk.restarts tells) in
-    recovers_nothing d core k c.args.disk c.in-Err.disk keeps (Reopens d core k c.args.disk c.in-Err.disk) c.in-Err.e c.from.result _ _ (c.in-Err.ensures.shaped tells s batches (shaped_image legal)) c.from.ensures
-    c.in-Err.ensures.disk.cause (c.in-Err.ensures.passes tells s batches (shaped_image legal))
+    let keeps = keeps_first d core k c.args.disk c.in-Err.disk first (c.in-Err.ensures.moments tells only s batches stored (shaped_image legal)) (c.in-Err.ensures.crash tells only s batches stored (shaped_image legal)) (c.in-Err.ensures.disk.restarts tells) in
+    recovers_nothing d core k c.args.disk c.in-Err.disk keeps (Reopens d core k c.args.disk c.in-Err.disk) c.in-Err.e c.from.result _ _ (c.in-Err.ensures.shaped tells s batches stored (shaped_image legal)) c.from.ensures
+    c.in-Err.ensures.disk.cause (c.in-Err.ensures.passes tells s batches stored (shaped_image legal))
 
 pub returns-clause-moments : goal.returns-clause-moments
 returns-clause-moments g c tells core k first only =
     let d = g.D.Disk in
     rw c.close.ensures (weaker d.moment d.left_since c.args.disk c.in-Ok.heap.disk (Left d core k c.args.disk c.in-Ok.heap.disk first) (StandsForFirst core k)
-    (c.in-Ok.ensures.moments tells only first.stands.super first.stands.batches (shaped_image (legal_of first))) (left_first core k (d.bytes c.args.disk) first))
+    (c.in-Ok.ensures.moments tells only first.stands.super first.stands.batches first.stands.stored (shaped_image (legal_of first))) (left_first core k (d.bytes c.args.disk) first))
 
 -- the heap that was opened is the core that the image stands for
 pub returns-clause-recovers : goal.returns-clause-recovers
@@ -54,20 +55,21 @@ returns-clause-recovers g c = λ tells core k first only same.
     let says = first.stands.says in
     let s = first.stands.super in
     let batches = first.stands.batches in
+    let stored = first.stands.stored in
     let legal = legal_of first in
-    let found = saying_law s batches says.legal says.seen says.shows in
-    let heap = c.in-Ok.ensures.holds tells s batches legal only found.0 found.1 found.2 in
-    let reached = opened_reached s batches says.legal.shaped true found.0 found.1 found.2 in
-    let few = few_commits s batches says.legal in
+    let found = saying_law s batches stored says.legal says.seen says.shows in
+    let heap = c.in-Ok.ensures.holds tells s batches stored legal only found.0 found.1 found.2 in
+    let reached = opened_reached s batches stored says.legal.shaped true found.0 found.1 found.2 in
+    let few = few_commits s batches stored says.legal in
     let count = says.count in
     let since : commits_since c.args.before (min (machine.commits (records_of batches) + 0) greatest) ≡ k = since_before c.args.before core (machine.commits (records_of batches)) k same count first.some few in
-    let moments = subst (λ x. LeavesOnly d.moment d.left_since c.args.disk x (IsLeftByOpening s batches)) (sym c.close.ensures) (c.in-Ok.ensures.moments tells only s batches (shaped_image legal)) in
-    let leaves = λ (left : List ℕ) (may : d.may_leave final left). c.in-Ok.ensures.crash tells only s batches (shaped_image legal) left (subst (λ x. d.may_leave x left) c.close.ensures may) in
+    let moments = subst (λ x. LeavesOnly d.moment d.left_since c.args.disk x (IsLeftByOpening s batches stored)) (sym c.close.ensures) (c.in-Ok.ensures.moments tells only s batches stored (shaped_image legal)) in
+    let leaves = λ (left : List ℕ) (may : d.may_leave final left). c.in-Ok.ensures.crash tells only s batches stored (shaped_image legal) left (subst (λ x. d.may_leave x left) c.close.ensures may) in
     let keeps = keeps_first d core k c.args.disk final first moments leaves (ap d.restarts c.close.ensures ∙ c.in-Ok.ensures.disk.restarts tells) in
     let calls : d.passed final ≡ counted (opening_calls s batches) (d.passed c.args.disk) =
-    ap d.passed c.close.ensures ∙ (c.in-Ok.ensures.passes tells s batches (shaped_image legal)).ok in
+    ap d.passed c.close.ensures ∙ (c.in-Ok.ensures.passes tells s batches stored (shaped_image legal)).ok in
     let last = subst (λ x. Only (d.bytes x) (d.may_leave x)) (sym c.close.ensures) (c.in-Ok.ensures.durable tells only) in
-    let wrote = λ (told : IsTrue sink.tells). c.write_recovered.ensures.wrote told (opened s batches true found.0 found.1) heap.core reached in
+    let wrote = λ (told : IsTrue sink.tells). c.write_recovered.ensures.wrote told (opened s batches stored true found.0 found.1) heap.core reached in
     recovers_first d core k c.args.disk final keeps (FailsToOpen d core k c.status_after-status.result c.args.disk final) c.write_recovered.result c.status_after-status.result _ _ _ c.status_after-status.ensures calls last
     (λ told. subst (λ (t : List ℕ). WroteText c.write_recovered.result (sink.written c.args.sink.now) (recovered_line k ++ t) (sink.written c.write_recovered.new.sink)) (ap canon_text (found.3 ∙ says.graph))
     (subst (λ (n : ℕ). WroteText c.write_recovered.result (sink.written c.args.sink.now) (recovered_line n ++ graph_text found.1) (sink.written c.write_recovered.new.sink)) since (wrote told)))

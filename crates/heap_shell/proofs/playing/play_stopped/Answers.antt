@@ -45,20 +45,20 @@ returns-in-Err-clause-played g c tells stored only =
     let final = fuse_inner fuse in
     let e = c.in-Err.ensures in
     let inner = c.new.ensures.inner in
-    let legal : IsLegal s batches (d.bytes (fuse_inner c.new.result)) = record { log = stored.legal.log; held = subst (λ x. Holds s batches (d.bytes x)) (sym inner) stored.legal.held } in
+    let legal : IsLegal s batches stored.pages (d.bytes (fuse_inner c.new.result)) = record { log = stored.legal.log; held = subst (λ x. Holds s batches stored.pages (d.bytes x)) (sym inner) stored.legal.held } in
     let shaped = shaped_image legal in
     let only_f = subst (λ x. Only (d.bytes x) (d.may_leave x)) (sym inner) only in
     let other : c.in-Err.e ≢ opening.Stopped = search rules in
-    let outside = e.shaped tells s batches shaped in
+    let outside = e.shaped tells s batches stored.pages shaped in
     let origin = e.disk.origin ∙ c.new.ensures.origin in
     let began = same_disk _ _ origin in
     let within = subst (λ m. fuse_passed fuse ≤ m) (same_limit _ _ origin) fuse.within in
-    let passes = subst (λ p. ErrorPasses n p (fuse_passed fuse) c.in-Err.e) c.new.ensures.passed (e.passes tells s batches shaped) in
+    let passes = subst (λ p. ErrorPasses n p (fuse_passed fuse) c.in-Err.e) c.new.ensures.passed (e.passes tells s batches stored.pages shaped) in
     let few : fuse_passed fuse ≤ n = fails_few n (fuse_passed fuse) (few_calls s batches) c.in-Err.e passes in
     let moments = subst (λ x. LeavesOnly d.moment d.left_since x final (IsCommitPrefix (stored_core stored))) inner
-    (stored_moments d stored (fuse_inner c.new.result) final (fuse_since c.new.result fuse _ (e.moments tells only_f s batches shaped))) in
+    (stored_moments d stored (fuse_inner c.new.result) final (fuse_since c.new.result fuse _ (e.moments tells only_f s batches stored.pages shaped))) in
     rw c.into_inner.ensures (ends_unopened d stored (Some c.args.stop) (events c.args.script.now) c.in-Err.e c.from.result start final g.K.Sink.tells (g.K.Sink.written c.args.sink.now) c.from.ensures outside
-    moments (λ image left. stored_keeps d stored image (e.crash tells only_f s batches shaped image left))
+    moments (λ image left. stored_keeps d stored image (e.crash tells only_f s batches stored.pages shaped image left))
     (λ image since. g.met.D.Disk.only_now tells final image since) (e.disk.restarts tells ∙ ap d.restarts inner)
     (λ none. fuse_none fuse start tells began (fails_none n 0 (fuse_passed fuse) c.in-Err.e (ap open_status none) passes))
     (λ some u. u (subst (λ x. Rose (d.faults x + d.stops x) (d.faults final + d.stops final)) inner (open_fault _ _ _ _ c.in-Err.e outside some other e.disk.cause)))
@@ -79,21 +79,21 @@ returns-then-eq-clause-played g c tells stored only =
     let final = c.start_again.result.1 in
     let e = c.in-Err.ensures in
     let inner = c.new.ensures.inner in
-    let legal : IsLegal s batches (d.bytes (fuse_inner c.new.result)) = record { log = stored.legal.log; held = subst (λ x. Holds s batches (d.bytes x)) (sym inner) stored.legal.held } in
+    let legal : IsLegal s batches stored.pages (d.bytes (fuse_inner c.new.result)) = record { log = stored.legal.log; held = subst (λ x. Holds s batches stored.pages (d.bytes x)) (sym inner) stored.legal.held } in
     let shaped = shaped_image legal in
     let only_f = subst (λ x. Only (d.bytes x) (d.may_leave x)) (sym inner) only in
     let is : c.in-Err.e ≡ opening.Stopped = search rules in
     let origin = e.disk.origin ∙ c.new.ensures.origin in
     let began = same_disk _ _ origin in
-    let passes = subst (λ p. ErrorPasses n p (fuse_passed fuse) c.in-Err.e) c.new.ensures.passed (e.passes tells s batches shaped) in
+    let passes = subst (λ p. ErrorPasses n p (fuse_passed fuse) c.in-Err.e) c.new.ensures.passed (e.passes tells s batches stored.pages shaped) in
     let some = rose_some c.new.result.stops fuse.stops e.disk.cause.stops_kept (e.disk.cause.stopped (ap error_device is)) in
-    let any = λ (none : n ≡ 0). some (e.no_first_stop tells s batches shaped (no_rollback (rollback_of s batches) none) c.new.ensures.stops) in
+    let any = λ (none : n ≡ 0). some (e.no_first_stop tells s batches stored.pages shaped (no_rollback (rollback_of s batches) none) c.new.ensures.stops) in
     let less : fuse_passed fuse < n = stops_before n (fuse_passed fuse) (few_calls s batches) any c.in-Err.e is passes in
     let blown = fuse.blown some ∙ same_limit _ _ origin in
     let short : c.args.stop.after < n = omega (arith, less, blown) in
     let moments = subst (λ x. LeavesOnly d.moment d.left_since x stopped (IsCommitPrefix first)) inner
-    (stored_moments d stored (fuse_inner c.new.result) stopped (fuse_since c.new.result fuse _ (e.moments tells only_f s batches shaped))) in
-    let left : (image : List ℕ) → d.may_leave stopped image → IsCommitPrefix first image = λ image may. stored_keeps d stored image (e.crash tells only_f s batches shaped image may) in
+    (stored_moments d stored (fuse_inner c.new.result) stopped (fuse_since c.new.result fuse _ (e.moments tells only_f s batches stored.pages shaped))) in
+    let left : (image : List ℕ) → d.may_leave stopped image → IsCommitPrefix first image = λ image may. stored_keeps d stored image (e.crash tells only_f s batches stored.pages shaped image may) in
     let back = c.start_again.ensures.recovers tells first left refl in
     ends_stopped d stored c.args.stop stopped final back.0 c.start_again.result.0 k.tells (k.written c.args.sink.now) (k.written c.start_again.new.sink) (events c.args.script.now) start moments left
     (c.start_again.ensures.moments tells first left) (e.disk.restarts tells ∙ ap d.restarts inner) short
@@ -118,12 +118,12 @@ returns-in-None-clause-played g c tells stored only =
     let start = c.args.disk in
     let e = c.in-Ok.ensures in
     let inner = c.new.ensures.inner in
-    let legal : IsLegal s batches (d.bytes (fuse_inner c.new.result)) = record { log = stored.legal.log; held = subst (λ x. Holds s batches (d.bytes x)) (sym inner) stored.legal.held } in
+    let legal : IsLegal s batches stored.pages (d.bytes (fuse_inner c.new.result)) = record { log = stored.legal.log; held = subst (λ x. Holds s batches stored.pages (d.bytes x)) (sym inner) stored.legal.held } in
     let shaped = shaped_image legal in
     let only_f = subst (λ x. Only (d.bytes x) (d.may_leave x)) (sym inner) only in
     let running = stored_running d stored in
     let playable = all_playable (Some c.args.stop.after) first c.args.script.now c.requires in
-    let heap = e.holds tells s batches legal only_f stored.places stored.graph stored.found in
+    let heap = e.holds tells s batches stored.pages legal only_f stored.places stored.graph stored.found in
     let plays = c.play_lines-played.ensures.plays tells s first heap running in
     let keep = kept s first running refl es playable old new k.tells before after c.play_lines-played.result plays in
     let stopped = fuse_inner new.disk in
@@ -140,7 +140,7 @@ returns-in-None-clause-played g c tells stored only =
     let at_start = subst (λ x. d.faults x + d.stops x ≤ d.faults (fuse_inner old.disk) + d.stops (fuse_inner old.disk)) inner e.disk.cause.faults_kept in
     let unrisen = λ (unharmed : Unharmed d start final) (rose : Rose (d.faults (fuse_inner old.disk) + d.stops (fuse_inner old.disk)) (d.faults stopped + d.stops stopped)). unharmed (rose_within _ _ _ _ at_start c.play_lines-played.ensures.disk.cause.faults_kept kept_on rose) in
     let few = few_calls s batches in
-    let passed : fuse_passed old.disk ≡ n = whole_count n (fuse_passed old.disk) few ((e.passes tells s batches shaped).ok ∙ ap (counted n) c.new.ensures.passed) in
+    let passed : fuse_passed old.disk ≡ n = whole_count n (fuse_passed old.disk) few ((e.passes tells s batches stored.pages shaped).ok ∙ ap (counted n) c.new.ensures.passed) in
     let at_limit : new.disk.stops ≢ 0 → fuse_passed new.disk ≡ c.args.stop.after = λ blown. new.disk.blown blown ∙ limit in
     let exact : Unharmed d start final → IsExact (Some c.args.stop.after) n first plays.made plays.core = λ u. exact_some s first running refl es playable old new k.tells before after c.play_lines-played.result plays c.args.stop.after n few passed within at_limit (unrisen u) in
     let through = min c.args.stop.after (n + total_calls first plays.made) in
@@ -170,8 +170,8 @@ returns-in-None-clause-played g c tells stored only =
     let keeps : KeepsThroughout d (Some c.args.stop.after) n first plays.made plays.core start final = record {
       opened = fuse_inner old.disk;
       opening = subst (λ x. LeavesOnly d.moment d.left_since x (fuse_inner old.disk) (IsCommitPrefix first)) inner
-          (stored_moments d stored (fuse_inner c.new.result) (fuse_inner old.disk) (fuse_since c.new.result old.disk _ (e.moments tells only_f s batches shaped)));
-      here = λ image may. stored_keeps d stored image (e.crash tells only_f s batches shaped image may);
+          (stored_moments d stored (fuse_inner c.new.result) (fuse_inner old.disk) (fuse_since c.new.result old.disk _ (e.moments tells only_f s batches stored.pages shaped)));
+      here = λ image may. stored_keeps d stored image (e.crash tells only_f s batches stored.pages shaped image may);
       passed = λ u some. fuse_passes old.disk start n tells began_old (λ rose. calm u (rose_until _ _ _ c.play_lines-played.ensures.disk.cause.faults_kept rose)) passed;
       few = fuse_most old.disk start n tells began_old (omega (arith, passed));
       restarts = e.disk.restarts tells ∙ ap d.restarts inner;
@@ -200,12 +200,12 @@ returns-in-Some-clause-played g c tells stored only =
     let start = c.args.disk in
     let e = c.in-Ok.ensures in
     let inner = c.new.ensures.inner in
-    let legal : IsLegal s batches (d.bytes (fuse_inner c.new.result)) = record { log = stored.legal.log; held = subst (λ x. Holds s batches (d.bytes x)) (sym inner) stored.legal.held } in
+    let legal : IsLegal s batches stored.pages (d.bytes (fuse_inner c.new.result)) = record { log = stored.legal.log; held = subst (λ x. Holds s batches stored.pages (d.bytes x)) (sym inner) stored.legal.held } in
     let shaped = shaped_image legal in
     let only_f = subst (λ x. Only (d.bytes x) (d.may_leave x)) (sym inner) only in
     let running = stored_running d stored in
     let playable = all_playable (Some c.args.stop.after) first c.args.script.now c.requires in
-    let heap = e.holds tells s batches legal only_f stored.places stored.graph stored.found in
+    let heap = e.holds tells s batches stored.pages legal only_f stored.places stored.graph stored.found in
     let plays = c.play_lines-played.ensures.plays tells s first heap running in
     let keep = kept s first running refl es playable old new k.tells before after c.play_lines-played.result plays in
     let final = fuse_inner new.disk in
@@ -218,7 +218,7 @@ returns-in-Some-clause-played g c tells stored only =
     let at_start = subst (λ x. d.faults x + d.stops x ≤ d.faults (fuse_inner old.disk) + d.stops (fuse_inner old.disk)) inner e.disk.cause.faults_kept in
     let unrisen = λ (unharmed : Unharmed d start final) (rose : Rose (d.faults (fuse_inner old.disk) + d.stops (fuse_inner old.disk)) (d.faults final + d.stops final)). unharmed (rose_within _ _ _ _ at_start c.play_lines-played.ensures.disk.cause.faults_kept (omega arith) rose) in
     let few = few_calls s batches in
-    let passed : fuse_passed old.disk ≡ n = whole_count n (fuse_passed old.disk) few ((e.passes tells s batches shaped).ok ∙ ap (counted n) c.new.ensures.passed) in
+    let passed : fuse_passed old.disk ≡ n = whole_count n (fuse_passed old.disk) few ((e.passes tells s batches stored.pages shaped).ok ∙ ap (counted n) c.new.ensures.passed) in
     let at_limit : new.disk.stops ≢ 0 → fuse_passed new.disk ≡ c.args.stop.after = λ blown. new.disk.blown blown ∙ limit in
     let exact : Unharmed d start final → IsExact (Some c.args.stop.after) n first plays.made plays.core = λ u. exact_some s first running refl es playable old new k.tells before after c.play_lines-played.result plays c.args.stop.after n few passed within at_limit (unrisen u) in
     let through = min c.args.stop.after (n + total_calls first plays.made) in
@@ -240,8 +240,8 @@ returns-in-Some-clause-played g c tells stored only =
     let keeps : KeepsThroughout d (Some c.args.stop.after) n first plays.made plays.core start final = record {
       opened = fuse_inner old.disk;
       opening = subst (λ x. LeavesOnly d.moment d.left_since x (fuse_inner old.disk) (IsCommitPrefix first)) inner
-          (stored_moments d stored (fuse_inner c.new.result) (fuse_inner old.disk) (fuse_since c.new.result old.disk _ (e.moments tells only_f s batches shaped)));
-      here = λ image may. stored_keeps d stored image (e.crash tells only_f s batches shaped image may);
+          (stored_moments d stored (fuse_inner c.new.result) (fuse_inner old.disk) (fuse_since c.new.result old.disk _ (e.moments tells only_f s batches stored.pages shaped)));
+      here = λ image may. stored_keeps d stored image (e.crash tells only_f s batches stored.pages shaped image may);
       passed = λ u some. fuse_passes old.disk start n tells began_old (λ rose. calm u (rose_until _ _ _ c.play_lines-played.ensures.disk.cause.faults_kept rose)) passed;
       few = fuse_most old.disk start n tells began_old (omega (arith, passed));
       restarts = e.disk.restarts tells ∙ ap d.restarts inner;

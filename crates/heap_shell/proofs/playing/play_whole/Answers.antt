@@ -26,14 +26,14 @@ returns-in-Err-clause-played g c tells stored only =
     let d = g.D.Disk in
     let e = c.in-Err.ensures in
     let shaped = shaped_image stored.legal in
-    let passes = e.passes tells stored.super stored.batches shaped in
-    let outside = e.shaped tells stored.super stored.batches shaped in
+    let passes = e.passes tells stored.super stored.batches stored.pages shaped in
+    let outside = e.shaped tells stored.super stored.batches stored.pages shaped in
     let few = fails_most (stored_calls stored) (d.passed c.args.disk) (d.passed c.in-Err.disk) c.in-Err.e passes in
     let most = counted_mono few.0 (stored_calls stored) (d.passed c.args.disk) few.1 in
     let total = counted_mono few.0 (stored_calls stored + 0) (d.passed c.args.disk) (omega (arith, few.1)) in
     ends_unopened d stored None (all_events None (stored_core stored) (events c.args.script.now)) c.in-Err.e c.from.result c.args.disk c.in-Err.disk g.K.Sink.tells (g.K.Sink.written c.args.sink.now) c.from.ensures outside
-    (stored_moments d stored c.args.disk c.in-Err.disk (e.moments tells only stored.super stored.batches shaped))
-    (λ image left. stored_keeps d stored image (e.crash tells only stored.super stored.batches shaped image left))
+    (stored_moments d stored c.args.disk c.in-Err.disk (e.moments tells only stored.super stored.batches stored.pages shaped))
+    (λ image left. stored_keeps d stored image (e.crash tells only stored.super stored.batches stored.pages shaped image left))
     (λ image since. g.met.D.Disk.only_now tells c.in-Err.disk image since) (e.disk.restarts tells)
     (λ none. fails_none (stored_calls stored) (d.passed c.args.disk) (d.passed c.in-Err.disk) c.in-Err.e (ap open_status none) passes)
     (λ other u. u (open_harm _ _ _ _ c.in-Err.e outside other e.disk.cause))
@@ -55,18 +55,18 @@ returns-in-Ok-play_all-clause-played g c tells stored only =
     let before = k.written c.args.sink.now in
     let after = k.written c.play_all.new.sink in
     let e = c.in-Ok.ensures in
-    let plays = c.in-Ok-play_all.ensures.plays tells s first (e.holds tells s stored.batches stored.legal only stored.places stored.graph stored.found) running in
+    let plays = c.in-Ok-play_all.ensures.plays tells s first (e.holds tells s stored.batches stored.pages stored.legal only stored.places stored.graph stored.found) running in
     let whole = plays.ends in
-    let passed : d.passed old.disk ≡ counted n (d.passed c.args.disk) = (e.passes tells s stored.batches shaped).ok in
+    let passed : d.passed old.disk ≡ counted n (d.passed c.args.disk) = (e.passes tells s stored.batches stored.pages shaped).ok in
     let keeps = keeps_own s first running refl es playable old new k.tells before after (Ok tt) plays tells n c.args.disk (λ disk image since. g.met.D.Disk.only_now tells disk image since)
-    (stored_moments d stored c.args.disk old.disk (e.moments tells only s stored.batches shaped)) (λ image left. stored_keeps d stored image (e.crash tells only s stored.batches shaped image left)) passed (e.disk.restarts tells) in
+    (stored_moments d stored c.args.disk old.disk (e.moments tells only s stored.batches stored.pages shaped)) (λ image left. stored_keeps d stored image (e.crash tells only s stored.batches stored.pages shaped image left)) passed (e.disk.restarts tells) in
     let all = total_calls first plays.made in
     let calls : d.passed new.disk ≡ counted (n + all) (d.passed c.args.disk) = whole.1.passes ∙ ap (counted all) passed ∙ counted-add all n (d.passed c.args.disk) in
     rw (c.close.ensures, c.status_after-status.ensures) (ends_whole s first running refl es playable old new k.tells before after (Ok tt) plays d c.args.disk new.disk n keeps
     c.write_graph.result (k.written c.write_graph.new.sink) whole.0 whole.1.reached
     (lines_wrote s first running refl es playable old new k.tells before after (Ok tt) plays (Ok tt) refl)
     (λ t. c.write_graph.ensures.wrote t plays.core plays.heap.core (run_reached s first running refl es playable old new k.tells before after (Ok tt) plays).1) refl calls
-    (unfailed_only s first running refl es playable old new k.tells before after (Ok tt) plays (sym plays.heap.core.memory.failure ∙ played_unfailed first c.args.script.now new k.tells before after running c.requires (c.in-Ok-play_all.ensures.core first (e.holds tells s stored.batches stored.legal only stored.places stored.graph stored.found).core running))))
+    (unfailed_only s first running refl es playable old new k.tells before after (Ok tt) plays (sym plays.heap.core.memory.failure ∙ played_unfailed first c.args.script.now new k.tells before after running c.requires (c.in-Ok-play_all.ensures.core first (e.holds tells s stored.batches stored.pages stored.legal only stored.places stored.graph stored.found).core running))))
 
 pub returns-in-Err-play_all-clause-played : goal.returns-in-Err-play_all-clause-played
 returns-in-Err-play_all-clause-played g c tells stored only =
@@ -87,10 +87,10 @@ returns-in-Err-play_all-clause-played g c tells stored only =
     let e = c.in-Ok.ensures in
     let unharmed = λ (u : Unharmed d c.args.disk new.disk) (rose : DiskRose (d.faults old.disk) (d.stops old.disk) (d.faults new.disk) (d.stops new.disk)).
     u (disk_rose_since _ _ _ _ _ _ e.disk.cause.faults_kept e.disk.cause.stops_kept c.play_all.ensures.disk.cause.faults_kept c.play_all.ensures.disk.cause.stops_kept rose) in
-    let plays = c.in-Err-play_all.ensures.plays tells s first (e.holds tells s stored.batches stored.legal only stored.places stored.graph stored.found) running in
-    let passed : d.passed old.disk ≡ counted n (d.passed c.args.disk) = (e.passes tells s stored.batches shaped).ok in
+    let plays = c.in-Err-play_all.ensures.plays tells s first (e.holds tells s stored.batches stored.pages stored.legal only stored.places stored.graph stored.found) running in
+    let passed : d.passed old.disk ≡ counted n (d.passed c.args.disk) = (e.passes tells s stored.batches stored.pages shaped).ok in
     let keeps = keeps_own s first running refl es playable old new k.tells before after (Err h) plays tells n c.args.disk (λ disk image since. g.met.D.Disk.only_now tells disk image since)
-    (stored_moments d stored c.args.disk old.disk (e.moments tells only s stored.batches shaped)) (λ image left. stored_keeps d stored image (e.crash tells only s stored.batches shaped image left)) passed (e.disk.restarts tells) in
+    (stored_moments d stored c.args.disk old.disk (e.moments tells only s stored.batches stored.pages shaped)) (λ image left. stored_keeps d stored image (e.crash tells only s stored.batches stored.pages shaped image left)) passed (e.disk.restarts tells) in
     let all = total_calls first plays.made in
     let sum = counted-add all n (d.passed c.args.disk) in
     let whole = λ (u : Unharmed d c.args.disk new.disk). exact_passes s first running refl es playable old new k.tells before after (Err h) plays (unharmed u) ∙ ap (counted all) passed ∙ sum in

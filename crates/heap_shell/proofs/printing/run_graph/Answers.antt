@@ -15,22 +15,22 @@ use Rattle.heap_shell.proofs.RunLaws.{end_sound}
 use Rattle.heap_shell.proofs.printing.run_graph.Goals as goal
 
 pub returns-in-Ok-clause-graph : goal.returns-in-Ok-clause-graph
-returns-in-Ok-clause-graph g c tells only s batches shaped born places graph found =
+returns-in-Ok-clause-graph g c tells only s batches stored shaped born places graph found =
     let d = g.D.Disk in
     let k = g.K.Sink in
     let e = c.in-Ok.ensures in
-    let core = opened s batches born places graph in
-    let is = e.found tells s batches shaped born places graph found in
-    let reached = opened_reached s batches shaped.log born places graph found in
+    let core = opened s batches stored born places graph in
+    let is = e.found tells s batches stored shaped born places graph found in
+    let reached = opened_reached s batches stored shaped.log born places graph found in
     let before = k.written c.args.sink.now in
     let after = k.written c.write_graph.new.sink in
-    let passed : d.passed c.in-Ok.heap.disk ≡ counted (opening_calls s batches) (d.passed c.args.disk) = (e.passes tells s batches shaped).ok in
+    let passed : d.passed c.in-Ok.heap.disk ≡ counted (opening_calls s batches) (d.passed c.args.disk) = (e.passes tells s batches stored shaped).ok in
     rw (c.close.ensures, c.status_after-status.ensures) (record {
-      moments = e.moments tells only s batches shaped;
-      left = e.crash tells only s batches shaped;
+      moments = e.moments tells only s batches stored shaped;
+      left = e.crash tells only s batches stored shaped;
       calls = record { times = opening_calls s batches; most = omega arith; all = λ done. refl; told = passed };
       restarts = e.disk.restarts tells;
-      holds = λ done. (e.rolled tells s batches shaped, e.durable tells only);
+      holds = λ done. (e.rolled tells s batches stored shaped, e.durable tells only);
       written = λ t. record {
         front = wrote_some c.write_graph.result before (graph_text graph) after (c.write_graph.ensures.wrote t core is reached);
         whole = λ done. wrote_all c.write_graph.result before (graph_text graph) after done (c.write_graph.ensures.wrote t core is reached);
@@ -39,19 +39,19 @@ returns-in-Ok-clause-graph g c tells only s batches shaped born places graph fou
     })
 
 pub returns-in-Err-clause-graph : goal.returns-in-Err-clause-graph
-returns-in-Err-clause-graph g c tells only s batches shaped born places graph found =
+returns-in-Err-clause-graph g c tells only s batches stored shaped born places graph found =
     let d = g.D.Disk in
     let k = g.K.Sink in
     let e = c.in-Err.ensures in
-    let most = fails_most (opening_calls s batches) (d.passed c.args.disk) (d.passed c.in-Err.disk) c.in-Err.e (e.passes tells s batches shaped) in
+    let most = fails_most (opening_calls s batches) (d.passed c.args.disk) (d.passed c.in-Err.disk) c.in-Err.e (e.passes tells s batches stored shaped) in
     rw c.from.ensures (record {
-      moments = e.moments tells only s batches shaped;
-      left = e.crash tells only s batches shaped;
+      moments = e.moments tells only s batches stored shaped;
+      left = e.crash tells only s batches stored shaped;
       calls = record { times = most.0; most = most.1; all = λ done. absurd (open_not_done c.in-Err.e done); told = most.2 };
       restarts = e.disk.restarts tells;
       holds = λ done. absurd (open_not_done c.in-Err.e done);
       written = λ t. record { front = none_written (k.written c.args.sink.now) (graph_text graph); whole = λ done. absurd (open_not_done c.in-Err.e done) };
-      end = open_end c.in-Err.e (e.shaped tells s batches shaped);
+      end = open_end c.in-Err.e (e.shaped tells s batches stored shaped);
     })
 
 pub returns-in-Ok-clause-prints : goal.returns-in-Ok-clause-prints
