@@ -257,7 +257,7 @@ pub record IsNew (c : Core) : Type 0 where
 
 pub opened_core : {D : Type 0} {g : Ghosts D} (heap : Heap D g)
     → (s : Super) × (batches : List (List Record)) × (stored : Pages) × (shaped : IsShapedLog s batches stored)
-        × ((born : Bool) (places : Places) (graph : Graph) → IsFound s batches stored shaped born places graph → IsCore (opened s batches stored born places graph) heap)
+    × ((born : Bool) (places : Places) (graph : Graph) → IsFound s batches stored shaped born places graph → IsCore (opened s batches stored born places graph) heap)
     → (c : Core) × IsNew c × IsCore c heap
 opened_core heap is =
     let found = address_found is.0 is.1 is.2 is.3 in
