@@ -1,5 +1,5 @@
 -- A force, and what the disk holds behind an event.
-use Rattle.std.proofs.Common.{lit<, ◌<◌, ◌≡◌, ◌≢◌, ◌⊎◌, inl, inr, ℕ, ◌+◌, List, [], ◌∷◌, ◌++◌, length, Option, Some, None, Result, Ok, Err, is_some, refl, sym, ap, ◌∙◌, subst, ⊎_elim}
+use Rattle.std.proofs.Common.{lit<, ◌<◌, ◌≡◌, ◌≢◌, ◌⊎◌, inl, inr, ℕ, ◌+◌, max, List, [], ◌∷◌, ◌++◌, length, Option, Some, None, Result, Ok, Err, is_some, refl, sym, ap, ◌∙◌, subst, ⊎_elim}
 use Rattle.std.specs.Prelude.{IsTrue}
 use Rattle.std.proofs.lemmas.List.{append-nil}
 use Rattle.disk_model.specs.Disk.{part, Only, SameOutside}
@@ -31,8 +31,8 @@ use Rattle.image_plan.specs.declared.superblock.Super.{Super}
 use Rattle.log_records.specs.declared.Record.{Record}
 use Rattle.log_records.specs.Record.{spellings}
 use Rattle.page_redo.specs.Pages.{Pages}
-use Rattle.page_cache.specs.CacheState.{cached}
-use Rattle.heap_model.specs.Core.{Core, ground, all_words, state_behind, next_number, core_refusal, answer, with_entry, after_refusal, after, force_calls}
+use Rattle.page_cache.specs.CacheState.{cache_store}
+use Rattle.heap_model.specs.Core.{Core, all_words, next_number, core_refusal, answer, with_entry, done, after_refusal, after, force_calls}
 use Rattle.heap_model.specs.CoreCrash.{IsLogged, IsSuperOf, IsOnDisk, IsCommitPrefix}
 use Rattle.heap_model.specs.CoreLawsRoom.{forced-with_batch, records_of-with_batch}
 use Rattle.heap_model.specs.CoreLawsHeld.{held_with}
@@ -43,9 +43,9 @@ use Rattle.heap_core.specs.Refinement.{OnDisk, Remembers, DiskHolds, Steps, Step
 use Rattle.heap_core.proofs.RefinementLeft.{keeps_refused, keeps_cut}
 use Rattle.memory_laws.specs.LogLaws.{keeps_same}
 use Rattle.heap_memory.specs.Memory.{Memory}
-use Rattle.memory_laws.specs.CoreMemory.{AreHeld, IsMemory, Does, kept_of}
-use Rattle.memory_laws.specs.LockLaws.{held_alike}
-use Rattle.memory_laws.specs.Answered.{does, as_it_was}
+use Rattle.memory_laws.specs.CoreMemory.{IsMemory, Does}
+use Rattle.memory_laws.specs.Answered.{does, as_it_was, memory_told}
+use Rattle.memory_laws.specs.StepDisk.{HasSameWork, forced_memory}
 use Rattle.heap_memory.specs.Leaves.{IsAsItWas}
 use Rattle.heap_core.proofs.RefinementMemory.{is_some_own}
 use Rattle.object_locks.specs.Holdings.{Holdings}
@@ -53,33 +53,15 @@ use Rattle.txn_table.specs.Table.{TableState, transaction_of}
 use Rattle.working_state.specs.declared.working.Working.{Working}
 use Rattle.working_state.specs.State.{memory}
 
-records_forced : (bs : List (List Record)) (p : List Record) → records_of (with_batch bs p) ++ [] ≡ records_of bs ++ p
-records_forced bs p = append-nil (records_of (with_batch bs p)) ∙ records_of-with_batch bs p
-
 -- what waited is on the disk
 pub force_does : (m new : Memory) (c : Core) (reply : Reply) → IsValid c → IsMemory m (account c.history) c → Keeps new.log (with_batch c.batches c.pending) []
-    → log_place new.log ≡ log_place m.log → log_room new.log ≡ log_room m.log → new.words ≡ m.words → new.spaces ≡ m.spaces → new.table ≡ m.table → new.locks ≡ m.locks → new.sealed ≡ m.sealed → reply ≡ Durable m.sealed
+    → log_place new.log ≡ log_place m.log → log_room new.log ≡ log_room m.log → HasSameWork m new → new.store ≡ m.store → reply ≡ Durable m.sealed
     → Does c Force reply new
-force_does m new c reply valid is keeps at room stored spaces table locks sealed replied =
+force_does m new c reply valid is keeps at room same store replied =
     let a = account c.history in
-    let same = records_forced c.batches c.pending in
-    let d = record c { batches = with_batch c.batches c.pending; words = all_words c; pending = [] } in
-    let here : ground d ≡ ground c = ap (λ rs. record { places = c.places; words = all_words c; state = state_behind c rs }) same in
-    let P : Core → Type 0 = λ d. IsMemory new (account_after a (record { event = Force; reply = Durable (length a.sealed) })) d in
+    let forced = forced_memory m new a c is keeps at room same store in
     does c Force None (Durable m.sealed) reply new (force_granted c valid) replied (λ e. ap Durable (sym is.sealed))
-    (λ e granted. subst P (sym (forced-with_batch c)) (record {
-      log = keeps;
-      place = at ∙ is.place;
-      room = room ∙ is.room;
-      stored = stored ∙ is.stored;
-      state = is.state;
-      reached = ap (state_behind c) same ∙ is.reached;
-      spaces = spaces ∙ is.spaces;
-      transactions = λ s. ap (λ (t : TableState). transaction_of t s) table ∙ is.transactions s ∙ ap (λ h. kept_of h c.g0 a (a.active s)) (sym here);
-      locks = held_alike new.locks c.places c.g0 a _ refl refl (subst (λ (l : Holdings). AreHeld l c.places c.g0 a) (sym locks) is.locks);
-      next = ap (λ t. t.next) table ∙ is.next;
-      sealed = sealed ∙ is.sealed;
-    }))
+    (λ e granted. memory_told new a (done c Force) (max a.acknowledged (length a.sealed)) (a.entries + 1) forced)
     (λ why refused. let never : Durable m.sealed ≡ Refused why = sym replied ∙ refused in cc never)
 
 -- another history, and other records, are of a heap with the same numbers
@@ -251,11 +233,11 @@ module _ (c : Core) (w : Working) (log : Log) (works : IsMemory (memory w) (acco
 
   -- a force that the disk did
   abbrev pub ok_steps : (new : Working) (reply : Reply) (failed : Option ℕ) → IsValid c → RunsLocked c.g0 c.first c.history → failed ≡ None → Keeps new.log (with_batch c.batches c.pending) []
-      → log_place new.log ≡ log_place log → log_room new.log ≡ log_room log → (cached new.cache).words ≡ (cached w.cache).words → new.spaces ≡ w.spaces → new.table ≡ w.table → new.locks ≡ w.locks → new.sealed ≡ w.sealed → reply ≡ Durable w.sealed
+      → log_place new.log ≡ log_place log → log_room new.log ≡ log_room log → HasSameWork (memory w) (memory new) → cache_store new.cache ≡ cache_store w.cache → reply ≡ Durable w.sealed
       → Steps c Force reply new failed
-  ok_steps new reply failed valid runs none kept new_at new_room stored spaces table locks sealed replied =
+  ok_steps new reply failed valid runs none kept new_at new_room work store replied =
       whole_steps c Force reply new failed (valid_after c Force valid runs tt) none
-      (force_does (memory w) (memory new) c reply valid works kept (new_at ∙ same.place.at) (new_room ∙ same.place.room) stored spaces table locks sealed replied)
+      (force_does (memory w) (memory new) c reply valid works kept (new_at ∙ same.place.at) (new_room ∙ same.place.room) work store replied)
 
   -- and one that it cut short
   abbrev pub err_steps : (new : Working) (reply : Reply) (entries : ℕ) (result : Result (Unit {0}) DiskError) (e : DiskError) (now : Option ℕ) → IsValid c
@@ -281,10 +263,10 @@ module _ (c : Core) (w : Working) (log : Log) (works : IsMemory (memory w) (acco
 
     pub ok_on : (image : List ℕ) (may_leave : List ℕ → Type 0) (reply : Reply) (new : Working) (failed : Option ℕ) → IsValid c → RunsLocked c.g0 c.first c.history → failed ≡ None → Keeps new.log (with_batch c.batches c.pending) []
         → HoldsBatches (part image (log_place log) (log_room log)) (with_batch c.batches c.pending) → SameOutside (log_place log) (log_place log + log_room log) old image → Only image may_leave
-        → log_place new.log ≡ log_place log → log_room new.log ≡ log_room log → (cached new.cache).words ≡ (cached w.cache).words → new.spaces ≡ w.spaces → new.table ≡ w.table → new.locks ≡ w.locks → new.sealed ≡ w.sealed → reply ≡ Durable w.sealed
+        → log_place new.log ≡ log_place log → log_room new.log ≡ log_room log → HasSameWork (memory w) (memory new) → cache_store new.cache ≡ cache_store w.cache → reply ≡ Durable w.sealed
         → StepsOn s c Force reply new failed image may_leave
-    ok_on image may_leave reply new failed valid runs none kept held outside only new_at new_room stored spaces table locks sealed replied = record {
-      steps = ok_steps new reply failed valid runs none kept new_at new_room stored spaces table locks sealed replied;
+    ok_on image may_leave reply new failed valid runs none kept held outside only new_at new_room work store replied = record {
+      steps = ok_steps new reply failed valid runs none kept new_at new_room work store replied;
       disk = record {
         born = born_after c Force born;
         unfailed = λ e. disk_forced s c old image may_have_left may_leave valid disk

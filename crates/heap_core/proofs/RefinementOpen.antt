@@ -1,5 +1,5 @@
 -- A heap that has just been opened.
-use Rattle.std.proofs.Common.{◌≡◌, inl, ℕ, ◌+◌, ◌≤◌, Bool, true, false, List, length, None, is_some, refl, sym, ap, ◌∙◌, arith}
+use Rattle.std.proofs.Common.{◌≡◌, inl, ℕ, ◌+◌, ◌<◌, ◌≤◌, max, get_or, Bool, true, false, List, length, None, is_some, refl, sym, ap, ◌∙◌, arith}
 use Rattle.std.specs.FinMap.{get-empty}
 use Rattle.std.specs.FinSet as set
 use Rattle.std.specs.FinSet.{contains-empty}
@@ -16,11 +16,13 @@ use Rattle.log_records.specs.declared.Record.{Record}
 use Rattle.log_machine.specs.AbortLaws.{settled}
 use Rattle.log_machine.specs.Machine.{start, words_in}
 use Rattle.log_machine.specs.StateLaws.{leads_after_all, room_after_all}
-use Rattle.page_redo.specs.Pages.{Pages, lsn_of}
+use Rattle.page_redo.specs.Pages.{Pages, pages_in, lsn_of}
 use Rattle.page_redo.specs.PrefixLaws.{redone-words}
-use Rattle.page_redo.specs.Redo.{EachLacks}
-use Rattle.page_redo.specs.RedoLaws.{EachLacks-redone}
-use Rattle.page_cache.specs.CacheState.{cached}
+use Rattle.page_redo.specs.Redo.{EachLacks, last_lsn}
+use Rattle.page_redo.specs.RedoLaws.{EachLacks-redone, lsns-redo_all, lsn-redo_all}
+use Rattle.page_cache.specs.CacheState.{cached, cache_store}
+use Rattle.page_store.specs.declared.store.PageStore.{PageStore}
+use Rattle.page_store.specs.StoreState.{stored_lsn}
 use Rattle.graph_words.specs.Places.{Places}
 use Rattle.heap_model.specs.CoreCrash.{IsLogged}
 use Rattle.heap_model.specs.CoreLawsOpening.{next_is, rolled_reached, redone_words-rolled_back, length-rolled_words, rolled_behind, rolled_prefixes}
@@ -47,6 +49,17 @@ words_found : (s : Super) (batches : List (List Record)) (stored : Pages) (found
     → (cached found.cache).words ≡ rolled_words s batches stored
 words_found s batches stored found shaped recovered = ap (λ (at : Pages). at.words) recovered.cached ∙ redone_words-rolled_back s batches stored shaped
 
+-- the LSNs in memory are those behind the opening
+lsns_found : (s : Super) (batches : List (List Record)) (stored : Pages) (found : Recovered) → IsShapedLog s batches stored → IsRecovered s batches stored found
+    → length (cached found.cache).lsns ≡ pages_in s.pages
+lsns_found s batches stored found shaped recovered =
+    ap (λ (at : Pages). length at.lsns) recovered.cached ∙ lsns-redo_all 1 stored (records_of (rolled_back s batches)) ∙ shaped.lsns_size
+
+lsn_found : (s : Super) (batches : List (List Record)) (stored : Pages) (found : Recovered) → IsShapedLog s batches stored → IsRecovered s batches stored found
+    → (p : ℕ) → p < pages_in s.pages → lsn_of (cached found.cache) p ≡ max (lsn_of stored p) (last_lsn p 1 (records_of (rolled_back s batches)))
+lsn_found s batches stored found shaped recovered p lt =
+    ap (λ (at : Pages). lsn_of at p) recovered.cached ∙ lsn-redo_all 1 stored (records_of (rolled_back s batches)) p (omega (arith, shaped.lsns_size))
+
 -- no page has a record that the log lacks
 next_is_new : (s : Super) (batches : List (List Record)) (stored : Pages) (found : Recovered) → IsShapedLog s batches stored → IsRecovered s batches stored found
     → EachLacks (log_count found.log + 1) (cached found.cache)
@@ -67,21 +80,25 @@ none_held locks places g is h = (
   λ held. let never = held.active in cc never,
 )
 
--- What a heap just opened keeps in memory: the log and the words that were found, a space of which the objects' words are taken, no
+-- What a heap just opened keeps in memory: the log and the pages that were found, a space of which the objects' words are taken, no
 -- transaction, and no lock.
 pub record IsFresh (found : Recovered) (m : Memory) : Type 0 where
   pub log : m.log ≡ found.log
   pub words : m.words ≡ (cached found.cache).words
+  pub lsns : m.lsns ≡ (cached found.cache).lsns
+  pub store : m.store ≡ cache_store found.cache
   pub spaces : m.spaces ≡ record { pages = found.pages; base = 0; used = found.used; owed = 0 }
   pub table : m.table ≡ new_table found.next
   pub locks : m.locks ≡ set.empty
   pub sealed : m.sealed ≡ 0
 
-pub is_fresh : (found : Recovered) (spaces : SpacesState) (table first : TableState) (m : Memory) → m ≡ state.opened found.log (cached found.cache).words spaces table.next
+pub is_fresh : (found : Recovered) (spaces : SpacesState) (table first : TableState) (m : Memory) → m ≡ state.opened found.log found.cache spaces table.next
     → spaces ≡ record { pages = found.pages; base = 0; used = found.used; owed = 0 } → table ≡ record { next = found.next; active = first.active } → IsFresh found m
 is_fresh found spaces table first m is space transactions = record {
   log = ap (λ x. x.log) is;
   words = ap (λ x. x.words) is;
+  lsns = ap (λ x. x.lsns) is;
+  store = ap (λ x. x.store) is;
   spaces = ap (λ x. x.spaces) is ∙ space;
   table = ap (λ x. x.table) is ∙ ap (λ t. new_table t.next) transactions;
   locks = ap (λ x. x.locks) is;
@@ -100,6 +117,9 @@ fresh_memory s batches stored born places g found m shaped recovered fresh =
       place = rw fresh.log recovered.place;
       room = rw fresh.log recovered.room;
       stored = fresh.words ∙ words_found s batches stored found shaped recovered;
+      pages = ap (λ (l : List ℕ). length l) fresh.lsns ∙ lsns_found s batches stored found shaped recovered;
+      lsns = λ p lt. ap (λ (l : List ℕ). get_or l p 0) fresh.lsns ∙ lsn_found s batches stored found shaped recovered p lt ∙ ap (λ (rs : List Record). max (lsn_of stored p) (last_lsn p 1 rs)) (sym none);
+      flushed = λ p lt. ap (λ (x : PageStore). stored_lsn x p) fresh.store ∙ recovered.flushed p lt;
       state = settled shaped.state;
       reached = ap (state_behind c) none ∙ rolled_reached s batches stored shaped;
       spaces = fresh.spaces ∙ ap (λ n. record { pages = n; base = 0; used = found.used; owed = 0 }) (recovered.pages ∙ sym to.pages)

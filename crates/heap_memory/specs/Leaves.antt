@@ -2,13 +2,15 @@
 use Rattle.std.specs.Prelude.{◌≡◌, ℕ, ◌+◌, List, [], ◌∷◌, ◌++◌, length, Option, Some, Ok, slice_set, slice_index, fold}
 use Rattle.std.specs.FinSet as set
 use Rattle.gated_log.specs.declared.Log.{Log}
-use Rattle.gated_log.specs.LogState.{IsPlaced, IsSameLog, Keeps}
+use Rattle.gated_log.specs.LogState.{IsPlaced, IsSameLog, Keeps, log_count}
 use Rattle.heap_words.specs.declared.Word.{Word}
 use Rattle.heap_words.specs.declared.Word.TheVariants as word
 use Rattle.heap_words.specs.Word.{bits}
 use Rattle.log_records.specs.declared.Record.{Record}
 use Rattle.log_records.specs.declared.Record.TheVariants.{Update}
 use Rattle.log_machine.specs.Machine.{field_at, put_record, abort_records}
+use Rattle.page_redo.specs.Pages.{Pages}
+use Rattle.page_redo.specs.Redo.{redo_all}
 use Rattle.volatile_area.specs.Area as area
 use Rattle.volatile_area.specs.Area.{with_object}
 use Rattle.heap_spaces.specs.Spaces.{SpacesState, with_taken}
@@ -27,10 +29,17 @@ pub record Adds (old new : Log) (records : List Record) : Type 0 where
   pub place : IsPlaced old new
   pub kept : (batches : List (List Record)) (pending : List Record) → Keeps old batches pending → Keeps new batches (pending ++ records)
 
--- What an event leaves: these records more wait, and their effect is in the words; the rest is this.
+-- the pages in memory
+abbrev pub pages_of : Memory → Pages
+pages_of m = record { words = m.words; lsns = m.lsns }
+
+-- What an event leaves: these records more wait, their effect is in the words, and the pages that they touch have their LSNs; the rest is
+-- this.
 pub record Leaves (old new : Memory) (records : List Record) (transactions : TableState) (held : Holdings) (current : SpacesState) (count : ℕ) : Type 0 where
   pub log : Adds old.log new.log records
   pub words : new.words ≡ fold put_record old.words records
+  pub lsns : new.lsns ≡ (redo_all (log_count old.log + 1) (pages_of old) records).lsns
+  pub store : new.store ≡ old.store
   pub table : new.table ≡ transactions
   pub locks : new.locks ≡ held
   pub spaces : new.spaces ≡ current
@@ -40,6 +49,8 @@ pub record Leaves (old new : Memory) (records : List Record) (transactions : Tab
 pub record IsAsItWas (old new : Memory) : Type 0 where
   pub log : IsSameLog old.log new.log
   pub words : new.words ≡ old.words
+  pub lsns : new.lsns ≡ old.lsns
+  pub store : new.store ≡ old.store
   pub table : new.table ≡ old.table
   pub locks : new.locks ≡ old.locks
   pub spaces : new.spaces ≡ old.spaces

@@ -10,6 +10,7 @@ use Rattle.heap_words.specs.declared.Word.TheVariants as word
 use Rattle.log_machine.specs.Machine.{end_bytes}
 use Rattle.object_layout.specs.Layout.{field_words}
 use Rattle.volatile_area.specs.Area.{AreaState, starts_of}
+use Rattle.page_store.specs.declared.store.PageStore.{PageStore}
 use Rattle.heap_spaces.specs.Spaces.{SpacesState}
 use Rattle.object_locks.specs.Holdings.{Holdings}
 use Rattle.txn_table.specs.declared.place.Place.{Place}
@@ -20,6 +21,8 @@ use Rattle.txn_table.specs.Table.{TransactionState, TableState, transaction_of}
 pub record Memory : Type 0 where
   pub log : Log  -- with the records that wait
   pub words : List ℕ  -- those of both spaces, by address
+  pub lsns : List ℕ  -- the LSN of each page
+  pub store : PageStore  -- with which LSN, and in which frame, each page is stored
   pub spaces : SpacesState  -- which words of the current space are taken
   pub table : TableState  -- the transactions of the sessions that have not ended, and the number of the next
   pub locks : Holdings  -- the locks that these hold on objects of the current space

@@ -5,7 +5,7 @@ use Rattle.image_plan.specs.declared.superblock.Super.{Super}
 use Rattle.log_records.specs.declared.Record.{Record}
 use Rattle.gated_log.specs.Log.{records_of, with_batch}
 use Rattle.log_machine.specs.Machine.{State, start, after_all, put_record, number_of, commits, rollback}
-use Rattle.page_redo.specs.Pages.{Pages}
+use Rattle.page_redo.specs.Pages.{Pages, lsn_of}
 use Rattle.graph_words.specs.Places.{Places, AreOld}
 use Rattle.graph_words.specs.Stands.{StandsCommitted, ArePlaced, AreNamedByBirth}
 use Rattle.heap_model.specs.Core.{Core, force_calls}
@@ -71,6 +71,7 @@ opened s batches stored born places g =
       batches = rolled_back s batches;
       words = rolled_words s batches stored;
       pending = [];
+      stored = lsn_of stored;
       places = places;
     }
 

@@ -31,7 +31,7 @@ use Rattle.page_redo.specs.Pages.{Pages}
 use Rattle.page_redo.specs.Redo.{EachLacks, redo_all, redone}
 use Rattle.page_redo.specs.RedoLaws.{redo_all-append, EachLacks-redone, length-redone}
 use Rattle.page_store.specs.declared.store.PageStore.{PageStore}
-use Rattle.page_store.specs.StoreState.{store_plan, store_log, has_failed, Knows}
+use Rattle.page_store.specs.StoreState.{store_plan, store_log, stored_lsn, has_failed, Knows}
 use Rattle.page_store.specs.StoreLaws.{knows_behind_log}
 use Rattle.page_cache.specs.declared.cache.PageCache.{PageCache}
 use Rattle.page_cache.specs.CacheState.{cached, cache_store}
@@ -216,6 +216,7 @@ module _ (s : Super) (batches : List (List Record)) (stored : Pages) (read : Rea
     cached = ap cached same_cache ∙ pages ∙ rolled_pages;
     plan = ap (λ (x : PageCache). store_plan (cache_store x)) same_cache ∙ ap store_plan store ∙ is.cache.plan;
     unfailed = subst (λ (x : PageStore). IsFalse (has_failed x)) (sym (ap cache_store same_cache ∙ store)) is.cache.unfailed;
+    flushed = λ p lt. ap (λ (x : PageStore). stored_lsn x p) (ap cache_store same_cache ∙ store) ∙ is.cache.flushed p lt;
     pages = same_pages ∙ ap (λ (x : Super). x.pages) (same_of ∙ is.of);
     used = ap (λ (o : Option State). used_in o) is.state ∙ ap (λ (x : State). x.used) (sym same_state) ∙ sym same_used;
     commits = same_commits ∙ ap (λ (x : State). x.commits) same_state ∙ commits-start s.pages s.first read.state (records_of batches) is.state;

@@ -1,5 +1,5 @@
 -- What an opening finds, and what it leaves.
-use Rattle.std.specs.Prelude.{◌≡◌, ℕ, ◌+◌, List, [], length, Result, Ok, Err, Some, IsFalse}
+use Rattle.std.specs.Prelude.{◌≡◌, ℕ, ◌+◌, ◌<◌, List, [], length, Result, Ok, Err, Some, IsFalse}
 use Rattle.std.specs.List.{AllByRecursion}
 use Rattle.gate_slot.specs.Passing.{Passes}
 use Rattle.gated_log.specs.declared.LogError.{LogError}
@@ -15,13 +15,13 @@ use Rattle.log_records.specs.Record.{IsRecord}
 use Rattle.log_machine.specs.declared.replaying.ReplayError.{ReplayError}
 use Rattle.log_machine.specs.declared.replaying.ReplayError.TheVariants as replaying
 use Rattle.log_machine.specs.Machine.{words_in, commits}
-use Rattle.page_redo.specs.Pages.{Pages, pages_in}
+use Rattle.page_redo.specs.Pages.{Pages, pages_in, lsn_of}
 use Rattle.page_redo.specs.Redo.{EachLacks, redone}
 use Rattle.page_store.specs.declared.store.OpenError.{OpenError}
 use Rattle.page_store.specs.declared.store.OpenError.TheVariants as storing
 use Rattle.page_store.specs.StoreState.{store_plan}
 use Rattle.page_cache.specs.declared.cache.PageCache.{PageCache}
-use Rattle.page_cache.specs.CacheState.{cached, cache_store, cache_failed}
+use Rattle.page_cache.specs.CacheState.{cached, cache_store, cache_failed, flushed_lsn}
 use Rattle.heap_model.specs.Opening.{state_of, rolled_back, used_of, next_of}
 use Rattle.heap_recovery.specs.Causes.{error_device}
 use Rattle.heap_recovery.specs.declared.at.At.TheVariants.{Batch, Rec}
@@ -42,6 +42,7 @@ pub record IsRedone (of : Plan) (records : List Record) (stored : Pages) (cache 
   pub lsns_size : length stored.lsns ≡ pages_in of.pages
   pub behind : EachLacks (length records + 1) stored
   pub pages : cached cache ≡ redone stored records
+  pub flushed : (p : ℕ) → p < pages_in of.pages → flushed_lsn cache p ≡ lsn_of stored p
 
 -- What was read is the log of a heap with these numbers, which holds these batches, and its pages, which were stored so.
 pub record IsRead (s : Super) (batches : List (List Record)) (stored : Pages) (read : Reading) : Type 0 where
@@ -62,6 +63,7 @@ pub record IsRecovered (s : Super) (batches : List (List Record)) (stored : Page
   pub cached : cached found.cache ≡ redone stored (records_of (rolled_back s batches))
   pub plan : store_plan (cache_store found.cache) ≡ plan_of s
   pub unfailed : IsFalse (cache_failed found.cache)
+  pub flushed : (p : ℕ) → p < pages_in s.pages → flushed_lsn found.cache p ≡ lsn_of stored p
   pub pages : found.pages ≡ s.pages
   pub used : used_of s batches ≡ found.used
   pub commits : found.commits ≡ commits (records_of batches)

@@ -1,5 +1,6 @@
 -- An event is answered as the core answers it, where it is refused for the same reason.
-use Rattle.std.proofs.Common.{◌≡◌, ℕ, ◌+◌, List, [], ◌∷◌, ◌++◌, Option, Some, None, refl, sym, ap, ◌∙◌, subst}
+use Rattle.std.proofs.Common.{◌≡◌, ℕ, ◌+◌, List, [], ◌∷◌, ◌++◌, length, Option, Some, None, refl, sym, ap, ◌∙◌, subst}
+use Rattle.std.specs.Prelude.{slice_index}
 use Rattle.graph_model.specs.declared.event.Event.{Event}
 use Rattle.graph_model.specs.declared.reply.Entry.{Entry}
 use Rattle.graph_model.specs.declared.reply.Refusal.{Refusal}
@@ -11,6 +12,8 @@ use Rattle.graph_model.specs.Plain.{granted, reply_of}
 use Rattle.graph_model.specs.PlainLaws.{IsNoFault, HasNoFault, account_after-refused}
 use Rattle.heap_model.specs.Core.{Core, next_number, core_refusal, answer, with_entry, done, after_refusal, after}
 use Rattle.heap_model.specs.CoreLawsStep.{core_refusal-HasNoFault, done_history}
+use Rattle.page_store.specs.declared.store.PageStore.{PageStore}
+use Rattle.page_store.specs.StoreState.{stored_lsn}
 use Rattle.heap_memory.specs.Leaves.{IsAsItWas}
 use Rattle.heap_memory.specs.Memory.{Memory}
 use Rattle.memory_laws.specs.CoreMemory.{AreHeld, IsMemory, Does}
@@ -27,6 +30,9 @@ memory_with m a c event reply h = record {
   place = h.place;
   room = h.room;
   stored = h.stored;
+  pages = h.pages;
+  lsns = h.lsns;
+  flushed = h.flushed;
   state = h.state;
   reached = h.reached;
   spaces = h.spaces;
@@ -44,17 +50,21 @@ memory_entry m c d event reply same h =
     let P : Account → Type 0 = λ a. IsMemory m a (with_entry d event reply) in
     subst P (sym said) (memory_with m _ d event reply h)
 
-memory_counted : (m : Memory) (a : Account) (c : Core) (entries : ℕ) → IsMemory m a c → IsMemory m (record a { entries = entries }) c
-memory_counted m a c entries h = record {
+-- nor do more entries, and more that was acknowledged
+pub memory_told : (m : Memory) (a : Account) (c : Core) (acknowledged entries : ℕ) → IsMemory m a c → IsMemory m (record a { acknowledged = acknowledged; entries = entries }) c
+memory_told m a c acknowledged entries h = record {
   log = h.log;
   place = h.place;
   room = h.room;
   stored = h.stored;
+  pages = h.pages;
+  lsns = h.lsns;
+  flushed = h.flushed;
   state = h.state;
   reached = h.reached;
   spaces = h.spaces;
   transactions = h.transactions;
-  locks = held_alike m.locks c.places c.g0 a (record a { entries = entries }) refl refl h.locks;
+  locks = held_alike m.locks c.places c.g0 a (record a { acknowledged = acknowledged; entries = entries }) refl refl h.locks;
   next = h.next;
   sealed = h.sealed;
 }
@@ -62,7 +72,7 @@ memory_counted m a c entries h = record {
 memory_refused : (m : Memory) (a : Account) (c : Core) (event : Event) (why : Refusal) → IsNoFault why → IsMemory m a c → IsMemory m (account_after a (record { event = event; reply = Refused why })) c
 memory_refused m a c event why sound h =
     let P : Account → Type 0 = λ b. IsMemory m b c in
-    subst P (sym (account_after-refused a event why sound)) (memory_counted m a c (a.entries + 1) h)
+    subst P (sym (account_after-refused a event why sound)) (memory_told m a c a.acknowledged (a.entries + 1) h)
 
 -- Memory is that of a core which has done an event, where its history does not tell it yet.
 abbrev pub Goes : Memory → Core → Event → Type 0
@@ -70,7 +80,8 @@ Goes n c event = IsMemory n (account_after (account c.history) (record { event =
 
 either_way : (n : Memory) (c : Core) (event : Event) (o : Option Refusal) → HasNoFault o → (o ≡ None → Goes n c event) → ((why : Refusal) → o ≡ Some why → IsMemory n (account c.history) c)
     → IsMemory n (account (with_entry (after_refusal o c event) event (reply_of o (granted (next_number c) c.g0 (account c.history) event))).history) (with_entry (after_refusal o c event) event (reply_of o (granted (next_number c) c.g0 (account c.history) event)))
-either_way n c event None sound go stay = memory_entry n c (done c event) event _ (done_history c event) (go refl)
+either_way n c event None sound go stay =
+    memory_entry n c (done c event) event _ (done_history c event) (go refl)
 either_way n c event (Some why) sound go stay = memory_entry n c c event (Refused why) refl (memory_refused n (account c.history) c event why sound (stay why refl))
 
 memory_after : (n : Memory) (c : Core) (event : Event) (o : Option Refusal) → core_refusal c event ≡ o → (o ≡ None → Goes n c event) → ((why : Refusal) → o ≡ Some why → IsMemory n (account c.history) c)
@@ -99,6 +110,9 @@ as_it_was m n c is same = record {
   place = same.log.place.at ∙ is.place;
   room = same.log.place.room ∙ is.room;
   stored = same.words ∙ is.stored;
+  pages = ap (λ (l : List ℕ). length l) same.lsns ∙ is.pages;
+  lsns = λ p lt. ap (λ (l : List ℕ). slice_index l p) same.lsns ∙ is.lsns p lt;
+  flushed = λ p lt. ap (λ (x : PageStore). stored_lsn x p) same.store ∙ is.flushed p lt;
   state = is.state;
   reached = is.reached;
   spaces = same.spaces ∙ is.spaces;

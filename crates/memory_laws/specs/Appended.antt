@@ -4,7 +4,7 @@ use Rattle.std.specs.Prelude.{fold}
 use Rattle.std.proofs.lemmas.List.Sums.{fold-append}
 use Rattle.std.proofs.lemmas.List.{append-nil}
 use Rattle.gated_log.specs.Log.{records_of}
-use Rattle.gated_log.specs.LogState.{Keeps}
+use Rattle.gated_log.specs.LogState.{Keeps, log_count}
 use Rattle.graph_model.specs.declared.event.Event.{Event}
 use Rattle.graph_model.specs.Graph.{Graph}
 use Rattle.graph_model.specs.Locking.{lock_of}
@@ -22,11 +22,15 @@ use Rattle.heap_spaces.specs.Spaces.{SpacesState}
 use Rattle.graph_words.specs.Places.{Places}
 use Rattle.heap_model.specs.Core.{Core, Ground, all_records, all_words, next_number, state_behind, undo_with, event_records, done}
 use Rattle.core_laws.specs.Events.{call_places, done_records, no_call}
+use Rattle.page_redo.specs.RedoLaws.{lsns-redo_all}
+use Rattle.page_store.specs.declared.store.PageStore.{PageStore}
+use Rattle.page_store.specs.StoreState.{stored_lsn}
+use Rattle.memory_laws.specs.PageLaws.{lsn_appended}
 use Rattle.core_laws.specs.Step.{call_account}
 use Rattle.core_laws.specs.Sessions.{each_session, called}
 use Rattle.core_laws.specs.Valid.{IsValid}
 use Rattle.heap_memory.specs.Memory.{Memory, own}
-use Rattle.heap_memory.specs.Leaves.{Leaves}
+use Rattle.heap_memory.specs.Leaves.{Leaves, pages_of}
 use Rattle.memory_laws.specs.CoreMemory.{kept, kept_of, spaces_of, AreHeld, IsMemory}
 use Rattle.memory_laws.specs.Answered.{Goes}
 use Rattle.memory_laws.specs.LockLaws.{held_same}
@@ -101,6 +105,9 @@ module _ (m n : Memory) (c : Core) (valid : IsValid c) (is : IsMemory m (account
         place = left.log.place.at ∙ is.place;
         room = left.log.place.room ∙ is.room;
         stored = left.words ∙ ap (λ (ws : List ℕ). fold put_record ws more) is.stored ∙ sym (fold-append put_record c.words c.pending more);
+        pages = ap (λ (l : List ℕ). length l) left.lsns ∙ lsns-redo_all (log_count m.log + 1) (pages_of m) more ∙ is.pages;
+        lsns = λ p lt. lsn_appended m n c is more left.lsns p lt;
+        flushed = λ p lt. ap (λ (x : PageStore). stored_lsn x p) left.store ∙ is.flushed p lt;
         state = later;
         reached = then;
         spaces = left.spaces ∙ room;
@@ -182,6 +189,8 @@ nothing_left m = record {
     kept = λ batches pending keeps. subst (λ (rs : List Record). Keeps m.log batches rs) (sym (append-nil pending)) keeps;
   };
   words = refl;
+  lsns = refl;
+  store = refl;
   table = refl;
   locks = refl;
   spaces = refl;

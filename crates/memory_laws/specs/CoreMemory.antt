@@ -1,5 +1,5 @@
 -- When what an open heap keeps in memory is what a core says.
-use Rattle.std.specs.Prelude.{◌≡◌, ◌↔◌, ℕ, ◌+◌, true, List, length, map, Option, None, Some}
+use Rattle.std.specs.Prelude.{◌≡◌, ◌↔◌, ℕ, ◌+◌, ◌<◌, true, List, length, slice_index, map, Option, None, Some}
 use Rattle.std.specs.FinSet as set
 use Rattle.std.specs.List.{Contains}
 use Rattle.std.specs.Option.{option_map}
@@ -16,6 +16,8 @@ use Rattle.heap_spaces.specs.Spaces.{SpacesState}
 use Rattle.image_plan.specs.Plan.{log_offset}
 use Rattle.log_machine.specs.declared.UndoEntry.{UndoEntry}
 use Rattle.log_machine.specs.Machine.{State}
+use Rattle.page_redo.specs.Pages.{pages_in}
+use Rattle.page_store.specs.StoreState.{stored_lsn}
 use Rattle.object_locks.specs.declared.holding.Holding.{Holding}
 use Rattle.object_locks.specs.declared.holding.Mode as table
 use Rattle.object_locks.specs.declared.holding.Mode.TheVariants as locked
@@ -25,7 +27,7 @@ use Rattle.txn_table.specs.declared.place.Place.TheVariants.{Stable, Volatile}
 use Rattle.txn_table.specs.Table.{TransactionState}
 use Rattle.graph_words.specs.Places.{Places, address_of, index_of}
 use Rattle.heap_memory.specs.Memory.{Memory, own}
-use Rattle.heap_model.specs.Core.{Core, Ground, ground, all_records, all_words, state_behind, undo_with, area_in, answer, after}
+use Rattle.heap_model.specs.Core.{Core, Ground, ground, all_records, all_words, state_behind, undo_with, area_in, page_lsn, answer, after}
 
 -- the place of an object by its address, if it has one, and by its index
 abbrev pub standing_place : Option ℕ → ℕ → Place
@@ -74,6 +76,9 @@ pub record IsMemory (m : Memory) (a : Account) (c : Core) : Type 0 where
   pub place : log_place m.log ≡ log_offset
   pub room : log_room m.log ≡ c.room
   pub stored : m.words ≡ all_words c
+  pub pages : length m.lsns ≡ pages_in c.pages
+  pub lsns : (p : ℕ) → p < pages_in c.pages → slice_index m.lsns p ≡ page_lsn c p
+  pub flushed : (p : ℕ) → p < pages_in c.pages → stored_lsn m.store p ≡ c.stored p
   pub state : State
   pub reached : state_behind c (all_records c) ≡ Some state
   pub spaces : m.spaces ≡ spaces_of state

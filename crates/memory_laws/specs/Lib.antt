@@ -7,11 +7,13 @@ pub mod KeptWrites
 pub mod LockLaws
 pub mod LockRefusal
 pub mod LogLaws
+pub mod PageLaws
 pub mod RefusalEnds
 pub mod RefusalHandles
 pub mod RefusalLaws
 pub mod RefusalRoom
 pub mod RefusalWrites
+pub mod StepDisk
 pub mod StepEnds
 pub mod StepHandles
 pub mod StepHeld

@@ -38,6 +38,12 @@ still_lacking count lsn now at after records lacking first last is p =
     let same = ap (λ (x : Pages). lsn_of x p) (is ∙ ap (λ (n : ℕ). redo_all n at records) first) in
     omega (arith, redone, same)
 
+-- the LSNs of the pages then
+pub lsns_applied : (at after : Pages) (count before : ℕ) (records others : List Record) → before ≡ count → after ≡ redo_all (before + 1) at records → records ≡ others
+    → after.lsns ≡ (redo_all (count + 1) at others).lsns
+lsns_applied at after count before records others first is same =
+    ap (λ (x : Pages). x.lsns) is ∙ ap (λ (n : ℕ). (redo_all (n + 1) at records).lsns) first ∙ ap (λ (rs : List Record). (redo_all (count + 1) at rs).lsns) same
+
 -- the records that take writes back write where these wrote
 pub abort_below : (end t : ℕ) (us : List UndoEntry) → AllByRecursion (λ (u : UndoEntry). field_at u.object u.field < end) us → EachWritesBelow end (abort_records t us)
 abort_below end t [] all = (tt, tt)

@@ -23,6 +23,8 @@ pub leaves_all : (m : Memory) (s : ℕ) (t : TransactionState) → own m s ≡ S
 leaves_all m s t is = record {
   log = adds_nothing m.log;
   words = refl;
+  lsns = refl;
+  store = refl;
   table = sym (with_transaction_known m.table s t is);
   locks = refl;
   spaces = refl;

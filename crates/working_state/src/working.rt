@@ -84,7 +84,7 @@ impl Working {
         requires sized { length (cached cache).words ≡ words_in spaces.pages }
         requires few { spaces.pages ≤ 16384 }
         requires new { EachLacks (log_count log + 1) (cached cache) }
-        ensures { memory result ≡ opened log (cached cache).words spaces table.next }
+        ensures { memory result ≡ opened log cache spaces table.next }
     {
         Working {
             log,

@@ -16,7 +16,7 @@ returns-in_err-reserve-clause-kept g c core heap =
     on_error c.from_residual.result (record {
       history = heap.history;
       before = heap.before;
-      memory = kept_as core w _ c.args.self.now.failed heap.memory (record { log = c.reserve.ensures.same; words = refl; table = refl; locks = refl; spaces = refl; sealed = refl });
+      memory = kept_as core w _ c.args.self.now.failed heap.memory (record { log = c.reserve.ensures.same; words = refl; lsns = refl; store = refl; table = refl; locks = refl; spaces = refl; sealed = refl });
     })
 
 pub returns-in_err-reserve-clause-moments : goal.returns-in_err-reserve-clause-moments
@@ -32,7 +32,7 @@ returns-in-Ok-clause-core g c core heap none reached =
     let works = heap.memory.works none in
     let kept = c.in-Ok.ensures.kept core.batches core.pending (keeps core w log works c.reserve.ensures.same) in
     ok_steps core w log works c.reserve.ensures.same _ _ _ (unfailed_valid core _ heap.memory.failure none reached) reached.locked none kept
-    c.in-Ok.ensures.at c.in-Ok.ensures.same_room refl refl refl refl refl refl
+    c.in-Ok.ensures.at c.in-Ok.ensures.same_room (record { words = refl; lsns = refl; table = refl; locks = refl; spaces = refl; sealed = refl }) refl refl
 
 pub returns-in-Ok-clause-holds : goal.returns-in-Ok-clause-holds
 returns-in-Ok-clause-holds g c tells s core heap none reached =
@@ -43,7 +43,7 @@ returns-in-Ok-clause-holds g c tells s core heap none reached =
     let disk = heap.disk.unfailed valid.unfailed in
     let both = c.in-Ok.ensures.held tells core.batches core.pending (keeps core w log works c.reserve.ensures.same) (holds core w log works c.reserve.ensures.same s _ _ heap.disk.born disk) in
     ok_on core w log works c.reserve.ensures.same s _ _ heap.disk.born disk _ _ _ _ _ valid reached.locked none both.0 both.1 (c.in-Ok.ensures.outside tells) (c.in-Ok.ensures.durable tells disk.only)
-    c.in-Ok.ensures.at c.in-Ok.ensures.same_room refl refl refl refl refl refl
+    c.in-Ok.ensures.at c.in-Ok.ensures.same_room (record { words = refl; lsns = refl; table = refl; locks = refl; spaces = refl; sealed = refl }) refl refl
 
 pub returns-in-Ok-clause-moments : goal.returns-in-Ok-clause-moments
 returns-in-Ok-clause-moments g c tells s core heap none reached =

@@ -14,7 +14,7 @@ use Rattle.object_locks.specs.Holdings.{without}
 use Rattle.working_state.specs.declared.working.Working.{Working}
 use Rattle.working_state.proofs.Tables.{there, told, sound_same, sound_ended}
 use Rattle.working_state.proofs.Room.{abort_room}
-use Rattle.working_state.proofs.Applied.{count_few, next_lacking, still_lacking, abort_below}
+use Rattle.working_state.proofs.Applied.{lsns_applied, count_few, next_lacking, still_lacking, abort_below}
 use Rattle.working_state.proofs.working.Working.abort.Goals as goal
 
 -- The transaction that is aborted, the records that abort it, and what is kept for the others.
@@ -132,6 +132,8 @@ returns-clause-aborted c is =
           kept = λ batches pending keeps. subst (λ (rs : List Record). Keeps c.append_all.new.self batches (pending ++ rs)) a.is (c.in_ok-append_all.ensures.added batches pending keeps);
         };
         words = c.apply_all.ensures.words ∙ ap (λ (rs : List Record). fold put_record (cached s.cache).words rs) (c.deref-2.ensures.value ∙ sym c.deref.ensures.value ∙ a.is);
+        lsns = lsns_applied (cached s.cache) (cached c.apply_all.new.self) (log_count s.log) c.records-first.result (c.deref-2.result.now) _ c.records-first.ensures c.apply_all.ensures.redone (c.deref-2.ensures.value ∙ sym c.deref.ensures.value ∙ a.is);
+        store = c.apply_all.ensures.store;
         table = c.end.ensures;
         locks = c.release.ensures ∙ ap (without s.locks) number;
         spaces = refl;

@@ -15,7 +15,7 @@ use Rattle.working_state.specs.Seal.{IsFound}
 use Rattle.working_state.specs.State.{memory}
 use Rattle.working_state.proofs.Tables.{there, told, sound_same, sound_ended}
 use Rattle.working_state.proofs.Room.{room_left, need_little, used_with_need, space_left, taken_is}
-use Rattle.working_state.proofs.Applied.{count_few, next_lacking, still_lacking}
+use Rattle.working_state.proofs.Applied.{lsns_applied, count_few, next_lacking, still_lacking}
 use Rattle.working_state.proofs.working.Working.seal.Goals as goal
 
 pub need_of-requires : goal.need_of-requires
@@ -118,6 +118,8 @@ returns-clause-sealed c number is =
           kept = λ batches pending keeps. subst (λ (rs : List Record). Keeps c.append_all.new.self batches (pending ++ rs)) (c.deref-2.ensures.value ∙ same) (c.in_ok-append_all.ensures.added batches pending keeps);
         };
         words = c.apply_all.ensures.words ∙ ap (λ (rs : List Record). fold put_record (cached s.cache).words rs) (c.deref-3.ensures.value ∙ same);
+        lsns = lsns_applied (cached s.cache) (cached c.apply_all.new.self) (log_count s.log) c.records-first.result (c.deref-3.result.now) _ c.records-first.ensures c.apply_all.ensures.redone (c.deref-3.ensures.value ∙ same);
+        store = c.apply_all.ensures.store;
         table = c.end.ensures;
         locks = c.release.ensures ∙ ap (without s.locks) as_number;
         spaces = taken ∙ ap (with_taken s.spaces) (c.need.ensures ∙ found.need);
