@@ -93,7 +93,7 @@ pages_outside count stored (Damaged (Page page)) behind told = absurd (omega (ar
 pages_outside count stored (Damaged (Address address)) behind told = absurd told
 pages_outside count stored (Disk e) behind told = tt
 
--- What is opened are a shaped log and its pages, and the image's.
+-- What is opened is a shaped log with its pages, and the image's.
 abbrev pub IsFoundOn : List ℕ → Recovered → Type 0
 IsFoundOn image found = (s : Super) × (batches : List (List Record)) × (stored : Pages) × IsShaped s batches stored image × IsRecovered s batches stored found
 
