@@ -9,6 +9,7 @@ ghost use Rattle.log_records.specs.declared.Record.{Record};
 ghost use Rattle.log_machine.specs.Machine.{State, rollback, all_taken_back, reserve};
 ghost use Rattle.page_redo.specs.Pages.{Pages};
 ghost use Rattle.page_redo.specs.Redo.{EachLacks, redo_all};
+ghost use Rattle.page_store.specs.Gates.{open_gates};
 ghost use Rattle.page_store.specs.StoreState.{Knows};
 ghost use Rattle.page_cache.specs.CacheState.{cached, cache_store};
 ghost use Rattle.object_layout.specs.Walk.{IsWalked, IsWalkFault};
@@ -78,6 +79,8 @@ pub fn recover<D: Disk>(alloc: Global, disk: &mut D) -> Result<Recovered, Recove
     ensures shaped { IsTrue D.tells → (s : Super) (batches : List (List Record)) (stored : Pages) → IsShaped s batches stored (D.bytes disk.old) → IfErr result IsFromOutside }
     ensures holds { IsTrue D.tells → (s : Super) (batches : List (List Record)) (stored : Pages) → IsShaped s batches stored (D.bytes disk.old) → IfOk result (λ found. Holds s (rolled_back s batches) stored (D.bytes disk.new)) }
     ensures known { IsTrue D.tells → IfOk result (λ found. Knows (cache_store found.cache) (D.bytes disk.new)) }
+    // It stores no page.
+    ensures gates { IsTrue D.tells → (s : Super) (batches : List (List Record)) (stored : Pages) → IsShaped s batches stored (D.bytes disk.old) → IfOk result (λ found. (p : ℕ) → open_gates s.log_bytes (D.bytes disk.new) p ≡ open_gates s.log_bytes (D.bytes disk.old) p) }
     ensures durable { IsTrue D.tells → Only (D.bytes disk.old) (D.may_leave disk.old) → IfOk result (λ found. Only (D.bytes disk.new) (D.may_leave disk.new)) }
 
     // A crash at any moment leaves the image as it was, or with its log rolled back: both stand for the same graph and commits.

@@ -1,6 +1,7 @@
 -- Laws of the pages that are stored in an image: a crash while a page is stored leaves pages that redo can begin with.
-use Rattle.std.proofs.Common.{◌≡◌, ℕ, ◌<◌, List, sym, subst, ◌∙◌, arith, inl, inr, ⊎_elim}
-use Rattle.std.proofs.lemmas.Bool.{cases_eq}
+use Rattle.std.specs.Prelude.{◌==◌, if◌then◌else◌}
+use Rattle.std.proofs.Common.{◌≡◌, ◌≢◌, ℕ, ◌<◌, List, sym, ap, subst, ◌∙◌, arith, inl, inr, ⊎_elim}
+use Rattle.std.proofs.lemmas.Bool.{cases_eq, eq-eqb, ne_eqb, cond-true, cond-false}
 use Rattle.std.proofs.lemmas.List.FromFn.{get_or-map-range_with_len, length-map-range_with_len}
 use Rattle.log_records.specs.declared.Record.{Record}
 use Rattle.page_redo.specs.Pages.{pages_in, page_words, lsn_of}
@@ -17,6 +18,17 @@ stored_pages-page pages log_bytes image p lt = image_words-page log_bytes image 
 -- and its LSN
 pub stored_pages-lsn : (pages log_bytes : ℕ) (image : List ℕ) (p : ℕ) → p < pages_in pages → lsn_of (stored_pages pages log_bytes image) p ≡ page_lsn log_bytes p image
 stored_pages-lsn pages log_bytes image p lt = get_or-map-range_with_len (λ p. page_lsn log_bytes p image) 0 (pages_in pages) p p 0 lt (omega arith)
+
+-- once page p is stored, and the others are as they were, the stored pages have the LSNs that they had, but for that of page p
+pub flushed_stored : (pages log_bytes p lsn : ℕ) (words old new : List ℕ) → HasPage log_bytes p lsn words new → ((q : ℕ) → q ≢ p → SamePage log_bytes q old new)
+    → (q : ℕ) → q < pages_in pages → lsn_of (stored_pages pages log_bytes new) q ≡ (if q == p then lsn else lsn_of (stored_pages pages log_bytes old) q)
+flushed_stored pages log_bytes p lsn words old new has same q lt =
+    let before : ℕ = lsn_of (stored_pages pages log_bytes old) q in
+    let found = stored_pages-lsn pages log_bytes new q lt in
+    elim (cases_eq q p) [
+      | inl here ↦ found ∙ ap (λ (i : ℕ). page_lsn log_bytes i new) here ∙ has.lsn_is ∙ sym (cond-true (q == p) lsn before (eq-eqb _ _ here))
+      | inr apart ↦ found ∙ (same q apart).lsn_is ∙ sym (stored_pages-lsn pages log_bytes old q lt) ∙ sym (cond-false (q == p) lsn before (ne_eqb _ _ apart))
+    ]
 
 module _ (pages log_bytes : ℕ) (records : List Record) where
   -- what each page of an image holds

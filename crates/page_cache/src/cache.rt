@@ -1,5 +1,5 @@
 //! The page cache: the pages of a heap in memory, over those that are stored on a disk.
-ghost use Rattle.std.specs.Prelude.{◌≡◌, ◌≢◌, ℕ, ◌+◌, ◌*◌, ◌^◌, ◌<◌, ◌≤◌, List, length, fold, take, slice_index, is_err, None, Some, IsTrue, IsFalse, OnOk, OnErr, IfOk};
+ghost use Rattle.std.specs.Prelude.{◌≡◌, ◌≢◌, ℕ, ◌+◌, ◌*◌, ◌^◌, ◌<◌, ◌≤◌, List, length, fold, take, slice_index, min, nat_lt, is_err, None, Some, IsTrue, IsFalse, OnOk, OnErr, IfOk, if◌then◌else◌};
 ghost use Rattle.log_records.specs.declared.Record.{Record};
 ghost use Rattle.log_machine.specs.Machine.{put_record};
 ghost use Rattle.log_machine.specs.Effect.{WritesBelow, EachWritesBelow};
@@ -14,6 +14,7 @@ ghost use Rattle.page_store.specs.StoreState.{store_pages, stored_lsn, stored_en
 ghost use Rattle.page_store.specs.Frame.{spare};
 ghost use Rattle.page_store.specs.OpenCause.{open_device_result};
 ghost use Rattle.page_store.specs.Page.{HasPage, SamePage, SameButPage, IsStoring, store_calls};
+ghost use Rattle.page_store.specs.Gates.{open_gates};
 ghost use Rattle.page_cache.specs.Stored.{stored_pages};
 
 use crate::cached::CachedPages;
@@ -192,6 +193,8 @@ impl PageCache {
         ensures stored { IsTrue D.tells → Knows (cache_store self.old) (D.bytes disk.old) → OnOk result (HasPage (cache_log self.old) p (cached_lsn self.old p) (cached_page self.old p) (D.bytes disk.new)) }
         ensures others { IsTrue D.tells → (q : ℕ) → q ≢ p → OnOk result (SamePage (cache_log self.old) q (D.bytes disk.old) (D.bytes disk.new)) }
         ensures outside { IsTrue D.tells → OnOk result (SameButPage (cache_log self.old) p (D.bytes disk.old) (D.bytes disk.new)) }
+        ensures gates { IsTrue D.tells → Knows (cache_store self.old) (D.bytes disk.old) → OnOk result (open_gates (cache_log self.old) (D.bytes disk.new) p ≡ min 2 (open_gates (cache_log self.old) (D.bytes disk.old) p + 1)) }
+        ensures other_gates { IsTrue D.tells → (q : ℕ) → q ≢ p → OnOk result (open_gates (cache_log self.old) (D.bytes disk.new) q ≡ open_gates (cache_log self.old) (D.bytes disk.old) q) }
         ensures known { IsTrue D.tells → Knows (cache_store self.old) (D.bytes disk.old) → OnOk result (Knows (cache_store self.new) (D.bytes disk.new)) }
         ensures durable { IsTrue D.tells → OnOk result (Only (D.bytes disk.new) (D.may_leave disk.new)) }
 
@@ -207,6 +210,7 @@ impl PageCache {
         ensures moments { IsTrue D.tells → Knows (cache_store self.old) (D.bytes disk.old) → Only (D.bytes disk.old) (D.may_leave disk.old)
             → LeavesOnly D.moment D.left_since disk.old disk.new (IsStoring (cache_log self.old) p (cached_lsn self.old p) (cached_page self.old p) (D.bytes disk.old)) }
         ensures passes { IsTrue D.tells → Passes (store_calls (cache_log self.old) p (spare (stored_frame (cache_store self.old) p)) (D.bytes disk.old)) (D.passed disk.old) (D.passed disk.new) result }
+        ensures calls { IsTrue D.tells → Knows (cache_store self.old) (D.bytes disk.old) → Passes (if nat_lt (open_gates (cache_log self.old) (D.bytes disk.old) p) 2 then 4 else 6) (D.passed disk.old) (D.passed disk.new) result }
     {
         let lsn = self.pages.lsn(p);
         prove!(lsn <= forced);

@@ -1,11 +1,12 @@
 -- A store, from the bytes that it writes to the pages of the image.
 use Rattle.std.proofs.Common.{◌≡◌, ◌≢◌, ◌⊎◌, ℕ, ◌+◌, ◌-◌, ◌*◌, ◌^◌, ◌<◌, ◌≤◌, List, [], ◌∷◌, length, get_or, set, Some, refl, sym, ap, ◌∙◌, subst, inl, inr, arith}
+use Rattle.std.specs.Prelude.{min}
 use Rattle.std.proofs.lemmas.Bool.{eq-eqb, ne_eqb, cases_eq, cond-true, cond-false}
 use Rattle.std.proofs.lemmas.List.{ext_get_or, get_or-set_same, get_or-set_other}
 use Rattle.disk_model.specs.Disk.{overwrite, part}
 use Rattle.gate_slot.specs.Gate.{IsOpen, IsClosed, IsOutside, filled, closed, SameButGate, IsFilling}
 use Rattle.gate_slot.specs.GateLaws.{length_filled, filled_outside, filled_next}
-use Rattle.gate_slot.specs.Images.{part_index, same_part, part_overwrite, torn_overwrite, torn_outside, length_overwrite, overwrite_inside}
+use Rattle.gate_slot.specs.Images.{same_part, part_overwrite, torn_overwrite, torn_outside, length_overwrite, overwrite_inside}
 use Rattle.image_plan.specs.Plan.{frame_offset}
 use Rattle.image_plan.specs.declared.plan.Plan.{Plan}
 use Rattle.page_store.specs.declared.store.PageStore.{PageStore}
@@ -15,6 +16,7 @@ use Rattle.page_store.specs.declared.frame.Frame.TheVariants.{First, Second}
 use Rattle.page_store.specs.Frame.{frame_body, frame_bytes, spare}
 use Rattle.page_store.specs.Page.{frame_place, frame_of, page_frame, page_lsn, HasPage, SamePage, SameButPage, IsStoring}
 use Rattle.page_store.specs.PairLaws.{other}
+use Rattle.page_store.specs.Gates.{open_gates, gate_byte, gates_stored}
 use Rattle.page_store.specs.PageLaws.{same_page, other_pages, other_counts, spare_closed, spare_counts, spare_written}
 use Rattle.page_store.specs.Reading.{nothing_stored}
 use Rattle.page_store.specs.Refill.{IsRefilling}
@@ -94,10 +96,6 @@ module _ (log_bytes p : ℕ) (frame : Frame) where
           let zero_there : get_or (overwrite image gate (0 ∷ [])) gate 0 ≡ 0 = overwrite_inside image (0 ∷ []) gate (omega arith) gate (omega arith) (omega arith) ∙ ap (λ (k : ℕ). get_or (0 ∷ []) k 0) none in
           omega (arith, one, zero_there)
 
-  -- a frame's gate is the image's byte
-  gate_byte : (image : List ℕ) → get_or (frame_of log_bytes p image frame) 0 0 ≡ get_or image gate 0
-  gate_byte image = let here : gate + 0 ≡ gate = omega arith in part_index image gate 528 0 (omega arith) ∙ ap (λ (k : ℕ). get_or image k 0) here
-
   module _ (old new : List ℕ) (but : SameButFrame log_bytes p frame old new) where
     -- all but the page is as it was
     pub only_page : SameButPage log_bytes p old new
@@ -113,7 +111,7 @@ module _ (log_bytes p : ℕ) (frame : Frame) where
 
     -- while the spare frame is closed the page stays as it was
     pub page_stays : frame ≡ spare (page_frame log_bytes p old) → get_or new gate 0 ≢ 1 → SamePage log_bytes p old new
-    page_stays spare_is shut = spare_closed log_bytes p frame old new spare_is other_stands (ne_eqb _ _ (λ one. shut (sym (gate_byte new) ∙ one)))
+    page_stays spare_is shut = spare_closed log_bytes p frame old new spare_is other_stands (ne_eqb _ _ (λ one. shut (sym (gate_byte log_bytes p frame new) ∙ one)))
 
   -- the gate is closed where it is open
   pub closed_but : (image : List ℕ) → gate + 528 ≤ length image → SameButFrame log_bytes p frame image (closed gate image)
@@ -158,6 +156,10 @@ module _ (log_bytes p : ℕ) (frame : Frame) where
 
     pub written_outside : SameButPage log_bytes p old stored_image
     written_outside = only_page old stored_image written_but
+
+    -- of two gates at most, one more is open
+    pub written_gates : frame ≡ spare (page_frame log_bytes p old) → open_gates log_bytes stored_image p ≡ min 2 (open_gates log_bytes old p + 1)
+    written_gates spare_is = gates_stored log_bytes p frame old stored_image spare_is (other_stands old stored_image written_but) (eq-eqb _ _ (ap (λ (l : List ℕ). get_or l 0 0) written_has))
 
     -- under the names that the code has for the gate and the body
     pub is_stored_image : (at : ℕ) (bytes new : List ℕ) → at ≡ gate → bytes ≡ body → new ≡ filled at (at + 1) bytes (closed at old) → new ≡ stored_image

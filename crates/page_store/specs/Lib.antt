@@ -3,6 +3,7 @@ pub mod WordLaws
 pub mod PairLaws
 pub mod Page
 pub mod PageLaws
+pub mod Gates
 pub mod Refill
 pub mod Reading
 pub mod StoreState

@@ -1,5 +1,5 @@
 //! The pages on a disk, with what is kept of them in memory: which frame of each page counts, and its LSN.
-ghost use Rattle.std.specs.Prelude.{◌≡◌, ◌≢◌, ℕ, ◌+◌, ◌*◌, ◌^◌, ◌<◌, ◌≤◌, List, length, vec_len, is_err, IsTrue, IsFalse, OnOk, OnErr, IfOk};
+ghost use Rattle.std.specs.Prelude.{◌≡◌, ◌≢◌, ℕ, ◌+◌, ◌*◌, ◌^◌, ◌<◌, ◌≤◌, List, length, vec_len, min, is_err, IsTrue, IsFalse, OnOk, OnErr, IfOk};
 ghost use Rattle.disk_model.specs.Disk.{part, Only};
 ghost use Rattle.disk_model.specs.Keeps.{KeepsDisk, OnlyReads};
 ghost use Rattle.disk_model.specs.Moments.{LeavesOnly};
@@ -9,6 +9,7 @@ ghost use Rattle.page_store.specs.declared.store.OpenError.TheVariants.{NoMemory
 ghost use Rattle.page_store.specs.OpenCause.{open_device_result};
 ghost use Rattle.page_store.specs.Frame.{frame_bytes, frame_words, spare};
 ghost use Rattle.page_store.specs.Page.{frame_place, frame_of, image_words, HasPage, SamePage, SameButPage, IsStoring, store_calls};
+ghost use Rattle.page_store.specs.Gates.{open_gates};
 ghost use Rattle.page_store.specs.Reading.{IsReadTo};
 
 use crate::frame::{
@@ -177,6 +178,8 @@ impl PageStore {
         ensures others { IsTrue D.tells → (q : ℕ) → q ≢ p → OnOk result (SamePage (store_log self.old) q (D.bytes disk.old) (D.bytes disk.new)) }
         ensures outside { IsTrue D.tells → OnOk result (SameButPage (store_log self.old) p (D.bytes disk.old) (D.bytes disk.new)) }
         ensures written { IsTrue D.tells → OnOk result (frame_of (store_log self.old) p (D.bytes disk.new) (spare (stored_frame self.old p)) ≡ frame_bytes lsn words.now) }
+        ensures gates { IsTrue D.tells → Knows self.old (D.bytes disk.old) → OnOk result (open_gates (store_log self.old) (D.bytes disk.new) p ≡ min 2 (open_gates (store_log self.old) (D.bytes disk.old) p + 1)) }
+        ensures other_gates { IsTrue D.tells → (q : ℕ) → q ≢ p → OnOk result (open_gates (store_log self.old) (D.bytes disk.new) q ≡ open_gates (store_log self.old) (D.bytes disk.old) q) }
         ensures known { IsTrue D.tells → Knows self.old (D.bytes disk.old) → OnOk result (Knows self.new (D.bytes disk.new)) }
         ensures durable { IsTrue D.tells → OnOk result (Only (D.bytes disk.new) (D.may_leave disk.new)) }
 

@@ -4,6 +4,7 @@ use Rattle.disk_model.specs.Moments.{LeavesOnly}
 use Rattle.gated_log.specs.Log.{with_batch, HoldsBatches}
 use Rattle.log_machine.specs.Machine.{rollback}
 use Rattle.heap_model.specs.CoreLawsHeld.{held_with}
+use Rattle.page_store.specs.Gates.{gates_behind_log}
 use Rattle.heap_model.specs.Opening.{opening_calls, rolled_back}
 use Rattle.heap_recovery.proofs.Opening.{error_passes, only_still, held, outside_log, rolled_held, recovered, opened_shaped, shaped_fault, forced_passes, nothing_waits, known_still, known_found, ok_outside, ok_passes, if_ok, placed_there, opening_moments}
 use Rattle.page_cache.specs.CacheState.{cached}
@@ -100,6 +101,21 @@ returns-clause-holds g c tells s batches stored shaped =
     let there = placed_there read.log log (λ n m. HoldsBatches (part new n m) (with_batch batches (rollback read.state))) roll.place roll.same_room holds in
     let outside = placed_there read.log log (λ n m. SameOutside n (n + m) now new) roll.place roll.same_room (c.in_ok-force.ensures.outside tells) in
     if_ok c.finish.result _ (held_with s batches (rolled_back s batches) stored image new shaped.held (outside_log s batches stored read is image now new same outside) (rolled_held s batches stored read is new there))
+
+-- a force writes into the log alone, so the frames stay as they are
+pub returns-clause-gates : goal.returns-clause-gates
+returns-clause-gates g c tells s batches stored shaped =
+    let d = g.D.Disk in
+    let read = c.in_ok-read.read in
+    let is = c.in_ok-read.ensures.found tells s batches stored shaped in
+    let roll = c.in_ok-roll_back.ensures in
+    let log = c.roll_back.new.self.log in
+    let image = d.bytes c.args.disk.now in
+    let now = d.bytes c.read_image.new.disk in
+    let new = d.bytes c.force.new.disk in
+    let same : now ≡ image = (c.read_image.ensures.disk.contents tells).bytes in
+    let outside = placed_there read.log log (λ n m. SameOutside n (n + m) now new) roll.place roll.same_room (c.in_ok-force.ensures.outside tells) in
+    if_ok c.finish.result _ (gates_behind_log s.log_bytes image new (outside_log s batches stored read is image now new same outside))
 
 -- a force writes into the log alone, so the pages are still stored as they were
 pub returns-clause-known : goal.returns-clause-known

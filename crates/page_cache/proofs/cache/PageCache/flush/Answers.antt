@@ -1,4 +1,10 @@
+use Rattle.std.proofs.Common.{ℕ, ap, ◌∙◌, subst}
 use Rattle.disk_model.specs.Moments.{weaker}
+use Rattle.gate_slot.specs.Passing.{Passes}
+use Rattle.page_store.specs.Frame.{spare}
+use Rattle.page_store.specs.Page.{store_calls}
+use Rattle.page_store.specs.Gates.{calls_by_gates}
+use Rattle.page_cache.specs.CacheState.{cache_log}
 use Rattle.page_cache.proofs.Flushing.{still_legal, then_legal}
 use Rattle.page_cache.proofs.cache.PageCache.flush.Goals as goal
 
@@ -13,3 +19,11 @@ returns-clause-legal_moments g c told knows only all is legal =
     let cache = c.args.self.now in
     weaker g.D.Disk.moment g.D.Disk.left_since c.args.disk.now c.store.new.disk _ _ (c.store.ensures.moments told knows only)
     (λ left storing. still_legal cache.store.plan.pages cache.store.plan.log_bytes c.args.forced all cache.pages is c.args.p c.requires.page c.requires.logged _ _ _ left c.lsn-lsn.ensures c.page.ensures legal storing)
+
+pub returns-clause-calls : goal.returns-clause-calls
+returns-clause-calls g c told knows =
+    let cache = c.args.self.now in
+    let image = g.D.Disk.bytes c.args.disk.now in
+    let frame_is = ap spare (knows.frames c.args.p c.requires.page) in
+    subst (λ (n : ℕ). Passes n (g.D.Disk.passed c.args.disk.now) (g.D.Disk.passed c.store.new.disk) c.store.result)
+    (ap (λ frame. store_calls (cache_log cache) c.args.p frame image) frame_is ∙ calls_by_gates (cache_log cache) c.args.p image) (c.store.ensures.passes told)

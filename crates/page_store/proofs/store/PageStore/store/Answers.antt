@@ -4,9 +4,10 @@ use Rattle.disk_model.specs.Moments.{weaker}
 use Rattle.gate_slot.specs.Passing.{Passes}
 use Rattle.page_store.specs.Frame.{spare}
 use Rattle.page_store.specs.Page.{frame_of, frame_place, page_lsn, page_frame, HasPage, SameButPage}
+use Rattle.page_store.specs.Gates.{open_gates, other_gates}
 use Rattle.page_store.specs.PageLaws.{other_pages}
 use Rattle.page_store.specs.StoreState.{store_log, stored_frame}
-use Rattle.page_store.proofs.Storing.{is_stored_image, left_by, written_has, written_outside, written_page, written_frame, knows_stored}
+use Rattle.page_store.proofs.Storing.{is_stored_image, left_by, written_has, written_outside, written_page, written_frame, written_gates, knows_stored}
 use Rattle.page_store.proofs.store.PageStore.store.Goals as goal
 
 pub returns-clause-outside : goal.returns-clause-outside
@@ -40,6 +41,18 @@ returns-clause-stored g c told knows =
     let greater : page_lsn (store_log store) c.args.p image < c.args.lsn = subst (λ (n : ℕ). n < c.args.lsn) (knows.lsns c.args.p c.requires.page) c.requires.newer in
     subst (λ (l : List ℕ). HasPage (store_log store) c.args.p c.args.lsn c.args.words.now l) (sym is)
     (written_page (store_log store) c.args.p frame image fits c.args.lsn c.args.words.now c.told-words (ap spare (knows.frames c.args.p c.requires.page)) c.ranges.lsn.fits greater c.fits-words)
+
+pub returns-clause-gates : goal.returns-clause-gates
+returns-clause-gates g c told knows =
+    let store = c.args.self.now in
+    let image = g.D.Disk.bytes c.args.disk.now in
+    let frame = spare (stored_frame store c.args.p) in
+    let fits : frame_place (store_log store) c.args.p frame + 528 ≤ length image = omega (arith, g.met.D.Disk.same_size told c.args.disk.now image (g.met.D.Disk.reads_an_image told c.args.disk.now), c.requires.inside, c.spare-frame.ensures.inside, c.spare-frame.ensures.place) in
+    let is = is_stored_image (store_log store) c.args.p frame image fits c.args.lsn c.args.words.now c.told-words _ _ _ c.spare-frame.ensures.place c.body_of.ensures (c.in_ok-refill.ensures.written told) in
+    ap (λ (l : List ℕ). open_gates (store_log store) l c.args.p) is ∙ written_gates (store_log store) c.args.p frame image fits c.args.lsn c.args.words.now c.told-words (ap spare (knows.frames c.args.p c.requires.page))
+
+pub returns-clause-other_gates : goal.returns-clause-other_gates
+returns-clause-other_gates g c told q apart = other_gates c.args.self.now.plan.log_bytes c.args.p (g.D.Disk.bytes c.args.disk.now) _ (returns-clause-outside g c told) q apart
 
 pub returns-clause-known : goal.returns-clause-known
 returns-clause-known g c told knows =
