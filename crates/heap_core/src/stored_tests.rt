@@ -192,20 +192,37 @@ fn make_wrong(rt: &impl Abort, alloc: Global, p: u32, lsn: u64) -> Result<Memory
     Ok(disk)
 }
 
-/// With which LSN the wrong page is stored, and what is then found: only records behind the LSN are redone.
-const WRONG: [(u64, &str); 4] = [
-    (1, "graph 1\n0: 99 8 - -\n"),
-    (2, "graph 1\n0: 99 8 - -\n"),
-    (3, "graph 1\n0: 99 98 - -\n"),
-    (4, "graph 1\n0: 99 98 - -\n"),
+/// With which LSN the wrong page is stored, what is then found, since only records behind the LSN are redone, and whether these changed the
+/// page, so that it is dirty.
+const WRONG: [(u64, &str, bool); 4] = [
+    (1, "graph 1\n0: 99 8 - -\n", true),
+    (2, "graph 1\n0: 99 8 - -\n", true),
+    (3, "graph 1\n0: 99 98 - -\n", false),
+    (4, "graph 1\n0: 99 98 - -\n", false),
 ];
 
 #[test]
 fn what_a_page_has_is_not_redone(rt: HostRuntime) -> Result<(), Fail> {
     let alloc = rt.alloc();
-    for (lsn, graph) in WRONG {
+    for (lsn, graph, _) in WRONG {
         let disk = make_wrong(&rt, alloc, 0, lsn)?;
         expect(&rt, alloc, disk, 2, graph)?;
+    }
+    Ok(())
+}
+
+/// Which of the first pages are dirty behind an opening. There are two.
+fn dirty(rt: &impl Abort, alloc: Global, disk: MemoryDisk) -> [bool; 3] {
+    let heap = open(rt, alloc, disk);
+    [heap.dirty(0), heap.dirty(1), heap.dirty(2)]
+}
+
+#[test]
+fn what_redo_changed_is_dirty(rt: HostRuntime) -> Result<(), Fail> {
+    let alloc = rt.alloc();
+    for (lsn, _, changed) in WRONG {
+        let found = dirty(&rt, alloc, make_wrong(&rt, alloc, 0, lsn)?);
+        compare(&rt, (lsn, found), (lsn, [changed, false, false]));
     }
     Ok(())
 }
