@@ -4,7 +4,8 @@
     bench/commits.py [--quick] [N]
 
 N is the number of commits of one write each, 1,000 if it is left out. Both write into a file of one temporary folder (TMPDIR), which has its
-full size before. Each is run five times, in turn, and the least time counts; the time of a run on an empty script is taken off. It needs gcc.
+full size before. The program writes a line for each reply besides: they go to /dev/null, and in a second run to a file. Each is run five times, in
+turn, and the least time counts; the time of a run on an empty script is taken off. It needs gcc.
 Openings are timed by the processor time of the program, which other work on the machine changes least. With --quick the program is that which is
 compiled with nothing proved; it has checks at each step, and is many times slower where it computes.
 """
@@ -21,16 +22,14 @@ PROGRAM = os.path.join(TOP, ".build", *["quick"] * QUICK, "heap_shell")
 RUNS = 5
 
 
-def run(words, text=""):
-    """The output of a run of the program in the current folder, and its seconds. Script and output are files: a pipe would wake its reader at each line."""
+def run(words, text="", replies="output"):
+    """The seconds of a run of the program in the current folder. Script and replies are files: a pipe would wake its reader at each line."""
     with open("script", "w") as script:
         script.write(text)
-    with open("script") as script, open("output", "w") as output:
+    with open("script") as script, open(replies, "w") as output:
         began = time.perf_counter()
         subprocess.run([PROGRAM, *words], stdin=script, stdout=output, check=True)
-        seconds = time.perf_counter() - began
-    with open("output") as output:
-        return output.read(), seconds
+        return time.perf_counter() - began
 
 
 def script(commits):
@@ -41,17 +40,21 @@ def format_heap(log):
     run(["format", "1", str(log), "1"])
 
 
-def commits_of_heap(n, log):
+def commits_of_heap(n, log, replies):
     format_heap(log)
-    out, seconds = run(["play"], script(n))
-    if f"force -> durable {n}\n" not in out:
-        sys.exit("commits: the last commit was not acknowledged")
-    return seconds
+    return run(["play"], script(n), replies)
+
+
+def check_acknowledged(n):
+    """Ends the bench where the replies in the file don't tell of the last commit."""
+    with open("output") as output:
+        if f"force -> durable {n}\n" not in output.read():
+            sys.exit("commits: the last commit was not acknowledged")
 
 
 def empty_script(log):
     format_heap(log)
-    return run(["play"])[1]
+    return run(["play"], replies=os.devnull)
 
 
 def commits_of_c(n, log):
@@ -82,13 +85,15 @@ def main():
     subprocess.run([os.path.join(TOP, "heap"), *["--quick"] * QUICK, "play", "--fresh", "1"], stdin=subprocess.DEVNULL, stdout=subprocess.PIPE, check=True)
     subprocess.run(["gcc", "-O2", "-o", "commits", f"{TOP}/bench/commits.c"], check=True)
     log = 64 + 40 * n
-    rounds = [(commits_of_heap(n, log), empty_script(log), commits_of_c(n, log)) for _ in range(RUNS)]
-    whole, empty, c = map(min, zip(*rounds))
-    ours = n / (whole - empty)
+    rounds = [(commits_of_heap(n, log, os.devnull), commits_of_heap(n, log, "output"), empty_script(log), commits_of_c(n, log)) for _ in range(RUNS)]
+    check_acknowledged(n)
+    dropped, kept, empty, c = map(min, zip(*rounds))
+    ours = n / (dropped - empty)
     before = spent()
-    commits_of_heap(n, log)
+    commits_of_heap(n, log, os.devnull)
     computed = (spent() - before) / n
     print(f"load {os.getloadavg()[0]:.1f}; {n} durable commits: the program {ours:.0f} a second, the C program {n / c:.0f}: ratio {ours * c / n:.2f}")
+    print(f"with the replies in a file on the same disk: ratio {c / (kept - empty):.2f}")
     print(f"of a commit's {1000 / ours:.2f} ms the program's own processor time was up to {1000 * computed:.2f} ms, opening and all")
     many, area = 5_000, 400_000
     empty, one, two = opening(area, 0), opening(area, many), opening(area, 2 * many)

@@ -116,7 +116,7 @@ fresh_memory s batches stored born places g found m shaped recovered fresh =
       log = rw fresh.log recovered.log;
       place = rw fresh.log recovered.place;
       room = rw fresh.log recovered.room;
-      stored = fresh.words ∙ words_found s batches stored found shaped recovered;
+      words = fresh.words ∙ words_found s batches stored found shaped recovered;
       pages = ap (λ (l : List ℕ). length l) fresh.lsns ∙ lsns_found s batches stored found shaped recovered;
       lsns = λ p lt. ap (λ (l : List ℕ). get_or l p 0) fresh.lsns ∙ lsn_found s batches stored found shaped recovered p lt ∙ ap (λ (rs : List Record). max (lsn_of stored p) (last_lsn p 1 rs)) (sym none);
       flushed = λ p lt. ap (λ (x : PageStore). stored_lsn x p) fresh.store ∙ recovered.flushed p lt;
@@ -148,6 +148,7 @@ opened_logged s batches stored legal places g =
     record {
       words = sym (redone_words-rolled_back s batches stored legal.shaped) ∙ redone-words s.pages (records_of (rolled_back s batches)) stored prefixes;
       prefixes = prefixes;
+      lsns = λ p lt. refl;
     }
 
 -- the disk of such a heap holds it

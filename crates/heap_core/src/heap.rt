@@ -1,5 +1,5 @@
 //! The heap: events on an image, each of them one step.
-ghost use Rattle.std.specs.Prelude.{◌≡◌, ◌≢◌, ◌⊎◌, ◌↔◌, ◌+◌, ◌≤◌, ◌^◌, ◌<◌, ◌&&◌, not, nat_lt, ℕ, List, [], length, min, is_some, Bool, true, None, Some, Ok, Err, IsTrue, IfOk, IfErr, IsErrAnd, OnErr};
+ghost use Rattle.std.specs.Prelude.{◌≡◌, ◌≢◌, ◌⊎◌, ◌↔◌, ◌+◌, ◌≤◌, ◌^◌, ◌<◌, ℕ, List, [], length, min, is_some, Bool, true, None, Some, Ok, Err, IsTrue, IfOk, IfErr, IsErrAnd, OnErr};
 ghost use Rattle.counts.specs.Count.{greatest};
 ghost use Rattle.disk_model.specs.Disk.{Only};
 ghost use Rattle.disk_model.specs.Keeps.{KeepsDisk, OnlyReads};
@@ -23,8 +23,7 @@ ghost use Rattle.graph_words.specs.Places.{Places};
 ghost use Rattle.object_layout.specs.Layout.{IsSeenAs};
 ghost use Rattle.heap_model.specs.Opening.{opened, rolled_back, rollback_of, opening_calls, IsFound, IsLeftByOpening};
 ghost use Rattle.heap_core.specs.Causes.{step_device, reply_device, opened_device, IsFromOutside, OpenedPasses};
-ghost use Rattle.heap_model.specs.Core.{Core, IsStep, calls, is_clean};
-ghost use Rattle.page_redo.specs.Pages.{pages_in};
+ghost use Rattle.heap_model.specs.Core.{Core, IsStep, calls, is_dirty};
 ghost use Rattle.heap_model.specs.CoreCrash.{IsCommitPrefix};
 ghost use Rattle.core_laws.specs.Valid.{IsReached, IsValid, RunsLocked};
 ghost use Rattle.commit_order.specs.Heard.{replies_of_commits};
@@ -317,7 +316,7 @@ impl<D: Disk> Heap<D> {
     /// pages; a page past these has not. It asks that the disk has neither failed nor stopped.
     pub fn dirty(&self, p: u32) -> bool
         requires unfailed { failed_at self.now ≡ None }
-        ensures { (c : Core) → IsCore c self.now → result ≡ (nat_lt p (pages_in c.pages) && not (is_clean c p)) }
+        ensures { (c : Core) → IsCore c self.now → result ≡ is_dirty c p }
     {
         p < self.working.cache.pages() && self.working.cache.dirty(p)
     }

@@ -1,5 +1,5 @@
 -- The core: what each event is answered, and the state that it leaves.
-use Rattle.std.specs.Prelude.{◌≡◌, ◌⊎◌, ℕ, ◌+◌, ◌-◌, ◌*◌, ◌<◌, ◌==◌, nat_lt, max, Bool, List, [], ◌∷◌, ◌++◌, length, fold, Option, None, Some, slice_index_or, sum_by, if◌then◌else◌}
+use Rattle.std.specs.Prelude.{◌≡◌, ◌⊎◌, ℕ, ◌+◌, ◌-◌, ◌*◌, ◌<◌, ◌==◌, ◌&&◌, not, nat_lt, max, Bool, List, [], ◌∷◌, ◌++◌, length, fold, Option, None, Some, slice_index_or, sum_by, if◌then◌else◌}
 use Rattle.graph_model.specs.declared.id.Id.{Id}
 use Rattle.graph_model.specs.declared.val.Val.{Val}
 use Rattle.graph_model.specs.declared.val.Val.TheVariants.{Null, Int}
@@ -19,6 +19,7 @@ use Rattle.log_records.specs.declared.Record.TheVariants.{Update}
 use Rattle.log_records.specs.Record.{spellings}
 use Rattle.log_machine.specs.declared.UndoEntry.{UndoEntry}
 use Rattle.log_machine.specs.Machine.{State, start, after_all, put_record, undo_of, undo_bytes, abort_records}
+use Rattle.page_redo.specs.Pages.{pages_in}
 use Rattle.page_redo.specs.Redo.{last_lsn}
 use Rattle.gated_log.specs.Log.{records_of, batches_bytes, pending_batch}
 use Rattle.heap_words.specs.declared.Word.{Word}
@@ -41,7 +42,7 @@ pub record Core : Type 0 where
   pub batches : List (List Record)  -- the log's batches on the disk
   pub words : List ℕ  -- the words of both spaces behind these
   pub pending : List Record  -- the records behind them that wait to be forced
-  pub stored : ℕ → ℕ  -- the LSN with which each page is stored, or 0
+  pub stored_lsns : ℕ → ℕ  -- the LSN with which each page is stored, or 0
   pub places : Places  -- the objects that stand in the current space behind all of these, with their addresses
 
 -- the next transaction's number
@@ -56,13 +57,13 @@ all_records c = records_of c.batches ++ c.pending
 abbrev pub all_words : Core → List ℕ
 all_words c = fold put_record c.words c.pending
 
--- the LSN of a page: that of the last record that touches it, or that with which it is stored
-abbrev pub page_lsn : Core → ℕ → ℕ
-page_lsn c p = max (c.stored p) (last_lsn p 1 (all_records c))
+-- the LSN of a page as it is now: that of the last record that touches it, or that with which it is stored
+abbrev pub present_lsn : Core → ℕ → ℕ
+present_lsn c p = max (c.stored_lsns p) (last_lsn p 1 (all_records c))
 
--- whether a page is stored as it is
-abbrev pub is_clean : Core → ℕ → Bool
-is_clean c p = page_lsn c p == c.stored p
+-- whether there is a page of that number, which has changed since it was stored
+abbrev pub is_dirty : Core → ℕ → Bool
+is_dirty c p = nat_lt p (pages_in c.pages) && not (present_lsn c p == c.stored_lsns p)
 
 -- what records say of a core's heap, if they follow one another
 abbrev pub state_behind : Core → List Record → Option State

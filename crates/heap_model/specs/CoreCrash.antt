@@ -1,5 +1,5 @@
 -- What a crash leaves of a core.
-use Rattle.std.specs.Prelude.{◌≡◌, ◌⊎◌, ℕ, ◌+◌, ◌≤◌, List, length, take}
+use Rattle.std.specs.Prelude.{◌≡◌, ◌⊎◌, ℕ, ◌+◌, ◌<◌, ◌≤◌, List, length, take}
 use Rattle.graph_model.specs.Transaction.{serial}
 use Rattle.graph_model.specs.History.{commits, acknowledged}
 use Rattle.image_plan.specs.declared.superblock.Super.{Super}
@@ -7,16 +7,18 @@ use Rattle.image_plan.specs.Super.{IsSuper}
 use Rattle.log_records.specs.declared.Record.{Record}
 use Rattle.gated_log.specs.Log.{with_batch, records_of}
 use Rattle.log_machine.specs.Machine.{words}
-use Rattle.page_redo.specs.Pages.{Pages}
+use Rattle.page_redo.specs.Pages.{Pages, pages_in, lsn_of}
 use Rattle.page_redo.specs.Prefix.{EachHoldsPrefix}
 use Rattle.heap_model.specs.Core.{Core}
 use Rattle.heap_model.specs.Image.{StandsFor}
 use Rattle.heap_model.specs.Opening.{next_of}
 
--- A core's words are those that its log leaves, and each page that is stored beside it holds as many of its records as its LSN says.
+-- A core's words are those that its log leaves, and each page that is stored beside it has the LSN that the core knows, and holds as many
+-- of its records as that says.
 pub record IsLogged (c : Core) (stored : Pages) : Type 0 where
   pub words : c.words ≡ words c.pages (records_of c.batches)
   pub prefixes : EachHoldsPrefix c.pages (records_of c.batches) stored
+  pub lsns : (p : ℕ) → p < pages_in c.pages → lsn_of stored p ≡ c.stored_lsns p
 
 -- The disk holds the batches that were forced, or those that wait as one more.
 abbrev pub IsOnDisk : Core → List (List Record) → Type 0

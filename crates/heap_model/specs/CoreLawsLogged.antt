@@ -30,18 +30,19 @@ logged_forced c stored (r ∷ rs) logged =
           ∙ sym (words-append c.pages (records_of c.batches) (r ∷ rs))
           ∙ ap (words c.pages) (sym all);
       prefixes = subst (λ (l : List Record). EachHoldsPrefix c.pages l stored) (sym all) (EachHoldsPrefix-append c.pages (records_of c.batches) (r ∷ rs) stored logged.prefixes);
+      lsns = logged.lsns;
     }
 
 logged_done : (c : Core) (stored : Pages) (event : Event) → IsLogged c stored → IsLogged (done c event) stored
 logged_done c stored Force logged = logged_forced c stored c.pending logged
-logged_done c stored event logged = record { words = logged.words; prefixes = logged.prefixes }
+logged_done c stored event logged = record { words = logged.words; prefixes = logged.prefixes; lsns = logged.lsns }
 
 logged_refusal : (why : Option Refusal) (c : Core) (stored : Pages) (event : Event) → IsLogged c stored → IsLogged (after_refusal why c event) stored
 logged_refusal None c stored event logged = logged_done c stored event logged
 logged_refusal (Some why) c stored event logged = logged
 
 logged_entry : (c : Core) (stored : Pages) (event : Event) (reply : Reply) → IsLogged c stored → IsLogged (with_entry c event reply) stored
-logged_entry c stored event reply logged = record { words = logged.words; prefixes = logged.prefixes }
+logged_entry c stored event reply logged = record { words = logged.words; prefixes = logged.prefixes; lsns = logged.lsns }
 
 -- each step keeps it
 pub logged_step : (c d : Core) (stored : Pages) (event : Event) (reply : Reply) → IsStep c event reply d → IsLogged c stored → IsLogged d stored

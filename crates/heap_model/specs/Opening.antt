@@ -71,7 +71,7 @@ opened s batches stored born places g =
       batches = rolled_back s batches;
       words = rolled_words s batches stored;
       pending = [];
-      stored = lsn_of stored;
+      stored_lsns = lsn_of stored;
       places = places;
     }
 

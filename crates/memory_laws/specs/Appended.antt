@@ -104,7 +104,7 @@ module _ (m n : Memory) (c : Core) (valid : IsValid c) (is : IsMemory m (account
         log = left.log.kept c.batches c.pending is.log;
         place = left.log.place.at ∙ is.place;
         room = left.log.place.room ∙ is.room;
-        stored = left.words ∙ ap (λ (ws : List ℕ). fold put_record ws more) is.stored ∙ sym (fold-append put_record c.words c.pending more);
+        words = left.words ∙ ap (λ (ws : List ℕ). fold put_record ws more) is.words ∙ sym (fold-append put_record c.words c.pending more);
         pages = ap (λ (l : List ℕ). length l) left.lsns ∙ lsns-redo_all (log_count m.log + 1) (pages_of m) more ∙ is.pages;
         lsns = λ p lt. lsn_appended m n c is more left.lsns p lt;
         flushed = λ p lt. ap (λ (x : PageStore). stored_lsn x p) left.store ∙ is.flushed p lt;

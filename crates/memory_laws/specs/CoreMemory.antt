@@ -27,7 +27,7 @@ use Rattle.txn_table.specs.declared.place.Place.TheVariants.{Stable, Volatile}
 use Rattle.txn_table.specs.Table.{TransactionState}
 use Rattle.graph_words.specs.Places.{Places, address_of, index_of}
 use Rattle.heap_memory.specs.Memory.{Memory, own}
-use Rattle.heap_model.specs.Core.{Core, Ground, ground, all_records, all_words, state_behind, undo_with, area_in, page_lsn, answer, after}
+use Rattle.heap_model.specs.Core.{Core, Ground, ground, all_records, all_words, state_behind, undo_with, area_in, present_lsn, answer, after}
 
 -- the place of an object by its address, if it has one, and by its index
 abbrev pub standing_place : Option ℕ → ℕ → Place
@@ -75,10 +75,10 @@ pub record IsMemory (m : Memory) (a : Account) (c : Core) : Type 0 where
   pub log : Keeps m.log c.batches c.pending
   pub place : log_place m.log ≡ log_offset
   pub room : log_room m.log ≡ c.room
-  pub stored : m.words ≡ all_words c
+  pub words : m.words ≡ all_words c
   pub pages : length m.lsns ≡ pages_in c.pages
-  pub lsns : (p : ℕ) → p < pages_in c.pages → slice_index m.lsns p ≡ page_lsn c p
-  pub flushed : (p : ℕ) → p < pages_in c.pages → stored_lsn m.store p ≡ c.stored p
+  pub lsns : (p : ℕ) → p < pages_in c.pages → slice_index m.lsns p ≡ present_lsn c p
+  pub flushed : (p : ℕ) → p < pages_in c.pages → stored_lsn m.store p ≡ c.stored_lsns p
   pub state : State
   pub reached : state_behind c (all_records c) ≡ Some state
   pub spaces : m.spaces ≡ spaces_of state

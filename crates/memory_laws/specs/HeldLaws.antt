@@ -107,7 +107,7 @@ module _ (m : Memory) (c : Core) (valid : IsValid c) (runs : RunsLocked c.g0 c.f
 
   -- the object as the words of memory have it
   stored_at : (id : Id) (at : ℕ) → address_of c.places id ≡ Some at → fields_at m.words area (place_in c.places v.graph id) ≡ field_words (all_words c) at
-  stored_at id at place = ap (fields_at m.words area) (place_in-placed c.places v.graph id at place) ∙ ap (λ (ws : List ℕ). field_words ws at) is.stored
+  stored_at id at place = ap (fields_at m.words area) (place_in-placed c.places v.graph id at place) ∙ ap (λ (ws : List ℕ). field_words ws at) is.words
 
   -- an object at hand has as many fields in memory as the transaction sees
   pub length-fields_at_hand : (id : Id) → IsAtHand c.places t.number v.made id → length (fields_at m.words area (place_in c.places v.graph id)) ≡ length (fields v.graph id)

@@ -7,7 +7,7 @@ use Rattle.page_redo.specs.Pages.{pages_in, lsn_of, touches}
 use Rattle.page_redo.specs.Redo.{redo_all, last_lsn}
 use Rattle.page_redo.specs.RedoLaws.{lsn-redo_all}
 use Rattle.graph_model.specs.History.{Account}
-use Rattle.heap_model.specs.Core.{Core, page_lsn, all_records}
+use Rattle.heap_model.specs.Core.{Core, all_records}
 use Rattle.heap_memory.specs.Memory.{Memory}
 use Rattle.heap_memory.specs.Leaves.{pages_of}
 use Rattle.memory_laws.specs.CoreMemory.{IsMemory}
@@ -29,7 +29,7 @@ module _ (m n : Memory) {a : Account} (c : Core) (is : IsMemory m a c) where
 
   -- a page has the LSN of the last record that touches it, with more records too
   pub lsn_appended : (more : List Record) → n.lsns ≡ (redo_all (log_count m.log + 1) (pages_of m) more).lsns → (p : ℕ) → p < pages_in c.pages
-      → get_or n.lsns p 0 ≡ max (c.stored p) (last_lsn p 1 (records_of c.batches ++ (c.pending ++ more)))
+      → get_or n.lsns p 0 ≡ max (c.stored_lsns p) (last_lsn p 1 (records_of c.batches ++ (c.pending ++ more)))
   lsn_appended more left p lt =
       let here : get_or n.lsns p 0 ≡ max (get_or m.lsns p 0) (last_lsn p (log_count m.log + 1) more) =
       ap (λ (l : List ℕ). get_or l p 0) left ∙ lsn-redo_all (log_count m.log + 1) (pages_of m) more p (omega (arith, is.pages)) in

@@ -140,7 +140,7 @@ module _ (m : Memory) (c : Core) (valid : IsValid c) (runs : RunsLocked c.g0 c.f
       let area = area_in c.places (view c.g0 a t) t.number in
       let undo = undo_with (ground c).state t.number in
       ap (λ (o : Option Transaction). call_records (ground c) c.g0 a o (Seal s)) e
-      ∙ ap (λ (ws : List ℕ). seal_records area ws undo (next_word (ground c).state)) (sym is.stored)
+      ∙ ap (λ (ws : List ℕ). seal_records area ws undo (next_word (ground c).state)) (sym is.words)
       ∙ ap (seal_records area m.words undo) next_free
 
   -- so is the log's need of them
@@ -185,7 +185,7 @@ module _ (m : Memory) (c : Core) (valid : IsValid c) (runs : RunsLocked c.g0 c.f
   seal_space t =
       let area = area_in c.places (view c.g0 a t) t.number in
       let undo = undo_with (ground c).state t.number in
-      ap (λ (ws : List ℕ). space_refusal (ground c).state (promoted_need area ws undo)) (sym is.stored)
+      ap (λ (ws : List ℕ). space_refusal (ground c).state (promoted_need area ws undo)) (sym is.words)
       ∙ ap (λ (o : Option State). space_refusal o (sealing_need m (transaction t))) is.reached
       ∙ space_open is.state (sealing_need m (transaction t))
       ∙ ap (λ (x : SpacesState). memory_refusals.space_refusal x (sealing_need m (transaction t))) (sym is.spaces)

@@ -183,7 +183,7 @@ module _ (c : Core) (valid : IsValid c) (runs : RunsLocked c.g0 c.first c.histor
     -- the records in memory are the core's
     sealing_same : (x : TransactionState) → x ≡ kept c.places v t.number undo → sealing_records m x ≡ event_records c (Seal s)
     sealing_same x same =
-        ap (sealing_records m) same ∙ ap (λ (ws : List ℕ). seal_records area ws undo (m.spaces.base + m.spaces.used)) is.stored
+        ap (sealing_records m) same ∙ ap (λ (ws : List ℕ). seal_records area ws undo (m.spaces.base + m.spaces.used)) is.words
         ∙ ap (λ (spaces : SpacesState). seal_records area now undo (spaces.base + spaces.used)) (spaces_are m n c valid is)
         ∙ sym (ap (λ (o : Option State). seal_of (record { places = c.places; words = now; state = o }) t.number v) valid.told.reached)
         ∙ sym appends
@@ -191,7 +191,7 @@ module _ (c : Core) (valid : IsValid c) (runs : RunsLocked c.g0 c.first c.histor
     -- and what it takes of the space
     taking_same : (x : TransactionState) → x ≡ kept c.places v t.number undo → with_taken m.spaces (sealing_need m x) ≡ spaces_of last
     taking_same x same =
-        ap (λ (y : TransactionState). with_taken m.spaces (sealing_need m y)) same ∙ ap (λ (ws : List ℕ). with_taken m.spaces (promoted_need area ws undo)) is.stored
+        ap (λ (y : TransactionState). with_taken m.spaces (sealing_need m y)) same ∙ ap (λ (ws : List ℕ). with_taken m.spaces (promoted_need area ws undo)) is.words
         ∙ ap (λ (spaces : SpacesState). with_taken spaces (promoted_need area now undo)) (spaces_are m n c valid is)
         ∙ ap (with_taken (spaces_of behind)) asked_same
 

@@ -130,7 +130,7 @@ module _ (m n : Memory) (c : Core) (valid : IsValid c) (runs : RunsLocked c.g0 c
         let same : y ≡ kept c.places v t.number undo = let both = sym write.writes.was ∙ own_is m c valid runs is s t write.active in cc both in
         let L : List ℕ → TransactionState → Place → Type 0 = λ ws z r. LeavesOwn m n s (memory.write_records ws z r i w) (with_written ws z r i w) (with_lock m.locks z locked.Exclusive r) in
         subst (λ (r : Place). L now (kept c.places v t.number undo) r) (sym write.one.place ∙ stands)
-        (subst (λ (z : TransactionState). L now z write.p) same (subst (λ (ws : List ℕ). L ws y write.p) is.stored write.writes.left))
+        (subst (λ (z : TransactionState). L now z write.p) same (subst (λ (ws : List ℕ). L ws y write.p) is.words write.writes.left))
 
     -- it sees the value in the field then
     sees_field : (call v t.number event).view ≡ record v { graph = with_field v.graph id i x }
