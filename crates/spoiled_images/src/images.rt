@@ -7,7 +7,7 @@ use std::alloc::{AllocError, Global};
 use std::process::Abort;
 
 /// The bytes of an image of one page with this log.
-pub const IMAGE_BYTES: usize = 64 + LOG_BYTES as usize + 2_112;
+const IMAGE_BYTES: usize = 64 + LOG_BYTES as usize + 2_112;
 
 pub const LOG_BYTES: u32 = 448;
 
@@ -17,7 +17,8 @@ pub const USED: usize = 346;
 /// What the rollback of the two losers takes, with two writes each.
 pub const ROLLBACK: usize = 96;
 
-const RECORD_BYTES: usize = 4_096;
+/// The room for all that is written to a disk of the tests.
+const RECORD_BYTES: usize = 16_384;
 
 /// Transaction 1 promotes two objects, 2 is aborted, and 3 and 4 have two writes each on the disk, the last one of an object that
 /// was not promoted.
@@ -106,7 +107,7 @@ const EVENTS: [Event; 27] = [
     Event::Force,
 ];
 
-fn disk_of(alloc: Global, bytes: &[u8]) -> Result<MemoryDisk, AllocError> {
+pub fn disk_of(alloc: Global, bytes: &[u8]) -> Result<MemoryDisk, AllocError> {
     MemoryDisk::of(
         alloc,
         bytes.to_vec(alloc)?,
@@ -123,11 +124,21 @@ pub fn made_image(rt: &impl Abort, alloc: Global) -> Result<Vec<u8>, AllocError>
     let Ok(disk) = Heap::format(disk_of(alloc, &zeros)?, 1, LOG_BYTES, 1) else {
         panic!(rt; "not made");
     };
+    played(rt, alloc, disk, &EVENTS)?.contents().to_vec(alloc)
+}
+
+/// Opens the heap, and makes these events.
+pub fn played(
+    rt: &impl Abort,
+    alloc: Global,
+    disk: MemoryDisk,
+    events: &[Event],
+) -> Result<MemoryDisk, AllocError> {
     let Ok(mut heap) = Heap::open(alloc, disk) else {
         panic!(rt; "not opened");
     };
-    play(rt, &mut heap, &EVENTS)?;
-    heap.close().contents().to_vec(alloc)
+    play(rt, &mut heap, events)?;
+    Ok(heap.close())
 }
 
 /// Makes these events, none of which is refused.
@@ -149,18 +160,18 @@ fn opened(
     Ok(match Heap::open(alloc, disk_of(alloc, image)?) {
         Ok(heap) => (Verdict::Heap, heap.close()),
         Err((OpenError::NotHeap, disk)) => (Verdict::NotHeap, disk),
-        Err((OpenError::Damaged { at }, disk)) => (verdict_at(rt, at), disk),
+        Err((OpenError::Damaged { at }, disk)) => (verdict_at(at), disk),
         Err((e, _)) => panic!(rt; "not opened: {e:?}"),
     })
 }
 
-fn verdict_at(rt: &impl Abort, at: At) -> Verdict {
+fn verdict_at(at: At) -> Verdict {
     match at {
         At::Batch(offset) => Verdict::Batch(offset),
         At::Rec(number) => Verdict::Record(number),
         At::Reserve => Verdict::Reserve,
         At::Address(address) => Verdict::Address(address),
-        At::Page(page) => panic!(rt; "page {page}"),
+        At::Page(page) => Verdict::Page(page),
     }
 }
 
@@ -204,7 +215,16 @@ pub struct Tally {
     pub batches: u32,
     pub records: u32,
     pub reserves: u32,
+    pub pages: u32,
     pub addresses: u32,
+}
+
+/// Puts the bytes there.
+pub fn poke(rt: &impl Abort, image: &mut [u8], at: usize, bytes: &[u8]) {
+    for (place, byte) in image.iter_mut().skip(at).zip(bytes) {
+        *place = *byte;
+    }
+    assert!(rt; at <= image.len() && image.len() - at >= bytes.len());
 }
 
 impl Tally {
@@ -215,6 +235,7 @@ impl Tally {
             batches: 0,
             records: 0,
             reserves: 0,
+            pages: 0,
             addresses: 0,
         }
     }
@@ -226,6 +247,7 @@ impl Tally {
             Verdict::Batch(_) => &mut self.batches,
             Verdict::Record(_) => &mut self.records,
             Verdict::Reserve => &mut self.reserves,
+            Verdict::Page(_) => &mut self.pages,
             Verdict::Address(_) => &mut self.addresses,
         };
         *counter = counter.saturating_add(1);

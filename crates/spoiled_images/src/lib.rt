@@ -3,6 +3,7 @@
 #![tactic(auto)]
 
 mod bytes;
+mod frames;
 mod reader;
 mod records;
 mod state;
@@ -11,6 +12,10 @@ mod walk;
 pub use reader::{Verdict, read};
 
 #[cfg(test)]
+mod frame_tests;
+#[cfg(test)]
 mod images;
+#[cfg(test)]
+mod stored_image;
 #[cfg(test)]
 mod tests;

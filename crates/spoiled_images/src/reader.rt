@@ -1,5 +1,6 @@
 //! What a whole image holds.
 use crate::bytes::Cursor;
+use crate::frames::Pages;
 use crate::records::{Record, read_record};
 use crate::state::State;
 use crate::walk::walk_fault;
@@ -18,6 +19,8 @@ pub enum Verdict {
     Record(u64),
     /// The log has no room for what takes the writes of unfinished transactions back.
     Reserve,
+    /// The page of that number is ahead of the log: the LSN in its frame is greater than the number of all records.
+    Page(u32),
     /// At that word address the walk of the words fails.
     Address(u32),
 }
@@ -30,6 +33,9 @@ const SUPER_ZEROS: usize = 40;
 
 /// The bytes of the frames of a page of both spaces.
 const FRAME_BYTES: u64 = 2_112;
+
+/// The spaces, which have the same number of pages.
+const SPACES: u32 = 2;
 
 /// The bytes of a batch before its records: its gate and its length.
 const BATCH_HEAD: usize = 5;
@@ -58,7 +64,7 @@ enum Batches {
 
 /// Reads an image, of a disk with these bytes.
 pub fn read(alloc: Global, image: &[u8]) -> Result<Verdict, AllocError> {
-    let Some((shape, log)) = read_shape(image) else {
+    let Some((shape, log, frames)) = read_shape(image) else {
         return Ok(Verdict::NotHeap);
     };
     let mut records = Vec::new(alloc);
@@ -66,27 +72,45 @@ pub fn read(alloc: Global, image: &[u8]) -> Result<Verdict, AllocError> {
         Batches::Whole(used) => used,
         Batches::Broken(offset) => return Ok(Verdict::Batch(offset as u64)),
     };
-    let mut state = State::new(alloc, shape.pages)?;
-    let mut number: u64 = 0;
-    for record in records {
-        number = number.saturating_add(1);
-        if !state.follow(record)? {
-            return Ok(Verdict::Record(number));
-        }
+    let mut state = State::new(alloc, shape.pages);
+    if let Some(number) = first_unfit(&mut state, &records)? {
+        return Ok(Verdict::Record(number));
     }
     let losers = state.losers(alloc)?;
     if !has_room(&shape, used, losers.len(), state.undo_len()) {
         return Ok(Verdict::Reserve);
     }
-    state.roll_back(&losers);
-    Ok(match walk_fault(alloc, state.words())? {
-        Some(address) => Verdict::Address(u32::try_from(address).unwrap_or(u32::MAX)),
+    let mut pages = Pages::read(alloc, frames, SPACES.saturating_mul(shape.pages))?;
+    if let Some(page) = pages.first_ahead(records.len() as u64) {
+        return Ok(Verdict::Page(narrow(page)));
+    }
+    pages.redo_all(&records);
+    state.roll_back(&losers, &mut pages);
+    Ok(match walk_fault(alloc, pages.before(state.end()))? {
+        Some(address) => Verdict::Address(narrow(address)),
         None => Verdict::Heap,
     })
 }
 
-/// The numbers of a good superblock, and the log.
-fn read_shape(image: &[u8]) -> Option<(Shape, &[u8])> {
+/// A number of a verdict, which no image makes greater than that.
+fn narrow(number: usize) -> u32 {
+    u32::try_from(number).unwrap_or(u32::MAX)
+}
+
+/// The number of the first record that may not follow.
+fn first_unfit(state: &mut State, records: &[Record]) -> Result<Option<u64>, AllocError> {
+    let mut number: u64 = 0;
+    for record in records {
+        number = number.saturating_add(1);
+        if !state.follow(record)? {
+            return Ok(Some(number));
+        }
+    }
+    Ok(None)
+}
+
+/// The numbers of a good superblock, the log, and the frames behind it.
+fn read_shape(image: &[u8]) -> Option<(Shape, &[u8], &[u8])> {
     let (front, zeros) = image
         .get(..SUPER_BYTES)?
         .split_at_checked(SUPER_BYTES - SUPER_ZEROS)?;
@@ -102,8 +126,10 @@ fn read_shape(image: &[u8]) -> Option<(Shape, &[u8])> {
     if !in_limits || !zeros.iter().all(|byte| *byte == 0) || (image.len() as u64) < size {
         return None;
     }
-    let log = image.get(SUPER_BYTES..SUPER_BYTES + log_bytes as usize)?;
-    Some((Shape { pages, log_bytes }, log))
+    let (log, frames) = image
+        .get(SUPER_BYTES..)?
+        .split_at_checked(log_bytes as usize)?;
+    Some((Shape { pages, log_bytes }, log, frames))
 }
 
 /// Adds the records of all batches.

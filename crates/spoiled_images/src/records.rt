@@ -11,6 +11,9 @@ const ADDRESSES: u64 = 2_097_152;
 /// No reference is to an index of an area from this one on.
 const AREA_WORDS: u64 = 4_096;
 
+/// The words before an object's fields.
+const FRONT_WORDS: u64 = 2;
+
 /// A record of the log.
 #[derive(Debug, Drop)]
 pub enum Record {
@@ -44,6 +47,11 @@ pub enum Record {
     End {
         t: u32,
     },
+}
+
+/// The word address of an object's field.
+pub fn field_address(object: u32, field: u16) -> u64 {
+    u64::from(object) + FRONT_WORDS + u64::from(field)
 }
 
 /// Whether it is a reference to an object at a word address.

@@ -1,5 +1,5 @@
 //! Spoiled images, each of which the heap opens or refuses exactly as the second reading says.
-use crate::images::{LOG_BYTES, ROLLBACK, Tally, USED, made_image};
+use crate::images::{LOG_BYTES, ROLLBACK, Tally, USED, made_image, poke};
 use crate::reader::{Verdict, read};
 use std::alloc::{AllocError, Global};
 use std::process::Abort;
@@ -92,14 +92,6 @@ fn losers(rt: HostRuntime) -> Result<(), Fail> {
         "{tally:?}"
     );
     Ok(())
-}
-
-/// Puts the bytes there.
-fn poke(rt: &impl Abort, image: &mut [u8], at: usize, bytes: &[u8]) {
-    for (place, byte) in image.iter_mut().skip(at).zip(bytes) {
-        *place = *byte;
-    }
-    assert!(rt; at <= image.len() && image.len() - at >= bytes.len());
 }
 
 #[test]
