@@ -1,6 +1,6 @@
 -- A play opens the heap that was made for it.
 use Rattle.std.proofs.Common.{◌≡◌, ◌≢◌, inl, inr, ⊎_elim, ℕ, ◌+◌, ◌<◌, ◌≤◌, min, Bool, false, true, List, [], ◌∷◌, ◌++◌, take, Option, Some, None, Ok, refl, sym, ap, ◌∙◌, subst, arith}
-use Rattle.std.proofs.lemmas.Bool.{cases_lt}
+use Rattle.std.proofs.lemmas.Bool.{cases_lt, false≢true}
 use Rattle.std.specs.Prelude.{◌⊎◌, IsTrue}
 use Rattle.std.proofs.lemmas.List.{append-nil}
 use Rattle.disk_model.specs.declared.disk.Disk.{Ghosts}
@@ -25,7 +25,7 @@ use Rattle.heap_shell.specs.CoreLawsPlay.{running_after, all_playable}
 use Rattle.heap_model.specs.CoreRuns.{after_events}
 use Rattle.heap_model.specs.Ending.{all_events}
 use Rattle.command_words.specs.declared.commands.Stop.{Stop}
-use Rattle.heap_shell.specs.Headline.{IsOpened, made_super, end_text, stop_after, let_through, IsExact, CountsOpening, IsEndOfPlay, StartsAgain, Reopens, EndsUnopened, IsFollowed, Prints, IsPlayed}
+use Rattle.heap_shell.specs.Headline.{IsOpened, made_super, end_text, stop_after, let_through, IsExact, CountsOpening, IsEndOfPlay, StartsAgain, Reopens, EndsUnopened, IsFollowed, Prints, IsPlayed, IsOfImage}
 use Rattle.heap_shell.specs.Causes.{Unharmed}
 use Rattle.heap_shell.specs.Output.{Recovers, WroteRecovered, WroteNothing}
 use Rattle.heap_shell.proofs.Counts.{counted_mono}
@@ -35,7 +35,7 @@ use Rattle.heap_shell.proofs.Lines.{some_writes, all_writes, lines_more}
 use Rattle.graph_model.specs.Transaction.{serial}
 use Rattle.heap_shell.specs.Playable.{IsScript}
 use Rattle.page_redo.specs.Pages.{Pages, first_pages}
-use Rattle.heap_model.specs.Image.{IsShapedLog, IsLegal}
+use Rattle.heap_model.specs.Image.{IsShapedLog, IsShaped, IsLegal}
 use Rattle.counts.specs.Count.{counted}
 use Rattle.log_machine.specs.MapLaws.{entries_empty}
 use Rattle.log_machine.specs.Machine.{abort_each}
@@ -250,24 +250,33 @@ module _ {D : Type 0} (g : Ghosts D) {bytes : List ℕ} (stored : IsStored bytes
         }
 
 -- What is opened on any disk is a core that runs, whatever its graph.
-pub record IsNew (c : Core) : Type 0 where
+pub record IsNew (from : Super → List (List Record) → Pages → Type 0) (c : Core) : Type 0 where
   pub running : IsRunning c
   pub nothing : c.history ≡ []
   pub opened : IsOpened c
+  pub image : from opened.super opened.batches opened.stored
 
-pub opened_core : {D : Type 0} {g : Ghosts D} (heap : Heap D g)
+opened_as : {D : Type 0} {g : Ghosts D} (from : Super → List (List Record) → Pages → Type 0) (heap : Heap D g) (s : Super) (batches : List (List Record)) (stored : Pages) (shaped : IsShapedLog s batches stored)
+    → from s batches stored → ((born : Bool) (places : Places) (graph : Graph) → IsFound s batches stored shaped born places graph → IsCore (opened s batches stored born places graph) heap)
+    → (c : Core) × IsNew from c × IsCore c heap
+opened_as from heap s batches stored shaped image is =
+    let found = address_found s batches stored shaped in
+    let c = opened s batches stored false found.0 found.1 in
+    let running : IsRunning c = record { reached = opened_reached s batches stored shaped false found.0 found.1 found.2; unfailed = refl } in
+    let new : IsOpened c = record { super = s; batches = batches; stored = stored; shaped = shaped; born = false; places = found.0; graph = found.1; found = found.2; is = refl } in
+    (c, record { running = running; nothing = refl; opened = new; image = image }, is false found.0 found.1 found.2)
+
+pub opened_core : {D : Type 0} {g : Ghosts D} (tells : Bool) (bytes : List ℕ) (heap : Heap D g)
     → (s : Super) × (batches : List (List Record)) × (stored : Pages) × (shaped : IsShapedLog s batches stored)
     × ((born : Bool) (places : Places) (graph : Graph) → IsFound s batches stored shaped born places graph → IsCore (opened s batches stored born places graph) heap)
-    → (c : Core) × IsNew c × IsCore c heap
-opened_core heap is =
-    let found = address_found is.0 is.1 is.2 is.3 in
-    let c = opened is.0 is.1 is.2 false found.0 found.1 in
-    let running : IsRunning c = record { reached = opened_reached is.0 is.1 is.2 is.3 false found.0 found.1 found.2; unfailed = refl } in
-    let new : IsOpened c = record { super = is.0; batches = is.1; stored = is.2; shaped = is.3; born = false; places = found.0; graph = found.1; found = found.2; is = refl } in
-    (c, record { running = running; nothing = refl; opened = new }, is.4 false found.0 found.1 found.2)
+    → (IsTrue tells → (s : Super) × (batches : List (List Record)) × (stored : Pages) × (shaped : IsShaped s batches stored bytes)
+    × ((born : Bool) (places : Places) (graph : Graph) → IsFound s batches stored shaped.log born places graph → IsCore (opened s batches stored born places graph) heap))
+    → (c : Core) × IsNew (IsOfImage tells bytes) c × IsCore c heap
+opened_core true bytes heap any own = let is = own cc in opened_as (IsOfImage true bytes) heap is.0 is.1 is.2 is.3.log (λ t. is.3) is.4
+opened_core false bytes heap is own = opened_as (IsOfImage false bytes) heap is.0 is.1 is.2 is.3 (λ told. absurd (false≢true told)) is.4
 
 -- it has not failed
-pub opened_unfailed : {D : Type 0} {g : Ghosts D} (heap : Heap D g) (c : Core) → IsNew c → IsCore c heap → failed_at heap ≡ None
+pub opened_unfailed : {D : Type 0} {g : Ghosts D} (heap : Heap D g) {from : Super → List (List Record) → Pages → Type 0} (c : Core) → IsNew from c → IsCore c heap → failed_at heap ≡ None
 opened_unfailed heap c new is = is.memory.failure ∙ new.running.unfailed
 
 -- nor has it behind a play that made all events

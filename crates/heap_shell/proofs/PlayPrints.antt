@@ -14,11 +14,13 @@ use Rattle.graph_model.specs.History.{sealed}
 use Rattle.graph_model.specs.SlowHeap.{IsOfSession}
 use Rattle.graph_model.specs.Transaction.{serial}
 use Rattle.heap_core.specs.declared.heap.Heap.{Heap}
+use Rattle.image_plan.specs.declared.superblock.Super.{Super}
+use Rattle.log_records.specs.declared.Record.{Record}
 use Rattle.heap_model.specs.Core.{Core}
 use Rattle.core_laws.specs.Calls.{of_session_front}
 use Rattle.core_laws.specs.Run.{run_reached}
 use Rattle.core_laws.specs.Valid.{IsReached}
-use Rattle.page_redo.specs.Pages.{first_pages}
+use Rattle.page_redo.specs.Pages.{Pages, first_pages}
 use Rattle.heap_model.specs.CoreLawsNew.{root_place, new_legal, new_found}
 use Rattle.heap_model.specs.Ending.{all_events}
 use Rattle.heap_shell.specs.declared.output.WriteError.{WriteError}
@@ -27,7 +29,7 @@ use Rattle.heap_shell.specs.declared.play.Halt.TheVariants as halt
 use Rattle.heap_shell.specs.declared.status.Status.{Status}
 use Rattle.heap_shell.specs.declared.status.Status.TheVariants as status
 use Rattle.heap_shell.specs.CoreLawsPlay.{made_limits, all_playable}
-use Rattle.heap_shell.specs.Headline.{made_super, made_core, graph_text, end_text, recovered_line, HasMade, HasFailed, IsOfDisk, PrintsSome, Writes}
+use Rattle.heap_shell.specs.Headline.{made_super, made_core, graph_text, end_text, recovered_line, HasMade, HasFailed, IsOfDisk, PrintsRun, PrintsSome, Writes}
 use Rattle.heap_shell.specs.Output.{WroteText, WroteGraph, WroteAgain, status_after}
 use Rattle.heap_shell.specs.Play.{EndsAs, IsCutBy, IsWhole, PlaysCore, Wrote, WroteFront, lines_text}
 use Rattle.heap_shell.specs.Playable.{IsScript}
@@ -45,7 +47,7 @@ pub wrote_again : (r : Result (Unit {0}) WriteError) (k : ℕ) (g : Graph) (by :
 wrote_again r k g by before after is wrote = inr (k, g, record { sound = λ d. written_sound r (subst IsOfDisk is d); front = wrote_some r before _ after wrote; whole = λ done. wrote_all r before _ after (sym is ∙ done) wrote })
 
 -- The opening was stopped: no event was made.
-pub prints_unplayed : (n : ℕ) (script : List Line) (by : Status) (before after : List ℕ) → WroteAgain by before after → PrintsSome (Some n) script by before after
+pub prints_unplayed : {from : Super → List (List Record) → Pages → Type 0} (n : ℕ) (script : List Line) (by : Status) (before after : List ℕ) → WroteAgain by before after → PrintsSome from (Some n) script by before after
 prints_unplayed n script by before after (inl nothing) = inl nothing
 prints_unplayed n script by before after (inr again) =
     let c = made_core 1 in
@@ -54,6 +56,7 @@ prints_unplayed n script by before after (inr again) =
     inr (record {
       first = c;
       opened = record { super = made_super 1; batches = []; stored = first_pages 1; shaped = (new_legal (made_super 1) limits).shaped; born = true; places = root_place; graph = new_graph; found = new_found (made_super 1) limits; is = refl };
+      image = inl ((λ none. cc), refl);
       made = [];
       behind = events script;
       parts = refl;
@@ -86,7 +89,7 @@ last_event c made behind d (Err halt.WriteFault) ends = ends
 last_event c made behind d (Err halt.DiskFault) ends = inr (Refused DiskFault, ends)
 last_event c made behind d (Err halt.Stopped) ends = inr (Refused Stopped, ends)
 
-module _ {D : Type 0} {g : Ghosts D} (stop : Option ℕ) (c : Core) (new : IsNew c) (script : List Line) (is_script : IsScript script) (heap : Heap D g) (told : Bool) (before after : List ℕ) (result : Result (Unit {0}) Halt)
+module _ {D : Type 0} {g : Ghosts D} {from : Super → List (List Record) → Pages → Type 0} (stop : Option ℕ) (c : Core) (new : IsNew from c) (script : List Line) (is_script : IsScript script) (heap : Heap D g) (told : Bool) (before after : List ℕ) (result : Result (Unit {0}) Halt)
     (plays : PlaysCore c (all_events stop c (events script)) heap told before after result) (tells : IsTrue told) where
   abbrev core : Core
   core = plays.core
@@ -102,10 +105,11 @@ module _ {D : Type 0} {g : Ghosts D} (stop : Option ℕ) (c : Core) (new : IsNew
 
   prints : (by : Status) (after' : List ℕ) (k : ℕ) (graph : Graph) → (by ≡ status.Done → HasMade stop c plays.made plays.behind core) → (IsOfDisk by → HasFailed stop by c plays.made plays.behind core)
       → (IsCutBy (Refused DiskFault) c plays.made core → (by ≢ status.Done) × WroteFront before (lines_text core.history) after') → (stop ≡ None → graph ≡ serial core.g0 (sealed core.history))
-      → Writes by core.history (end_text stop k graph) before after' → PrintsSome stop script by before after'
+      → Writes by core.history (end_text stop k graph) before after' → PrintsSome from stop script by before after'
   prints by after' k graph done failed faulted own written = inr (record {
     first = c;
     opened = new.opened;
+    image = inr new.image;
     made = plays.made;
     behind = plays.behind;
     parts = plays.parts;
@@ -122,7 +126,7 @@ module _ {D : Type 0} {g : Ghosts D} (stop : Option ℕ) (c : Core) (new : IsNew
   })
 
   -- it ended before more than lines were to be written
-  pub prints_early : (h : Halt) → result ≡ Err h → PrintsSome stop script (halt_status h) before after
+  pub prints_early : (h : Halt) → result ≡ Err h → PrintsSome from stop script (halt_status h) before after
   prints_early h is =
       let some = subst (λ (r : Result (Unit {0}) Halt). Wrote r before core.history after) is wrote in
       let graph = serial core.g0 (sealed core.history) in
@@ -132,9 +136,9 @@ module _ {D : Type 0} {g : Ghosts D} (stop : Option ℕ) (c : Core) (new : IsNew
       (some_writes core.history before after (halt_status h) (end_text stop 0 graph) after (halt_not_done h) part.0 part.1 (halt_lines core.history before after h some))
 
 -- It was not to stop, and its graph was to be written.
-pub prints_whole : {D : Type 0} {g : Ghosts D} (c : Core) (new : IsNew c) (script : List Line) (is_script : IsScript script) (heap : Heap D g) (told : Bool) (before after : List ℕ)
+pub prints_whole : {D : Type 0} {g : Ghosts D} {from : Super → List (List Record) → Pages → Type 0} (c : Core) (new : IsNew from c) (script : List Line) (is_script : IsScript script) (heap : Heap D g) (told : Bool) (before after : List ℕ)
     (plays : PlaysCore c (all_events None c (events script)) heap told before after (Ok tt)) (tells : IsTrue told) (r : Result (Unit {0}) WriteError) (after' : List ℕ)
-    → WroteText r after (graph_text (serial plays.core.g0 (sealed plays.core.history))) after' → PrintsSome None script (status_after r) before after'
+    → WroteText r after (graph_text (serial plays.core.g0 (sealed plays.core.history))) after' → PrintsSome from None script (status_after r) before after'
 prints_whole c new script is_script heap told before after plays tells r after' text =
     let graph = serial plays.core.g0 (sealed plays.core.history) in
     prints None c new script is_script heap told before after (Ok tt) plays tells (status_after r) after' 0 graph (λ done. plays.ends) (λ is. absurd (written_sound r is))
@@ -142,9 +146,9 @@ prints_whole c new script is_script heap told before after plays tells r after' 
     (all_writes plays.core.history before after (status_after r) (graph_text graph) after' (written_sound r) (wrote None c new script is_script heap told before after (Ok tt) plays tells) (wrote_some r after _ after' text) (λ done. wrote_all r after _ after' done text))
 
 -- It was to stop, and what came back was to be written.
-pub prints_again : {D : Type 0} {g : Ghosts D} (n : ℕ) (c : Core) (new : IsNew c) (script : List Line) (is_script : IsScript script) (heap : Heap D g) (told : Bool) (before after : List ℕ) (result : Result (Unit {0}) Halt)
-    (plays : PlaysCore c (events script) heap told before after result) (tells : IsTrue told) (ended : (result ≡ Ok tt) ⊎ (result ≡ Err halt.Stopped)) (by : Status) (after' : List ℕ) → WroteAgain by after after' → PrintsSome (Some n) script by before after'
-prints_again n c new script is_script heap told before after result plays tells ended by after' again = ⊎_elim nothing some again
+pub prints_again : {D : Type 0} {g : Ghosts D} {from : Super → List (List Record) → Pages → Type 0} (n : ℕ) (c : Core) (new : IsNew from c) (script : List Line) (is_script : IsScript script) (heap : Heap D g) (told : Bool) (before after : List ℕ) (result : Result (Unit {0}) Halt)
+    (plays : PlaysCore c (events script) heap told before after result) (tells : IsTrue told) (ended : (result ≡ Ok tt) ⊎ (result ≡ Err halt.Stopped)) (by : Status) (after' : List ℕ) → WroteAgain by after after' → PrintsSome from (Some n) script by before after'
+prints_again {from = from} n c new script is_script heap told before after result plays tells ended by after' again = ⊎_elim nothing some again
   where
     made : HasMade (Some n) c plays.made plays.behind plays.core
     made = ⊎_elim
@@ -161,15 +165,39 @@ prints_again n c new script is_script heap told before after result plays tells 
     out : after ≡ before ++ lines_text plays.core.history
     out = stopped_lines plays.core.history before after result ended (wrote (Some n) c new script is_script heap told before after result plays tells)
 
-    nothing : (by ≢ status.Done) × (after' ≡ after) → PrintsSome (Some n) script by before after'
+    nothing : (by ≢ status.Done) × (after' ≡ after) → PrintsSome from (Some n) script by before after'
     nothing none =
         let graph = serial plays.core.g0 (sealed plays.core.history) in
         let lines = none.1 ∙ out in
         prints (Some n) c new script is_script heap told before after result plays tells by after' 0 graph (λ done. made) (λ is. inr (inl made)) (λ cut. absurd (unfaulted cut)) (λ no. refl)
         (some_writes plays.core.history before after by (end_text (Some n) 0 graph) after' none.0 (whole_front before (lines_text plays.core.history) after' lines) (lines_more plays.core.history before after after' [] out (none.1 ∙ sym (append-nil after))) (λ is. lines))
 
-    some : (k : ℕ) × (graph : Graph) × WroteGraph k graph by after after' → PrintsSome (Some n) script by before after'
+    some : (k : ℕ) × (graph : Graph) × WroteGraph k graph by after after' → PrintsSome from (Some n) script by before after'
     some wrote_it =
         let text = recovered_line wrote_it.0 ++ graph_text wrote_it.1 in
         prints (Some n) c new script is_script heap told before after result plays tells by after' wrote_it.0 wrote_it.1 (λ done. made) (λ is. inr (inl made)) (λ cut. absurd (unfaulted cut)) (λ no. cc)
         (all_writes plays.core.history before after by text after' wrote_it.2.sound out wrote_it.2.front wrote_it.2.whole)
+
+-- A run of a script that was read, of which less may be said of the image.
+pub prints_script : {from less : Super → List (List Record) → Pages → Type 0} (read : List Line → Type 0) (stop : Option ℕ) (script : List Line) (by : Status) (before after : List ℕ) → read script
+    → ((s : Super) (batches : List (List Record)) (stored : Pages) → from s batches stored → less s batches stored) → PrintsSome from stop script by before after
+    → ((by ≢ status.Done) × (after ≡ before)) ⊎ ((lines : List Line) × read lines × PrintsRun less stop lines by before after)
+prints_script read stop script by before after is implies (inl nothing) = inl nothing
+prints_script read stop script by before after is implies (inr run) = inr (script, is, record {
+      first = run.first;
+      opened = run.opened;
+      made = run.made;
+      image = ⊎_elim (λ none. inl none) (λ own. inr (implies run.opened.super run.opened.batches run.opened.stored own)) run.image;
+      behind = run.behind;
+      parts = run.parts;
+      core = run.core;
+      run = run.run;
+      last = run.last;
+      done = run.done;
+      failed = run.failed;
+      faulted = run.faulted;
+      count = run.count;
+      graph = run.graph;
+      own = run.own;
+      written = run.written;
+    })

@@ -29,7 +29,7 @@ use Rattle.heap_model.specs.Ending.{all_events}
 use Rattle.graph_words.specs.Places.{Places}
 use Rattle.log_records.specs.declared.Record.{Record}
 use Rattle.page_redo.specs.Pages.{Pages, first_pages}
-use Rattle.heap_model.specs.Image.{IsShapedLog, IsLegal}
+use Rattle.heap_model.specs.Image.{IsShapedLog, IsShaped, IsLegal}
 use Rattle.heap_model.specs.Opening.{opened, opening_calls, IsFound}
 use Rattle.script_text.specs.declared.line.Line.{Line}
 use Rattle.script_text.specs.Line.{events}
@@ -138,13 +138,23 @@ pub record IsOpened (c : Core) : Type 0 where
   pub found : IsFound super batches stored shaped born places graph
   pub is : c ≡ opened super batches stored born places graph
 
+-- On a disk that tells its bytes, they are the log and the pages of that image.
+abbrev pub IsOfImage : Bool → List ℕ → Super → List (List Record) → Pages → Type 0
+IsOfImage tells image s batches stored = IsTrue tells → IsShaped s batches stored image
+
+-- So are they where no heap was to be made first.
+abbrev pub IsOfOwnImage : Option ℕ → Bool → List ℕ → Super → List (List Record) → Pages → Type 0
+IsOfOwnImage fresh tells image s batches stored = fresh ≡ None → IsOfImage tells image s batches stored
+
 -- On any disk: a heap was opened with some graph, the events that were made are a run of that core, and what was written is a first
 -- part of the lines of its history, of how many commits came back where a stop was asked, and of a graph. Of a run that is done it is
--- all of that; and without a stop the graph is the core's.
-pub record PrintsRun (stop : Option ℕ) (lines : List Line) (result : Status) (before after : List ℕ) : Type 0 where
+-- all of that; and without a stop the graph is the core's. What was opened is `from` where that says.
+pub record PrintsRun (from : Super → List (List Record) → Pages → Type 0) (stop : Option ℕ) (lines : List Line) (result : Status) (before after : List ℕ) : Type 0 where
   pub first : Core
   pub opened : IsOpened first
   pub made : List Event
+  -- an opening that a stop cut short opened nothing
+  pub image : ((stop ≢ None) × (made ≡ [])) ⊎ from opened.super opened.batches opened.stored
   pub behind : List Event
   pub parts : all_events stop first (events lines) ≡ made ++ behind
   pub core : Core
@@ -162,8 +172,8 @@ pub record PrintsRun (stop : Option ℕ) (lines : List Line) (result : Status) (
   pub written : Writes result core.history (end_text stop count graph) before after
 
 -- A run that isn't done wrote nothing, or it wrote that.
-abbrev pub PrintsSome : Option ℕ → List Line → Status → List ℕ → List ℕ → Type 0
-PrintsSome stop lines result before after = ((result ≢ status.Done) × (after ≡ before)) ⊎ PrintsRun stop lines result before after
+abbrev pub PrintsSome : (Super → List (List Record) → Pages → Type 0) → Option ℕ → List Line → Status → List ℕ → List ℕ → Type 0
+PrintsSome from stop lines result before after = ((result ≢ status.Done) × (after ≡ before)) ⊎ PrintsRun from stop lines result before after
 
 -- The statuses with which a play ends.
 abbrev pub IsEndOfPlay : Status → Type 0

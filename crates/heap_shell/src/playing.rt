@@ -8,7 +8,7 @@ ghost use Rattle.script_text.specs.declared.line.Line.{Line};
 ghost use Rattle.script_text.specs.declared.script.ScriptError.TheVariants.{Fault};
 ghost use Rattle.command_words.specs.Limits.{IsPages};
 ghost use Rattle.heap_shell.specs.Causes.{StreamCause, RunsDisk, IsInputError, IsOpenedEnd, FailsByScript};
-ghost use Rattle.heap_shell.specs.Headline.{OfTold, IsPlayed, IsEndOfPlay, PrintsRun, PrintsSome, Runs, CanPlay, IsUntouching, EndsUnread, EndsUnmade, IsSound, RestartsDisk, restarts_asked, starts_asked, stop_after};
+ghost use Rattle.heap_shell.specs.Headline.{OfTold, IsPlayed, IsEndOfPlay, PrintsRun, PrintsSome, IsOfImage, IsOfOwnImage, Runs, CanPlay, IsUntouching, EndsUnread, EndsUnmade, IsSound, RestartsDisk, restarts_asked, starts_asked, stop_after};
 ghost use Rattle.heap_shell.specs.Playable.{IsScript, IsReadFrom};
 ghost use Rattle.heap_shell.specs.Refusals.{IsFault, IsToldOf, IsToldOfEach, EndsRefused, IsLeftAlone, LeavesAlone};
 ghost use Rattle.heap_shell.specs.Stored.{IsStored, stored_core, stored_calls};
@@ -59,7 +59,7 @@ pub fn run_play<D: Disk, S: Source, K: Sink>(
     ensures headline { OfTold D.tells (D.bytes disk) (D.may_leave disk)
         (Runs D.Disk fresh stop (IsReadFrom S.tells (S.left source.old)) disk result.1 result.0 K.tells (K.written sink.old) (K.written sink.new)) }
     ensures prints { IsTrue K.tells
-        → ((result.0 ≢ Status.Done) × (K.written sink.new ≡ K.written sink.old)) ⊎ ((lines : List Line) × IsReadFrom S.tells (S.left source.old) lines × PrintsRun (stop_after stop) lines result.0 (K.written sink.old) (K.written sink.new)) }
+        → ((result.0 ≢ Status.Done) × (K.written sink.new ≡ K.written sink.old)) ⊎ ((lines : List Line) × IsReadFrom S.tells (S.left source.old) lines × PrintsRun (IsOfOwnImage fresh D.tells (D.bytes disk)) (stop_after stop) lines result.0 (K.written sink.old) (K.written sink.new)) }
     ensures unwritten { stop ≡ None → ¬ IsSound result.0 → sink.new ≡ sink.old }
     ensures restarts { IsTrue D.tells → RestartsDisk (restarts_asked stop) result.0 (D.restarts disk) (D.restarts result.1) }
     // Where a heap is there, or one was to be made on a disk that is large enough, and the script is good, the run ends as a play.
@@ -102,7 +102,7 @@ fn play_script<D: Disk, K: Sink>(
     ensures sink { StreamCause (K.faults sink.old) (K.faults sink.new) (result.0 ≡ Status.WriteFault) }
     ensures restarts { IsTrue D.tells → RestartsDisk (restarts_asked stop) result.0 (D.restarts disk) (D.restarts result.1) }
     ensures unwritten { stop ≡ None → ¬ IsSound result.0 → sink.new ≡ sink.old }
-    ensures prints { IsTrue K.tells → PrintsSome (stop_after stop) script.now result.0 (K.written sink.old) (K.written sink.new) }
+    ensures prints { IsTrue K.tells → PrintsSome (IsOfImage D.tells (D.bytes disk)) (stop_after stop) script.now result.0 (K.written sink.old) (K.written sink.new) }
     ensures played { IsTrue D.tells → (stored : IsStored (D.bytes disk)) → Only (D.bytes disk) (D.may_leave disk)
         → IsPlayed D.Disk stop (stored_calls stored) (stored_core stored) (all_events (stop_after stop) (stored_core stored) (events script.now)) disk result.1 result.0 K.tells (K.written sink.old) (K.written sink.new) }
     // An image that can't be opened gives its own status, and nothing is written then; each status against it tells what is so, unless the disk was started again.
@@ -145,7 +145,7 @@ fn play_whole<D: Disk, K: Sink>(
     ensures sink { StreamCause (K.faults sink.old) (K.faults sink.new) (result.0 ≡ Status.WriteFault) }
     ensures restarts { IsTrue D.tells → D.restarts result.1 ≡ D.restarts disk }
     ensures unwritten { ¬ IsSound result.0 → sink.new ≡ sink.old }
-    ensures prints { IsTrue K.tells → PrintsSome None script.now result.0 (K.written sink.old) (K.written sink.new) }
+    ensures prints { IsTrue K.tells → PrintsSome (IsOfImage D.tells (D.bytes disk)) None script.now result.0 (K.written sink.old) (K.written sink.new) }
     ensures played { IsTrue D.tells → (stored : IsStored (D.bytes disk)) → Only (D.bytes disk) (D.may_leave disk)
         → IsPlayed D.Disk None (stored_calls stored) (stored_core stored) (all_events None (stored_core stored) (events script.now)) disk result.1 result.0 K.tells (K.written sink.old) (K.written sink.new) }
     ensures refused { IsTrue D.tells → IsToldOf result.0 (D.bytes disk) }
@@ -181,7 +181,7 @@ fn play_stopped<D: Disk, K: Sink>(
     ensures disk { RunsDisk D.Disk disk result.1 (result.0 ≡ Status.DiskFault) }
     ensures sink { StreamCause (K.faults sink.old) (K.faults sink.new) (result.0 ≡ Status.WriteFault) }
     ensures restarts { IsTrue D.tells → RestartsDisk (starts_asked stop.again) result.0 (D.restarts disk) (D.restarts result.1) }
-    ensures prints { IsTrue K.tells → PrintsSome (Some stop.after) script.now result.0 (K.written sink.old) (K.written sink.new) }
+    ensures prints { IsTrue K.tells → PrintsSome (IsOfImage D.tells (D.bytes disk)) (Some stop.after) script.now result.0 (K.written sink.old) (K.written sink.new) }
     ensures played { IsTrue D.tells → (stored : IsStored (D.bytes disk)) → Only (D.bytes disk) (D.may_leave disk)
         → IsPlayed D.Disk (Some stop) (stored_calls stored) (stored_core stored) (events script.now) disk result.1 result.0 K.tells (K.written sink.old) (K.written sink.new) }
     ensures refused { IsTrue D.tells → ¬ Rose (D.restarts disk) (D.restarts result.1) → IsToldOf result.0 (D.bytes disk) }

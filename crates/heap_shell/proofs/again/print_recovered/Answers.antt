@@ -76,7 +76,7 @@ returns-clause-recovers g c = λ tells core k first only same.
 
 pub write_recovered-requires : goal.write_recovered-requires
 write_recovered-requires g c =
-    let some = opened_core c.in-Ok.heap c.in-Ok.ensures.opens in
+    let some = opened_core g.D.Disk.tells (g.D.Disk.bytes c.args.disk) c.in-Ok.heap c.in-Ok.ensures.opens c.in-Ok.ensures.sound in
     record { unfailed = opened_unfailed c.in-Ok.heap some.0 some.1 some.2 }
 
 pub returns-in-Err-clause-again : goal.returns-in-Err-clause-again
@@ -85,7 +85,7 @@ returns-in-Err-clause-again g c tells = inl ((λ done. open_not_done c.in-Err.e 
 pub returns-clause-again : goal.returns-clause-again
 returns-clause-again g c tells =
     let k = g.K.Sink in
-    let some = opened_core c.in-Ok.heap c.in-Ok.ensures.opens in
+    let some = opened_core g.D.Disk.tells (g.D.Disk.bytes c.args.disk) c.in-Ok.heap c.in-Ok.ensures.opens c.in-Ok.ensures.sound in
     wrote_again c.write_recovered.result _ _ c.status_after-status.result (k.written c.args.sink.now) (k.written c.write_recovered.new.sink) c.status_after-status.ensures (c.write_recovered.ensures.wrote tells some.0 some.2 some.1.running.reached)
 
 pub returns-in-Err-clause-refuses : goal.returns-in-Err-clause-refuses

@@ -13,10 +13,10 @@ use Rattle.heap_model.specs.CoreRuns.{total_calls}
 use Rattle.heap_model.specs.Image.{IsLegal, Holds, shaped_image}
 use Rattle.heap_model.specs.Opening.{rollback_of}
 use Rattle.heap_shell.specs.CoreLawsPlay.{all_playable}
-use Rattle.heap_shell.specs.Headline.{IsExact, KeepsThroughout, Reopens, StartsAgain, EndsUnopened, RestartsDisk, starts_asked}
+use Rattle.heap_shell.specs.Headline.{IsExact, KeepsThroughout, Reopens, StartsAgain, EndsUnopened, RestartsDisk, starts_asked, PrintsSome, IsOfImage}
 use Rattle.heap_shell.specs.Causes.{Unharmed}
 use Rattle.heap_shell.specs.Output.{Recovers}
-use Rattle.heap_shell.specs.StatusOf.{open_status}
+use Rattle.heap_shell.specs.StatusOf.{open_status, halt_status}
 use Rattle.heap_shell.specs.Stored.{stored_core, stored_calls}
 use Rattle.script_text.specs.Line.{events}
 use Rattle.heap_shell.proofs.Causes.{rose_within}
@@ -265,22 +265,29 @@ returns-then-eq-clause-prints g c tells =
     let k = g.K.Sink in
     prints_unplayed c.args.stop.after c.args.script.now c.start_again.result.0 (k.written c.args.sink.now) (k.written c.start_again.new.sink) (c.start_again.ensures.again tells)
 
+-- the disk that stops holds the image
 pub returns-in-None-clause-prints : goal.returns-in-None-clause-prints
 returns-in-None-clause-prints g c tells =
     let k = g.K.Sink in
-    let some = opened_core c.in-Ok.heap c.in-Ok.ensures.opens in
+    let some = opened_core g.D.Disk.tells (g.D.Disk.bytes (fuse_inner c.new.result)) c.in-Ok.heap c.in-Ok.ensures.opens c.in-Ok.ensures.sound in
     let plays = c.play_lines-played.ensures.core some.0 some.2 some.1.running in
     let ended = early_none c.play_lines-played.result (sym c.early_end.ensures ∙ c.in-None.is) in
-    prints_again c.args.stop.after some.0 some.1 c.args.script.now c.requires c.play_lines-played.new.heap k.tells (k.written c.args.sink.now) (k.written c.play_lines-played.new.sink) c.play_lines-played.result plays tells ended
-    c.start_again-in-None.result.0 (k.written c.start_again-in-None.new.sink) (c.start_again-in-None.ensures.again tells)
+    let before = k.written c.args.sink.now in
+    let after = k.written c.start_again-in-None.new.sink in
+    let by = c.start_again-in-None.result.0 in
+    subst (λ x. PrintsSome (IsOfImage g.D.Disk.tells (g.D.Disk.bytes x)) (Some c.args.stop.after) c.args.script.now by before after) c.new.ensures.inner
+    (prints_again c.args.stop.after some.0 some.1 c.args.script.now c.requires c.play_lines-played.new.heap k.tells before (k.written c.play_lines-played.new.sink) c.play_lines-played.result plays tells ended by after (c.start_again-in-None.ensures.again tells))
 
 pub returns-in-Some-clause-prints : goal.returns-in-Some-clause-prints
 returns-in-Some-clause-prints g c tells =
     let k = g.K.Sink in
-    let some = opened_core c.in-Ok.heap c.in-Ok.ensures.opens in
+    let some = opened_core g.D.Disk.tells (g.D.Disk.bytes (fuse_inner c.new.result)) c.in-Ok.heap c.in-Ok.ensures.opens c.in-Ok.ensures.sound in
     let plays = c.play_lines-played.ensures.core some.0 some.2 some.1.running in
     let halted = early_some c.play_lines-played.result c.in-Some.status (sym c.early_end.ensures ∙ c.in-Some.is) in
-    rw halted.3 (prints_early (Some c.args.stop.after) some.0 some.1 c.args.script.now c.requires c.play_lines-played.new.heap k.tells (k.written c.args.sink.now) (k.written c.play_lines-played.new.sink) c.play_lines-played.result plays tells halted.0 halted.1)
+    let before = k.written c.args.sink.now in
+    let after = k.written c.play_lines-played.new.sink in
+    rw halted.3 (subst (λ x. PrintsSome (IsOfImage g.D.Disk.tells (g.D.Disk.bytes x)) (Some c.args.stop.after) c.args.script.now (halt_status halted.0) before after) c.new.ensures.inner
+    (prints_early (Some c.args.stop.after) some.0 some.1 c.args.script.now c.requires c.play_lines-played.new.heap k.tells before after c.play_lines-played.result plays tells halted.0 halted.1))
 
 pub returns-then-eq-clause-restarts : goal.returns-then-eq-clause-restarts
 returns-then-eq-clause-restarts g c tells =

@@ -105,7 +105,7 @@ returns-in-Err-play_all-clause-played g c tells stored only =
 pub write_graph-requires : goal.write_graph-requires
 write_graph-requires g c =
     let k = g.K.Sink in
-    let some = opened_core c.in-Ok.heap c.in-Ok.ensures.opens in
+    let some = opened_core g.D.Disk.tells (g.D.Disk.bytes c.args.disk) c.in-Ok.heap c.in-Ok.ensures.opens c.in-Ok.ensures.sound in
     let running = some.1.running in
     let plays = c.in-Ok-play_all.ensures.core some.0 some.2 running in
     record { unfailed = played_unfailed some.0 c.args.script.now c.play_all.new.heap k.tells (k.written c.args.sink.now) (k.written c.play_all.new.sink) running c.requires plays }
@@ -116,7 +116,7 @@ returns-in-Err-clause-prints g c tells = inl ((λ done. open_not_done c.in-Err.e
 pub returns-in-Ok-play_all-clause-prints : goal.returns-in-Ok-play_all-clause-prints
 returns-in-Ok-play_all-clause-prints g c tells =
     let k = g.K.Sink in
-    let some = opened_core c.in-Ok.heap c.in-Ok.ensures.opens in
+    let some = opened_core g.D.Disk.tells (g.D.Disk.bytes c.args.disk) c.in-Ok.heap c.in-Ok.ensures.opens c.in-Ok.ensures.sound in
     let before = k.written c.args.sink.now in
     let after = k.written c.play_all.new.sink in
     let new = c.play_all.new.heap in
@@ -127,7 +127,7 @@ returns-in-Ok-play_all-clause-prints g c tells =
 pub returns-in-Err-play_all-clause-prints : goal.returns-in-Err-play_all-clause-prints
 returns-in-Err-play_all-clause-prints g c tells =
     let k = g.K.Sink in
-    let some = opened_core c.in-Ok.heap c.in-Ok.ensures.opens in
+    let some = opened_core g.D.Disk.tells (g.D.Disk.bytes c.args.disk) c.in-Ok.heap c.in-Ok.ensures.opens c.in-Ok.ensures.sound in
     let h : Halt = c.in-Err-play_all.halt in
     let plays = c.in-Err-play_all.ensures.core some.0 some.2 some.1.running in
     rw c.from-in-Err-play_all.ensures (prints_early None some.0 some.1 c.args.script.now c.requires c.play_all.new.heap k.tells (k.written c.args.sink.now) (k.written c.play_all.new.sink) (Err h) plays tells h refl)

@@ -7,6 +7,7 @@ use Rattle.script_text.specs.Line.{events}
 use Rattle.heap_shell.specs.Headline.{made_super, PrintsRun, stop_after, IsPlayed, made_core}
 use Rattle.heap_shell.specs.Playable.{IsScript, IsReadFrom}
 use Rattle.heap_shell.proofs.PlayOpen.{new_stored, no_calls}
+use Rattle.heap_shell.proofs.PlayPrints.{prints_script}
 use Rattle.heap_shell.proofs.RunLaws.{large_made, format_not_done, not_made, not_read, restarts_none, end_sound}
 use Rattle.heap_shell.proofs.RefusalLaws.{input_told_each, alone_untouched}
 use Rattle.heap_shell.proofs.playing.run_play.Goals as goal
@@ -80,3 +81,20 @@ returns-in-Err-clause-headline g c tells only =
 -- a script that was not read left the disk alone
 pub returns-in-Err-clause-left_alone : goal.returns-in-Err-clause-left_alone
 returns-in-Err-clause-left_alone g c tells none expected fault alone = alone_untouched g.D.Disk c.args.disk (λ image since. g.met.D.Disk.only_now tells c.args.disk image since)
+
+-- the image that was opened is the disk's own
+pub returns-in-None-clause-prints : goal.returns-in-None-clause-prints
+returns-in-None-clause-prints g c tells =
+    let read = c.in-Ok.ensures.script in
+    let k = g.K.Sink in
+    prints_script (IsReadFrom g.S.Source.tells (g.S.Source.left c.args.source.now)) (stop_after c.args.stop) c.deref.result.now c.play_script.result.0 (k.written c.args.sink.now) (k.written c.play_script.new.sink)
+    (record { bytes = read.0; script = read.1 ∙ ap (λ (ls : List Line). Ok ls) (sym c.deref.ensures.value); own = read.2 }) (λ s batches stored own none. own) (c.play_script.ensures.prints tells)
+
+-- or that of the heap that was made
+pub returns-in-Ok-format-clause-prints : goal.returns-in-Ok-format-clause-prints
+returns-in-Ok-format-clause-prints g c tells =
+    let read = c.in-Ok.ensures.script in
+    let k = g.K.Sink in
+    prints_script (IsReadFrom g.S.Source.tells (g.S.Source.left c.args.source.now)) (stop_after c.args.stop) c.deref-in-Ok-format.result.now c.play_script-in-Ok-format.result.0 (k.written c.args.sink.now) (k.written c.play_script-in-Ok-format.new.sink)
+    (record { bytes = read.0; script = read.1 ∙ ap (λ (ls : List Line). Ok ls) (sym c.deref-in-Ok-format.ensures.value); own = read.2 })
+    (λ s batches stored own none. let never : None ≡ Some c.in-Some.pages = sym none ∙ c.in-Some.is in cc never) (c.play_script-in-Ok-format.ensures.prints tells)

@@ -57,7 +57,7 @@ returns-in-Err-clause-graph g c tells only s batches stored shaped born places g
 pub returns-in-Ok-clause-prints : goal.returns-in-Ok-clause-prints
 returns-in-Ok-clause-prints g c tells =
     let k = g.K.Sink in
-    let some = opened_core c.in-Ok.heap c.in-Ok.ensures.opens in
+    let some = opened_core g.D.Disk.tells (g.D.Disk.bytes c.args.disk) c.in-Ok.heap c.in-Ok.ensures.opens c.in-Ok.ensures.sound in
     let core = some.0 in
     let before = k.written c.args.sink.now in
     let after = k.written c.write_graph.new.sink in
