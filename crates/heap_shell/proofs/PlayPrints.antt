@@ -183,21 +183,25 @@ pub prints_script : {from less : Super → List (List Record) → Pages → Type
     → ((s : Super) (batches : List (List Record)) (stored : Pages) → from s batches stored → less s batches stored) → PrintsSome from stop script by before after
     → ((by ≢ status.Done) × (after ≡ before)) ⊎ ((lines : List Line) × read lines × PrintsRun less stop lines by before after)
 prints_script read stop script by before after is implies (inl nothing) = inl nothing
-prints_script read stop script by before after is implies (inr run) = inr (script, is, record {
-      first = run.first;
-      opened = run.opened;
-      made = run.made;
-      image = ⊎_elim (λ none. inl none) (λ own. inr (implies run.opened.super run.opened.batches run.opened.stored own)) run.image;
-      behind = run.behind;
-      parts = run.parts;
-      core = run.core;
-      run = run.run;
-      last = run.last;
-      done = run.done;
-      failed = run.failed;
-      faulted = run.faulted;
-      count = run.count;
-      graph = run.graph;
-      own = run.own;
-      written = run.written;
-    })
+prints_script read stop script by before after is implies (inr run) = inr (
+  script,
+  is,
+  record {
+    first = run.first;
+    opened = run.opened;
+    made = run.made;
+    image = ⊎_elim (λ none. inl none) (λ own. inr (implies run.opened.super run.opened.batches run.opened.stored own)) run.image;
+    behind = run.behind;
+    parts = run.parts;
+    core = run.core;
+    run = run.run;
+    last = run.last;
+    done = run.done;
+    failed = run.failed;
+    faulted = run.faulted;
+    count = run.count;
+    graph = run.graph;
+    own = run.own;
+    written = run.written;
+  },
+)
