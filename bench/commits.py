@@ -47,8 +47,8 @@ def commits_of_heap(n, log, replies):
 
 def check_acknowledged(n):
     """Ends the bench where the replies in the file don't tell of the last commit."""
-    with open("output") as output:
-        if f"force -> durable {n}\n" not in output.read():
+    with open("replies") as replies:
+        if f"force -> durable {n}\n" not in replies.read():
             sys.exit("commits: the last commit was not acknowledged")
 
 
@@ -85,7 +85,7 @@ def main():
     subprocess.run([os.path.join(TOP, "heap"), *["--quick"] * QUICK, "play", "--fresh", "1"], stdin=subprocess.DEVNULL, stdout=subprocess.PIPE, check=True)
     subprocess.run(["gcc", "-O2", "-o", "commits", f"{TOP}/bench/commits.c"], check=True)
     log = 64 + 40 * n
-    rounds = [(commits_of_heap(n, log, os.devnull), commits_of_heap(n, log, "output"), empty_script(log), commits_of_c(n, log)) for _ in range(RUNS)]
+    rounds = [(commits_of_heap(n, log, os.devnull), commits_of_heap(n, log, "replies"), empty_script(log), commits_of_c(n, log)) for _ in range(RUNS)]
     check_acknowledged(n)
     dropped, kept, empty, c = map(min, zip(*rounds))
     ours = n / (dropped - empty)
