@@ -14,7 +14,7 @@ use Rattle.graph_model.specs.declared.event.Event.TheVariants.{Seal}
 use Rattle.graph_model.specs.declared.reply.Entry.{Entry}
 use Rattle.graph_model.specs.declared.reply.Refusal.TheVariants.{DiskFault, Stopped}
 use Rattle.graph_model.specs.declared.reply.Reply.{Reply}
-use Rattle.graph_model.specs.declared.reply.Reply.TheVariants.{Begun, Sealed, Aborted, Durable, Refused}
+use Rattle.graph_model.specs.declared.reply.Reply.TheVariants.{Begun, Sealed, Aborted, Durable, Flushed, Clean, Refused}
 use Rattle.graph_model.specs.Graph.{Graph}
 use Rattle.graph_model.specs.ClosedGraph.{IsClosed, IsUnused}
 use Rattle.graph_model.specs.ClosedGraphLaws.{run-SeesClosed, run-IsUnused}
@@ -276,6 +276,10 @@ entry_ordered g0 numbers a heard event Aborted asked o =
     recounted g0 (numbers ++ []) _ _ a.begun a.acknowledged (a.entries + 1) (grown g0 numbers [] _ _ (ended g0 numbers a heard (session_of event) o))
 entry_ordered g0 numbers a heard event (Durable n) asked o =
     recounted g0 (numbers ++ []) a heard a.begun (max a.acknowledged n) (a.entries + 1) (grown g0 numbers [] a heard o)
+entry_ordered g0 numbers a heard event (Flushed page) asked o =
+    recounted g0 (numbers ++ []) a heard a.begun a.acknowledged (a.entries + 1) (grown g0 numbers [] a heard o)
+entry_ordered g0 numbers a heard event (Clean page) asked o =
+    recounted g0 (numbers ++ []) a heard a.begun a.acknowledged (a.entries + 1) (grown g0 numbers [] a heard o)
 entry_ordered g0 numbers a heard event (Refused DiskFault) asked o =
     recounted g0 (numbers ++ []) _ _ _ _ _ (grown g0 numbers [] _ _ (cut_ordered g0 numbers a heard event o))
 entry_ordered g0 numbers a heard event (Refused Stopped) asked o =

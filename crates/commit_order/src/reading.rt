@@ -43,7 +43,7 @@ impl Reading {
                 self.active.remove(&s);
                 Ok(())
             }
-            Reply::Durable { .. } => Ok(()),
+            Reply::Durable { .. } | Reply::Flushed { .. } | Reply::Clean { .. } => Ok(()),
             Reply::Refused {
                 why: Refusal::DiskFault | Refusal::Stopped,
             } => self.cut(entry.event),

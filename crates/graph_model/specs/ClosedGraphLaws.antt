@@ -10,7 +10,7 @@ use Rattle.graph_model.specs.declared.id.Id.{Id}
 use Rattle.graph_model.specs.declared.val.Val.{Val}
 use Rattle.graph_model.specs.declared.val.Val.TheVariants.{Null, Int, Ref}
 use Rattle.graph_model.specs.declared.event.Event.{Event}
-use Rattle.graph_model.specs.declared.event.Event.TheVariants.{Begin, Root, New, Put, Clear, Link, Drop, Get, Same, Len, Seal, Abort, Force}
+use Rattle.graph_model.specs.declared.event.Event.TheVariants.{Begin, Root, New, Put, Clear, Link, Drop, Get, Same, Len, Seal, Abort, Force, Flush}
 use Rattle.graph_model.specs.Graph.{Graph, id_cmp, root, fields, new_graph}
 use Rattle.graph_model.specs.GraphLaws.{same_or_other, get-insert_same, get-insert_other, fields_by_insert, get_by_insert}
 use Rattle.graph_model.specs.Canon.{at_root, along}
@@ -180,6 +180,7 @@ call-SeesClosed v t (Len s h) sees = sees
 call-SeesClosed v t (Seal s) sees = sees
 call-SeesClosed v t (Abort s) sees = sees
 call-SeesClosed v t Force sees = sees
+call-SeesClosed v t (Flush p) sees = sees
 
 -- so do calls
 pub after_calls-SeesClosed : (v : View) (t : ℕ) (cs : List Event) → SeesClosed v → SeesClosed (after_calls v t cs)

@@ -3,10 +3,10 @@ use Rattle.std.specs.Prelude.{◌≡◌, ℕ, ◌+◌, ◌≤◌, ◌==◌, List
 use Rattle.std.specs.List.{range_with_len}
 use Rattle.std.specs.Option.{option_to_list}
 use Rattle.graph_model.specs.declared.event.Event.{Event}
-use Rattle.graph_model.specs.declared.event.Event.TheVariants.{Begin, Root, New, Put, Clear, Link, Drop, Get, Same, Len, Seal, Abort, Force}
+use Rattle.graph_model.specs.declared.event.Event.TheVariants.{Begin, Root, New, Put, Clear, Link, Drop, Get, Same, Len, Seal, Abort, Force, Flush}
 use Rattle.graph_model.specs.declared.reply.Refusal.TheVariants.{DiskFault, Stopped}
 use Rattle.graph_model.specs.declared.reply.Reply.{Reply}
-use Rattle.graph_model.specs.declared.reply.Reply.TheVariants.{Begun, Sealed, Aborted, Durable, Refused}
+use Rattle.graph_model.specs.declared.reply.Reply.TheVariants.{Begun, Sealed, Aborted, Durable, Flushed, Clean, Refused}
 use Rattle.graph_model.specs.declared.reply.Entry.{Entry}
 use Rattle.graph_model.specs.Transaction.{Transaction}
 
@@ -18,7 +18,7 @@ sessions = range_with_len 1 32
 abbrev pub IsSession : ℕ → Type 0
 IsSession s = (1 ≤ s) × (s ≤ 32)
 
--- the session of an event, and 0 for `force`, which is of none
+-- the session of an event, and 0 for `force` and `flush`, which are of none
 abbrev pub session_of : Event → ℕ
 session_of (Begin s) = s
 session_of (Root s h) = s
@@ -33,6 +33,7 @@ session_of (Len s h) = s
 session_of (Seal s) = s
 session_of (Abort s) = s
 session_of Force = 0
+session_of (Flush p) = 0
 
 -- What a history says so far.
 pub record Account : Type 0 where
@@ -83,6 +84,8 @@ done a event (Begun n) = begins a (session_of event) n
 done a event (Sealed n) = seals a (session_of event)
 done a event Aborted = aborts a (session_of event)
 done a event (Durable n) = record a { acknowledged = max a.acknowledged n }
+done a event (Flushed page) = a
+done a event (Clean page) = a
 done a event (Refused why) = a
 done a event reply = makes_call a (session_of event) event
 

@@ -7,11 +7,11 @@ use Rattle.std.proofs.lemmas.Option.{slice_get_past}
 use Rattle.std.proofs.lemmas.List.Sums.{fold-append}
 use Rattle.graph_model.specs.declared.id.Id.{Id}
 use Rattle.graph_model.specs.declared.event.Event.{Event}
-use Rattle.graph_model.specs.declared.event.Event.TheVariants.{Begin, Root, New, Put, Clear, Link, Drop, Get, Same, Len, Seal, Abort, Force}
+use Rattle.graph_model.specs.declared.event.Event.TheVariants.{Begin, Root, New, Put, Clear, Link, Drop, Get, Same, Len, Seal, Abort, Force, Flush}
 use Rattle.graph_model.specs.declared.reply.Entry.{Entry}
 use Rattle.graph_model.specs.declared.reply.Refusal.TheVariants.{DiskFault, Stopped}
 use Rattle.graph_model.specs.declared.reply.Reply.{Reply}
-use Rattle.graph_model.specs.declared.reply.Reply.TheVariants.{Begun, Done, Yes, No, Sealed, Aborted, Durable, Refused}
+use Rattle.graph_model.specs.declared.reply.Reply.TheVariants.{Begun, Done, Yes, No, Sealed, Aborted, Durable, Flushed, Clean, Refused}
 use Rattle.graph_model.specs.declared.val.Val.{Val}
 use Rattle.graph_model.specs.declared.val.Val.TheVariants.{Null, Int, Ref}
 use Rattle.graph_model.specs.Graph.{Graph, is_same_id}
@@ -108,6 +108,7 @@ length-registers-call v t (Len s h) = refl
 length-registers-call v t (Seal s) = refl
 length-registers-call v t (Abort s) = refl
 length-registers-call v t Force = refl
+length-registers-call v t (Flush p) = refl
 
 -- nor do calls
 pub length-registers-after_calls : (v : View) (t : ℕ) (cs : List Event) → length (after_calls v t cs).registers ≡ length v.registers
@@ -124,6 +125,8 @@ IsCallReply (Begun n) = ⊥
 IsCallReply (Sealed n) = ⊥
 IsCallReply Aborted = ⊥
 IsCallReply (Durable n) = ⊥
+IsCallReply (Flushed page) = ⊥
+IsCallReply (Clean page) = ⊥
 IsCallReply (Refused why) = ⊥
 IsCallReply reply = Unit {0}
 
@@ -156,6 +159,7 @@ call-IsCallReply v t (Len s h) = tt
 call-IsCallReply v t (Seal s) = tt
 call-IsCallReply v t (Abort s) = tt
 call-IsCallReply v t Force = tt
+call-IsCallReply v t (Flush p) = tt
 
 -- an order is an event that asks nothing
 abbrev pub IsOrder : Event → Type 0
@@ -178,6 +182,8 @@ account_after-call a event (Begun n) never = absurd never
 account_after-call a event (Sealed n) never = absurd never
 account_after-call a event Aborted never = absurd never
 account_after-call a event (Durable n) never = absurd never
+account_after-call a event (Flushed page) never = absurd never
+account_after-call a event (Clean page) never = absurd never
 account_after-call a event (Refused why) never = absurd never
 account_after-call a event reply is = refl
 
@@ -204,6 +210,8 @@ answered-AreInSessions a event (Begun n) begins within = in_sessions_with a.acti
 answered-AreInSessions a event (Sealed n) begins within = in_sessions_with a.active (session_of event) None (λ t is. cc) within
 answered-AreInSessions a event Aborted begins within = in_sessions_with a.active (session_of event) None (λ t is. cc) within
 answered-AreInSessions a event (Durable n) begins within = within
+answered-AreInSessions a event (Flushed page) begins within = within
+answered-AreInSessions a event (Clean page) begins within = within
 answered-AreInSessions a event (Refused DiskFault) begins within = in_sessions_cut a event within
 answered-AreInSessions a event (Refused Stopped) begins within = in_sessions_cut a event within
 answered-AreInSessions a event (Refused why) begins within = within

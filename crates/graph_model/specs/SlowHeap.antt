@@ -6,7 +6,7 @@ use Rattle.std.specs.BTreeMap.{BTreeMap}
 use Rattle.graph_model.specs.declared.id.Id.{Id}
 use Rattle.graph_model.specs.declared.val.Val.{Val}
 use Rattle.graph_model.specs.declared.event.Event.{Event}
-use Rattle.graph_model.specs.declared.event.Event.TheVariants.{Force}
+use Rattle.graph_model.specs.declared.event.Event.TheVariants.{Force, Flush}
 use Rattle.graph_model.specs.declared.reply.Reply.{Reply}
 use Rattle.graph_model.specs.declared.transaction_view.TransactionView.{TransactionView}
 use Rattle.graph_model.specs.Graph.{new_graph}
@@ -17,6 +17,7 @@ use Rattle.graph_model.specs.Objects.{graph_of}
 -- an event of a session, or of none
 abbrev pub IsOfSession : Event → Type 0
 IsOfSession Force = Unit {0}
+IsOfSession (Flush p) = Unit {0}
 IsOfSession event = IsSession (session_of event)
 
 -- what a transaction sees, as it is kept

@@ -35,6 +35,8 @@ pub enum Event {
     Abort { s: u32 },
     /// All that was sealed is to be on the disk.
     Force,
+    /// Page `p` is to be stored as it is now.
+    Flush { p: u64 },
 }
 
 /// The first session.
@@ -46,7 +48,7 @@ pub const LAST_SESSION: u32 = 32;
 impl Event {
     ghost use Rattle.graph_model.specs.SlowHeap.{IsOfSession};
 
-    /// The session of the event, and 0 for `force`, which is of none.
+    /// The session of the event, and 0 for `force` and `flush`, which are of none.
     pub fn session(&self) -> u32
         ensures { result ≡ session_of self.now }
     {
@@ -63,7 +65,7 @@ impl Event {
             | Event::Len { s, .. }
             | Event::Seal { s }
             | Event::Abort { s } => *s,
-            Event::Force => 0,
+            Event::Force | Event::Flush { .. } => 0,
         }
     }
 
@@ -72,7 +74,7 @@ impl Event {
         ensures { IsTrue result ↔ IsOfSession self.now }
     {
         match self {
-            Event::Force => true,
+            Event::Force | Event::Flush { .. } => true,
             _ => FIRST_SESSION <= self.session() && self.session() <= LAST_SESSION,
         }
     }
@@ -97,6 +99,7 @@ impl fmt::Display for Event {
             Event::Seal { s } => write!(f, "{s} seal"),
             Event::Abort { s } => write!(f, "{s} abort"),
             Event::Force => f.write_str("force"),
+            Event::Flush { p } => write!(f, "flush {p}"),
         }
     }
 }

@@ -22,6 +22,8 @@ pub enum Refusal {
     Range,
     /// The object has no such field.
     BadField,
+    /// There is no page of that number.
+    NoSuchPage,
     /// Other transactions hold the object in a way that conflicts; this is the least of their numbers.
     Busy { holder: u64 },
     /// The transaction's volatile area has no room: that many of its words are used.
@@ -61,6 +63,10 @@ pub enum Reply {
     Aborted,
     /// All that was sealed is on the disk: that many transactions since the heap was opened.
     Durable { n: u64 },
+    /// The page was stored.
+    Flushed { page: u64 },
+    /// The page has not changed since it was stored.
+    Clean { page: u64 },
     /// It was not done.
     Refused { why: Refusal },
 }
@@ -84,6 +90,7 @@ impl fmt::Display for Refusal {
             Refusal::BadHandle => f.write_str("badhandle"),
             Refusal::Range => f.write_str("range"),
             Refusal::BadField => f.write_str("badfield"),
+            Refusal::NoSuchPage => f.write_str("nosuchpage"),
             Refusal::Busy { holder } => write!(f, "busy {holder}"),
             Refusal::VolatileFull { used } => write!(f, "volatilefull {used}"),
             Refusal::Exhausted { need, free, owed } => write!(f, "exhausted {need} {free} {owed}"),
@@ -114,6 +121,8 @@ impl fmt::Display for Reply {
             Reply::Sealed { n } => write!(f, "sealed {n}"),
             Reply::Aborted => f.write_str("aborted"),
             Reply::Durable { n } => write!(f, "durable {n}"),
+            Reply::Flushed { page } => write!(f, "flushed {page}"),
+            Reply::Clean { page } => write!(f, "clean {page}"),
             Reply::Refused { why } => write!(f, "{why}"),
         }
     }

@@ -100,6 +100,7 @@ impl SlowHeap {
             Event::Seal { s } => self.seal(s),
             Event::Abort { s } => self.abort(s),
             Event::Force => self.force(),
+            Event::Flush { p } => self.flush(p),
             _ => self.call(event),
         }
     }
@@ -243,6 +244,18 @@ impl SlowHeap {
         let reply = Reply::Durable {
             n: self.states.len() as u64 - 1,
         };
+        self.history.push(Entry { event, reply })?;
+        Ok(reply)
+    }
+
+    // This heap stores no page, and has any that is asked for.
+    fn flush(&mut self, p: u64) -> Result<Reply, AllocError>
+        ensures reply { IfOk result (λ reply. reply ≡ plain_reply 1 new_graph (account self.old) (Event.Flush p)) }
+        ensures entry { IfOk result (λ reply. self.new ≡ self.old ++ (record { event = Event.Flush p; reply = reply }) ∷ []) }
+        ensures err { OnErr result (self.new ≡ self.old) }
+    {
+        let event = Event::Flush { p };
+        let reply = Reply::Flushed { page: p };
         self.history.push(Entry { event, reply })?;
         Ok(reply)
     }

@@ -87,7 +87,11 @@ impl TransactionView {
             Event::Get { h, i, h2, .. } => self.get_refusal(h, i, h2),
             Event::Same { h, h2, .. } => self.same_refusal(h, h2),
             Event::Len { h, .. } => self.len_refusal(h),
-            Event::Begin { .. } | Event::Seal { .. } | Event::Abort { .. } | Event::Force => None,
+            Event::Begin { .. }
+            | Event::Seal { .. }
+            | Event::Abort { .. }
+            | Event::Force
+            | Event::Flush { .. } => None,
         }
     }
 
@@ -178,9 +182,11 @@ impl TransactionView {
             Event::Get { h, i, h2, .. } => Ok(self.read(h, i, h2)),
             Event::Same { h, h2, .. } => Ok(self.compare(h, h2)),
             Event::Len { h, .. } => Ok(self.length(h)),
-            Event::Begin { .. } | Event::Seal { .. } | Event::Abort { .. } | Event::Force => {
-                Ok(Reply::Done)
-            }
+            Event::Begin { .. }
+            | Event::Seal { .. }
+            | Event::Abort { .. }
+            | Event::Force
+            | Event::Flush { .. } => Ok(Reply::Done),
         }
     }
 

@@ -1,8 +1,9 @@
--- Calls of more than three numbers.
-use Rattle.std.proofs.Common.{◌≡◌, ℕ, ◌≤◌, List, [], ◌∷◌, length, map, Option, None, Some, refl, arith}
+-- Calls of more than three numbers, and the call that a line asks for.
+use Rattle.std.proofs.Common.{◌≡◌, ℕ, ◌-◌, ◌≤◌, List, [], ◌∷◌, length, map, get_or, take, drop, Option, None, Some, refl, arith, take_all}
 use Rattle.std.specs.Prelude.{option_map, option_and_then}
 use Rattle.script_text.specs.Number.{number}
-use Rattle.script_text.specs.Line.{numbers, call_of}
+use Rattle.script_text.specs.Line.{session, numbers, call_of, line_of}
+use Rattle.script_text.specs.LineLaws.{line_of-session}
 
 -- a number in front of others, if there are others
 abbrev onto : Option (List ℕ) → Option ℕ → Option (List ℕ)
@@ -23,3 +24,12 @@ no_call s verb bytes (a ∷ []) many = absurd (omega arith)
 no_call s verb bytes (a ∷ b ∷ []) many = absurd (omega arith)
 no_call s verb bytes (a ∷ b ∷ c ∷ []) many = absurd (omega arith)
 no_call s verb bytes (a ∷ b ∷ c ∷ d ∷ rest) many = four s verb (number (bytes a)) (number (bytes b)) (number (bytes c)) (number (bytes d)) (numbers (map bytes rest))
+
+-- what the words ask of the session that the first of them spells
+pub call_of-words : {A : Type 0} (bytes : A → List ℕ) (words : List A) (d : A) (s : ℕ) → 2 ≤ length words → session (bytes (get_or words 0 d)) ≡ Some s
+    → option_and_then (call_of s (bytes (get_or words 1 d))) (numbers (map bytes (take (length words - 2) (drop 2 words)))) ≡ line_of (map bytes words)
+call_of-words bytes [] d s two own = absurd (omega arith)
+call_of-words bytes (first ∷ []) d s two own = absurd (omega arith)
+call_of-words bytes (first ∷ verb ∷ rest) d s two own =
+    let all : take (length (first ∷ verb ∷ rest) - 2) rest ≡ rest = take_all (length (first ∷ verb ∷ rest) - 2) rest (omega arith) in
+    rw (all, line_of-session (bytes first) (bytes verb) (map bytes rest) s own) refl

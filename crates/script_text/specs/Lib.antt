@@ -1,4 +1,5 @@
 pub mod Line
+pub mod LineLaws
 pub mod Number
 pub mod PrintedLaws
 pub mod Reader

@@ -2,7 +2,7 @@
 use Rattle.std.specs.Prelude.{ℕ, ◌-◌, ◌==◌, ◌||◌, ◌&&◌, not, nat_le, Bool, List, [], ◌∷◌, length, filter, find, slice_index, Option, None, Some, option_map, option_and_then, bytes_eq, codes, if◌then◌else◌}
 use Rattle.std.specs.List.{slice_split, flat_map}
 use Rattle.graph_model.specs.declared.event.Event.{Event}
-use Rattle.graph_model.specs.declared.event.Event.TheVariants.{Begin, Root, New, Put, Clear, Link, Drop, Get, Same, Len, Seal, Abort, Force}
+use Rattle.graph_model.specs.declared.event.Event.TheVariants.{Begin, Root, New, Put, Clear, Link, Drop, Get, Same, Len, Seal, Abort, Force, Flush}
 use Rattle.script_text.specs.declared.line.Line.{Line}
 use Rattle.script_text.specs.declared.line.Line.TheVariants.{One, Commit}
 use Rattle.script_text.specs.Number.{number}
@@ -47,11 +47,20 @@ calls s more = []
 abbrev pub call_of : ℕ → List ℕ → List ℕ → Option Line
 call_of s verb given = option_map (λ call. call.1) (find (λ call. bytes_eq verb call.0) (calls s given))
 
+-- what the verb asks of the session that the first word spells, with the numbers that the rest spell
+abbrev pub session_line : List ℕ → List ℕ → List (List ℕ) → Option Line
+session_line first verb rest = option_and_then (λ s. option_and_then (call_of s verb) (numbers rest)) (session first)
+
+-- the flush of the page that the word spells
+abbrev pub flush_of : List ℕ → Option Line
+flush_of page = option_map (λ p. One (Flush p)) (number page)
+
 -- the line that the words spell
 abbrev pub line_of : List (List ℕ) → Option Line
 line_of [] = None
 line_of (word ∷ []) = if bytes_eq word (codes "force") then Some (One Force) else None
-line_of (first ∷ verb ∷ rest) = option_and_then (λ s. option_and_then (call_of s verb) (numbers rest)) (session first)
+line_of (word ∷ given ∷ []) = if bytes_eq word (codes "flush") then flush_of given else session_line word given []
+line_of (first ∷ verb ∷ rest) = session_line first verb rest
 
 -- the line that the text spells
 abbrev pub read_text : List ℕ → Option Line

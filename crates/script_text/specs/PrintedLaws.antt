@@ -9,13 +9,14 @@ use Rattle.std.proofs.lemmas.Fmt.{decimal_nonempty, length-decimal-le, digits_de
 use Rattle.std.proofs.lemmas.List.{get_or-append-add}
 use Rattle.std.proofs.lemmas.Str.Parse.{IsNumeralModel, numerals_by_fold}
 use Rattle.graph_model.specs.declared.event.Event.{Event}
-use Rattle.graph_model.specs.declared.event.Event.TheVariants.{Begin, Root, New, Put, Clear, Link, Drop, Get, Same, Len, Seal, Abort, Force}
+use Rattle.graph_model.specs.declared.event.Event.TheVariants.{Begin, Root, New, Put, Clear, Link, Drop, Get, Same, Len, Seal, Abort, Force, Flush}
 use Rattle.graph_model.specs.History.{IsSession}
 use Rattle.graph_model.specs.SlowHeap.{IsOfSession}
 use Rattle.graph_model.specs.Text.{event_text}
 use Rattle.script_text.specs.declared.line.Line.TheVariants.{One}
 use Rattle.script_text.specs.Number.{value_from, value, number}
 use Rattle.script_text.specs.Line.{pieces, words, session, numbers, call_of, read_text}
+use Rattle.script_text.specs.LineLaws.{line_of-session}
 
 -- the numbers behind an event's verb
 abbrev pub numbers_of : Event → List ℕ
@@ -28,6 +29,7 @@ numbers_of (Drop s h) = h ∷ []
 numbers_of (Get s h i h2) = h ∷ i ∷ h2 ∷ []
 numbers_of (Same s h h2) = h ∷ h2 ∷ []
 numbers_of (Len s h) = h ∷ []
+numbers_of (Flush p) = p ∷ []
 numbers_of event = []
 
 -- A script can spell these numbers: they are below 2 ^ 64.
@@ -156,7 +158,11 @@ words-join word more each =
 event_read : (event : Event) (s : ℕ) (verb : List ℕ) (ns : List ℕ) → IsSession s → event_text event ≡ join_with_byte 32 (decimal s ∷ verb ∷ map decimal ns) → is_word verb ≡ true → AreSpellable ns → call_of s verb ns ≡ Some (One event) → read_text (event_text event) ≡ Some (One event)
 event_read event s verb ns own text word spelled call =
     let each = and_from _ _ (decimal_word s (omega (arith, own.1))) (and_from _ _ word (decimal_words ns spelled)) in
-    rw (text, words-join (decimal s) (verb ∷ map decimal ns) each, session-decimal s own, numbers-decimal ns spelled) call
+    rw (text, words-join (decimal s) (verb ∷ map decimal ns) each, line_of-session (decimal s) verb (map decimal ns) s (session-decimal s own), numbers-decimal ns spelled) call
+
+flush_read : (p : ℕ) → p < 2 ^ 64 → read_text (event_text (Flush p)) ≡ Some (One (Flush p))
+flush_read p spelled =
+    let each = and_from _ _ refl (decimal_words (p ∷ []) (spelled, tt)) in rw (words-join (codes "flush") (decimal p ∷ []) each, number-decimal p spelled) refl
 
 -- A printed event is a line of a script, and is read as what it was.
 pub read_text-event_text : (event : Event) → IsOfSession event → AreSpellable (numbers_of event) → read_text (event_text event) ≡ Some (One event)
@@ -173,3 +179,4 @@ read_text-event_text (Len s h) own spelled = event_read (Len s h) s (codes "len"
 read_text-event_text (Seal s) own spelled = event_read (Seal s) s (codes "seal") [] own refl refl spelled refl
 read_text-event_text (Abort s) own spelled = event_read (Abort s) s (codes "abort") [] own refl refl spelled refl
 read_text-event_text Force own spelled = refl
+read_text-event_text (Flush p) own spelled = flush_read p spelled.0

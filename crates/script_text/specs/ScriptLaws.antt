@@ -3,7 +3,7 @@ use Rattle.std.proofs.Common.{◌≡◌, ℕ, ◌+◌, ◌*◌, ◌≤◌, Bool,
 use Rattle.std.specs.Prelude.{◌==◌, nat_lt, nat_le, IfSome, IfOk, option_map, option_and_then, find, bytes_eq, codes, if◌then◌else◌}
 use Rattle.std.specs.List.{AllByRecursion, onto_first}
 use Rattle.std.proofs.lemmas.Bool.{ltb-false, leb-true, and_parts}
-use Rattle.graph_model.specs.declared.event.Event.TheVariants.{Force}
+use Rattle.graph_model.specs.declared.event.Event.TheVariants.{Force, Flush}
 use Rattle.graph_model.specs.History.{IsSession}
 use Rattle.graph_model.specs.SlowHeap.{IsOfSession}
 use Rattle.script_text.specs.declared.line.Line.{Line}
@@ -11,7 +11,7 @@ use Rattle.script_text.specs.declared.line.Line.TheVariants.{One}
 use Rattle.script_text.specs.declared.script.ScriptError.{ScriptError}
 use Rattle.script_text.specs.declared.script.ScriptError.TheVariants.{Fault}
 use Rattle.script_text.specs.Number.{number}
-use Rattle.script_text.specs.Line.{words, is_session, session, numbers, calls, call_of, line_of, read_text, line_events, events}
+use Rattle.script_text.specs.Line.{words, is_session, session, numbers, calls, call_of, session_line, flush_of, line_of, read_text, line_events, events}
 use Rattle.script_text.specs.Script.{lines as text_lines, Reading, start, with_line, read_line, take_line, finish, script}
 
 -- The events of a line are of sessions, and there are at most two.
@@ -42,9 +42,9 @@ then_holds : {X Y : Type 0} (P : Y → Type 0) (f : X → Option Y) (o : Option 
 then_holds P f None holds = tt
 then_holds P f (Some x) holds = holds x
 
-if_sound : (b : Bool) (found : Option Line) → IsSoundIn found → IsSoundIn (if b then found else None)
-if_sound true found sound = sound
-if_sound false found sound = tt
+if_sound : (b : Bool) (found other : Option Line) → IsSoundIn found → IsSoundIn other → IsSoundIn (if b then found else other)
+if_sound true found other sound sound_else = sound
+if_sound false found other sound sound_else = sound_else
 
 number_own : (s : ℕ) (inside : Bool) → is_session s ≡ inside → IfSome (if inside then Some s else None) IsSession
 number_own s true is = let both = and_parts (nat_le 1 s) (nat_le s 32) is in (leb-true 1 s both.0, leb-true s 32 both.1)
@@ -53,15 +53,24 @@ number_own s false is = tt
 session_own : (word : List ℕ) → IfSome (session word) IsSession
 session_own word = then_holds IsSession (λ s. if is_session s then Some s else None) (number word) (λ s. number_own s (is_session s) refl)
 
+flush_sound : (page : Option ℕ) → IsSoundIn (option_map (λ p. One (Flush p)) page)
+flush_sound None = tt
+flush_sound (Some p) = ((tt, tt), omega arith)
+
 call_sound : (found : Option ℕ) (verb : List ℕ) (rest : List (List ℕ)) → IfSome found IsSession → IsSoundIn (option_and_then (λ s. option_and_then (call_of s verb) (numbers rest)) found)
 call_sound None verb rest own = tt
 call_sound (Some s) verb rest own =
     then_holds IsSound (call_of s verb) (numbers rest) (λ given. find_sound verb (calls s given) (calls_sound s own given))
 
+session_line_sound : (first verb : List ℕ) (rest : List (List ℕ)) → IsSoundIn (session_line first verb rest)
+session_line_sound first verb rest = call_sound (session first) verb rest (session_own first)
+
 line_sound : (words : List (List ℕ)) → IsSoundIn (line_of words)
 line_sound [] = tt
-line_sound (word ∷ []) = if_sound (bytes_eq word (codes "force")) (Some (One Force)) ((tt, tt), omega arith)
-line_sound (first ∷ verb ∷ rest) = call_sound (session first) verb rest (session_own first)
+line_sound (word ∷ []) = if_sound (bytes_eq word (codes "force")) (Some (One Force)) None ((tt, tt), omega arith) tt
+line_sound (word ∷ given ∷ []) =
+    if_sound (bytes_eq word (codes "flush")) (flush_of given) (session_line word given []) (flush_sound (number given)) (session_line_sound word given [])
+line_sound (first ∷ verb ∷ third ∷ rest) = session_line_sound first verb (third ∷ rest)
 
 text_sound : (text : List ℕ) → IsSoundIn (read_text text)
 text_sound text = then_holds IsSound line_of (words text) line_sound

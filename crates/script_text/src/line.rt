@@ -123,6 +123,9 @@ fn line_of(words: &[&[u8]]) -> Option<Line>
 {
     match words {
         [b"force"] => Some(Line::One(Event::Force)),
+        [b"flush", page] => Some(Line::One(Event::Flush {
+            p: read_number(page)?,
+        })),
         [session, verb, rest @ ..] => call_of(read_session(session)?, verb, rest),
         _ => None,
     }

@@ -5,9 +5,14 @@ ghost use Rattle.graph_model.specs.Text.{line};
 use graph_model::Entry;
 use std::alloc::{AllocError, Global};
 
+/// More bytes than most lines have, so that a line takes its memory at once.
+const MOST_LINES: usize = 64;
+
 /// The line of an event and its reply, with its newline.
 pub fn reply_line(alloc: Global, entry: &Entry) -> Result<String, AllocError>
     ensures { IfOk result (λ text. string_bytes text ≡ line entry.now) }
 {
-    format!(in alloc; "{entry}\n")
+    let mut text = String::with_capacity(alloc, MOST_LINES)?;
+    writeln!(text, "{entry}")?;
+    Ok(text)
 }

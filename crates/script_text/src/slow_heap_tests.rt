@@ -6,11 +6,11 @@ use std::fmt::Debug;
 use std::process::Abort;
 use std::test::Fail;
 
-/// Two transactions, and what a force counts before, between and behind them.
+/// Two transactions, what a force counts before, between and behind them, and a flush, which stores the page that it names.
 const TWO_SEALED: &str = "\
     force -> durable 0\n1 begin -> begun 1\n1 root 0 -> done\n1 put 0 0 7 -> done\n1 seal -> sealed 1\nforce -> durable 1\n\
     1 begin -> begun 2\n1 root 63 -> done\n1 put 63 0 8 -> done\n1 put 63 0 9 -> done\n1 put 63 3 4611686018427387903 -> done\n\
-    force -> durable 1\n1 seal -> sealed 2\n";
+    force -> durable 1\nflush 1 -> flushed 1\n1 seal -> sealed 2\n";
 
 /// What is asked of no transaction, of handles that hold nothing or are none, of no field, and too large a number.
 const REFUSED: &str = "\
@@ -163,7 +163,7 @@ fn events_are_answered_and_leave_graphs(rt: HostRuntime) -> Result<(), Fail> {
     Ok(())
 }
 
-const REPLIES: [(Reply, &str); 20] = [
+const REPLIES: [(Reply, &str); 23] = [
     (Reply::Begun { n: 12 }, "begun 12"),
     (Reply::Done, "done"),
     (Reply::Null, "null"),
@@ -181,6 +181,14 @@ const REPLIES: [(Reply, &str); 20] = [
     (Reply::Sealed { n: 3 }, "sealed 3"),
     (Reply::Aborted, "aborted"),
     (Reply::Durable { n: 0 }, "durable 0"),
+    (Reply::Flushed { page: 1 }, "flushed 1"),
+    (Reply::Clean { page: 0 }, "clean 0"),
+    (
+        Reply::Refused {
+            why: Refusal::NoSuchPage,
+        },
+        "nosuchpage",
+    ),
     (
         Reply::Refused {
             why: Refusal::NumbersSpent,

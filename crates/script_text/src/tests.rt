@@ -9,7 +9,8 @@ use std::test::Fail;
 /// greatest number.
 const EACH_FORM: &str =
     "1 begin\n2 root 0\n32 new 1  18446744073709551615\n\n31   put 64 4 4611686018427387904\n030 clear 0 3\n4 link 0 3 01\n5 drop 63\n\
-    6 get 0 18446744073709551615 64\n7 same 0 00000000000000000001\n8 len 0\n00000000000000000009 seal\n\n10 abort\n11 commit\nforce";
+    6 get 0 18446744073709551615 64\n7 same 0 00000000000000000001\n8 len 0\n00000000000000000009 seal\n\n10 abort\n11 commit\nforce\n\
+    flush 0\nflush  18446744073709551615";
 
 #[test]
 fn each_form_of_a_line_is_read(rt: HostRuntime) -> Result<(), Fail> {
@@ -48,6 +49,8 @@ fn each_form_of_a_line_is_read(rt: HostRuntime) -> Result<(), Fail> {
         Line::One(Event::Abort { s: 10 }),
         Line::Commit { s: 11 },
         Line::One(Event::Force),
+        Line::One(Event::Flush { p: 0 }),
+        Line::One(Event::Flush { p: most }),
     ];
     let found = read_script(rt.alloc(), EACH_FORM.as_bytes());
     assert!(rt; found.is_ok_and(|lines| lines.as_slice() == want.as_slice()));
@@ -76,7 +79,7 @@ fn check_outcomes(
 }
 
 /// A script, and how many lines it has, or the number of its first bad one.
-const READ: [(&str, Result<usize, u64>); 32] = [
+const READ: [(&str, Result<usize, u64>); 43] = [
     ("", Ok(0)),
     ("\n\n", Ok(0)),
     ("force", Ok(1)),
@@ -88,6 +91,17 @@ const READ: [(&str, Result<usize, u64>); 32] = [
     ("1", Err(1)),
     ("1 force", Err(1)),
     ("force 1", Err(1)),
+    ("flush 00000000000000000001", Ok(1)),
+    ("flush 18446744073709551615\nflush 0", Ok(2)),
+    ("flush 18446744073709551616", Err(1)),
+    ("flush 000000000000000000000", Err(1)),
+    ("flush", Err(1)),
+    ("flush x", Err(1)),
+    ("flush 1 2", Err(1)),
+    ("flush 1 ", Err(1)),
+    ("Flush 1", Err(1)),
+    ("flus 1", Err(1)),
+    ("1 flush", Err(1)),
     ("1 Begin", Err(1)),
     (" 1 begin", Err(1)),
     ("1 begin ", Err(1)),
@@ -117,7 +131,7 @@ fn the_first_bad_line_is_told(rt: HostRuntime) -> Result<(), Fail> {
 }
 
 /// Likewise, of sessions that are one and of some that are none.
-const SESSIONS: [(&str, Result<usize, u64>); 27] = [
+const SESSIONS: [(&str, Result<usize, u64>); 28] = [
     ("1 begin", Ok(1)),
     ("2 begin", Ok(1)),
     ("32 begin", Ok(1)),
@@ -145,6 +159,7 @@ const SESSIONS: [(&str, Result<usize, u64>); 27] = [
     ("begin 2", Err(1)),
     ("2 force", Err(1)),
     ("33 force", Err(1)),
+    ("2 flush 1", Err(1)),
 ];
 
 #[test]
@@ -162,28 +177,58 @@ fn a_long_script_is_a_fault_at_line_0(rt: HostRuntime) -> Result<(), Fail> {
     Ok(())
 }
 
+/// An event with its reply, and the line that is printed.
+const PRINTED: [(Entry, &str); 5] = [
+    (
+        Entry {
+            event: Event::Put {
+                s: 32,
+                h: 64,
+                i: 0,
+                v: 7,
+            },
+            reply: Reply::Refused {
+                why: Refusal::BadHandle,
+            },
+        },
+        "32 put 64 0 7 -> badhandle\n",
+    ),
+    (
+        Entry {
+            event: Event::Force,
+            reply: Reply::Durable { n: 2 },
+        },
+        "force -> durable 2\n",
+    ),
+    (
+        Entry {
+            event: Event::Flush { p: 1 },
+            reply: Reply::Flushed { page: 1 },
+        },
+        "flush 1 -> flushed 1\n",
+    ),
+    (
+        Entry {
+            event: Event::Flush { p: 1 },
+            reply: Reply::Clean { page: 1 },
+        },
+        "flush 1 -> clean 1\n",
+    ),
+    (
+        Entry {
+            event: Event::Flush { p: 2 },
+            reply: Reply::Refused {
+                why: Refusal::NoSuchPage,
+            },
+        },
+        "flush 2 -> nosuchpage\n",
+    ),
+];
+
 #[test]
 fn an_event_is_printed_with_its_reply(rt: HostRuntime) -> Result<(), Fail> {
-    let alloc = rt.alloc();
-    let put = Entry {
-        event: Event::Put {
-            s: 32,
-            h: 64,
-            i: 0,
-            v: 7,
-        },
-        reply: Reply::Refused {
-            why: Refusal::BadHandle,
-        },
-    };
-    let force = Entry {
-        event: Event::Force,
-        reply: Reply::Durable { n: 2 },
-    };
-    assert_eq!(rt;
-        reply_line(alloc, &put)?.as_str(),
-        "32 put 64 0 7 -> badhandle\n"
-    );
-    assert_eq!(rt; reply_line(alloc, &force)?.as_str(), "force -> durable 2\n");
+    for (entry, want) in &PRINTED {
+        assert_eq!(rt; reply_line(rt.alloc(), entry)?.as_str(), *want);
+    }
     Ok(())
 }
