@@ -3,9 +3,9 @@ use Rattle.std.proofs.Common.{◌≡◌, ℕ, ◌-◌, ◌*◌, Bool, true, fals
 use Rattle.std.specs.Prelude.{◌==◌, nat_lt, nat_le, if◌then◌else◌}
 use Rattle.graph_model.specs.declared.id.Id.{Id}
 use Rattle.graph_model.specs.declared.event.Event.{Event}
-use Rattle.graph_model.specs.declared.event.Event.TheVariants.{Begin, Root, New, Put, Clear, Link, Drop, Get, Same, Len, Seal, Force}
+use Rattle.graph_model.specs.declared.event.Event.TheVariants.{Begin, Root, New, Put, Clear, Link, Drop, Get, Same, Len, Seal, Force, Flush}
 use Rattle.graph_model.specs.declared.reply.Refusal.{Refusal}
-use Rattle.graph_model.specs.declared.reply.Refusal.TheVariants.{Failed, AlreadyActive, NumbersSpent, BadHandle, Range, BadField, Busy, VolatileFull, Exhausted, LogFull}
+use Rattle.graph_model.specs.declared.reply.Refusal.TheVariants.{Failed, AlreadyActive, NumbersSpent, BadHandle, Range, BadField, Busy, NoSuchPage, VolatileFull, Exhausted, LogFull}
 use Rattle.graph_model.specs.Graph.{Graph, fields}
 use Rattle.graph_model.specs.Transaction.{View, Transaction, held}
 use Rattle.graph_model.specs.History.{Account, AreInSessions, account, session_of}
@@ -13,7 +13,8 @@ use Rattle.graph_model.specs.BusyLaws.{free_law, busy_law, busy_found}
 use Rattle.graph_model.specs.Locking.{Lock, lock_of, busy_holder, IsInTheWay, IsBusy}
 use Rattle.graph_model.specs.Plain.{view, no_number, no_int, most_fields, handle_refusal, new_refusal, len_refusal, same_refusal, field_refusal, put_refusal, link_refusal, view_refusal, call_refusal, event_refusal, busy_with, call_conflict, conflict_refusal, first_of_two, model_refusal, refusal_of}
 use Rattle.log_machine.specs.Machine.{State}
-use Rattle.heap_model.specs.Core.{Core, Ground, ground, next_number, seal_need, space_refusal, room_refusal, words_refusal, log_refusal, core_refusal}
+use Rattle.page_redo.specs.Pages.{pages_in}
+use Rattle.heap_model.specs.Core.{Core, Ground, ground, next_number, seal_need, space_refusal, page_refusal, room_refusal, words_refusal, log_refusal, core_refusal}
 
 -- Other reasons.
 
@@ -75,6 +76,7 @@ other_event : (next : ℕ) (g0 : Graph) (a : Account) (event : Event) → IsOthe
 other_event next g0 a (Begin s) =
     other_if (is_some (a.active s)) AlreadyActive (if next == no_number then Some NumbersSpent else None) tt (other_if (next == no_number) NumbersSpent None tt tt)
 other_event next g0 a Force = tt
+other_event next g0 a (Flush p) = tt
 other_event next g0 a event = other_call g0 a (a.active (session_of event)) event
 
 other_space : (o : Option State) (need : ℕ) → IsOther (space_refusal o need)
@@ -86,6 +88,15 @@ other_room : (g : Ground) (g0 : Graph) (a : Account) (o : Option Transaction) (e
 other_room g g0 a (Some t) (New s h len) = other_if _ (VolatileFull _) None tt tt
 other_room g g0 a (Some t) (Seal s) = other_space g.state (seal_need g t.number (view g0 a t))
 other_room g g0 a o event = tt
+
+other_found : (b : Bool) → IsOther (if b then None else Some NoSuchPage)
+other_found true = tt
+other_found false = tt
+
+-- nor is a page that isn't there
+other_page : (pages : ℕ) (event : Event) → IsOther (page_refusal pages event)
+other_page pages (Flush p) = other_found (nat_lt p (pages_in pages))
+other_page pages event = tt
 
 other_log : (c : Core) (event : Event) → IsOther (log_refusal c event)
 other_log c event = other_if _ (LogFull _ _ _) None tt tt
@@ -140,9 +151,11 @@ busy_told c event holder within is =
     let a = account c.history in
     let asks = event_refusal (next_number c) c.g0 a event in
     let room = first_of_two (words_refusal c event) (log_refusal c event) in
+    let words =
+    other_two (page_refusal c.pages event) (room_refusal (ground c) c.g0 a (a.active (session_of event)) event) (other_page c.pages event) (other_room (ground c) c.g0 a (a.active (session_of event)) event) in
     let alive = alive_busy a.failed (first_of_two (model_refusal (next_number c) c.g0 a event) room) holder is in
     let model = first_busy (model_refusal (next_number c) c.g0 a event) room holder
-    (other_two (words_refusal c event) (log_refusal c event) (other_room (ground c) c.g0 a (a.active (session_of event)) event) (other_log c event)) alive in
+    (other_two (words_refusal c event) (log_refusal c event) words (other_log c event)) alive in
     of_call c.g0 a event holder within (a.active (session_of event)) refl (second_busy asks (conflict_refusal c.g0 a event) holder (other_event (next_number c) c.g0 a event) model)
 
 -- And the other way.

@@ -1,7 +1,7 @@
 -- What a sound core says of the records and words in memory.
-use Rattle.std.proofs.Common.{◌≡◌, ◌≢◌, ℕ, List, Some, None, sym, ap, ◌∙◌, subst, append_assoc}
+use Rattle.std.proofs.Common.{◌≡◌, ◌≢◌, ℕ, List, Some, None, refl, sym, ap, ◌∙◌, subst, append_assoc}
 use Rattle.graph_model.specs.declared.event.Event.{Event}
-use Rattle.graph_model.specs.declared.event.Event.TheVariants.{Force}
+use Rattle.graph_model.specs.declared.event.Event.TheVariants.{Force, Flush}
 use Rattle.graph_model.specs.Transaction.{Transaction, serial}
 use Rattle.graph_model.specs.History.{account, account_after, sealed}
 use Rattle.graph_model.specs.Locking.{locks_of}
@@ -15,7 +15,7 @@ use Rattle.graph_words.specs.Stands.{StandsCommitted}
 use Rattle.graph_words.specs.StandsSeen.{stands_seen_at}
 use Rattle.graph_words.specs.Places.{name_at}
 use Rattle.object_layout.specs.Layout.{IsSeenAs}
-use Rattle.heap_model.specs.Core.{Core, next_number, all_records, all_words, event_records, core_refusal}
+use Rattle.heap_model.specs.Core.{Core, next_number, all_records, all_words, event_records, core_refusal, AsksDisk}
 use Rattle.core_laws.specs.Events.{done_records}
 use Rattle.core_laws.specs.Goes.{writing_of}
 use Rattle.core_laws.specs.Sound.{sound_agrees}
@@ -52,10 +52,9 @@ module _ (c : Core) (sound : IsSound c) where
       → IsWriting c.places (view c.g0 (account c.history) t) t.number (locks_of (serial c.g0 (sealed c.history)) t) (all_words c) core_state
   core_writing s t e = writing_of _ c s t e (sound_agrees c sound)
 
--- the records that a granted event appends follow those before them
-pub event_follows : (c : Core) (event : Event) → (valid : IsValid c) → RunsLocked c.g0 c.first c.history → IsOfSession event → core_refusal c event ≡ None → event ≢ Force
+follows_them : (c : Core) (event : Event) → (valid : IsValid c) → RunsLocked c.g0 c.first c.history → IsOfSession event → core_refusal c event ≡ None → (AsksDisk event → ⊥)
     → (state : State) × (after_all valid.behind (event_records c event) ≡ Some state)
-event_follows c event valid runs one granted other =
+follows_them c event valid runs one granted other =
     let next = goes c event valid runs one (may_go c event valid.unfailed granted) in
     let left = subst (λ (d : Core). Agrees (account_after (account c.history) (record { event = event; reply = Plain.granted (next_number c) c.g0 (account c.history) event })) d) (done_records c event other) next in (
       left.behind,
@@ -63,3 +62,10 @@ event_follows c event valid runs one granted other =
           ∙ ap (λ l. after_all (start c.pages c.lowest) l) (append_assoc (records_of c.batches) c.pending (event_records c event))
           ∙ left.told.reached,
     )
+
+-- the records that a granted event appends follow those before them
+pub event_follows : (c : Core) (event : Event) → (valid : IsValid c) → RunsLocked c.g0 c.first c.history → IsOfSession event → core_refusal c event ≡ None → event ≢ Force
+    → (state : State) × (after_all valid.behind (event_records c event) ≡ Some state)
+event_follows c Force valid runs one granted other = absurd (other refl)
+event_follows c (Flush p) valid runs one granted other = (valid.behind, refl)
+event_follows c event valid runs one granted other = follows_them c event valid runs one granted (λ asks. asks)

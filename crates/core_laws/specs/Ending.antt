@@ -10,11 +10,11 @@ use Rattle.graph_model.specs.declared.reply.Reply.TheVariants.{Aborted}
 use Rattle.graph_model.specs.Transaction.{Transaction}
 use Rattle.graph_model.specs.History.{Account, AreInSessions, IsSession, account, account_after, session_of}
 use Rattle.graph_model.specs.HistoryLaws.{account-append}
-use Rattle.graph_model.specs.Plain.{call_refusal, call_conflict, model_refusal, first_of_two, granted, reply_of}
+use Rattle.graph_model.specs.Plain.{call_refusal, call_conflict, model_refusal, first_of_two, reply_of}
 use Rattle.graph_model.specs.SlowHeap.{IsOfSession}
 use Rattle.log_records.specs.declared.Record.{Record}
 use Rattle.log_machine.specs.ListLaws.{AllByRecursion-append}
-use Rattle.heap_model.specs.Core.{Core, ground, next_number, room_refusal, words_refusal, log_refusal, core_refusal, answer, with_entry, after_refusal, after, force_calls, calls_if, calls}
+use Rattle.heap_model.specs.Core.{Core, ground, next_number, room_refusal, words_refusal, log_refusal, core_refusal, granted_by, answer, with_entry, after_refusal, after, force_calls, calls_if, calls}
 use Rattle.heap_model.specs.CoreLawsCalls.{after_events-append, total_calls-append}
 use Rattle.heap_model.specs.CoreLawsRoom.{forced-with_batch}
 use Rattle.heap_model.specs.CoreLawsRun.{after_history}
@@ -219,7 +219,7 @@ pub record HasEnded (c : Core) : Type 0 where
   pub idle : (s : ℕ) → active_in c s ≡ None
   pub settled : c.pending ≡ []
 
-forced_all : (c : Core) (o : Option Refusal) → o ≡ None → (with_entry (after_refusal o c Force) Force (reply_of o (granted (next_number c) c.g0 (account c.history) Force))).pending ≡ []
+forced_all : (c : Core) (o : Option Refusal) → o ≡ None → (with_entry (after_refusal o c Force) Force (reply_of o (granted_by c Force))).pending ≡ []
 forced_all c None is = ap (λ (x : Core). x.pending) (forced-with_batch c)
 forced_all c (Some why) is = cc
 

@@ -1,18 +1,18 @@
 -- What events append and place, by their form, and what holds where they are not refused.
-use Rattle.std.proofs.Common.{◌≡◌, ℕ, ◌+◌, ◌^◌, ◌<◌, ◌≤◌, Bool, true, false, cond, List, [], ◌++◌, Option, Some, None, is_some, refl, ap, ◌∙◌, arith}
+use Rattle.std.proofs.Common.{◌≡◌, ◌≢◌, ℕ, ◌+◌, ◌^◌, ◌<◌, ◌≤◌, Bool, true, false, cond, List, [], ◌++◌, Option, Some, None, is_some, refl, ap, ◌∙◌, subst, arith}
 use Rattle.std.specs.Prelude.{nat_le}
 use Rattle.std.proofs.lemmas.Bool.{leb-false, ltb-false}
 use Rattle.graph_model.specs.declared.id.Id.{Id}
 use Rattle.graph_model.specs.declared.event.Event.{Event}
-use Rattle.graph_model.specs.declared.event.Event.TheVariants.{Begin, Root, New, Put, Clear, Link, Drop, Get, Same, Len, Seal, Abort, Force}
+use Rattle.graph_model.specs.declared.event.Event.TheVariants.{Begin, Root, New, Put, Clear, Link, Drop, Get, Same, Len, Seal, Abort, Force, Flush}
 use Rattle.graph_model.specs.declared.reply.Refusal.{Refusal}
 use Rattle.graph_model.specs.declared.reply.Refusal.TheVariants.{Range, VolatileFull}
 use Rattle.graph_model.specs.Graph.{Graph}
 use Rattle.graph_model.specs.Transaction.{View, Transaction, Registers, IsCall, held, reference_to}
 use Rattle.graph_model.specs.History.{Account, account, session_of}
-use Rattle.graph_model.specs.Plain.{no_int, field_refusal, put_refusal, link_refusal, call_refusal}
+use Rattle.graph_model.specs.Plain.{no_int, field_refusal, put_refusal, link_refusal, call_refusal, granted}
 use Rattle.log_records.specs.declared.Record.{Record}
-use Rattle.heap_model.specs.Core.{Core, Ground, ground, call_records, event_records, event_places, area_refusal, done}
+use Rattle.heap_model.specs.Core.{Core, Ground, ground, next_number, call_records, event_records, event_places, area_refusal, page_refusal, granted_by, done, AsksDisk}
 use Rattle.graph_words.specs.Places.{Places, IsVisible, area_used}
 use Rattle.heap_model.specs.CoreLawsGranted.{IsQuiet}
 use Rattle.heap_model.specs.CoreLawsHandles.{HoldAllAtHand, held_at_hand}
@@ -39,11 +39,13 @@ no_records g g0 a (Some t) (Len s h) is quiet = refl
 no_records g g0 a (Some t) (Seal s) is quiet = absurd is
 no_records g g0 a (Some t) (Abort s) is quiet = absurd is
 no_records g g0 a (Some t) Force is quiet = absurd is
+no_records g g0 a (Some t) (Flush p) is quiet = absurd is
 
 -- the records of a call are those of its session's transaction
 pub call_records-event : (c : Core) (event : Event) → IsCall event → event_records c event ≡ call_records (ground c) c.g0 (account c.history) ((account c.history).active (session_of event)) event
 call_records-event c (Begin s) is = absurd is
 call_records-event c Force is = absurd is
+call_records-event c (Flush p) is = absurd is
 call_records-event c event is = refl
 
 -- a call that writes nothing appends no record
@@ -75,26 +77,33 @@ quiet_call v t (Len s h) quiet old = record { graph = refl; made = refl }
 quiet_call v t (Seal s) quiet old = record { graph = refl; made = refl }
 quiet_call v t (Abort s) quiet old = record { graph = refl; made = refl }
 quiet_call v t Force quiet old = record { graph = refl; made = refl }
+quiet_call v t (Flush p) quiet old = record { graph = refl; made = refl }
 
--- what is done but a force is that records wait
-pub done_records : (c : Core) (event : Event) → (event ≡ Force → ⊥) → done c event ≡ record c { pending = c.pending ++ event_records c event; places = c.places ++ event_places c event }
-done_records c Force other = absurd (other refl)
+-- what is done where the disk isn't asked is that records wait
+pub done_records : (c : Core) (event : Event) → (AsksDisk event → ⊥) → done c event ≡ record c { pending = c.pending ++ event_records c event; places = c.places ++ event_places c event }
+done_records c Force other = absurd (other tt)
+done_records c (Flush p) other = absurd (other tt)
 done_records c event other = refl
 
-pub no_call : (event : Event) → IsCall event → event ≡ Force → ⊥
-no_call Force is e = is
-no_call (Begin s) is e = is
-no_call (Seal s) is e = is
-no_call (Abort s) is e = is
-no_call (Root s h) is e = cc
-no_call (New s h len) is e = cc
-no_call (Put s h i v) is e = cc
-no_call (Clear s h i) is e = cc
-no_call (Link s h i h2) is e = cc
-no_call (Drop s h) is e = cc
-no_call (Get s h i h2) is e = cc
-no_call (Same s h h2) is e = cc
-no_call (Len s h) is e = cc
+-- a call asks nothing of the disk
+pub no_call : (event : Event) → IsCall event → AsksDisk event → ⊥
+no_call Force is asks = is
+no_call (Flush p) is asks = is
+no_call event is asks = asks
+
+-- nor does it ask for a page
+pub call_no_page : (pages : ℕ) (event : Event) → IsCall event → page_refusal pages event ≡ None
+call_no_page pages (Flush p) is = absurd is
+call_no_page pages event is = refl
+
+-- it is no flush
+pub no_flush : (event : Event) → IsCall event → (p : ℕ) → event ≢ Flush p
+no_flush event is p same = subst IsCall same is
+
+-- what an event that isn't refused is answered by the core, and by a plain heap, unless it is a flush
+pub granted_plain : (c : Core) (event : Event) → ((p : ℕ) → event ≢ Flush p) → granted_by c event ≡ granted (next_number c) c.g0 (account c.history) event
+granted_plain c (Flush p) other = absurd (other p refl)
+granted_plain c event other = refl
 
 -- neither of two tests refuses
 pub two_tests : (b d : Bool) (x y : Refusal) → cond b (Some x) (cond d (Some y) None) ≡ None → (b ≡ false) × (d ≡ false)

@@ -1,9 +1,10 @@
--- An abort of one session and a force that are granted leave a core that agrees with its history.
-use Rattle.std.proofs.Common.{◌≡◌, ◌≢◌, ℕ, ◌+◌, List, [], ◌++◌, length, take, Option, Some, None, refl, sym, ◌∙◌, subst, arith}
+-- An abort of one session, a force and a flush that are granted leave a core that agrees with its history.
+use Rattle.std.specs.Prelude.{if◌then◌else◌}
+use Rattle.std.proofs.Common.{◌≡◌, ◌≢◌, ℕ, ◌+◌, ◌≤◌, Bool, true, false, max, List, [], ◌++◌, length, take, Option, Some, None, refl, sym, ◌∙◌, subst, arith}
 use Rattle.std.proofs.lemmas.List.{append-nil}
 use Rattle.std.proofs.Math.Seq.{take-length}
-use Rattle.graph_model.specs.declared.event.Event.TheVariants.{Abort, Force}
-use Rattle.graph_model.specs.declared.reply.Reply.TheVariants.{Aborted, Durable}
+use Rattle.graph_model.specs.declared.event.Event.TheVariants.{Abort, Force, Flush}
+use Rattle.graph_model.specs.declared.reply.Reply.TheVariants.{Aborted, Durable, Flushed}
 use Rattle.graph_model.specs.History.{Account, account_after}
 use Rattle.graph_model.specs.Transaction.{Transaction, serial}
 use Rattle.commit_order.specs.Heard.{Heard}
@@ -14,7 +15,7 @@ use Rattle.log_machine.specs.Machine.{State, undo_of, with_entries, turned, take
 use Rattle.log_machine.specs.MachineLaws.{undo_beside}
 use Rattle.log_machine.specs.MapLaws.{each_other}
 use Rattle.gated_log.specs.Log.{records_of, batches_bytes, pending_batch, with_batch}
-use Rattle.heap_model.specs.Core.{Core, all_records, all_words, used, forced}
+use Rattle.heap_model.specs.Core.{Core, all_records, all_words, used, is_dirty, is_ahead, forced, forced_if, page_stored, flushed}
 use Rattle.heap_model.specs.CoreLawsGoes.{told_sound}
 use Rattle.heap_model.specs.CoreLawsRoom.{need-abort_records, forced-with_batch, records_of-with_batch, length-with_batch}
 use Rattle.heap_model.specs.CoreTold.{IsTold, IsNumbered}
@@ -24,6 +25,7 @@ use Rattle.core_laws.specs.Granted.{HasRoom, reserved_told}
 use Rattle.core_laws.specs.Others.{stays_abort}
 use Rattle.core_laws.specs.Reserved.{reserve_reserved}
 use Rattle.core_laws.specs.Sessions.{each_session, sessions_with, writer_by, ended_actives, same_actives, ended_reserved}
+use Rattle.core_laws.specs.Sound.{agrees_entry}
 use Rattle.core_laws.specs.Told.{abort_told}
 use Rattle.core_laws.specs.Valid.{IsActive, IsWriter, Agrees}
 
@@ -116,12 +118,12 @@ all_on_disk a c bs h same =
     let now = subst (λ (rs : List Record). IsTold c.pages c.lowest c.born c.places (serial c.g0 a.sealed) (c.before + length a.sealed) rs (all_words c) h.behind) (sym same) h.told in
     subst (λ (ts : List Transaction). IsTold c.pages c.lowest c.born c.places (serial c.g0 ts) (c.before + length a.sealed) (records_of bs) (all_words c) h.behind) (sym (take-length a.sealed)) now
 
-force_all : (a : Account) (c : Core) (bs : List (List Record)) → Agrees a c → records_of bs ≡ all_records c → length (batches_bytes bs) + 1 + length (pending_batch []) ≡ used c
-    → Agrees (account_after a (record { event = Force; reply = Durable (length a.sealed) })) (record c { batches = bs; words = all_words c; pending = [] })
-force_all a c bs h same size =
-    let b : Account = account_after a (record { event = Force; reply = Durable (length a.sealed) }) in
-    let first = h.sealed_first in
-    let last = h.acknowledged_last in
+-- batches with all records agree with what was sealed, however much of that is acknowledged
+force_all : (a : Account) (c : Core) (bs : List (List Record)) (acknowledged entries : ℕ) → Agrees a c → records_of bs ≡ all_records c
+    → length (batches_bytes bs) + 1 + length (pending_batch []) ≡ used c → acknowledged ≤ length a.sealed
+    → Agrees (record a { acknowledged = acknowledged; entries = entries }) (record c { batches = bs; words = all_words c; pending = [] })
+force_all a c bs acknowledged entries h same size last =
+    let b : Account = record a { acknowledged = acknowledged; entries = entries } in
     let room = h.room in
     let fits = reserve_reserved a h.behind h.in_sessions (told_sound h.told) h.losers in
     let records = append-nil (records_of bs) ∙ same in
@@ -136,7 +138,7 @@ force_all a c bs h same size =
       numbered = h.numbered;
       durable = length a.sealed;
       sealed_first = omega arith;
-      acknowledged_last = omega arith;
+      acknowledged_last = last;
       on_disk = h.behind;
       disk_places = c.places;
       disk_told = all_on_disk a c bs h same;
@@ -150,8 +152,62 @@ force_all a c bs h same size =
       room = omega arith;
     }
 
+force_waiting : (a : Account) (c : Core) (acknowledged entries : ℕ) → Agrees a c → acknowledged ≤ length a.sealed
+    → Agrees (record a { acknowledged = acknowledged; entries = entries }) (forced c c.pending)
+force_waiting a c acknowledged entries h last =
+    subst (Agrees (record a { acknowledged = acknowledged; entries = entries })) (sym (forced-with_batch c))
+    (force_all a c (with_batch c.batches c.pending) acknowledged entries h (records_of-with_batch c.batches c.pending) (length-with_batch c.batches c.pending) last)
+
+-- all that waits is forced to the disk, and nothing is answered yet
+pub forced_agrees : (a : Account) (c : Core) → Agrees a c → Agrees a (forced c c.pending)
+forced_agrees a c h =
+    let first = h.sealed_first in
+    let last = h.acknowledged_last in
+    force_waiting a c a.acknowledged a.entries h (omega arith)
+
 -- all that waits is forced to the disk
 pub force_agrees : (a : Account) (c : Core) → Agrees a c → Agrees (account_after a (record { event = Force; reply = Durable (length a.sealed) })) (forced c c.pending)
 force_agrees a c h =
-    let b : Account = account_after a (record { event = Force; reply = Durable (length a.sealed) }) in
-    subst (Agrees b) (sym (forced-with_batch c)) (force_all a c (with_batch c.batches c.pending) h (records_of-with_batch c.batches c.pending) (length-with_batch c.batches c.pending))
+    let first = h.sealed_first in
+    let last = h.acknowledged_last in
+    force_waiting a c (max a.acknowledged (length a.sealed)) (a.entries + 1) h (omega arith)
+
+-- A flush.
+
+-- a page that is stored changes nothing that the history tells
+pub agrees_stored : (a : Account) (c : Core) (p : ℕ) → Agrees a c → Agrees a (page_stored c p)
+agrees_stored a c p h = record {
+  unfailed = h.unfailed;
+  certain = h.certain;
+  in_sessions = h.in_sessions;
+  some_pages = h.some_pages;
+  few_pages = h.few_pages;
+  some_first = h.some_first;
+  next_fits = h.next_fits;
+  numbered = h.numbered;
+  durable = h.durable;
+  sealed_first = h.sealed_first;
+  acknowledged_last = h.acknowledged_last;
+  on_disk = h.on_disk;
+  disk_places = h.disk_places;
+  disk_told = h.disk_told;
+  first_known = h.first_known;
+  disk_room = h.disk_room;
+  behind = h.behind;
+  told = h.told;
+  next_known = h.next_known;
+  losers = h.losers;
+  writers = h.writers;
+  room = h.room;
+}
+
+flush_if : (a : Account) (c : Core) (p : ℕ) (dirty ahead : Bool) → Agrees a c → Agrees a (if dirty then page_stored (forced_if ahead c) p else c)
+flush_if a c p true true h = agrees_stored a (forced c c.pending) p (forced_agrees a c h)
+flush_if a c p true false h = agrees_stored a c p h
+flush_if a c p false ahead h = h
+
+-- a page is flushed
+pub flush_agrees : (a : Account) (c : Core) (p : ℕ) → Agrees a c → Agrees (account_after a (record { event = Flush p; reply = Flushed p })) (flushed c p)
+flush_agrees a c p h =
+    let left = flush_if a c p (is_dirty c p) (is_ahead c p) h in
+    subst (λ (o : Option ℕ). Agrees (record a { failed = o; entries = a.entries + 1 }) (flushed c p)) (sym h.unfailed) (agrees_entry a (flushed c p) (a.entries + 1) left)

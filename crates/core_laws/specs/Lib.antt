@@ -8,6 +8,7 @@ pub mod CoreGraph
 pub mod Crash
 pub mod Ending
 pub mod Events
+pub mod Flush
 pub mod Goes
 pub mod Granted
 pub mod GrantedEnds

@@ -48,7 +48,7 @@ none_kept undo (s ∷ ss) =
     let rest = none_kept undo ss in
     omega arith
 
-module _ (s : Super) (batches : List (List Record)) (stored : Pages) (shaped : IsShapedLog s batches stored) (born : Bool) (places : Places) (g : Graph) (found : IsFound s batches stored shaped born places g) where
+module _ (s : Super) (batches : List (List Record)) (stored : Pages) (shaped : IsShapedLog s batches stored) (gates : ℕ → ℕ) (born : Bool) (places : Places) (g : Graph) (found : IsFound s batches stored shaped born places g) where
   abbrev now : List ℕ
   now = rolled_words s batches stored
 
@@ -69,7 +69,7 @@ module _ (s : Super) (batches : List (List Record)) (stored : Pages) (shaped : I
       }
 
   -- the core is valid
-  pub opened_valid : IsValid (opened s batches stored born places g)
+  pub opened_valid : IsValid (opened s batches stored gates born places g)
   opened_valid =
       let to = leads_after_all (start s.pages s.first) shaped.state (records_of batches) shaped.reached in
       let next = next_is s batches stored shaped in
@@ -123,5 +123,5 @@ module _ (s : Super) (batches : List (List Record)) (stored : Pages) (shaped : I
   }
 
   -- A core that was opened on a shaped log is reached.
-  pub opened_reached : IsReached (opened s batches stored born places g)
+  pub opened_reached : IsReached (opened s batches stored gates born places g)
   opened_reached = record { sound = inl opened_valid; locked = opened_locked }

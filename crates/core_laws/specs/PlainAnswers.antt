@@ -1,11 +1,12 @@
--- A core answers as a plain heap does, one without a log or a disk, unless room is wanting: its refusals are those of the plain heap, in their
--- order, and behind them those for want of room.
+-- A core answers as a plain heap does, one without a log or a disk, unless room is wanting or a page is to be stored: its refusals are those
+-- of the plain heap, in their order, and behind them those for a page that isn't there and for want of room.
 use Rattle.std.proofs.Common.{◌≡◌, ℕ, Option, None, Some, refl, sym, ap, ◌∙◌}
 use Rattle.graph_model.specs.declared.event.Event.{Event}
 use Rattle.graph_model.specs.declared.reply.Refusal.{Refusal}
 use Rattle.graph_model.specs.History.{account}
 use Rattle.graph_model.specs.Plain.{first_of_two, model_refusal, refusal_of, refusal, granted, reply_of, plain_reply}
-use Rattle.heap_model.specs.Core.{Core, next_number, words_refusal, log_refusal, core_refusal, answer}
+use Rattle.heap_model.specs.Core.{Core, next_number, words_refusal, log_refusal, core_refusal, granted_by, answer}
+use Rattle.core_laws.specs.Events.{granted_plain}
 use Rattle.core_laws.specs.Theorems.{AnswersTheorem}
 
 first_alone : (o : Option Refusal) → first_of_two o None ≡ o
@@ -24,28 +25,28 @@ only_room None None room is = refl
 only_room None (Some why) room is = cc
 only_room (Some entry) model room is = cc
 
--- the same answer follows from the same refusal
-same_answer : (c : Core) (event : Event) → core_refusal c event ≡ refusal (next_number c) c.g0 (account c.history) event → answer c event ≡ plain_reply c.first c.g0 (account c.history) event
-same_answer c event same = ap (λ (o : Option Refusal). reply_of o (granted (next_number c) c.g0 (account c.history) event)) same
-
--- A core answers what a plain heap of the same opening and history answers, where neither memory's spaces nor the log lack room.
+-- A core answers what a plain heap of the same opening and history answers, where neither memory's spaces nor the log lack room. A flush is
+-- answered by what is stored, which a plain heap does not know.
 pub answer_plain : AnswersTheorem
-answer_plain c event words log =
+answer_plain c event other words log =
     let a = account c.history in
     let model = model_refusal (next_number c) c.g0 a event in
-    same_answer c event
-    (ap (λ (o : Option Refusal). refusal_of a.failed (first_of_two model (first_of_two o (log_refusal c event)))) words
+    let same : core_refusal c event ≡ refusal (next_number c) c.g0 a event =
+    ap (λ (o : Option Refusal). refusal_of a.failed (first_of_two model (first_of_two o (log_refusal c event)))) words
     ∙ ap (λ (o : Option Refusal). refusal_of a.failed (first_of_two model o)) log
-    ∙ ap (refusal_of a.failed) (first_alone model))
+    ∙ ap (refusal_of a.failed) (first_alone model) in
+    ap (λ (o : Option Refusal). reply_of o (granted_by c event)) same ∙ ap (reply_of (refusal (next_number c) c.g0 a event)) (granted_plain c event other)
 
--- What the plain heap refuses the core refuses for the same reason, whether room is wanting or not.
+-- What the plain heap refuses the core refuses for the same reason, whether room is wanting or not. So it does with a flush too.
 pub refused_plain : (c : Core) (event : Event) (why : Refusal) → refusal (next_number c) c.g0 (account c.history) event ≡ Some why → answer c event ≡ plain_reply c.first c.g0 (account c.history) event
 refused_plain c event why is =
     let a = account c.history in
     let model = model_refusal (next_number c) c.g0 a event in
-    same_answer c event (stays_refused a.failed model (first_of_two (words_refusal c event) (log_refusal c event)) why is ∙ sym is)
+    ap (λ (o : Option Refusal). reply_of o (granted_by c event)) (stays_refused a.failed model (first_of_two (words_refusal c event) (log_refusal c event)) why is)
+    ∙ sym (ap (λ (o : Option Refusal). reply_of o (granted (next_number c) c.g0 a event)) is)
 
--- What the plain heap does not refuse the core refuses for want of room alone: of words first, and then of the log.
+-- What the plain heap does not refuse the core refuses only where there is no page that a flush names, or for want of room: of words
+-- first, and then of the log.
 pub refused_room : (c : Core) (event : Event) → refusal (next_number c) c.g0 (account c.history) event ≡ None → core_refusal c event ≡ first_of_two (words_refusal c event) (log_refusal c event)
 refused_room c event is =
     let a = account c.history in

@@ -1,8 +1,8 @@
 -- What is reached by the steps of sessions side by side.
-use Rattle.std.proofs.Common.{◌≡◌, ◌⊎◌, inl, inr, ℕ, ◌+◌, List, [], ◌∷◌, ◌++◌, Option, Some, None, refl, sym, ap, ◌∙◌, subst}
+use Rattle.std.proofs.Common.{◌≡◌, inl, inr, ℕ, ◌+◌, List, [], ◌∷◌, ◌++◌, Option, Some, None, refl, sym, ap, ◌∙◌, subst}
 use Rattle.std.specs.List.{AllByRecursion}
 use Rattle.graph_model.specs.declared.event.Event.{Event}
-use Rattle.graph_model.specs.declared.event.Event.TheVariants.{Force}
+use Rattle.graph_model.specs.declared.event.Event.TheVariants.{Force, Flush}
 use Rattle.graph_model.specs.declared.reply.Refusal.{Refusal}
 use Rattle.graph_model.specs.declared.reply.Refusal.TheVariants.{Failed, DiskFault, Stopped}
 use Rattle.graph_model.specs.declared.reply.Reply.{Reply}
@@ -14,8 +14,8 @@ use Rattle.graph_model.specs.Plain.{call_conflict, first_of_two}
 use Rattle.graph_model.specs.PlainLaws.{account_after-refused}
 use Rattle.graph_model.specs.SlowHeap.{IsOfSession}
 use Rattle.graph_model.specs.Transaction.{Transaction}
-use Rattle.heap_model.specs.Core.{Core, Ground, ground, room_refusal, words_refusal, log_refusal, core_refusal, with_entry, after, force_calls, calls_if, calls, IsCutShort, IsStep, IsRun}
-use Rattle.heap_model.specs.CoreLawsRun.{calls-force, calls-unfailed, failed_after}
+use Rattle.heap_model.specs.Core.{Core, Ground, ground, room_refusal, words_refusal, log_refusal, core_refusal, with_entry, after, force_calls, AsksDisk, calls_if, calls, IsCutShort, IsStep, IsRun}
+use Rattle.heap_model.specs.CoreLawsRun.{calls-asks, calls-unfailed, failed_after}
 use Rattle.core_laws.specs.Goes.{agrees_history}
 use Rattle.core_laws.specs.Sound.{agrees_entry, sound_agrees}
 use Rattle.core_laws.specs.Step.{unfailed_refusal, log_force, valid_after}
@@ -58,19 +58,23 @@ told_failure a c n h = record {
   before = agrees_entry a c n h;
 }
 
-cut_agrees : (a : Account) (c : Core) (reply : Reply) → (reply ≡ Refused DiskFault) ⊎ (reply ≡ Refused Stopped) → Agrees a c
-    → HasFailed (account_after a (record { event = Force; reply = reply })) c
-cut_agrees a c reply (inl told) h =
-    subst (λ (r : Reply). HasFailed (account_after a (record { event = Force; reply = r })) c) (sym told) (told_failure a c (a.entries + 1) h)
-cut_agrees a c reply (inr told) h =
-    subst (λ (r : Reply). HasFailed (account_after a (record { event = Force; reply = r })) c) (sym told) (told_failure a c (a.entries + 1) h)
+-- a fault and a stop in an event that asks the disk
+cut_agrees : (a : Account) (c : Core) (event : Event) → AsksDisk event → Agrees a c
+    → HasFailed (account_after a (record { event = event; reply = Refused DiskFault })) c × HasFailed (account_after a (record { event = event; reply = Refused Stopped })) c
+cut_agrees a c Force asks h = (told_failure a c (a.entries + 1) h, told_failure a c (a.entries + 1) h)
+cut_agrees a c (Flush p) asks h = (told_failure a c (a.entries + 1) h, told_failure a c (a.entries + 1) h)
+cut_agrees a c event asks h = absurd asks
 
 -- an event that is cut short leaves all but the history
 pub cut_fails : (c : Core) (event : Event) (reply : Reply) → IsValid c → IsCutShort c event reply
     → HasFailed (account (with_entry c event reply).history) (with_entry c event reply)
 cut_fails c event reply valid cut =
-    let P : Event → Type 0 = λ e. HasFailed (account_after (account c.history) (record { event = e; reply = reply })) c in
-    failed_entry c event reply (subst P (sym (calls-force c event cut.some).0) (cut_agrees (account c.history) c reply cut.told valid))
+    let fails = cut_agrees (account c.history) c event (calls-asks c event cut.some).0 valid in
+    let P : Reply → Type 0 = λ r. HasFailed (account_after (account c.history) (record { event = event; reply = r })) c in
+    failed_entry c event reply (elim cut.told [
+      | inl is ↦ subst P (sym is) fails.0
+      | inr is ↦ subst P (sym is) fails.1
+    ])
 
 -- Steps.
 

@@ -1,6 +1,6 @@
 -- Each step of a valid core whose transactions run under two-phase locking leaves a valid core.
-use Rattle.std.proofs.Common.{◌≡◌, ℕ, ◌+◌, false, List, [], ◌∷◌, ◌++◌, length, Option, Some, None, is_some, refl, sym, ap, ◌∙◌, subst, arith}
-use Rattle.std.specs.Prelude.{◌==◌}
+use Rattle.std.proofs.Common.{◌≡◌, ℕ, ◌+◌, Bool, true, false, List, [], ◌∷◌, ◌++◌, length, Option, Some, None, is_some, refl, sym, ap, ◌∙◌, subst, arith}
+use Rattle.std.specs.Prelude.{◌==◌, if◌then◌else◌}
 use Rattle.std.proofs.lemmas.Bool.{eqb-false}
 use Rattle.std.proofs.lemmas.List.{append-nil}
 use Rattle.std.specs.List.{AllByRecursion}
@@ -8,12 +8,12 @@ use Rattle.graph_model.specs.declared.event.Event.{Event}
 use Rattle.graph_model.specs.declared.id.Id.{Id}
 use Rattle.graph_model.specs.declared.val.Val.{Val}
 use Rattle.graph_model.specs.declared.val.Val.TheVariants.{Null, Int}
-use Rattle.graph_model.specs.declared.event.Event.TheVariants.{Begin, Root, New, Put, Clear, Link, Drop, Get, Same, Len, Seal, Abort, Force}
+use Rattle.graph_model.specs.declared.event.Event.TheVariants.{Begin, Root, New, Put, Clear, Link, Drop, Get, Same, Len, Seal, Abort, Force, Flush}
 use Rattle.graph_model.specs.declared.reply.Entry.{Entry}
 use Rattle.graph_model.specs.declared.reply.Refusal.{Refusal}
 use Rattle.graph_model.specs.declared.reply.Refusal.TheVariants.{AlreadyActive, NumbersSpent}
 use Rattle.graph_model.specs.declared.reply.Reply.{Reply}
-use Rattle.graph_model.specs.declared.reply.Reply.TheVariants.{Durable, Refused}
+use Rattle.graph_model.specs.declared.reply.Reply.TheVariants.{Durable, Flushed, Clean, Refused}
 use Rattle.graph_model.specs.Graph.{Graph}
 use Rattle.graph_model.specs.Transaction.{Transaction, IsCall, held, put_value, reference_to, call}
 use Rattle.graph_model.specs.History.{Account, IsSession, account, account_after, session_of}
@@ -30,7 +30,7 @@ use Rattle.log_records.specs.Record.{IsRecord}
 use Rattle.gated_log.specs.Log.{records_of}
 use Rattle.log_machine.specs.Machine.{State, undo_of, abort_records}
 use Rattle.graph_words.specs.Places.{Places, IsVisible}
-use Rattle.heap_model.specs.Core.{Core, ground, all_records, next_number, undo_with, undo_behind, view_records, call_records, event_records, event_places, sealed_places, used, need, reserved, reserved_after, room_refusal, words_refusal, log_refusal, core_refusal, with_entry, done, after_refusal, after}
+use Rattle.heap_model.specs.Core.{Core, ground, all_records, next_number, undo_with, undo_behind, kept_for, view_records, call_records, event_records, event_places, sealed_places, used, need, reserved, reserved_after, room_refusal, words_refusal, log_refusal, core_refusal, granted_by, with_entry, is_dirty, done, after_refusal, after, AsksDisk}
 use Rattle.heap_model.specs.CoreLawsGoes.{need_nothing}
 use Rattle.heap_model.specs.CoreLawsRoom.{full_log-none, full_log-room}
 use Rattle.heap_model.specs.ListLaws.{AllByRecursion-behind}
@@ -39,7 +39,7 @@ use Rattle.core_laws.specs.Events.{is_write, quiet_records, call_places, is_new,
 use Rattle.core_laws.specs.Goes.{writing_of, agrees_history}
 use Rattle.core_laws.specs.Granted.{HasRoom, begin_agrees, quiet_agrees, new_agrees}
 use Rattle.core_laws.specs.GrantedWrites.{write_agrees}
-use Rattle.core_laws.specs.GrantedEnds.{abort_room, abort_agrees, force_agrees}
+use Rattle.core_laws.specs.GrantedEnds.{abort_room, abort_agrees, force_agrees, flush_agrees}
 use Rattle.core_laws.specs.Reserved.{reserved_same}
 use Rattle.core_laws.specs.Seal.{seal_agrees}
 use Rattle.core_laws.specs.Sessions.{called, called_reserved}
@@ -117,15 +117,21 @@ log_quiet c event valid is quiet =
     omega (arith, valid.room) in
     log_roomy c event (subst (λ (rs : List Record). HasRoom c rs b) (sym none) (subst (HasRoom c []) (sym (call_account (next_number c) c.g0 a event is)) said))
 
--- and for a force
-pub log_force : (c : Core) → IsValid c → log_refusal c Force ≡ None
-log_force c valid =
-    let a = account c.history in
-    let b = account_after a (record { event = Force; reply = Durable (length a.sealed) }) in
+-- and for what neither appends a record nor changes a transaction
+room_still : (c : Core) (b : Account) → IsValid c → ((s : ℕ) → b.active s ≡ (account c.history).active s) → HasRoom c [] b
+room_still c b valid actives =
     let nothing = need_nothing c.pending in
     let kept = kept_still c b valid in
-    let same : reserved (undo_of valid.behind) b ≡ reserved (undo_of valid.behind) a = reserved_same (undo_of valid.behind) (undo_of valid.behind) b a (λ s. refl) in
-    log_roomy c Force (omega (arith, valid.room))
+    let same = reserved_same (undo_of valid.behind) (undo_of valid.behind) b (account c.history) (λ s. ap (kept_for (undo_of valid.behind)) (actives s)) in
+    omega (arith, valid.room)
+
+-- so it has for a force
+pub log_force : (c : Core) → IsValid c → log_refusal c Force ≡ None
+log_force c valid = log_roomy c Force (room_still c (account_after (account c.history) (record { event = Force; reply = Durable (length (account c.history).sealed) })) valid (λ s. refl))
+
+-- and for a flush
+pub log_flush : (c : Core) (p : ℕ) → IsValid c → log_refusal c (Flush p) ≡ None
+log_flush c p valid = log_roomy c (Flush p) (room_still c (account_after (account c.history) (record { event = Flush p; reply = Flushed p })) valid (λ s. refl))
 
 -- the records of an abort, where the transaction is known
 pub abort_is : (c : Core) (s : ℕ) (t : Transaction) (valid : IsValid c) → (account c.history).active s ≡ Some t → event_records c (Abort s) ≡ abort_records t.number (undo_of valid.behind t.number)
@@ -263,8 +269,19 @@ goes c (Len s h) valid runs session may = quiet_goes c (Len s h) valid tt refl r
 goes c (Seal s) valid runs session may = seal_goes c s valid runs may
 goes c (Abort s) valid runs session may = abort_goes c s valid runs may
 goes c Force valid runs session may = force_agrees (account c.history) c valid
+goes c (Flush p) valid runs session may = flush_agrees (account c.history) c p valid
 
 -- What a step leaves.
+
+flush_adds : (a : Account) (p : ℕ) (dirty : Bool) → account_after a (record { event = Flush p; reply = if dirty then Flushed p else Clean p }) ≡ account_after a (record { event = Flush p; reply = Flushed p })
+flush_adds a p true = refl
+flush_adds a p false = refl
+
+-- the history says the same whether the core answers an event that isn't refused or a plain heap does: no answer to a flush adds anything
+pub reply_adds : (c : Core) (event : Event)
+    → account_after (account c.history) (record { event = event; reply = granted_by c event }) ≡ account_after (account c.history) (record { event = event; reply = granted (next_number c) c.g0 (account c.history) event })
+reply_adds c (Flush p) = flush_adds (account c.history) p (is_dirty c p)
+reply_adds c event = refl
 
 -- what a history says with one entry more, behind any core
 pub valid_entry : (c d : Core) (event : Event) (reply : Reply) → d.history ≡ c.history → Agrees (account_after (account c.history) (record { event = event; reply = reply })) d → IsValid (with_entry d event reply)
@@ -281,8 +298,9 @@ refused_agrees a c event why sound h =
     subst P (sym (account_after-refused a event why sound)) (subst (λ (f : Option ℕ). Agrees (record a { failed = f; entries = a.entries + 1 }) c) (sym h.unfailed) (agrees_entry a c (a.entries + 1) h))
 
 either_way : (c : Core) (event : Event) (o : Option Refusal) → IsValid c → HasNoFault o → (o ≡ None → Goes c event)
-    → IsValid (with_entry (after_refusal o c event) event (reply_of o (granted (next_number c) c.g0 (account c.history) event)))
-either_way c event None valid sound go = valid_entry c (done c event) event _ (done_history c event) (go refl)
+    → IsValid (with_entry (after_refusal o c event) event (reply_of o (granted_by c event)))
+either_way c event None valid sound go =
+    valid_entry c (done c event) event (granted_by c event) (done_history c event) (subst (λ (b : Account). Agrees b (done c event)) (sym (reply_adds c event)) (go refl))
 either_way c event (Some why) valid sound go = valid_entry c c event (Refused why) refl (refused_agrees (account c.history) c event why sound valid)
 
 -- A valid core stays valid where the disk does what it is asked.
@@ -291,7 +309,7 @@ valid_after c event valid runs session =
     either_way c event (core_refusal c event) valid (core_refusal-HasNoFault c event) (λ e. goes c event valid runs session (may_go c event valid.unfailed e))
 
 -- the records that a granted event appends have spellings
-pub event_records_good : (c : Core) (event : Event) → IsValid c → RunsLocked c.g0 c.first c.history → IsOfSession event → core_refusal c event ≡ None → (event ≡ Force → ⊥)
+pub event_records_good : (c : Core) (event : Event) → IsValid c → RunsLocked c.g0 c.first c.history → IsOfSession event → core_refusal c event ≡ None → (AsksDisk event → ⊥)
     → AllByRecursion IsRecord (event_records c event)
 event_records_good c event valid runs session free other =
     let a = account c.history in

@@ -12,13 +12,16 @@
 --   TwoPhase                                       each step refuses conflicts, and answers by what the transaction sees
 --   Sound, Run, Calls                              so steps reach such cores, those too that the disk cuts short: `steps_law`
 --
--- The answers, `AnswersTheorem`. Each event is answered as the plain heap of graph_model answers it, unless room is wanting.
---   PlainAnswers                                   refusals are the plain heap's, in their order, and then those for want of
---                                                  room: `answer_plain`, `refused_plain`, `refused_room`
+-- The answers, `AnswersTheorem`. Each event but a flush is answered as the plain heap of graph_model answers it, unless room is wanting.
+--   PlainAnswers                                   refusals are the plain heap's, in their order, and then those for a page that
+--                                                  isn't there or for want of room: `answer_plain`, `refused_plain`, `refused_room`
+--   Flush                                          a flush is refused just where there is no such page, until the disk stops or
+--                                                  fails: `flush_granted`, `flush_refused`
 --   Busy                                           `busy` is answered just where a call has to give way: `busy_told`, `busy_back`
 --
 -- The crash, `CrashTheorem`. Wherever a crash comes, the image is legal and stands for the graph that the first k committed
--- transactions give when run one after another in the order of their seals, and k counts all that were acknowledged.
+-- transactions give when run one after another in the order of their seals, and k counts all that were acknowledged, and all
+-- that were forced of which no reply has told.
 --   Crash                                          the log on the disk is legal and says the first commits: `crash_law`
 --   Grow                                           an image of first commits stays one while the history grows
 -- That an image stands for one graph and one number of commits is `one_graph` of heap_model.
@@ -32,9 +35,10 @@
 --   Again                                          `opening_law` and `opened_again`
 --
 -- Aborting and Ending are on the events that end a run, and CoreGraph and TakenBack are on what is in memory.
-use Rattle.std.specs.Prelude.{◌≡◌, ℕ, ◌+◌, ◌≤◌, Bool, true, IsTrue, List, length, take, None}
+use Rattle.std.specs.Prelude.{◌≡◌, ◌≢◌, ℕ, ◌+◌, ◌≤◌, Bool, true, IsTrue, List, length, take, None}
 use Rattle.std.specs.List.{AllByRecursion}
 use Rattle.graph_model.specs.declared.event.Event.{Event}
+use Rattle.graph_model.specs.declared.event.Event.TheVariants.{Flush}
 use Rattle.graph_model.specs.SlowHeap.{IsOfSession}
 use Rattle.graph_model.specs.Canon.{canon}
 use Rattle.graph_model.specs.Graph.{Graph}
@@ -44,10 +48,12 @@ use Rattle.graph_model.specs.Transaction.{serial, serial_replies}
 use Rattle.gated_log.specs.Log.{records_of}
 use Rattle.image_plan.specs.declared.superblock.Super.{Super}
 use Rattle.log_records.specs.declared.Record.{Record}
+use Rattle.log_machine.specs.Machine as machine
 use Rattle.page_redo.specs.Pages.{Pages}
+use Rattle.page_redo.specs.Prefix.{EachHoldsPrefix}
 use Rattle.commit_order.specs.Heard.{replies_of_commits}
 use Rattle.heap_model.specs.Core.{Core, words_refusal, log_refusal, answer, IsRun}
-use Rattle.heap_model.specs.CoreCrash.{IsLogged, IsOnDisk, IsSuperOf, IsCommitPrefix}
+use Rattle.heap_model.specs.CoreCrash.{HasLogWords, IsOnDisk, IsSuperOf, IsCommitPrefix}
 use Rattle.heap_model.specs.Image.{IsShapedLog, IsLegalLog, Holds}
 use Rattle.heap_model.specs.Opening.{next_behind, opened, IsFound}
 use Rattle.graph_words.specs.Places.{Places}
@@ -57,44 +63,50 @@ use Rattle.core_laws.specs.Valid.{IsReached, IsSound}
 abbrev pub StepsTheorem : Type 0
 StepsTheorem = (c d : Core) (events : List Event) → IsReached c → AllByRecursion IsOfSession events → IsRun c events d → IsReached d
 
--- A core answers what a plain heap of the same opening and history answers, where neither memory's spaces nor the log lack room.
+-- A core answers what a plain heap of the same opening and history answers, where neither memory's spaces nor the log lack room. A flush is
+-- answered by what is stored, which a plain heap does not know.
 abbrev pub AnswersTheorem : Type 0
 AnswersTheorem =
-    (c : Core) (event : Event) → words_refusal c event ≡ None → log_refusal c event ≡ None
+    (c : Core) (event : Event) → ((p : ℕ) → event ≢ Flush p) → words_refusal c event ≡ None → log_refusal c event ≡ None
     → answer c event ≡ plain_reply c.first c.g0 (account c.history) event
 
--- Each image that holds what a crash leaves of a core keeps its commits, where births give the names. A core that is reached is sound.
+-- Each image that holds what a crash leaves of a core keeps its commits, where births give the names. A core that is reached is sound. The
+-- stored pages need not have the LSNs that the core knows: a crash while a page is stored leaves the old page or the new one.
 abbrev pub CrashTheorem : Type 0
 CrashTheorem =
-    (c : Core) (s : Super) (batches : List (List Record)) (stored : Pages) → IsSound c → IsTrue c.born → IsLogged c stored → IsOnDisk c batches → IsSuperOf s c
+    (c : Core) (s : Super) (batches : List (List Record)) (stored : Pages) → IsSound c → IsTrue c.born → HasLogWords c → EachHoldsPrefix c.pages (records_of batches) stored
+    → IsOnDisk c batches → IsSuperOf s c
     → (image : List ℕ) → Holds s batches stored image → IsCommitPrefix c image
 
 -- The calls of each commit had the replies of the serial run, in which the commits follow one another in the order of their seals.
 abbrev pub RepliesTheorem : Type 0
 RepliesTheorem = (c : Core) → IsReached c → replies_of_commits c.history ≡ serial_replies c.g0 (commits c.history)
 
--- What holds of an opening where the log held these batches, the pages were stored so, and this graph stands at these places.
-pub record Opens (s : Super) (batches : List (List Record)) (stored : Pages) (born : Bool) (places : Places) (g : Graph) : Type 0 where
-  pub reached : IsReached (opened s batches stored born places g)
-  pub next : (opened s batches stored born places g).first ≡ next_behind s.first (records_of batches)  -- the number of the next transaction
+-- What holds of an opening where the log held these batches, the pages were stored so in frames with so many open gates, and this graph
+-- stands at these places.
+pub record Opens (s : Super) (batches : List (List Record)) (stored : Pages) (gates : ℕ → ℕ) (born : Bool) (places : Places) (g : Graph) : Type 0 where
+  pub reached : IsReached (opened s batches stored gates born places g)
+  pub next : (opened s batches stored gates born places g).first ≡ next_behind s.first (records_of batches)  -- the number of the next transaction
 
--- A heap that is opened on any shaped log goes on, under any names of its objects.
+-- A heap that is opened on any shaped log goes on, under any names of its objects and with any gates open.
 abbrev pub OpeningTheorem : Type 0
 OpeningTheorem =
-    (s : Super) (batches : List (List Record)) (stored : Pages) (shaped : IsShapedLog s batches stored) (born : Bool) (places : Places) (g : Graph)
-    → IsFound s batches stored shaped born places g → Opens s batches stored born places g
+    (s : Super) (batches : List (List Record)) (stored : Pages) (shaped : IsShapedLog s batches stored) (gates : ℕ → ℕ) (born : Bool) (places : Places) (g : Graph)
+    → IsFound s batches stored shaped born places g → Opens s batches stored gates born places g
 
--- A core d goes on where a crash left the first k commits of c since its opening, and all that was acknowledged is among them.
+-- A core d goes on where a crash left the first k commits of c since its opening, and all that was acknowledged or forced is among them.
 pub record GoesOnFrom (c : Core) (k : ℕ) (d : Core) : Type 0 where
   pub reached : IsReached d
   pub graph : canon d.g0 ≡ canon (serial c.g0 (take k (commits c.history)))
   pub before : d.before ≡ c.before + k
   pub kept : acknowledged c.history ≤ k
+  pub forced : machine.commits (records_of c.batches) ≤ c.before + k
   pub some : k ≤ length (commits c.history)
 
 -- A heap that is opened again on what a crash left of a core goes on from its first commits. So it may crash and go on any number of times.
 abbrev pub AgainTheorem : Type 0
 AgainTheorem =
-    (c : Core) (s : Super) (batches : List (List Record)) (stored : Pages) (places : Places) (g : Graph) → IsReached c → IsTrue c.born → IsLogged c stored → IsSuperOf s c → IsOnDisk c batches
+    (c : Core) (s : Super) (batches : List (List Record)) (stored : Pages) (gates : ℕ → ℕ) (places : Places) (g : Graph) → IsReached c → IsTrue c.born → HasLogWords c
+    → EachHoldsPrefix c.pages (records_of batches) stored → IsSuperOf s c → IsOnDisk c batches
     → (legal : IsLegalLog s batches stored) → IsFound s batches stored legal.shaped true places g
-    → (k : ℕ) × GoesOnFrom c k (opened s batches stored true places g)
+    → (k : ℕ) × GoesOnFrom c k (opened s batches stored gates true places g)

@@ -1,31 +1,33 @@
 -- Each step of a core refuses conflicts, answers by what the transaction sees, and begins transactions anew: its history is one of plain
 -- replies under strict two-phase locking.
-use Rattle.std.proofs.Common.{◌≡◌, ◌≢◌, inl, inr, ℕ, ◌+◌, ◌<◌, ◌≤◌, List, [], ◌∷◌, ◌++◌, Option, Some, None, refl, sym, ap, ◌∙◌, subst, arith}
+use Rattle.std.specs.Prelude.{if◌then◌else◌}
+use Rattle.std.proofs.Common.{◌≡◌, ◌≢◌, inl, inr, ℕ, ◌+◌, ◌<◌, ◌≤◌, Bool, true, false, List, [], ◌∷◌, ◌++◌, Option, Some, None, refl, sym, ap, ◌∙◌, subst, arith}
 use Rattle.std.specs.List.{Contains}
 use Rattle.std.specs.Option.{option_to_list}
 use Rattle.std.proofs.lemmas.Option.{same_Some}
 use Rattle.std.proofs.lemmas.List.Elements.{Contains-append_cases}
 use Rattle.graph_model.specs.declared.event.Event.{Event}
-use Rattle.graph_model.specs.declared.event.Event.TheVariants.{Begin, Seal, Abort, Force}
+use Rattle.graph_model.specs.declared.event.Event.TheVariants.{Begin, Seal, Abort, Force, Flush}
 use Rattle.graph_model.specs.declared.reply.Entry.{Entry}
 use Rattle.graph_model.specs.declared.reply.Refusal.{Refusal}
 use Rattle.graph_model.specs.declared.reply.Refusal.TheVariants.{DiskFault, Stopped}
 use Rattle.graph_model.specs.declared.reply.Reply.{Reply}
-use Rattle.graph_model.specs.declared.reply.Reply.TheVariants.{Begun, Sealed, Aborted, Durable, Refused}
+use Rattle.graph_model.specs.declared.reply.Reply.TheVariants.{Begun, Sealed, Aborted, Durable, Flushed, Clean, Refused}
 use Rattle.graph_model.specs.Graph.{Graph}
 use Rattle.graph_model.specs.Transaction.{Transaction, IsCall, call}
 use Rattle.graph_model.specs.History.{Account, AreInSessions, account, answered, account_after, cut_short, session_of}
 use Rattle.graph_model.specs.HistoryLaws.{IsCallReply, account-append}
 use Rattle.graph_model.specs.BusyLaws.{free_law}
 use Rattle.graph_model.specs.Locking.{lock_of, busy_holder, IsFree}
-use Rattle.graph_model.specs.Plain.{view, event_refusal, busy_with, call_conflict, call_reply, conflict_refusal, first_of_two, model_refusal, refusal_of, granted, reply_of}
+use Rattle.graph_model.specs.Plain.{view, event_refusal, busy_with, call_conflict, call_reply, conflict_refusal, first_of_two, model_refusal, refusal_of, reply_of}
 use Rattle.graph_model.specs.PlainLaws.{call_reply-IsCallReply, granted-call}
 use Rattle.commit_order.specs.CallLaws.{Contains-option}
 use Rattle.commit_order.specs.OrderLaws.{numbers-append}
 use Rattle.commit_order.specs.PlaceLaws.{EachEntry-append, plain_append, two_phase_append}
 use Rattle.commit_order.specs.SerialOrder.{EndsWithFailure, RefusesConflicts, AnswersByView, begun_number, numbers_begun}
-use Rattle.heap_model.specs.Core.{Core, next_number, words_refusal, log_refusal, core_refusal, answer, IsCutShort, IsStep}
+use Rattle.heap_model.specs.Core.{Core, next_number, words_refusal, log_refusal, core_refusal, granted_by, answer, is_dirty, IsCutShort, IsStep}
 use Rattle.heap_model.specs.CoreLawsRun.{calls-unfailed, failed_refusal, same_step, step_history}
+use Rattle.core_laws.specs.Events.{no_flush, granted_plain}
 use Rattle.core_laws.specs.Valid.{RunsLocked}
 
 -- A step's reply.
@@ -63,13 +65,19 @@ free_call g0 a t event within is =
     let lock = lock_of (view g0 a t).registers event in
     free_law g0 a t.number lock within (not_busy (busy_holder g0 a t.number lock) is)
 
+-- a flush is not answered as a call
+flush_no_call : (p : ℕ) (dirty : Bool) → IsCallReply (if dirty then Flushed p else Clean p) → ⊥
+flush_no_call p true is = is
+flush_no_call p false is = is
+
 -- a granted event that is answered as a call is one
-call_of : (next : ℕ) (g0 : Graph) (a : Account) (event : Event) → IsCallReply (granted next g0 a event) → IsCall event
-call_of next g0 a (Begin s) is = is
-call_of next g0 a (Seal s) is = is
-call_of next g0 a (Abort s) is = is
-call_of next g0 a Force is = is
-call_of next g0 a event is = tt
+call_of : (c : Core) (event : Event) → IsCallReply (granted_by c event) → IsCall event
+call_of c (Begin s) is = is
+call_of c (Seal s) is = is
+call_of c (Abort s) is = is
+call_of c Force is = is
+call_of c (Flush p) is = flush_no_call p (is_dirty c p) is
+call_of c event is = tt
 
 same_begun : (n m : ℕ) → Begun n ≡ Begun m → n ≡ m
 same_begun n m is = cc
@@ -78,13 +86,20 @@ not_begun : (reply : Reply) (n : ℕ) → IsCallReply reply → reply ≢ Begun 
 not_begun (Begun m) n never is = never
 not_begun reply n call is = cc
 
+flush_not_begun : (p n : ℕ) (dirty : Bool) → (if dirty then Flushed p else Clean p) ≢ Begun n
+flush_not_begun p n true is = cc
+flush_not_begun p n false is = cc
+
 -- only a begin is answered with a number
-begun_next : (next : ℕ) (g0 : Graph) (a : Account) (event : Event) (n : ℕ) → granted next g0 a event ≡ Begun n → n ≡ next
-begun_next next g0 a (Begin s) n is = sym (same_begun next n is)
-begun_next next g0 a (Seal s) n is = cc
-begun_next next g0 a (Abort s) n is = cc
-begun_next next g0 a Force n is = cc
-begun_next next g0 a event n is = absurd (not_begun (granted next g0 a event) n (call_reply-IsCallReply g0 a (a.active (session_of event)) event) is)
+begun_next : (c : Core) (event : Event) (n : ℕ) → granted_by c event ≡ Begun n → n ≡ next_number c
+begun_next c (Begin s) n is = sym (same_begun (next_number c) n is)
+begun_next c (Seal s) n is = cc
+begun_next c (Abort s) n is = cc
+begun_next c Force n is = cc
+begun_next c (Flush p) n is = absurd (flush_not_begun p n (is_dirty c p) is)
+begun_next c event n is =
+    let a = account c.history in
+    absurd (not_begun (granted_by c event) n (call_reply-IsCallReply c.g0 a (a.active (session_of event)) event) is)
 
 begun_if : (o : Option Refusal) (reply : Reply) (n : ℕ) → reply_of o reply ≡ Begun n → reply ≡ Begun n
 begun_if None reply n is = is
@@ -96,7 +111,7 @@ begun_if (Some why) reply n is = cc
 answer_free : (c : Core) (event : Event) → AreInSessions (account c.history) → RefusesConflicts c.g0 c.history (record { event = event; reply = answer c event })
 answer_free c event within t own =
     let a = account c.history in
-    let alive = granted_if (core_refusal c event) (granted (next_number c) c.g0 a event) own.answered in
+    let alive = granted_if (core_refusal c event) (granted_by c event) own.answered in
     let free = (model_granted c event alive).1 in
     free_call c.g0 a t event within (ap (λ (o : Option Transaction). call_conflict c.g0 a o event) (sym own.active) ∙ free)
 
@@ -104,21 +119,19 @@ answer_free c event within t own =
 answer_viewed : (c : Core) (event : Event) → AnswersByView c.g0 c.history (record { event = event; reply = answer c event })
 answer_viewed c event t own =
     let a = account c.history in
-    let reply = granted (next_number c) c.g0 a event in
+    let reply = granted_by c event in
     let alive = granted_if (core_refusal c event) reply own.answered in
     let same : answer c event ≡ reply = ap (λ (o : Option Refusal). reply_of o reply) alive in
-    let is = call_of (next_number c) c.g0 a event (subst IsCallReply same own.answered) in
-    same ∙ granted-call (next_number c) c.g0 a event is ∙ ap (λ (o : Option Transaction). call_reply c.g0 a o event) own.active
+    let is = call_of c event (subst IsCallReply same own.answered) in
+    same ∙ granted_plain c event (no_flush event is) ∙ granted-call (next_number c) c.g0 a event is ∙ ap (λ (o : Option Transaction). call_reply c.g0 a o event) own.active
 
 -- a transaction that begins has the next number
 answer_begun : (c : Core) (event : Event) (n : ℕ) → answer c event ≡ Begun n → n ≡ next_number c
-answer_begun c event n is =
-    let a = account c.history in
-    begun_next (next_number c) c.g0 a event n (begun_if (core_refusal c event) (granted (next_number c) c.g0 a event) n is)
+answer_begun c event n is = begun_next c event n (begun_if (core_refusal c event) (granted_by c event) n is)
 
 -- once the disk has failed or stopped all is refused for that
 answer_failed : (c : Core) (event : Event) → EndsWithFailure c.history (record { event = event; reply = answer c event })
-answer_failed c event n failed = ap (λ (o : Option Refusal). reply_of o (granted (next_number c) c.g0 (account c.history) event)) (failed_refusal c event n failed)
+answer_failed c event n failed = ap (λ (o : Option Refusal). reply_of o (granted_by c event)) (failed_refusal c event n failed)
 
 -- The history with one entry more.
 
@@ -145,6 +158,8 @@ begun_grows a event (Begun n) = omega arith
 begun_grows a event (Sealed n) = omega arith
 begun_grows a event Aborted = omega arith
 begun_grows a event (Durable n) = omega arith
+begun_grows a event (Flushed page) = omega arith
+begun_grows a event (Clean page) = omega arith
 begun_grows a event (Refused why) = refused_grows a event why
 begun_grows a event reply = omega arith
 

@@ -1,14 +1,14 @@
 -- The core: what each event is answered, and the state that it leaves.
-use Rattle.std.specs.Prelude.{◌≡◌, ◌⊎◌, ℕ, ◌+◌, ◌-◌, ◌*◌, ◌<◌, ◌==◌, ◌&&◌, not, nat_lt, max, Bool, List, [], ◌∷◌, ◌++◌, length, fold, Option, None, Some, slice_index_or, sum_by, if◌then◌else◌}
+use Rattle.std.specs.Prelude.{◌≡◌, ◌⊎◌, ℕ, ◌+◌, ◌-◌, ◌*◌, ◌<◌, ◌==◌, ◌&&◌, not, nat_lt, min, max, Bool, List, [], ◌∷◌, ◌++◌, length, fold, Option, None, Some, slice_index_or, sum_by, if◌then◌else◌}
 use Rattle.graph_model.specs.declared.id.Id.{Id}
 use Rattle.graph_model.specs.declared.val.Val.{Val}
 use Rattle.graph_model.specs.declared.val.Val.TheVariants.{Null, Int}
 use Rattle.graph_model.specs.declared.event.Event.{Event}
-use Rattle.graph_model.specs.declared.event.Event.TheVariants.{Begin, New, Put, Clear, Link, Seal, Abort, Force}
+use Rattle.graph_model.specs.declared.event.Event.TheVariants.{Begin, New, Put, Clear, Link, Seal, Abort, Force, Flush}
 use Rattle.graph_model.specs.declared.reply.Refusal.{Refusal}
-use Rattle.graph_model.specs.declared.reply.Refusal.TheVariants.{VolatileFull, Exhausted, LogFull, DiskFault, Stopped}
+use Rattle.graph_model.specs.declared.reply.Refusal.TheVariants.{NoSuchPage, VolatileFull, Exhausted, LogFull, DiskFault, Stopped}
 use Rattle.graph_model.specs.declared.reply.Reply.{Reply}
-use Rattle.graph_model.specs.declared.reply.Reply.TheVariants.{Refused}
+use Rattle.graph_model.specs.declared.reply.Reply.TheVariants.{Flushed, Clean, Refused}
 use Rattle.graph_model.specs.declared.reply.Entry.{Entry}
 use Rattle.graph_model.specs.Graph.{Graph, fields}
 use Rattle.graph_model.specs.Transaction.{View, Transaction, held, reference_to}
@@ -43,6 +43,7 @@ pub record Core : Type 0 where
   pub words : List ℕ  -- the words of both spaces behind these
   pub pending : List Record  -- the records behind them that wait to be forced
   pub stored_lsns : ℕ → ℕ  -- the LSN with which each page is stored, or 0
+  pub gates : ℕ → ℕ  -- how many gates of each page's two frames are open
   pub places : Places  -- the objects that stand in the current space behind all of these, with their addresses
 
 -- the next transaction's number
@@ -133,6 +134,7 @@ call_records ground g0 a (Some t) event = []
 abbrev pub records_for : Ground → Graph → Account → Event → List Record
 records_for ground g0 a (Begin s) = []
 records_for ground g0 a Force = []
+records_for ground g0 a (Flush p) = []
 records_for ground g0 a event = call_records ground g0 a (a.active (session_of event)) event
 
 abbrev pub event_records : Core → Event → List Record
@@ -206,9 +208,14 @@ room_refusal ground g0 a (Some t) (New s h len) = area_refusal (view g0 a t) t.n
 room_refusal ground g0 a (Some t) (Seal s) = space_refusal ground.state (seal_need ground t.number (view g0 a t))
 room_refusal ground g0 a t event = None
 
--- why an event has no room in memory's spaces
+-- why there is no such page
+abbrev pub page_refusal : ℕ → Event → Option Refusal
+page_refusal pages (Flush p) = if nat_lt p (pages_in pages) then None else Some NoSuchPage
+page_refusal pages event = None
+
+-- why an event has no room in memory's spaces, or asks for a page that these do not have
 abbrev pub words_refusal : Core → Event → Option Refusal
-words_refusal c event = let a = account c.history in room_refusal (ground c) c.g0 a (a.active (session_of event)) event
+words_refusal c event = let a = account c.history in first_of_two (page_refusal c.pages event) (room_refusal (ground c) c.g0 a (a.active (session_of event)) event)
 
 -- why the core refuses an event
 abbrev pub core_refusal : Core → Event → Option Refusal
@@ -216,9 +223,14 @@ core_refusal c event =
     let a = account c.history in
     refusal_of a.failed (first_of_two (model_refusal (next_number c) c.g0 a event) (first_of_two (words_refusal c event) (log_refusal c event)))
 
+-- what an event that isn't refused is answered: a flush by whether its page has changed since it was stored, and all others as by a plain heap
+abbrev pub granted_by : Core → Event → Reply
+granted_by c (Flush p) = if is_dirty c p then Flushed p else Clean p
+granted_by c event = granted (next_number c) c.g0 (account c.history) event
+
 -- what an event is answered where the disk does what it is asked
 abbrev pub answer : Core → Event → Reply
-answer c event = reply_of (core_refusal c event) (granted (next_number c) c.g0 (account c.history) event)
+answer c event = reply_of (core_refusal c event) (granted_by c event)
 
 -- the state with one entry more
 abbrev pub with_entry : Core → Event → Reply → Core
@@ -229,9 +241,29 @@ abbrev pub forced : Core → List Record → Core
 forced c [] = c
 forced c (r ∷ rs) = record c { batches = c.batches ++ (r ∷ rs) ∷ []; words = fold put_record c.words (r ∷ rs); pending = [] }
 
+-- whether a page is ahead of the log on the disk: it has a record that waits
+abbrev pub is_ahead : Core → ℕ → Bool
+is_ahead c p = nat_lt (length (records_of c.batches)) (present_lsn c p)
+
+-- what waits is forced first if a page that is to be stored is ahead
+abbrev pub forced_if : Bool → Core → Core
+forced_if ahead c = if ahead then forced c c.pending else c
+
+-- a page is stored as it is now, in the frame that does not count
+abbrev pub page_stored : Core → ℕ → Core
+page_stored c p = record c {
+  stored_lsns = λ q. if q == p then present_lsn c q else c.stored_lsns q;
+  gates = λ q. if q == p then min 2 (c.gates q + 1) else c.gates q;
+}
+
+-- a page that has changed is stored, and no page gets ahead of the log
+abbrev pub flushed : Core → ℕ → Core
+flushed c p = if is_dirty c p then page_stored (forced_if (is_ahead c p) c) p else c
+
 -- what an event that is granted does
 abbrev pub done : Core → Event → Core
 done c Force = forced c c.pending
+done c (Flush p) = flushed c p
 done c event = record c { pending = c.pending ++ event_records c event; places = c.places ++ event_places c event }
 
 -- what an event does that may be refused
@@ -248,9 +280,24 @@ abbrev pub force_calls : List Record → ℕ
 force_calls [] = 0
 force_calls (r ∷ rs) = 4
 
+-- those of a store of a page: two more where both of its gates are open, since one is closed first
+abbrev pub store_calls : ℕ → ℕ
+store_calls gates = if nat_lt gates 2 then 4 else 6
+
+-- those of a flush
+abbrev pub flush_calls : Core → ℕ → ℕ
+flush_calls c p = if is_dirty c p then (if is_ahead c p then force_calls c.pending else 0) + store_calls (c.gates p) else 0
+
+-- the events that write or sync, if something is to be written
+abbrev pub AsksDisk : Event → Type 0
+AsksDisk Force = Unit {0}
+AsksDisk (Flush p) = Unit {0}
+AsksDisk event = ⊥
+
 -- those of an event that may be refused
 abbrev pub calls_if : Option Refusal → Core → Event → ℕ
 calls_if None c Force = force_calls c.pending
+calls_if None c (Flush p) = flush_calls c p
 calls_if why c event = 0
 
 -- the writes and syncs of an event where the disk does what it is asked

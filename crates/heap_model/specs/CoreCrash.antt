@@ -6,6 +6,7 @@ use Rattle.image_plan.specs.declared.superblock.Super.{Super}
 use Rattle.image_plan.specs.Super.{IsSuper}
 use Rattle.log_records.specs.declared.Record.{Record}
 use Rattle.gated_log.specs.Log.{with_batch, records_of}
+use Rattle.log_machine.specs.Machine as machine
 use Rattle.log_machine.specs.Machine.{words}
 use Rattle.page_redo.specs.Pages.{Pages, pages_in, lsn_of}
 use Rattle.page_redo.specs.Prefix.{EachHoldsPrefix}
@@ -13,10 +14,13 @@ use Rattle.heap_model.specs.Core.{Core}
 use Rattle.heap_model.specs.Image.{StandsFor}
 use Rattle.heap_model.specs.Opening.{next_of}
 
--- A core's words are those that its log leaves, and each page that is stored beside it has the LSN that the core knows, and holds as many
--- of its records as that says.
+-- A core's words are those that its log leaves.
+abbrev pub HasLogWords : Core → Type 0
+HasLogWords c = c.words ≡ words c.pages (records_of c.batches)
+
+-- So they are, and each page that is stored beside it has the LSN that the core knows, and holds as many of its records as that says.
 pub record IsLogged (c : Core) (stored : Pages) : Type 0 where
-  pub words : c.words ≡ words c.pages (records_of c.batches)
+  pub words : HasLogWords c
   pub prefixes : EachHoldsPrefix c.pages (records_of c.batches) stored
   pub lsns : (p : ℕ) → p < pages_in c.pages → lsn_of stored p ≡ c.stored_lsns p
 
@@ -31,13 +35,14 @@ pub record IsSuperOf (s : Super) (c : Core) : Type 0 where
   pub room : s.log_bytes ≡ c.room
   pub first : s.first ≡ c.lowest
 
--- An image stands for the first k commits of a core since its opening, and all that was acknowledged is among them. It has the core's
--- superblock, and its next transaction number is not below the core's first.
+-- An image stands for the first k commits of a core since its opening. All that was acknowledged is among them, and so is what was forced of
+-- which no reply has told. It has the core's superblock, and its next transaction number is not below the core's first.
 pub record StandsForFirst (c : Core) (k : ℕ) (image : List ℕ) : Type 0 where
   pub stands : StandsFor (serial c.g0 (take k (commits c.history))) (c.before + k) image
   pub of : IsSuperOf stands.super c
   pub next : c.first ≤ next_of stands.super stands.batches
   pub kept : acknowledged c.history ≤ k
+  pub forced : machine.commits (records_of c.batches) ≤ c.before + k
   pub some : k ≤ length (commits c.history)
 
 -- The image stands for first commits, and all that was acknowledged is among them.

@@ -6,7 +6,7 @@ use Rattle.graph_model.specs.declared.id.Id.{Id}
 use Rattle.graph_model.specs.declared.val.Val.{Val}
 use Rattle.graph_model.specs.declared.val.Val.TheVariants.{Null, Int, Ref}
 use Rattle.graph_model.specs.declared.event.Event.{Event}
-use Rattle.graph_model.specs.declared.event.Event.TheVariants.{Begin, Root, New, Put, Clear, Link, Drop, Get, Same, Len, Seal, Abort, Force}
+use Rattle.graph_model.specs.declared.event.Event.TheVariants.{Begin, Root, New, Put, Clear, Link, Drop, Get, Same, Len, Seal, Abort, Force, Flush}
 use Rattle.graph_model.specs.Graph.{Graph, root, fields}
 use Rattle.graph_model.specs.Transaction.{View, Registers, held, fields_of, with_referred, call}
 use Rattle.graph_words.specs.Places.{Places, IsAtHand, IsVisible, address_of}
@@ -77,3 +77,4 @@ call_at_hand v stands has all (Len s h) same = all
 call_at_hand v stands has all (Seal s) same = all
 call_at_hand v stands has all (Abort s) same = all
 call_at_hand v stands has all Force same = all
+call_at_hand v stands has all (Flush p) same = all

@@ -45,6 +45,7 @@ left_first c k image first new (inl held) = record {
   of = record { limits = first.of.limits; pages = first.of.pages; room = first.of.room; first = first.of.first };
   next = first.next;
   kept = first.kept;
+  forced = first.forced;
   some = first.some;
 }
 left_first c k image first new (inr held) =
@@ -58,5 +59,6 @@ left_first c k image first new (inr held) =
       of = record { limits = first.of.limits; pages = first.of.pages; room = first.of.room; first = first.of.first };
       next = omega (arith, first.next, same);
       kept = first.kept;
+      forced = first.forced;
       some = first.some;
     }

@@ -97,19 +97,24 @@ module _ (s : Super) (batches : List (List Record)) (stored : Pages) (legal : Is
   none_since : (log : List (List Record)) → Says g (commits (records_of batches)) s log stored → Says g (commits (records_of batches) + 0) s log stored
   none_since log says = record { legal = says.legal; seen = says.seen; shows = says.shows; graph = says.graph; count = omega (arith, says.count) }
 
+  -- an opening rolls transactions back, and commits none
+  same_commits : commits (records_of (rolled_back s batches)) ≡ commits (records_of batches)
+  same_commits = (says_found s batches stored legal places g found).left.count
+
   -- an image of the log that was found or of the one behind the opening keeps all commits, wherever the opening was stopped
-  pub opened_keeps : (image : List ℕ) → Holds s batches stored image ⊎ Holds s (rolled_back s batches) stored image → IsCommitPrefix (opened s batches stored true places g) image
-  opened_keeps image (inl held) = (
+  pub opened_keeps : (gates : ℕ → ℕ) (image : List ℕ) → Holds s batches stored image ⊎ Holds s (rolled_back s batches) stored image → IsCommitPrefix (opened s batches stored gates true places g) image
+  opened_keeps gates image (inl held) = (
     0,
     record {
       stands = record { super = s; batches = batches; stored = stored; says = none_since batches (says_found s batches stored legal places g found).found; held = held };
       of = record { limits = legal.shaped.limits; pages = refl; room = refl; first = refl };
       next = omega arith;
       kept = omega arith;
+      forced = omega (arith, same_commits);
       some = omega arith;
     },
   )
-  opened_keeps image (inr held) = (
+  opened_keeps gates image (inr held) = (
     0,
     record {
       stands = record {
@@ -125,6 +130,7 @@ module _ (s : Super) (batches : List (List Record)) (stored : Pages) (legal : Is
           let other = next_is s (rolled_back s batches) stored (rolled_shaped s batches stored legal.shaped) in
           omega arith;
       kept = omega arith;
+      forced = omega (arith, same_commits);
       some = omega arith;
     },
   )

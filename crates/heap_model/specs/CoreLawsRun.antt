@@ -1,16 +1,17 @@
 -- What each step of a core keeps: what it was opened with, its history with one entry more, and a failure.
-use Rattle.std.proofs.Common.{◌≡◌, ◌≢◌, ◌<◌, arith, inl, inr, ℕ, List, [], ◌∷◌, ◌++◌, Option, Some, None, refl, sym, ap, ◌∙◌, subst}
+use Rattle.std.specs.Prelude.{if◌then◌else◌}
+use Rattle.std.proofs.Common.{◌≡◌, ◌≢◌, ◌<◌, arith, inl, inr, ℕ, Bool, true, false, List, [], ◌∷◌, ◌++◌, Option, Some, None, refl, sym, ap, ◌∙◌, subst}
 use Rattle.graph_model.specs.declared.event.Event.{Event}
-use Rattle.graph_model.specs.declared.event.Event.TheVariants.{Force}
+use Rattle.graph_model.specs.declared.event.Event.TheVariants.{Force, Flush}
 use Rattle.graph_model.specs.declared.reply.Entry.{Entry}
 use Rattle.graph_model.specs.declared.reply.Refusal.{Refusal}
 use Rattle.graph_model.specs.declared.reply.Refusal.TheVariants.{Failed}
 use Rattle.graph_model.specs.declared.reply.Reply.{Reply}
 use Rattle.graph_model.specs.declared.reply.Reply.TheVariants.{Refused}
 use Rattle.graph_model.specs.History.{account}
-use Rattle.graph_model.specs.Plain.{model_refusal, first_of_two, refusal_of, granted, reply_of}
+use Rattle.graph_model.specs.Plain.{model_refusal, first_of_two, refusal_of, reply_of}
 use Rattle.log_records.specs.declared.Record.{Record}
-use Rattle.heap_model.specs.Core.{Core, next_number, words_refusal, log_refusal, core_refusal, answer, with_entry, forced, done, after_refusal, after, force_calls, calls_if, calls, IsStep, IsRun}
+use Rattle.heap_model.specs.Core.{Core, next_number, words_refusal, log_refusal, core_refusal, granted_by, answer, with_entry, is_dirty, is_ahead, forced, forced_if, page_stored, done, after_refusal, after, force_calls, AsksDisk, calls_if, calls, IsStep, IsRun}
 use Rattle.heap_model.specs.CoreRuns.{SameOpening}
 use Rattle.heap_model.specs.CoreLawsStep.{done_history}
 
@@ -20,20 +21,17 @@ failed_refusal c event entry e = ap (λ (o : Option ℕ). refusal_of o (first_of
 
 -- and all that changes is its history
 pub failed_after : (c : Core) (event : Event) (entry : ℕ) → (account c.history).failed ≡ Some entry → after c event ≡ with_entry c event (Refused (Failed entry))
-failed_after c event entry e = ap (λ (o : Option Refusal). with_entry (after_refusal o c event) event (reply_of o (granted (next_number c) c.g0 (account c.history) event))) (failed_refusal c event entry e)
+failed_after c event entry e = ap (λ (o : Option Refusal). with_entry (after_refusal o c event) event (reply_of o (granted_by c event))) (failed_refusal c event entry e)
 
-some_calls : (p : List Record) → 0 < force_calls p → p ≢ []
-some_calls [] some e = omega arith
-some_calls (r ∷ rs) some e = cc
-
-calls_made : (why : Option Refusal) (c : Core) (event : Event) → 0 < calls_if why c event → (event ≡ Force) × (c.pending ≢ []) × (why ≡ None)
+calls_made : (why : Option Refusal) (c : Core) (event : Event) → 0 < calls_if why c event → AsksDisk event × (why ≡ None)
 calls_made (Some why) c event some = absurd (omega arith)
-calls_made None c Force some = (refl, some_calls c.pending some, refl)
+calls_made None c Force some = (tt, refl)
+calls_made None c (Flush p) some = (tt, refl)
 calls_made None c event some = absurd (omega arith)
 
--- what calls the disk is a force of what waits that is not refused
-pub calls-force : (c : Core) (event : Event) → 0 < calls c event → (event ≡ Force) × (c.pending ≢ []) × (core_refusal c event ≡ None)
-calls-force c event some = calls_made (core_refusal c event) c event some
+-- what calls the disk is a force or a flush that is not refused
+pub calls-asks : (c : Core) (event : Event) → 0 < calls c event → AsksDisk event × (core_refusal c event ≡ None)
+calls-asks c event some = calls_made (core_refusal c event) c event some
 
 unfailed_if : (failed : Option ℕ) (o : Option Refusal) → refusal_of failed o ≡ None → failed ≡ None
 unfailed_if None o e = refl
@@ -43,7 +41,7 @@ unfailed_if (Some entry) o e = cc
 pub calls-unfailed : (c : Core) (event : Event) → 0 < calls c event → (account c.history).failed ≡ None
 calls-unfailed c event some =
     let a = account c.history in
-    unfailed_if a.failed (first_of_two (model_refusal (next_number c) c.g0 a event) (first_of_two (words_refusal c event) (log_refusal c event))) (calls-force c event some).2
+    unfailed_if a.failed (first_of_two (model_refusal (next_number c) c.g0 a event) (first_of_two (words_refusal c event) (log_refusal c event))) (calls-asks c event some).1
 
 refusal_history : (o : Option Refusal) (c : Core) (event : Event) → (after_refusal o c event).history ≡ c.history
 refusal_history None c event = done_history c event
@@ -67,6 +65,12 @@ same_forced c (r ∷ rs) = record { pages = refl; room = refl; lowest = refl; fi
 
 same_done : (c : Core) (event : Event) → SameOpening c (done c event)
 same_done c Force = same_forced c c.pending
+same_done c (Flush p) = same_flushed (is_dirty c p) (is_ahead c p)
+  where
+    same_flushed : (dirty ahead : Bool) → SameOpening c (if dirty then page_stored (forced_if ahead c) p else c)
+    same_flushed true true = let same = same_forced c c.pending in record { pages = same.pages; room = same.room; lowest = same.lowest; first = same.first; g0 = same.g0; born = same.born; before = same.before }
+    same_flushed true false = record { pages = refl; room = refl; lowest = refl; first = refl; g0 = refl; born = refl; before = refl }
+    same_flushed false ahead = record { pages = refl; room = refl; lowest = refl; first = refl; g0 = refl; born = refl; before = refl }
 same_done c event = record { pages = refl; room = refl; lowest = refl; first = refl; g0 = refl; born = refl; before = refl }
 
 same_refusal : (o : Option Refusal) (c : Core) (event : Event) → SameOpening c (after_refusal o c event)

@@ -55,10 +55,10 @@ next_of s batches = next_in (state_of s batches)
 abbrev pub next_behind : ℕ → List Record → ℕ
 next_behind first records = fold (λ n rec. max n (number_of rec + 1)) first records
 
--- The core of a heap just opened, where the log held these batches, its pages were stored so, and this graph stands in the words at these
--- places.
-abbrev pub opened : Super → List (List Record) → Pages → Bool → Places → Graph → Core
-opened s batches stored born places g =
+-- The core of a heap just opened, where the log held these batches, its pages were stored so in frames with so many open gates, and this
+-- graph stands in the words at these places.
+abbrev pub opened : Super → List (List Record) → Pages → (ℕ → ℕ) → Bool → Places → Graph → Core
+opened s batches stored gates born places g =
     record {
       pages = s.pages;
       room = s.log_bytes;
@@ -72,6 +72,7 @@ opened s batches stored born places g =
       words = rolled_words s batches stored;
       pending = [];
       stored_lsns = lsn_of stored;
+      gates = gates;
       places = places;
     }
 
