@@ -13,7 +13,7 @@ ghost use Rattle.log_machine.specs.Machine.{words_in, reserve};
 ghost use Rattle.page_redo.specs.Pages.{Pages};
 ghost use Rattle.page_redo.specs.Redo.{EachLacks};
 ghost use Rattle.page_store.specs.StoreState.{Knows};
-ghost use Rattle.page_cache.specs.CacheState.{cached, cache_store};
+ghost use Rattle.page_cache.specs.CacheState.{cached, cache_store, cache_size};
 ghost use Rattle.page_cache.specs.Stored.{stored_pages};
 ghost use Rattle.heap_model.specs.Image.{IsShapedLog, IsShaped};
 ghost use Rattle.heap_recovery.specs.declared.at.At.{At};
@@ -38,6 +38,7 @@ pub fn read_image<D: Disk>(alloc: Global, disk: &mut D) -> Result<Reading, Recov
     // What was read are the batches of some log, whose records follow one another and were redone on some pages.
     ensures read { IfOk result (λ read. (batches : List (List Record)) × (stored : Pages) × IsRead read.of batches stored read) }
     ensures inside { IfOk result (λ read. log_place read.log + log_room read.log ≤ D.extent disk.new) }
+    ensures pages_inside { IfOk result (λ read. cache_size read.cache ≤ D.extent disk.new) }
     ensures room { IfOk result (λ read. log_used read.log + reserve read.state ≤ log_room read.log) }
     ensures next { IfOk result (λ read. EachLacks (log_count read.log + 1) (cached read.cache)) }
     ensures few { IfOk result (λ read. log_count read.log < 2 ^ 32) }
@@ -85,6 +86,7 @@ fn read_log<D: Disk>(alloc: Global, disk: &mut D, of: Super) -> Result<Reading, 
 
     ensures read { IfOk result (λ read. (batches : List (List Record)) × (stored : Pages) × IsRead of batches stored read) }
     ensures inside { IfOk result (λ read. log_place read.log + log_room read.log ≤ D.extent disk.new) }
+    ensures pages_inside { IfOk result (λ read. cache_size read.cache ≤ D.extent disk.new) }
     ensures room { IfOk result (λ read. log_used read.log + reserve read.state ≤ log_room read.log) }
     ensures next { IfOk result (λ read. EachLacks (log_count read.log + 1) (cached read.cache)) }
     ensures few { IfOk result (λ read. log_count read.log < 2 ^ 32) }
@@ -123,6 +125,7 @@ fn read_pages<D: Disk>(
     requires few { length records.now < 2 ^ 32 }
 
     ensures read { IfOk result (λ cache. (stored : Pages) × IsRedone plan records.now stored cache) }
+    ensures pages_inside { IfOk result (λ cache. cache_size cache ≤ D.extent disk.new) }
     ensures own { IsTrue D.tells → IfOk result (IsRedone plan records.now (stored_pages plan.pages plan.log_bytes (D.bytes disk.old))) }
     ensures known { IsTrue D.tells → IfOk result (λ cache. Knows (cache_store cache) (D.bytes disk.old)) }
     ensures refused { IsTrue D.tells → IfErr result (IsToldOfPages (length records.now) (stored_pages plan.pages plan.log_bytes (D.bytes disk.old))) }

@@ -11,7 +11,7 @@ ghost use Rattle.page_redo.specs.Pages.{Pages};
 ghost use Rattle.page_redo.specs.Redo.{EachLacks, redo_all};
 ghost use Rattle.page_store.specs.Gates.{open_gates};
 ghost use Rattle.page_store.specs.StoreState.{Knows};
-ghost use Rattle.page_cache.specs.CacheState.{cached, cache_store};
+ghost use Rattle.page_cache.specs.CacheState.{cached, cache_store, cache_size};
 ghost use Rattle.object_layout.specs.Walk.{IsWalked, IsWalkFault};
 ghost use Rattle.heap_model.specs.Image.{IsShapedLog, Holds, IsShaped};
 ghost use Rattle.heap_model.specs.Opening.{rollback_of, rolled_back, opening_calls, IsLeftByOpening};
@@ -57,6 +57,7 @@ pub fn recover<D: Disk>(alloc: Global, disk: &mut D) -> Result<Recovered, Recove
     // On every disk what is opened is a log that is shaped beside some pages, rolled back.
     ensures opens { IfOk result (λ found. (s : Super) × (batches : List (List Record)) × (stored : Pages) × IsShapedLog s batches stored × IsRecovered s batches stored found) }
     ensures inside { IfOk result (λ found. log_place found.log + log_room found.log ≤ D.extent disk.new) }
+    ensures pages_inside { IfOk result (λ found. cache_size found.cache ≤ D.extent disk.new) }
     ensures disk { KeepsDisk D.Disk disk.old disk.new (open_device result) }
 
     // They are the log and the pages of the image. An error tells what is wrong with the image, and what is wrong is told.

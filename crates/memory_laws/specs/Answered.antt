@@ -1,6 +1,6 @@
 -- An event is answered as the core answers it, where it is refused for the same reason.
 use Rattle.std.proofs.Common.{◌≡◌, ℕ, ◌+◌, List, [], ◌∷◌, ◌++◌, length, Option, Some, None, refl, sym, ap, ◌∙◌, subst}
-use Rattle.std.specs.Prelude.{slice_index}
+use Rattle.std.specs.Prelude.{slice_index, IsFalse}
 use Rattle.graph_model.specs.declared.event.Event.{Event}
 use Rattle.graph_model.specs.declared.reply.Entry.{Entry}
 use Rattle.graph_model.specs.declared.reply.Refusal.{Refusal}
@@ -8,12 +8,12 @@ use Rattle.graph_model.specs.declared.reply.Reply.{Reply}
 use Rattle.graph_model.specs.declared.reply.Reply.TheVariants.{Refused}
 use Rattle.graph_model.specs.History.{Account, account, account_after}
 use Rattle.graph_model.specs.HistoryLaws.{account-append}
-use Rattle.graph_model.specs.Plain.{granted, reply_of}
+use Rattle.graph_model.specs.Plain.{reply_of}
 use Rattle.graph_model.specs.PlainLaws.{IsNoFault, HasNoFault, account_after-refused}
-use Rattle.heap_model.specs.Core.{Core, next_number, core_refusal, answer, with_entry, done, after_refusal, after}
+use Rattle.heap_model.specs.Core.{Core, core_refusal, granted_by, answer, with_entry, done, after_refusal, after}
 use Rattle.heap_model.specs.CoreLawsStep.{core_refusal-HasNoFault, done_history}
 use Rattle.page_store.specs.declared.store.PageStore.{PageStore}
-use Rattle.page_store.specs.StoreState.{stored_lsn}
+use Rattle.page_store.specs.StoreState.{store_plan, stored_lsn, has_failed}
 use Rattle.heap_memory.specs.Leaves.{IsAsItWas}
 use Rattle.heap_memory.specs.Memory.{Memory}
 use Rattle.memory_laws.specs.CoreMemory.{AreHeld, IsMemory, Does}
@@ -33,6 +33,8 @@ memory_with m a c event reply h = record {
   pages = h.pages;
   lsns = h.lsns;
   flushed = h.flushed;
+  plan = h.plan;
+  unfailed = h.unfailed;
   state = h.state;
   reached = h.reached;
   spaces = h.spaces;
@@ -60,6 +62,8 @@ memory_told m a c acknowledged entries h = record {
   pages = h.pages;
   lsns = h.lsns;
   flushed = h.flushed;
+  plan = h.plan;
+  unfailed = h.unfailed;
   state = h.state;
   reached = h.reached;
   spaces = h.spaces;
@@ -76,10 +80,10 @@ memory_refused m a c event why sound h =
 
 -- Memory is that of a core which has done an event, where its history does not tell it yet.
 abbrev pub Goes : Memory → Core → Event → Type 0
-Goes n c event = IsMemory n (account_after (account c.history) (record { event = event; reply = granted (next_number c) c.g0 (account c.history) event })) (done c event)
+Goes n c event = IsMemory n (account_after (account c.history) (record { event = event; reply = granted_by c event })) (done c event)
 
 either_way : (n : Memory) (c : Core) (event : Event) (o : Option Refusal) → HasNoFault o → (o ≡ None → Goes n c event) → ((why : Refusal) → o ≡ Some why → IsMemory n (account c.history) c)
-    → IsMemory n (account (with_entry (after_refusal o c event) event (reply_of o (granted (next_number c) c.g0 (account c.history) event))).history) (with_entry (after_refusal o c event) event (reply_of o (granted (next_number c) c.g0 (account c.history) event)))
+    → IsMemory n (account (with_entry (after_refusal o c event) event (reply_of o (granted_by c event))).history) (with_entry (after_refusal o c event) event (reply_of o (granted_by c event)))
 either_way n c event None sound go stay =
     memory_entry n c (done c event) event _ (done_history c event) (go refl)
 either_way n c event (Some why) sound go stay = memory_entry n c c event (Refused why) refl (memory_refused n (account c.history) c event why sound (stay why refl))
@@ -88,13 +92,13 @@ memory_after : (n : Memory) (c : Core) (event : Event) (o : Option Refusal) → 
     → IsMemory n (account (after c event).history) (after c event)
 memory_after n c event o is go stay = either_way n c event (core_refusal c event) (core_refusal-HasNoFault c event) (λ e. go (sym is ∙ e)) (λ why e. stay why (sym is ∙ e))
 
-answer_same : (c : Core) (event : Event) (o : Option Refusal) (reply : Reply) → core_refusal c event ≡ o → (o ≡ None → granted (next_number c) c.g0 (account c.history) event ≡ reply) → reply_of o reply ≡ answer c event
-answer_same c event None reply is gives = sym (gives refl) ∙ ap (λ (p : Option Refusal). reply_of p (granted (next_number c) c.g0 (account c.history) event)) (sym is)
-answer_same c event (Some why) reply is gives = ap (λ (p : Option Refusal). reply_of p (granted (next_number c) c.g0 (account c.history) event)) (sym is)
+answer_same : (c : Core) (event : Event) (o : Option Refusal) (reply : Reply) → core_refusal c event ≡ o → (o ≡ None → granted_by c event ≡ reply) → reply_of o reply ≡ answer c event
+answer_same c event None reply is gives = sym (gives refl) ∙ ap (λ (p : Option Refusal). reply_of p (granted_by c event)) (sym is)
+answer_same c event (Some why) reply is gives = ap (λ (p : Option Refusal). reply_of p (granted_by c event)) (sym is)
 
 -- an event is answered as the core answers it where it is refused for the same reason, and leaves memory as the core is then
 pub does : (c : Core) (event : Event) (o : Option Refusal) (gives reply : Reply) (n : Memory) → core_refusal c event ≡ o → reply ≡ reply_of o gives
-    → (o ≡ None → granted (next_number c) c.g0 (account c.history) event ≡ gives) → (o ≡ None → reply ≡ gives → Goes n c event)
+    → (o ≡ None → granted_by c event ≡ gives) → (o ≡ None → reply ≡ gives → Goes n c event)
     → ((why : Refusal) → reply ≡ Refused why → IsMemory n (account c.history) c) → Does c event reply n
 does c event o gives reply n is replied gives_is go stay = record {
   replied = replied ∙ answer_same c event o gives is gives_is;
@@ -113,6 +117,8 @@ as_it_was m n c is same = record {
   pages = ap (λ (l : List ℕ). length l) same.lsns ∙ is.pages;
   lsns = λ p lt. ap (λ (l : List ℕ). slice_index l p) same.lsns ∙ is.lsns p lt;
   flushed = λ p lt. ap (λ (x : PageStore). stored_lsn x p) same.store ∙ is.flushed p lt;
+  plan = ap store_plan same.store ∙ is.plan;
+  unfailed = subst (λ (x : PageStore). IsFalse (has_failed x)) (sym same.store) is.unfailed;
   state = is.state;
   reached = is.reached;
   spaces = same.spaces ∙ is.spaces;

@@ -1,6 +1,6 @@
 -- What an event appends leaves the memory of the core after it: what holds of each event.
 use Rattle.std.proofs.Common.{◌≡◌, ◌≢◌, ℕ, ◌+◌, List, [], ◌++◌, length, Option, Some, None, refl, sym, ap, ◌∙◌, subst, append_assoc}
-use Rattle.std.specs.Prelude.{fold}
+use Rattle.std.specs.Prelude.{fold, IsFalse}
 use Rattle.std.proofs.lemmas.List.Sums.{fold-append}
 use Rattle.std.proofs.lemmas.List.{append-nil}
 use Rattle.gated_log.specs.Log.{records_of}
@@ -24,9 +24,9 @@ use Rattle.heap_model.specs.Core.{Core, Ground, all_records, all_words, next_num
 use Rattle.core_laws.specs.Events.{call_places, done_records, no_call}
 use Rattle.page_redo.specs.RedoLaws.{lsns-redo_all}
 use Rattle.page_store.specs.declared.store.PageStore.{PageStore}
-use Rattle.page_store.specs.StoreState.{stored_lsn}
+use Rattle.page_store.specs.StoreState.{store_plan, stored_lsn, has_failed}
 use Rattle.memory_laws.specs.PageLaws.{lsn_appended}
-use Rattle.core_laws.specs.Step.{call_account}
+use Rattle.core_laws.specs.Step.{call_account, reply_adds}
 use Rattle.core_laws.specs.Sessions.{each_session, called}
 use Rattle.core_laws.specs.Valid.{IsValid}
 use Rattle.heap_memory.specs.Memory.{Memory, own}
@@ -108,6 +108,8 @@ module _ (m n : Memory) (c : Core) (valid : IsValid c) (is : IsMemory m (account
         pages = ap (λ (l : List ℕ). length l) left.lsns ∙ lsns-redo_all (log_count m.log + 1) (pages_of m) more ∙ is.pages;
         lsns = λ p lt. lsn_appended m n c is more left.lsns p lt;
         flushed = λ p lt. ap (λ (x : PageStore). stored_lsn x p) left.store ∙ is.flushed p lt;
+        plan = ap store_plan left.store ∙ is.plan;
+        unfailed = subst (λ (x : PageStore). IsFalse (has_failed x)) (sym left.store) is.unfailed;
         state = later;
         reached = then;
         spaces = left.spaces ∙ room;
@@ -158,7 +160,7 @@ module _ (m n : Memory) (c : Core) (valid : IsValid c) (is : IsMemory m (account
       holds ∙ ap (λ (y : TransactionState). Some y) kept_so ∙ sym (kept_call (ground_in c c.places later) c.g0 a (a.active s) t event e) in
       let each = each_session P a.active s (with_call (a.active s) event) there (others_kept s table later beside others) in
       let now = appended_here (called a s event) more table locks m.sealed later left reached same each held (next ∙ is.next) is.sealed in
-      subst (λ (b : Account). IsMemory n b (done c event)) (sym (call_account (next_number c) c.g0 a event called_it ∙ ap (λ (q : ℕ). called a q event) one))
+      subst (λ (b : Account). IsMemory n b (done c event)) (sym (reply_adds c event ∙ call_account (next_number c) c.g0 a event called_it ∙ ap (λ (q : ℕ). called a q event) one))
       (subst (λ (d : Core). IsMemory n (called a s event) d) (sym (call_done c event more called_it records)) now)
 
   -- the same, where the transaction alone is changed in the table

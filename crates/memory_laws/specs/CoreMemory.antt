@@ -1,5 +1,5 @@
 -- When what an open heap keeps in memory is what a core says.
-use Rattle.std.specs.Prelude.{◌≡◌, ◌↔◌, ℕ, ◌+◌, ◌<◌, true, List, length, slice_index, map, Option, None, Some}
+use Rattle.std.specs.Prelude.{◌≡◌, ◌↔◌, ℕ, ◌+◌, ◌<◌, true, List, length, slice_index, map, Option, None, Some, IsFalse}
 use Rattle.std.specs.FinSet as set
 use Rattle.std.specs.List.{Contains}
 use Rattle.std.specs.Option.{option_map}
@@ -17,7 +17,7 @@ use Rattle.image_plan.specs.Plan.{log_offset}
 use Rattle.log_machine.specs.declared.UndoEntry.{UndoEntry}
 use Rattle.log_machine.specs.Machine.{State}
 use Rattle.page_redo.specs.Pages.{pages_in}
-use Rattle.page_store.specs.StoreState.{stored_lsn}
+use Rattle.page_store.specs.StoreState.{store_plan, stored_lsn, has_failed}
 use Rattle.object_locks.specs.declared.holding.Holding.{Holding}
 use Rattle.object_locks.specs.declared.holding.Mode as table
 use Rattle.object_locks.specs.declared.holding.Mode.TheVariants as locked
@@ -79,6 +79,8 @@ pub record IsMemory (m : Memory) (a : Account) (c : Core) : Type 0 where
   pub pages : length m.lsns ≡ pages_in c.pages
   pub lsns : (p : ℕ) → p < pages_in c.pages → slice_index m.lsns p ≡ present_lsn c p
   pub flushed : (p : ℕ) → p < pages_in c.pages → stored_lsn m.store p ≡ c.stored_lsns p
+  pub plan : store_plan m.store ≡ record { pages = c.pages; log_bytes = c.room }
+  pub unfailed : IsFalse (has_failed m.store)  -- no store of a page has failed
   pub state : State
   pub reached : state_behind c (all_records c) ≡ Some state
   pub spaces : m.spaces ≡ spaces_of state

@@ -15,6 +15,7 @@ pub mod RefusalRoom
 pub mod RefusalWrites
 pub mod StepDisk
 pub mod StepEnds
+pub mod StepFlush
 pub mod StepHandles
 pub mod StepHeld
 pub mod StepNew

@@ -1,9 +1,9 @@
--- The LSNs of pages in memory, behind more records, a force and the store of a page.
-use Rattle.std.proofs.Common.{◌≡◌, ◌≢◌, ℕ, ◌+◌, ◌<◌, max, cond, List, [], ◌∷◌, ◌++◌, length, get_or, refl, sym, ap, ◌∙◌, arith, length-append, append_assoc}
+-- The LSNs of pages in memory behind more records.
+use Rattle.std.proofs.Common.{◌≡◌, ℕ, ◌+◌, ◌<◌, max, cond, List, [], ◌∷◌, ◌++◌, length, get_or, sym, ap, ◌∙◌, arith, length-append, append_assoc}
 use Rattle.log_records.specs.declared.Record.{Record}
 use Rattle.gated_log.specs.Log.{records_of}
 use Rattle.gated_log.specs.LogState.{log_count}
-use Rattle.page_redo.specs.Pages.{pages_in, lsn_of, touches}
+use Rattle.page_redo.specs.Pages.{pages_in, touches}
 use Rattle.page_redo.specs.Redo.{redo_all, last_lsn}
 use Rattle.page_redo.specs.RedoLaws.{lsn-redo_all}
 use Rattle.graph_model.specs.History.{Account}

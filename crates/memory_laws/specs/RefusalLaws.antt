@@ -1,7 +1,7 @@
 -- Why a core refuses an event, by parts.
 use Rattle.std.proofs.Common.{◌≡◌, ℕ, Bool, true, false, cond, Option, None, Some, refl, ap, ◌∙◌}
 use Rattle.graph_model.specs.declared.event.Event.{Event}
-use Rattle.graph_model.specs.declared.event.Event.TheVariants.{Begin, Root, New, Put, Clear, Link, Drop, Get, Same, Len, Seal, Abort, Force}
+use Rattle.graph_model.specs.declared.event.Event.TheVariants.{Begin, Root, New, Put, Clear, Link, Drop, Get, Same, Len, Seal, Abort, Force, Flush}
 use Rattle.graph_model.specs.declared.reply.Refusal.{Refusal}
 use Rattle.graph_model.specs.Graph.{Graph}
 use Rattle.graph_model.specs.Transaction.{Transaction, IsCall}
@@ -9,7 +9,7 @@ use Rattle.graph_model.specs.History.{Account, account, session_of}
 use Rattle.graph_model.specs.Plain.{call_refusal, call_conflict, first_of_two}
 use Rattle.graph_model.specs.PlainLaws.{event_refusal-call}
 use Rattle.heap_model.specs.Core.{Core, Ground, ground, next_number, full_log, room_refusal, words_refusal, log_refusal, core_refusal}
-use Rattle.core_laws.specs.Events.{is_write, is_new}
+use Rattle.core_laws.specs.Events.{is_write, is_new, call_no_page}
 use Rattle.core_laws.specs.Step.{unfailed_refusal, log_quiet}
 use Rattle.core_laws.specs.Valid.{IsValid}
 
@@ -54,6 +54,7 @@ words_quiet g g0 a (Some t) (Len s h) is old = refl
 words_quiet g g0 a (Some t) (Seal s) is old = absurd is
 words_quiet g g0 a (Some t) (Abort s) is old = refl
 words_quiet g g0 a (Some t) Force is old = refl
+words_quiet g g0 a (Some t) (Flush p) is old = refl
 
 module _ (c : Core) (event : Event) (valid : IsValid c) (call : IsCall event) where
   -- what the history says
@@ -74,6 +75,7 @@ module _ (c : Core) (event : Event) (valid : IsValid c) (call : IsCall event) wh
       unfailed_refusal c event valid.unfailed
       ∙ ap (λ (o : Option Refusal). first_of_two (first_of_two o (call_conflict c.g0 a own event)) (first_of_two (words_refusal c event) (log_refusal c event)))
       (event_refusal-call (next_number c) c.g0 a event call)
+      ∙ ap (λ (o : Option Refusal). first_of_two asked (first_of_two (first_of_two o (room_refusal (ground c) c.g0 a own event)) (log_refusal c event))) (call_no_page c.pages event call)
 
   -- one that makes no object is refused so, or for the log
   pub old_refused : is_new event ≡ false → core_refusal c event ≡ first_of_two asked (log_refusal c event)

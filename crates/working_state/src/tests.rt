@@ -267,7 +267,7 @@ fn ask(
         Event::Len { s, h } => Ok(heap.len(s, h)),
         Event::Seal { s } => heap.seal(s, alloc),
         Event::Abort { s } => heap.abort(s, alloc),
-        Event::Force => panic!(rt; "a force is of no session"),
+        Event::Force | Event::Flush { .. } => panic!(rt; "it is of no session"),
     }
 }
 
