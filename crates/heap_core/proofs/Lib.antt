@@ -1,6 +1,9 @@
 mod Calls
 mod Empty
+mod FlushDisk
+mod FlushSteps
 mod RefinementAnswer
+mod RefinementFlush
 mod RefinementForce
 mod RefinementGraph
 pub mod RefinementLeft

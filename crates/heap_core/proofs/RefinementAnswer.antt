@@ -3,6 +3,8 @@ use Rattle.std.proofs.Common.{◌≡◌, ℕ, ◌+◌, ◌*◌, Option, Some, No
 use Rattle.std.specs.Prelude.{IfOk}
 use Rattle.std.specs.declared.alloc.AllocError.{AllocError}
 use Rattle.gated_log.specs.LogState.{IsPlaced}
+use Rattle.heap_core.specs.declared.heap.Answer.TheVariants.{Told}
+use Rattle.page_cache.specs.CacheState.{cache_store}
 use Rattle.graph_model.specs.declared.event.Event.{Event}
 use Rattle.graph_model.specs.declared.event.Event.TheVariants.{Begin, Root, New, Put, Clear, Link, Drop, Get, Same, Len, Seal, Abort}
 use Rattle.graph_model.specs.declared.reply.Refusal.{Refusal}
@@ -98,18 +100,22 @@ module _ (m : Memory) (c : Core) (is : IsMemory m (account c.history) c) (valid 
   counts h reply form replied = subst (λ e. Does c e reply m) (sym form) (len_does m c valid runs is s h (len_refused m c valid runs is s h) reply replied)
 
 -- the reply of a call that had its memory
-pub taken : (result : Result Reply AllocError) (x reply : Reply) (P : Reply → Type 0) → result ≡ Ok x → Some x ≡ Some reply → IfOk result P → P reply
+pub taken : (result : Result Reply AllocError) (x reply : Reply) (P : Reply → Type 0) → result ≡ Ok x → Told x ≡ Told reply → IfOk result P → P reply
 taken result x reply P was same holds =
     let there : P x = subst (λ r. IfOk r P) was holds in
     let is : x ≡ reply = cc same in
     subst P is there
 
-pub told : (x reply : Reply) (P : Reply → Type 0) → Some x ≡ Some reply → P x → P reply
+pub told : (x reply : Reply) (P : Reply → Type 0) → Told x ≡ Told reply → P x → P reply
 told x reply P same holds = let is : x ≡ reply = cc same in subst P is holds
 
 -- a log that has not changed lies where it did
 pub same_placed : (old new : Working) → new ≡ old → IsPlaced old.log new.log
 same_placed old new same = subst (λ (w : Working). IsPlaced old.log w.log) (sym same) (record { at = refl; room = refl; tail = refl; forced = refl })
+
+-- nor has the store of its pages
+pub same_stored : (old new : Working) → new ≡ old → cache_store new.cache ≡ cache_store old.cache
+same_stored old new same = ap (λ (w : Working). cache_store w.cache) same
 
 -- so does that of a call that may be refused
 pub placed : (o : Option Refusal) (result : Result Reply AllocError) (x : Reply) (P : Type 0) → result ≡ Ok x → IfOk result (λ reply. reply ≡ reply_of o answer.Done) → (result ≡ Ok answer.Done → P)

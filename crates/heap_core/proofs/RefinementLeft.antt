@@ -11,20 +11,20 @@ use Rattle.gated_log.specs.declared.Log.{Log}
 use Rattle.gated_log.specs.LogLaws.{buffer_size-Keeps}
 use Rattle.gated_log.specs.LogState.{buffer_size, is_waiting, IsBufferEmpty, Keeps}
 use Rattle.graph_model.specs.declared.event.Event.{Event}
-use Rattle.graph_model.specs.declared.event.Event.TheVariants.{Begin, Root, New, Put, Clear, Link, Drop, Get, Same, Len, Seal, Abort, Force}
+use Rattle.graph_model.specs.declared.event.Event.TheVariants.{Force, Flush}
 use Rattle.graph_model.specs.declared.reply.Entry.{Entry}
 use Rattle.graph_model.specs.declared.reply.Refusal.{Refusal}
 use Rattle.graph_model.specs.declared.reply.Refusal.TheVariants.{DiskFault, Stopped}
 use Rattle.graph_model.specs.declared.reply.Reply.{Reply}
 use Rattle.graph_model.specs.declared.reply.Reply.TheVariants.{Refused}
 use Rattle.graph_model.specs.Transaction.{Transaction, serial}
-use Rattle.graph_model.specs.History.{Account, account, account_after, sealed, commits, acknowledged}
+use Rattle.graph_model.specs.History.{Account, account, account_after, first_failure, sealed, commits, acknowledged}
 use Rattle.graph_model.specs.HistoryLaws.{account-append}
 use Rattle.graph_model.specs.PlainLaws.{IsNoFault, account_after-refused}
 use Rattle.log_records.specs.declared.Record.{Record}
 use Rattle.log_records.specs.Record.{spellings}
 use Rattle.heap_core.specs.Causes.{reply_device}
-use Rattle.heap_model.specs.Core.{Core, core_refusal, with_entry, force_calls, calls_if, calls}
+use Rattle.heap_model.specs.Core.{Core, core_refusal, with_entry, force_calls, AsksDisk, calls_if, calls}
 use Rattle.heap_model.specs.CoreCrash.{IsCommitPrefix}
 use Rattle.heap_model.specs.CoreLawsRun.{failed_refusal}
 use Rattle.core_laws.specs.Run.{calls-forced}
@@ -59,6 +59,7 @@ keeps_entry c event reply b image is same_sealed same_doubt same_acknowledged ke
         of = record { limits = first.of.limits; pages = first.of.pages; room = first.of.room; first = first.of.first };
         next = first.next;
         kept = subst (λ (n : ℕ). n ≤ k) (sym told) first.kept;
+        forced = first.forced;
         some = subst (λ (ts : List Transaction). k ≤ length ts) (sym all) first.some;
       },
     )
@@ -67,12 +68,19 @@ keeps_entry c event reply b image is same_sealed same_doubt same_acknowledged ke
 pub keeps_refused : (c : Core) (event : Event) (why : Refusal) (image : List ℕ) → IsNoFault why → IsCommitPrefix c image → IsCommitPrefix (with_entry c event (Refused why)) image
 keeps_refused c event why image sound kept = keeps_entry c event (Refused why) (record (account c.history) { entries = (account c.history).entries + 1 }) image (account_after-refused (account c.history) event why sound) refl refl refl kept
 
--- a force that the disk cut short
-pub keeps_cut : (c : Core) (reply : Reply) (image : List ℕ) → (reply ≡ Refused DiskFault) ⊎ (reply ≡ Refused Stopped) → IsCommitPrefix c image → IsCommitPrefix (with_entry c Force reply) image
-keeps_cut c reply image (inl told) kept =
-    subst (λ (r : Reply). IsCommitPrefix (with_entry c Force r) image) (sym told) (keeps_entry c Force (Refused DiskFault) _ image refl refl refl refl kept)
-keeps_cut c reply image (inr told) kept =
-    subst (λ (r : Reply). IsCommitPrefix (with_entry c Force r) image) (sym told) (keeps_entry c Force (Refused Stopped) _ image refl refl refl refl kept)
+-- what is told of an event that the disk cut short is the failure alone
+pub cut_account : (a : Account) (event : Event) (reply : Reply) → AsksDisk event → (reply ≡ Refused DiskFault) ⊎ (reply ≡ Refused Stopped)
+    → account_after a (record { event = event; reply = reply }) ≡ record a { failed = first_failure a.failed (a.entries + 1); entries = a.entries + 1 }
+cut_account a Force reply asks (inl told) = ap (λ (r : Reply). account_after a (record { event = Force; reply = r })) told
+cut_account a Force reply asks (inr told) = ap (λ (r : Reply). account_after a (record { event = Force; reply = r })) told
+cut_account a (Flush p) reply asks (inl told) = ap (λ (r : Reply). account_after a (record { event = Flush p; reply = r })) told
+cut_account a (Flush p) reply asks (inr told) = ap (λ (r : Reply). account_after a (record { event = Flush p; reply = r })) told
+cut_account a event reply asks told = absurd asks
+
+-- such an event leaves the first commits
+pub keeps_cut : (c : Core) (event : Event) (reply : Reply) (image : List ℕ) → AsksDisk event → (reply ≡ Refused DiskFault) ⊎ (reply ≡ Refused Stopped) → IsCommitPrefix c image
+    → IsCommitPrefix (with_entry c event reply) image
+keeps_cut c event reply image asks told kept = keeps_entry c event reply _ image (cut_account (account c.history) event reply asks told) refl refl refl kept
 
 -- an event that asks nothing of the disk
 pub stays : {D : Type 0} (moment : D → ℕ) (left_since : D → ℕ → List ℕ → Type 0) (disk : D) (may_leave P : List ℕ → Type 0)
@@ -83,37 +91,29 @@ all_of_none : (before : ℕ) (result : Result (Unit {0}) DiskError) → OnOk res
 all_of_none before (Ok nothing) = refl
 all_of_none before (Err e) = tt
 
-none_pass : (n before : ℕ) (result : Result (Unit {0}) DiskError) → n ≡ 0 → Passes n before before result
+-- no calls are all of none
+pub none_pass : (n before : ℕ) (result : Result (Unit {0}) DiskError) → n ≡ 0 → Passes n before before result
 none_pass n before result none = subst (λ (k : ℕ). Passes k before before result) (sym none) (record {
   ok = all_of_none before result;
   some = (0, (omega arith), refl);
   stopped = λ same any. absurd (omega (arith, any));
 })
 
-quiet_calls : (o : Option Refusal) (c : Core) (event : Event) → (event ≡ Force → ⊥) → calls_if o c event ≡ 0
+quiet_calls : (o : Option Refusal) (c : Core) (event : Event) → (AsksDisk event → ⊥) → calls_if o c event ≡ 0
 quiet_calls (Some why) c event other = refl
-quiet_calls None c (Begin s) other = refl
-quiet_calls None c (Root s h) other = refl
-quiet_calls None c (New s h len) other = refl
-quiet_calls None c (Put s h i v) other = refl
-quiet_calls None c (Clear s h i) other = refl
-quiet_calls None c (Link s h i h2) other = refl
-quiet_calls None c (Drop s h) other = refl
-quiet_calls None c (Get s h i h2) other = refl
-quiet_calls None c (Same s h h2) other = refl
-quiet_calls None c (Len s h) other = refl
-quiet_calls None c (Seal s) other = refl
-quiet_calls None c (Abort s) other = refl
-quiet_calls None c Force other = absurd (other refl)
+quiet_calls None c Force other = absurd (other tt)
+quiet_calls None c (Flush p) other = absurd (other tt)
+quiet_calls None c event other = refl
 
-pub quiet_passes : (c : Core) (event : Event) (before : ℕ) (reply : Reply) → (event ≡ Force → ⊥) → Passes (calls c event) before before (reply_device reply)
+pub quiet_passes : (c : Core) (event : Event) (before : ℕ) (reply : Reply) → (AsksDisk event → ⊥) → Passes (calls c event) before before (reply_device reply)
 quiet_passes c event before reply other = none_pass (calls c event) before (reply_device reply) (quiet_calls (core_refusal c event) c event other)
 
 -- nor does an event that a heap refuses since it has failed
 pub failed_passes : (c : Core) (event : Event) (entry before : ℕ) (reply : Reply) → (account c.history).failed ≡ Some entry → Passes (calls c event) before before (reply_device reply)
 failed_passes c event entry before reply is = none_pass (calls c event) before (reply_device reply) (ap (λ (o : Option Refusal). calls_if o c event) (failed_refusal c event entry is))
 
-hand_calls : (n : ℕ) (p : List Record) → n ≡ 4 + length (spellings p) → (if nat_lt 4 n then 4 else 0) ≡ force_calls p
+-- what a log says of its buffer, says whether a force makes calls
+pub hand_calls : (n : ℕ) (p : List Record) → n ≡ 4 + length (spellings p) → (if nat_lt 4 n then 4 else 0) ≡ force_calls p
 hand_calls n [] is = ap (λ (k : ℕ). if nat_lt 4 k then 4 else 0) is
 hand_calls n (r ∷ rs) is = ap (λ b. cond b 4 0) (lt-ltb 4 n (omega (arith, is, some_spellings r rs)))
 

@@ -1,5 +1,6 @@
 -- A heap that has just been opened.
-use Rattle.std.proofs.Common.{◌≡◌, inl, ℕ, ◌+◌, ◌<◌, ◌≤◌, max, get_or, Bool, true, false, List, length, None, is_some, refl, sym, ap, ◌∙◌, arith}
+use Rattle.std.specs.Prelude.{IsFalse}
+use Rattle.std.proofs.Common.{◌≡◌, inl, ℕ, ◌+◌, ◌<◌, ◌≤◌, max, get_or, Bool, true, false, List, length, None, is_some, refl, sym, ap, ◌∙◌, subst, arith}
 use Rattle.std.specs.FinMap.{get-empty}
 use Rattle.std.specs.FinSet as set
 use Rattle.std.specs.FinSet.{contains-empty}
@@ -22,7 +23,8 @@ use Rattle.page_redo.specs.Redo.{EachLacks, last_lsn}
 use Rattle.page_redo.specs.RedoLaws.{EachLacks-redone, lsns-redo_all, lsn-redo_all}
 use Rattle.page_cache.specs.CacheState.{cached, cache_store}
 use Rattle.page_store.specs.declared.store.PageStore.{PageStore}
-use Rattle.page_store.specs.StoreState.{stored_lsn}
+use Rattle.page_store.specs.Gates.{open_gates}
+use Rattle.page_store.specs.StoreState.{store_plan, stored_lsn, has_failed, Knows}
 use Rattle.graph_words.specs.Places.{Places}
 use Rattle.heap_model.specs.CoreCrash.{IsLogged}
 use Rattle.heap_model.specs.CoreLawsOpening.{next_is, rolled_reached, redone_words-rolled_back, length-rolled_words, rolled_behind, rolled_prefixes}
@@ -38,7 +40,7 @@ use Rattle.txn_table.specs.Table.{TransactionState, TableState, transaction_of, 
 use Rattle.working_state.specs.declared.working.Working.{Working}
 use Rattle.working_state.specs.State as state
 use Rattle.working_state.specs.State.{memory}
-use Rattle.heap_core.specs.Refinement.{Remembers, DiskHolds}
+use Rattle.heap_core.specs.Refinement.{KnowsPages, Remembers, DiskHolds}
 
 -- as many words are used as the log says
 used_found : (s : Super) (batches : List (List Record)) (stored : Pages) (found : Recovered) (shaped : IsShapedLog s batches stored) → IsRecovered s batches stored found → found.used ≡ shaped.state.used
@@ -106,10 +108,10 @@ is_fresh found spaces table first m is space transactions = record {
 }
 
 -- what was found is the core of a heap that has just been opened, whatever graph stands in it
-fresh_memory : (s : Super) (batches : List (List Record)) (stored : Pages) (born : Bool) (places : Places) (g : Graph) (found : Recovered) (m : Memory) → (shaped : IsShapedLog s batches stored)
-    → IsRecovered s batches stored found → IsFresh found m → IsMemory m (account (opened s batches stored born places g).history) (opened s batches stored born places g)
-fresh_memory s batches stored born places g found m shaped recovered fresh =
-    let c = opened s batches stored born places g in
+fresh_memory : (s : Super) (batches : List (List Record)) (stored : Pages) (gates : ℕ → ℕ) (born : Bool) (places : Places) (g : Graph) (found : Recovered) (m : Memory) → (shaped : IsShapedLog s batches stored)
+    → IsRecovered s batches stored found → IsFresh found m → IsMemory m (account (opened s batches stored gates born places g).history) (opened s batches stored gates born places g)
+fresh_memory s batches stored gates born places g found m shaped recovered fresh =
+    let c = opened s batches stored gates born places g in
     let to = leads_after_all (start s.pages s.first) shaped.state (records_of batches) shaped.reached in
     let none = append-nil (records_of (rolled_back s batches)) in
     record {
@@ -120,6 +122,8 @@ fresh_memory s batches stored born places g found m shaped recovered fresh =
       pages = ap (λ (l : List ℕ). length l) fresh.lsns ∙ lsns_found s batches stored found shaped recovered;
       lsns = λ p lt. ap (λ (l : List ℕ). get_or l p 0) fresh.lsns ∙ lsn_found s batches stored found shaped recovered p lt ∙ ap (λ (rs : List Record). max (lsn_of stored p) (last_lsn p 1 rs)) (sym none);
       flushed = λ p lt. ap (λ (x : PageStore). stored_lsn x p) fresh.store ∙ recovered.flushed p lt;
+      plan = ap store_plan fresh.store ∙ recovered.plan;
+      unfailed = subst (λ (x : PageStore). IsFalse (has_failed x)) (sym fresh.store) recovered.unfailed;
       state = settled shaped.state;
       reached = ap (state_behind c) none ∙ rolled_reached s batches stored shaped;
       spaces = fresh.spaces ∙ ap (λ n. record { pages = n; base = 0; used = found.used; owed = 0 }) (recovered.pages ∙ sym to.pages)
@@ -131,19 +135,27 @@ fresh_memory s batches stored born places g found m shaped recovered fresh =
       sealed = fresh.sealed;
     }
 
-pub opened_memory : (s : Super) (batches : List (List Record)) (stored : Pages) (born : Bool) (places : Places) (g : Graph) (found : Recovered) (w : Working) → (shaped : IsShapedLog s batches stored)
-    → IsRecovered s batches stored found → IsFresh found (memory w) → Remembers (opened s batches stored born places g) w None
-opened_memory s batches stored born places g found w shaped recovered fresh = record {
+pub opened_memory : (s : Super) (batches : List (List Record)) (stored : Pages) (gates : ℕ → ℕ) (born : Bool) (places : Places) (g : Graph) (found : Recovered) (w : Working) → (shaped : IsShapedLog s batches stored)
+    → IsRecovered s batches stored found → IsFresh found (memory w) → Remembers (opened s batches stored gates born places g) w None
+opened_memory s batches stored gates born places g found w shaped recovered fresh = record {
   failure = refl;
-  works = λ none. fresh_memory s batches stored born places g found (memory w) shaped recovered fresh;
-  lost = λ some. absurd (some refl);
+  works = λ none. fresh_memory s batches stored gates born places g found (memory w) shaped recovered fresh;
+  waited = tt;
   sealed = fresh.sealed;
   active = λ s. ap is_some (none_begun (memory w).table found.next fresh.table s);
 }
 
+-- what was known of the pages that are stored is known of them
+pub opened_pages : (s : Super) (batches : List (List Record)) (stored : Pages) (gates : ℕ → ℕ) (born : Bool) (places : Places) (g : Graph) (found : Recovered) (w : Working) (image : List ℕ)
+    → IsFresh found (memory w) → Knows (cache_store found.cache) image → ((p : ℕ) → open_gates s.log_bytes image p ≡ gates p) → KnowsPages (opened s batches stored gates born places g) w image
+opened_pages s batches stored gates born places g found w image fresh knows are = record {
+  frames = subst (λ (x : PageStore). Knows x image) (sym fresh.store) knows;
+  gates = are;
+}
+
 -- its words are those that a legal log leaves, beside pages that may stand there
-opened_logged : (s : Super) (batches : List (List Record)) (stored : Pages) → IsLegalLog s batches stored → (places : Places) (g : Graph) → IsLogged (opened s batches stored true places g) stored
-opened_logged s batches stored legal places g =
+opened_logged : (s : Super) (batches : List (List Record)) (stored : Pages) → IsLegalLog s batches stored → (gates : ℕ → ℕ) (places : Places) (g : Graph) → IsLogged (opened s batches stored gates true places g) stored
+opened_logged s batches stored legal gates places g =
     let prefixes = rolled_prefixes s batches stored legal in
     record {
       words = sym (redone_words-rolled_back s batches stored legal.shaped) ∙ redone-words s.pages (records_of (rolled_back s batches)) stored prefixes;
@@ -152,14 +164,14 @@ opened_logged s batches stored legal places g =
     }
 
 -- the disk of such a heap holds it
-pub opened_disk_holds : (s : Super) (batches : List (List Record)) (stored : Pages) (places : Places) (g : Graph) (new : List ℕ) (may_leave : List ℕ → Type 0) → IsLegalLog s batches stored
-    → Holds s (rolled_back s batches) stored new → Only new may_leave → DiskHolds s (opened s batches stored true places g) new may_leave
-opened_disk_holds s batches stored places g new may_leave legal held only = record {
+pub opened_disk_holds : (s : Super) (batches : List (List Record)) (stored : Pages) (gates : ℕ → ℕ) (places : Places) (g : Graph) (new : List ℕ) (may_leave : List ℕ → Type 0) → IsLegalLog s batches stored
+    → Holds s (rolled_back s batches) stored new → Only new may_leave → DiskHolds s (opened s batches stored gates true places g) new may_leave
+opened_disk_holds s batches stored gates places g new may_leave legal held only = record {
   born = refl;
   unfailed = λ none. record {
     of = record { limits = legal.shaped.limits; pages = refl; room = refl; first = refl };
     stored = stored;
-    logged = opened_logged s batches stored legal places g;
+    logged = opened_logged s batches stored legal gates places g;
     held = held;
     only = only;
   };

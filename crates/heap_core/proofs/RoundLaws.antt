@@ -18,6 +18,7 @@ use Rattle.heap_model.specs.Opening.{opened, IsFound}
 use Rattle.heap_model.specs.Theorems.{SaysOn}
 use Rattle.graph_model.specs.Canon.{canon}
 use Rattle.graph_words.specs.Places.{Places}
+use Rattle.page_store.specs.Gates.{open_gates}
 use Rattle.heap_core.specs.declared.heap.Heap.{Heap}
 use Rattle.heap_core.specs.Refinement.{IsHeap}
 use Rattle.heap_core.specs.Rounds.{IsGoing, IsRound, HasGone}
@@ -33,7 +34,7 @@ found_of g k image stands = saying_law stands.super stands.batches stands.stored
 
 -- the core that is opened on it
 abbrev pub core_of : (g : Graph) (k : ℕ) (image : List ℕ) → StandsFor g k image → Core
-core_of g k image stands = let found = found_of g k image stands in opened stands.super stands.batches stands.stored true found.0 found.1
+core_of g k image stands = let found = found_of g k image stands in opened stands.super stands.batches stands.stored (open_gates stands.super.log_bytes image) true found.0 found.1
 
 -- a heap was opened on it
 pub going_opened : (g : Graph) (k : ℕ) (image : List ℕ) → (stands : StandsFor g k image) → IsGoing g k [] (core_of g k image stands)
@@ -45,7 +46,7 @@ going_opened g k image stands =
       graph = found.3 ∙ stands.says.graph;
       before = stands.says.count;
       run = refl;
-      reached = opened_reached stands.super stands.batches stands.stored stands.says.legal.shaped true found.0 found.1 found.2;
+      reached = opened_reached stands.super stands.batches stands.stored stands.says.legal.shaped (open_gates stands.super.log_bytes image) true found.0 found.1 found.2;
     }
 
 -- one event more
@@ -64,7 +65,7 @@ pub round_ends : (g : Graph) (k : ℕ) (events : List Event) (c : Core) (image :
 round_ends g k events c image going kept = (
   _,
   c.before + kept.0,
-  record { core = c; going = going; first = kept.0; kept = kept.1.kept; some = kept.1.some; graph = refl; count = refl },
+  record { core = c; going = going; first = kept.0; kept = kept.1.kept; forced = kept.1.forced; some = kept.1.some; graph = refl; count = refl },
   kept.1.stands,
 )
 

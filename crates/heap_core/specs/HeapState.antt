@@ -1,7 +1,9 @@
 -- A heap, as the clauses of its calls see it.
 use Rattle.std.specs.Prelude.{ℕ, List, Option, Result, Ok, Err}
+use Rattle.std.specs.Option.{option_map}
 use Rattle.disk_model.specs.declared.disk.Disk.{Ghosts}
 use Rattle.graph_model.specs.declared.reply.Entry.{Entry}
+use Rattle.heap_core.specs.declared.history.Failure.{Failure}
 use Rattle.heap_core.specs.declared.heap.Heap.{Heap}
 use Rattle.heap_core.specs.declared.history.History.{History}
 use Rattle.heap_core.specs.declared.errors.OpenError.{OpenError}
@@ -15,9 +17,13 @@ opened_disk (Err e) = e.1
 abbrev pub heap_disk : {D : Type 0} {g : Ghosts D} → Heap D g → D
 heap_disk heap = heap.disk
 
--- the entry, from 1, at which its disk failed or stopped
+-- the entry, from 1, at which a disk failed or stopped
+abbrev pub entry_of : Option Failure → Option ℕ
+entry_of failed = option_map (λ failure. failure.entry) failed
+
+-- that of a heap
 abbrev pub failed_at : {D : Type 0} {g : Ghosts D} → Heap D g → Option ℕ
-failed_at heap = heap.failed
+failed_at heap = entry_of heap.failed
 
 -- the entries of a history
 abbrev pub entries_of : History → List Entry

@@ -6,7 +6,9 @@ use Rattle.graph_model.specs.Graph.{Graph}
 use Rattle.graph_model.specs.Canon.{canon}
 use Rattle.graph_model.specs.Transaction.{serial}
 use Rattle.graph_model.specs.History.{commits, acknowledged}
+use Rattle.gated_log.specs.Log.{records_of}
 use Rattle.image_plan.specs.declared.superblock.Super.{Super}
+use Rattle.log_machine.specs.Machine as machine
 use Rattle.heap_model.specs.Core.{Core, IsRun}
 use Rattle.core_laws.specs.Valid.{IsReached}
 use Rattle.heap_core.specs.declared.heap.Heap.{Heap}
@@ -22,12 +24,13 @@ pub record IsGoing (g : Graph) (k : ℕ) (events : List Event) (c : Core) : Type
   pub reached : IsReached c
 
 -- A round: a heap was opened that stood for graph g and k commits, these events were made, and after a crash it stands for h and j:
--- for the first of the round's commits, among them all that were acknowledged.
+-- for the first of the round's commits, among them all that were acknowledged or forced.
 pub record IsRound (g : Graph) (k : ℕ) (events : List Event) (h : Graph) (j : ℕ) : Type 0 where
   pub core : Core
   pub going : IsGoing g k events core
   pub first : ℕ
   pub kept : acknowledged core.history ≤ first
+  pub forced : machine.commits (records_of core.batches) ≤ core.before + first
   pub some : first ≤ length (commits core.history)
   pub graph : h ≡ serial core.g0 (take first (commits core.history))
   pub count : j ≡ core.before + first

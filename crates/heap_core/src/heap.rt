@@ -1,18 +1,18 @@
 //! The heap: events on an image, each of them one step.
-ghost use Rattle.std.specs.Prelude.{◌≡◌, ◌≢◌, ◌⊎◌, ◌↔◌, ◌+◌, ◌≤◌, ◌^◌, ◌<◌, ℕ, List, [], length, min, is_some, Bool, true, None, Some, Ok, Err, IsTrue, IfOk, IfErr, IsErrAnd, OnErr};
+ghost use Rattle.std.specs.Prelude.{◌≡◌, ◌≢◌, ◌⊎◌, ◌↔◌, ◌+◌, ◌≤◌, ◌^◌, ◌<◌, ℕ, List, [], length, min, is_some, Bool, true, None, Some, Ok, Err, IsTrue, IsFalse, IfOk, IfErr, IsErrAnd, OnOk, OnErr};
 ghost use Rattle.counts.specs.Count.{greatest};
 ghost use Rattle.disk_model.specs.Disk.{Only};
 ghost use Rattle.disk_model.specs.Keeps.{KeepsDisk, OnlyReads};
 ghost use Rattle.disk_model.specs.Moments.{LeavesOnly};
 ghost use Rattle.gate_slot.specs.Passing.{Passes};
-ghost use Rattle.gated_log.specs.LogState.{log_place, log_room, IsPlaced};
+ghost use Rattle.gated_log.specs.LogState.{log_place, log_room, IsReady, IsPlaced, IsSameLog};
 ghost use Rattle.graph_model.specs.Graph.{Graph};
 ghost use Rattle.graph_model.specs.Canon.{canon};
 ghost use Rattle.graph_model.specs.Text.{canon_text};
 ghost use Rattle.graph_model.specs.SlowHeap.{IsOfSession};
 ghost use Rattle.graph_model.specs.History.{account, commits, sealed};
 ghost use Rattle.graph_model.specs.Transaction.{serial, serial_replies};
-ghost use Rattle.graph_model.specs.declared.event.Event.TheVariants.{Force};
+ghost use Rattle.graph_model.specs.declared.event.Event.TheVariants.{Force, Flush};
 ghost use Rattle.graph_model.specs.declared.reply.Refusal.TheVariants.{DiskFault, Stopped};
 ghost use Rattle.image_plan.specs.declared.superblock.Super.{Super};
 ghost use Rattle.log_records.specs.declared.Record.{Record};
@@ -23,7 +23,9 @@ ghost use Rattle.graph_words.specs.Places.{Places};
 ghost use Rattle.object_layout.specs.Layout.{IsSeenAs};
 ghost use Rattle.heap_model.specs.Opening.{opened, rolled_back, rollback_of, opening_calls, IsFound, IsLeftByOpening};
 ghost use Rattle.heap_core.specs.Causes.{step_device, reply_device, opened_device, IsFromOutside, OpenedPasses};
-ghost use Rattle.heap_model.specs.Core.{Core, IsStep, calls, is_dirty};
+ghost use Rattle.heap_model.specs.Core.{Core, AsksDisk, IsStep, calls, is_dirty};
+ghost use Rattle.page_cache.specs.CacheState.{cache_store, cache_pages, cache_size, cache_failed};
+ghost use Rattle.page_store.specs.Gates.{open_gates};
 ghost use Rattle.heap_model.specs.CoreCrash.{IsCommitPrefix};
 ghost use Rattle.core_laws.specs.Valid.{IsReached, IsValid, RunsLocked};
 ghost use Rattle.commit_order.specs.Heard.{replies_of_commits};
@@ -33,7 +35,8 @@ ghost use Rattle.memory_laws.specs.CoreMemory.{IsMemory, Does};
 ghost use Rattle.working_state.specs.State.{memory};
 
 use crate::errors::{GraphError, OpenError};
-use crate::history::History;
+use crate::history::{Failure, History};
+use crate::storing::store_page;
 use disk_model::{Disk, DiskError};
 use graph_model::{Entry, Event, Refusal, Reply};
 use heap_recovery::{Recovered, recover};
@@ -55,9 +58,22 @@ pub struct Heap<D: Disk> {
     history: History,
     // How many commits the log held when the heap was opened.
     before: u64,
-    // The entry at which the disk failed or stopped.
-    failed: Option<u64>,
+    // Where the disk failed or stopped.
+    failed: Option<Failure>,
     ghost inside: { log_place working.log + log_room working.log ≤ D.extent disk },
+    ghost pages_inside: { cache_size working.cache ≤ D.extent disk },
+    ghost works: { failed ≡ None → IsFalse (cache_failed working.cache) },
+}
+
+/// How an event is answered.
+#[derive(Clone, Copy, Debug)]
+enum Answer {
+    /// With this reply, and the disk is not asked.
+    Told(Reply),
+    /// By a force.
+    Force,
+    /// By a flush of the page of that number.
+    Flush { p: u64 },
 }
 
 /// What an event is answered that the disk cut short.
@@ -71,34 +87,33 @@ fn cut_short(e: DiskError) -> Reply
     })
 }
 
-/// What is answered to an event that asks nothing of the disk, and nothing to a force.
-fn reply_in_memory(
-    working: &mut Working,
-    alloc: Global,
-    event: Event,
-) -> Result<Option<Reply>, AllocError>
+/// What is answered to an event that asks nothing of the disk. One that does is left to be made.
+fn reply_in_memory(working: &mut Working, alloc: Global, event: Event) -> Result<Answer, AllocError>
     requires { IsOfSession event }
-    ensures does { (c : Core) → IsMemory (memory working.old) (account c.history) c → IsValid c → RunsLocked c.g0 c.first c.history → IfOk result (λ o. (reply : Reply) → o ≡ Some reply → Does c event reply (memory working.new)) }
-    ensures replied { IfOk result (λ o. (reply : Reply) → o ≡ Some reply → event ≢ Force) }
-    ensures quiet { IfOk result (λ o. (reply : Reply) → o ≡ Some reply → reply_device reply ≡ Ok tt) }
-    ensures forced { IfOk result (λ o. o ≡ None → (event ≡ Force) × (working.new ≡ working.old)) }
+    ensures does { (c : Core) → IsMemory (memory working.old) (account c.history) c → IsValid c → RunsLocked c.g0 c.first c.history → IfOk result (λ answer. (reply : Reply) → answer ≡ Answer.Told reply → Does c event reply (memory working.new)) }
+    ensures replied { IfOk result (λ answer. (reply : Reply) → answer ≡ Answer.Told reply → AsksDisk event → ⊥) }
+    ensures quiet { IfOk result (λ answer. (reply : Reply) → answer ≡ Answer.Told reply → reply_device reply ≡ Ok tt) }
+    ensures forced { IfOk result (λ answer. answer ≡ Answer.Force → (event ≡ Force) × (working.new ≡ working.old)) }
+    ensures flushed { IfOk result (λ answer. (p : ℕ) → answer ≡ Answer.Flush p → (event ≡ Flush p) × (working.new ≡ working.old)) }
     ensures placed { IsPlaced working.old.log working.new.log }
+    ensures stored { cache_store working.new.cache ≡ cache_store working.old.cache }
     ensures err { OnErr result (IsAsItWas (memory working.old) (memory working.new)) }
 {
     match event {
-        Event::Begin { s } => Ok(Some(working.begin(s))),
-        Event::Root { s, h } => Ok(Some(working.root(s, h))),
-        Event::New { s, h, len } => Ok(Some(working.make(s, h, len)?)),
-        Event::Put { s, h, i, v } => Ok(Some(working.put(s, h, i, v)?)),
-        Event::Clear { s, h, i } => Ok(Some(working.clear(s, h, i)?)),
-        Event::Link { s, h, i, h2 } => Ok(Some(working.link(s, h, i, h2)?)),
-        Event::Drop { s, h } => Ok(Some(working.drop_handle(s, h))),
-        Event::Get { s, h, i, h2 } => Ok(Some(working.get(s, h, i, h2)?)),
-        Event::Same { s, h, h2 } => Ok(Some(working.same(s, h, h2))),
-        Event::Len { s, h } => Ok(Some(working.len(s, h))),
-        Event::Seal { s } => Ok(Some(working.seal(s, alloc)?)),
-        Event::Abort { s } => Ok(Some(working.abort(s, alloc)?)),
-        Event::Force => Ok(None),
+        Event::Begin { s } => Ok(Answer::Told(working.begin(s))),
+        Event::Root { s, h } => Ok(Answer::Told(working.root(s, h))),
+        Event::New { s, h, len } => Ok(Answer::Told(working.make(s, h, len)?)),
+        Event::Put { s, h, i, v } => Ok(Answer::Told(working.put(s, h, i, v)?)),
+        Event::Clear { s, h, i } => Ok(Answer::Told(working.clear(s, h, i)?)),
+        Event::Link { s, h, i, h2 } => Ok(Answer::Told(working.link(s, h, i, h2)?)),
+        Event::Drop { s, h } => Ok(Answer::Told(working.drop_handle(s, h))),
+        Event::Get { s, h, i, h2 } => Ok(Answer::Told(working.get(s, h, i, h2)?)),
+        Event::Same { s, h, h2 } => Ok(Answer::Told(working.same(s, h, h2))),
+        Event::Len { s, h } => Ok(Answer::Told(working.len(s, h))),
+        Event::Seal { s } => Ok(Answer::Told(working.seal(s, alloc)?)),
+        Event::Abort { s } => Ok(Answer::Told(working.abort(s, alloc)?)),
+        Event::Force => Ok(Answer::Force),
+        Event::Flush { p } => Ok(Answer::Flush { p }),
     }
 }
 
@@ -126,13 +141,13 @@ impl<D: Disk> Heap<D> {
         ensures disk { KeepsDisk D.Disk disk (opened_disk result) (opened_device result) }
 
         // What is opened is the core that a shaped log says beside stored pages, whatever graph stands in it, under whatever names: the log and the
-        // pages that were read.
-        ensures opens { IfOk result (λ heap. (s : Super) × (batches : List (List Record)) × (stored : Pages) × (shaped : IsShapedLog s batches stored) × ((born : Bool) (places : Places) (g : Graph) → IsFound s batches stored shaped born places g → IsCore (opened s batches stored born places g) heap)) }
+        // pages that were read, in frames with so many open gates.
+        ensures opens { IfOk result (λ heap. (s : Super) × (batches : List (List Record)) × (stored : Pages) × (gates : ℕ → ℕ) × (shaped : IsShapedLog s batches stored) × ((born : Bool) (places : Places) (g : Graph) → IsFound s batches stored shaped born places g → IsCore (opened s batches stored gates born places g) heap)) }
 
         ensures unfailed { IfOk result (λ heap. failed_at heap ≡ None) }
 
         // Of a disk that tells they are those of its image. An error tells what is wrong with the image, and what is wrong is told.
-        ensures sound { IsTrue D.tells → IfOk result (λ heap. (s : Super) × (batches : List (List Record)) × (stored : Pages) × (shaped : IsShaped s batches stored (D.bytes disk)) × ((born : Bool) (places : Places) (g : Graph) → IsFound s batches stored shaped.log born places g → IsCore (opened s batches stored born places g) heap)) }
+        ensures sound { IsTrue D.tells → IfOk result (λ heap. (s : Super) × (batches : List (List Record)) × (stored : Pages) × (shaped : IsShaped s batches stored (D.bytes disk)) × ((born : Bool) (places : Places) (g : Graph) → IsFound s batches stored shaped.log born places g → IsCore (opened s batches stored (open_gates s.log_bytes (D.bytes disk)) born places g) heap)) }
         ensures refused { IsTrue D.tells → IfErr result (λ e. IsToldOf e.0 (D.bytes disk)) }
         ensures not_heap { IsTrue D.tells → IsNoHeap (D.bytes disk) → IsErrAnd result (λ e. IsErrorOrOutside NotHeap e.0) }
         ensures damaged { IsTrue D.tells → (at : At) → IsFaultAt at (D.bytes disk) → IsErrAnd result (λ e. IsErrorOrOutside (Damaged at) e.0) }
@@ -145,8 +160,8 @@ impl<D: Disk> Heap<D> {
         ensures moments_damaged { IsTrue D.tells → Only (D.bytes disk) (D.may_leave disk) → (at : At) → IsFaultAt at (D.bytes disk) → LeavesOnly D.moment D.left_since disk (opened_disk result) (IsFaultAt at) }
 
         // Of a shaped image they are the log and the pages that the disk holds; where that is legal the disk then holds the core.
-        ensures found { IsTrue D.tells → (s : Super) (batches : List (List Record)) (stored : Pages) → (shaped : IsShaped s batches stored (D.bytes disk)) → IfOk result (λ heap. (born : Bool) (places : Places) (g : Graph) → IsFound s batches stored shaped.log born places g → IsCore (opened s batches stored born places g) heap) }
-        ensures holds { IsTrue D.tells → (s : Super) (batches : List (List Record)) (stored : Pages) → (legal : IsLegal s batches stored (D.bytes disk)) → Only (D.bytes disk) (D.may_leave disk) → IfOk result (λ heap. (places : Places) (g : Graph) → IsFound s batches stored legal.log.shaped true places g → IsHeap s (opened s batches stored true places g) heap) }
+        ensures found { IsTrue D.tells → (s : Super) (batches : List (List Record)) (stored : Pages) → (shaped : IsShaped s batches stored (D.bytes disk)) → IfOk result (λ heap. (born : Bool) (places : Places) (g : Graph) → IsFound s batches stored shaped.log born places g → IsCore (opened s batches stored (open_gates s.log_bytes (D.bytes disk)) born places g) heap) }
+        ensures holds { IsTrue D.tells → (s : Super) (batches : List (List Record)) (stored : Pages) → (legal : IsLegal s batches stored (D.bytes disk)) → Only (D.bytes disk) (D.may_leave disk) → IfOk result (λ heap. (places : Places) (g : Graph) → IsFound s batches stored legal.log.shaped true places g → IsHeap s (opened s batches stored (open_gates s.log_bytes (D.bytes disk)) true places g) heap) }
         // A shaped image is refused only for want of memory or by the disk.
         ensures shaped { IsTrue D.tells → (s : Super) (batches : List (List Record)) (stored : Pages) → IsShaped s batches stored (D.bytes disk) → IfErr result (λ e. IsFromOutside e.0) }
         // At each moment of it a crash leaves the image as it was, or with its log rolled back: both stand for the same graph and commits.
@@ -201,7 +216,7 @@ impl<D: Disk> Heap<D> {
 
         // So is what a disk that tells holds.
         ensures holds { IsTrue D.tells → (s : Super) (c : Core) → IsHeap s c self.old → IsReached c → IfOk result (λ reply. (d : Core) × IsStep c event reply d × IsHeap s d self.new) }
-        // At each moment of it a crash leaves first commits, among them all that were acknowledged before.
+        // At each moment of it a crash leaves first commits, among them all that were acknowledged or forced before.
         ensures moments { IsTrue D.tells → (s : Super) (c : Core) → IsHeap s c self.old → IsReached c → LeavesOnly D.moment D.left_since self.old.disk self.new.disk (IsCommitPrefix c) }
         ensures passes { IsTrue D.tells → (c : Core) → IsCore c self.old → IsReached c → IfOk result (λ reply. Passes (calls c event) (D.passed self.old.disk) (D.passed self.new.disk) (reply_device reply)) }
         // An event that makes no write or sync leaves the disk alone, and does not read it either.
@@ -217,8 +232,8 @@ impl<D: Disk> Heap<D> {
         requires { IsOfSession event }
         ensures disk { KeepsDisk D.Disk self.old.disk self.new.disk (step_device result) }
         ensures history { self.new.history ≡ self.old.history }
-        ensures core { (c : Core) → IsCore c self.old → IsReached c → IfOk result (λ reply. Steps c event reply self.new.working self.new.failed) }
-        ensures holds { IsTrue D.tells → (s : Super) (c : Core) → IsHeap s c self.old → IsReached c → IfOk result (λ reply. StepsOn s c event reply self.new.working self.new.failed (D.bytes self.new.disk) (D.may_leave self.new.disk)) }
+        ensures core { (c : Core) → IsCore c self.old → IsReached c → IfOk result (λ reply. Steps c event reply self.new.working self.new.failed D.tells (D.bytes self.new.disk)) }
+        ensures holds { IsTrue D.tells → (s : Super) (c : Core) → IsHeap s c self.old → IsReached c → IfOk result (λ reply. StepsOn s c event reply self.new.working self.new.failed D.tells (D.bytes self.new.disk) (D.may_leave self.new.disk)) }
         ensures kept { (c : Core) → IsCore c self.old → OnErr result (IsCore c self.new) }
         ensures before { self.new.before ≡ self.old.before }
         ensures untouched { OnErr result (self.new.disk ≡ self.old.disk) }
@@ -227,16 +242,19 @@ impl<D: Disk> Heap<D> {
         ensures still { (c : Core) → IsCore c self.old → IsReached c → calls c event ≡ 0 → self.new.disk ≡ self.old.disk }
     {
         match self.failed {
-            Some(entry) => Ok(refused(Refusal::Failed { entry })),
+            Some(failure) => Ok(refused(Refusal::Failed {
+                entry: failure.entry,
+            })),
             None => self.answer(event),
         }
     }
 
     fn answer(&mut self, event: Event) -> Result<Reply, AllocError>
-        requires { IsOfSession event }
+        requires session { IsOfSession event }
+        requires unfailed { self.old.failed ≡ None }
         ensures disk { KeepsDisk D.Disk self.old.disk self.new.disk (step_device result) }
-        ensures core { (c : Core) → IsCore c self.old → self.old.failed ≡ None → IsReached c → IfOk result (λ reply. Steps c event reply self.new.working self.new.failed) }
-        ensures holds { IsTrue D.tells → (s : Super) (c : Core) → IsHeap s c self.old → self.old.failed ≡ None → IsReached c → IfOk result (λ reply. StepsOn s c event reply self.new.working self.new.failed (D.bytes self.new.disk) (D.may_leave self.new.disk)) }
+        ensures core { (c : Core) → IsCore c self.old → self.old.failed ≡ None → IsReached c → IfOk result (λ reply. Steps c event reply self.new.working self.new.failed D.tells (D.bytes self.new.disk)) }
+        ensures holds { IsTrue D.tells → (s : Super) (c : Core) → IsHeap s c self.old → self.old.failed ≡ None → IsReached c → IfOk result (λ reply. StepsOn s c event reply self.new.working self.new.failed D.tells (D.bytes self.new.disk) (D.may_leave self.new.disk)) }
         ensures kept { (c : Core) → IsCore c self.old → OnErr result (IsCore c self.new) }
         ensures before { self.new.before ≡ self.old.before }
         ensures history { self.new.history ≡ self.old.history }
@@ -247,15 +265,16 @@ impl<D: Disk> Heap<D> {
     {
         let alloc = self.history.allocator();
         match reply_in_memory(&mut self.working, alloc, event)? {
-            Some(reply) => Ok(reply),
-            None => self.force(),
+            Answer::Told(reply) => Ok(reply),
+            Answer::Force => self.force(),
+            Answer::Flush { p } => self.flush(p),
         }
     }
 
     fn force(&mut self) -> Result<Reply, AllocError>
         ensures disk { KeepsDisk D.Disk self.old.disk self.new.disk (step_device result) }
-        ensures core { (c : Core) → IsCore c self.old → self.old.failed ≡ None → IsReached c → IfOk result (λ reply. Steps c Force reply self.new.working self.new.failed) }
-        ensures holds { IsTrue D.tells → (s : Super) (c : Core) → IsHeap s c self.old → self.old.failed ≡ None → IsReached c → IfOk result (λ reply. StepsOn s c Force reply self.new.working self.new.failed (D.bytes self.new.disk) (D.may_leave self.new.disk)) }
+        ensures core { (c : Core) → IsCore c self.old → self.old.failed ≡ None → IsReached c → IfOk result (λ reply. Steps c Force reply self.new.working self.new.failed D.tells (D.bytes self.new.disk)) }
+        ensures holds { IsTrue D.tells → (s : Super) (c : Core) → IsHeap s c self.old → self.old.failed ≡ None → IsReached c → IfOk result (λ reply. StepsOn s c Force reply self.new.working self.new.failed D.tells (D.bytes self.new.disk) (D.may_leave self.new.disk)) }
         ensures kept { (c : Core) → IsCore c self.old → OnErr result (IsCore c self.new) }
         ensures before { self.new.before ≡ self.old.before }
         ensures history { self.new.history ≡ self.old.history }
@@ -270,7 +289,39 @@ impl<D: Disk> Heap<D> {
                 n: self.working.sealed,
             }),
             Err(e) => {
-                self.failed = Some(self.history.len() as u64 + 1);
+                self.failed = Some(self.history.failure(true));
+                Ok(cut_short(e))
+            }
+        }
+    }
+
+    /// Stores page `p`, if there is one that has changed since it was stored.
+    fn flush(&mut self, p: u64) -> Result<Reply, AllocError>
+        requires unfailed { self.old.failed ≡ None }
+        ensures disk { KeepsDisk D.Disk self.old.disk self.new.disk (step_device result) }
+        ensures core { (c : Core) → IsCore c self.old → self.old.failed ≡ None → IsReached c → IfOk result (λ reply. Steps c (Flush p) reply self.new.working self.new.failed D.tells (D.bytes self.new.disk)) }
+        ensures holds { IsTrue D.tells → (s : Super) (c : Core) → IsHeap s c self.old → self.old.failed ≡ None → IsReached c → IfOk result (λ reply. StepsOn s c (Flush p) reply self.new.working self.new.failed D.tells (D.bytes self.new.disk) (D.may_leave self.new.disk)) }
+        ensures kept { (c : Core) → IsCore c self.old → OnErr result (IsCore c self.new) }
+        ensures before { self.new.before ≡ self.old.before }
+        ensures history { self.new.history ≡ self.old.history }
+        ensures untouched { OnErr result (self.new.disk ≡ self.old.disk) }
+        ensures moments { IsTrue D.tells → (s : Super) (c : Core) → IsHeap s c self.old → self.old.failed ≡ None → IsReached c → LeavesOnly D.moment D.left_since self.old.disk self.new.disk (IsCommitPrefix c) }
+        ensures passes { IsTrue D.tells → (c : Core) → IsCore c self.old → IsReached c → self.old.failed ≡ None → IfOk result (λ reply. Passes (calls c (Flush p)) (D.passed self.old.disk) (D.passed self.new.disk) (reply_device reply)) }
+        ensures still { (c : Core) → IsCore c self.old → IsReached c → self.old.failed ≡ None → calls c (Flush p) ≡ 0 → self.new.disk ≡ self.old.disk }
+    {
+        if p >= u64::from(self.working.cache.pages()) {
+            return Ok(refused(Refusal::NoSuchPage));
+        }
+        let page = p as u32;
+        if !self.working.cache.dirty(page) {
+            return Ok(Reply::Clean { page: p });
+        }
+        self.working.log.reserve(0)?;
+        let waited = self.working.log.pending();
+        match store_page(&mut self.working, &mut self.disk, page) {
+            Ok(()) => Ok(Reply::Flushed { page: p }),
+            Err(e) => {
+                self.failed = Some(self.history.failure(waited));
                 Ok(cut_short(e))
             }
         }
@@ -294,7 +345,10 @@ impl<D: Disk> Heap<D> {
         ensures value { result ≡ failed_at self.now }
         ensures exact { (c : Core) → IsCore c self.now → result ≡ (account c.history).failed }
     {
-        self.failed
+        match self.failed {
+            Some(failure) => Some(failure.entry),
+            None => None,
+        }
     }
 
     /// How many commits the log has from its first record on, as far as 64 bits count.
@@ -304,12 +358,15 @@ impl<D: Disk> Heap<D> {
         self.before.saturating_add(self.working.sealed)
     }
 
-    /// Whether records have been appended that are not known to be on the disk. Where it stopped or failed in a force, they
-    /// are what the force was to write.
+    /// Whether records have been appended that are not known to be on the disk. Where it stopped or failed in an event, they are those
+    /// that waited before it.
     pub fn pending(&self) -> bool
         ensures { (c : Core) → IsCore c self.now → IsTrue result ↔ (c.pending ≢ []) }
     {
-        self.failed.is_some() || self.working.log.pending()
+        match self.failed {
+            Some(failure) => failure.waited,
+            None => self.working.log.pending(),
+        }
     }
 
     /// Whether page `p` has changed since it was stored, in memory or by what an opening redid and rolled back. There are two spaces of

@@ -1,8 +1,17 @@
 //! The history of a heap: each event and its answer.
-ghost use Rattle.std.specs.Prelude.{◌≡◌, ◌<◌, [], ◌∷◌, ◌++◌, vec_len, vec_capacity, OnOk};
+ghost use Rattle.std.specs.Prelude.{◌≡◌, ◌<◌, [], ◌∷◌, ◌+◌, ◌++◌, vec_len, vec_capacity, OnOk};
 
 use graph_model::Entry;
 use std::alloc::{AllocError, Global};
+
+/// Where the disk failed or stopped.
+#[derive(Clone, Copy, Debug)]
+pub(crate) struct Failure {
+    /// The entry, from 1.
+    pub entry: u64,
+    /// Whether records waited before it.
+    pub waited: bool,
+}
 
 /// The entries since the heap was opened, oldest first.
 #[derive(Debug, Drop)]
@@ -46,6 +55,16 @@ impl History {
         ensures { result ≡ vec_len self.now.entries }
     {
         self.entries.len()
+    }
+
+    /// A failure in the event whose entry is to come.
+    pub(crate) fn failure(&self, waited: bool) -> Failure
+        ensures { result ≡ record { entry = vec_len self.now.entries + 1; waited = waited } }
+    {
+        Failure {
+            entry: self.entries.len() as u64 + 1,
+            waited,
+        }
     }
 
     /// The entries.

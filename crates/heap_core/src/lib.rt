@@ -8,6 +8,7 @@ mod errors;
 mod formatting;
 mod heap;
 mod history;
+mod storing;
 
 pub use errors::{FormatError, GraphError, OpenError};
 pub use heap::Heap;

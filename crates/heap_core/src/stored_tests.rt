@@ -2,10 +2,10 @@
 use crate::errors::OpenError;
 use crate::heap::Heap;
 use crate::object_tests::{Step, begin, force, get, link, new, play, put, root, seal};
-use crate::opening_tests::{LOG_BYTES, compare, expect, make_disk, make_heap, open};
-use disk_model::{Disk, MemoryDisk, Pick};
+use crate::opening_tests::{LOG_BYTES, ask, compare, expect, make_disk, make_heap, open};
+use disk_model::{Disk, FuseDisk, MemoryDisk, Pick};
 use gated_log::Log;
-use graph_model::Reply;
+use graph_model::{Event, Refusal, Reply};
 use heap_recovery::At;
 use image_plan::Plan;
 use log_machine::replay;
@@ -235,6 +235,122 @@ fn a_page_ahead_of_the_log_is_refused(rt: HostRuntime) -> Result<(), Fail> {
             panic!(rt; "page {p} is not refused");
         };
         compare(&rt, e, OpenError::Damaged { at: At::Page(p) });
+    }
+    Ok(())
+}
+
+/// A step, which of the two pages are dirty behind it, and whether records wait.
+type Stored = (Step, [bool; 2], bool);
+
+fn flush_step(p: u64, reply: Reply) -> Step {
+    (Event::Flush { p }, reply)
+}
+
+/// A flush forces only where the page has a record that waits: a commit has none on any page.
+fn flush_steps() -> [Stored; 13] {
+    let gone = Reply::Refused {
+        why: Refusal::NoSuchPage,
+    };
+    let (stored, clean) = (Reply::Flushed { page: 0 }, Reply::Clean { page: 0 });
+    [
+        (begin(1), [false, false], false),
+        (root(0), [false, false], false),
+        (flush_step(0, clean), [false, false], false),
+        (put(0, 0, 7), [true, false], true),
+        (flush_step(2, gone), [true, false], true),
+        (flush_step(1, Reply::Clean { page: 1 }), [true, false], true),
+        (flush_step(0, stored), [false, false], false),
+        (put(0, 1, 8), [true, false], true),
+        (force(0), [true, false], false),
+        (seal(1), [true, false], true),
+        (flush_step(0, stored), [false, false], true),
+        (flush_step(0, clean), [false, false], true),
+        (force(1), [false, false], false),
+    ]
+}
+
+/// Makes a step, and compares what it is answered and what the heap then says of its pages and its log.
+fn expect_step(
+    rt: &impl Abort,
+    heap: &mut Heap<MemoryDisk>,
+    ((event, reply), pages, waits): Stored,
+) -> Result<(), AllocError> {
+    compare(rt, (event, ask(rt, heap, event)?), (event, reply));
+    assert!(rt; heap.failed().is_none());
+    let found = ([heap.dirty(0), heap.dirty(1)], heap.pending());
+    compare(rt, (event, found), (event, (pages, waits)));
+    Ok(())
+}
+
+#[test]
+fn a_flushed_page_is_clean(rt: HostRuntime) -> Result<(), Fail> {
+    let alloc = rt.alloc();
+    let mut heap = open(&rt, alloc, make_heap(&rt, alloc, Pick::Synced)?);
+    for step in flush_steps() {
+        expect_step(&rt, &mut heap, step)?;
+    }
+    let mut disk = heap.close();
+    disk.restart();
+    compare(&rt, dirty(&rt, alloc, disk), [false, false, false]);
+    Ok(())
+}
+
+/// A flush of a page whose record waits.
+const FLUSH_WAITING: [Event; 4] = [
+    Event::Begin { s: 1 },
+    Event::Root { s: 1, h: 0 },
+    Event::Put {
+        s: 1,
+        h: 0,
+        i: 0,
+        v: 7,
+    },
+    Event::Flush { p: 0 },
+];
+
+/// A flush of a page whose record is on the disk.
+const FLUSH_FORCED: [Event; 5] = [
+    Event::Begin { s: 1 },
+    Event::Root { s: 1, h: 0 },
+    Event::Put {
+        s: 1,
+        h: 0,
+        i: 0,
+        v: 7,
+    },
+    Event::Force,
+    Event::Flush { p: 0 },
+];
+
+/// Makes events of which the last one stops after so many calls. What waited before it waits, though a force of its own may be done.
+fn expect_stopped(
+    rt: &impl Abort,
+    alloc: Global,
+    events: &[Event],
+    calls: u64,
+    waits: bool,
+) -> Result<(), Fail> {
+    let disk = FuseDisk::new(make_heap(rt, alloc, Pick::Newest)?, calls);
+    let mut heap = open(rt, alloc, disk);
+    for event in events {
+        assert!(rt; event.is_of_session());
+        heap.step(*event)?;
+    }
+    let (entry, found) = (events.len() as u64, (heap.failed(), heap.pending()));
+    compare(rt, (calls, found), (calls, (Some(entry), waits)));
+    let mut disk = heap.close().into_inner();
+    disk.restart();
+    expect(rt, alloc, disk, 0, "graph 1\n0: - - - -\n")?;
+    Ok(())
+}
+
+#[test]
+fn a_flush_that_stops_leaves_what_waited(rt: HostRuntime) -> Result<(), Fail> {
+    for calls in 0..8 {
+        expect_stopped(&rt, rt.alloc(), &FLUSH_WAITING, calls, true)?;
+    }
+    for calls in 4..8 {
+        expect_stopped(&rt, rt.alloc(), &FLUSH_FORCED, calls, false)?;
     }
     Ok(())
 }

@@ -1,7 +1,7 @@
 use Rattle.std.proofs.Common.{◌≡◌, ℕ, ◌-◌, ◌≤◌, List, [], take, drop, length, get_or, refl, ap, sym, ◌∙◌, arith, subst, Err, rules}
 use Rattle.std.proofs.lemmas.Result.{on_ok_weaker}
 use Rattle.counts.specs.Count.{counted}
-use Rattle.disk_model.specs.Disk.{Only, SameOutside}
+use Rattle.disk_model.specs.Disk.{SameOutside}
 use Rattle.disk_model.specs.Moments.{LeavesOnly, weaker}
 use Rattle.gate_slot.specs.Gate.{filled, IsClosedInEach, SameButGate, IsFilling}
 use Rattle.gate_slot.specs.Passing.{Passes}

@@ -5,7 +5,7 @@ use Rattle.graph_model.specs.declared.reply.Reply.{Reply}
 use Rattle.graph_model.specs.declared.reply.Reply.TheVariants.{Begun}
 use Rattle.memory_laws.specs.CoreMemory.{Does}
 use Rattle.working_state.specs.State.{memory}
-use Rattle.heap_core.proofs.RefinementAnswer.{begins, roots, drops, makes, puts, clears, links, gets, seals, aborts, compares, counts, either, taken, told, same_placed, placed}
+use Rattle.heap_core.proofs.RefinementAnswer.{begins, roots, drops, makes, puts, clears, links, gets, seals, aborts, compares, counts, either, taken, told, same_placed, same_stored, placed}
 use Rattle.heap_core.proofs.heap.reply_in_memory.Goals as goal
 
 pub returns-in-Begin-clause-does : goal.returns-in-Begin-clause-does
@@ -105,3 +105,29 @@ pub returns-in_ok-link-in-Link-clause-placed : goal.returns-in_ok-link-in-Link-c
 returns-in_ok-link-in-Link-clause-placed c =
     placed (link_refusal (memory c.args.working.now) c.in-Link.s c.in-Link.h c.in-Link.i c.in-Link.h2) c.link.result _ _ c.in_ok-link-in-Link.was c.link.ensures.reply
     (λ done. (c.link.ensures.done done).writes.writes.left.log.place) (λ why refused. (c.link.ensures.refused why refused).log.place)
+
+pub returns-in-Begin-clause-stored : goal.returns-in-Begin-clause-stored
+returns-in-Begin-clause-stored c =
+    let m = memory c.args.working.now in
+    either (begin_refusal m c.in-Begin.s) (Begun m.table.next) c.begin.result _ c.begin.ensures.reply (λ begun. (c.begin.ensures.begun m.table.next begun).store)
+    (λ why refused. same_stored c.args.working.now c.begin.new.self (c.begin.ensures.refused why refused))
+
+pub returns-in_ok-make-in-New-clause-stored : goal.returns-in_ok-make-in-New-clause-stored
+returns-in_ok-make-in-New-clause-stored c =
+    placed (new_refusal (own (memory c.args.working.now) c.in-New.s) c.in-New.h c.in-New.len) c.make.result _ _ c.in_ok-make-in-New.was c.make.ensures.reply (λ done. (c.make.ensures.done done).left.store)
+    (λ why refused. same_stored c.args.working.now c.make.new.self (c.make.ensures.refused why refused))
+
+pub returns-in_ok-put-in-Put-clause-stored : goal.returns-in_ok-put-in-Put-clause-stored
+returns-in_ok-put-in-Put-clause-stored c =
+    placed (put_refusal (memory c.args.working.now) c.in-Put.s c.in-Put.h c.in-Put.i c.in-Put.v) c.put.result _ _ c.in_ok-put-in-Put.was c.put.ensures.reply
+    (λ done. (c.put.ensures.done done).writes.left.store) (λ why refused. (c.put.ensures.refused why refused).store)
+
+pub returns-in_ok-clear-in-Clear-clause-stored : goal.returns-in_ok-clear-in-Clear-clause-stored
+returns-in_ok-clear-in-Clear-clause-stored c =
+    placed (clear_refusal (memory c.args.working.now) c.in-Clear.s c.in-Clear.h c.in-Clear.i) c.clear.result _ _ c.in_ok-clear-in-Clear.was c.clear.ensures.reply
+    (λ done. (c.clear.ensures.done done).writes.left.store) (λ why refused. (c.clear.ensures.refused why refused).store)
+
+pub returns-in_ok-link-in-Link-clause-stored : goal.returns-in_ok-link-in-Link-clause-stored
+returns-in_ok-link-in-Link-clause-stored c =
+    placed (link_refusal (memory c.args.working.now) c.in-Link.s c.in-Link.h c.in-Link.i c.in-Link.h2) c.link.result _ _ c.in_ok-link-in-Link.was c.link.ensures.reply
+    (λ done. (c.link.ensures.done done).writes.writes.left.store) (λ why refused. (c.link.ensures.refused why refused).store)

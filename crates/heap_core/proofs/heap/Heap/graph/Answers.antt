@@ -3,7 +3,7 @@ use Rattle.graph_model.specs.Transaction.{serial}
 use Rattle.graph_model.specs.History.{sealed, sessions}
 use Rattle.graph_words.specs.Places.{name_at}
 use Rattle.object_layout.specs.Layout.{IsSeenAs}
-use Rattle.heap_core.proofs.RefinementForce.{unfailed_valid}
+use Rattle.heap_core.proofs.RefinementForce.{unfailed_valid, no_failure_at}
 use Rattle.heap_core.proofs.RefinementGraph.{memory_seen, length-without_writes}
 use Rattle.working_state.specs.State.{memory}
 use Rattle.heap_core.proofs.heap.Heap.graph.Goals as goal
@@ -16,14 +16,16 @@ print-requires g c =
 
 pub returns-clause-text : goal.returns-clause-text
 returns-clause-text g c core heap reached =
-    let valid = unfailed_valid core _ heap.memory.failure c.requires.unfailed reached in
+    let none = no_failure_at c.args.self.now.failed c.requires.unfailed in
+    let valid = unfailed_valid core _ heap.memory.failure none reached in
     let gr = serial core.g0 (sealed core.history) in
     c.print.ensures.text (name_at core.places) gr
-    (subst (λ (ws : List ℕ). IsSeenAs (name_at core.places) ws 0 gr) (sym c.in_ok-words.ensures) (memory_seen core c.args.self.now.working valid reached.locked (heap.memory.works c.requires.unfailed)))
+    (subst (λ (ws : List ℕ). IsSeenAs (name_at core.places) ws 0 gr) (sym c.in_ok-words.ensures) (memory_seen core c.args.self.now.working valid reached.locked (heap.memory.works none)))
 
 pub returns-clause-error : goal.returns-clause-error
 returns-clause-error g c core heap reached =
-    let valid = unfailed_valid core _ heap.memory.failure c.requires.unfailed reached in
+    let none = no_failure_at c.args.self.now.failed c.requires.unfailed in
+    let valid = unfailed_valid core _ heap.memory.failure none reached in
     let gr = serial core.g0 (sealed core.history) in
     c.print.ensures.error (name_at core.places) gr
-    (subst (λ (ws : List ℕ). IsSeenAs (name_at core.places) ws 0 gr) (sym c.in_ok-words.ensures) (memory_seen core c.args.self.now.working valid reached.locked (heap.memory.works c.requires.unfailed)))
+    (subst (λ (ws : List ℕ). IsSeenAs (name_at core.places) ws 0 gr) (sym c.in_ok-words.ensures) (memory_seen core c.args.self.now.working valid reached.locked (heap.memory.works none)))

@@ -1,5 +1,5 @@
 use Rattle.log_machine.specs.Machine.{words_in}
-use Rattle.std.proofs.Common.{◌≤◌, true, Result, sym, ap, ◌∙◌, subst}
+use Rattle.std.proofs.Common.{◌≤◌, ℕ, true, Result, refl, sym, ap, ◌∙◌, subst}
 use Rattle.disk_model.specs.declared.disk.DiskError.{DiskError}
 use Rattle.disk_model.specs.Keeps.{OnlyReads}
 use Rattle.disk_model.specs.Moments.{begins}
@@ -7,7 +7,8 @@ use Rattle.heap_recovery.specs.Faults.{IsNoHeap}
 use Rattle.heap_model.specs.Image.{shaped_image}
 use Rattle.heap_model.specs.Opening.{opening_calls}
 use Rattle.heap_core.specs.Causes.{IsFromOutside, ErrorPasses, error_device}
-use Rattle.heap_core.proofs.RefinementOpen.{opened_bounds, opened_memory, opened_disk_holds, is_fresh}
+use Rattle.heap_core.proofs.RefinementOpen.{opened_bounds, opened_memory, opened_pages, opened_disk_holds, is_fresh}
+use Rattle.page_store.specs.Gates.{open_gates}
 use Rattle.heap_core.proofs.OpenErrors.{device_as, outside_as, passes_as}
 use Rattle.heap_core.proofs.heap.Heap.open.Goals as goal
 
@@ -39,22 +40,28 @@ new-working-requires-clause-number g c =
 pub returns-in-Ok-recover-clause-opens : goal.returns-in-Ok-recover-clause-opens
 returns-in-Ok-recover-clause-opens g c =
     let found = c.in-Ok-recover.ensures.opens in
-    let fresh = is_fresh c.in-Ok-recover.found c.new-spaces.result c.set_next.new.self c.in-Ok.table _ c.new-working.ensures c.new-spaces.ensures c.set_next.ensures in (
+    let fresh = is_fresh c.in-Ok-recover.found c.new-spaces.result c.set_next.new.self c.in-Ok.table _ c.new-working.ensures c.new-spaces.ensures c.set_next.ensures in
+    let image = g.D.Disk.bytes c.recover.new.disk in
+    let gates : ℕ → ℕ = λ p. open_gates found.0.log_bytes image p in (
       found.0,
       found.1,
       found.2,
+      gates,
       found.3,
       λ born places gr stands. record {
         history = c.new-in-Ok-recover.ensures;
         before = found.4.commits;
-        memory = opened_memory found.0 found.1 found.2 born places gr c.in-Ok-recover.found _ found.3 found.4 fresh;
+        memory = opened_memory found.0 found.1 found.2 gates born places gr c.in-Ok-recover.found _ found.3 found.4 fresh;
+        pages = λ tells none. opened_pages found.0 found.1 found.2 gates born places gr c.in-Ok-recover.found _ image fresh (c.in-Ok-recover.ensures.known tells) (λ p. refl);
       },
     )
 
 pub returns-in-Ok-recover-clause-sound : goal.returns-in-Ok-recover-clause-sound
 returns-in-Ok-recover-clause-sound g c tells =
     let found = c.in-Ok-recover.ensures.sound tells in
-    let fresh = is_fresh c.in-Ok-recover.found c.new-spaces.result c.set_next.new.self c.in-Ok.table _ c.new-working.ensures c.new-spaces.ensures c.set_next.ensures in (
+    let fresh = is_fresh c.in-Ok-recover.found c.new-spaces.result c.set_next.new.self c.in-Ok.table _ c.new-working.ensures c.new-spaces.ensures c.set_next.ensures in
+    let gates = open_gates found.0.log_bytes (g.D.Disk.bytes c.args.disk) in
+    let still = c.in-Ok-recover.ensures.gates tells found.0 found.1 found.2 found.3 in (
       found.0,
       found.1,
       found.2,
@@ -62,7 +69,8 @@ returns-in-Ok-recover-clause-sound g c tells =
       λ born places gr stands. record {
         history = c.new-in-Ok-recover.ensures;
         before = found.4.commits;
-        memory = opened_memory found.0 found.1 found.2 born places gr c.in-Ok-recover.found _ found.3.log found.4 fresh;
+        memory = opened_memory found.0 found.1 found.2 gates born places gr c.in-Ok-recover.found _ found.3.log found.4 fresh;
+        pages = λ told none. opened_pages found.0 found.1 found.2 gates born places gr c.in-Ok-recover.found _ (g.D.Disk.bytes c.recover.new.disk) fresh (c.in-Ok-recover.ensures.known tells) still;
       },
     )
 
@@ -75,14 +83,22 @@ pub returns-in-Ok-recover-clause-found : goal.returns-in-Ok-recover-clause-found
 returns-in-Ok-recover-clause-found g c tells s batches stored shaped born places gr stands =
     let found = c.in-Ok-recover.ensures.found tells s batches stored shaped in
     let fresh = is_fresh c.in-Ok-recover.found c.new-spaces.result c.set_next.new.self c.in-Ok.table _ c.new-working.ensures c.new-spaces.ensures c.set_next.ensures in
-    record { history = c.new-in-Ok-recover.ensures; before = found.commits; memory = opened_memory s batches stored born places gr c.in-Ok-recover.found _ shaped.log found fresh }
+    let gates = open_gates s.log_bytes (g.D.Disk.bytes c.args.disk) in
+    let still = c.in-Ok-recover.ensures.gates tells s batches stored shaped in
+    record {
+      history = c.new-in-Ok-recover.ensures;
+      before = found.commits;
+      memory = opened_memory s batches stored gates born places gr c.in-Ok-recover.found _ shaped.log found fresh;
+      pages = λ told none. opened_pages s batches stored gates born places gr c.in-Ok-recover.found _ (g.D.Disk.bytes c.recover.new.disk) fresh (c.in-Ok-recover.ensures.known tells) still;
+    }
 
 pub returns-in-Ok-recover-clause-holds : goal.returns-in-Ok-recover-clause-holds
 returns-in-Ok-recover-clause-holds g c tells s batches stored legal only places gr stands =
     let shaped = shaped_image legal in
+    let gates = open_gates s.log_bytes (g.D.Disk.bytes c.args.disk) in
     record {
       core = returns-in-Ok-recover-clause-found g c tells s batches stored shaped true places gr stands;
-      disk = opened_disk_holds s batches stored places gr _ _ legal.log (c.in-Ok-recover.ensures.holds tells s batches stored shaped) (c.in-Ok-recover.ensures.durable tells only);
+      disk = opened_disk_holds s batches stored gates places gr _ _ legal.log (c.in-Ok-recover.ensures.holds tells s batches stored shaped) (c.in-Ok-recover.ensures.durable tells only);
     }
 
 pub returns-in-Err-recover-clause-shaped : goal.returns-in-Err-recover-clause-shaped
