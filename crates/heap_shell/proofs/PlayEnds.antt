@@ -257,7 +257,7 @@ module _ {D : Type 0} {g : Ghosts D} (s : Super) (c : Core) (running : IsRunning
         end = recovers.end;
       }
 
-  few : total_calls c made ≤ 8388740
+  few : total_calls c made ≤ 20971850
   few =
       let all : length events ≡ length made + length plays.behind = ap (λ (l : List Event). length l) plays.parts ∙ length-append made plays.behind in
       let each = total_few c made in

@@ -1,6 +1,6 @@
 -- One event of a play.
-use Rattle.std.proofs.Common.{◌≡◌, inl, inr, ⊎_elim, ℕ, ◌+◌, Bool, List, [], ◌∷◌, ◌++◌, Result, Ok, Err, refl, sym, ap, ◌∙◌, subst, arith, append_assoc}
-use Rattle.std.specs.Prelude.{IsTrue}
+use Rattle.std.proofs.Common.{◌≡◌, inl, inr, ⊎_elim, ℕ, ◌+◌, Bool, true, false, List, [], ◌∷◌, ◌++◌, Result, Ok, Err, refl, sym, ap, ◌∙◌, subst, arith, append_assoc}
+use Rattle.std.specs.Prelude.{IsTrue, if◌then◌else◌}
 use Rattle.std.proofs.lemmas.Grind.{flat_map-append}
 use Rattle.std.proofs.lemmas.List.{append-nil}
 use Rattle.counts.specs.Count.{counted}
@@ -9,10 +9,11 @@ use Rattle.disk_model.specs.Keeps.{KeepsDisk}
 use Rattle.disk_model.specs.Moments.{LeavesOnly}
 use Rattle.gate_slot.specs.Passing.{Passes}
 use Rattle.graph_model.specs.declared.event.Event.{Event}
+use Rattle.graph_model.specs.declared.event.Event.TheVariants.{Flush}
 use Rattle.graph_model.specs.declared.reply.Entry.{Entry}
 use Rattle.graph_model.specs.declared.reply.Refusal.TheVariants.{DiskFault, Stopped}
 use Rattle.graph_model.specs.declared.reply.Reply.{Reply}
-use Rattle.graph_model.specs.declared.reply.Reply.TheVariants.{Refused}
+use Rattle.graph_model.specs.declared.reply.Reply.TheVariants.{Flushed, Clean, Refused}
 use Rattle.graph_model.specs.History.{account}
 use Rattle.graph_model.specs.PlainLaws.{IsSoundReply, granted_sound, sound_either}
 use Rattle.graph_model.specs.Text.{line}
@@ -21,7 +22,7 @@ use Rattle.heap_core.specs.declared.heap.Heap.{Heap}
 use Rattle.heap_shell.specs.declared.play.Halt.TheVariants as halt
 use Rattle.heap_shell.specs.declared.output.WriteError.{WriteError}
 use Rattle.heap_core.specs.Causes.{reply_device}
-use Rattle.heap_model.specs.Core.{Core, next_number, answer, with_entry, after, IsCutShort, IsStep, calls}
+use Rattle.heap_model.specs.Core.{Core, next_number, is_dirty, granted_by, answer, with_entry, after, IsCutShort, IsStep, calls}
 use Rattle.heap_model.specs.CoreCrash.{IsCommitPrefix}
 use Rattle.core_laws.specs.Run.{step_reached}
 use Rattle.heap_model.specs.CoreLawsRun.{step_history}
@@ -40,8 +41,17 @@ sound_device (Refused DiskFault) sound = absurd sound
 sound_device (Refused Stopped) sound = absurd sound
 sound_device reply sound = (refl, refl)
 
+-- what an event is answered that isn't refused, also where it is a flush
+flush_sound : (dirty : Bool) (p : ℕ) → IsSoundReply (if dirty then Flushed p else Clean p)
+flush_sound true p = tt
+flush_sound false p = tt
+
+granted_by_sound : (c : Core) (event : Event) → IsSoundReply (granted_by c event)
+granted_by_sound c (Flush p) = flush_sound (is_dirty c p) p
+granted_by_sound c event = granted_sound (next_number c) c.g0 (account c.history) event
+
 pub answer_sound : (c : Core) (event : Event) → IsSoundReply (answer c event)
-answer_sound c event = sound_either _ _ (core_refusal-HasNoFault c event) (granted_sound (next_number c) c.g0 (account c.history) event)
+answer_sound c event = sound_either _ _ (core_refusal-HasNoFault c event) (granted_by_sound c event)
 
 -- the reply of a disk that did what it was asked lets a play go on
 pub whole_reply : (c : Core) (event : Event) (reply : Reply) → reply ≡ answer c event → ended_by reply ≡ Ok tt

@@ -35,6 +35,7 @@ use Rattle.heap_shell.proofs.Lines.{some_writes, all_writes, lines_more}
 use Rattle.graph_model.specs.Transaction.{serial}
 use Rattle.heap_shell.specs.Playable.{IsScript}
 use Rattle.page_redo.specs.Pages.{Pages, first_pages}
+use Rattle.page_store.specs.Gates.{open_gates}
 use Rattle.heap_model.specs.Image.{IsShapedLog, IsShaped, IsLegal}
 use Rattle.counts.specs.Count.{counted}
 use Rattle.log_machine.specs.MapLaws.{entries_empty}
@@ -125,13 +126,16 @@ module _ {D : Type 0} (g : Ghosts D) {bytes : List ℕ} (stored : IsStored bytes
   abbrev n : ℕ
   n = stored_calls stored
 
+  abbrev gates : ℕ → ℕ
+  gates = open_gates stored.super.log_bytes bytes
+
   -- a heap that is there runs when it is opened
   pub stored_running : IsRunning c
-  stored_running = record { reached = opened_reached stored.super stored.batches stored.pages stored.legal.log.shaped true stored.places stored.graph stored.found; unfailed = refl }
+  stored_running = record { reached = opened_reached stored.super stored.batches stored.pages stored.legal.log.shaped gates true stored.places stored.graph stored.found; unfailed = refl }
 
   -- an opening of its image leaves one of its first commits
   pub stored_keeps : (image : List ℕ) → IsLeftByOpening stored.super stored.batches stored.pages image → IsCommitPrefix c image
-  stored_keeps image left = opened_keeps stored.super stored.batches stored.pages stored.legal.log stored.places stored.graph stored.found image left
+  stored_keeps image left = opened_keeps stored.super stored.batches stored.pages stored.legal.log stored.places stored.graph stored.found gates image left
 
   -- so it does at each moment
   pub stored_moments : (old new : D) → LeavesOnly g.moment g.left_since old new (IsLeftByOpening stored.super stored.batches stored.pages) → LeavesOnly g.moment g.left_since old new (IsCommitPrefix c)
@@ -250,33 +254,33 @@ module _ {D : Type 0} (g : Ghosts D) {bytes : List ℕ} (stored : IsStored bytes
         }
 
 -- What is opened on any disk is a core that runs, whatever its graph.
-pub record IsNew (from : Super → List (List Record) → Pages → Type 0) (c : Core) : Type 0 where
+pub record IsNew (from : Super → List (List Record) → Pages → (ℕ → ℕ) → Type 0) (c : Core) : Type 0 where
   pub running : IsRunning c
   pub nothing : c.history ≡ []
   pub opened : IsOpened c
-  pub image : from opened.super opened.batches opened.stored
+  pub image : from opened.super opened.batches opened.stored opened.gates
 
-opened_as : {D : Type 0} {g : Ghosts D} (from : Super → List (List Record) → Pages → Type 0) (heap : Heap D g) (s : Super) (batches : List (List Record)) (stored : Pages) (shaped : IsShapedLog s batches stored)
-    → from s batches stored → ((born : Bool) (places : Places) (graph : Graph) → IsFound s batches stored shaped born places graph → IsCore (opened s batches stored born places graph) heap)
+opened_as : {D : Type 0} {g : Ghosts D} (from : Super → List (List Record) → Pages → (ℕ → ℕ) → Type 0) (heap : Heap D g) (s : Super) (batches : List (List Record)) (stored : Pages) (gates : ℕ → ℕ) (shaped : IsShapedLog s batches stored)
+    → from s batches stored gates → ((born : Bool) (places : Places) (graph : Graph) → IsFound s batches stored shaped born places graph → IsCore (opened s batches stored gates born places graph) heap)
     → (c : Core) × IsNew from c × IsCore c heap
-opened_as from heap s batches stored shaped image is =
+opened_as from heap s batches stored gates shaped image is =
     let found = address_found s batches stored shaped in
-    let c = opened s batches stored false found.0 found.1 in
-    let running : IsRunning c = record { reached = opened_reached s batches stored shaped false found.0 found.1 found.2; unfailed = refl } in
-    let new : IsOpened c = record { super = s; batches = batches; stored = stored; shaped = shaped; born = false; places = found.0; graph = found.1; found = found.2; is = refl } in
+    let c = opened s batches stored gates false found.0 found.1 in
+    let running : IsRunning c = record { reached = opened_reached s batches stored shaped gates false found.0 found.1 found.2; unfailed = refl } in
+    let new : IsOpened c = record { super = s; batches = batches; stored = stored; gates = gates; shaped = shaped; born = false; places = found.0; graph = found.1; found = found.2; is = refl } in
     (c, record { running = running; nothing = refl; opened = new; image = image }, is false found.0 found.1 found.2)
 
 pub opened_core : {D : Type 0} {g : Ghosts D} (tells : Bool) (bytes : List ℕ) (heap : Heap D g)
-    → (s : Super) × (batches : List (List Record)) × (stored : Pages) × (shaped : IsShapedLog s batches stored)
-    × ((born : Bool) (places : Places) (graph : Graph) → IsFound s batches stored shaped born places graph → IsCore (opened s batches stored born places graph) heap)
+    → (s : Super) × (batches : List (List Record)) × (stored : Pages) × (gates : ℕ → ℕ) × (shaped : IsShapedLog s batches stored)
+    × ((born : Bool) (places : Places) (graph : Graph) → IsFound s batches stored shaped born places graph → IsCore (opened s batches stored gates born places graph) heap)
     → (IsTrue tells → (s : Super) × (batches : List (List Record)) × (stored : Pages) × (shaped : IsShaped s batches stored bytes)
-    × ((born : Bool) (places : Places) (graph : Graph) → IsFound s batches stored shaped.log born places graph → IsCore (opened s batches stored born places graph) heap))
+    × ((born : Bool) (places : Places) (graph : Graph) → IsFound s batches stored shaped.log born places graph → IsCore (opened s batches stored (open_gates s.log_bytes bytes) born places graph) heap))
     → (c : Core) × IsNew (IsOfImage tells bytes) c × IsCore c heap
-opened_core true bytes heap any own = let is = own cc in opened_as (IsOfImage true bytes) heap is.0 is.1 is.2 is.3.log (λ t. is.3) is.4
-opened_core false bytes heap is own = opened_as (IsOfImage false bytes) heap is.0 is.1 is.2 is.3 (λ told. absurd (false≢true told)) is.4
+opened_core true bytes heap any own = let is = own cc in opened_as (IsOfImage true bytes) heap is.0 is.1 is.2 (open_gates is.0.log_bytes bytes) is.3.log (λ t. (is.3, refl)) is.4
+opened_core false bytes heap is own = opened_as (IsOfImage false bytes) heap is.0 is.1 is.2 is.3 is.4 (λ told. absurd (false≢true told)) is.5
 
 -- it has not failed
-pub opened_unfailed : {D : Type 0} {g : Ghosts D} (heap : Heap D g) {from : Super → List (List Record) → Pages → Type 0} (c : Core) → IsNew from c → IsCore c heap → failed_at heap ≡ None
+pub opened_unfailed : {D : Type 0} {g : Ghosts D} (heap : Heap D g) {from : Super → List (List Record) → Pages → (ℕ → ℕ) → Type 0} (c : Core) → IsNew from c → IsCore c heap → failed_at heap ≡ None
 opened_unfailed heap c new is = is.memory.failure ∙ new.running.unfailed
 
 -- nor has it behind a play that made all events

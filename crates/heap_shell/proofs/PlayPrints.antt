@@ -21,6 +21,7 @@ use Rattle.core_laws.specs.Calls.{of_session_front}
 use Rattle.core_laws.specs.Run.{run_reached}
 use Rattle.core_laws.specs.Valid.{IsReached}
 use Rattle.page_redo.specs.Pages.{Pages, first_pages}
+use Rattle.page_store.specs.Gates.{open_gates}
 use Rattle.heap_model.specs.CoreLawsNew.{root_place, new_legal, new_found}
 use Rattle.heap_model.specs.Ending.{all_events}
 use Rattle.heap_shell.specs.declared.output.WriteError.{WriteError}
@@ -47,15 +48,15 @@ pub wrote_again : (r : Result (Unit {0}) WriteError) (k : ℕ) (g : Graph) (by :
 wrote_again r k g by before after is wrote = inr (k, g, record { sound = λ d. written_sound r (subst IsOfDisk is d); front = wrote_some r before _ after wrote; whole = λ done. wrote_all r before _ after (sym is ∙ done) wrote })
 
 -- The opening was stopped: no event was made.
-pub prints_unplayed : {from : Super → List (List Record) → Pages → Type 0} (n : ℕ) (script : List Line) (by : Status) (before after : List ℕ) → WroteAgain by before after → PrintsSome from (Some n) script by before after
+pub prints_unplayed : {from : Super → List (List Record) → Pages → (ℕ → ℕ) → Type 0} (n : ℕ) (script : List Line) (by : Status) (before after : List ℕ) → WroteAgain by before after → PrintsSome from (Some n) script by before after
 prints_unplayed n script by before after (inl nothing) = inl nothing
 prints_unplayed n script by before after (inr again) =
-    let c = made_core 1 in
+    let c = made_core 1 [] in
     let limits = made_limits 1 (omega arith) (omega arith) in
     let wrote = again.2 in
     inr (record {
       first = c;
-      opened = record { super = made_super 1; batches = []; stored = first_pages 1; shaped = (new_legal (made_super 1) limits).shaped; born = true; places = root_place; graph = new_graph; found = new_found (made_super 1) limits; is = refl };
+      opened = record { super = made_super 1; batches = []; stored = first_pages 1; gates = open_gates 1048576 []; shaped = (new_legal (made_super 1) limits).shaped; born = true; places = root_place; graph = new_graph; found = new_found (made_super 1) limits; is = refl };
       image = inl ((λ none. cc), refl);
       made = [];
       behind = events script;
@@ -89,7 +90,7 @@ last_event c made behind d (Err halt.WriteFault) ends = ends
 last_event c made behind d (Err halt.DiskFault) ends = inr (Refused DiskFault, ends)
 last_event c made behind d (Err halt.Stopped) ends = inr (Refused Stopped, ends)
 
-module _ {D : Type 0} {g : Ghosts D} {from : Super → List (List Record) → Pages → Type 0} (stop : Option ℕ) (c : Core) (new : IsNew from c) (script : List Line) (is_script : IsScript script) (heap : Heap D g) (told : Bool) (before after : List ℕ) (result : Result (Unit {0}) Halt)
+module _ {D : Type 0} {g : Ghosts D} {from : Super → List (List Record) → Pages → (ℕ → ℕ) → Type 0} (stop : Option ℕ) (c : Core) (new : IsNew from c) (script : List Line) (is_script : IsScript script) (heap : Heap D g) (told : Bool) (before after : List ℕ) (result : Result (Unit {0}) Halt)
     (plays : PlaysCore c (all_events stop c (events script)) heap told before after result) (tells : IsTrue told) where
   abbrev core : Core
   core = plays.core
@@ -136,7 +137,7 @@ module _ {D : Type 0} {g : Ghosts D} {from : Super → List (List Record) → Pa
       (some_writes core.history before after (halt_status h) (end_text stop 0 graph) after (halt_not_done h) part.0 part.1 (halt_lines core.history before after h some))
 
 -- It was not to stop, and its graph was to be written.
-pub prints_whole : {D : Type 0} {g : Ghosts D} {from : Super → List (List Record) → Pages → Type 0} (c : Core) (new : IsNew from c) (script : List Line) (is_script : IsScript script) (heap : Heap D g) (told : Bool) (before after : List ℕ)
+pub prints_whole : {D : Type 0} {g : Ghosts D} {from : Super → List (List Record) → Pages → (ℕ → ℕ) → Type 0} (c : Core) (new : IsNew from c) (script : List Line) (is_script : IsScript script) (heap : Heap D g) (told : Bool) (before after : List ℕ)
     (plays : PlaysCore c (all_events None c (events script)) heap told before after (Ok tt)) (tells : IsTrue told) (r : Result (Unit {0}) WriteError) (after' : List ℕ)
     → WroteText r after (graph_text (serial plays.core.g0 (sealed plays.core.history))) after' → PrintsSome from None script (status_after r) before after'
 prints_whole c new script is_script heap told before after plays tells r after' text =
@@ -146,7 +147,7 @@ prints_whole c new script is_script heap told before after plays tells r after' 
     (all_writes plays.core.history before after (status_after r) (graph_text graph) after' (written_sound r) (wrote None c new script is_script heap told before after (Ok tt) plays tells) (wrote_some r after _ after' text) (λ done. wrote_all r after _ after' done text))
 
 -- It was to stop, and what came back was to be written.
-pub prints_again : {D : Type 0} {g : Ghosts D} {from : Super → List (List Record) → Pages → Type 0} (n : ℕ) (c : Core) (new : IsNew from c) (script : List Line) (is_script : IsScript script) (heap : Heap D g) (told : Bool) (before after : List ℕ) (result : Result (Unit {0}) Halt)
+pub prints_again : {D : Type 0} {g : Ghosts D} {from : Super → List (List Record) → Pages → (ℕ → ℕ) → Type 0} (n : ℕ) (c : Core) (new : IsNew from c) (script : List Line) (is_script : IsScript script) (heap : Heap D g) (told : Bool) (before after : List ℕ) (result : Result (Unit {0}) Halt)
     (plays : PlaysCore c (events script) heap told before after result) (tells : IsTrue told) (ended : (result ≡ Ok tt) ⊎ (result ≡ Err halt.Stopped)) (by : Status) (after' : List ℕ) → WroteAgain by after after' → PrintsSome from (Some n) script by before after'
 prints_again {from = from} n c new script is_script heap told before after result plays tells ended by after' again = ⊎_elim nothing some again
   where
@@ -179,8 +180,8 @@ prints_again {from = from} n c new script is_script heap told before after resul
         (all_writes plays.core.history before after by text after' wrote_it.2.sound out wrote_it.2.front wrote_it.2.whole)
 
 -- A run of a script that was read, of which less may be said of the image.
-pub prints_script : {from less : Super → List (List Record) → Pages → Type 0} (read : List Line → Type 0) (stop : Option ℕ) (script : List Line) (by : Status) (before after : List ℕ) → read script
-    → ((s : Super) (batches : List (List Record)) (stored : Pages) → from s batches stored → less s batches stored) → PrintsSome from stop script by before after
+pub prints_script : {from less : Super → List (List Record) → Pages → (ℕ → ℕ) → Type 0} (read : List Line → Type 0) (stop : Option ℕ) (script : List Line) (by : Status) (before after : List ℕ) → read script
+    → ((s : Super) (batches : List (List Record)) (stored : Pages) (gates : ℕ → ℕ) → from s batches stored gates → less s batches stored gates) → PrintsSome from stop script by before after
     → ((by ≢ status.Done) × (after ≡ before)) ⊎ ((lines : List Line) × read lines × PrintsRun less stop lines by before after)
 prints_script read stop script by before after is implies (inl nothing) = inl nothing
 prints_script read stop script by before after is implies (inr run) = inr (
@@ -190,7 +191,7 @@ prints_script read stop script by before after is implies (inr run) = inr (
     first = run.first;
     opened = run.opened;
     made = run.made;
-    image = ⊎_elim (λ none. inl none) (λ own. inr (implies run.opened.super run.opened.batches run.opened.stored own)) run.image;
+    image = ⊎_elim (λ none. inl none) (λ own. inr (implies run.opened.super run.opened.batches run.opened.stored run.opened.gates own)) run.image;
     behind = run.behind;
     parts = run.parts;
     core = run.core;

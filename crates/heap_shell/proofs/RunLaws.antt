@@ -18,13 +18,13 @@ use Rattle.heap_model.specs.CoreCrash.{IsCommitPrefix, HasAtLeast}
 use Rattle.core_laws.specs.Calls.{of_session_front}
 use Rattle.core_laws.specs.Grow.{has_at_least_on}
 use Rattle.core_laws.specs.Run.{run_reached}
-use Rattle.heap_model.specs.CoreLawsGrow.{keeps_at_least}
+use Rattle.heap_model.specs.CoreLawsGrow.{keeps_at_least, has_fewer}
 use Rattle.core_laws.specs.Valid.{IsReached}
 use Rattle.command_words.specs.Limits.{IsPages}
 use Rattle.heap_model.specs.Ending.{all_events}
 use Rattle.script_text.specs.Line.{events}
 use Rattle.heap_shell.specs.CoreLawsPlay.{made_limits, made_reached, script_is, all_playable}
-use Rattle.heap_shell.specs.CrashSafe.{IsCrashSafe, RunsSafely}
+use Rattle.heap_shell.specs.CrashSafe.{IsCrashSafe, RunsSafely, lasting}
 use Rattle.heap_shell.specs.Playable.{IsReadFrom}
 use Rattle.heap_shell.specs.Stored.{stored_core, stored_calls}
 use Rattle.heap_shell.proofs.PlayOpen.{stored_running}
@@ -152,10 +152,10 @@ module _ {D : Type 0} (g : Ghosts D) (now : (disk : D) (image : List ℕ) → g.
         made = made;
         core = core;
         each = weaker g.moment g.left_since start final _ (HasAtLeast core least)
-            (joined g.moment g.left_since start disk.opened final (IsCommitPrefix c) (HasAtLeast core least) disk.opening since)
+            (joined g.moment g.left_since start disk.opened final (IsCommitPrefix c) (HasAtLeast core (lasting c)) disk.opening since)
             (λ image either. ⊎_elim
             (λ (kept : IsCommitPrefix c image). has_at_least_on c core made least image reached.sound at_end.sound run (keeps_at_least c image kept))
-            (λ (has : HasAtLeast core least image). has)
+            (λ (has : HasAtLeast core (lasting c) image). has_fewer core (lasting c) least image (omega arith) has)
             either);
         opened = disk.opened;
         stopped = disk.stopped;
@@ -177,7 +177,7 @@ module _ {D : Type 0} (g : Ghosts D) (now : (disk : D) (image : List ℕ) → g.
       → Runs g fresh stop (IsReadFrom reads left) old new result told before after → RunsSafely g fresh stop old new result told before after
   runs_safely (Some pages) stop old new result told before after within (inl none) = inl none
   runs_safely (Some pages) stop old new result told before after within (inr plays) =
-      inr (plays.made, plays.format, script_safe plays.made new stop 0 (made_core pages) result told before after (made_reached pages (made_limits pages within.0 within.1)) plays.plays)
+      inr (plays.made, plays.format, script_safe plays.made new stop 0 (made_core pages (g.bytes plays.made)) result told before after (made_reached pages (g.bytes plays.made) (made_limits pages within.0 within.1)) plays.plays)
   runs_safely None stop old new result told before after within (inl none) = inl none
   runs_safely None stop old new result told before after within (inr plays) =
       inr (λ stored. script_safe old new stop (stored_calls stored) (stored_core stored) result told before after (stored_running g stored).reached (plays stored))

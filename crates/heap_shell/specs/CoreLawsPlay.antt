@@ -19,6 +19,7 @@ use Rattle.core_laws.specs.Run.{step_reached}
 use Rattle.core_laws.specs.Valid.{IsReached}
 use Rattle.heap_model.specs.CoreLawsCalls.{whole_run, run_step}
 use Rattle.page_redo.specs.Pages.{first_pages}
+use Rattle.page_store.specs.Gates.{open_gates}
 use Rattle.heap_model.specs.CoreLawsNew.{root_place, new_legal, new_found}
 use Rattle.heap_model.specs.ListLaws.{AllByRecursion-behind}
 use Rattle.heap_model.specs.Ending.{all_events}
@@ -31,8 +32,8 @@ pub made_limits : (pages : ℕ) → 1 ≤ pages → pages ≤ 16384 → IsSuper 
 made_limits pages some few = record { some_pages = some; few_pages = few; some_log = omega arith; small_log = omega arith; some_first = omega arith; small_first = omega arith }
 
 -- a new heap is reached
-pub made_reached : (pages : ℕ) → IsSuper (made_super pages) → IsReached (made_core pages)
-made_reached pages limits = opened_reached (made_super pages) [] (first_pages pages) (new_legal (made_super pages) limits).shaped true root_place new_graph (new_found (made_super pages) limits)
+pub made_reached : (pages : ℕ) (image : List ℕ) → IsSuper (made_super pages) → IsReached (made_core pages image)
+made_reached pages image limits = opened_reached (made_super pages) [] (first_pages pages) (new_legal (made_super pages) limits).shaped (open_gates 1048576 image) true root_place new_graph (new_found (made_super pages) limits)
 
 -- a core may be asked the first of the events that it may be asked
 pub ready_front : (c : Core) (before behind : List Event) → AreReady c (before ++ behind) → AreReady c before
@@ -67,8 +68,8 @@ makes_run c made behind d old new ready (inr short) =
     (subst (λ (l : List Event). IsRun c l d) (sym cut.parts) run, step_reached mid d cut.event short.0 last.running.reached last.sessions.0 step)
 
 -- a new heap runs
-pub made_running : (pages : ℕ) → IsSuper (made_super pages) → IsRunning (made_core pages)
-made_running pages limits = record { reached = made_reached pages limits; unfailed = refl }
+pub made_running : (pages : ℕ) (image : List ℕ) → IsSuper (made_super pages) → IsRunning (made_core pages image)
+made_running pages image limits = record { reached = made_reached pages image limits; unfailed = refl }
 
 -- A script that was read is one.
 pub script_is : (bytes : List ℕ) (lines : List Line) → script bytes ≡ Ok lines → IsScript lines

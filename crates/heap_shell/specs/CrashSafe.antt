@@ -1,10 +1,12 @@
 -- What a run promises of crashes, in short: it follows from the headline.
-use Rattle.std.specs.Prelude.{◌≡◌, ◌⊎◌, ℕ, ◌≤◌, List, ◌++◌, length, take, Bool, IsTrue, Option, None, Some}
+use Rattle.std.specs.Prelude.{◌≡◌, ◌⊎◌, ℕ, ◌-◌, ◌≤◌, max, List, ◌++◌, length, take, Bool, IsTrue, Option, None, Some}
 use Rattle.disk_model.specs.declared.disk.Disk.{Ghosts}
 use Rattle.disk_model.specs.Moments.{LeavesOnly}
+use Rattle.gated_log.specs.Log.{records_of}
 use Rattle.graph_model.specs.declared.event.Event.{Event}
 use Rattle.graph_model.specs.History.{commits, acknowledged}
 use Rattle.graph_model.specs.Transaction.{serial, serial_replies}
+use Rattle.log_machine.specs.Machine as machine
 use Rattle.heap_model.specs.Core.{Core}
 use Rattle.commit_order.specs.Heard.{replies_of_commits}
 use Rattle.command_words.specs.declared.commands.Stop.{Stop}
@@ -16,11 +18,15 @@ use Rattle.heap_shell.specs.Steps.{Step, AreSteps}
 use Rattle.heap_shell.specs.Stored.{IsStored, stored_core}
 use Rattle.heap_model.specs.CoreCrash.{HasAtLeast}
 
+-- how many commits since its opening last: those that were acknowledged, or that the log on the disk holds, also where no reply has told so
+abbrev pub lasting : Core → ℕ
+lasting c = max (acknowledged c.history) (machine.commits (records_of c.batches) - c.before)
+
 module _ {D : Type 0} (g : Ghosts D) where
-  -- A step, from whose answer on until the run returned k is no less than what had been acknowledged by then.
+  -- A step, from whose answer on until the run returned k is no less than what had been acknowledged or forced by then.
   pub record LastingStep (stop : Option ℕ) (last : Core) (start final : D) (c : Core) (before : D) (event : Event) (d : Core) (after : D) : Type 0 where
     pub made : Step g stop start final c before event d after
-    pub lasts : LeavesOnly g.moment g.left_since after final (HasAtLeast last (acknowledged d.history))
+    pub lasts : LeavesOnly g.moment g.left_since after final (HasAtLeast last (lasting d))
 
   -- A heap was opened as the core c on a disk, and these events were made.
   pub record IsCrashSafe (stop : Option ℕ) (c : Core) (start final : D) (result : Status) (told : Bool) (before after : List ℕ) : Type 0 where
@@ -28,7 +34,7 @@ module _ {D : Type 0} (g : Ghosts D) where
     pub core : Core
     -- At each moment an image is that of the first k commits.
     pub each : LeavesOnly g.moment g.left_since start final (HasAtLeast core (acknowledged c.history))
-    -- The events were made one after another, and what each of them acknowledged lasts.
+    -- The events were made one after another, and what each of them acknowledged or forced lasts.
     pub opened : D
     pub stopped : D
     pub steps : AreSteps (LastingStep stop core start final) c opened made core stopped
@@ -42,6 +48,6 @@ module _ {D : Type 0} (g : Ghosts D) where
   -- Either no heap was made, or it is crash safe from then on; or the heap that was there is crash safe, or the run did not begin.
   abbrev pub RunsSafely : Option ℕ → Option Stop → D → D → Status → Bool → List ℕ → List ℕ → Type 0
   RunsSafely (Some pages) stop old new result told before after =
-      IsNotMade g (made_super pages) old new result told before after ⊎ ((made : D) × IsFormatted g (made_super pages) old made × IsCrashSafe (stop_after stop) (made_core pages) made new result told before after)
+      IsNotMade g (made_super pages) old new result told before after ⊎ ((made : D) × IsFormatted g (made_super pages) old made × IsCrashSafe (stop_after stop) (made_core pages (g.bytes made)) made new result told before after)
   RunsSafely None stop old new result told before after =
       IsNotBegun g old new result told before after ⊎ ((stored : IsStored (g.bytes old)) → IsCrashSafe (stop_after stop) (stored_core stored) old new result told before after)

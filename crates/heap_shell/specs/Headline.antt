@@ -29,6 +29,7 @@ use Rattle.heap_model.specs.Ending.{all_events}
 use Rattle.graph_words.specs.Places.{Places}
 use Rattle.log_records.specs.declared.Record.{Record}
 use Rattle.page_redo.specs.Pages.{Pages, first_pages}
+use Rattle.page_store.specs.Gates.{open_gates}
 use Rattle.heap_model.specs.Image.{IsShapedLog, IsShaped, IsLegal}
 use Rattle.heap_model.specs.Opening.{opened, opening_calls, IsFound}
 use Rattle.script_text.specs.declared.line.Line.{Line}
@@ -49,9 +50,9 @@ OfTold tells bytes may_leave claim = IsTrue tells → Only bytes may_leave → c
 abbrev pub made_super : ℕ → Super
 made_super pages = record { pages = pages; log_bytes = 1048576; first = 1 }
 
--- that heap, when it has been opened
-abbrev pub made_core : ℕ → Core
-made_core pages = opened (made_super pages) [] (first_pages pages) true root_place new_graph
+-- that heap, when it has been opened on the image that was made, with the gates of its frames
+abbrev pub made_core : ℕ → List ℕ → Core
+made_core pages image = opened (made_super pages) [] (first_pages pages) (open_gates 1048576 image) true root_place new_graph
 
 -- what is printed of a graph
 abbrev pub graph_text : Graph → List ℕ
@@ -126,35 +127,36 @@ IsExact None at_opening c made d = IsWhole c made d
 IsExact (Some n) at_opening c made d =
     (IsWhole c made d × (at_opening + total_calls c made ≤ n)) ⊎ ((at_opening ≤ n) × StopsLast (n - at_opening) c made d) ⊎ StopsOpening (Some n) at_opening made
 
--- A core that is opened on a shaped log beside stored pages, with a graph that stands in it.
+-- A core that is opened on a shaped log beside stored pages, in frames with so many open gates, with a graph that stands in it.
 pub record IsOpened (c : Core) : Type 0 where
   pub super : Super
   pub batches : List (List Record)
   pub stored : Pages
+  pub gates : ℕ → ℕ
   pub shaped : IsShapedLog super batches stored
   pub born : Bool
   pub places : Places
   pub graph : Graph
   pub found : IsFound super batches stored shaped born places graph
-  pub is : c ≡ opened super batches stored born places graph
+  pub is : c ≡ opened super batches stored gates born places graph
 
--- On a disk that tells its bytes, they are the log and the pages of that image.
-abbrev pub IsOfImage : Bool → List ℕ → Super → List (List Record) → Pages → Type 0
-IsOfImage tells image s batches stored = IsTrue tells → IsShaped s batches stored image
+-- On a disk that tells its bytes, they are the log, the pages and the gates of that image.
+abbrev pub IsOfImage : Bool → List ℕ → Super → List (List Record) → Pages → (ℕ → ℕ) → Type 0
+IsOfImage tells image s batches stored gates = IsTrue tells → IsShaped s batches stored image × (gates ≡ open_gates s.log_bytes image)
 
 -- So are they where no heap was to be made first.
-abbrev pub IsOfOwnImage : Option ℕ → Bool → List ℕ → Super → List (List Record) → Pages → Type 0
-IsOfOwnImage fresh tells image s batches stored = fresh ≡ None → IsOfImage tells image s batches stored
+abbrev pub IsOfOwnImage : Option ℕ → Bool → List ℕ → Super → List (List Record) → Pages → (ℕ → ℕ) → Type 0
+IsOfOwnImage fresh tells image s batches stored gates = fresh ≡ None → IsOfImage tells image s batches stored gates
 
 -- On any disk: a heap was opened with some graph, the events that were made are a run of that core, and what was written is a first
 -- part of the lines of its history, of how many commits came back where a stop was asked, and of a graph. Of a run that is done it is
 -- all of that; and without a stop the graph is the core's. What was opened is `from` where that says.
-pub record PrintsRun (from : Super → List (List Record) → Pages → Type 0) (stop : Option ℕ) (lines : List Line) (result : Status) (before after : List ℕ) : Type 0 where
+pub record PrintsRun (from : Super → List (List Record) → Pages → (ℕ → ℕ) → Type 0) (stop : Option ℕ) (lines : List Line) (result : Status) (before after : List ℕ) : Type 0 where
   pub first : Core
   pub opened : IsOpened first
   pub made : List Event
   -- an opening that a stop cut short opened nothing
-  pub image : ((stop ≢ None) × (made ≡ [])) ⊎ from opened.super opened.batches opened.stored
+  pub image : ((stop ≢ None) × (made ≡ [])) ⊎ from opened.super opened.batches opened.stored opened.gates
   pub behind : List Event
   pub parts : all_events stop first (events lines) ≡ made ++ behind
   pub core : Core
@@ -172,7 +174,7 @@ pub record PrintsRun (from : Super → List (List Record) → Pages → Type 0) 
   pub written : Writes result core.history (end_text stop count graph) before after
 
 -- A run that isn't done wrote nothing, or it wrote that.
-abbrev pub PrintsSome : (Super → List (List Record) → Pages → Type 0) → Option ℕ → List Line → Status → List ℕ → List ℕ → Type 0
+abbrev pub PrintsSome : (Super → List (List Record) → Pages → (ℕ → ℕ) → Type 0) → Option ℕ → List Line → Status → List ℕ → List ℕ → Type 0
 PrintsSome from stop lines result before after = ((result ≢ status.Done) × (after ≡ before)) ⊎ PrintsRun from stop lines result before after
 
 -- The statuses with which a play ends.
@@ -199,7 +201,7 @@ CountsOpening at_opening result made counts = (counts ≡ at_opening) ⊎ ((resu
 
 module _ {D : Type 0} (g : Ghosts D) where
   -- At each moment a crash left first commits: while the heap was opened as the core c, in each step, and from then on until the
-  -- end, also while it was opened again. Always they held all that had been acknowledged. The opening makes so many calls, if it is not cut short.
+  -- end, also while it was opened again. Always they held all that had been acknowledged or forced. The opening makes so many calls, if it is not cut short.
   pub record KeepsThroughout (stop : Option ℕ) (at_opening : ℕ) (c : Core) (made : List Event) (d : Core) (start final : D) : Type 0 where
     pub opened : D
     pub opening : LeavesOnly g.moment g.left_since start opened (IsCommitPrefix c)
@@ -351,7 +353,7 @@ module _ {D : Type 0} (g : Ghosts D) where
   pub record PlaysOnNew (pages : ℕ) (stop : Option Stop) (is_script : List Line → Type 0) (old new : D) (result : Status) (told : Bool) (before after : List ℕ) : Type 0 where
     pub made : D
     pub format : IsFormatted (made_super pages) old made
-    pub plays : PlaysScript stop is_script 0 (made_core pages) made new result told before after
+    pub plays : PlaysScript stop is_script 0 (made_core pages (g.bytes made)) made new result told before after
 
   -- The run ended before it did anything with the disk, and nothing was written.
   pub record IsNotBegun (old new : D) (result : Status) (told : Bool) (before after : List ℕ) : Type 0 where

@@ -33,9 +33,9 @@ pub record Step {D : Type 0} (g : Ghosts D) (stop : Option ℕ) (start final : D
   pub reply : Reply
   pub step : IsStep c event reply d
   pub cause : StepCause g stop start before after reply
-  -- at each moment of it a crash left first commits, and among them all that were acknowledged before it
+  -- at each moment of it a crash left first commits, and among them all that were acknowledged or forced before it
   pub moments : LeavesOnly g.moment g.left_since before after (IsCommitPrefix c)
-  -- once it was answered, also those that its answer acknowledged
+  -- once it was answered, also those that its answer acknowledged, or that it forced
   pub kept : (image : List ℕ) → g.may_leave after image → IsCommitPrefix d image
   -- without a fault it made the writes and syncs of the core's step, or fewer where it was stopped
   pub passes : Unharmed g start final → Passes (calls c event) (g.passed before) (g.passed after) (reply_device reply)

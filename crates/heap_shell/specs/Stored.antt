@@ -5,6 +5,7 @@ use Rattle.graph_words.specs.Places.{Places}
 use Rattle.image_plan.specs.declared.superblock.Super.{Super}
 use Rattle.log_records.specs.declared.Record.{Record}
 use Rattle.page_redo.specs.Pages.{Pages}
+use Rattle.page_store.specs.Gates.{open_gates}
 use Rattle.heap_model.specs.Core.{Core}
 use Rattle.heap_model.specs.Image.{IsLegal}
 use Rattle.heap_model.specs.Opening.{IsFound, opened, opening_calls}
@@ -19,9 +20,9 @@ pub record IsStored (image : List ℕ) : Type 0 where
   pub graph : Graph
   pub found : IsFound super batches pages legal.log.shaped true places graph
 
--- the core of the heap that is opened on it
+-- the core of the heap that is opened on it, with the gates of its frames
 abbrev pub stored_core : {image : List ℕ} → IsStored image → Core
-stored_core stored = opened stored.super stored.batches stored.pages true stored.places stored.graph
+stored_core {image} stored = opened stored.super stored.batches stored.pages (open_gates stored.super.log_bytes image) true stored.places stored.graph
 
 -- the writes and syncs of its opening
 abbrev pub stored_calls : {image : List ℕ} → IsStored image → ℕ

@@ -101,6 +101,48 @@ fn a_heap_is_made_played_on_and_printed(rt: HostRuntime) -> Result<(), Fail> {
     Ok(())
 }
 
+/// Runs on one heap whose page is stored with a write that is never sealed, and then behind commits: each line, its script and its output.
+const STORED_RUNS: [(&str, &str, &str); 7] = [
+    (
+        "heap play --stop 8",
+        "1 begin\n1 root 0\n1 put 0 0 7\nflush 0\n",
+        "1 begin -> begun 1\n1 root 0 -> done\n1 put 0 0 7 -> done\nflush 0 -> flushed 0\nrecovered 0\ngraph 1\n0: - - - -\n",
+    ),
+    ("heap graph", "", "graph 1\n0: - - - -\n"),
+    // The page is dirty, since the opening redoes on it what took the write back.
+    (
+        "heap play",
+        "flush 0\nflush 0\n1 begin\n1 root 0\n1 get 0 0 1\n1 put 0 1 8\n1 seal\nflush 0\n",
+        "flush 0 -> flushed 0\nflush 0 -> clean 0\n1 begin -> begun 2\n1 root 0 -> done\n1 get 0 0 1 -> null\n1 put 0 1 8 -> done\n1 seal -> sealed 1\nflush 0 -> flushed 0\ngraph 1\n0: - 8 - -\n",
+    ),
+    ("heap graph", "", "graph 1\n0: - 8 - -\n"),
+    // Both writes are stored, and the force of their commit is cut off before its gate is written.
+    (
+        "heap play --stop 12",
+        "flush 0\n1 begin\n1 root 0\n1 put 0 0 9\n1 put 0 1 9\nflush 0\n1 commit\n",
+        "flush 0 -> clean 0\n1 begin -> begun 3\n1 root 0 -> done\n1 put 0 0 9 -> done\n1 put 0 1 9 -> done\nflush 0 -> flushed 0\n1 seal -> sealed 1\nforce -> stopped\nrecovered 0\ngraph 1\n0: - 8 - -\n",
+    ),
+    (
+        "heap play",
+        "1 begin\n1 root 0\n1 get 0 1 1\n1 put 0 2 5\n1 commit\nflush 0\n",
+        "1 begin -> begun 4\n1 root 0 -> done\n1 get 0 1 1 -> int 8\n1 put 0 2 5 -> done\n1 seal -> sealed 1\nforce -> durable 1\nflush 0 -> flushed 0\ngraph 1\n0: - 8 5 -\n",
+    ),
+    ("heap graph", "", "graph 1\n0: - 8 5 -\n"),
+];
+
+#[test]
+fn a_stored_page_is_gone_on_with_in_the_next_run(rt: HostRuntime) -> Result<(), Fail> {
+    let alloc = rt.alloc();
+    for pick in &PICKS {
+        let image = small_heap(&rt, alloc)?.contents().to_vec(alloc)?;
+        let mut disk = disk_of(alloc, image, *pick, Vec::new(alloc))?;
+        for (line, script, output) in &STORED_RUNS {
+            disk = expect(&rt, alloc, (*line, *script), (Status::Done, *output), disk)?;
+        }
+    }
+    Ok(())
+}
+
 /// A loser is left in the log: a fault ends a run behind its force.
 fn heap_with_a_loser(rt: &impl Abort, alloc: Global) -> Result<Vec<u8>, Fail> {
     let disk = expect(
@@ -211,9 +253,9 @@ fn spoiled(image: &Vec<u8>, at: usize, byte: u8) -> Result<Vec<u8>, AllocError> 
     Ok(bytes)
 }
 
-/// A place in the image, another byte for it, and what that comes to: the gate of the superblock, its letters, its limits, and then an open
-/// batch of no bytes behind which a gate is open that has no batch.
-const SPOILED: [(usize, u8, Status); 8] = [
+/// A place in the image, another byte for it, and what that comes to: the gate of the superblock, its letters, its limits, then an open
+/// batch of no bytes behind which a gate is open that has no batch, and the gate of a frame of the first page, in which no root stands.
+const SPOILED: [(usize, u8, Status); 9] = [
     (0, 0, Status::NotHeap),
     (0, 2, Status::NotHeap),
     (1, b'S', Status::NotHeap),
@@ -222,6 +264,7 @@ const SPOILED: [(usize, u8, Status); 8] = [
     (64, 2, Status::Done),
     (64, 1, Status::Done),
     (69, 1, Status::Done),
+    (65_600, 1, Status::Damaged { at: At::Address(0) }),
 ];
 
 /// Runs a command on the bytes, which writes nothing where it refuses them.
@@ -253,9 +296,16 @@ fn what_is_no_heap_or_damaged_is_refused(rt: HostRuntime) -> Result<(), Fail> {
             expect_opened(&rt, alloc, bytes.clone()?, line, *status)?;
         }
     }
-    let bytes = spoiled(&spoiled(&image, 64, 1)?, 65, 1)?;
-    let damaged = Status::Damaged { at: At::Batch(0) };
-    expect_opened(&rt, alloc, bytes, "heap graph", damaged)
+    // A batch that breaks off, and a page that is ahead of the log.
+    for (places, at) in &[
+        ([(64, 1), (65, 1)], At::Batch(0)),
+        ([(65_600, 1), (65_608, 9)], At::Page(0)),
+    ] {
+        let first = spoiled(&image, places[0].0, places[0].1)?;
+        let bytes = spoiled(&first, places[1].0, places[1].1)?;
+        expect_opened(&rt, alloc, bytes, "heap graph", Status::Damaged { at: *at })?;
+    }
+    Ok(())
 }
 
 #[test]

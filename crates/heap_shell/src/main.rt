@@ -53,6 +53,8 @@ fn main(rt: HostRuntime) -> ExitCode {
 }
 
 #[cfg(test)]
+mod flush_tests;
+#[cfg(test)]
 mod kept_tests;
 #[cfg(test)]
 mod status_tests;

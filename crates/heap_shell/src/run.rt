@@ -65,7 +65,7 @@ pub fn run<D: Disk, S: Source, K: Sink>(
     ensures unread { ((asked : Command) → command (map string_bytes words.now) ≡ Some asked → IsPlay asked → ⊥) → source.new ≡ source.old }
     ensures read_whole { IsTrue S.tells → (asked : Command) → command (map string_bytes words.now) ≡ Some asked → IsPlay asked → result.0 ≡ Status.Done → S.left source.new ≡ [] }
 
-    // A crash at any moment keeps what was acknowledged by then.
+    // A crash at any moment keeps what was acknowledged or forced by then.
     ensures crash_safe { OfTold D.tells (D.bytes disk) (D.may_leave disk) ((fresh : Option ℕ) (stop : Option Stop) → command (map string_bytes words.now) ≡ Some (asked.Play fresh stop)
         → RunsSafely D.Disk fresh stop disk result.1 result.0 K.tells (K.written sink.old) (K.written sink.new)) }
     // The sentence that the stable heap is for, whole: the script was played on a heap, a new one or the one that was there.

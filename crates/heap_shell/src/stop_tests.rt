@@ -18,7 +18,7 @@ const HEAP_BYTES: usize = 1_082_432;
 const FRESH: &str = "heap play --fresh 16";
 
 /// The writes and syncs of a force, of which the last two are those of the gate.
-const FORCE_CALLS: usize = 4;
+pub const FORCE_CALLS: usize = 4;
 
 /// More calls than the scripts make.
 const MOST_CALLS: usize = 16;
@@ -39,7 +39,7 @@ const ABORT_BETWEEN: &str =
     "1 begin\n1 root 0\n1 put 0 0 7\n1 commit\n1 begin\n1 root 0\n1 put 0 0 8\n1 put 0 1 9\n1 abort\n1 begin\n1 root 0\n1 put 0 1 3\n1 commit\n";
 
 /// A transaction is forced before it is sealed, and the next one before it is taken back.
-const FORCED_INSIDE: &str =
+pub const FORCED_INSIDE: &str =
     "1 begin\n1 root 0\n1 put 0 0 7\nforce\n1 put 0 1 8\n1 commit\n1 begin\n1 root 0\n1 put 0 0 9\nforce\n1 abort\n";
 
 /// The script ends inside a transaction of which a part was forced.
@@ -51,21 +51,21 @@ const OBJECTS: &str =
     "1 begin\n1 root 0\n1 new 1 2\n1 new 2 1\n1 new 3 1\n1 link 0 0 1\n1 link 1 0 2\n1 link 2 0 1\n1 put 3 0 5\n1 commit\n1 begin\n1 root 0\n1 get 0 0 1\n1 get 1 0 2\n1 same 1 2\n1 new 4 1\n1 link 4 0 0\n1 link 1 1 4\n1 clear 2 0\n1 commit\n";
 
 /// An object is forced with the field that leads to it before it is promoted, and one that is taken back.
-const OBJECTS_FORCED_INSIDE: &str =
+pub const OBJECTS_FORCED_INSIDE: &str =
     "1 begin\n1 root 0\n1 new 1 1\n1 link 0 0 1\nforce\n1 link 1 0 0\n1 commit\n1 begin\n1 root 0\n1 new 2 1\n1 link 0 1 2\nforce\n1 abort\n";
 
 /// A script, what the slow heap answers to it, and of each force how many were sealed since the one before.
 #[derive(Drop)]
-struct Told<'a> {
+pub struct Told<'a> {
     script: &'a str,
-    heap: SlowHeap,
-    lines: String,
+    pub heap: SlowHeap,
+    pub lines: String,
     forced: usize,
     forces: Vec<usize>,
 }
 
 impl<'a> Told<'a> {
-    fn of(rt: &impl Abort, alloc: Global, script: &'a str) -> Result<Told<'a>, Fail> {
+    pub fn of(rt: &impl Abort, alloc: Global, script: &'a str) -> Result<Told<'a>, Fail> {
         let mut told = Told {
             script,
             heap: SlowHeap::new(alloc)?,
@@ -131,8 +131,11 @@ fn acknowledged(lines: &str) -> usize {
         .unwrap_or(0)
 }
 
-/// Whether the lines are the first ones that were told, where the last may be that of a force that stopped.
+/// Whether the lines are the first ones that were told, where the last may be that of a force or a flush that stopped.
 fn are_first(lines: &str, told: &str) -> bool {
+    if let Some(before) = lines.strip_suffix(FLUSH_STOPPED) {
+        return told.starts_with(before);
+    }
     match lines.strip_suffix("force -> stopped\n") {
         None => told == lines,
         Some(before) => match told.strip_prefix(before) {
@@ -141,6 +144,9 @@ fn are_first(lines: &str, told: &str) -> bool {
         },
     }
 }
+
+/// What stands for the line of a flush that stopped, whichever page it was to store.
+pub const FLUSH_STOPPED: &str = "flush -> stopped\n";
 
 fn play_by(alloc: Global, line: &str, script: &str, pick: Pick) -> Result<Played, AllocError> {
     let disk = make_disk(alloc, HEAP_BYTES, pick)?;
@@ -165,7 +171,7 @@ fn check_stop(
     check_played(rt, told, &played, pick, calls)
 }
 
-fn check_played(
+pub fn check_played(
     rt: &impl Abort,
     told: &Told<'_>,
     played: &Played,
@@ -176,7 +182,7 @@ fn check_played(
     let found = read_restarted(&played.output).expect(rt, "no number of commits");
     assert!(rt; is_told(told, found), "{pick:?}, {calls}");
     check_graph(rt, told, found)?;
-    Ok((found.lines.ends_with("force -> stopped\n"), found.recovered))
+    Ok((found.lines.ends_with(" -> stopped\n"), found.recovered))
 }
 
 /// Whether the lines are the first ones that were told, and those commits came back that they acknowledge, and no more than they seal.
@@ -310,14 +316,14 @@ fn forced_volatile_words_are_taken_back_from_filled_bytes(rt: HostRuntime) -> Re
 }
 
 /// Four sessions side by side, two of them at the end of their numbers, and one alone.
-const FOUR: [u32; 4] = [1, 2, 3, 4];
+pub const FOUR: [u32; 4] = [1, 2, 3, 4];
 
 const LAST_TWO: [u32; 4] = [31, 32, 31, 32];
 
-const ONE: [u32; 4] = [1, 1, 1, 1];
+pub const ONE: [u32; 4] = [1, 1, 1, 1];
 
 /// How many lines of a script are drawn that is played whole.
-const DRAWN_LINES: usize = 100;
+pub const DRAWN_LINES: usize = 100;
 
 /// A commit of objects for all: each of them is met from the root, and two of them from another one.
 const SHARED: &str =
@@ -394,7 +400,7 @@ fn draw_begin(alloc: Global, sessions: [u32; 4]) -> Result<String, AllocError> {
 
 /// A script of which so many lines are drawn by a seed: in transactions of these sessions, which are sealed or taken back and forced in
 /// between, objects are made, linked, let go and looked at. Each session has a transaction at its end.
-fn draw_script(
+pub fn draw_script(
     alloc: Global,
     seed: u64,
     sessions: [u32; 4],
@@ -426,7 +432,7 @@ fn write_end(script: &mut String, s: u32, way: u64, field: u64) -> Result<(), Al
 }
 
 /// What a run appends to a drawn script: the abort of each session, ascending, and a force of what that leaves.
-fn ending_of(alloc: Global, told: &Told<'_>, sessions: [u32; 4]) -> Result<String, AllocError> {
+pub fn ending_of(alloc: Global, told: &Told<'_>, sessions: [u32; 4]) -> Result<String, AllocError> {
     let mut ending = String::new(alloc);
     for s in 1..33u32 {
         if sessions.contains(&s) {
@@ -439,7 +445,7 @@ fn ending_of(alloc: Global, told: &Told<'_>, sessions: [u32; 4]) -> Result<Strin
 }
 
 /// How many scripts are drawn of each kind.
-const DRAWN: u64 = 12;
+pub const DRAWN: u64 = 12;
 
 /// Plays drawn scripts of these sessions without a stop.
 fn check_whole(rt: &impl Abort, alloc: Global, sessions: [u32; 4]) -> Result<(), Fail> {

@@ -5,6 +5,7 @@ use heap_io::{MemorySink, MemorySource};
 use std::alloc::{AllocError, Global};
 use std::fmt::Debug;
 use std::process::Abort;
+use std::str;
 use std::test::Fail;
 
 /// The bytes of a heap of one page a space.
@@ -396,6 +397,143 @@ fn lines_come_in_any_order(rt: HostRuntime) -> Result<(), Fail> {
         output.push_str("graph 1\n0: - - - -\n")?;
         let played = play(alloc, "heap play --fresh 1", script, Pick::Newest)?;
         expect_done(&rt, &played, output.as_str());
+    }
+    Ok(())
+}
+
+/// Each refusal that a call of a session gives for its words, and those of flushes.
+const REFUSED: &str =
+    "1 root 0\n1 begin\n1 begin\n1 root 64\n1 root 0\n1 put 9 4 4611686018427387904\n1 put 0 4 4611686018427387904\n1 put 0 4 1\n1 new 1 511\n1 len 0\n1 drop 0\n1 len 0\nflush 2\nflush 1\n1 root 0\n1 put 0 3 4611686018427387903\n1 commit\n";
+
+const REFUSED_LINES: &str =
+    "1 root 0 -> notactive\n1 begin -> begun 1\n1 begin -> alreadyactive\n1 root 64 -> badhandle\n1 root 0 -> done\n1 put 9 4 4611686018427387904 -> badhandle\n1 put 0 4 4611686018427387904 -> range\n1 put 0 4 1 -> badfield\n1 new 1 511 -> range\n1 len 0 -> len 4\n1 drop 0 -> done\n1 len 0 -> badhandle\nflush 2 -> nosuchpage\nflush 1 -> clean 1\n1 root 0 -> done\n1 put 0 3 4611686018427387903 -> done\n1 seal -> sealed 1\nforce -> durable 1\ngraph 1\n0: - - - 4611686018427387903\n";
+
+/// Flushes of pages that there are and of others, on a heap of two pages, before and behind a write into the first.
+const FLUSHES: &str =
+    "flush 0\nflush 18446744073709551615\nflush 4294967296\n1 begin\n1 root 0\n1 put 0 0 7\nflush 2\nflush 1\nflush 0\nflush 0\n1 clear 0 0\nflush 0\n1 commit\nflush 0\n";
+
+const FLUSHES_LINES: &str =
+    "flush 0 -> clean 0\nflush 18446744073709551615 -> nosuchpage\nflush 4294967296 -> nosuchpage\n1 begin -> begun 1\n1 root 0 -> done\n1 put 0 0 7 -> done\nflush 2 -> nosuchpage\nflush 1 -> clean 1\nflush 0 -> flushed 0\nflush 0 -> clean 0\n1 clear 0 0 -> done\nflush 0 -> flushed 0\n1 seal -> sealed 1\nforce -> durable 1\nflush 0 -> clean 0\ngraph 1\n0: - - - -\n";
+
+#[test]
+fn refusals_come_in_their_order(rt: HostRuntime) -> Result<(), Fail> {
+    for (script, output) in &[(REFUSED, REFUSED_LINES), (FLUSHES, FLUSHES_LINES)] {
+        let played = play(rt.alloc(), "heap play --fresh 1", script, Pick::Newest)?;
+        expect_done(&rt, &played, output);
+    }
+    Ok(())
+}
+
+/// A reference to a volatile object is stored with its page, and the run stops behind that.
+const VOLATILE_STORED: &str = "1 begin\n1 root 0\n1 new 1 1\n1 link 0 0 1\nforce\nflush 0\n";
+
+const VOLATILE_STORED_LINES: &str =
+    "1 begin -> begun 1\n1 root 0 -> done\n1 new 1 1 -> done\n1 link 0 0 1 -> done\nforce -> durable 0\nflush 0 -> flushed 0\n";
+
+#[test]
+fn a_stored_volatile_word_is_taken_back(rt: HostRuntime) -> Result<(), Fail> {
+    for pick in &PICKS {
+        for line in &[
+            "heap play --fresh 1 --stop 8",
+            "heap play --fresh 1 --stop 8 --again 0",
+            "heap play --fresh 1 --stop 8 --again 3",
+        ] {
+            expect_stopped(
+                &rt,
+                rt.alloc(),
+                line,
+                VOLATILE_STORED,
+                *pick,
+                (VOLATILE_STORED_LINES, "recovered 0\ngraph 1\n0: - - - -\n"),
+            )?;
+        }
+    }
+    Ok(())
+}
+
+/// Nothing but a flush forces what is sealed. The force behind it has nothing to force.
+const SEALED_AND_STORED: &str = "1 begin\n1 root 0\n1 put 0 0 7\n1 seal\nflush 0\nforce\n";
+
+/// What comes behind the seal, where the disk stops: before and in the last sync of the force that the flush makes, at each call of the
+/// store behind it, and at none.
+const STORED_ENDS: [(u64, [&str; 4]); 5] = [
+    (2, [STOPPED_LOST, STOPPED_LOST, STOPPED_LOST, STOPPED_LOST]),
+    (3, [STOPPED_LOST, STOPPED_KEPT, STOPPED_LOST, STOPPED_KEPT]),
+    (4, [STOPPED_KEPT, STOPPED_KEPT, STOPPED_KEPT, STOPPED_KEPT]),
+    (7, [STOPPED_KEPT, STOPPED_KEPT, STOPPED_KEPT, STOPPED_KEPT]),
+    (8, [STORED, STORED, STORED, STORED]),
+];
+
+const STOPPED_LOST: &str = "flush 0 -> stopped\nrecovered 0\ngraph 1\n0: - - - -\n";
+
+const STOPPED_KEPT: &str = "flush 0 -> stopped\nrecovered 1\ngraph 1\n0: 7 - - -\n";
+
+const STORED: &str = "flush 0 -> flushed 0\nforce -> durable 1\nrecovered 1\ngraph 1\n0: 7 - - -\n";
+
+#[test]
+fn a_commit_that_a_flush_forces_comes_back(rt: HostRuntime) -> Result<(), Fail> {
+    let alloc = rt.alloc();
+    for (stop, ends) in &STORED_ENDS {
+        let line = format!(in alloc; "heap play --fresh 1 --stop {stop}")?;
+        for (pick, end) in PICKS.iter().zip(ends.iter()) {
+            expect_stopped(
+                &rt,
+                alloc,
+                line.as_str(),
+                SEALED_AND_STORED,
+                *pick,
+                (BEFORE_FORCE, end),
+            )?;
+        }
+    }
+    Ok(())
+}
+
+/// A page is written and stored four times, and forced before each of that.
+const FORCED_STORES: &str =
+    "1 begin\n1 root 0\n1 put 0 0 1\nforce\nflush 0\n1 put 0 0 2\nforce\nflush 0\n1 put 0 0 3\nforce\nflush 0\n1 put 0 0 4\nforce\nflush 0\n";
+
+/// So is it where the flush has to force.
+const FORCING_STORES: &str =
+    "1 begin\n1 root 0\n1 put 0 0 1\nflush 0\n1 put 0 0 2\nflush 0\n1 put 0 0 3\nflush 0\n1 put 0 0 4\nflush 0\n";
+
+/// After how many writes and syncs a stop is before or behind each store of these scripts, and how many stores it leaves: a force makes four calls,
+/// the first two stores four each, and the others six.
+const STORES_LEFT: [(u64, usize); 8] = [
+    (7, 0),
+    (8, 1),
+    (15, 1),
+    (16, 2),
+    (25, 2),
+    (26, 3),
+    (35, 3),
+    (36, 4),
+];
+
+/// Stops a play after so many calls, behind so many stores.
+fn expect_stores(
+    rt: &impl Abort,
+    alloc: Global,
+    script: &str,
+    (stop, stores): (u64, usize),
+) -> Result<(), AllocError> {
+    let line = format!(in alloc; "heap play --fresh 1 --stop {stop}")?;
+    let played = play(alloc, line.as_str(), script, Pick::Newest)?;
+    let text = str::from_utf8(&played.output).unwrap_or("");
+    let found = text.lines().filter(|line| *line == "flush 0 -> flushed 0");
+    same(rt, (line.as_str(), found.count()), (line.as_str(), stores));
+    // The transaction is never sealed.
+    let undone = text.ends_with("recovered 0\ngraph 1\n0: - - - -\n");
+    same(rt, (line.as_str(), undone), (line.as_str(), true));
+    Ok(())
+}
+
+#[test]
+fn a_store_makes_four_calls_and_six_from_the_third_on(rt: HostRuntime) -> Result<(), Fail> {
+    for script in &[FORCED_STORES, FORCING_STORES] {
+        for left in &STORES_LEFT {
+            expect_stores(&rt, rt.alloc(), script, *left)?;
+        }
     }
     Ok(())
 }

@@ -1,4 +1,4 @@
-use Rattle.std.proofs.Common.{◌≡◌, true, ℕ, ◌+◌, ◌-◌, min, List, ◌++◌, inl, sym, refl, ap, ◌∙◌, subst, arith}
+use Rattle.std.proofs.Common.{◌≡◌, true, ℕ, ◌+◌, min, List, ◌++◌, inl, sym, refl, ap, ◌∙◌, subst}
 use Rattle.std.specs.Prelude.{IsTrue}
 use Rattle.counts.specs.Count.{counted, greatest}
 use Rattle.disk_model.specs.Disk.{Only}
@@ -12,6 +12,7 @@ use Rattle.core_laws.specs.Opened.{opened_reached}
 use Rattle.heap_model.specs.CoreLawsOpened.{saying_law}
 use Rattle.heap_model.specs.Opening.{opened, opening_calls, IsLeftByOpening}
 use Rattle.heap_model.specs.Image.{shaped_image}
+use Rattle.page_store.specs.Gates.{open_gates}
 use Rattle.heap_shell.specs.Headline.{recovered_line, graph_text, Reopens, FailsToOpen}
 use Rattle.heap_shell.specs.Output.{WroteText, commits_since}
 use Rattle.heap_shell.proofs.PlayOpen.{opened_core, opened_unfailed}
@@ -56,10 +57,11 @@ returns-clause-recovers g c = λ tells core k first only same.
     let s = first.stands.super in
     let batches = first.stands.batches in
     let stored = first.stands.stored in
+    let gates = open_gates s.log_bytes (d.bytes c.args.disk) in
     let legal = legal_of first in
     let found = saying_law s batches stored says.legal says.seen says.shows in
     let heap = c.in-Ok.ensures.holds tells s batches stored legal only found.0 found.1 found.2 in
-    let reached = opened_reached s batches stored says.legal.shaped true found.0 found.1 found.2 in
+    let reached = opened_reached s batches stored says.legal.shaped gates true found.0 found.1 found.2 in
     let few = few_commits s batches stored says.legal in
     let count = says.count in
     let since : commits_since c.args.before (min (machine.commits (records_of batches) + 0) greatest) ≡ k = since_before c.args.before core (machine.commits (records_of batches)) k same count first.some few in
@@ -69,7 +71,7 @@ returns-clause-recovers g c = λ tells core k first only same.
     let calls : d.passed final ≡ counted (opening_calls s batches) (d.passed c.args.disk) =
     ap d.passed c.close.ensures ∙ (c.in-Ok.ensures.passes tells s batches stored (shaped_image legal)).ok in
     let last = subst (λ x. Only (d.bytes x) (d.may_leave x)) (sym c.close.ensures) (c.in-Ok.ensures.durable tells only) in
-    let wrote = λ (told : IsTrue sink.tells). c.write_recovered.ensures.wrote told (opened s batches stored true found.0 found.1) heap.core reached in
+    let wrote = λ (told : IsTrue sink.tells). c.write_recovered.ensures.wrote told (opened s batches stored gates true found.0 found.1) heap.core reached in
     recovers_first d core k c.args.disk final keeps (FailsToOpen d core k c.status_after-status.result c.args.disk final) c.write_recovered.result c.status_after-status.result _ _ _ c.status_after-status.ensures calls last
     (λ told. subst (λ (t : List ℕ). WroteText c.write_recovered.result (sink.written c.args.sink.now) (recovered_line k ++ t) (sink.written c.write_recovered.new.sink)) (ap canon_text (found.3 ∙ says.graph))
     (subst (λ (n : ℕ). WroteText c.write_recovered.result (sink.written c.args.sink.now) (recovered_line n ++ graph_text found.1) (sink.written c.write_recovered.new.sink)) since (wrote told)))

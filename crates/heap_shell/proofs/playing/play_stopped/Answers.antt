@@ -1,4 +1,4 @@
-use Rattle.std.proofs.Common.{◌≡◌, ◌≢◌, ◌≤◌, ◌<◌, ◌+◌, ℕ, min, inl, inr, List, [], Some, rules, arith, refl, sym, ap, ◌∙◌, subst}
+use Rattle.std.proofs.Common.{◌≡◌, ◌≢◌, ◌≤◌, ◌<◌, ◌+◌, ℕ, min, inl, inr, true, List, Some, rules, arith, refl, sym, ap, ◌∙◌, subst}
 use Rattle.counts.specs.Count.{Rose, greatest, counted}
 use Rattle.disk_model.specs.Disk.{Only}
 use Rattle.disk_model.specs.Fuse.{fuse_inner, fuse_passed}
@@ -6,12 +6,14 @@ use Rattle.disk_model.specs.KeepsLaws.{rose_until}
 use Rattle.disk_model.specs.Moments.{LeavesOnly, begins}
 use Rattle.heap_core.specs.declared.errors.OpenError.TheVariants as opening
 use Rattle.heap_core.specs.Causes.{ErrorPasses, error_device}
+use Rattle.heap_core.specs.Refinement.{IsHeap}
 use Rattle.heap_core.specs.Refusals as opening_refusals
 use Rattle.heap_model.specs.CoreCrash.{IsCommitPrefix}
 use Rattle.heap_model.specs.CoreLawsRun.{same_run}
 use Rattle.heap_model.specs.CoreRuns.{total_calls}
 use Rattle.heap_model.specs.Image.{IsLegal, Holds, shaped_image}
-use Rattle.heap_model.specs.Opening.{rollback_of}
+use Rattle.heap_model.specs.Opening.{opened, rollback_of}
+use Rattle.page_store.specs.Gates.{open_gates}
 use Rattle.heap_shell.specs.CoreLawsPlay.{all_playable}
 use Rattle.heap_shell.specs.Headline.{IsExact, KeepsThroughout, Reopens, StartsAgain, EndsUnopened, RestartsDisk, starts_asked, PrintsSome, IsOfImage}
 use Rattle.heap_shell.specs.Causes.{Unharmed}
@@ -20,7 +22,6 @@ use Rattle.heap_shell.specs.StatusOf.{open_status, halt_status}
 use Rattle.heap_shell.specs.Stored.{stored_core, stored_calls}
 use Rattle.script_text.specs.Line.{events}
 use Rattle.heap_shell.proofs.Causes.{rose_within}
-use Rattle.heap_shell.proofs.Counts.{counted_mono}
 use Rattle.heap_shell.proofs.PlayEnds.{run_reached, kept, halt_part, halt_lines, stopped_lines, ends_early, ends_recovered, ends_made, exact_some, passes_some, passes_within}
 use Rattle.heap_shell.proofs.PlayFuse.{same_disk, same_limit, rose_some, fuse_since, fuse_passes, fuse_none, fuse_most, fuse_steps_of}
 use Rattle.heap_shell.proofs.PlayOpen.{opening_then, few_calls, stored_running, stored_keeps, stored_moments, ends_unopened, ends_stopped, unstarted, opened_core}
@@ -123,7 +124,7 @@ returns-in-None-clause-played g c tells stored only =
     let only_f = subst (λ x. Only (d.bytes x) (d.may_leave x)) (sym inner) only in
     let running = stored_running d stored in
     let playable = all_playable (Some c.args.stop.after) first c.args.script.now c.requires in
-    let heap = e.holds tells s batches stored.pages legal only_f stored.places stored.graph stored.found in
+    let heap = subst (λ x. IsHeap s (opened s batches stored.pages (open_gates s.log_bytes (d.bytes x)) true stored.places stored.graph) old) inner (e.holds tells s batches stored.pages legal only_f stored.places stored.graph stored.found) in
     let plays = c.play_lines-played.ensures.plays tells s first heap running in
     let keep = kept s first running refl es playable old new k.tells before after c.play_lines-played.result plays in
     let stopped = fuse_inner new.disk in
@@ -205,7 +206,7 @@ returns-in-Some-clause-played g c tells stored only =
     let only_f = subst (λ x. Only (d.bytes x) (d.may_leave x)) (sym inner) only in
     let running = stored_running d stored in
     let playable = all_playable (Some c.args.stop.after) first c.args.script.now c.requires in
-    let heap = e.holds tells s batches stored.pages legal only_f stored.places stored.graph stored.found in
+    let heap = subst (λ x. IsHeap s (opened s batches stored.pages (open_gates s.log_bytes (d.bytes x)) true stored.places stored.graph) old) inner (e.holds tells s batches stored.pages legal only_f stored.places stored.graph stored.found) in
     let plays = c.play_lines-played.ensures.plays tells s first heap running in
     let keep = kept s first running refl es playable old new k.tells before after c.play_lines-played.result plays in
     let final = fuse_inner new.disk in

@@ -1,4 +1,4 @@
-use Rattle.std.proofs.Common.{◌≡◌, ◌+◌, ◌≤◌, ℕ, inl, [], None, Ok, Err, refl, sym, ap, ◌∙◌, subst, arith}
+use Rattle.std.proofs.Common.{◌≡◌, ◌+◌, ◌≤◌, ℕ, inl, None, Ok, Err, refl, sym, ap, ◌∙◌, subst, arith}
 use Rattle.counts.specs.Count.{counted}
 use Rattle.heap_model.specs.Image.{shaped_image}
 use Rattle.heap_shell.specs.declared.play.Halt.{Halt}

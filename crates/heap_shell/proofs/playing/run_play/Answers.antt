@@ -1,14 +1,13 @@
-use Rattle.std.proofs.Common.{◌≡◌, inl, inr, ⊎_elim, ℕ, List, Some, None, Ok, sym, ap, ◌∙◌, subst}
+use Rattle.std.proofs.Common.{◌≡◌, inr, ℕ, List, Some, None, Ok, sym, ap, ◌∙◌, subst}
 use Rattle.script_text.specs.declared.line.Line.{Line}
-use Rattle.heap_core.specs.declared.errors.FormatError.{FormatError}
-use Rattle.heap_shell.specs.CoreLawsPlay.{made_limits, script_is}
+use Rattle.heap_shell.specs.CoreLawsPlay.{script_is}
 use Rattle.heap_model.specs.Ending.{all_events}
 use Rattle.script_text.specs.Line.{events}
-use Rattle.heap_shell.specs.Headline.{made_super, PrintsRun, stop_after, IsPlayed, made_core}
+use Rattle.heap_shell.specs.Headline.{made_super, stop_after, IsPlayed, made_core}
 use Rattle.heap_shell.specs.Playable.{IsScript, IsReadFrom}
 use Rattle.heap_shell.proofs.PlayOpen.{new_stored, no_calls}
 use Rattle.heap_shell.proofs.PlayPrints.{prints_script}
-use Rattle.heap_shell.proofs.RunLaws.{large_made, format_not_done, not_made, not_read, restarts_none, end_sound}
+use Rattle.heap_shell.proofs.RunLaws.{large_made, not_read, end_sound}
 use Rattle.heap_shell.proofs.RefusalLaws.{input_told_each, alone_untouched}
 use Rattle.heap_shell.proofs.playing.run_play.Goals as goal
 
@@ -39,14 +38,15 @@ returns-in-Ok-format-clause-headline g c tells only =
     let made = e.made tells in
     let stored = new_stored pages (d.bytes c.in-Ok-format.disk) made.0 in
     let played = c.play_script-in-Ok-format.ensures.played tells stored made.1 in
-    let es = all_events (stop_after c.args.stop) (made_core pages) (events lines) in
+    let first = made_core pages (d.bytes c.in-Ok-format.disk) in
+    let es = all_events (stop_after c.args.stop) first (events lines) in
     rw c.in-Some.is (inr (record {
       made = c.in-Ok-format.disk;
       format = record { moments = e.moments tells only; empty = made.0; zeros = e.empty tells; kept = e.outside tells; outside = e.moments_outside tells only; only = made.1; passed = (e.passes tells (large_made _ _ e.small)).ok; restarts = e.disk.restarts tells };
       plays = record {
         lines = lines;
         script = record { bytes = read.0; script = read.1 ∙ ap (λ (ls : List Line). Ok ls) (sym c.deref-in-Ok-format.ensures.value); own = read.2 };
-        played = subst (λ (n : ℕ). IsPlayed d c.args.stop n (made_core pages) es c.in-Ok-format.disk final.1 final.0 k.tells (k.written c.args.sink.now) (k.written c.play_script-in-Ok-format.new.sink)) (no_calls (made_super pages)) played;
+        played = subst (λ (n : ℕ). IsPlayed d c.args.stop n first es c.in-Ok-format.disk final.1 final.0 k.tells (k.written c.args.sink.now) (k.written c.play_script-in-Ok-format.new.sink)) (no_calls (made_super pages)) played;
       };
     }))
 
@@ -88,7 +88,7 @@ returns-in-None-clause-prints g c tells =
     let read = c.in-Ok.ensures.script in
     let k = g.K.Sink in
     prints_script (IsReadFrom g.S.Source.tells (g.S.Source.left c.args.source.now)) (stop_after c.args.stop) c.deref.result.now c.play_script.result.0 (k.written c.args.sink.now) (k.written c.play_script.new.sink)
-    (record { bytes = read.0; script = read.1 ∙ ap (λ (ls : List Line). Ok ls) (sym c.deref.ensures.value); own = read.2 }) (λ s batches stored own none. own) (c.play_script.ensures.prints tells)
+    (record { bytes = read.0; script = read.1 ∙ ap (λ (ls : List Line). Ok ls) (sym c.deref.ensures.value); own = read.2 }) (λ s batches stored gates own none. own) (c.play_script.ensures.prints tells)
 
 -- or that of the heap that was made
 pub returns-in-Ok-format-clause-prints : goal.returns-in-Ok-format-clause-prints
@@ -97,4 +97,4 @@ returns-in-Ok-format-clause-prints g c tells =
     let k = g.K.Sink in
     prints_script (IsReadFrom g.S.Source.tells (g.S.Source.left c.args.source.now)) (stop_after c.args.stop) c.deref-in-Ok-format.result.now c.play_script-in-Ok-format.result.0 (k.written c.args.sink.now) (k.written c.play_script-in-Ok-format.new.sink)
     (record { bytes = read.0; script = read.1 ∙ ap (λ (ls : List Line). Ok ls) (sym c.deref-in-Ok-format.ensures.value); own = read.2 })
-    (λ s batches stored own none. let never : None ≡ Some c.in-Some.pages = sym none ∙ c.in-Some.is in cc never) (c.play_script-in-Ok-format.ensures.prints tells)
+    (λ s batches stored gates own none. let never : None ≡ Some c.in-Some.pages = sym none ∙ c.in-Some.is in cc never) (c.play_script-in-Ok-format.ensures.prints tells)

@@ -1,12 +1,12 @@
-use Rattle.std.proofs.Common.{◌≡◌, inl, inr, ℕ, List, arith, refl, sym, ap, ◌∙◌, subst}
+use Rattle.std.proofs.Common.{◌≡◌, inr, arith, refl}
 use Rattle.counts.specs.Count.{counted}
-use Rattle.disk_model.specs.Moments.{LeavesOnly}
 use Rattle.graph_model.specs.Transaction.{serial}
 use Rattle.graph_model.specs.History.{sealed}
 use Rattle.core_laws.specs.Opened.{opened_reached}
-use Rattle.heap_model.specs.Opening.{opened, opening_calls, IsLeftByOpening}
-use Rattle.heap_shell.specs.Headline.{IsEndOfPlay, graph_text}
-use Rattle.heap_shell.proofs.PlayOpen.{opened_core, opened_unfailed}
+use Rattle.heap_model.specs.Opening.{opened, opening_calls}
+use Rattle.page_store.specs.Gates.{open_gates}
+use Rattle.heap_shell.specs.Headline.{graph_text}
+use Rattle.heap_shell.proofs.PlayOpen.{opened_core}
 use Rattle.heap_shell.proofs.PrintRecovered.{fails_most}
 use Rattle.heap_shell.proofs.RefusalLaws.{told_status, told_each, end_told, end_told_each, refused_by, not_opened, only_read, alone_read, fault_moments}
 use Rattle.heap_shell.proofs.Statuses.{open_end, open_not_done, written_end, wrote_all}
@@ -19,9 +19,10 @@ returns-in-Ok-clause-graph g c tells only s batches stored shaped born places gr
     let d = g.D.Disk in
     let k = g.K.Sink in
     let e = c.in-Ok.ensures in
-    let core = opened s batches stored born places graph in
+    let gates = open_gates s.log_bytes (d.bytes c.args.disk) in
+    let core = opened s batches stored gates born places graph in
     let is = e.found tells s batches stored shaped born places graph found in
-    let reached = opened_reached s batches stored shaped.log born places graph found in
+    let reached = opened_reached s batches stored shaped.log gates born places graph found in
     let before = k.written c.args.sink.now in
     let after = k.written c.write_graph.new.sink in
     let passed : d.passed c.in-Ok.heap.disk ≡ counted (opening_calls s batches) (d.passed c.args.disk) = (e.passes tells s batches stored shaped).ok in

@@ -1,5 +1,5 @@
 use Rattle.std.proofs.Common.{rules}
-use Rattle.heap_shell.proofs.Written.{wrote_nothing, wrote_front}
+use Rattle.heap_shell.proofs.Written.{wrote_front}
 use Rattle.heap_shell.proofs.printing.write_size.Goals as goal
 
 pub returns-in_err-put_all-clause-wrote : goal.returns-in_err-put_all-clause-wrote

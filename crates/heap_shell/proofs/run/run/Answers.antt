@@ -1,4 +1,4 @@
-use Rattle.std.proofs.Common.{◌≡◌, inl, ℕ, List, Option, Some, None, Err, refl, sym, ap, ◌∙◌, subst}
+use Rattle.std.proofs.Common.{◌≡◌, ℕ, Option, Some, None, Err, sym, ap, ◌∙◌, subst}
 use Rattle.std.specs.Prelude.{IfSome}
 use Rattle.command_words.specs.declared.commands.Command.TheVariants as asked
 use Rattle.command_words.specs.declared.commands.CommandError.{CommandError}
@@ -8,7 +8,6 @@ use Rattle.command_words.specs.Limits.{IsPages, IsWithin}
 use Rattle.heap_core.specs.Format.{heap_of}
 use Rattle.heap_model.specs.CoreLawsOpened.{address_found}
 use Rattle.heap_shell.specs.Commands.{makes, restarts_of, CanRun}
-use Rattle.heap_shell.specs.CrashSafe.{RunsSafely}
 use Rattle.heap_shell.specs.Headline.{made_super}
 use Rattle.heap_shell.proofs.CommandLaws.{same_play, graph_unread, play_ends, unread_ends, format_told_each, format_sound, no_stop, not_made}
 use Rattle.heap_shell.proofs.RefusalLaws.{alone_untouched}
