@@ -4,7 +4,7 @@
     bench/commits.py [--quick] [N]
 
 N is the number of commits of one write each, 1,000 if it is left out. Both write into a file of one temporary folder (TMPDIR), which has its
-full size before. The program writes a line for each reply besides: they go to /dev/null, and in a second run to a file. Each is run five times, in
+full size before. The program writes a line for each reply besides: they go to /dev/null, and in a second run to a file. Each is run 15 times, in
 turn, and the least time counts; the time of a run on an empty script is taken off. It needs gcc.
 Openings are timed by the processor time of the program, which other work on the machine changes least. With --quick the program is that which is
 compiled with nothing proved; it has checks at each step, and is many times slower where it computes.
@@ -19,7 +19,7 @@ import time
 TOP = os.path.dirname(os.path.dirname(os.path.realpath(__file__)))
 QUICK = sys.argv[1:2] == ["--quick"]
 PROGRAM = os.path.join(TOP, ".build", *["quick"] * QUICK, "heap_shell")
-RUNS = 5
+RUNS = 15
 
 
 def run(words, text="", replies="output"):
