@@ -91,6 +91,7 @@ example abort.out abort.script
 example refusals.out refusals.script
 example force_inside.out force_inside.script
 example rolled_back.out force_inside.script --stop 8
+example flush.out flush.script
 example stopped_twice.out unended.script --stop 7 --again 2
 example list.out list.script
 example list_stopped.out list.script --stop 6
