@@ -4,8 +4,6 @@
 mod commands;
 mod grammar;
 mod read;
-#[cfg(test)]
-mod tests;
 
 pub use commands::{Command, CommandError, Numbers, Stop};
 pub use read::read_command;

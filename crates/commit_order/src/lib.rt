@@ -18,6 +18,3 @@ mod reading;
 
 pub use commit_list::{Commit, CommitList};
 pub use history::History;
-
-#[cfg(test)]
-mod tests;

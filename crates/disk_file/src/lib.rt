@@ -5,6 +5,3 @@ mod file_disk;
 mod real_file;
 
 pub use file_disk::{FileDisk, SIZE};
-
-#[cfg(test)]
-mod tests;

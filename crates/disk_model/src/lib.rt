@@ -8,6 +8,3 @@ mod memory;
 pub use disk::{Disk, DiskError};
 pub use fuse::FuseDisk;
 pub use memory::{MemoryDisk, Pick, UnknownPick};
-
-#[cfg(test)]
-mod tests;

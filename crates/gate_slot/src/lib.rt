@@ -64,6 +64,3 @@ pub fn fill_and_open<D: Disk>(
     disk.write(gate, &[OPEN])?;
     disk.sync()
 }
-
-#[cfg(test)]
-mod tests;

@@ -509,6 +509,3 @@ fn read_records(alloc: Global, bytes: &[u8], into: &mut Vec<Record>) -> Result<b
     }
     Ok(true)
 }
-
-#[cfg(test)]
-mod tests;

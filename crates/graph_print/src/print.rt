@@ -113,6 +113,3 @@ fn push_field<W: Words>(
     }
     Ok(true)
 }
-
-#[cfg(test)]
-mod tests;

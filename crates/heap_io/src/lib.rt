@@ -16,6 +16,3 @@ pub use sink::{Sink, SinkFailed};
 pub use source::{Source, SourceFailed};
 pub use standard::{StdSink, StdSource};
 pub use writing::put_all;
-
-#[cfg(test)]
-mod tests;

@@ -6,6 +6,3 @@ mod superblock;
 
 pub use plan::{LEAST_LOG, MOST_LOG, MOST_PAGES, Plan, SUPER_BYTES};
 pub use superblock::{Super, read_super, write_super};
-
-#[cfg(test)]
-mod tests;

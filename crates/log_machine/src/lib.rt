@@ -25,6 +25,3 @@ pub struct UndoEntry {
     /// The word that stood in the field.
     pub was: u64,
 }
-
-#[cfg(test)]
-mod tests;

@@ -101,6 +101,3 @@ pub fn length(rec: &Record) -> u64
         Record::End { .. } => END_BYTES as u64,
     }
 }
-
-#[cfg(test)]
-mod tests;

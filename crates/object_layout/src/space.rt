@@ -140,6 +140,3 @@ fn is_inside(starts: &[u32], word: u64) -> bool
         Some(Word::Volatile(_)) | None => false,
     }
 }
-
-#[cfg(test)]
-mod tests;

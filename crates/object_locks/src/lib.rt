@@ -9,6 +9,3 @@ mod lock_table;
 pub use holding::{Holding, Key, Mode};
 pub use lock_error::LockError;
 pub use lock_table::LockTable;
-
-#[cfg(test)]
-mod tests;

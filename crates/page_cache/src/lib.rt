@@ -5,6 +5,3 @@ mod cache;
 mod cached;
 
 pub use cache::PageCache;
-
-#[cfg(test)]
-mod tests;

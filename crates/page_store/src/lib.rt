@@ -7,6 +7,3 @@ mod store;
 
 pub use frame::{Frame, PAGE_WORDS, StoredPage};
 pub use store::{OpenError, PageStore};
-
-#[cfg(test)]
-mod tests;

@@ -5,10 +5,6 @@ mod line;
 mod number;
 mod output;
 mod script;
-#[cfg(test)]
-mod slow_heap_tests;
-#[cfg(test)]
-mod tests;
 
 pub use line::Line;
 pub use number::read_number;

@@ -8,6 +8,3 @@ mod sealing;
 mod written;
 
 pub use sealing::Sealing;
-
-#[cfg(test)]
-mod tests;

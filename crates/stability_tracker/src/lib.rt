@@ -5,6 +5,3 @@ mod search;
 mod tracker;
 
 pub use tracker::promotion;
-
-#[cfg(test)]
-mod tests;

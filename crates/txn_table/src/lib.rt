@@ -8,6 +8,3 @@ mod txn_table;
 pub use place::Place;
 pub use transaction::HANDLES;
 pub use txn_table::{SESSIONS, TxnTable};
-
-#[cfg(test)]
-mod tests;

@@ -6,6 +6,3 @@ mod area_error;
 
 pub use area::Area;
 pub use area_error::AreaError;
-
-#[cfg(test)]
-mod tests;

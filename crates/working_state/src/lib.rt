@@ -15,6 +15,3 @@ mod seal;
 mod working;
 
 pub use working::{Working, refused};
-
-#[cfg(test)]
-mod tests;

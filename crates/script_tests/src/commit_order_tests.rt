@@ -1,0 +1,90 @@
+//! The commits that a history tells of, in the order of their seals.
+use commit_order::History;
+use graph_model::{Event, Refusal, Reply};
+use std::process::Abort;
+use std::test::Fail;
+
+fn told(rt: &(impl Abort + AllocGlobal), entries: &[(Event, Reply)]) -> Result<History, Fail> {
+    let mut history = History::new(rt.alloc());
+    for (event, reply) in entries {
+        history.reserve(1)?;
+        history.push(*event, *reply);
+    }
+    assert_eq!(rt; history.len(), entries.len());
+    Ok(history)
+}
+
+// The commits, by the number of each and how many calls it has.
+fn compare(
+    rt: &(impl Abort + AllocGlobal),
+    history: &History,
+    want: &[(u64, usize)],
+) -> Result<(), Fail> {
+    let list = history.commits()?;
+    assert_eq!(rt; list.as_slice().len(), want.len());
+    for (commit, (number, calls)) in list.as_slice().iter().zip(want) {
+        assert_eq!(rt; commit.number(), *number);
+        assert_eq!(rt; commit.calls().len(), *calls);
+    }
+    Ok(())
+}
+
+#[test]
+fn commits_are_told_in_the_order_of_their_seals(rt: HostRuntime) -> Result<(), Fail> {
+    let root = |s: u32| (Event::Root { s, h: 0 }, Reply::Done);
+    let read = |s: u32| (
+        Event::Get {
+            s,
+            h: 0,
+            i: 0,
+            h2: 1,
+        },
+        Reply::Null,
+    );
+    let put = |s: u32, reply: Reply| (
+        Event::Put {
+            s,
+            h: 0,
+            i: 0,
+            v: 7,
+        },
+        reply,
+    );
+    let busy = Reply::Refused {
+        why: Refusal::Busy { holder: 5 },
+    };
+    let history = told(
+        &rt,
+        &[
+            (Event::Begin { s: 1 }, Reply::Begun { n: 5 }),
+            root(1),
+            (Event::Begin { s: 2 }, Reply::Begun { n: 6 }),
+            root(2),
+            read(1),
+            put(2, busy),
+            (Event::Begin { s: 32 }, Reply::Begun { n: 7 }),
+            read(2),
+            (Event::Seal { s: 2 }, Reply::Sealed { n: 1 }),
+            put(1, Reply::Done),
+            (Event::Force, Reply::Durable { n: 1 }),
+            (Event::Abort { s: 32 }, Reply::Aborted),
+            (Event::Seal { s: 1 }, Reply::Sealed { n: 2 }),
+            (Event::Begin { s: 1 }, Reply::Begun { n: 8 }),
+            (
+                Event::Seal { s: 1 },
+                Reply::Refused {
+                    why: Refusal::Stopped,
+                },
+            ),
+            (
+                Event::Seal { s: 1 },
+                Reply::Refused {
+                    why: Refusal::Failed { entry: 15 },
+                },
+            ),
+        ],
+    )?;
+    compare(&rt, &history, &[(6, 2), (5, 3), (8, 0)])?;
+    assert_eq!(&rt; history.acked(), 1);
+    Ok(())
+}

@@ -1,0 +1,170 @@
+//! Records byte by byte, one of each kind, and bytes that are none.
+use byteorder::{ByteOrder, LittleEndian};
+use log_records::{ObjectWords, Record, decode, encode, length};
+use std::alloc::{AllocError, Global};
+use std::test::Fail;
+
+/// A record of each kind: transaction 1 writes the number 7 where null stood; its second object, of two fields, one null and
+/// one a reference to the root, comes to stand at address 262; a field refers to it from then on; the number is put back into
+/// field 2; and transaction 1 is committed, and has ended. The last three are an object without fields, and records of numbers
+/// that no transaction has.
+fn records(alloc: Global) -> Result<[Record; 9], AllocError> {
+    let two_fields = [9, 1 << 32 | 2, 0, 2];
+    let no_fields = [1, 0];
+    Ok([
+        Record::Update {
+            t: 1,
+            object: 0,
+            field: 0,
+            was: 0,
+            word: 29,
+        },
+        Record::Base {
+            t: 1,
+            address: 262,
+            words: ObjectWords::new(Vec::from_array(alloc, two_fields)?),
+        },
+        Record::Fix {
+            t: 1,
+            object: 0,
+            field: 3,
+            word: 1050,
+        },
+        Record::Undo {
+            t: 1,
+            object: 0,
+            field: 2,
+            word: 29,
+        },
+        Record::Commit { t: 1 },
+        Record::End { t: 1 },
+        Record::Base {
+            t: 0,
+            address: u32::MAX,
+            words: ObjectWords::new(Vec::from_array(alloc, no_fields)?),
+        },
+        Record::Commit { t: 0 },
+        Record::End { t: u32::MAX },
+    ])
+}
+
+/// Their bytes. Those of the `Update`, the `Base`, the `Fix` and the `Commit` stand in `docs/FORMATS.md` too.
+const SPELLINGS: [&[u8]; 9] = [
+    &[
+        1, 1, 0, 0, 0, 0, 0, 0, 0, 0, 0, 0, 0, 0, 0, 0, 0, 0, 0, 29, 0, 0, 0, 0, 0, 0, 0,
+    ],
+    &[
+        2, 1, 0, 0, 0, 6, 1, 0, 0, 9, 0, 0, 0, 0, 0, 0, 0, 2, 0, 0, 0, 1, 0, 0, 0, 0, 0, 0, 0, 0,
+        0, 0, 0, 2, 0, 0, 0, 0, 0, 0, 0,
+    ],
+    &[3, 1, 0, 0, 0, 0, 0, 0, 0, 3, 0, 26, 4, 0, 0, 0, 0, 0, 0],
+    &[4, 1, 0, 0, 0, 0, 0, 0, 0, 2, 0, 29, 0, 0, 0, 0, 0, 0, 0],
+    &[5, 1, 0, 0, 0],
+    &[6, 1, 0, 0, 0],
+    &[
+        2, 0, 0, 0, 0, 255, 255, 255, 255, 1, 0, 0, 0, 0, 0, 0, 0, 0, 0, 0, 0, 0, 0, 0, 0,
+    ],
+    &[5, 0, 0, 0, 0],
+    &[6, 255, 255, 255, 255],
+];
+
+/// Bytes that begin with no record: kinds that are none; and the word 3 * 2^60, which no field has, at each word of an
+/// `Update`, at that of an `Undo`, at that of a `Fix`, and at a field of a `Base`; and a `Base` whose header is one of a moved
+/// object, and one of 511 fields.
+const NO_RECORDS: [&[u8]; 11] = [
+    &[],
+    &[0, 1, 0, 0, 0],
+    &[
+        7, 1, 0, 0, 0, 1, 0, 0, 0, 1, 0, 0, 0, 0, 0, 0, 0, 0, 0, 0, 0, 0, 0, 0, 0,
+    ],
+    &[10],
+    &[
+        1, 1, 0, 0, 0, 0, 0, 0, 0, 0, 0, 0, 0, 0, 0, 0, 0, 0, 48, 29, 0, 0, 0, 0, 0, 0, 0,
+    ],
+    &[
+        1, 1, 0, 0, 0, 0, 0, 0, 0, 0, 0, 0, 0, 0, 0, 0, 0, 0, 0, 0, 0, 0, 0, 0, 0, 0, 48,
+    ],
+    &[4, 1, 0, 0, 0, 0, 0, 0, 0, 2, 0, 0, 0, 0, 0, 0, 0, 0, 48],
+    &[3, 1, 0, 0, 0, 0, 0, 0, 0, 2, 0, 0, 0, 0, 0, 0, 0, 0, 48],
+    &[
+        2, 1, 0, 0, 0, 6, 0, 0, 0, 5, 0, 0, 0, 0, 0, 0, 0, 2, 0, 0, 0, 1, 0, 0, 0, 0, 0, 0, 0, 0,
+        0, 0, 48,
+    ],
+    &[
+        2, 1, 0, 0, 0, 6, 0, 0, 0, 2, 0, 0, 0, 0, 0, 0, 0, 2, 0, 0, 0, 1, 0, 0, 0,
+    ],
+    &[
+        2, 1, 0, 0, 0, 6, 0, 0, 0, 253, 7, 0, 0, 0, 0, 0, 0, 2, 0, 0, 0, 1, 0, 0, 0,
+    ],
+];
+
+#[test]
+fn spelled_and_read_again(rt: HostRuntime) -> Result<(), Fail> {
+    let alloc = rt.alloc();
+    let twice = records(alloc)?.into_iter().zip(records(alloc)?);
+    for ((record, again), bytes) in twice.zip(SPELLINGS) {
+        let mut spelled = Vec::new(alloc);
+        encode(&record, &mut spelled)?;
+        assert_eq!(rt; spelled.as_slice(), bytes);
+        assert_eq!(rt; length(&record), bytes.len() as u64);
+        assert_eq!(rt; decode(alloc, bytes)?, Some((again, bytes.len())));
+        encode(&record, &mut spelled)?;
+        assert_eq!(rt;
+            decode(alloc, &spelled)?,
+            Some((record, bytes.len())),
+            "with bytes behind it"
+        );
+    }
+    Ok(())
+}
+
+#[test]
+fn refused(rt: HostRuntime) -> Result<(), Fail> {
+    let alloc = rt.alloc();
+    for bytes in NO_RECORDS {
+        assert_eq!(rt; decode(alloc, bytes)?, None, "{bytes:?}");
+    }
+    for bytes in SPELLINGS {
+        for end in 0..bytes.len() {
+            assert_eq!(rt;
+                decode(alloc, &bytes[..end])?,
+                None,
+                "cut off at {end}: {bytes:?}"
+            );
+        }
+    }
+    Ok(())
+}
+
+/// The byte that a `Base` begins with.
+const BASE: u8 = 2;
+
+/// Headers of 0, 1, 510, 511 and 600 fields, and the bytes of the `Base` that begins so, if there is one.
+const HEADERS: [(u16, Option<usize>); 5] = [
+    (1, Some(25)),
+    (5, Some(33)),
+    (2041, Some(4105)),
+    (2045, None),
+    (2401, None),
+];
+
+#[test]
+fn as_many_words_as_the_header_tells(rt: HostRuntime) -> Result<(), Fail> {
+    let alloc = rt.alloc();
+    for (header, expected) in HEADERS {
+        let mut bytes = vec![in alloc; 0u8; 5000]?;
+        bytes[0] = BASE;
+        LittleEndian::write_u16(&mut bytes[9..], header);
+        let size = decode(alloc, &bytes)?.map(|found| found.1);
+        assert_eq!(rt; size, expected, "{header}");
+    }
+    Ok(())
+}
+
+#[test]
+fn the_words_of_an_object(rt: HostRuntime) -> Result<(), Fail> {
+    let words = ObjectWords::new(Vec::from_array(rt.alloc(), [5, 2, 0])?);
+    assert_eq!(rt; words.as_slice(), [5, 2, 0].as_slice());
+    assert_eq!(rt; words.into_vec().as_slice(), [5, 2, 0].as_slice());
+    Ok(())
+}

@@ -1,0 +1,271 @@
+//! Records on pages some of which are stored as they go on: an opening and redo give what a plain replay gives.
+ghost use Rattle.std.specs.Prelude.{◌+◌, ◌<◌, length, IfOk};
+ghost use Rattle.log_machine.specs.Effect.{WritesBelow, EachWritesBelow};
+
+use disk_model::{Disk, MemoryDisk, Pick};
+use image_plan::Plan;
+use log_records::{ObjectWords, Record};
+use page_cache::PageCache;
+use std::alloc::{AllocError, Global};
+use std::process::Abort;
+use std::test::Fail;
+
+/// A heap of two pages a space, so four pages of 256 words in all, with 64 bytes of log.
+const PLAN: Plan = Plan {
+    pages: 2,
+    log_bytes: 64,
+};
+
+fn update(object: u32, field: u16, word: u64) -> Record
+    requires { object + 2 + field < 256 }
+    ensures { WritesBelow 256 result }
+{
+    Record::Update {
+        t: 1,
+        object,
+        field,
+        was: 0,
+        word,
+    }
+}
+
+fn fix(object: u32, field: u16, word: u64) -> Record
+    requires { object + 2 + field < 256 }
+    ensures { WritesBelow 256 result }
+{
+    Record::Fix {
+        t: 1,
+        object,
+        field,
+        word,
+    }
+}
+
+fn undo(object: u32, field: u16, word: u64) -> Record
+    requires { object + 2 + field < 256 }
+    ensures { WritesBelow 256 result }
+{
+    Record::Undo {
+        t: 1,
+        object,
+        field,
+        word,
+    }
+}
+
+/// An object whose fields lie on pages 0 and 1.
+fn base(alloc: Global, word: u64) -> Result<Record, AllocError>
+    ensures { IfOk result (λ rec. WritesBelow 256 rec) }
+{
+    let words = vec![in alloc; 17, 7, word, word, word, word]?;
+    Ok(Record::Base {
+        t: 1,
+        address: 60,
+        words: ObjectWords::new(words),
+    })
+}
+
+/// Records that touch pages 0, 0 and 1, none, 1, 0, 1, 1, 3 and none.
+fn records(alloc: Global) -> Result<Vec<Record>, AllocError>
+    ensures { IfOk result (λ found. EachWritesBelow 256 found.items) }
+{
+    let mut records = Vec::new(alloc);
+    records.push(update(0, 0, 5))?;
+    records.push(base(alloc, 9)?)?;
+    records.push(Record::Commit { t: 1 })?;
+    records.push(update(60, 3, 13))?;
+    records.push(update(0, 3, 17))?;
+    records.push(fix(60, 2, 21))?;
+    records.push(undo(60, 3, 9))?;
+    records.push(update(200, 53, 25))?;
+    records.push(Record::End { t: 1 })?;
+    Ok(records)
+}
+
+/// After how many records which page is flushed, and the LSNs with which the pages are then stored.
+type Row = ([(u64, u32); 3], [u64; 4]);
+
+/// No page is stored; one is, of the two that a record touches; each of them at another time; some after their last record, some
+/// before it; all are stored as they are; one is stored twice.
+const ROWS: [Row; 6] = [
+    ([(0, 0), (0, 0), (0, 0)], [0, 0, 0, 0]),
+    ([(2, 0), (0, 0), (0, 0)], [2, 0, 0, 0]),
+    ([(2, 1), (5, 0), (0, 0)], [5, 2, 0, 0]),
+    ([(1, 0), (4, 1), (9, 3)], [1, 4, 0, 8]),
+    ([(9, 0), (9, 1), (9, 3)], [5, 7, 0, 8]),
+    ([(2, 0), (5, 0), (7, 1)], [5, 7, 0, 0]),
+];
+
+/// Stores page `p` as it is now.
+fn flush(
+    rt: &impl Abort,
+    cache: &mut PageCache,
+    disk: &mut MemoryDisk,
+    p: u32,
+    forced: u64,
+) -> Result<(), Fail> {
+    assert!(rt; p < cache.pages() && disk.size() >= cache.plan().size());
+    assert!(rt; cache.dirty(p) && !cache.failed());
+    assert!(rt; cache.lsn(p) <= forced);
+    cache.flush(disk, p, forced)?;
+    assert!(rt; p < cache.pages());
+    assert!(rt; !cache.dirty(p));
+    Ok(())
+}
+
+/// Puts the records on the pages of the disk one after another, and stores some of these pages as they go on.
+fn play(
+    rt: &impl Abort,
+    alloc: Global,
+    disk: &mut MemoryDisk,
+    records: &[Record],
+    flushes: [(u64, u32); 3],
+) -> Result<(), Fail>
+    requires { EachWritesBelow 256 records.now }
+{
+    assert!(rt; disk.size() >= PLAN.size());
+    let mut cache = PageCache::open(alloc, disk, PLAN)?;
+    for (i, rec) in records.iter().enumerate() {
+        let lsn = i as u64 + 1;
+        assert!(rt; cache.as_slice().len() == 256);
+        match cache.first_past(i as u64) {
+            None => cache.apply(lsn, rec),
+            Some(p) => panic!(rt; "page {p} is ahead of record {i}"),
+        }
+        for (at, p) in flushes {
+            if at == lsn {
+                flush(rt, &mut cache, disk, p, lsn)?;
+            }
+        }
+    }
+    Ok(())
+}
+
+/// The first pages past LSNs 0, 4, 6, 7 and 8.
+fn firsts_past(cache: &PageCache) -> [Option<u32>; 5] {
+    [
+        cache.first_past(0),
+        cache.first_past(4),
+        cache.first_past(6),
+        cache.first_past(7),
+        cache.first_past(8),
+    ]
+}
+
+/// The LSNs of the four pages.
+fn lsns(rt: &impl Abort, cache: &PageCache) -> [u64; 4] {
+    assert!(rt; cache.pages() == 4);
+    [cache.lsn(0), cache.lsn(1), cache.lsn(2), cache.lsn(3)]
+}
+
+/// Opens the pages, which have these LSNs, and redoes the records on them.
+fn redone(
+    rt: &impl Abort,
+    alloc: Global,
+    disk: &mut MemoryDisk,
+    records: &[Record],
+    stored: [u64; 4],
+) -> Result<PageCache, Fail>
+    requires { EachWritesBelow 256 records.now }
+{
+    assert!(rt; disk.size() >= PLAN.size());
+    let mut cache = PageCache::open(alloc, disk, PLAN)?;
+    assert_eq!(rt; lsns(rt, &cache), stored);
+    assert!(rt; cache.as_slice().len() == 256 && records.len() < 99);
+    cache.redo_all(1, records);
+    Ok(cache)
+}
+
+/// Puts a word at an address.
+fn put(words: &mut [u64], at: usize, word: u64) {
+    if let Some(place) = words.get_mut(at) {
+        *place = word;
+    }
+}
+
+/// Puts a record's words, whatever the pages have.
+fn replay_one(words: &mut [u64], rec: &Record) {
+    match rec {
+        Record::Update {
+            object,
+            field,
+            word,
+            ..
+        }
+        | Record::Fix {
+            object,
+            field,
+            word,
+            ..
+        }
+        | Record::Undo {
+            object,
+            field,
+            word,
+            ..
+        } => put(words, *object as usize + 2 + *field as usize, *word),
+        Record::Base {
+            address,
+            words: object,
+            ..
+        } => {
+            for (i, word) in object.as_slice().iter().enumerate() {
+                put(words, i.saturating_add(*address as usize), *word);
+            }
+        }
+        Record::Commit { .. } | Record::End { .. } => {}
+    }
+}
+
+/// The words of the four pages after all records, from the first contents on.
+fn replayed(alloc: Global, records: &[Record]) -> Result<Vec<u64>, AllocError> {
+    let mut words = vec![in alloc; 0u64; 256]?;
+    words[0] = 17;
+    for rec in records {
+        replay_one(&mut words, rec);
+    }
+    Ok(words)
+}
+
+#[test]
+fn redone_as_replayed(rt: HostRuntime) -> Result<(), Fail> {
+    let alloc = rt.alloc();
+    let records = records(alloc)?;
+    let plain = replayed(alloc, &records)?;
+    for (flushes, stored) in ROWS {
+        let bytes = vec![in alloc; 0u8; 4352]?;
+        let none = Vec::new(alloc);
+        let mut disk = MemoryDisk::of(alloc, bytes, Pick::AllOnes, 99_999, none, Vec::new(alloc))?;
+        play(&rt, alloc, &mut disk, &records, flushes)?;
+        disk.restart();
+        let cache = redone(&rt, alloc, &mut disk, &records, stored)?;
+        assert_eq!(rt; cache.as_slice(), plain.as_slice(), "{stored:?}");
+        assert_eq!(rt; lsns(&rt, &cache), [5, 7, 0, 8]);
+    }
+    Ok(())
+}
+
+#[test]
+fn words_by_address(rt: HostRuntime) -> Result<(), Fail> {
+    let alloc = rt.alloc();
+    let bytes = vec![in alloc; 0u8; 4352]?;
+    let none = Vec::new(alloc);
+    let mut disk = MemoryDisk::of(alloc, bytes, Pick::AllOnes, 99_999, none, Vec::new(alloc))?;
+    let cache = redone(&rt, alloc, &mut disk, &records(alloc)?, [0; 4])?;
+    assert!(rt; cache.as_slice().len() == 256);
+    let found = [cache.word(2), cache.word(65), cache.word(255)];
+    assert_eq!(rt; found, [5, 9, 25]);
+    Ok(())
+}
+
+#[test]
+fn pages_ahead_of_a_log(rt: HostRuntime) -> Result<(), Fail> {
+    let alloc = rt.alloc();
+    let bytes = vec![in alloc; 0u8; 4352]?;
+    let none = Vec::new(alloc);
+    let mut disk = MemoryDisk::of(alloc, bytes, Pick::AllOnes, 99_999, none, Vec::new(alloc))?;
+    let cache = redone(&rt, alloc, &mut disk, &records(alloc)?, [0; 4])?;
+    let want = [Some(0), Some(0), Some(1), Some(3), None];
+    assert_eq!(rt; firsts_past(&cache), want);
+    Ok(())
+}
