@@ -53,8 +53,8 @@ use Rattle.page_redo.specs.Pages.{Pages}
 use Rattle.page_redo.specs.Prefix.{EachHoldsPrefix}
 use Rattle.commit_order.specs.Heard.{replies_of_commits}
 use Rattle.heap_model.specs.Core.{Core, words_refusal, log_refusal, answer, IsRun}
-use Rattle.heap_model.specs.CoreCrash.{HasLogWords, IsOnDisk, IsSuperOf, IsCommitPrefix}
-use Rattle.heap_model.specs.Image.{IsShapedLog, IsLegalLog, Holds}
+use Rattle.heap_model.specs.CoreCrash.{HasLogWords, IsOnDisk, IsSuperOf, IsCommitPrefix, StandsForFirst}
+use Rattle.heap_model.specs.Image.{IsShapedLog, IsLegal, Holds}
 use Rattle.heap_model.specs.Opening.{next_behind, opened, IsFound}
 use Rattle.graph_words.specs.Places.{Places}
 use Rattle.core_laws.specs.Valid.{IsReached, IsSound}
@@ -103,10 +103,10 @@ pub record GoesOnFrom (c : Core) (k : ℕ) (d : Core) : Type 0 where
   pub forced : machine.commits (records_of c.batches) ≤ c.before + k
   pub some : k ≤ length (commits c.history)
 
--- A heap that is opened again on what a crash left of a core goes on from its first commits. So it may crash and go on any number of times.
+-- A heap that is opened on an image which stands for the first k commits of a core, as each image that a crash leaves does for some k, goes
+-- on from those, whichever way the image is read. So it may crash and go on any number of times.
 abbrev pub AgainTheorem : Type 0
 AgainTheorem =
-    (c : Core) (s : Super) (batches : List (List Record)) (stored : Pages) (gates : ℕ → ℕ) (places : Places) (g : Graph) → IsReached c → IsTrue c.born → HasLogWords c
-    → EachHoldsPrefix c.pages (records_of batches) stored → IsSuperOf s c → IsOnDisk c batches
-    → (legal : IsLegalLog s batches stored) → IsFound s batches stored legal.shaped true places g
-    → (k : ℕ) × GoesOnFrom c k (opened s batches stored gates true places g)
+    (c : Core) (k : ℕ) (image : List ℕ) → StandsForFirst c k image
+    → (s : Super) (batches : List (List Record)) (stored : Pages) (gates : ℕ → ℕ) (places : Places) (g : Graph) → (legal : IsLegal s batches stored image) → IsFound s batches stored legal.log.shaped true places g
+    → GoesOnFrom c k (opened s batches stored gates true places g)
