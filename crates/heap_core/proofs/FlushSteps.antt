@@ -20,7 +20,7 @@ use Rattle.memory_laws.specs.CoreMemory.{IsMemory, Does}
 use Rattle.heap_core.specs.declared.history.Failure.{Failure}
 use Rattle.heap_core.specs.Refinement.{OnDisk, KnowsPages, Steps, StepsOn}
 use Rattle.heap_core.proofs.RefinementFlush.{ready, some_store}
-use Rattle.heap_core.proofs.RefinementForce.{whole_steps, born_after}
+use Rattle.heap_core.proofs.RefinementEvent.{whole_steps, born_after}
 use Rattle.working_state.specs.declared.working.Working.{Working}
 use Rattle.working_state.specs.State.{memory}
 

@@ -3,6 +3,8 @@ mod Empty
 mod FlushDisk
 mod FlushSteps
 mod RefinementAnswer
+mod RefinementCut
+mod RefinementEvent
 mod RefinementFlush
 mod RefinementForce
 mod RefinementGraph
@@ -11,6 +13,5 @@ mod RefinementMemory
 mod RefinementOpen
 mod OpenErrors
 mod Outside
-mod RoundLaws
 mod Undamaged
 mod Zeros

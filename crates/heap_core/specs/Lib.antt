@@ -5,4 +5,3 @@ pub mod GivenBack
 pub mod HeapState
 pub mod Refinement
 pub mod Refusals
-pub mod Rounds

@@ -1,11 +1,11 @@
 //! The heap: events on an image, each of them one step.
-ghost use Rattle.std.specs.Prelude.{◌≡◌, ◌≢◌, ◌⊎◌, ◌↔◌, ◌+◌, ◌≤◌, ◌^◌, ◌<◌, ℕ, List, [], length, min, is_some, Bool, true, None, Some, Ok, Err, IsTrue, IsFalse, IfOk, IfErr, IsErrAnd, OnOk, OnErr};
+ghost use Rattle.std.specs.Prelude.{◌≡◌, ◌≢◌, ◌⊎◌, ◌↔◌, ◌+◌, ◌≤◌, ◌^◌, ◌<◌, ℕ, List, [], length, min, is_some, Bool, true, None, Some, Ok, Err, IsTrue, IsFalse, IfOk, IfErr, IsErrAnd, OnErr};
 ghost use Rattle.counts.specs.Count.{greatest};
 ghost use Rattle.disk_model.specs.Disk.{Only};
 ghost use Rattle.disk_model.specs.Keeps.{KeepsDisk, OnlyReads};
 ghost use Rattle.disk_model.specs.Moments.{LeavesOnly};
 ghost use Rattle.gate_slot.specs.Passing.{Passes};
-ghost use Rattle.gated_log.specs.LogState.{log_place, log_room, IsReady, IsPlaced, IsSameLog};
+ghost use Rattle.gated_log.specs.LogState.{log_place, log_room, IsPlaced};
 ghost use Rattle.graph_model.specs.Graph.{Graph};
 ghost use Rattle.graph_model.specs.Canon.{canon};
 ghost use Rattle.graph_model.specs.Text.{canon_text};
@@ -24,7 +24,7 @@ ghost use Rattle.object_layout.specs.Layout.{IsSeenAs};
 ghost use Rattle.heap_model.specs.Opening.{opened, rolled_back, rollback_of, opening_calls, IsFound, IsLeftByOpening};
 ghost use Rattle.heap_core.specs.Causes.{step_device, reply_device, opened_device, IsFromOutside, OpenedPasses};
 ghost use Rattle.heap_model.specs.Core.{Core, AsksDisk, IsStep, calls, is_dirty};
-ghost use Rattle.page_cache.specs.CacheState.{cache_store, cache_pages, cache_size, cache_failed};
+ghost use Rattle.page_cache.specs.CacheState.{cache_store, cache_size, cache_failed};
 ghost use Rattle.page_store.specs.Gates.{open_gates};
 ghost use Rattle.heap_model.specs.CoreCrash.{IsCommitPrefix};
 ghost use Rattle.core_laws.specs.Valid.{IsReached, IsValid, RunsLocked};
@@ -253,15 +253,15 @@ impl<D: Disk> Heap<D> {
         requires session { IsOfSession event }
         requires unfailed { self.old.failed ≡ None }
         ensures disk { KeepsDisk D.Disk self.old.disk self.new.disk (step_device result) }
-        ensures core { (c : Core) → IsCore c self.old → self.old.failed ≡ None → IsReached c → IfOk result (λ reply. Steps c event reply self.new.working self.new.failed D.tells (D.bytes self.new.disk)) }
-        ensures holds { IsTrue D.tells → (s : Super) (c : Core) → IsHeap s c self.old → self.old.failed ≡ None → IsReached c → IfOk result (λ reply. StepsOn s c event reply self.new.working self.new.failed D.tells (D.bytes self.new.disk) (D.may_leave self.new.disk)) }
+        ensures core { (c : Core) → IsCore c self.old → IsReached c → IfOk result (λ reply. Steps c event reply self.new.working self.new.failed D.tells (D.bytes self.new.disk)) }
+        ensures holds { IsTrue D.tells → (s : Super) (c : Core) → IsHeap s c self.old → IsReached c → IfOk result (λ reply. StepsOn s c event reply self.new.working self.new.failed D.tells (D.bytes self.new.disk) (D.may_leave self.new.disk)) }
         ensures kept { (c : Core) → IsCore c self.old → OnErr result (IsCore c self.new) }
         ensures before { self.new.before ≡ self.old.before }
         ensures history { self.new.history ≡ self.old.history }
         ensures untouched { OnErr result (self.new.disk ≡ self.old.disk) }
-        ensures moments { IsTrue D.tells → (s : Super) (c : Core) → IsHeap s c self.old → self.old.failed ≡ None → IsReached c → LeavesOnly D.moment D.left_since self.old.disk self.new.disk (IsCommitPrefix c) }
-        ensures passes { IsTrue D.tells → (c : Core) → IsCore c self.old → IsReached c → self.old.failed ≡ None → IfOk result (λ reply. Passes (calls c event) (D.passed self.old.disk) (D.passed self.new.disk) (reply_device reply)) }
-        ensures still { (c : Core) → IsCore c self.old → IsReached c → self.old.failed ≡ None → calls c event ≡ 0 → self.new.disk ≡ self.old.disk }
+        ensures moments { IsTrue D.tells → (s : Super) (c : Core) → IsHeap s c self.old → IsReached c → LeavesOnly D.moment D.left_since self.old.disk self.new.disk (IsCommitPrefix c) }
+        ensures passes { IsTrue D.tells → (c : Core) → IsCore c self.old → IsReached c → IfOk result (λ reply. Passes (calls c event) (D.passed self.old.disk) (D.passed self.new.disk) (reply_device reply)) }
+        ensures still { (c : Core) → IsCore c self.old → IsReached c → calls c event ≡ 0 → self.new.disk ≡ self.old.disk }
     {
         let alloc = self.history.allocator();
         match reply_in_memory(&mut self.working, alloc, event)? {
@@ -272,16 +272,17 @@ impl<D: Disk> Heap<D> {
     }
 
     fn force(&mut self) -> Result<Reply, AllocError>
+        requires unfailed { self.old.failed ≡ None }
         ensures disk { KeepsDisk D.Disk self.old.disk self.new.disk (step_device result) }
-        ensures core { (c : Core) → IsCore c self.old → self.old.failed ≡ None → IsReached c → IfOk result (λ reply. Steps c Force reply self.new.working self.new.failed D.tells (D.bytes self.new.disk)) }
-        ensures holds { IsTrue D.tells → (s : Super) (c : Core) → IsHeap s c self.old → self.old.failed ≡ None → IsReached c → IfOk result (λ reply. StepsOn s c Force reply self.new.working self.new.failed D.tells (D.bytes self.new.disk) (D.may_leave self.new.disk)) }
+        ensures core { (c : Core) → IsCore c self.old → IsReached c → IfOk result (λ reply. Steps c Force reply self.new.working self.new.failed D.tells (D.bytes self.new.disk)) }
+        ensures holds { IsTrue D.tells → (s : Super) (c : Core) → IsHeap s c self.old → IsReached c → IfOk result (λ reply. StepsOn s c Force reply self.new.working self.new.failed D.tells (D.bytes self.new.disk) (D.may_leave self.new.disk)) }
         ensures kept { (c : Core) → IsCore c self.old → OnErr result (IsCore c self.new) }
         ensures before { self.new.before ≡ self.old.before }
         ensures history { self.new.history ≡ self.old.history }
         ensures untouched { OnErr result (self.new.disk ≡ self.old.disk) }
-        ensures moments { IsTrue D.tells → (s : Super) (c : Core) → IsHeap s c self.old → self.old.failed ≡ None → IsReached c → LeavesOnly D.moment D.left_since self.old.disk self.new.disk (IsCommitPrefix c) }
-        ensures passes { IsTrue D.tells → (c : Core) → IsCore c self.old → IsReached c → self.old.failed ≡ None → IfOk result (λ reply. Passes (calls c Force) (D.passed self.old.disk) (D.passed self.new.disk) (reply_device reply)) }
-        ensures still { (c : Core) → IsCore c self.old → IsReached c → self.old.failed ≡ None → calls c Force ≡ 0 → self.new.disk ≡ self.old.disk }
+        ensures moments { IsTrue D.tells → (s : Super) (c : Core) → IsHeap s c self.old → IsReached c → LeavesOnly D.moment D.left_since self.old.disk self.new.disk (IsCommitPrefix c) }
+        ensures passes { IsTrue D.tells → (c : Core) → IsCore c self.old → IsReached c → IfOk result (λ reply. Passes (calls c Force) (D.passed self.old.disk) (D.passed self.new.disk) (reply_device reply)) }
+        ensures still { (c : Core) → IsCore c self.old → IsReached c → calls c Force ≡ 0 → self.new.disk ≡ self.old.disk }
     {
         self.working.log.reserve(0)?;
         match self.working.log.force(&mut self.disk) {
@@ -299,15 +300,15 @@ impl<D: Disk> Heap<D> {
     fn flush(&mut self, p: u64) -> Result<Reply, AllocError>
         requires unfailed { self.old.failed ≡ None }
         ensures disk { KeepsDisk D.Disk self.old.disk self.new.disk (step_device result) }
-        ensures core { (c : Core) → IsCore c self.old → self.old.failed ≡ None → IsReached c → IfOk result (λ reply. Steps c (Flush p) reply self.new.working self.new.failed D.tells (D.bytes self.new.disk)) }
-        ensures holds { IsTrue D.tells → (s : Super) (c : Core) → IsHeap s c self.old → self.old.failed ≡ None → IsReached c → IfOk result (λ reply. StepsOn s c (Flush p) reply self.new.working self.new.failed D.tells (D.bytes self.new.disk) (D.may_leave self.new.disk)) }
+        ensures core { (c : Core) → IsCore c self.old → IsReached c → IfOk result (λ reply. Steps c (Flush p) reply self.new.working self.new.failed D.tells (D.bytes self.new.disk)) }
+        ensures holds { IsTrue D.tells → (s : Super) (c : Core) → IsHeap s c self.old → IsReached c → IfOk result (λ reply. StepsOn s c (Flush p) reply self.new.working self.new.failed D.tells (D.bytes self.new.disk) (D.may_leave self.new.disk)) }
         ensures kept { (c : Core) → IsCore c self.old → OnErr result (IsCore c self.new) }
         ensures before { self.new.before ≡ self.old.before }
         ensures history { self.new.history ≡ self.old.history }
         ensures untouched { OnErr result (self.new.disk ≡ self.old.disk) }
-        ensures moments { IsTrue D.tells → (s : Super) (c : Core) → IsHeap s c self.old → self.old.failed ≡ None → IsReached c → LeavesOnly D.moment D.left_since self.old.disk self.new.disk (IsCommitPrefix c) }
-        ensures passes { IsTrue D.tells → (c : Core) → IsCore c self.old → IsReached c → self.old.failed ≡ None → IfOk result (λ reply. Passes (calls c (Flush p)) (D.passed self.old.disk) (D.passed self.new.disk) (reply_device reply)) }
-        ensures still { (c : Core) → IsCore c self.old → IsReached c → self.old.failed ≡ None → calls c (Flush p) ≡ 0 → self.new.disk ≡ self.old.disk }
+        ensures moments { IsTrue D.tells → (s : Super) (c : Core) → IsHeap s c self.old → IsReached c → LeavesOnly D.moment D.left_since self.old.disk self.new.disk (IsCommitPrefix c) }
+        ensures passes { IsTrue D.tells → (c : Core) → IsCore c self.old → IsReached c → IfOk result (λ reply. Passes (calls c (Flush p)) (D.passed self.old.disk) (D.passed self.new.disk) (reply_device reply)) }
+        ensures still { (c : Core) → IsCore c self.old → IsReached c → calls c (Flush p) ≡ 0 → self.new.disk ≡ self.old.disk }
     {
         if p >= u64::from(self.working.cache.pages()) {
             return Ok(refused(Refusal::NoSuchPage));

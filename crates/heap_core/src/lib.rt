@@ -14,14 +14,3 @@ pub use errors::{FormatError, GraphError, OpenError};
 pub use heap::Heap;
 pub use heap_recovery::At;
 pub use history::History;
-
-#[cfg(test)]
-mod library_tests;
-#[cfg(test)]
-mod object_tests;
-#[cfg(test)]
-mod opening_tests;
-#[cfg(test)]
-mod session_tests;
-#[cfg(test)]
-mod stored_tests;

@@ -10,12 +10,14 @@ use Rattle.memory_laws.specs.StepFlush.{flush_no_page, flush_clean, flush_done}
 use Rattle.heap_core.specs.CrashLaws.{heap_keeps}
 use Rattle.heap_core.proofs.FlushSteps.{past, is_there, works_again, left_refused, left_flushed, left_clean, clean_calls, dirty_calls, flush_steps, flush_on}
 use Rattle.heap_core.proofs.RefinementFlush.{within, dirty_is}
-use Rattle.heap_core.proofs.RefinementForce.{unfailed_valid, knows_as, kept_as, cut_steps, cut_on}
+use Rattle.heap_core.proofs.RefinementEvent.{unfailed_valid, knows_as, kept_as}
+use Rattle.heap_core.proofs.RefinementCut.{cut_steps, cut_on}
 use Rattle.heap_core.proofs.RefinementLeft.{stays, none_pass, on_error}
 use Rattle.heap_core.proofs.heap.Heap.flush.Goals as goal
 
 pub returns-then-p-from-clause-core : goal.returns-then-p-from-clause-core
-returns-then-p-from-clause-core g c core heap none reached =
+returns-then-p-from-clause-core g c core heap reached =
+    let none = c.requires.unfailed in
     let w = c.args.self.now.working in
     let p = c.args.p in
     let works = heap.memory.works none in
@@ -24,7 +26,8 @@ returns-then-p-from-clause-core g c core heap none reached =
     flush_steps core core p (left_refused core p valid beyond) _ w _ _ _ valid reached.locked none (flush_no_page _ core p _ valid beyond works c.refused.ensures) (λ told. heap.pages told none)
 
 pub returns-then-p-from-clause-holds : goal.returns-then-p-from-clause-holds
-returns-then-p-from-clause-holds g c tells s core heap none reached =
+returns-then-p-from-clause-holds g c tells s core heap reached =
+    let none = c.requires.unfailed in
     let w = c.args.self.now.working in
     let p = c.args.p in
     let works = heap.core.memory.works none in
@@ -34,13 +37,14 @@ returns-then-p-from-clause-holds g c tells s core heap none reached =
     (heap.disk.unfailed valid.unfailed)
 
 pub returns-then-p-from-clause-moments : goal.returns-then-p-from-clause-moments
-returns-then-p-from-clause-moments g c tells s core heap none reached =
+returns-then-p-from-clause-moments g c tells s core heap reached =
     let d = g.D.Disk in
     let disk = c.args.self.now.disk in
     stays d.moment d.left_since disk (d.may_leave disk) (IsCommitPrefix core) (g.met.D.Disk.only_now tells disk) (heap_keeps s core _ _ heap.disk reached.sound)
 
 pub returns-then-not-dirty-clause-core : goal.returns-then-not-dirty-clause-core
-returns-then-not-dirty-clause-core g c core heap none reached =
+returns-then-not-dirty-clause-core g c core heap reached =
+    let none = c.requires.unfailed in
     let w = c.args.self.now.working in
     let p = c.args.p in
     let works = heap.memory.works none in
@@ -51,7 +55,8 @@ returns-then-not-dirty-clause-core g c core heap none reached =
     flush_steps core core p (left_clean core p valid lt clean) _ w _ _ _ valid reached.locked none (flush_clean _ core p _ valid lt clean works refl) (λ told. heap.pages told none)
 
 pub returns-then-not-dirty-clause-holds : goal.returns-then-not-dirty-clause-holds
-returns-then-not-dirty-clause-holds g c tells s core heap none reached =
+returns-then-not-dirty-clause-holds g c tells s core heap reached =
+    let none = c.requires.unfailed in
     let w = c.args.self.now.working in
     let p = c.args.p in
     let works = heap.core.memory.works none in
@@ -63,13 +68,14 @@ returns-then-not-dirty-clause-holds g c tells s core heap none reached =
     (heap.disk.unfailed valid.unfailed)
 
 pub returns-then-not-dirty-clause-moments : goal.returns-then-not-dirty-clause-moments
-returns-then-not-dirty-clause-moments g c tells s core heap none reached =
+returns-then-not-dirty-clause-moments g c tells s core heap reached =
     let d = g.D.Disk in
     let disk = c.args.self.now.disk in
     stays d.moment d.left_since disk (d.may_leave disk) (IsCommitPrefix core) (g.met.D.Disk.only_now tells disk) (heap_keeps s core _ _ heap.disk reached.sound)
 
 pub returns-then-not-dirty-clause-passes : goal.returns-then-not-dirty-clause-passes
-returns-then-not-dirty-clause-passes g c tells core heap reached none =
+returns-then-not-dirty-clause-passes g c tells core heap reached =
+    let none = c.requires.unfailed in
     let w = c.args.self.now.working in
     let p = c.args.p in
     let works = heap.memory.works none in
@@ -88,13 +94,14 @@ returns-in_err-reserve-clause-kept g c core heap =
     })
 
 pub returns-in_err-reserve-clause-moments : goal.returns-in_err-reserve-clause-moments
-returns-in_err-reserve-clause-moments g c tells s core heap none reached =
+returns-in_err-reserve-clause-moments g c tells s core heap reached =
     let d = g.D.Disk in
     let disk = c.args.self.now.disk in
     stays d.moment d.left_since disk (d.may_leave disk) (IsCommitPrefix core) (g.met.D.Disk.only_now tells disk) (heap_keeps s core _ _ heap.disk reached.sound)
 
 pub returns-in-Ok-clause-core : goal.returns-in-Ok-clause-core
-returns-in-Ok-clause-core g c core heap none reached =
+returns-in-Ok-clause-core g c core heap reached =
+    let none = c.requires.unfailed in
     let w = c.args.self.now.working in
     let p = c.args.p in
     let works = heap.memory.works none in
@@ -107,7 +114,8 @@ returns-in-Ok-clause-core g c core heap none reached =
     (λ told. c.in-Ok.ensures.pages told core again (knows_as core w _ _ refl (heap.pages told none)))
 
 pub returns-in-Ok-clause-holds : goal.returns-in-Ok-clause-holds
-returns-in-Ok-clause-holds g c tells s core heap none reached =
+returns-in-Ok-clause-holds g c tells s core heap reached =
+    let none = c.requires.unfailed in
     let w = c.args.self.now.working in
     let p = c.args.p in
     let works = heap.core.memory.works none in
@@ -121,14 +129,16 @@ returns-in-Ok-clause-holds g c tells s core heap none reached =
     (c.in-Ok.ensures.holds tells s core again (knows_as core w _ _ refl (heap.core.pages tells none)) (heap.disk.unfailed valid.unfailed))
 
 pub returns-in-Ok-clause-moments : goal.returns-in-Ok-clause-moments
-returns-in-Ok-clause-moments g c tells s core heap none reached =
+returns-in-Ok-clause-moments g c tells s core heap reached =
+    let none = c.requires.unfailed in
     let w = c.args.self.now.working in
     let valid = unfailed_valid core _ heap.core.memory.failure none reached in
     let again = works_again core w c.reserve.new.self (heap.core.memory.works none) c.reserve.ensures.same in
     c.store_page.ensures.moments tells s core again (knows_as core w _ _ refl (heap.core.pages tells none)) (heap.disk.unfailed valid.unfailed) reached.sound heap.disk.born
 
 pub returns-in-Ok-clause-passes : goal.returns-in-Ok-clause-passes
-returns-in-Ok-clause-passes g c tells core heap reached none =
+returns-in-Ok-clause-passes g c tells core heap reached =
+    let none = c.requires.unfailed in
     let w = c.args.self.now.working in
     let p = c.args.p in
     let works = heap.memory.works none in
@@ -140,7 +150,8 @@ returns-in-Ok-clause-passes g c tells core heap reached none =
     (c.in-Ok.ensures.passes tells core again (knows_as core w _ _ refl (heap.pages tells none)))
 
 pub returns-in-Ok-clause-still : goal.returns-in-Ok-clause-still
-returns-in-Ok-clause-still g c core heap reached none no_calls =
+returns-in-Ok-clause-still g c core heap reached no_calls =
+    let none = c.requires.unfailed in
     let w = c.args.self.now.working in
     let p = c.args.p in
     let works = heap.memory.works none in
@@ -150,7 +161,8 @@ returns-in-Ok-clause-still g c core heap reached none no_calls =
     absurd (omega (arith, no_calls, dirty_calls core p valid (within core w p works page) dirty))
 
 pub returns-in-Err-clause-core : goal.returns-in-Err-clause-core
-returns-in-Err-clause-core g c core heap none reached =
+returns-in-Err-clause-core g c core heap reached =
+    let none = c.requires.unfailed in
     let w = c.args.self.now.working in
     let p = c.args.p in
     let works = heap.memory.works none in
@@ -164,7 +176,8 @@ returns-in-Err-clause-core g c core heap none reached =
     (λ yes. known.0 (sym c.pending-waited.ensures ∙ yes), λ some. c.pending-waited.ensures ∙ known.1 some) c.store_page.ensures.sealed c.store_page.ensures.table
 
 pub returns-in-Err-clause-holds : goal.returns-in-Err-clause-holds
-returns-in-Err-clause-holds g c tells s core heap none reached =
+returns-in-Err-clause-holds g c tells s core heap reached =
+    let none = c.requires.unfailed in
     let w = c.args.self.now.working in
     let p = c.args.p in
     let works = heap.core.memory.works none in
@@ -181,14 +194,16 @@ returns-in-Err-clause-holds g c tells s core heap none reached =
     (λ image left. run.each image (g.met.D.Disk.counts_now tells c.store_page.new.disk _ image run.later left))
 
 pub returns-in-Err-clause-moments : goal.returns-in-Err-clause-moments
-returns-in-Err-clause-moments g c tells s core heap none reached =
+returns-in-Err-clause-moments g c tells s core heap reached =
+    let none = c.requires.unfailed in
     let w = c.args.self.now.working in
     let valid = unfailed_valid core _ heap.core.memory.failure none reached in
     let again = works_again core w c.reserve.new.self (heap.core.memory.works none) c.reserve.ensures.same in
     c.store_page.ensures.moments tells s core again (knows_as core w _ _ refl (heap.core.pages tells none)) (heap.disk.unfailed valid.unfailed) reached.sound heap.disk.born
 
 pub returns-in-Err-clause-passes : goal.returns-in-Err-clause-passes
-returns-in-Err-clause-passes g c tells core heap reached none =
+returns-in-Err-clause-passes g c tells core heap reached =
+    let none = c.requires.unfailed in
     let w = c.args.self.now.working in
     let p = c.args.p in
     let works = heap.memory.works none in
@@ -202,7 +217,8 @@ returns-in-Err-clause-passes g c tells core heap reached none =
     (c.in-Err.ensures.passes tells core again (knows_as core w _ _ refl (heap.pages tells none))))
 
 pub returns-in-Err-clause-still : goal.returns-in-Err-clause-still
-returns-in-Err-clause-still g c core heap reached none no_calls =
+returns-in-Err-clause-still g c core heap reached no_calls =
+    let none = c.requires.unfailed in
     let w = c.args.self.now.working in
     let p = c.args.p in
     let works = heap.memory.works none in

@@ -3,7 +3,7 @@ use Rattle.graph_model.specs.Transaction.{serial}
 use Rattle.graph_model.specs.History.{sealed, sessions}
 use Rattle.graph_words.specs.Places.{name_at}
 use Rattle.object_layout.specs.Layout.{IsSeenAs}
-use Rattle.heap_core.proofs.RefinementForce.{unfailed_valid, no_failure_at}
+use Rattle.heap_core.proofs.RefinementEvent.{unfailed_valid, no_failure_at}
 use Rattle.heap_core.proofs.RefinementGraph.{memory_seen, length-without_writes}
 use Rattle.working_state.specs.State.{memory}
 use Rattle.heap_core.proofs.heap.Heap.graph.Goals as goal

@@ -5,7 +5,7 @@ use Rattle.heap_core.specs.Refinement.{Steps}
 use Rattle.heap_model.specs.CoreCrash.{IsCommitPrefix}
 use Rattle.heap_core.specs.CrashLaws.{heap_keeps}
 use Rattle.heap_core.proofs.RefinementLeft.{stays, failed_passes}
-use Rattle.heap_core.proofs.RefinementForce.{failed_steps, failed_on}
+use Rattle.heap_core.proofs.RefinementCut.{failed_steps, failed_on}
 use Rattle.heap_core.proofs.heap.Heap.reply_to.Goals as goal
 
 pub returns-in-Some-clause-core : goal.returns-in-Some-clause-core
@@ -28,18 +28,3 @@ returns-in-Some-clause-moments g c tells s core heap reached =
 pub returns-in-Some-clause-passes : goal.returns-in-Some-clause-passes
 returns-in-Some-clause-passes g c tells core heap reached =
     failed_passes core c.args.event c.in-Some.failure.entry (g.D.Disk.passed c.args.self.now.disk) c.refused.result (sym heap.memory.failure ∙ ap entry_of c.in-Some.is)
-
-pub returns-in-None-clause-core : goal.returns-in-None-clause-core
-returns-in-None-clause-core g c core heap reached = c.answer.ensures.core core heap c.in-None.is reached
-
-pub returns-in-None-clause-holds : goal.returns-in-None-clause-holds
-returns-in-None-clause-holds g c tells s core heap reached = c.answer.ensures.holds tells s core heap c.in-None.is reached
-
-pub returns-in-None-clause-moments : goal.returns-in-None-clause-moments
-returns-in-None-clause-moments g c tells s core heap reached = c.answer.ensures.moments tells s core heap c.in-None.is reached
-
-pub returns-in-None-clause-passes : goal.returns-in-None-clause-passes
-returns-in-None-clause-passes g c tells core heap reached = c.answer.ensures.passes tells core heap reached c.in-None.is
-
-pub returns-in-None-clause-still : goal.returns-in-None-clause-still
-returns-in-None-clause-still g c core heap reached no_calls = c.answer.ensures.still core heap reached c.in-None.is no_calls

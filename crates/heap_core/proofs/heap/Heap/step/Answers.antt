@@ -5,7 +5,7 @@ use Rattle.heap_model.specs.CoreLawsRun.{same_step}
 use Rattle.heap_model.specs.CoreCrash.{IsCommitPrefix}
 use Rattle.heap_core.specs.CrashLaws.{heap_keeps}
 use Rattle.heap_core.proofs.RefinementLeft.{stays}
-use Rattle.heap_core.proofs.RefinementForce.{with_history}
+use Rattle.heap_core.proofs.RefinementEvent.{with_history}
 use Rattle.heap_core.proofs.heap.Heap.step.Goals as goal
 
 pub returns-clause-core : goal.returns-clause-core

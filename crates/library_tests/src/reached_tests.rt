@@ -1,9 +1,9 @@
 //! Objects that transactions make, on a disk that is stopped and started again: what a sealed one made reachable is there, and what
 //! another made is not.
-use crate::heap::Heap;
 use crate::opening_tests::{LOG_BYTES, PICKS, ask, compare, expect, make_heap, open};
 use disk_model::{Disk, MemoryDisk, Pick};
 use graph_model::{Event, Reply};
+use heap_core::Heap;
 use std::alloc::{AllocError, Global};
 use std::process::Abort;
 use std::test::Fail;

@@ -6,19 +6,16 @@ ghost use Rattle.disk_model.specs.Disk.{Only};
 ghost use Rattle.graph_model.specs.Graph.{Graph};
 ghost use Rattle.graph_model.specs.SlowHeap.{IsOfSession};
 ghost use Rattle.heap_model.specs.Image.{StandsFor};
-ghost use Rattle.heap_core.specs.Rounds.{IsRound, Rounds};
+ghost use Rattle.library_tests.specs.Rounds.{IsRound, Rounds};
 
-use crate::errors::OpenError;
-use crate::heap::Heap;
-use crate::opening_tests::{expect, make_heap};
-use disk_model::{Disk, Pick};
+use disk_model::Disk;
 use graph_model::Event;
+use heap_core::{Heap, OpenError};
 use std::alloc::{AllocError, Global};
-use std::test::Fail;
 
 /// Why a round ended.
 #[derive(Clone, Copy, Debug, PartialEq, Eq)]
-enum Halt {
+pub enum Halt {
     /// The heap was not opened.
     Open(OpenError),
     /// Memory was refused.
@@ -31,12 +28,13 @@ impl From<AllocError> for Halt {
     }
 }
 
-/// Opens the heap on the disk, makes these events, and crashes: the disk is started again. It then stands for the first of the
-/// commits that were made, among them all that were acknowledged.
+/// Opens the heap on the disk, makes these events, and crashes: the disk is started again. It then stands for the first commits of a run of these
+/// events, among them all that were acknowledged or forced in it. The run made all of them unless the disk failed or stopped; then it was cut short,
+/// and it is not said where. An error tells nothing of the disk, which is gone.
 fn round<D: Disk + Drop>(alloc: Global, disk: D, events: &[Event]) -> Result<D, Halt>
     requires { AllByRecursion IsOfSession events.now }
     ensures { IsTrue D.tells → Only (D.bytes disk) (D.may_leave disk) → (g : Graph) (k : ℕ) → StandsFor g k (D.bytes disk)
-        → IfOk result (λ left. Only (D.bytes left) (D.may_leave left) × (h : Graph) × (j : ℕ) × IsRound g k events.now h j × StandsFor h j (D.bytes left)) }
+        → IfOk result (λ left. Only (D.bytes left) (D.may_leave left) × (h : Graph) × (j : ℕ) × IsRound D.Disk events.now disk g k left h j × StandsFor h j (D.bytes left)) }
 {
     let mut heap = match Heap::open(alloc, disk) {
         Ok(heap) => heap,
@@ -51,7 +49,7 @@ fn round<D: Disk + Drop>(alloc: Global, disk: D, events: &[Event]) -> Result<D, 
 }
 
 /// Makes so many rounds of these events.
-fn rounds<D: Disk + Drop>(
+pub fn rounds<D: Disk + Drop>(
     alloc: Global,
     mut disk: D,
     events: &[Event],
@@ -59,39 +57,10 @@ fn rounds<D: Disk + Drop>(
 ) -> Result<D, Halt>
     requires { AllByRecursion IsOfSession events.now }
     ensures { IsTrue D.tells → Only (D.bytes disk) (D.may_leave disk) → (g : Graph) (k : ℕ) → StandsFor g k (D.bytes disk)
-        → IfOk result (λ left. Only (D.bytes left) (D.may_leave left) × (h : Graph) × (j : ℕ) × Rounds g k events.now count h j × StandsFor h j (D.bytes left)) }
+        → IfOk result (λ left. Only (D.bytes left) (D.may_leave left) × (h : Graph) × (j : ℕ) × Rounds D.Disk events.now disk g k count left h j × StandsFor h j (D.bytes left)) }
 {
     for _i in 0..count {
         disk = round(alloc, disk, events)?;
     }
     Ok(disk)
-}
-
-/// A transaction of session 1 that is on the disk, and one of session 2 beside it that no force has reached.
-const EVENTS: [Event; 9] = [
-    Event::Begin { s: 2 },
-    Event::Begin { s: 1 },
-    Event::Root { s: 1, h: 0 },
-    Event::Put {
-        s: 1,
-        h: 0,
-        i: 0,
-        v: 7,
-    },
-    Event::Seal { s: 1 },
-    Event::Force,
-    Event::Root { s: 2, h: 0 },
-    Event::Clear { s: 2, h: 0, i: 0 },
-    Event::Seal { s: 2 },
-];
-
-#[test]
-fn three_rounds(rt: HostRuntime) -> Result<(), Fail> {
-    let alloc = rt.alloc();
-    let disk = make_heap(&rt, alloc, Pick::Synced)?;
-    let Ok(disk) = rounds(alloc, disk, &EVENTS, 3) else {
-        panic!(rt; "not gone on");
-    };
-    expect(&rt, alloc, disk, 3, "graph 1\n0: 7 - - -\n")?;
-    Ok(())
 }

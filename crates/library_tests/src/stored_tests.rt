@@ -1,11 +1,10 @@
 //! Images whose pages were stored at different times: an opening redoes on each page what it lacks, and nothing else.
-use crate::errors::OpenError;
-use crate::heap::Heap;
-use crate::object_tests::{Step, begin, force, get, link, new, play, put, root, seal};
 use crate::opening_tests::{LOG_BYTES, ask, compare, expect, make_disk, make_heap, open};
+use crate::reached_tests::{Step, begin, force, get, link, new, play, put, root, seal};
 use disk_model::{Disk, FuseDisk, MemoryDisk, Pick};
 use gated_log::Log;
 use graph_model::{Event, Refusal, Reply};
+use heap_core::{Heap, OpenError};
 use heap_recovery::At;
 use image_plan::Plan;
 use log_machine::replay;

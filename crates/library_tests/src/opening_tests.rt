@@ -3,11 +3,10 @@
 ghost use Rattle.std.specs.Prelude.{◌≡◌, None};
 ghost use Rattle.heap_core.specs.HeapState.{failed_at};
 
-use crate::errors::OpenError;
-use crate::heap::Heap;
 use disk_model::{Disk, FuseDisk, MemoryDisk, Pick};
 use gated_log::Log;
 use graph_model::{Event, Reply};
+use heap_core::{Heap, OpenError};
 use log_records::Record;
 use std::alloc::{AllocError, Global};
 use std::fmt::Debug;

@@ -1,6 +1,6 @@
 //! Two sessions side by side, on a disk that is stopped and started again: what the one has sealed is there, and what the other wrote is not.
-use crate::object_tests::{Step, play};
 use crate::opening_tests::{PICKS, ask, compare, expect, make_heap, open};
+use crate::reached_tests::{Step, play};
 use graph_model::{Event, Refusal, Reply};
 use std::test::Fail;
 
