@@ -7,13 +7,14 @@ use Rattle.disk_model.specs.declared.disk.Disk.{Ghosts}
 use Rattle.disk_model.specs.declared.disk.DiskError.TheVariants as device
 use Rattle.disk_model.specs.Disk.{Only}
 use Rattle.disk_model.specs.Moments.{LeavesOnly, begins}
+use Rattle.gated_log.specs.Log.{records_of}
 use Rattle.graph_model.specs.declared.event.Event.{Event}
 use Rattle.graph_model.specs.declared.reply.Entry.{Entry}
 use Rattle.graph_model.specs.declared.reply.Refusal.TheVariants.{DiskFault, Stopped}
 use Rattle.graph_model.specs.declared.reply.Reply.{Reply}
 use Rattle.graph_model.specs.declared.reply.Reply.TheVariants.{Refused}
 use Rattle.graph_model.specs.Transaction.{Transaction, serial, serial_replies}
-use Rattle.graph_model.specs.History.{account, sealed, commits, acknowledged}
+use Rattle.graph_model.specs.History.{account, sealed, commits}
 use Rattle.image_plan.specs.declared.superblock.Super.{Super}
 use Rattle.heap_core.specs.declared.heap.Heap.{Heap}
 use Rattle.heap_shell.specs.declared.output.WriteError.{WriteError}
@@ -34,8 +35,9 @@ use Rattle.core_laws.specs.Sound.{reached_agrees}
 use Rattle.commit_order.specs.Heard.{replies_of_commits}
 use Rattle.heap_model.specs.CoreRuns.{after_events, total_calls}
 use Rattle.core_laws.specs.Valid.{IsReached}
+use Rattle.log_machine.specs.StateLaws.{commits-start}
 use Rattle.command_words.specs.declared.commands.Stop.{Stop}
-use Rattle.heap_shell.specs.Headline.{graph_text, end_text, stop_after, let_through, HasMade, StopsLast, IsExact, IsEndOfPlay, IsOfDisk, MakesEvents, KeepsThroughout, IsFollowed, Reopens, StartsAgain, EndsUnopened, Prints, IsPlayed}
+use Rattle.heap_shell.specs.Headline.{lasting, graph_text, end_text, stop_after, let_through, HasMade, StopsLast, IsExact, IsEndOfPlay, IsOfDisk, MakesEvents, KeepsThroughout, IsFollowed, Reopens, StartsAgain, EndsUnopened, Prints, IsPlayed}
 use Rattle.heap_shell.specs.Playable.{IsPlayable}
 use Rattle.heap_shell.specs.Output.{WroteText, Recovers, WroteRecovered, WroteNothing, status_after}
 use Rattle.heap_shell.specs.Play.{IsRunning, IsWhole, IsCutBy, AreReady, MakesAll, MakesShort, Makes, Ends, Plays, Wrote, lines_text, WroteFront, WroteLines}
@@ -83,8 +85,11 @@ module _ {D : Type 0} {g : Ghosts D} (s : Super) (c : Core) (running : IsRunning
   abbrev all : ℕ
   all = length (sealed core.history)
 
-  least : acknowledged core.history ≤ all
-  least = let agrees = reached_agrees core run_reached.1 in let low = agrees.acknowledged_last in let high = agrees.sealed_first in omega arith
+  least : lasting core ≤ all
+  least =
+      let agrees = reached_agrees core run_reached.1 in
+      let commits = commits-start core.pages core.lowest agrees.on_disk (records_of core.batches) agrees.disk_told.reached in
+      omega (arith, agrees.acknowledged_last, agrees.sealed_first, agrees.disk_told.count, commits)
 
   most : all ≤ length (commits core.history)
   most = let same : length (commits core.history) ≡ all = ap (λ (ts : List Transaction). length ts) (commits-sealed core run_reached.1.sound) in omega arith

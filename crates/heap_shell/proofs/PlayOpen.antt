@@ -21,11 +21,12 @@ use Rattle.heap_model.specs.CoreLawsNew.{root_place, new_legal, new_found}
 use Rattle.heap_shell.specs.Stored.{IsStored, stored_core, stored_calls}
 use Rattle.core_laws.specs.Opened.{opened_reached}
 use Rattle.heap_model.specs.CoreLawsOpened.{address_found, opened_keeps}
+use Rattle.heap_model.specs.CoreLawsOpening.{rolled_commits}
 use Rattle.heap_shell.specs.CoreLawsPlay.{running_after, all_playable}
 use Rattle.heap_model.specs.CoreRuns.{after_events}
 use Rattle.heap_model.specs.Ending.{all_events}
 use Rattle.command_words.specs.declared.commands.Stop.{Stop}
-use Rattle.heap_shell.specs.Headline.{IsOpened, made_super, end_text, stop_after, let_through, IsExact, CountsOpening, IsEndOfPlay, StartsAgain, Reopens, EndsUnopened, IsFollowed, Prints, IsPlayed, IsOfImage}
+use Rattle.heap_shell.specs.Headline.{lasting, IsOpened, made_super, end_text, stop_after, let_through, IsExact, CountsOpening, IsEndOfPlay, StartsAgain, Reopens, EndsUnopened, IsFollowed, Prints, IsPlayed, IsOfImage}
 use Rattle.heap_shell.specs.Causes.{Unharmed}
 use Rattle.heap_shell.specs.Output.{Recovers, WroteRecovered, WroteNothing}
 use Rattle.heap_shell.proofs.Counts.{counted_mono}
@@ -172,7 +173,7 @@ module _ {D : Type 0} (g : Ghosts D) {bytes : List ℕ} (stored : IsStored bytes
         replies = refl;
         prints = record {
           count = 0;
-          least = omega arith;
+          least = let same = rolled_commits stored.super stored.batches stored.pages stored.legal.log.shaped in omega (arith, same);
           most = omega arith;
           all = λ none. refl;
           behind = nothing_follows g stop c final by told before early;
@@ -196,7 +197,7 @@ module _ {D : Type 0} (g : Ghosts D) {bytes : List ℕ} (stored : IsStored bytes
     abbrev fails : Type 0
     fails = EndsUnopened g stop.again c k stopped final by
 
-    found_unplayed : 0 ≤ k → k ≤ 0 → WroteRecovered c k opens by told before after → Prints g (Some stop) c stopped final by told before after
+    found_unplayed : lasting c ≤ k → k ≤ 0 → WroteRecovered c k opens by told before after → Prints g (Some stop) c stopped final by told before after
     found_unplayed least most found = record {
       count = k;
       least = least;
@@ -206,7 +207,7 @@ module _ {D : Type 0} (g : Ghosts D) {bytes : List ℕ} (stored : IsStored bytes
       written = λ t. all_writes [] before before by (end_text (Some stop.after) k (serial stored.graph (take k []))) after found.sound (sym (append-nil before)) (found.written t) (found.whole t);
     }
 
-    nothing_unplayed : 0 ≤ k → k ≤ 0 → WroteNothing fails by told before after → Prints g (Some stop) c stopped final by told before after
+    nothing_unplayed : lasting c ≤ k → k ≤ 0 → WroteNothing fails by told before after → Prints g (Some stop) c stopped final by told before after
     nothing_unplayed least most nothing =
         let out = λ (t : IsTrue told). nothing.nothing t ∙ sym (append-nil before) in
         record {

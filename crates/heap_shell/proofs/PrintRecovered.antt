@@ -140,7 +140,7 @@ module _ {D : Type 0} (g : Ghosts D) (c : Core) (k : ℕ) (old new : D) (keeps :
       → Recovers c k opens (FailsToOpen g c k s old new) (g.may_leave new) s told before before
   recovers_nothing opens e s told before outside is cause passes = record {
     end = subst IsEndOfPlay (sym is) (open_end e outside);
-    least = keeps.first.kept;
+    least = omega (arith, keeps.first.kept, keeps.first.forced);
     most = keeps.first.some;
     kept = keeps.still;
     found = inr (record {
@@ -155,7 +155,7 @@ module _ {D : Type 0} (g : Ghosts D) (c : Core) (k : ℕ) (old new : D) (keeps :
       → (IsTrue told → WroteText r before (recovered_line k ++ graph_text (serial c.g0 (take k (history.commits c.history)))) after) → Recovers c k (Reopens g c k old new) fails (g.may_leave new) s told before after
   recovers_first fails r s told before after is passes only wrote = record {
     end = subst IsEndOfPlay (sym is) (written_end r);
-    least = keeps.first.kept;
+    least = omega (arith, keeps.first.kept, keeps.first.forced);
     most = keeps.first.some;
     kept = keeps.still;
     found = inl (record {
@@ -193,7 +193,7 @@ pub recovers_no_memory : {D : Type 0} (g : Ghosts D) (m : ℕ) (c : Core) (k : �
     → Recovers c k (StartsAgain g (Some m) c k (Reopens g c k) stopped new) (EndsUnopened g (Some m) c k stopped new NoMemory) (g.may_leave new) NoMemory told before before
 recovers_no_memory g m c k stopped first new told before started fails = record {
   end = tt;
-  least = fails.keeps.first.kept;
+  least = omega (arith, fails.keeps.first.kept, fails.keeps.first.forced);
   most = fails.keeps.first.some;
   kept = fails.keeps.still;
   found = inr (record {

@@ -24,7 +24,7 @@ use Rattle.command_words.specs.Limits.{IsPages}
 use Rattle.heap_model.specs.Ending.{all_events}
 use Rattle.script_text.specs.Line.{events}
 use Rattle.heap_shell.specs.CoreLawsPlay.{made_limits, made_reached, script_is, all_playable}
-use Rattle.heap_shell.specs.CrashSafe.{IsCrashSafe, RunsSafely, lasting}
+use Rattle.heap_shell.specs.CrashSafe.{IsCrashSafe, RunsSafely}
 use Rattle.heap_shell.specs.Playable.{IsReadFrom}
 use Rattle.heap_shell.specs.Stored.{stored_core, stored_calls}
 use Rattle.heap_shell.proofs.PlayOpen.{stored_running}
@@ -38,7 +38,7 @@ use Rattle.heap_core.specs.GivenBack.{format_device, IsFromDisk}
 use Rattle.heap_shell.specs.declared.status.Status.{Status}
 use Rattle.heap_shell.specs.declared.status.Status.TheVariants as status
 use Rattle.command_words.specs.declared.commands.Stop.{Stop}
-use Rattle.heap_shell.specs.Headline.{made_super, made_core, IsEndOfPlay, IsSound, IsUnmade, IsNotMade, IsPlayed, PlaysScript, Runs, RestartsDisk, stop_after}
+use Rattle.heap_shell.specs.Headline.{lasting, made_super, made_core, IsEndOfPlay, IsSound, IsUnmade, IsNotMade, IsPlayed, PlaysScript, Runs, RestartsDisk, stop_after}
 use Rattle.script_text.specs.declared.line.Line.{Line}
 use Rattle.heap_shell.specs.Causes.{IsInputError}
 use Rattle.heap_shell.specs.StatusOf.{format_status}
@@ -138,7 +138,7 @@ module _ {D : Type 0} (g : Ghosts D) (disk : D) (only : Only (g.bytes disk) (g.m
 -- What a run says of crashes in short.
 module _ {D : Type 0} (g : Ghosts D) (now : (disk : D) (image : List ℕ) → g.left_since disk (g.moment disk) image → g.may_leave disk image) (start final : D) where
   pub crash_safe : (stop : Option Stop) (at_opening : ℕ) (c : Core) (events : List Event) (result : Status) (told : Bool) (before after : List ℕ) → IsReached c → AllByRecursion IsOfSession events
-      → IsPlayed g stop at_opening c events start final result told before after → IsCrashSafe g (stop_after stop) c start final result told before after
+      → IsPlayed g stop at_opening c events start final result told before after → IsCrashSafe g (stop_after stop) at_opening c start final result told before after
   crash_safe stop at_opening c events result told before after reached sessions played =
       let made = played.run.made in
       let core = played.run.core in
@@ -158,17 +158,19 @@ module _ {D : Type 0} (g : Ghosts D) (now : (disk : D) (image : List ℕ) → g.
             (λ (has : HasAtLeast core (lasting c) image). has_fewer core (lasting c) least image (omega arith) has)
             either);
         opened = disk.opened;
+        few = disk.few;
         stopped = disk.stopped;
         steps = lasting_steps g (stop_after stop) start final now c core disk.opened disk.stopped made reached one disk.steps disk.rest;
         replies = played.replies;
         lines = λ t. (played.prints.written t).lines;
+        front = λ t. (played.prints.count, (played.prints.written t).front);
         printed = λ done t. (played.prints.count, played.prints.least, played.prints.most, (played.prints.written t).whole done);
       }
 
 -- So it says in short of a play on a new heap and on one that was there, once the script is read.
 module _ {D : Type 0} (g : Ghosts D) (now : (disk : D) (image : List ℕ) → g.left_since disk (g.moment disk) image → g.may_leave disk image) (reads : Bool) (left : List ℕ) where
   script_safe : (start final : D) (stop : Option Stop) (at_opening : ℕ) (c : Core) (result : Status) (told : Bool) (before after : List ℕ) → IsReached c
-      → PlaysScript g stop (IsReadFrom reads left) at_opening c start final result told before after → IsCrashSafe g (stop_after stop) c start final result told before after
+      → PlaysScript g stop (IsReadFrom reads left) at_opening c start final result told before after → IsCrashSafe g (stop_after stop) at_opening c start final result told before after
   script_safe start final stop at_opening c result told before after reached plays =
       let sessions = (all_playable (stop_after stop) c plays.lines (script_is plays.script.bytes plays.lines plays.script.script)).sessions in
       crash_safe g now start final stop at_opening c (all_events (stop_after stop) c (events plays.lines)) result told before after reached sessions plays.played

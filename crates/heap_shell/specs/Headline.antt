@@ -1,11 +1,12 @@
 -- What a run of the program promises.
-use Rattle.std.specs.Prelude.{◌≡◌, ◌≢◌, ◌⊎◌, ℕ, ◌+◌, ◌-◌, ◌<◌, ◌≤◌, min, List, [], ◌∷◌, ◌++◌, length, take, codes, Bool, true, IsTrue, Option, None, Some, Err}
+use Rattle.std.specs.Prelude.{◌≡◌, ◌≢◌, ◌⊎◌, ℕ, ◌+◌, ◌-◌, ◌<◌, ◌≤◌, min, max, List, [], ◌∷◌, ◌++◌, length, take, codes, Bool, true, IsTrue, Option, None, Some, Err}
 use Rattle.std.specs.Fmt.{decimal}
 use Rattle.counts.specs.Count.{raised, counted}
 use Rattle.disk_model.specs.declared.disk.Disk.{Ghosts}
 use Rattle.disk_model.specs.declared.disk.DiskError.{DiskError}
 use Rattle.disk_model.specs.Disk.{SameOutside, Only, HasCause}
 use Rattle.disk_model.specs.Moments.{LeavesOnly}
+use Rattle.gated_log.specs.Log.{records_of}
 use Rattle.gate_slot.specs.Passing.{Passes}
 use Rattle.graph_model.specs.declared.event.Event.{Event}
 use Rattle.graph_model.specs.declared.reply.Entry.{Entry}
@@ -27,6 +28,7 @@ use Rattle.commit_order.specs.Heard.{replies_of_commits}
 use Rattle.heap_model.specs.CoreRuns.{after_events, total_calls, StopsAt}
 use Rattle.heap_model.specs.Ending.{all_events}
 use Rattle.graph_words.specs.Places.{Places}
+use Rattle.log_machine.specs.Machine as machine
 use Rattle.log_records.specs.declared.Record.{Record}
 use Rattle.page_redo.specs.Pages.{Pages, first_pages}
 use Rattle.page_store.specs.Gates.{open_gates}
@@ -45,6 +47,11 @@ use Rattle.heap_shell.specs.Stored.{IsStored, stored_core, stored_calls}
 -- A claim of a disk that tells its bytes and keeps the disk model, and on which nothing waits.
 abbrev pub OfTold : Bool → List ℕ → (List ℕ → Type 0) → Type 0 → Type 0
 OfTold tells bytes may_leave claim = IsTrue tells → Only bytes may_leave → claim
+
+-- how many commits since its opening last: those that were acknowledged, or that the batches of events that were not cut short hold, also
+-- where no reply has told so
+abbrev pub lasting : Core → ℕ
+lasting c = max (acknowledged c.history) (machine.commits (records_of c.batches) - c.before)
 
 -- the superblock of the heap that a run makes, with so many pages
 abbrev pub made_super : ℕ → Super
@@ -281,10 +288,11 @@ module _ {D : Type 0} (g : Ghosts D) where
   IsFollowed (Some stop) c k stopped new result only_lines =
       StartsAgain stop.again c k (Reopens c k) stopped new ⊎ (EndsUnopened stop.again c k stopped new result × (result ≢ status.Done) × only_lines)
 
-  -- The lines of a core's history were printed, how many commits came back where a stop was asked, and their graph.
+  -- The lines of a core's history were printed, how many commits came back where a stop was asked, and their graph. All that was acknowledged, or
+  -- forced by an event that was not cut short, is among them.
   pub record Prints (stop : Option Stop) (c : Core) (stopped final : D) (result : Status) (told : Bool) (before after : List ℕ) : Type 0 where
     pub count : ℕ
-    pub least : acknowledged c.history ≤ count
+    pub least : lasting c ≤ count
     pub most : count ≤ length (commits c.history)
     pub all : stop ≡ None → count ≡ length (sealed c.history)
     pub behind : IsFollowed stop c count stopped final result (IsTrue told → WroteFront before (lines_text c.history) after)

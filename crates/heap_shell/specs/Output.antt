@@ -2,7 +2,7 @@
 use Rattle.std.specs.Prelude.{◌≡◌, ◌≢◌, ◌⊎◌, ℕ, ◌-◌, ◌≤◌, min, List, [], ◌++◌, length, take, Bool, IsTrue, Option, None, Some, Result, Ok, Err}
 use Rattle.counts.specs.Count.{greatest}
 use Rattle.graph_model.specs.Graph.{Graph}
-use Rattle.graph_model.specs.History.{commits, acknowledged}
+use Rattle.graph_model.specs.History.{commits}
 use Rattle.graph_model.specs.Transaction.{serial}
 use Rattle.heap_shell.specs.declared.output.WriteError.{WriteError}
 use Rattle.heap_shell.specs.declared.play.Halt.{Halt}
@@ -11,7 +11,7 @@ use Rattle.heap_shell.specs.declared.status.Status.{Status}
 use Rattle.heap_shell.specs.declared.status.Status.TheVariants.{Done}
 use Rattle.heap_model.specs.Core.{Core}
 use Rattle.heap_model.specs.CoreCrash.{StandsForFirst}
-use Rattle.heap_shell.specs.Headline.{IsEndOfPlay, IsOfDisk, recovered_line, graph_text}
+use Rattle.heap_shell.specs.Headline.{lasting, IsEndOfPlay, IsOfDisk, recovered_line, graph_text}
 use Rattle.heap_shell.specs.Play.{WroteFront}
 use Rattle.heap_shell.specs.StatusOf.{write_status, halt_status}
 
@@ -57,7 +57,7 @@ pub record WroteNothing (fails : Type 0) (result : Status) (told : Bool) (before
 -- A heap was to be opened again on a disk that keeps a core's first k commits, and what came back was written. A crash still leaves them.
 pub record Recovers (c : Core) (k : ℕ) (opens fails : Type 0) (may_leave : List ℕ → Type 0) (result : Status) (told : Bool) (before after : List ℕ) : Type 0 where
   pub end : IsEndOfPlay result
-  pub least : acknowledged c.history ≤ k
+  pub least : lasting c ≤ k
   pub most : k ≤ length (commits c.history)
   pub kept : (image : List ℕ) → may_leave image → StandsForFirst c k image
   pub found : WroteRecovered c k opens result told before after ⊎ WroteNothing fails result told before after

@@ -26,7 +26,8 @@ use Rattle.heap_model.specs.CoreLawsGrow.{has_fewer}
 use Rattle.heap_model.specs.CoreLawsRun.{step_history, same_run}
 use Rattle.core_laws.specs.Run.{run_reached}
 use Rattle.core_laws.specs.Valid.{IsReached}
-use Rattle.heap_shell.specs.CrashSafe.{LastingStep, lasting}
+use Rattle.heap_shell.specs.CrashSafe.{LastingStep}
+use Rattle.heap_shell.specs.Headline.{lasting}
 use Rattle.heap_shell.specs.Steps.{Step, AreSteps}
 
 done_acknowledges : (a : Account) (event : Event) (reply : Reply) → a.acknowledged ≤ (done a event reply).acknowledged

@@ -37,6 +37,18 @@ const EACH: Flushes = ["flush 0\nflush 1\n"; 5];
 /// A page behind some lines, so that both have records behind what is stored of them, of which some are on the disk and some are not.
 const SOME: Flushes = ["", "", "flush 0\n", "", "flush 1\n"];
 
+/// The lines of flushes that are neither refused nor cut short.
+const FLUSH_LINES: [&str; 8] = [
+    "flush 0 -> flushed 0",
+    "flush 0 -> clean 0",
+    "flush 1 -> flushed 1",
+    "flush 1 -> clean 1",
+    "flush 2 -> flushed 2",
+    "flush 2 -> clean 2",
+    "flush 3 -> flushed 3",
+    "flush 3 -> clean 3",
+];
+
 fn with_flushes(alloc: Global, script: &str, flushes: Flushes) -> Result<String, AllocError> {
     let mut flushed = String::new(alloc);
     for (i, line) in script.lines().enumerate() {
@@ -55,8 +67,7 @@ fn without_flushes(rt: &impl Abort, alloc: Global, output: &[u8]) -> Result<Vec<
         } else if line.ends_with(" -> stopped") {
             kept.push_str(FLUSH_STOPPED)?;
         } else {
-            let known = line.contains(" -> flushed ") || line.contains(" -> clean ");
-            same(rt, (line, known), (line, true));
+            same(rt, (line, FLUSH_LINES.contains(&line)), (line, true));
         }
     }
     Ok(kept.into_bytes())

@@ -454,12 +454,16 @@ fn a_stored_volatile_word_is_taken_back(rt: HostRuntime) -> Result<(), Fail> {
 /// Nothing but a flush forces what is sealed. The force behind it has nothing to force.
 const SEALED_AND_STORED: &str = "1 begin\n1 root 0\n1 put 0 0 7\n1 seal\nflush 0\nforce\n";
 
-/// What comes behind the seal, where the disk stops: before and in the last sync of the force that the flush makes, at each call of the
-/// store behind it, and at none.
-const STORED_ENDS: [(u64, [&str; 4]); 5] = [
+/// What comes behind the seal, where the disk stops: at each call of the force that the flush makes, at each call of the store behind it,
+/// and at none.
+const STORED_ENDS: [(u64, [&str; 4]); 9] = [
+    (0, [STOPPED_LOST, STOPPED_LOST, STOPPED_LOST, STOPPED_LOST]),
+    (1, [STOPPED_LOST, STOPPED_LOST, STOPPED_LOST, STOPPED_LOST]),
     (2, [STOPPED_LOST, STOPPED_LOST, STOPPED_LOST, STOPPED_LOST]),
     (3, [STOPPED_LOST, STOPPED_KEPT, STOPPED_LOST, STOPPED_KEPT]),
     (4, [STOPPED_KEPT, STOPPED_KEPT, STOPPED_KEPT, STOPPED_KEPT]),
+    (5, [STOPPED_KEPT, STOPPED_KEPT, STOPPED_KEPT, STOPPED_KEPT]),
+    (6, [STOPPED_KEPT, STOPPED_KEPT, STOPPED_KEPT, STOPPED_KEPT]),
     (7, [STOPPED_KEPT, STOPPED_KEPT, STOPPED_KEPT, STOPPED_KEPT]),
     (8, [STORED, STORED, STORED, STORED]),
 ];
