@@ -1,13 +1,19 @@
 #!/usr/bin/env python3
-"""Checks that what the documents name is there, crate by crate, and lists each row and line that does not match.
+"""Checks that what the pages name is there. It prints nothing and ends with 0 where all is well; else it lists each fault and ends with 1.
 
-    docs/check_claims.py [--move]
+    docs/check_claims.py
 
-With --move a row whose functions and clauses are all in just one other crate is moved there first.
+Of each crate's README.md, and of docs/CLAIMS.md, it checks the claims: each function, type, impl, law and definition in the crate of which
+it is said, and each clause in the contract of its function. Of all pages it checks each file and link, each name of code, each name that is
+said to be of a crate, and that no cell of a table is longer than 200 characters. It reads texts and proves nothing: a clause that is there
+may still say something else.
 
-Of docs/CLAIMS.md it checks each function, type, impl and law in the crate of its row, and each clause in the contracts of its
-functions. Of all pages it checks each file that is named, each definition that is named with it, and each name of code, which has
-to stand somewhere in the repository. It reads texts and proves nothing; a clause that is there may still say something else.
+A claim is an item of a list, below a heading "Proved" or one that names a crate in ticks. It ends with where it is proved, in parentheses:
+
+    - What is promised (`Type::function`, `function`: `clause`, `clause.field`, result; law `name`; definition `IsRecord`: `field`)
+
+"result" is the clause without a name. A group is of functions, or begins with "law", "type", "definition" or "impl"; an impl without
+clauses claims all that its trait promises.
 """
 import functools
 import glob
@@ -18,25 +24,36 @@ import sys
 TOP = os.path.dirname(os.path.dirname(os.path.realpath(__file__)))
 NAME = r"[A-Za-z_][\w'-]*"
 TICKED = re.compile(r"`([^`]+)`")
-faults = []
+LONGEST_CELL = 200
+
+
+# the sources
 
 
 @functools.lru_cache(maxsize=None)
 def text_of(path):
+    """A file without the comments of code."""
     with open(path, encoding="utf-8") as file:
         return re.sub(r"^\s*//.*", "", file.read(), flags=re.M)
 
 
 @functools.lru_cache(maxsize=None)
-def files(crate, part, ending):
-    return tuple(sorted(glob.glob(f"{TOP}/crates/{crate}/{part}/**/*.{ending}", recursive=True)))
+def code(crate):
+    return tuple(sorted(glob.glob(f"{TOP}/crates/{crate}/src/**/*.rt", recursive=True)))
 
 
+@functools.lru_cache(maxsize=None)
+def specs(crate):
+    """The files of definitions and of laws: specs/ and proofs/."""
+    return tuple(it for part in ("specs", "proofs") for it in sorted(glob.glob(f"{TOP}/crates/{crate}/{part}/**/*.antt", recursive=True)))
+
+
+@functools.lru_cache(maxsize=None)
 def crates():
-    return sorted(os.listdir(f"{TOP}/crates"))
+    return tuple(sorted(os.path.basename(os.path.dirname(it)) for it in glob.glob(f"{TOP}/crates/*/src")))
 
 
-def owner(text, at):
+def head_of(text, at):
     """What the item at this place of a file belongs to: the text from impl or trait to its brace, or nothing at the file's margin."""
     heads = [it for it in re.finditer(r"^(?:pub )?(impl\b|trait\b)[^{;]*", text, re.M) if it.start() < at]
     if not heads:
@@ -45,60 +62,103 @@ def owner(text, at):
     return "" if closed and closed.start() < at else " ".join(heads[-1][0].split())
 
 
-def belongs(name, head):
-    """Whether that head is an impl of this type, or this trait's own."""
+def is_head_of(head, name):
+    """Whether that is the head of an impl of this type, or of this trait."""
     subject = re.sub(r"^(?:pub )?(?:impl|trait)\s*(?:<(?:[^<>]|<[^<>]*>)*>\s+)?", "", head)
-    subject = subject.split(" for ")[-1].strip()
-    return re.match(rf"{re.escape(name)}\b", subject) is not None
+    return re.match(rf"{re.escape(name)}\b", subject.split(" for ")[-1].strip()) is not None
+
+
+def is_of(place, module, head):
+    """Whether an item belongs to this place: a type, a module, or nothing."""
+    if module.endswith("tests") and place != module:
+        return False
+    return place == module or is_head_of(head, place) if place else not head
 
 
 def contracts(crate, function):
     """The contracts of the functions of that name: of Type::name the type's, of module::name the module's."""
     place, _, name = function.rpartition("::")
     found = []
-    for path in files(crate, "src", "rt"):
+    for path in code(crate):
         module, text = os.path.basename(path)[: -len(".rt")], text_of(path)
-        if module.endswith("tests") and place != module:
-            continue
         for it in re.finditer(rf"^[ ]*(?:pub(?:\([a-z]+\))? )?(?:const )?fn {re.escape(name)}\b", text, re.M):
-            head = owner(text, it.start())
-            if place and place != module and not belongs(place, head):
-                continue
-            if not place and head:
-                continue
-            # a contract ends where the body begins, at the item's own indentation, or at a semicolon
-            end = re.compile(r"^ *\{|\{$|;$", re.M).search(text, it.end())
-            found.append(text[it.start() : end.start() if end else len(text)])
+            if is_of(place, module, head_of(text, it.start())):
+                # a contract ends where the body begins, at the item's own indentation, or at a semicolon
+                end = re.compile(r"^ *\{|\{$|;$", re.M).search(text, it.end())
+                found.append(text[it.start() : end.start() if end else len(text)])
     return found
 
 
 def clauses_of(contract):
-    """The names of a contract's clauses, with 'result' for one that has none."""
-    found = {it or "result" for it in re.findall(r"\bensures(?: (\w+))? \{", contract)}
-    return found
-
-
-def fields(crate, function, clause):
-    """Whether a definition or a field of this name is in the crate's specs, or in those of a crate below."""
-    pattern = re.compile(rf"^\s*(?:abbrev )?(?:pub )?{re.escape(clause)} :", re.M)
-    return any(pattern.search(text_of(it)) for it in files(crate, "specs", "antt"))
+    """A contract's clauses by their names, 'result' for one that has none."""
+    parts = re.split(r"\b(?:ensures|requires)(?: (\w+))? \{", contract)
+    return {name or "result": text for name, text in zip(parts[1::2], parts[2::2])}
 
 
 def type_clauses(crate, name):
-    for path in files(crate, "src", "rt"):
+    for path in code(crate):
         it = re.search(rf"^(?:pub )?(?:struct|enum) {name}\b.*?^\}}", text_of(path), re.M | re.S)
         if it:
             return set(re.findall(r"ghost (\w+)", it[0]))
     return None
 
 
-def impls(crate, trait, name):
+def impl_of(crate, trait, name):
     """The text of the impl of this trait for this type."""
-    for path in files(crate, "src", "rt"):
+    for path in code(crate):
         it = re.search(rf"^impl\b[^{{;]*\b{trait}\b[^{{;]* for {name}\b.*?^\}}", text_of(path), re.M | re.S)
         if it:
             return it[0]
     return None
+
+
+@functools.lru_cache(maxsize=None)
+def definitions(crate):
+    """The definitions and laws of a crate: each name with the text of all that have it."""
+    found = {}
+    for path in specs(crate):
+        name, margin = None, 0
+        for line in text_of(path).splitlines():
+            it = re.match(rf"( *)(?:abbrev )?(?:pub )?(?:(module|record|data) )?({NAME})", line)
+            if it and it[2] == "module":
+                margin = len(it[1]) + 2
+            elif it and len(it[1]) <= margin:
+                name, margin = it[3], len(it[1])
+            if name:
+                found[name] = found.get(name, "") + line + "\n"
+    return found
+
+
+def has_law(crate, name):
+    return re.search(rf"^ *(?:abbrev )?(?:pub )?{re.escape(name)} :", definitions(crate).get(name, ""), re.M) is not None
+
+
+def has_field(text, name):
+    return re.search(rf"^ +pub {re.escape(name)} :", text, re.M) is not None
+
+
+@functools.lru_cache(maxsize=None)
+def all_definitions():
+    found = {}
+    for crate in crates():
+        for name, text in definitions(crate).items():
+            found[name] = found.get(name, "") + text
+    return found
+
+
+def leads_to(text, field):
+    """Whether a record that this text names, or one that is named there, and so on, has that field."""
+    known, seen, left = all_definitions(), set(), set(re.findall(NAME, text))
+    while left:
+        name = left.pop()
+        seen.add(name)
+        if has_field(known.get(name, ""), field):
+            return True
+        left |= set(re.findall(NAME, known.get(name, ""))) - seen
+    return False
+
+
+# one claim
 
 
 def elsewhere(has):
@@ -106,146 +166,179 @@ def elsewhere(has):
     return f"; {', '.join(found)} has it" if found else ""
 
 
-def one(crate, subject, clauses):
-    """What is wrong with one function, impl or type of a row and its clauses."""
-    kind, _, name = subject.partition(" ")
-    if kind == "type":
-        found = type_clauses(crate, name)
-        if found is None:
-            return [f"no type {name}" + elsewhere(lambda it: type_clauses(it, name) is not None)]
-        return [f"type {name} has no {it}" for it in clauses if it not in found]
-    if " for " in subject:
-        trait, name = subject.split(" for ")
-        text = impls(crate, trait, name)
-        if text is None:
-            return [f"no impl {subject}" + elsewhere(lambda it: impls(it, trait, name) is not None)]
-        return [f"impl {subject} has no {it}" for it in clauses if not re.search(rf"ghost {it}\b", text)]
-    found = contracts(crate, subject)
+def wrong_law(crate, name, clauses):
+    return [] if has_law(crate, name) else [f"no law {name}" + elsewhere(lambda it: has_law(it, name))]
+
+
+def wrong_definition(crate, name, clauses):
+    text = definitions(crate).get(name)
+    if text is None:
+        return [f"no definition {name}" + elsewhere(lambda it: name in definitions(it))]
+    return [f"definition {name} has no {it}" for it in clauses if not has_field(text, it)]
+
+
+def wrong_type(crate, name, clauses):
+    found = type_clauses(crate, name)
+    if found is None:
+        return [f"no type {name}" + elsewhere(lambda it: type_clauses(it, name) is not None)]
+    return [f"type {name} has no {it}" for it in clauses if it not in found]
+
+
+def wrong_impl(crate, subject, clauses):
+    trait, _, name = subject.partition(" for ")
+    text = impl_of(crate, trait, name)
+    if text is None:
+        return [f"no impl {subject}" + elsewhere(lambda it: impl_of(it, trait, name))]
+    return [f"impl {subject} has no {it}" for it in clauses if not re.search(rf"ghost {it}\b", text)]
+
+
+def wrong_function(crate, name, clauses):
+    found = contracts(crate, name)
     if not found:
-        return [f"no function {subject}" + elsewhere(lambda it: contracts(it, subject))]
-    names = set().union(*map(clauses_of, found))
-    wrong = []
+        return [f"no function {name}" + elsewhere(lambda it: contracts(it, name))]
+    texts = {it: text for contract in found for it, text in clauses_of(contract).items()}
+    wrong = [] if clauses else [f"{name} without a clause"]
     for clause in clauses:
         first, _, field = clause.partition(".")
-        if first not in names:
-            wrong.append(f"{subject} has no clause {first}")
-        elif field and not fields(crate, subject, field):
-            wrong.append(f"no field {field} in the crate's specs")
+        if first not in texts:
+            wrong.append(f"{name} has no clause {first}")
+        elif field and not leads_to(texts[first], field):
+            wrong.append(f"clause {first} of {name} leads to no field {field}")
     return wrong
 
 
-def subjects(cell):
-    """The functions of a group, with 'type' in front of a type."""
-    return ["type " * (cell[: it.start()].endswith("type ")) + it[1] for it in TICKED.finditer(cell)]
+KINDS = {"law": wrong_law, "laws": wrong_law, "definition": wrong_definition, "type": wrong_type, "impl": wrong_impl}
 
 
-def row(crate, function, clause):
-    """What is wrong with a row."""
-    law = re.match(r"laws? in `(specs/[\w/]+\.antt)`$", function)
-    if law:
-        path = f"{TOP}/crates/{crate}/{law[1]}"
-        if not os.path.isfile(path):
-            return [f"no file {law[1]}"]
-        has = lambda name: re.search(rf"^ *(?:abbrev )?(?:pub )?{re.escape(name)} :", text_of(path), re.M)
-        return [f"no law {it} in {law[1]}" for it in TICKED.findall(clause) if not has(it)]
-    groups, said = function.split(";"), clause.split(";")
-    if len(groups) != len(said):
-        return [f"{len(groups)} groups of functions and {len(said)} of clauses"]
+def wrong_claim(crate, text):
+    """What is wrong with a claim of that crate."""
+    proof = re.search(r"\(([^()]*)\)$", text)
+    if not proof:
+        return ["a claim without where it is proved"]
     wrong = []
-    for names, text in zip(map(subjects, groups), said):
-        clauses = TICKED.findall(text) + ["result"] * (TICKED.sub("", text).strip(" ,") == "result")
-        if not names or not clauses and "all of the trait's" not in text:
-            wrong.append("a group without functions or clauses")
-        for name in names:
-            wrong += one(crate, name, clauses)
+    for group in proof[1].split(";"):
+        subjects, _, clauses = group.partition(": ")
+        check = KINDS.get(subjects.split("`")[0].strip(), wrong_function)
+        named = TICKED.findall(clauses) + ["result"] * bool(re.search(r"\bresult\b", TICKED.sub("", clauses)))
+        for name in TICKED.findall(subjects):
+            wrong += check(crate, name, named)
+        if not TICKED.findall(subjects):
+            wrong.append(f"a group without a name: {group.strip()}")
     return wrong
 
 
-def cells_of(line):
-    """The cells of a claim's row, or nothing for any other line."""
-    cells = [it.strip() for it in line.strip().strip("|").split("|")] if line.startswith("|") else []
-    return [] if cells[:1] in (["Claim"], ["---"]) else cells
-
-
-def move_claims():
-    """Moves each row that does not match to the one crate in which it does."""
-    path, lines = f"{TOP}/docs/CLAIMS.md", []
-    for line in open(path, encoding="utf-8"):
-        cells = cells_of(line)
-        if len(cells) > 4 and cells[-1] == "proved" and cells[1] != "all" and row(*cells[1:4]):
-            found = [it for it in crates() if not row(it, *cells[2:4])]
-            if len(found) == 1:
-                line = line.replace(f"| {cells[1]} |", f"| {found[0]} |", 1)
-        lines.append(line)
-    with open(path, "w", encoding="utf-8") as file:
-        file.writelines(lines)
-
-
-def check_claims():
-    rows = 0
-    for at, line in enumerate(open(f"{TOP}/docs/CLAIMS.md", encoding="utf-8"), 1):
-        cells = cells_of(line)
-        if not cells:
-            continue
-        rows += 1
-        if len(cells) < 4:
-            faults.append(f"docs/CLAIMS.md:{at}: {len(cells)} cells")
-            continue
-        named = cells[1].split(", ") if cells[1] != "all" else []
-        wrong = [f"no crate {it}" for it in named if it not in crates()]
-        if cells[-1] == "proved" and named and not wrong:
-            wrong = row(cells[1], cells[2], cells[3])
-        faults.extend(f"docs/CLAIMS.md:{at}: {cells[1]}: {it}" for it in wrong)
-    return rows
+# the pages
 
 
 def pages():
-    """The pages by their names, with the number of each line; what is only planned is left out."""
-    for name in ["README.md", "docs/*.md", "examples/README.md", "bench/README.md"]:
-        for path in sorted(glob.glob(f"{TOP}/{name}")):
-            planned = False
-            for at, line in enumerate(open(path, encoding="utf-8"), 1):
-                planned = line.startswith("## Planned") or planned and not line.startswith("#")
-                if not planned:
-                    yield f"{os.path.relpath(path, TOP)}:{at}", line
+    return [it for name in ("README.md", "docs/*.md", "examples/README.md", "bench/README.md", "crates/*/README.md") for it in sorted(glob.glob(f"{TOP}/{name}"))]
 
 
-def check_files():
-    """Files that pages name, and the definitions that are named behind one: `crates/../X.antt`: `a`, `b`."""
-    count, behind = 0, rf"((?:: |, )`{NAME}`(?:, `{NAME}`)*)?"
-    for place, line in pages():
-        for it in re.finditer(r"`((?:crates|docs|examples|tools|bench)/[\w/.*-]+)`" + behind, line):
-            if "NAME" in it[1] or it[1].endswith("/out"):
-                continue
-            count += 1
-            found = glob.glob(f"{TOP}/{it[1]}")
-            if not found:
-                faults.append(f"{place}: no file {it[1]}")
-            elif it[2] and it[2].startswith(": ") and os.path.isfile(found[0]):
-                text = text_of(found[0])
-                lacking = [name for name in TICKED.findall(it[2]) if not re.search(rf"(?<![\w-]){re.escape(name)}(?![\w-])", text)]
-                faults.extend(f"{place}: no {name} in {it[1]}" for name in lacking)
-    return count
+@functools.lru_cache(maxsize=None)
+def lines_of(page):
+    """The lines of a page by their numbers, without what is only planned and without blocks of code."""
+    kept, planned = [], False
+    with open(page, encoding="utf-8") as file:
+        for at, line in enumerate(file, 1):
+            planned = line.startswith("## Planned") or planned and not line.startswith("#")
+            if not planned and not line.startswith("    "):
+                kept.append((at, line.rstrip("\n")))
+    return kept
 
 
-def check_words():
-    """Names of code in pages, as `a_name` and `Type::name`."""
-    known, count = {*os.listdir(TOP), *crates()}, 0
-    texts = [f"{TOP}/{it}" for it in ("heap", "HANDLES", "crates.txt")] + glob.glob(f"{TOP}/examples/*") + glob.glob(f"{TOP}/bench/*")
-    for path in texts + [it for part in (("src", "rt"), ("specs", "antt")) for it in files("*", *part)]:
-        known |= {*re.findall(r"[A-Za-z_]\w*", text_of(path)), *re.findall(NAME, text_of(path)), os.path.basename(path).split(".")[0]}
-    for place, line in pages():
-        for name in TICKED.findall(line):
-            if re.fullmatch(rf"{NAME}(?:::{NAME})*", name):
-                count += 1
-                if not known.issuperset(name.split("::")):
-                    faults.append(f"{place}: nothing is named {name}")
-    return count
+def crate_of(page):
+    """The crate whose page this is, or nothing."""
+    folder = os.path.dirname(page)
+    return os.path.basename(folder) if os.path.dirname(folder) == f"{TOP}/crates" else None
 
 
-if "--move" in sys.argv:
-    move_claims()
-rows, names, words = check_claims(), check_files(), check_words()
-print(*faults, sep="\n", end="\n" * bool(faults))
-print(f"{rows} claims, {names} names of files, {words} names of code: {len(faults)} do not match")
-sys.exit(bool(faults))
+def claims(page):
+    """The claims of a page: the line, the crate and the text of each."""
+    own, crate, found, is_open = crate_of(page), None, [], False
+    for at, line in lines_of(page):
+        if line.startswith("## "):
+            named = [it for it in TICKED.findall(line) if it in crates()]
+            crate = own if line.startswith("## Proved") else named[0] if named else None
+        if line.startswith("- ") and crate:
+            found.append([at, crate, line[2:]])
+            is_open = True
+        elif line.startswith("  ") and is_open:
+            found[-1][2] += " " + line.strip()
+        else:
+            is_open = False
+    return found
+
+
+def claim_faults(page):
+    if crate_of(page) is None and os.path.basename(page) != "CLAIMS.md":
+        return []
+    return [(at, f"{crate}: {it}") for at, crate, text in claims(page) for it in wrong_claim(crate, text)]
+
+
+def file_faults(page):
+    """Files that a page names, from the top of the repository or from the page, and links."""
+    found = []
+    for at, line in lines_of(page):
+        named = re.findall(r"`((?:crates|docs|examples|tools|bench|src|specs|proofs)/[\w/.*-]+)`", line)
+        linked = re.findall(r"\]\(([\w/.-]+)\)", line)
+        for it in named + linked:
+            is_there = it in named and glob.glob(f"{TOP}/{it}") or glob.glob(f"{os.path.dirname(page)}/{it}")
+            if not is_there and "NAME" not in it and not it.endswith("/out"):
+                found.append((at, f"no file {it}"))
+    return found
+
+
+@functools.lru_cache(maxsize=None)
+def words_of(crate):
+    """All words of a crate's sources, and the names of its modules."""
+    found = set()
+    for path in code(crate) + specs(crate):
+        found |= {*re.findall(r"[A-Za-z_]\w*", text_of(path)), *re.findall(NAME, text_of(path)), os.path.basename(path).split(".")[0]}
+    return found
+
+
+@functools.lru_cache(maxsize=None)
+def all_words():
+    found = {*os.listdir(TOP), *crates()}.union(*map(words_of, crates()))
+    for path in [f"{TOP}/{it}" for it in ("heap", "HANDLES", "crates.txt")] + glob.glob(f"{TOP}/examples/**/*", recursive=True) + glob.glob(f"{TOP}/bench/*"):
+        if os.path.isfile(path):
+            found |= {*re.findall(r"[A-Za-z_]\w*", text_of(path)), os.path.basename(path), os.path.basename(path).split(".")[0]}
+    return found
+
+
+def word_faults(page):
+    """Names of code, as `a_name` and `Type::name`."""
+    named = [(at, it) for at, line in lines_of(page) for it in TICKED.findall(line) if re.fullmatch(rf"{NAME}(?:::{NAME})*", it)]
+    return [(at, f"nothing is named {it}") for at, it in named if not all_words().issuperset(it.split("::"))]
+
+
+def place_faults(page):
+    """Names that are said to be of a crate: `a`, `b` of `crate`."""
+    found = []
+    for at, line in lines_of(page):
+        for names, crate in re.findall(rf"((?:`[^`]+`(?:, | and ))*`[^`]+`) of `({NAME})`", line):
+            if crate in crates():
+                parts = {part for it in TICKED.findall(names) for part in it.split("::")}
+                found += [(at, f"{crate} has no {it}") for it in sorted(parts - words_of(crate))]
+    return found
+
+
+def cell_faults(page):
+    rows = [(at, line) for at, line in lines_of(page) if line.startswith("|")]
+    return [(at, f"a cell of {len(it.strip())} characters") for at, line in rows for it in re.split(r"(?<!\\)\|", line) if len(it.strip()) > LONGEST_CELL]
+
+
+def faults():
+    for crate in crates():
+        if not os.path.isfile(f"{TOP}/crates/{crate}/README.md"):
+            yield f"crates/{crate}: no README.md"
+    for page in pages():
+        for check in (claim_faults, file_faults, word_faults, place_faults, cell_faults):
+            for at, it in check(page):
+                yield f"{os.path.relpath(page, TOP)}:{at}: {it}"
+
+
+found = list(faults())
+for it in found:
+    print(it)
+sys.exit(bool(found))

@@ -11,8 +11,8 @@ out=$room/out err=$room/err failed=0
 mkdir "$room/heaps"
 cd "$room/heaps" || exit 1
 
-# tell NAME STATUS WANTED DIFFERS: says whether the example went as it must, by the comparison's status too.
-tell() {
+# report NAME STATUS WANTED DIFFERS: whether the example went as it must, by the comparison's status too.
+report() {
     if [ "$2" = "$3" ] && [ "$4" = 0 ]; then
         echo "ok      $1"
     else
@@ -28,7 +28,7 @@ made() {
     "$@" >"$out"
     status=$?
     cmp -s "$out" "$examples/$wanted"
-    tell "$wanted" "$status" 0 $?
+    report "$wanted" "$status" 0 $?
 }
 
 # example OUTPUT SCRIPT WORDS..: the script on a new heap.
@@ -38,8 +38,8 @@ example() {
     made "$wanted" heap play --fresh 1 "$@" <"$examples/$script"
 }
 
-# told NAME: what the script of that name writes. It works in a folder of its own.
-told() {
+# printed NAME: what the shell script of that name writes. It works in a folder of its own.
+printed() {
     made "$1.out" "$examples/$1.sh" $quick
 }
 
@@ -50,7 +50,7 @@ complains() {
     "$top/heap" "$@" >"$out" 2>"$err"
     status=$?
     [ ! -s "$out" ] && tail -n "$lines" "$err" | cmp -s - "$examples/$wanted"
-    tell "$wanted" "$status" "$expected" $?
+    report "$wanted" "$status" "$expected" $?
 }
 
 # quotes PAGE FILE [--notes | --from LINE]: the page has the lines of the file, indented by four blanks.
@@ -58,7 +58,7 @@ quotes() {
     page=$1 file=$2
     shift 2
     python3 "$examples/quoted.py" "$top/$page" "$examples/$file" "$@"
-    tell "$page quotes $file" $? 0 0
+    report "$page quotes $file" $? 0 0
 }
 
 # A signal to the launcher ends the program.
@@ -77,68 +77,68 @@ passes_signals_on() {
     status=$?
     exec 3>&-
     [ -n "$program" ] && ! kill -0 "$program" 2>/dev/null
-    tell "a signal to the launcher" "$status" 143 $?
+    report "a signal to the launcher" "$status" 143 $?
 }
 
-example first.out first.script
-example two_commits.out two_commits.script
-example transfer.out transfer.script
-example stop_during_commit.out first.script --stop 2
-example stop_in_doubt.out first.script --stop 3
-example stop_after_commit.out first.script --stop 4
-example stop_during_second.out two_commits.script --stop 6
-example abort.out abort.script
-example refusals.out refusals.script
-example force_inside.out force_inside.script
-example rolled_back.out force_inside.script --stop 8
-example flush.out flush.script
-example stopped_twice.out unended.script --stop 7 --again 2
-example list.out list.script
-example list_stopped.out list.script --stop 6
-example cycle.out cycle.script
-example lost.out lost.script
-example volatile_full.out volatile_full.script
-example exhausted.out exhausted.script
-example conflict.out conflict.script
-example early_read.out early_read.script
-example early_read_stopped.out early_read.script --stop 2
-example losers.out losers.script
-example losers_rolled_back.out losers.script --stop 8
-example losers_stopped_twice.out losers.script --stop 7 --again 2
-told stored
-told in_use
-told full_heap
-told spoiled
-told every_stop
-told refused
+example basics/first.out basics/first.script
+example basics/two_commits.out basics/two_commits.script
+example crashes/transfer.out crashes/transfer.script
+example crashes/stop_during_commit.out basics/first.script --stop 2
+example crashes/stop_in_doubt.out basics/first.script --stop 3
+example crashes/stop_after_commit.out basics/first.script --stop 4
+example crashes/stop_during_second.out basics/two_commits.script --stop 6
+example basics/abort.out basics/abort.script
+example basics/refusals.out basics/refusals.script
+example crashes/force_inside.out crashes/force_inside.script
+example crashes/rolled_back.out crashes/force_inside.script --stop 8
+example basics/flush.out basics/flush.script
+example crashes/stopped_twice.out crashes/unended.script --stop 7 --again 2
+example basics/list.out basics/list.script
+example crashes/list_stopped.out basics/list.script --stop 6
+example basics/cycle.out basics/cycle.script
+example basics/lost.out basics/lost.script
+example basics/volatile_full.out basics/volatile_full.script
+example basics/exhausted.out basics/exhausted.script
+example sessions/conflict.out sessions/conflict.script
+example sessions/early_read.out sessions/early_read.script
+example sessions/early_read_stopped.out sessions/early_read.script --stop 2
+example sessions/losers.out sessions/losers.script
+example sessions/losers_rolled_back.out sessions/losers.script --stop 8
+example sessions/losers_stopped_twice.out sessions/losers.script --stop 7 --again 2
+printed basics/stored
+printed basics/in_use
+printed basics/full_heap
+printed damage/spoiled
+printed crashes/every_stop
+printed basics/refused
 
-"$examples/full_log.sh" | heap play --fresh 1 >"$out"
+"$examples/basics/full_log.sh" | heap play --fresh 1 >"$out"
 status=$?
-tail -n 7 "$out" | cmp -s - "$examples/full_log.out"
-tell full_log.out "$status" 0 $?
+tail -n 7 "$out" | cmp -s - "$examples/basics/full_log.out"
+report basics/full_log.out "$status" 0 $?
 
-complains bad_line.err 3 1 $quick play --fresh 1 <"$examples/bad_line.script"
-complains usage.err 2 3 $quick play --fresh 0 </dev/null
-complains help.err 2 4 </dev/null
-complains quick.err 2 4 --quick play --fresh 0 </dev/null
+complains basics/bad_line.err 3 1 $quick play --fresh 1 <"$examples/basics/bad_line.script"
+complains basics/usage.err 2 3 $quick play --fresh 0 </dev/null
+complains basics/help.err 2 4 </dev/null
+complains basics/quick.err 2 4 --quick play --fresh 0 </dev/null
 passes_signals_on
 
-made list.dot "$top/tools/graph_to_dot" <"$examples/list.out"
+made basics/list.dot "$top/tools/graph_to_dot" <"$examples/basics/list.out"
 
-quotes README.md first.out --notes
-quotes README.md every_stop.out
-quotes examples/README.md stored.out
-quotes examples/README.md in_use.out
-quotes examples/README.md full_heap.out
-quotes examples/README.md spoiled.out
-quotes examples/README.md transfer.script
-quotes examples/README.md stopped_twice.out
-quotes examples/README.md conflict.out --from "1 begin -> begun 2"
-quotes examples/README.md early_read.out
-quotes examples/README.md losers_stopped_twice.out --from "1 begin -> begun 2"
-quotes examples/README.md list.out --from "1 begin -> begun 3"
-quotes examples/README.md cycle.out --from "graph 3"
-quotes examples/README.md refused.out
-quotes examples/README.md list.dot
+quotes README.md basics/first.out --notes
+quotes README.md crashes/every_stop.out
+quotes examples/README.md basics/stored.out
+quotes examples/README.md basics/in_use.out
+quotes examples/README.md basics/full_heap.out
+quotes examples/README.md damage/spoiled.out
+quotes examples/README.md crashes/transfer.script
+quotes examples/README.md crashes/stopped_twice.out
+quotes examples/README.md sessions/conflict.out --from "1 begin -> begun 2"
+quotes examples/README.md sessions/early_read.out
+quotes examples/README.md sessions/losers_stopped_twice.out --from "1 begin -> begun 2"
+quotes examples/README.md basics/list.out --from "1 begin -> begun 3"
+quotes examples/README.md basics/cycle.out --from "graph 3"
+quotes examples/README.md basics/refused.out
+quotes examples/README.md basics/list.dot
 
 exit "$failed"

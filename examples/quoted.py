@@ -1,10 +1,10 @@
 #!/usr/bin/env python3
-"""Tells whether a page quotes a file: whether all its lines stand in the page one after another, indented by four blanks.
+"""Whether a page quotes a file: all its lines stand in the page one after another, indented by four blanks.
 
     examples/quoted.py PAGE FILE [--notes | --from LINE]
 
 With --notes a line of the page may end in a note, which two or more blanks part from the quoted line. With --from the page need only
-have that line of the file and those behind it.
+have that line of the file and those after it.
 """
 import re
 import sys

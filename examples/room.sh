@@ -1,6 +1,7 @@
-# Read by the scripts beside it, of which each may have --quick as its first word: they then run the program with nothing proved.
+# Read by the scripts here, of which each may have --quick as its first word: they then run the program with nothing proved.
 # They work in a fresh folder, so that the heap.img of the caller's folder is left alone; it is removed when they end.
-top=$(cd "$(dirname "$0")/.." && pwd) || exit
+here=$(cd "$(dirname "$0")" && pwd) || exit
+top=${here%/examples*}
 quick=
 if [ "$1" = --quick ]; then
     quick=--quick
@@ -26,12 +27,12 @@ show() {
     [ "$status" = 0 ] || echo "status $status"
 }
 
-# played SCRIPT WORDS..: the same, with the file as the script.
+# played SCRIPT WORDS..: the same, with that file of this folder as the script.
 played() {
     script=$1
     shift
     echo "> heap $* < $script"
-    heap "$@" <"$top/examples/$script" 2>&1
+    heap "$@" <"$here/$script" 2>&1
     status=$?
     [ "$status" = 0 ] || echo "status $status"
 }

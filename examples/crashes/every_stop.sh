@@ -1,11 +1,11 @@
 #!/bin/sh
 # Plays a script on a new heap once for each device call that it makes, with the disk stopped there, and prints a table of what is left.
 #
-#     examples/every_stop.sh [--quick] [SCRIPT]
+#     examples/crashes/every_stop.sh [--quick] [SCRIPT]
 #
 # The script is transfer.script if it is left out. With --quick nothing is proved. Each heap is made in a folder of its own.
-. "$(dirname "$0")/room.sh"
-script=$(realpath -- "${1:-$top/examples/transfer.script}") || exit
+. "$(dirname "$0")/../room.sh"
+script=$(realpath -- "${1:-$here/transfer.script}") || exit
 cd "$room" || exit
 
 # row N: reads what the program prints with --stop N.

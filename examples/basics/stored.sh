@@ -1,8 +1,8 @@
 #!/bin/sh
 # Makes a heap in a file, commits to it, and prints it, each in a run of its own; then goes on with what is there.
 #
-#     examples/stored.sh [--quick]
-. "$(dirname "$0")/room.sh"
+#     examples/basics/stored.sh [--quick]
+. "$(dirname "$0")/../room.sh"
 cd "$room" || exit
 
 show format 1 65536 1

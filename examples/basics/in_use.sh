@@ -1,8 +1,8 @@
 #!/bin/sh
 # Tries to open a heap that another run has, a file that another program has locked, and what is no file.
 #
-#     examples/in_use.sh [--quick]
-. "$(dirname "$0")/room.sh"
+#     examples/basics/in_use.sh [--quick]
+. "$(dirname "$0")/../room.sh"
 cd "$room" || exit
 
 # is_same: says whether the file still has the bytes that the last call of note_bytes found.
@@ -14,10 +14,10 @@ is_same() {
     if cksum <heap.img | cmp -s - before; then echo "heap.img is as it was"; else echo "heap.img has changed"; fi
 }
 
-echo "a run that waits, since nobody reads what it writes:"
+echo "a run that is held up, since nobody reads what it writes:"
 show format 1 65536 1
 {
-    cat "$top/examples/first.script"
+    cat "$here/first.script"
     echo "2 begin"
     echo "2 root 0"
     yes "2 same 0 0" | head -n 10000

@@ -1,8 +1,8 @@
 #!/bin/sh
-# Opens files that hold no heap, and heaps whose log was spoiled, and says what is told of each.
+# Opens files that hold no heap, and heaps whose log was spoiled, and says what is reported of each.
 #
-#     examples/spoiled.sh [--quick]
-. "$(dirname "$0")/room.sh"
+#     examples/damage/spoiled.sh [--quick]
+. "$(dirname "$0")/../room.sh"
 cd "$room" || exit
 
 # opened WHY: what the program says of heap.img, and whether it left the file alone.
@@ -31,7 +31,7 @@ cp "$top/LICENSE-MIT" heap.img
 opened 'a text'
 
 heap format 1 65536 1 >out
-heap play <"$top/examples/first.script" >out
+heap play <"$top/examples/basics/first.script" >out
 cp heap.img whole
 spoiled 'byte 0, the gate of the superblock: 0' 0 000
 spoiled 'byte 8, the format: 2' 8 002
@@ -47,5 +47,5 @@ cut() {
     opened "$1"
 }
 
-cut 'cut short behind byte 79, in the batch' 80
-cut 'cut short behind byte 63, before the batch' 64
+cut 'cut short after byte 79, in the batch' 80
+cut 'cut short after byte 63, before the batch' 64

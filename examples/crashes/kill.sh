@@ -1,15 +1,15 @@
 #!/bin/bash
 # Plays a long script on a heap in a file, kills the program at a random moment, opens the heap again, and compares.
 #
-#     examples/kill.sh [--quick] [TIMES]
+#     examples/crashes/kill.sh [--quick] [TIMES]
 #
 # TIMES is 100 if it is left out. It is no part of check.sh, and shows nothing of a loss of power: what a killed process wrote stays
 # in the system's memory. Each transaction of session 1 writes its number into four fields. Session 2 has written into another object
-# before the first of them, and never seals. So behind each kill the four fields have to be one number, no less than the last one that
-# was acknowledged and no more than one greater, and the other object is to be as it was. Behind each eighth transaction the page of
+# before the first of them, and never seals. So after each kill the four fields have to be one number, no less than the last one that
+# was acknowledged and no more than one greater, and the other object is to be as it was. After each eighth transaction the page of
 # all these objects is flushed, with what session 2 has written. TMPDIR says where the heap lies. The script has 9,800 transactions, near
 # the longest that there can be; with --quick 1,000, since that program reads it slowly.
-. "$(dirname "$0")/room.sh"
+. "$(dirname "$0")/../room.sh"
 times=${1:-100}
 cd "$room" || exit
 transactions=9800 log=2097152

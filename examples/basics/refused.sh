@@ -2,8 +2,8 @@
 # Prints for each of some lines why it is refused, the line itself, and what the program says. A \t in a line stands
 # for a tab, and a \r for a carriage return.
 #
-#     examples/refused.sh [--quick]
-. "$(dirname "$0")/room.sh"
+#     examples/basics/refused.sh [--quick]
+. "$(dirname "$0")/../room.sh"
 cd "$room" || exit
 
 # row WHY LINE SAID

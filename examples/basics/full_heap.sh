@@ -1,8 +1,8 @@
 #!/bin/sh
 # Fills heaps with commits of one write each, and then reads them.
 #
-#     examples/full_heap.sh [--quick]
-. "$(dirname "$0")/room.sh"
+#     examples/basics/full_heap.sh [--quick]
+. "$(dirname "$0")/../room.sh"
 cd "$room" || exit
 
 # fill LOGBYTES COMMITS: makes a heap, and plays transactions on it until one more than these were tried.
@@ -10,7 +10,7 @@ fill() {
     heap format 1 "$1" 1 >out || exit
     seq 0 "$2" | sed 's/.*/1 begin\n1 root 0\n1 put 0 0 &\n1 commit/' >script
     heap play <script >out || exit
-    echo "a log of $1 bytes: the last commit that is acknowledged, and what is refused behind it"
+    echo "a log of $1 bytes: the last commit that is acknowledged, and what is refused after it"
     sed -n '/> durable/h; /> logfull/{x;p;x;p;q}' out
 }
 
