@@ -10,7 +10,7 @@ may still say something else.
 
 A claim is an item of a list, below a heading "Proved" or one that names a crate in ticks. It ends with where it is proved, in parentheses:
 
-    - What is promised (`Type::function`, `function`: `clause`, `clause.field`, result; law `name`; definition `IsRecord`: `field`)
+    - What is promised (`Type::function`, `function`: `clause`, `clause.field`, result; law `name`; definition `IsRecord`: `field`).
 
 "result" is the clause without a name. A group is of functions, or begins with "law", "type", "definition" or "impl"; an impl without
 clauses claims all that its trait promises.
@@ -212,7 +212,7 @@ KINDS = {"law": wrong_law, "laws": wrong_law, "definition": wrong_definition, "t
 
 def wrong_claim(crate, text):
     """What is wrong with a claim of that crate."""
-    proof = re.search(r"\(([^()]*)\)$", text)
+    proof = re.search(r"\(([^()]*)\)\.$", text)
     if not proof:
         return ["a claim without where it is proved"]
     wrong = []
