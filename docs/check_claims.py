@@ -237,11 +237,13 @@ def pages():
 @functools.lru_cache(maxsize=None)
 def lines_of(page):
     """The lines of a page by their numbers, without what is only planned and without blocks of code."""
-    kept, planned = [], False
+    kept, planned, code_may_begin = [], False, True
     with open(page, encoding="utf-8") as file:
         for at, line in enumerate(file, 1):
+            is_code = code_may_begin and line.startswith("    ")
+            code_may_begin = is_code or not line.strip()
             planned = line.startswith("## Planned") or planned and not line.startswith("#")
-            if not planned and not line.startswith("    "):
+            if not planned and not is_code:
                 kept.append((at, line.rstrip("\n")))
     return kept
 
