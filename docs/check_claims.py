@@ -137,18 +137,9 @@ def has_field(text, name):
     return re.search(rf"^ +pub {re.escape(name)} :", text, re.M) is not None
 
 
-@functools.lru_cache(maxsize=None)
-def all_definitions():
-    found = {}
-    for crate in crates():
-        for name, text in definitions(crate).items():
-            found[name] = found.get(name, "") + text
-    return found
-
-
-def leads_to(text, field):
-    """Whether a record that this text names, or one that is named there, and so on, has that field."""
-    known, seen, left = all_definitions(), set(), set(re.findall(NAME, text))
+def leads_to(crate, text, field):
+    """Whether a record of the crate that this text names, or one that is named there, and so on, has that field."""
+    known, seen, left = definitions(crate), set(), set(re.findall(NAME, text))
     while left:
         name = left.pop()
         seen.add(name)
@@ -202,7 +193,7 @@ def wrong_function(crate, name, clauses):
         first, _, field = clause.partition(".")
         if first not in texts:
             wrong.append(f"{name} has no clause {first}")
-        elif field and not leads_to(texts[first], field):
+        elif field and not leads_to(crate, texts[first], field):
             wrong.append(f"clause {first} of {name} leads to no field {field}")
     return wrong
 
