@@ -23,6 +23,7 @@ import sys
 
 TOP = os.path.dirname(os.path.dirname(os.path.realpath(__file__)))
 NAME = r"[A-Za-z_][\w'-]*"
+KEYWORDS = r"(?:(?:abbrev|unfoldable|opaque|pub) )*"
 TICKED = re.compile(r"`([^`]+)`")
 LONGEST_CELL = 200
 
@@ -119,7 +120,7 @@ def definitions(crate):
     for path in specs(crate):
         name, margin = None, 0
         for line in text_of(path).splitlines():
-            it = re.match(rf"( *)(?:abbrev )?(?:pub )?(?:(module|record|data) )?({NAME})", line)
+            it = re.match(rf"( *){KEYWORDS}(?:(module|record|data) )?({NAME})", line)
             if it and it[2] == "module":
                 margin = len(it[1]) + 2
             elif it and len(it[1]) <= margin:
@@ -130,7 +131,7 @@ def definitions(crate):
 
 
 def has_law(crate, name):
-    return re.search(rf"^ *(?:abbrev )?(?:pub )?{re.escape(name)} :", definitions(crate).get(name, ""), re.M) is not None
+    return re.search(rf"^ *{KEYWORDS}{re.escape(name)} :", definitions(crate).get(name, ""), re.M) is not None
 
 
 def has_field(text, name):
