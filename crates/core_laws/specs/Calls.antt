@@ -2,8 +2,7 @@
 use Rattle.std.proofs.Common.{◌≡◌, inl, List, [], ◌∷◌, ◌++◌, None, refl}
 use Rattle.std.specs.List.{AllByRecursion}
 use Rattle.graph_model.specs.declared.event.Event.{Event}
-use Rattle.graph_model.specs.History.{account}
-use Rattle.graph_model.specs.SlowHeap.{IsOfSession}
+use Rattle.graph_model.specs.History.{account, IsOfSession}
 use Rattle.heap_model.specs.Core.{Core, answer, after}
 use Rattle.heap_model.specs.CoreLawsCalls.{whole_run}
 use Rattle.heap_model.specs.CoreRuns.{after_events}

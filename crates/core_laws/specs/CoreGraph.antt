@@ -3,11 +3,10 @@ use Rattle.std.proofs.Common.{◌≡◌, ◌≢◌, ℕ, List, Some, None, refl,
 use Rattle.graph_model.specs.declared.event.Event.{Event}
 use Rattle.graph_model.specs.declared.event.Event.TheVariants.{Force, Flush}
 use Rattle.graph_model.specs.Transaction.{Transaction, serial}
-use Rattle.graph_model.specs.History.{account, account_after, sealed}
+use Rattle.graph_model.specs.History.{account, account_after, sealed, IsOfSession}
 use Rattle.graph_model.specs.Locking.{locks_of}
 use Rattle.graph_model.specs.Plain as Plain
 use Rattle.graph_model.specs.Plain.{view}
-use Rattle.graph_model.specs.SlowHeap.{IsOfSession}
 use Rattle.gated_log.specs.Log.{records_of}
 use Rattle.log_machine.specs.Machine.{State, start, after_all, all_taken_back}
 use Rattle.log_machine.specs.MachineLaws.{after_all-append2}

@@ -8,10 +8,9 @@ use Rattle.graph_model.specs.declared.reply.Entry.{Entry}
 use Rattle.graph_model.specs.declared.reply.Refusal.{Refusal}
 use Rattle.graph_model.specs.declared.reply.Reply.TheVariants.{Aborted}
 use Rattle.graph_model.specs.Transaction.{Transaction}
-use Rattle.graph_model.specs.History.{Account, AreInSessions, IsSession, account, account_after, session_of}
+use Rattle.graph_model.specs.History.{Account, AreInSessions, IsSession, account, account_after, session_of, IsOfSession}
 use Rattle.graph_model.specs.HistoryLaws.{account-append}
 use Rattle.graph_model.specs.Plain.{call_refusal, call_conflict, model_refusal, first_of_two, reply_of}
-use Rattle.graph_model.specs.SlowHeap.{IsOfSession}
 use Rattle.log_records.specs.declared.Record.{Record}
 use Rattle.log_machine.specs.ListLaws.{AllByRecursion-append}
 use Rattle.heap_model.specs.Core.{Core, ground, next_number, room_refusal, words_refusal, log_refusal, core_refusal, granted_by, answer, with_entry, after_refusal, after, force_calls, calls_if, calls}

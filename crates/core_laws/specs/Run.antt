@@ -8,11 +8,10 @@ use Rattle.graph_model.specs.declared.reply.Refusal.TheVariants.{Failed, DiskFau
 use Rattle.graph_model.specs.declared.reply.Reply.{Reply}
 use Rattle.graph_model.specs.declared.reply.Reply.TheVariants.{Refused}
 use Rattle.graph_model.specs.Graph.{Graph}
-use Rattle.graph_model.specs.History.{Account, AreInSessions, account, account_after, first_failure}
+use Rattle.graph_model.specs.History.{Account, AreInSessions, account, account_after, first_failure, IsOfSession}
 use Rattle.graph_model.specs.HistoryLaws.{account-append}
 use Rattle.graph_model.specs.Plain.{call_conflict, first_of_two}
 use Rattle.graph_model.specs.PlainLaws.{account_after-refused}
-use Rattle.graph_model.specs.SlowHeap.{IsOfSession}
 use Rattle.graph_model.specs.Transaction.{Transaction}
 use Rattle.heap_model.specs.Core.{Core, Ground, ground, room_refusal, words_refusal, log_refusal, core_refusal, with_entry, after, force_calls, AsksDisk, calls_if, calls, IsCutShort, IsStep, IsRun}
 use Rattle.heap_model.specs.CoreLawsRun.{calls-asks, calls-unfailed, failed_after}

@@ -16,13 +16,12 @@ use Rattle.graph_model.specs.declared.reply.Reply.{Reply}
 use Rattle.graph_model.specs.declared.reply.Reply.TheVariants.{Durable, Flushed, Clean, Refused}
 use Rattle.graph_model.specs.Graph.{Graph}
 use Rattle.graph_model.specs.Transaction.{Transaction, IsCall, held, put_value, reference_to, call}
-use Rattle.graph_model.specs.History.{Account, IsSession, account, account_after, session_of}
+use Rattle.graph_model.specs.History.{Account, IsSession, account, account_after, session_of, IsOfSession}
 use Rattle.graph_model.specs.HistoryLaws.{IsCallReply, account-append, account_after-call}
 use Rattle.graph_model.specs.Locking.{Exclusive, lock_on, lock_of, IsFree}
 use Rattle.graph_model.specs.Plain.{view, no_number, field_refusal, call_refusal, event_refusal, call_conflict, conflict_refusal, model_refusal, first_of_two, refusal_of, granted, reply_of}
 use Rattle.graph_model.specs.PlainLaws.{IsNoFault, HasNoFault, call_reply-IsCallReply, event_refusal-call, granted-call, account_after-refused}
 use Rattle.graph_model.specs.RefusalLaws.{new_granted}
-use Rattle.graph_model.specs.SlowHeap.{IsOfSession}
 use Rattle.commit_order.specs.CallLaws.{lock_on-held}
 use Rattle.commit_order.specs.OrderLaws.{two_phase_ordered}
 use Rattle.log_records.specs.declared.Record.{Record}

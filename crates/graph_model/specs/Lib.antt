@@ -20,7 +20,6 @@ pub mod MatchRowsLaws
 pub mod NewNumbers
 pub mod Numbering
 pub mod NumberingLaws
-pub mod Objects
 pub mod OverLaws
 pub mod Plain
 pub mod PlainLaws
@@ -30,7 +29,6 @@ pub mod RefusalLaws
 pub mod RenamingLaws
 pub mod RootGraph
 pub mod RunIsomorphism
-pub mod SlowHeap
 pub mod Text
 pub mod TextLaws
 pub mod Transaction

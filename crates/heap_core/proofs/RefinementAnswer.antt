@@ -10,9 +10,8 @@ use Rattle.graph_model.specs.declared.event.Event.TheVariants.{Begin, Root, New,
 use Rattle.graph_model.specs.declared.reply.Refusal.{Refusal}
 use Rattle.graph_model.specs.declared.reply.Reply.{Reply}
 use Rattle.graph_model.specs.declared.reply.Reply.TheVariants as answer
-use Rattle.graph_model.specs.History.{account}
+use Rattle.graph_model.specs.History.{account, IsOfSession}
 use Rattle.graph_model.specs.Plain.{reply_of}
-use Rattle.graph_model.specs.SlowHeap.{IsOfSession}
 use Rattle.core_laws.specs.Valid.{IsValid, RunsLocked}
 use Rattle.heap_memory.specs.Leaves.{IsAsItWas, Begins, SetsHandle, Makes, WritesHeld, Links, Gets, Seals, Aborts}
 use Rattle.heap_memory.specs.Memory.{Memory, own, root_place}

@@ -6,8 +6,7 @@ use Rattle.graph_model.specs.declared.event.Event.TheVariants.{Force, Flush}
 use Rattle.graph_model.specs.declared.reply.Entry.{Entry}
 use Rattle.graph_model.specs.declared.reply.Refusal.{Refusal}
 use Rattle.graph_model.specs.declared.reply.Reply.{Reply}
-use Rattle.graph_model.specs.SlowHeap.{IsOfSession}
-use Rattle.graph_model.specs.History.{account}
+use Rattle.graph_model.specs.History.{account, IsOfSession}
 use Rattle.core_laws.specs.Events.{done_records}
 use Rattle.core_laws.specs.Sound.{sound_valid}
 use Rattle.core_laws.specs.Step.{valid_after}

@@ -9,7 +9,7 @@ use Rattle.image_plan.specs.declared.superblock.Super.{Super}
 use Rattle.heap_core.specs.declared.heap.Heap.{Heap}
 use Rattle.heap_shell.specs.declared.play.Halt.{Halt}
 use Rattle.script_text.specs.declared.line.Line.{Line}
-use Rattle.graph_model.specs.SlowHeap.{IsOfSession}
+use Rattle.graph_model.specs.History.{IsOfSession}
 use Rattle.core_laws.specs.Calls.{of_session_front}
 use Rattle.heap_model.specs.Core.{Core}
 use Rattle.heap_model.specs.ListLaws.{AllByRecursion-behind}

@@ -10,8 +10,7 @@ use Rattle.graph_model.specs.declared.reply.Refusal.TheVariants.{DiskFault, Stop
 use Rattle.graph_model.specs.declared.reply.Reply.{Reply}
 use Rattle.graph_model.specs.declared.reply.Reply.TheVariants.{Refused}
 use Rattle.graph_model.specs.Graph.{Graph, new_graph}
-use Rattle.graph_model.specs.History.{sealed}
-use Rattle.graph_model.specs.SlowHeap.{IsOfSession}
+use Rattle.graph_model.specs.History.{sealed, IsOfSession}
 use Rattle.graph_model.specs.Transaction.{serial}
 use Rattle.heap_core.specs.declared.heap.Heap.{Heap}
 use Rattle.image_plan.specs.declared.superblock.Super.{Super}

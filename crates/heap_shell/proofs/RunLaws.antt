@@ -11,8 +11,7 @@ use Rattle.disk_model.specs.Keeps.{KeepsDisk}
 use Rattle.disk_model.specs.Moments.{LeavesOnly, begins, joined, weaker}
 use Rattle.gate_slot.specs.Passing.{Passes}
 use Rattle.graph_model.specs.declared.event.Event.{Event}
-use Rattle.graph_model.specs.History.{acknowledged}
-use Rattle.graph_model.specs.SlowHeap.{IsOfSession}
+use Rattle.graph_model.specs.History.{acknowledged, IsOfSession}
 use Rattle.heap_model.specs.Core.{Core}
 use Rattle.heap_model.specs.CoreCrash.{IsCommitPrefix, HasAtLeast}
 use Rattle.core_laws.specs.Calls.{of_session_front}

@@ -3,7 +3,7 @@ use Rattle.std.proofs.Common.{◌≡◌, true, inl, inr, ℕ, ◌≤◌, List, [
 use Rattle.disk_model.specs.declared.disk.Disk.{Ghosts}
 use Rattle.graph_model.specs.declared.event.Event.{Event}
 use Rattle.graph_model.specs.Graph.{new_graph}
-use Rattle.graph_model.specs.SlowHeap.{IsOfSession}
+use Rattle.graph_model.specs.History.{IsOfSession}
 use Rattle.script_text.specs.declared.line.Line.{Line}
 use Rattle.script_text.specs.Line.{events}
 use Rattle.script_text.specs.Script.{script}

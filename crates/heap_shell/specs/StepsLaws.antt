@@ -12,9 +12,8 @@ use Rattle.graph_model.specs.declared.reply.Refusal.{Refusal}
 use Rattle.graph_model.specs.declared.reply.Refusal.TheVariants.{DiskFault, Stopped}
 use Rattle.graph_model.specs.declared.reply.Reply.{Reply}
 use Rattle.graph_model.specs.declared.reply.Reply.TheVariants.{Begun, Sealed, Aborted, Durable, Refused}
-use Rattle.graph_model.specs.History.{Account, account, done, cut_short, answered, acknowledged}
+use Rattle.graph_model.specs.History.{Account, account, done, cut_short, answered, acknowledged, IsOfSession}
 use Rattle.graph_model.specs.HistoryLaws.{account-append}
-use Rattle.graph_model.specs.SlowHeap.{IsOfSession}
 use Rattle.log_machine.specs.Machine as machine
 use Rattle.log_machine.specs.MachineLaws.{commits-append}
 use Rattle.heap_model.specs.Core.{Core, core_refusal, is_dirty, is_ahead, forced, forced_if, page_stored, after_refusal, IsStep, IsRun}

@@ -3,8 +3,7 @@ ghost use Rattle.std.specs.Prelude.{◌≡◌, [], ◌∷◌, None, Err, IsTrue}
 ghost use Rattle.std.specs.List.{AllByRecursion};
 ghost use Rattle.disk_model.specs.Keeps.{KeepsDisk};
 ghost use Rattle.graph_model.specs.declared.event.Event.TheVariants.{Seal, Force};
-ghost use Rattle.graph_model.specs.History.{IsSession};
-ghost use Rattle.graph_model.specs.SlowHeap.{IsOfSession};
+ghost use Rattle.graph_model.specs.History.{IsSession, IsOfSession};
 ghost use Rattle.image_plan.specs.declared.superblock.Super.{Super};
 ghost use Rattle.heap_shell.specs.Causes.{StreamCause, played_device};
 ghost use Rattle.heap_shell.specs.declared.play.Halt.TheVariants as halt;

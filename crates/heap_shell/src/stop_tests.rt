@@ -3,8 +3,9 @@
 use crate::Status;
 use crate::tests::{ONE_COMMIT, Played, expect_played, make_disk, play_on, same};
 use disk_model::Pick;
-use graph_model::{Entry, Event, SlowHeap};
+use graph_model::{Entry, Event};
 use script_text::{Line, read_script};
+use slow_heap::SlowHeap;
 use std::alloc::{AllocError, Global};
 use std::ops::Range;
 use std::process::Abort;

@@ -10,8 +10,7 @@ use Rattle.std.proofs.lemmas.List.{get_or-append-add}
 use Rattle.std.proofs.lemmas.Str.Parse.{IsNumeralModel, numerals_by_fold}
 use Rattle.graph_model.specs.declared.event.Event.{Event}
 use Rattle.graph_model.specs.declared.event.Event.TheVariants.{Begin, Root, New, Put, Clear, Link, Drop, Get, Same, Len, Seal, Abort, Force, Flush}
-use Rattle.graph_model.specs.History.{IsSession}
-use Rattle.graph_model.specs.SlowHeap.{IsOfSession}
+use Rattle.graph_model.specs.History.{IsSession, IsOfSession}
 use Rattle.graph_model.specs.Text.{event_text}
 use Rattle.script_text.specs.declared.line.Line.TheVariants.{One}
 use Rattle.script_text.specs.Number.{value_from, value, number}

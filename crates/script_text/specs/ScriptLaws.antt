@@ -4,8 +4,7 @@ use Rattle.std.specs.Prelude.{◌==◌, nat_lt, nat_le, IfSome, IfOk, option_map
 use Rattle.std.specs.List.{AllByRecursion, onto_first}
 use Rattle.std.proofs.lemmas.Bool.{ltb-false, leb-true, and_parts}
 use Rattle.graph_model.specs.declared.event.Event.TheVariants.{Force, Flush}
-use Rattle.graph_model.specs.History.{IsSession}
-use Rattle.graph_model.specs.SlowHeap.{IsOfSession}
+use Rattle.graph_model.specs.History.{IsSession, IsOfSession}
 use Rattle.script_text.specs.declared.line.Line.{Line}
 use Rattle.script_text.specs.declared.line.Line.TheVariants.{One}
 use Rattle.script_text.specs.declared.script.ScriptError.{ScriptError}

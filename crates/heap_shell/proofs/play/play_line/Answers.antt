@@ -1,6 +1,6 @@
 use Rattle.std.proofs.Common.{sym, subst}
 use Rattle.std.specs.List.{AllByRecursion}
-use Rattle.graph_model.specs.SlowHeap.{IsOfSession}
+use Rattle.graph_model.specs.History.{IsOfSession}
 use Rattle.script_text.specs.declared.line.Line.{Line}
 use Rattle.heap_shell.specs.Play.{Plays, PlaysCore}
 use Rattle.script_text.specs.Line.{line_events}
