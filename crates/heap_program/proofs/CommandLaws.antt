@@ -2,7 +2,7 @@
 use Rattle.std.proofs.Common.{◌≡◌, ◌≢◌, inl, ℕ, List, Bool, Option, Some, None, refl, sym, subst, arith}
 use Rattle.disk_model.specs.declared.disk.Disk.{Ghosts}
 use Rattle.disk_model.specs.Disk.{Only}
-use Rattle.disk_model.specs.Moments.{begins}
+use Rattle.disk_model.proofs.MomentLaws.{begins}
 use Rattle.graph_model.specs.Graph.{Graph}
 use Rattle.image_plan.specs.declared.superblock.Super.{Super}
 use Rattle.log_records.specs.declared.Record.{Record}

@@ -1,5 +1,6 @@
 mod Causes
 mod CommandLaws
+pub mod CoreSteps
 mod Counts
 mod Lines
 mod PlayAborts
@@ -13,9 +14,12 @@ mod PlayLaws
 mod PlayLoop
 mod PlayOpen
 mod PlayPrints
+pub mod Playable
 mod PrintRecovered
+pub mod Ready
 mod RefusalLaws
 mod Reopened
 mod RunLaws
 mod Statuses
+pub mod StepsLaws
 mod Written

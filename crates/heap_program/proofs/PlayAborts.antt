@@ -10,10 +10,12 @@ use Rattle.heap_core.specs.Refinement.{IsCore, IsHeap}
 use Rattle.heap_model.specs.Core.{Core}
 use Rattle.heap_model.specs.CoreRuns.{after_events}
 use Rattle.heap_model.specs.Ending.{abort_of, aborting}
-use Rattle.core_laws.specs.Aborting.{active_in, aborting_from, aborting_until, aborting_parts, until_then}
-use Rattle.core_laws.specs.Ending.{until_of_session}
+use Rattle.core_laws.specs.Active.{active_in}
+use Rattle.core_laws.proofs.Run.Aborting.{aborting_from, aborting_until, aborting_parts, until_then}
+use Rattle.core_laws.proofs.Run.Ending.{until_of_session}
 use Rattle.heap_program.specs.declared.play.Halt.{Halt}
-use Rattle.heap_program.specs.Play.{IsRunning, AreReady, PlaysCore, Plays}
+use Rattle.heap_program.specs.Play.{IsRunning, PlaysCore, Plays}
+use Rattle.heap_program.proofs.Ready.{AreReady}
 use Rattle.heap_program.proofs.PlayCore.{core_on, core_then}
 use Rattle.heap_program.proofs.PlayLaws.{plays_on, plays_then}
 

@@ -18,12 +18,13 @@ use Rattle.heap_program.specs.declared.play.Halt.TheVariants as halt
 use Rattle.script_text.specs.declared.line.Line.{Line}
 use Rattle.script_text.specs.Line.{line_events, events}
 use Rattle.heap_model.specs.Core.{Core, answer, after, with_entry, IsCutShort, IsStep, IsRun}
-use Rattle.heap_model.specs.CoreLawsCalls.{after_events-append, run_append}
-use Rattle.heap_model.specs.CoreLawsRun.{step_history}
+use Rattle.heap_model.proofs.Step.Calls.{after_events-append, run_append}
+use Rattle.heap_model.proofs.Run.Calls.{step_history}
 use Rattle.heap_model.specs.CoreRuns.{after_events}
 use Rattle.heap_core.specs.Refinement.{IsCore}
-use Rattle.heap_program.specs.CoreLawsPlay.{ready_behind, ready_front}
-use Rattle.heap_program.specs.Play.{AreReady, IsWhole, IsCutBy, EndsAs, PlaysCore, Wrote, WroteFront, WroteLines, ended_by, lines_text}
+use Rattle.heap_program.proofs.CoreSteps.{ready_behind, ready_front}
+use Rattle.heap_program.proofs.Ready.{AreReady}
+use Rattle.heap_program.specs.Play.{IsWhole, IsCutBy, EndsAs, PlaysCore, Wrote, WroteFront, WroteLines, ended_by, lines_text}
 use Rattle.heap_program.specs.StatusOf.{write_halt}
 use Rattle.heap_program.proofs.PlayEvent.{whole_reply}
 use Rattle.heap_program.proofs.PlayLoop.{events_next, events_parts}

@@ -6,7 +6,8 @@ use Rattle.counts.specs.Count.{Rose, counted}
 use Rattle.disk_model.specs.declared.disk.Disk.{Ghosts}
 use Rattle.disk_model.specs.declared.disk.DiskError.TheVariants as device
 use Rattle.disk_model.specs.Disk.{Only}
-use Rattle.disk_model.specs.Moments.{LeavesOnly, begins}
+use Rattle.disk_model.specs.Moments.{LeavesOnly}
+use Rattle.disk_model.proofs.MomentLaws.{begins}
 use Rattle.gated_log.specs.Log.{records_of}
 use Rattle.graph_model.specs.declared.event.Event.{Event}
 use Rattle.graph_model.specs.declared.reply.Entry.{Entry}
@@ -26,21 +27,22 @@ use Rattle.heap_program.specs.Causes.{DiskRose, Unharmed}
 use Rattle.heap_core.specs.Causes.{reply_device}
 use Rattle.heap_model.specs.Core.{Core, with_entry, IsRun}
 use Rattle.heap_model.specs.CoreCrash.{IsCommitPrefix}
-use Rattle.heap_model.specs.CoreLawsCalls.{total_calls-append}
-use Rattle.core_laws.specs.Crash.{commits-sealed}
-use Rattle.heap_model.specs.CoreLawsEnding.{total_few}
-use Rattle.heap_program.specs.CoreLawsPlay.{makes_run}
-use Rattle.core_laws.specs.Replies.{replies_law}
-use Rattle.core_laws.specs.Sound.{reached_agrees}
+use Rattle.heap_model.proofs.Step.Calls.{total_calls-append}
+use Rattle.core_laws.proofs.Crash.Image.{commits-sealed}
+use Rattle.heap_model.proofs.Run.Ending.{total_few}
+use Rattle.heap_program.proofs.CoreSteps.{makes_run}
+use Rattle.core_laws.proofs.Run.Replies.{replies_law}
+use Rattle.core_laws.proofs.Step.Sound.{reached_agrees}
 use Rattle.commit_order.specs.Heard.{replies_of_commits}
 use Rattle.heap_model.specs.CoreRuns.{after_events, total_calls}
 use Rattle.core_laws.specs.Valid.{IsReached}
-use Rattle.log_machine.specs.StateLaws.{commits-start}
+use Rattle.log_machine.proofs.StateLaws.{commits-start}
 use Rattle.command_words.specs.declared.commands.Stop.{Stop}
 use Rattle.heap_program.specs.Headline.{lasting, graph_text, end_text, stop_after, let_through, HasMade, StopsLast, IsExact, IsEndOfPlay, IsOfDisk, MakesEvents, KeepsThroughout, IsFollowed, Reopens, StartsAgain, EndsUnopened, Prints, IsPlayed}
-use Rattle.heap_program.specs.Playable.{IsPlayable}
+use Rattle.heap_program.proofs.Playable.{IsPlayable}
 use Rattle.heap_program.specs.Output.{WroteText, Recovers, WroteRecovered, WroteNothing, status_after}
-use Rattle.heap_program.specs.Play.{IsRunning, IsWhole, IsCutBy, AreReady, MakesAll, MakesShort, Makes, Ends, Plays, Wrote, lines_text, WroteFront, WroteLines}
+use Rattle.heap_program.specs.Play.{IsRunning, IsWhole, IsCutBy, MakesAll, MakesShort, Makes, Ends, Plays, Wrote, lines_text, WroteFront, WroteLines}
+use Rattle.heap_program.proofs.Ready.{AreReady}
 use Rattle.heap_program.specs.StatusOf.{halt_status}
 use Rattle.heap_program.proofs.Causes.{disk_rose}
 use Rattle.heap_program.proofs.Counts.{counted-sum, counted_mono}

@@ -15,7 +15,7 @@ use Rattle.graph_model.specs.declared.reply.Refusal.TheVariants.{DiskFault, Stop
 use Rattle.graph_model.specs.declared.reply.Reply.{Reply}
 use Rattle.graph_model.specs.declared.reply.Reply.TheVariants.{Flushed, Clean, Refused}
 use Rattle.graph_model.specs.History.{account}
-use Rattle.graph_model.specs.PlainLaws.{IsSoundReply, granted_sound, sound_either}
+use Rattle.graph_model.proofs.Refusals.Plain.{IsSoundReply, granted_sound, sound_either}
 use Rattle.graph_model.specs.Text.{line}
 use Rattle.image_plan.specs.declared.superblock.Super.{Super}
 use Rattle.heap_core.specs.declared.heap.Heap.{Heap}
@@ -24,16 +24,17 @@ use Rattle.heap_program.specs.declared.output.WriteError.{WriteError}
 use Rattle.heap_core.specs.Causes.{reply_device}
 use Rattle.heap_model.specs.Core.{Core, next_number, is_dirty, granted_by, answer, with_entry, after, IsCutShort, IsStep, calls}
 use Rattle.heap_model.specs.CoreCrash.{IsCommitPrefix}
-use Rattle.core_laws.specs.Run.{step_reached}
-use Rattle.heap_model.specs.CoreLawsRun.{step_history}
-use Rattle.heap_model.specs.CoreLawsStep.{core_refusal-HasNoFault}
+use Rattle.core_laws.proofs.Run.Events.{step_reached}
+use Rattle.heap_model.proofs.Run.Calls.{step_history}
+use Rattle.heap_model.proofs.Step.Step.{core_refusal-HasNoFault}
 use Rattle.core_laws.specs.Valid.{IsReached}
 use Rattle.heap_core.specs.Refinement.{DiskHolds, IsCore, IsHeap}
-use Rattle.heap_program.specs.Play.{AreReady, MakesAll, MakesShort, Makes, Ends, Plays, ended_by, lines_text, Wrote, WroteFront, WroteLines}
+use Rattle.heap_program.proofs.Ready.{AreReady}
+use Rattle.heap_program.specs.Play.{MakesAll, MakesShort, Makes, Ends, Plays, ended_by, lines_text, Wrote, WroteFront, WroteLines}
 use Rattle.heap_program.specs.StatusOf.{write_halt}
 use Rattle.heap_program.specs.Steps.{HeapStep, AreSteps}
 use Rattle.heap_program.specs.declared.output.WriteError.TheVariants as writing
-use Rattle.heap_core.specs.CrashLaws.{heap_keeps}
+use Rattle.heap_core.proofs.CrashLaws.{heap_keeps}
 
 -- a reply that tells no fault of the disk
 sound_device : (reply : Reply) → IsSoundReply reply → (reply_device reply ≡ Ok tt) × (ended_by reply ≡ Ok tt)

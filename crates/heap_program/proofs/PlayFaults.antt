@@ -6,10 +6,10 @@ use Rattle.graph_model.specs.declared.reply.Entry.{Entry}
 use Rattle.graph_model.specs.declared.reply.Refusal.TheVariants.{DiskFault, Stopped}
 use Rattle.graph_model.specs.declared.reply.Reply.{Reply}
 use Rattle.graph_model.specs.declared.reply.Reply.TheVariants.{Refused}
-use Rattle.graph_model.specs.PlainLaws.{IsSoundReply}
+use Rattle.graph_model.proofs.Refusals.Plain.{IsSoundReply}
 use Rattle.heap_model.specs.Core.{Core, answer, after}
-use Rattle.heap_model.specs.CoreLawsCalls.{after_events-append}
-use Rattle.heap_model.specs.CoreLawsRun.{step_history}
+use Rattle.heap_model.proofs.Step.Calls.{after_events-append}
+use Rattle.heap_model.proofs.Run.Calls.{step_history}
 use Rattle.heap_model.specs.CoreRuns.{after_events}
 use Rattle.heap_program.specs.Play.{IsWhole, IsCutBy}
 use Rattle.heap_program.proofs.PlayEvent.{answer_sound}

@@ -8,7 +8,7 @@ use Rattle.disk_model.specs.Disk.{HasCause}
 use Rattle.disk_model.specs.declared.fuse.FuseDisk.{FuseDisk}
 use Rattle.disk_model.specs.Fuse.{FuseOrigin, fuse_inner, fuse_origin, fuse_passed}
 use Rattle.disk_model.specs.Keeps.{KeepsDisk}
-use Rattle.disk_model.specs.KeepsLaws.{rose_until}
+use Rattle.disk_model.proofs.KeepsLaws.{rose_until}
 use Rattle.disk_model.specs.Moments.{LeavesOnly}
 use Rattle.gate_slot.specs.Passing.{Passes}
 use Rattle.graph_model.specs.declared.event.Event.{Event}

@@ -3,7 +3,7 @@ use Rattle.std.proofs.Common.{◌≡◌, inl, inr, ℕ, ◌+◌, ◌≤◌, ◌<
 use Rattle.std.proofs.lemmas.List.{append-nil}
 use Rattle.counts.specs.Count.{counted}
 use Rattle.disk_model.specs.declared.disk.Disk.{Ghosts}
-use Rattle.gate_slot.specs.Passing.{counted-add}
+use Rattle.gate_slot.proofs.PassingLaws.{counted-add}
 use Rattle.graph_model.specs.declared.event.Event.{Event}
 use Rattle.graph_model.specs.declared.reply.Refusal.TheVariants.{DiskFault, Stopped}
 use Rattle.graph_model.specs.declared.reply.Reply.{Reply}
@@ -15,12 +15,13 @@ use Rattle.heap_program.specs.declared.play.Halt.TheVariants as halt
 use Rattle.heap_core.specs.Causes.{reply_device}
 use Rattle.heap_model.specs.Core.{Core, with_entry, IsCutShort, calls}
 use Rattle.heap_model.specs.CoreRuns.{after_events, total_calls}
-use Rattle.heap_model.specs.CoreLawsCalls.{after_events-append, total_calls-append}
-use Rattle.heap_program.specs.CoreLawsPlay.{ready_behind}
+use Rattle.heap_model.proofs.Step.Calls.{after_events-append, total_calls-append}
+use Rattle.heap_program.proofs.CoreSteps.{ready_behind}
 use Rattle.heap_core.specs.Refinement.{IsHeap}
-use Rattle.heap_program.specs.Play.{AreReady, MakesAll, MakesShort, Makes, Ends, Plays}
+use Rattle.heap_program.proofs.Ready.{AreReady}
+use Rattle.heap_program.specs.Play.{MakesAll, MakesShort, Makes, Ends, Plays}
 use Rattle.heap_program.specs.Steps.{HeapStep, AreSteps}
-use Rattle.heap_program.specs.StepsLaws.{steps_append}
+use Rattle.heap_program.proofs.StepsLaws.{steps_append}
 use Rattle.heap_program.proofs.Causes.{cause_on}
 
 -- the passes of two runs, one after the other

@@ -10,12 +10,13 @@ use Rattle.heap_core.specs.declared.heap.Heap.{Heap}
 use Rattle.heap_program.specs.declared.play.Halt.{Halt}
 use Rattle.script_text.specs.declared.line.Line.{Line}
 use Rattle.graph_model.specs.History.{IsOfSession}
-use Rattle.core_laws.specs.Calls.{of_session_front}
+use Rattle.core_laws.proofs.Run.Calls.{of_session_front}
 use Rattle.heap_model.specs.Core.{Core}
-use Rattle.heap_model.specs.ListLaws.{AllByRecursion-behind}
-use Rattle.heap_program.specs.CoreLawsPlay.{ready_front}
+use Rattle.heap_model.proofs.ListLaws.{AllByRecursion-behind}
+use Rattle.heap_program.proofs.CoreSteps.{ready_front}
 use Rattle.heap_core.specs.Refinement.{IsHeap}
-use Rattle.heap_program.specs.Play.{AreReady, Plays}
+use Rattle.heap_program.proofs.Ready.{AreReady}
+use Rattle.heap_program.specs.Play.{Plays}
 use Rattle.script_text.specs.Line.{line_events, events}
 use Rattle.heap_program.proofs.PlayLaws.{plays_on, plays_then}
 

@@ -4,7 +4,8 @@ use Rattle.std.proofs.lemmas.Bool.{cases_lt, false≢true}
 use Rattle.std.specs.Prelude.{◌⊎◌, IsTrue}
 use Rattle.std.proofs.lemmas.List.{append-nil}
 use Rattle.disk_model.specs.declared.disk.Disk.{Ghosts}
-use Rattle.disk_model.specs.Moments.{LeavesOnly, begins, joined, weaker}
+use Rattle.disk_model.specs.Moments.{LeavesOnly}
+use Rattle.disk_model.proofs.MomentLaws.{begins, joined, weaker}
 use Rattle.graph_model.specs.declared.event.Event.{Event}
 use Rattle.graph_model.specs.declared.reply.Refusal.TheVariants.{DiskFault}
 use Rattle.graph_model.specs.declared.reply.Reply.TheVariants.{Refused}
@@ -17,12 +18,13 @@ use Rattle.heap_model.specs.Core.{Core}
 use Rattle.heap_program.specs.declared.status.Status.{Status}
 use Rattle.heap_program.specs.declared.status.Status.TheVariants.{Done}
 use Rattle.heap_model.specs.CoreCrash.{IsCommitPrefix}
-use Rattle.heap_model.specs.CoreLawsNew.{root_place, new_legal, new_found}
+use Rattle.heap_model.specs.NewHeap.{root_place}
+use Rattle.heap_model.proofs.Opening.New.{new_legal, new_found}
 use Rattle.heap_program.specs.Stored.{IsStored, stored_core, stored_calls}
-use Rattle.core_laws.specs.Opened.{opened_reached}
-use Rattle.heap_model.specs.CoreLawsOpened.{address_found, opened_keeps}
-use Rattle.heap_model.specs.CoreLawsOpening.{rolled_commits}
-use Rattle.heap_program.specs.CoreLawsPlay.{running_after, all_playable}
+use Rattle.core_laws.proofs.Opening.Opened.{opened_reached}
+use Rattle.heap_model.proofs.Opening.Opened.{address_found, opened_keeps}
+use Rattle.heap_model.proofs.Opening.Rolled.{rolled_commits}
+use Rattle.heap_program.proofs.CoreSteps.{running_after, all_playable}
 use Rattle.heap_model.specs.CoreRuns.{after_events}
 use Rattle.heap_model.specs.Ending.{all_events}
 use Rattle.command_words.specs.declared.commands.Stop.{Stop}
@@ -39,7 +41,7 @@ use Rattle.page_redo.specs.Pages.{Pages, first_pages}
 use Rattle.page_store.specs.Gates.{open_gates}
 use Rattle.heap_model.specs.Image.{IsShapedLog, IsShaped, IsLegal}
 use Rattle.counts.specs.Count.{counted}
-use Rattle.log_machine.specs.MapLaws.{entries_empty}
+use Rattle.log_machine.proofs.MapLaws.{entries_empty}
 use Rattle.log_machine.specs.Machine.{abort_each}
 use Rattle.log_machine.specs.declared.UndoEntry.{UndoEntry}
 use Rattle.heap_model.specs.Core.{force_calls}

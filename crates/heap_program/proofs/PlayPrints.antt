@@ -16,19 +16,20 @@ use Rattle.heap_core.specs.declared.heap.Heap.{Heap}
 use Rattle.image_plan.specs.declared.superblock.Super.{Super}
 use Rattle.log_records.specs.declared.Record.{Record}
 use Rattle.heap_model.specs.Core.{Core}
-use Rattle.core_laws.specs.Calls.{of_session_front}
-use Rattle.core_laws.specs.Run.{run_reached}
+use Rattle.core_laws.proofs.Run.Calls.{of_session_front}
+use Rattle.core_laws.proofs.Run.Events.{run_reached}
 use Rattle.core_laws.specs.Valid.{IsReached}
 use Rattle.page_redo.specs.Pages.{Pages, first_pages}
 use Rattle.page_store.specs.Gates.{open_gates}
-use Rattle.heap_model.specs.CoreLawsNew.{root_place, new_legal, new_found}
+use Rattle.heap_model.specs.NewHeap.{root_place}
+use Rattle.heap_model.proofs.Opening.New.{new_legal, new_found}
 use Rattle.heap_model.specs.Ending.{all_events}
 use Rattle.heap_program.specs.declared.output.WriteError.{WriteError}
 use Rattle.heap_program.specs.declared.play.Halt.{Halt}
 use Rattle.heap_program.specs.declared.play.Halt.TheVariants as halt
 use Rattle.heap_program.specs.declared.status.Status.{Status}
 use Rattle.heap_program.specs.declared.status.Status.TheVariants as status
-use Rattle.heap_program.specs.CoreLawsPlay.{made_limits, all_playable}
+use Rattle.heap_program.proofs.CoreSteps.{made_limits, all_playable}
 use Rattle.heap_program.specs.Headline.{made_super, made_core, graph_text, end_text, recovered_line, HasMade, HasFailed, IsOfDisk, PrintsRun, PrintsSome, Writes}
 use Rattle.heap_program.specs.Output.{WroteText, WroteGraph, WroteAgain, status_after}
 use Rattle.heap_program.specs.Play.{EndsAs, IsCutBy, IsWhole, PlaysCore, Wrote, WroteFront, lines_text}

@@ -6,7 +6,8 @@ use Rattle.counts.specs.Count.{Rose, greatest, counted}
 use Rattle.disk_model.specs.declared.disk.Disk.{Ghosts}
 use Rattle.disk_model.specs.declared.disk.DiskError.{DiskError}
 use Rattle.disk_model.specs.declared.disk.DiskError.TheVariants as device
-use Rattle.disk_model.specs.Moments.{LeavesOnly, weaker}
+use Rattle.disk_model.specs.Moments.{LeavesOnly}
+use Rattle.disk_model.proofs.MomentLaws.{weaker}
 use Rattle.disk_model.specs.Disk.{Only, HasCause}
 use Rattle.gate_slot.specs.Passing.{Passes}
 use Rattle.gated_log.specs.Log.{batch, batches_bytes, records_of}
@@ -17,9 +18,9 @@ use Rattle.image_plan.specs.declared.superblock.Super.{Super}
 use Rattle.log_records.specs.declared.Record.{Record}
 use Rattle.log_records.specs.declared.Record.TheVariants.{Commit}
 use Rattle.log_records.specs.Record.{spelling, spellings}
-use Rattle.log_records.specs.RecordLaws.{some_spelling}
+use Rattle.log_records.proofs.RecordLaws.{some_spelling}
 use Rattle.log_machine.specs.Machine.{commits}
-use Rattle.log_machine.specs.MachineLaws.{commits-append}
+use Rattle.log_machine.proofs.MachineLaws.{commits-append}
 use Rattle.heap_core.specs.Causes.{IsFromOutside, ErrorPasses, error_device}
 use Rattle.heap_core.specs.declared.errors.OpenError.{OpenError}
 use Rattle.heap_core.specs.declared.errors.OpenError.TheVariants as opening
@@ -30,7 +31,7 @@ use Rattle.heap_model.specs.Core.{Core, force_calls}
 use Rattle.heap_model.specs.CoreCrash.{StandsForFirst, IsCommitPrefix}
 use Rattle.page_redo.specs.Pages.{Pages}
 use Rattle.heap_model.specs.Image.{IsLegalLog, IsLegal}
-use Rattle.heap_model.specs.CoreLawsHeld.{left_first}
+use Rattle.heap_model.proofs.Opening.Held.{left_first}
 use Rattle.heap_model.specs.Opening.{IsLeftByOpening}
 use Rattle.heap_program.specs.Causes.{DiskRose}
 use Rattle.heap_program.specs.Headline.{recovered_line, graph_text, IsEndOfPlay, IsOfDisk, KeepsFirst, calls_to_open, Reopens, FailsToOpen, Restarts, IsCutBefore, StartsAgain, EndsUnopened}

@@ -4,7 +4,7 @@ use Rattle.std.specs.Prelude.{IsTrue}
 use Rattle.disk_model.specs.declared.disk.Disk.{Ghosts}
 use Rattle.disk_model.specs.declared.disk.DiskError.{DiskError}
 use Rattle.disk_model.specs.Keeps.{OnlyReads}
-use Rattle.disk_model.specs.KeepsLaws.{same_none}
+use Rattle.disk_model.proofs.KeepsLaws.{same_none}
 use Rattle.disk_model.specs.Moments.{LeavesOnly}
 use Rattle.heap_recovery.specs.declared.at.At.{At}
 use Rattle.heap_recovery.specs.declared.at.At.TheVariants as place

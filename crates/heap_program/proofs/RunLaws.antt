@@ -8,26 +8,27 @@ use Rattle.disk_model.specs.declared.disk.Disk.{Ghosts}
 use Rattle.disk_model.specs.declared.disk.DiskError.TheVariants as device
 use Rattle.disk_model.specs.Disk.{SameOutside, Only}
 use Rattle.disk_model.specs.Keeps.{KeepsDisk}
-use Rattle.disk_model.specs.Moments.{LeavesOnly, begins, joined, weaker}
+use Rattle.disk_model.specs.Moments.{LeavesOnly}
+use Rattle.disk_model.proofs.MomentLaws.{begins, joined, weaker}
 use Rattle.gate_slot.specs.Passing.{Passes}
 use Rattle.graph_model.specs.declared.event.Event.{Event}
 use Rattle.graph_model.specs.History.{acknowledged, IsOfSession}
 use Rattle.heap_model.specs.Core.{Core}
 use Rattle.heap_model.specs.CoreCrash.{IsCommitPrefix, HasAtLeast}
-use Rattle.core_laws.specs.Calls.{of_session_front}
-use Rattle.core_laws.specs.Grow.{has_at_least_on}
-use Rattle.core_laws.specs.Run.{run_reached}
-use Rattle.heap_model.specs.CoreLawsGrow.{keeps_at_least, has_fewer}
+use Rattle.core_laws.proofs.Run.Calls.{of_session_front}
+use Rattle.core_laws.proofs.Crash.Grow.{has_at_least_on}
+use Rattle.core_laws.proofs.Run.Events.{run_reached}
+use Rattle.heap_model.proofs.Step.Grow.{keeps_at_least, has_fewer}
 use Rattle.core_laws.specs.Valid.{IsReached}
 use Rattle.command_words.specs.Limits.{IsPages}
 use Rattle.heap_model.specs.Ending.{all_events}
 use Rattle.script_text.specs.Line.{events}
-use Rattle.heap_program.specs.CoreLawsPlay.{made_limits, made_reached, script_is, all_playable}
+use Rattle.heap_program.proofs.CoreSteps.{made_limits, made_reached, script_is, all_playable}
 use Rattle.heap_program.specs.CrashSafe.{IsCrashSafe, RunsSafely}
 use Rattle.heap_program.specs.Playable.{IsReadFrom}
 use Rattle.heap_program.specs.Stored.{stored_core, stored_calls}
 use Rattle.heap_program.proofs.PlayOpen.{stored_running}
-use Rattle.heap_program.specs.StepsLaws.{steps_run, last_until, lasting_steps}
+use Rattle.heap_program.proofs.StepsLaws.{steps_run, last_until, lasting_steps}
 use Rattle.image_plan.specs.declared.superblock.Super.{Super}
 use Rattle.image_plan.specs.Plan.{image_size}
 use Rattle.heap_core.specs.declared.errors.FormatError.{FormatError}

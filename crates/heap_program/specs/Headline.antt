@@ -23,7 +23,7 @@ use Rattle.image_plan.specs.Plan.{image_size}
 use Rattle.heap_core.specs.Format.{IsEmptyHeap, IsFormatting, format_calls}
 use Rattle.heap_model.specs.Core.{Core, with_entry, IsRun}
 use Rattle.heap_model.specs.CoreCrash.{StandsForFirst, IsCommitPrefix}
-use Rattle.heap_model.specs.CoreLawsNew.{root_place}
+use Rattle.heap_model.specs.NewHeap.{root_place}
 use Rattle.commit_order.specs.Heard.{replies_of_commits}
 use Rattle.heap_model.specs.CoreRuns.{after_events, total_calls, StopsAt}
 use Rattle.heap_model.specs.Ending.{all_events}

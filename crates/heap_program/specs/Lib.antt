@@ -1,6 +1,5 @@
 pub mod Causes
 pub mod Commands
-pub mod CoreLawsPlay
 pub mod CrashSafe
 pub mod Headline
 pub mod Output
@@ -10,5 +9,4 @@ pub mod Refusals
 pub mod Status
 pub mod StatusOf
 pub mod Steps
-pub mod StepsLaws
 pub mod Stored

@@ -1,6 +1,6 @@
 -- What a play makes of the events of a script.
 use Rattle.std.specs.Prelude.{◌≡◌, ◌⊎◌, ℕ, ◌+◌, ◌<◌, ◌≤◌, List, [], ◌∷◌, ◌++◌, length, Bool, IsTrue, None, Result, Ok, Err}
-use Rattle.std.specs.List.{AllByRecursion, flat_map}
+use Rattle.std.specs.List.{flat_map}
 use Rattle.counts.specs.Count.{counted}
 use Rattle.disk_model.specs.declared.disk.Disk.{Ghosts}
 use Rattle.disk_model.specs.Disk.{HasCause}
@@ -9,7 +9,7 @@ use Rattle.graph_model.specs.declared.reply.Entry.{Entry}
 use Rattle.graph_model.specs.declared.reply.Refusal.TheVariants.{DiskFault, Stopped}
 use Rattle.graph_model.specs.declared.reply.Reply.{Reply}
 use Rattle.graph_model.specs.declared.reply.Reply.TheVariants.{Refused}
-use Rattle.graph_model.specs.History.{account, IsOfSession}
+use Rattle.graph_model.specs.History.{account}
 use Rattle.graph_model.specs.Text.{line}
 use Rattle.image_plan.specs.declared.superblock.Super.{Super}
 use Rattle.heap_core.specs.declared.heap.Heap.{Heap}
@@ -30,11 +30,6 @@ lines_text history = flat_map line history
 pub record IsRunning (c : Core) : Type 0 where
   pub reached : IsReached c
   pub unfailed : (account c.history).failed ≡ None
-
--- Events that a core may be asked one after another: each is of a session, or of none.
-pub record AreReady (c : Core) (events : List Event) : Type 0 where
-  pub running : IsRunning c
-  pub sessions : AllByRecursion IsOfSession events
 
 -- A first part of a text was written.
 abbrev pub WroteFront : List ℕ → List ℕ → List ℕ → Type 0
@@ -87,12 +82,10 @@ module _ {D : Type 0} {g : Ghosts D} where
     pub ends : EndsAs c made behind core result
     pub is : IsCore core new
     pub written : IsTrue told → (w : List ℕ) → before ≡ w ++ lines_text c.history → Wrote result w core.history after
-
   -- All of these events were made, and the disk did what it was asked.
   pub record MakesAll (c : Core) (made : List Event) (d : Core) (old new : Heap D g) : Type 0 where
     pub reached : d ≡ after_events c made
     pub passes : g.passed new.disk ≡ counted (total_calls c made) (g.passed old.disk)
-
   -- In the last of these events the disk failed or stopped, as the reply says.
   pub record MakesShort (c : Core) (made : List Event) (d : Core) (old new : Heap D g) (reply : Reply) : Type 0 where
     pub before : List Event
@@ -105,17 +98,14 @@ module _ {D : Type 0} {g : Ghosts D} where
     pub passes : reply ≡ Refused Stopped → (k : ℕ) × (k < calls (after_events c before) event) × (g.passed new.disk ≡ counted (total_calls c before + k) (g.passed old.disk))
     -- and else no more
     pub most : (k : ℕ) × (k ≤ calls (after_events c before) event) × (g.passed new.disk ≡ counted (total_calls c before + k) (g.passed old.disk))
-
   abbrev pub Makes : Core → List Event → Core → Heap D g → Heap D g → Type 0
   Makes c made d old new = MakesAll c made d old new ⊎ ((reply : Reply) × MakesShort c made d old new reply)
-
   -- How a play ended tells what was made.
   abbrev pub Ends : Core → List Event → List Event → Core → Heap D g → Heap D g → Result (Unit {0}) Halt → Type 0
   Ends c made behind d old new (Ok done) = (behind ≡ []) × MakesAll c made d old new
   Ends c made behind d old new (Err halt.Stopped) = MakesShort c made d old new (Refused Stopped)
   Ends c made behind d old new (Err halt.DiskFault) = MakesShort c made d old new (Refused DiskFault)
   Ends c made behind d old new (Err other) = Makes c made d old new
-
   -- On a disk that tells: likewise, and each step says what it left on the disk.
   pub record Plays (s : Super) (c : Core) (events : List Event) (old new : Heap D g) (told : Bool) (before after : List ℕ) (result : Result (Unit {0}) Halt) : Type 0 where
     pub made : List Event

@@ -1,7 +1,6 @@
 -- What a play needs of its events.
 use Rattle.std.specs.Prelude.{◌≡◌, ℕ, ◌≤◌, Bool, IsTrue, List, length, Ok}
 use Rattle.std.specs.List.{AllByRecursion}
-use Rattle.graph_model.specs.declared.event.Event.{Event}
 use Rattle.graph_model.specs.History.{IsOfSession}
 use Rattle.script_text.specs.declared.line.Line.{Line}
 use Rattle.script_text.specs.Line.{events}
@@ -11,12 +10,6 @@ use Rattle.script_text.specs.Script.{script}
 pub record IsScript (lines : List Line) : Type 0 where
   pub sessions : AllByRecursion IsOfSession (events lines)
   pub few : length (events lines) ≤ 2097152
-
--- Each event is of a session, or of none, and they are no more than those of the longest script and the 33 that may end a run, one for
--- each session and a force: they make fewer device calls than can be counted.
-pub record IsPlayable (events : List Event) : Type 0 where
-  pub sessions : AllByRecursion IsOfSession events
-  pub few : length events ≤ 2097185
 
 -- The lines are those of a script that was read: of the bytes that were left in the source, where it tells them.
 pub record IsReadFrom (told : Bool) (left : List ℕ) (lines : List Line) : Type 0 where

@@ -7,7 +7,7 @@ ghost use Rattle.graph_model.specs.History.{IsSession, IsOfSession};
 ghost use Rattle.image_plan.specs.declared.superblock.Super.{Super};
 ghost use Rattle.heap_program.specs.Causes.{StreamCause, played_device};
 ghost use Rattle.heap_program.specs.declared.play.Halt.TheVariants as halt;
-ghost use Rattle.core_laws.specs.Aborting.{active_in};
+ghost use Rattle.core_laws.specs.Active.{active_in};
 ghost use Rattle.heap_model.specs.Core.{Core};
 ghost use Rattle.heap_model.specs.Ending.{abort_of, aborting, forcing, ending, all_events};
 ghost use Rattle.heap_core.specs.HeapState.{heap_disk};

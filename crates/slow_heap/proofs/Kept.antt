@@ -20,9 +20,10 @@ use Rattle.slow_heap.specs.declared.transaction_view.TransactionView.{Transactio
 use Rattle.graph_model.specs.Graph.{new_graph}
 use Rattle.graph_model.specs.Transaction.{View, Outcome, Transaction, call, run, serial}
 use Rattle.graph_model.specs.History.{Account, account, account_after, sealed, session_of, with_active, with_call, makes_call}
-use Rattle.graph_model.specs.HistoryLaws.{IsCallReply, call-IsCallReply, account-append, account_after-call, serial-append}
+use Rattle.graph_model.specs.Replies.{IsCallReply}
+use Rattle.graph_model.proofs.Runs.History.{call-IsCallReply, account-append, account_after-call, serial-append}
 use Rattle.slow_heap.specs.Objects.{graph_of}
-use Rattle.graph_model.specs.PlainLaws.{IsNoFault, account_after-refused}
+use Rattle.graph_model.proofs.Refusals.Plain.{IsNoFault, account_after-refused}
 use Rattle.slow_heap.specs.SlowHeap.{IsKept, Leaves, seen_by}
 
 -- the objects after so many sealed transactions

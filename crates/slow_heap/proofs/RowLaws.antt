@@ -9,7 +9,7 @@ use Rattle.std.proofs.lemmas.Option.{some_pair_parts, slice_get-map, slice_get_r
 use Rattle.graph_model.specs.declared.id.Id.{Id}
 use Rattle.graph_model.specs.declared.val.Val.{Val}
 use Rattle.graph_model.specs.Graph.{id_cmp, is_same_id, fields}
-use Rattle.graph_model.specs.GraphLaws.{id_cmp_total, itself, get-insert_same, get-insert_other, insert-insert, insert_comm}
+use Rattle.graph_model.proofs.Whole.Graph.{id_cmp_total, itself, get-insert_same, get-insert_other, insert-insert, insert_comm}
 use Rattle.slow_heap.specs.declared.objects.Object.{Object}
 use Rattle.slow_heap.specs.Objects.{row_of, rows_of, graph_of, AreApart}
 

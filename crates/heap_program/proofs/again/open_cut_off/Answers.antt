@@ -7,7 +7,8 @@ use Rattle.heap_core.specs.Causes.{ErrorPasses}
 use Rattle.heap_core.specs.declared.errors.OpenError.TheVariants as opening
 use Rattle.heap_program.specs.declared.status.Status.TheVariants.{NoMemory}
 use Rattle.heap_model.specs.CoreCrash.{StandsForFirst}
-use Rattle.heap_model.specs.Image.{IsLegal, shaped_image}
+use Rattle.heap_model.specs.Image.{IsLegal}
+use Rattle.heap_model.proofs.Shaped.{shaped_image}
 use Rattle.heap_model.specs.Opening.{opening_calls, rollback_of}
 use Rattle.heap_program.specs.Headline.{IsCutOff, FailsToOpen}
 use Rattle.heap_program.proofs.PlayFuse.{same_disk, same_limit, fuse_since, fuse_passes, fuse_none, fuse_most}

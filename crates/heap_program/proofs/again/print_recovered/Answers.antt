@@ -2,16 +2,17 @@ use Rattle.std.proofs.Common.{◌≡◌, true, ℕ, ◌+◌, min, List, ◌++◌
 use Rattle.std.specs.Prelude.{IsTrue}
 use Rattle.counts.specs.Count.{counted, greatest}
 use Rattle.disk_model.specs.Disk.{Only}
-use Rattle.disk_model.specs.Moments.{LeavesOnly, weaker}
+use Rattle.disk_model.specs.Moments.{LeavesOnly}
+use Rattle.disk_model.proofs.MomentLaws.{weaker}
 use Rattle.gated_log.specs.Log.{records_of}
 use Rattle.graph_model.specs.Text.{canon_text}
 use Rattle.log_machine.specs.Machine as machine
 use Rattle.heap_model.specs.CoreCrash.{StandsForFirst}
-use Rattle.heap_model.specs.CoreLawsHeld.{left_first}
-use Rattle.core_laws.specs.Opened.{opened_reached}
-use Rattle.heap_model.specs.CoreLawsOpened.{saying_law}
+use Rattle.heap_model.proofs.Opening.Held.{left_first}
+use Rattle.core_laws.proofs.Opening.Opened.{opened_reached}
+use Rattle.heap_model.proofs.Opening.Opened.{saying_law}
 use Rattle.heap_model.specs.Opening.{opened, opening_calls, IsLeftByOpening}
-use Rattle.heap_model.specs.Image.{shaped_image}
+use Rattle.heap_model.proofs.Shaped.{shaped_image}
 use Rattle.page_store.specs.Gates.{open_gates}
 use Rattle.heap_program.specs.Headline.{recovered_line, graph_text, Reopens, FailsToOpen}
 use Rattle.heap_program.specs.Output.{WroteText, commits_since}

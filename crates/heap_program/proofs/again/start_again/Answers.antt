@@ -1,5 +1,5 @@
 use Rattle.std.proofs.Common.{Some, None, refl, ap, ◌∙◌, subst, arith}
-use Rattle.disk_model.specs.Moments.{weaker}
+use Rattle.disk_model.proofs.MomentLaws.{weaker}
 use Rattle.heap_program.specs.Refusals.{IsFault}
 use Rattle.heap_program.proofs.PlayOpen.{opening_then}
 use Rattle.counts.specs.Count.{raised}

@@ -1,6 +1,6 @@
 use Rattle.std.proofs.Common.{◌≡◌, true, false, List, Ok, rules, sym, ◌∙◌, subst}
 use Rattle.graph_model.specs.declared.event.Event.{Event}
-use Rattle.core_laws.specs.Aborting.{active_in}
+use Rattle.core_laws.specs.Active.{active_in}
 use Rattle.heap_program.specs.Play.{Plays, PlaysCore}
 use Rattle.heap_program.proofs.PlayEnding.{abort_of-none, abort_of-some}
 use Rattle.heap_program.proofs.PlayLaws.{plays_none}

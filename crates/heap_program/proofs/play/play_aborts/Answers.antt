@@ -1,7 +1,7 @@
 use Rattle.std.proofs.Common.{◌≡◌, ℕ, ◌+◌, ◌-◌, ◌≤◌, ◌∙◌, List, Ok, Err, rules, subst, ap, arith}
-use Rattle.disk_model.specs.KeepsLaws.{keeps_none, keeps_on}
+use Rattle.disk_model.proofs.KeepsLaws.{keeps_none, keeps_on}
 use Rattle.graph_model.specs.declared.event.Event.{Event}
-use Rattle.core_laws.specs.Aborting.{aborting_until, until_last}
+use Rattle.core_laws.proofs.Run.Aborting.{aborting_until, until_last}
 use Rattle.heap_core.specs.HeapState.{heap_disk}
 use Rattle.heap_model.specs.Core.{Core}
 use Rattle.heap_model.specs.Ending.{aborting}

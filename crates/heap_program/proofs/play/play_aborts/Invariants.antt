@@ -3,7 +3,7 @@ use Rattle.std.specs.Prelude.{IsTrue, Result}
 use Rattle.disk_model.specs.declared.disk.DiskError.{DiskError}
 use Rattle.disk_model.specs.Keeps.{KeepsDisk}
 use Rattle.image_plan.specs.declared.superblock.Super.{Super}
-use Rattle.core_laws.specs.Aborting.{aborting_until}
+use Rattle.core_laws.proofs.Run.Aborting.{aborting_until}
 use Rattle.heap_model.specs.Core.{Core}
 use Rattle.heap_core.specs.HeapState.{heap_disk}
 use Rattle.heap_core.specs.Refinement.{IsCore, IsHeap}

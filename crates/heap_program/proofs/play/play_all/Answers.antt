@@ -1,6 +1,6 @@
 use Rattle.std.proofs.Common.{◌≡◌, Err, rules, subst, None}
 use Rattle.heap_model.specs.Core.{Core}
-use Rattle.core_laws.specs.Ending.{all_of_session}
+use Rattle.core_laws.proofs.Run.Ending.{all_of_session}
 use Rattle.heap_model.specs.CoreRuns.{after_events}
 use Rattle.heap_model.specs.Ending.{ending}
 use Rattle.script_text.specs.Line.{events}

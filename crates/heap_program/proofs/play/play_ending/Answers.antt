@@ -1,6 +1,6 @@
 use Rattle.std.proofs.Common.{◌≡◌, Err, rules, subst}
 use Rattle.heap_model.specs.Core.{Core}
-use Rattle.core_laws.specs.Ending.{ending_of_session}
+use Rattle.core_laws.proofs.Run.Ending.{ending_of_session}
 use Rattle.heap_model.specs.CoreRuns.{after_events}
 use Rattle.heap_model.specs.Ending.{aborting, forcing}
 use Rattle.heap_program.specs.Play.{Plays, PlaysCore}

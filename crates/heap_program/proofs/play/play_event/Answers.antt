@@ -2,7 +2,8 @@ use Rattle.std.proofs.Common.{◌≡◌, [], ◌∷◌, Err, rules, sym, subst}
 use Rattle.std.specs.Prelude.{Result}
 use Rattle.heap_program.specs.declared.play.Halt.{Halt}
 use Rattle.heap_program.specs.declared.play.Halt.TheVariants as halt
-use Rattle.heap_program.specs.Play.{AreReady, Plays, PlaysCore}
+use Rattle.heap_program.proofs.Ready.{AreReady}
+use Rattle.heap_program.specs.Play.{Plays, PlaysCore}
 use Rattle.heap_program.specs.StatusOf.{write_halt}
 use Rattle.heap_program.proofs.PlayEvent.{plays_one, plays_unwritten, plays_nothing}
 use Rattle.heap_program.proofs.PlayCore.{core_one, core_unwritten, core_nothing}

@@ -1,6 +1,6 @@
 use Rattle.std.proofs.Common.{◌≡◌, List, Ok, Err, rules, subst, take, arith}
 use Rattle.std.proofs.lemmas.List.{take_all}
-use Rattle.disk_model.specs.KeepsLaws.{keeps_none, keeps_on}
+use Rattle.disk_model.proofs.KeepsLaws.{keeps_none, keeps_on}
 use Rattle.heap_core.specs.HeapState.{heap_disk}
 use Rattle.script_text.specs.declared.line.Line.{Line}
 use Rattle.heap_program.specs.Play.{Plays, PlaysCore}

@@ -2,19 +2,21 @@ use Rattle.std.proofs.Common.{◌≡◌, ◌≢◌, ◌≤◌, ◌<◌, ◌+◌,
 use Rattle.counts.specs.Count.{Rose, greatest, counted}
 use Rattle.disk_model.specs.Disk.{Only}
 use Rattle.disk_model.specs.Fuse.{fuse_inner, fuse_passed}
-use Rattle.disk_model.specs.KeepsLaws.{rose_until}
-use Rattle.disk_model.specs.Moments.{LeavesOnly, begins}
+use Rattle.disk_model.proofs.KeepsLaws.{rose_until}
+use Rattle.disk_model.specs.Moments.{LeavesOnly}
+use Rattle.disk_model.proofs.MomentLaws.{begins}
 use Rattle.heap_core.specs.declared.errors.OpenError.TheVariants as opening
 use Rattle.heap_core.specs.Causes.{ErrorPasses, error_device}
 use Rattle.heap_core.specs.Refinement.{IsHeap}
 use Rattle.heap_core.specs.Refusals as opening_refusals
 use Rattle.heap_model.specs.CoreCrash.{IsCommitPrefix}
-use Rattle.heap_model.specs.CoreLawsRun.{same_run}
+use Rattle.heap_model.proofs.Run.Calls.{same_run}
 use Rattle.heap_model.specs.CoreRuns.{total_calls}
-use Rattle.heap_model.specs.Image.{IsLegal, Holds, shaped_image}
+use Rattle.heap_model.specs.Image.{IsLegal, Holds}
+use Rattle.heap_model.proofs.Shaped.{shaped_image}
 use Rattle.heap_model.specs.Opening.{opened, rollback_of}
 use Rattle.page_store.specs.Gates.{open_gates}
-use Rattle.heap_program.specs.CoreLawsPlay.{all_playable}
+use Rattle.heap_program.proofs.CoreSteps.{all_playable}
 use Rattle.heap_program.specs.Headline.{IsExact, KeepsThroughout, Reopens, StartsAgain, EndsUnopened, RestartsDisk, starts_asked, PrintsSome, IsOfImage}
 use Rattle.heap_program.specs.Causes.{Unharmed}
 use Rattle.heap_program.specs.Output.{Recovers}

@@ -1,16 +1,16 @@
 use Rattle.std.proofs.Common.{◌≡◌, ◌+◌, ◌≤◌, ℕ, inl, None, Ok, Err, refl, sym, ap, ◌∙◌, subst, arith}
 use Rattle.counts.specs.Count.{counted}
-use Rattle.heap_model.specs.Image.{shaped_image}
+use Rattle.heap_model.proofs.Shaped.{shaped_image}
 use Rattle.heap_program.specs.declared.play.Halt.{Halt}
 use Rattle.heap_model.specs.CoreRuns.{total_calls}
 use Rattle.heap_model.specs.Ending.{all_events}
-use Rattle.heap_program.specs.CoreLawsPlay.{all_playable}
+use Rattle.heap_program.proofs.CoreSteps.{all_playable}
 use Rattle.heap_program.specs.Stored.{stored_core, stored_calls}
 use Rattle.heap_program.specs.StatusOf.{open_status}
 use Rattle.script_text.specs.Line.{events}
 use Rattle.heap_program.specs.Causes.{DiskRose, Unharmed}
 use Rattle.heap_program.proofs.Causes.{disk_rose_since}
-use Rattle.gate_slot.specs.Passing.{counted-add}
+use Rattle.gate_slot.proofs.PassingLaws.{counted-add}
 use Rattle.heap_program.proofs.Counts.{counted_mono}
 use Rattle.heap_program.proofs.PlayEnds.{run_reached, unfailed_only, lines_wrote, halt_part, halt_lines, keeps_own, ends_early, ends_whole, exact_none, exact_passes, passes_most}
 use Rattle.heap_program.proofs.PlayOpen.{stored_running, stored_keeps, stored_moments, ends_unopened, opened_core, played_unfailed}

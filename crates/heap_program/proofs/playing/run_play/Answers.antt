@@ -1,6 +1,6 @@
 use Rattle.std.proofs.Common.{◌≡◌, inr, ℕ, List, Some, None, Ok, sym, ap, ◌∙◌, subst}
 use Rattle.script_text.specs.declared.line.Line.{Line}
-use Rattle.heap_program.specs.CoreLawsPlay.{script_is}
+use Rattle.heap_program.proofs.CoreSteps.{script_is}
 use Rattle.heap_model.specs.Ending.{all_events}
 use Rattle.script_text.specs.Line.{events}
 use Rattle.heap_program.specs.Headline.{made_super, stop_after, IsPlayed, made_core}

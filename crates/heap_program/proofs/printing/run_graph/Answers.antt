@@ -2,7 +2,7 @@ use Rattle.std.proofs.Common.{◌≡◌, inr, arith, refl}
 use Rattle.counts.specs.Count.{counted}
 use Rattle.graph_model.specs.Transaction.{serial}
 use Rattle.graph_model.specs.History.{sealed}
-use Rattle.core_laws.specs.Opened.{opened_reached}
+use Rattle.core_laws.proofs.Opening.Opened.{opened_reached}
 use Rattle.heap_model.specs.Opening.{opened, opening_calls}
 use Rattle.page_store.specs.Gates.{open_gates}
 use Rattle.heap_program.specs.Headline.{graph_text}

@@ -6,7 +6,7 @@ use Rattle.command_words.specs.declared.commands.CommandError.TheVariants as ask
 use Rattle.command_words.specs.declared.commands.Command.{Command}
 use Rattle.command_words.specs.Limits.{IsPages, IsWithin}
 use Rattle.heap_core.specs.Format.{heap_of}
-use Rattle.heap_model.specs.CoreLawsOpened.{address_found}
+use Rattle.heap_model.proofs.Opening.Opened.{address_found}
 use Rattle.heap_program.specs.Commands.{makes, restarts_of, CanRun}
 use Rattle.heap_program.specs.Headline.{made_super}
 use Rattle.heap_program.proofs.CommandLaws.{same_play, graph_unread, play_ends, unread_ends, format_told_each, format_sound, no_stop, not_made}

@@ -1,7 +1,7 @@
 use Rattle.std.proofs.Common.{subst}
 use Rattle.graph_model.specs.History.{account}
 use Rattle.graph_model.specs.Graph.{new_graph}
-use Rattle.graph_model.specs.PlainLaws.{IsSoundReply, plain_reply-IsSoundReply}
+use Rattle.graph_model.proofs.Refusals.Plain.{IsSoundReply, plain_reply-IsSoundReply}
 use Rattle.slow_heap.proofs.Kept.{kept_entry, kept_refused}
 use Rattle.slow_heap.proofs.slow_heap.SlowHeap.refuse.Goals as goal
 
