@@ -13,7 +13,7 @@ use Rattle.commit_order.specs.SerialOrder.{EachEntry, EndsWithFailure, IsTwoPhas
 use Rattle.log_machine.specs.declared.UndoEntry.{UndoEntry}
 use Rattle.log_machine.specs.Apart.{others_taken_back}
 use Rattle.log_machine.specs.Machine.{State, undo_of, reserve}
-use Rattle.log_machine.proofs.MapLaws as maps
+use Rattle.log_machine.specs.Entries as maps
 use Rattle.gated_log.specs.Log.{records_of, batches_bytes}
 use Rattle.graph_words.specs.Places.{Places, address_of}
 use Rattle.graph_words.specs.Area.{HasMade}
