@@ -3,12 +3,12 @@
 #![tactic(auto)]
 
 mod again;
+mod dispatch;
 mod output;
 mod play;
 mod playing;
 mod printing;
-mod run;
 mod status;
 
-pub use run::run;
+pub use dispatch::run;
 pub use status::Status;

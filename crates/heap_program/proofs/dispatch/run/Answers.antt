@@ -12,7 +12,7 @@ use Rattle.heap_program.specs.Headline.{made_super}
 use Rattle.heap_program.proofs.CommandLaws.{same_play, graph_unread, play_ends, unread_ends, format_told_each, format_sound, no_stop, not_made}
 use Rattle.heap_program.proofs.RefusalLaws.{alone_untouched}
 use Rattle.heap_program.proofs.RunLaws.{runs_safely, end_done}
-use Rattle.heap_program.proofs.run.run.Goals as goal
+use Rattle.heap_program.proofs.dispatch.run.Goals as goal
 
 pub returns-in-Err-clause-graph : goal.returns-in-Err-clause-graph
 returns-in-Err-clause-graph g c tells only is s batches stored shaped born places graph found =
