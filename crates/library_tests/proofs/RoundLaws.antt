@@ -31,7 +31,8 @@ use Rattle.heap_core.specs.Causes.{reply_device}
 use Rattle.heap_core.specs.declared.heap.Heap.{Heap}
 use Rattle.heap_core.specs.HeapState.{heap_disk}
 use Rattle.heap_core.specs.Refinement.{IsHeap}
-use Rattle.library_tests.specs.Rounds.{Unharmed, KeepsCounts, opened_on, IsGoing, IsRound, HasGone}
+use Rattle.library_tests.specs.Rounds.{Unharmed, opened_on, IsGoing, IsRound}
+use Rattle.library_tests.proofs.Going.{KeepsCounts, HasGone}
 
 -- the legal image in what stands for a graph and commits
 abbrev pub legal_of : {g : Graph} {k : ℕ} {image : List ℕ} (stands : StandsFor g k image) → IsLegal stands.super stands.batches stands.stored image

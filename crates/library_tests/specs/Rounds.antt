@@ -1,5 +1,5 @@
 -- What a program keeps that opens a heap, makes events, crashes, and goes on.
-use Rattle.std.specs.Prelude.{◌≡◌, ◌⊎◌, ℕ, ◌+◌, ◌≤◌, true, List, take}
+use Rattle.std.specs.Prelude.{◌≡◌, ◌⊎◌, ℕ, ◌+◌, true, List, take}
 use Rattle.counts.specs.Count.{Rose}
 use Rattle.disk_model.specs.declared.disk.Disk.{Ghosts}
 use Rattle.graph_model.specs.declared.event.Event.{Event}
@@ -16,9 +16,6 @@ use Rattle.heap_model.specs.CoreRuns.{after_events}
 use Rattle.heap_model.specs.Image.{StandsFor}
 use Rattle.heap_model.specs.Opening.{opened, IsFound}
 use Rattle.core_laws.specs.Valid.{IsReached}
-use Rattle.heap_core.specs.declared.heap.Heap.{Heap}
-use Rattle.heap_core.specs.HeapState.{heap_disk}
-use Rattle.heap_core.specs.Refinement.{IsHeap}
 
 -- the core that is opened on an image of a graph and commits, under these names of its objects
 abbrev pub opened_on : {g : Graph} {k : ℕ} {image : List ℕ} → StandsFor g k image → Places → Graph → Core
@@ -41,11 +38,6 @@ module _ {D : Type 0} (ghosts : Ghosts D) where
   abbrev pub Unharmed : D → D → Type 0
   Unharmed old new = ¬ (Rose (ghosts.faults old) (ghosts.faults new) ⊎ Rose (ghosts.stops old) (ghosts.stops new))
 
-  -- The counts of a disk's faults and stops did not fall.
-  pub record KeepsCounts (old new : D) : Type 0 where
-    pub faults : ghosts.faults old ≤ ghosts.faults new
-    pub stops : ghosts.stops old ≤ ghosts.stops new
-
   -- A round: a heap was opened on a disk whose image stood for graph g and k commits, these events were made, and after a crash the disk stands
   -- for h and j: for the first of that run's commits, among them all that were acknowledged or forced in it.
   pub record IsRound (events : List Event) (disk : D) (g : Graph) (k : ℕ) (left : D) (h : Graph) (j : ℕ) : Type 0 where
@@ -60,11 +52,3 @@ module _ {D : Type 0} (ghosts : Ghosts D) where
   pub data Rounds (events : List Event) (disk : D) (g : Graph) (k : ℕ) : ℕ → D → Graph → ℕ → Type 0 where
     none : Rounds events disk g k 0 disk g k
     more : {n : ℕ} {mid : D} {h : Graph} {j : ℕ} (left : D) (i : Graph) (m : ℕ) → Rounds events disk g k n mid h j → IsRound events mid h j left i m → Rounds events disk g k (n + 1) left i m
-
-module _ {D : Type 0} {ghosts : Ghosts D} where
-  -- A heap that was opened on a disk, and on which these events were made.
-  pub record HasGone (g : Graph) (k : ℕ) (events : List Event) (disk : D) (heap : Heap D ghosts) : Type 0 where
-    pub super : Super
-    pub core : Core
-    pub going : IsGoing g k (ghosts.bytes disk) events (Unharmed ghosts disk (heap_disk heap)) core
-    pub is : IsHeap super core heap

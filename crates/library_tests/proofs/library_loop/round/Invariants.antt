@@ -3,7 +3,7 @@ use Rattle.disk_model.specs.Disk.{Only}
 use Rattle.graph_model.specs.Graph.{Graph}
 use Rattle.heap_core.specs.HeapState.{heap_disk}
 use Rattle.heap_model.specs.Image.{StandsFor}
-use Rattle.library_tests.specs.Rounds.{HasGone, KeepsCounts}
+use Rattle.library_tests.proofs.Going.{HasGone, KeepsCounts}
 use Rattle.library_tests.proofs.library_loop.round.Given as goal
 
 -- the disk's counts did not fall, and the events so far were made on the heap that was opened

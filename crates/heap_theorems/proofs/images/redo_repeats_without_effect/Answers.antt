@@ -1,0 +1,5 @@
+use Rattle.page_redo.proofs.RedoLaws.{redone-redone}
+use Rattle.heap_theorems.proofs.images.redo_repeats_without_effect.Goals as goal
+
+pub returns : goal.returns
+returns c = redone-redone
