@@ -1,40 +1,26 @@
--- The theorems on the core of a heap whose sessions run side by side, and the files that prove their parts.
+-- The theorems on the core of a heap whose sessions run side by side. Their proofs stand in proofs/, in a folder for each subject.
 --
 -- The steps, `StepsTheorem`. Whichever sessions make the events, and whichever event the disk cuts short, the core that they leave agrees with
--- its history, and its transactions ran under strict two-phase locking.
---   Valid                                          what holds of every core that is reached
---   Apart, OthersLaws, Others                      transactions side by side write fields of different objects: none changes what another sees
---   Sessions, Reserved                             what changes with one session: the transactions, and the room that is kept for their ends
---   Told, Goes                                     what records tell with those of one event more, and what it takes for a core to go on
---   Granted, GrantedWrites, GrantedEnds            each event leaves a core that agrees with its history,
---   SealWords, SealTold, SealBeside, Beside, Seal  a seal too, which promotes what has become reachable
---   Events, Step                                   so each event that is not refused does, by its form
---   TwoPhase                                       each step refuses conflicts, and answers by what the transaction sees
---   Sound, Run, Calls                              so steps reach such cores, those too that the disk cuts short: `steps_law`
+-- its history, and its transactions ran under strict two-phase locking. `Valid` says what holds of every core that is reached.
+--   Sessions   transactions side by side write fields of different objects: none changes what another sees
+--   Step       each event leaves a core that agrees with its history, refuses conflicts, and answers by what the transaction sees
+--   Seal       so does a seal, which promotes what has become reachable
+--   Run        so steps reach such cores, those too that the disk cuts short; the events that end a run; the replies of committed transactions
 --
--- The answers, `AnswersTheorem`. Each event but a flush is answered as the plain heap of graph_model answers it, unless room is wanting.
---   PlainAnswers                                   refusals are the plain heap's, in their order, and then those for a page that
---                                                  isn't there or for want of room: `answer_plain`, `refused_plain`, `refused_room`
---   Flush                                          a flush is refused just where there is no such page, until the disk stops or
---                                                  fails: `flush_granted`, `flush_refused`
---   Busy                                           `busy` is answered just where a call has to give way: `busy_told`, `busy_back`
+-- The answers, `AnswersTheorem`: each event but a flush is answered as the plain heap answers it, unless room is wanting.
+--   Answers    refusals are the plain heap's, in their order, and then those for want of room or for a page that isn't there; which call is
+--              answered `busy`, and with which number
 --
--- The crash, `CrashTheorem`. Wherever a crash comes, the image is legal and stands for the graph that the first k committed
--- transactions give when run one after another in the order of their seals, and k counts all that were acknowledged, and all
--- that were forced of which no reply has told.
---   Crash                                          the log on the disk is legal and says the first commits: `crash_law`
---   Grow                                           an image of first commits stays one while the history grows
+-- The crash, `CrashTheorem`: wherever a crash comes, the image is legal and stands for the graph that the first k committed transactions give
+-- when run one after another in the order of their seals. k counts all that were acknowledged, and all that were forced though no reply says so.
+--   Crash      the log on the disk is legal and says the commit prefix, and a commit prefix stays one while the history grows
 -- That an image stands for one graph and one number of commits is `one_graph` of heap_model.
 --
--- The replies, `RepliesTheorem`. Each committed transaction had, for its calls that were not refused, the replies of that serial run.
---   Replies                                        `replies_law`, from the commit order of strict two-phase locking
+-- The replies, `RepliesTheorem`: each committed transaction had, for its calls that were not refused, the replies of that serial run.
 --
--- The opening, `OpeningTheorem` and `AgainTheorem`. A heap that is opened on any shaped log goes on, and opened on what a crash left of a
--- core it goes on from that core's first commits. That a legal log says its graph is `saying_law` of heap_model.
---   Opened                                         the core that is opened is reached
---   Again                                          `opening_law` and `opened_again`
---
--- Aborting and Ending are on the events that end a run, and CoreGraph and TakenBack are on what is in memory.
+-- The opening, `OpeningTheorem` and `AgainTheorem`: a heap that is opened on any shaped log continues, and opened on what a crash left of a
+-- core it continues from that core's commit prefix. That a legal log says its graph is `saying_law` of heap_model.
+--   Opening    the core that is opened is reached
 use Rattle.std.specs.Prelude.{◌≡◌, ◌≢◌, ℕ, ◌+◌, ◌≤◌, Bool, true, IsTrue, List, length, take, None}
 use Rattle.std.specs.List.{AllByRecursion}
 use Rattle.graph_model.specs.declared.event.Event.{Event}

@@ -141,12 +141,6 @@ module _ (a b : Inside) (call : Call) (image : List ℕ) (kept : IsKept a) (sett
         ending_room = λ more. absurd (omega (arith, more, settles.from));
       }
 
--- nothing is pending, so a sync or a restart changes nothing
-pub view_unchanged : (a : Inside) (change : Change) → IsKept a → a.pending_from ≡ length a.calls.items → view_of a ≡ settled (view_of a) change
-view_unchanged a change kept none =
-    let e : length (now_of (view_of a)).pending ≡ 0 = omega (arith, ap length kept.pending, length-map (drop a.pending_from a.calls.items) range_of, length-drop a.pending_from a.calls.items) in
-    sym (ap (λ n. cond (eqb n 0) (view_of a) (changed (view_of a) change)) e)
-
 -- a disk that was just made
 pub kept_made : (a : Inside) (bytes : List ℕ) → a.first.value.items ≡ bytes → a.newest.items ≡ bytes → a.synced.items ≡ bytes → a.calls.items ≡ [] → a.pool.items ≡ [] → a.pending_from ≡ 0 → a.room ≤ vec_capacity a.pool → a.room ≤ 32 * vec_capacity a.calls + 31 → IsKept a
 kept_made a bytes first newest synced calls pool from pool_room calls_room =

@@ -1,10 +1,10 @@
 -- Laws of what calls keep of a disk: calls one after another, and the parts of a clause of one call.
-use Rattle.std.specs.Prelude.{◌≡◌, ℕ, ◌≤◌, List, IsTrue, Result, Ok, refl}
+use Rattle.std.specs.Prelude.{ℕ, ◌≤◌, List, IsTrue, Result, Ok, refl}
 use Rattle.std.proofs.Common.{◌∙◌, inl, inr, arith}
 use Rattle.std.proofs.lemmas.Bool.{cases_lt}
 use Rattle.counts.specs.Count.{Rose}
-use Rattle.disk_model.specs.Disk.{Narrows, Elapses, HasCause}
-use Rattle.disk_model.proofs.MomentLaws.{begins, goes_on, weaker, joined}
+use Rattle.disk_model.specs.Disk.{HasCause}
+use Rattle.disk_model.proofs.MomentLaws.{begins, weaker, joined}
 use Rattle.disk_model.specs.Keeps.{KeepsDisk, SameContents, OnlyReads}
 use Rattle.disk_model.specs.declared.disk.Disk.{Ghosts}
 use Rattle.disk_model.specs.declared.disk.DiskError.{DiskError}
@@ -32,20 +32,7 @@ cause_last faults mid faults' stops mids stops' first result before cause = reco
   stopped = λ is. rose_since stops mids stops' before.stops_kept cause.stops_kept (cause.stopped is);
 }
 
--- likewise, where the first one's answer is told
-pub cause_first : {S T : Type 0} (faults mid faults' stops mids stops' : ℕ) (result : Result S DiskError) (last : Result T DiskError) → HasCause faults mid stops mids result → HasCause mid faults' mids stops' last → HasCause faults faults' stops stops' result
-cause_first faults mid faults' stops mids stops' result last cause behind = record {
-  faults_kept = omega (arith, cause.faults_kept, behind.faults_kept);
-  stops_kept = omega (arith, cause.stops_kept, behind.stops_kept);
-  failed = λ is. rose_until faults mid faults' behind.faults_kept (cause.failed is);
-  stopped = λ is. rose_until stops mids stops' behind.stops_kept (cause.stopped is);
-}
-
 module _ {D : Type 0} (g : Ghosts D) where
-  -- a call, by its clauses
-  pub keeps_by_call : {T : Type 0} (old new : D) (result : Result T DiskError) → g.extent new ≡ g.extent old → g.origin new ≡ g.origin old → HasCause (g.faults old) (g.faults new) (g.stops old) (g.stops new) result
-      → (IsTrue g.tells → g.restarts new ≡ g.restarts old) → KeepsDisk g old new result
-  keeps_by_call old new result extent origin cause restarts = record { extent = extent; origin = origin; cause = cause; restarts = restarts }
   -- no call was made, and no error of the disk is told
   pub keeps_none : {T : Type 0} (disk : D) (x : T) → KeepsDisk {T = T} g disk disk (Ok x)
   keeps_none disk x = record {
@@ -69,23 +56,6 @@ module _ {D : Type 0} (g : Ghosts D) where
     origin = kept.origin ∙ before.origin;
     cause = cause_last (g.faults old) (g.faults mid) (g.faults new) (g.stops old) (g.stops mid) (g.stops new) first result before.cause kept.cause;
     restarts = λ told. kept.restarts told ∙ before.restarts told;
-  }
-  -- one call more, where the answer of those before it is told
-  pub keeps_still : {S T : Type 0} (old mid new : D) (result : Result S DiskError) (last : Result T DiskError) → KeepsDisk g old mid result → KeepsDisk g mid new last → KeepsDisk g old new result
-  keeps_still old mid new result last kept behind = record {
-    extent = behind.extent ∙ kept.extent;
-    origin = behind.origin ∙ kept.origin;
-    cause = cause_first (g.faults old) (g.faults mid) (g.faults new) (g.stops old) (g.stops mid) (g.stops new) result last kept.cause behind.cause;
-    restarts = λ told. behind.restarts told ∙ kept.restarts told;
-  }
-  -- a read, by its clauses
-  pub same_by_read : (old new : D) → ((disk : D) (c : List ℕ) → g.left_since disk (g.moment disk) c → g.may_leave disk c) → g.bytes new ≡ g.bytes old → Narrows (g.may_leave old) (g.may_leave new)
-      → Elapses (g.moment old) (g.moment new) (g.left_since old) (g.left_since new) (g.may_leave new) → g.passed new ≡ g.passed old → SameContents g old new
-  same_by_read old new only_now bytes crash time passed = record {
-    bytes = bytes;
-    crash = crash;
-    moments = goes_on g.moment g.left_since old old new (g.may_leave old) (g.may_leave new) (begins g.moment g.left_since old (g.may_leave old) (only_now old)) time crash;
-    passed = passed;
   }
   -- nothing was read
   pub same_none : (disk : D) → ((c : List ℕ) → g.left_since disk (g.moment disk) c → g.may_leave disk c) → SameContents g disk disk

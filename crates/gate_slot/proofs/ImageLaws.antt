@@ -15,18 +15,6 @@ torn_outside at n i old new torn (inr after) =
     let same = sym (get_or-drop (at + n) new rest 0) ∙ ap (λ (l : List ℕ). get_or l rest 0) torn.after ∙ get_or-drop (at + n) old rest 0 in
     subst (λ (k : ℕ). get_or new k 0 ≡ get_or old k 0) is same
 
--- a part that a torn write of one byte doesn't touch
-pub torn_part : (at n from : ℕ) (old new : List ℕ) → Torn from 1 old new → IsOutside at n from → part new at n ≡ part old at n
-torn_part at n from old new torn (inl before) =
-    let rest = at - (from + 1) in
-    let is : from + 1 + rest ≡ at = omega arith in
-    let same = sym (drop-drop rest (from + 1) new) ∙ ap (λ (l : List ℕ). drop rest l) torn.after ∙ drop-drop rest (from + 1) old in
-    ap (λ (l : List ℕ). take n l) (subst (λ (k : ℕ). drop k new ≡ drop k old) is same)
-torn_part at n from old new torn (inr after) =
-    let front : (l : List ℕ) → part l at n ≡ drop at (take (at + n) (take from l)) =
-    λ l. sym (drop-take at n l) ∙ ap (λ (m : List ℕ). drop at m) (sym (take-take (at + n) from l after)) in
-    front new ∙ ap (λ (l : List ℕ). drop at (take (at + n) l)) torn.before ∙ sym (front old)
-
 module _ (image bytes : List ℕ) (at : ℕ) (fits : at + length bytes ≤ length image) where
   front : length (take at image) ≡ at
   front = length-take-le at image (omega arith)

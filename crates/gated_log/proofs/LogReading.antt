@@ -44,15 +44,6 @@ finds_next records first now rest found so_far some only = at_left so_far.left s
       };
     }
 
--- nothing is left of them at the end of the bytes
-pub read_all : (records first now : List Record) (rest : List ℕ) → IsReading records first now rest → length rest ≡ 0 → now ≡ first ++ records
-read_all records first now rest so_far none = at_left so_far.left so_far.spelled so_far.read
-  where
-    at_left : (left : List Record) → rest ≡ spellings left → first ++ records ≡ now ++ left → now ≡ first ++ records
-    at_left [] spelled read = sym (read ∙ append-nil now)
-    at_left (rec ∷ left) spelled read =
-        absurd (omega (arith, none, ap (λ (l : List ℕ). length l) spelled, length-append (spelling rec) (spellings left), some_spelling rec))
-
 -- a record is added to good ones
 pub good_push : (records : List Record) (rec : Record) → AllByRecursion IsRecord records → IsRecord rec → AllByRecursion IsRecord (records ++ rec ∷ [])
 good_push [] rec good one = (one, tt)

@@ -1,9 +1,8 @@
 -- Fields and rows as they are printed, one after another.
 use Rattle.std.proofs.Common.{◌≡◌, ℕ, zero, suc, ◌+◌, ◌≤◌, inl, inr, List, [], ◌∷◌, ◌++◌, length, take, Option, Some, None, refl, sym, ap, ◌∙◌, subst, arith, append_assoc}
 use Rattle.std.specs.Prelude.{slice_get, codes, IsSome, Result, Ok, Err, IsErrAnd}
-use Rattle.std.specs.Option.{option_map}
 use Rattle.std.specs.Fmt.{decimal}
-use Rattle.std.proofs.lemmas.List.{append-nil, map-append, length-map, length-append, length-take-le, take_all}
+use Rattle.std.proofs.lemmas.List.{map-append, length-map, length-append, length-take-le, take_all}
 use Rattle.std.proofs.lemmas.Option.{same_Some, slice_get_within, slice_get-get_or}
 use Rattle.std.proofs.lemmas.Bool.{cases_lt}
 use Rattle.heap_words.specs.declared.Word.{Word}
@@ -13,7 +12,7 @@ use Rattle.graph_model.specs.declared.id.Id.{Id}
 use Rattle.graph_model.specs.Graph.{Graph}
 use Rattle.graph_model.specs.Canon.{canon}
 use Rattle.graph_model.specs.Text.{field_text, fields_text, rows_text, canon_text}
-use Rattle.object_layout.specs.Layout.{words_of, object_at, field_words, fields_at, referred, IsMet, at_start, along, IsSeenAs}
+use Rattle.object_layout.specs.Layout.{object_at, field_words, referred, IsMet, at_start, along, IsSeenAs}
 use Rattle.object_layout.proofs.LayoutLaws.{object_stand}
 use Rattle.graph_print.specs.Order.{with_place, with_places, target, targets, IsWhole, AreWhole, IsOrder, first, next, shown_word, row}
 use Rattle.graph_print.proofs.Rows0.{rows}
@@ -26,10 +25,6 @@ use Rattle.graph_print.specs.declared.print_error.PrintError.{PrintError}
 use Rattle.graph_print.specs.declared.print_error.PrintError.TheVariants.{Damaged}
 use Rattle.graph_print.specs.FromRead.{print_error}
 use Rattle.graph_print.specs.Printed.{IsFieldPrinted, AreFieldsPrinted}
-
--- no field
-pub fields_none : (words places text : List ℕ) → AreFieldsPrinted words places places text text []
-fields_none words places text = record { whole = λ i w is. cc; order = refl; bytes = sym (append-nil text) }
 
 whole_push : (words ws : List ℕ) (w : ℕ) → AreWhole words ws → IsWhole words (meaning w) → AreWhole words (ws ++ w ∷ [])
 whole_push words [] w all whole zero v is = subst (λ (x : ℕ). IsWhole words (meaning x)) (same_Some w v is) whole
@@ -60,22 +55,6 @@ fields_more words p0 p1 p2 t0 t1 t2 ws w all one =
           ∙ append_assoc t0 (fields_text (row words p1 ws)) shown
           ∙ ap (λ t. t0 ++ t) (sym (ap fields_text rows_is ∙ fields_text_push (row words p1 ws) (shown_word words p2 (meaning w))));
     }
-
-fields_words : (words : List ℕ) (at : ℕ) (o : Option ℕ) (ws : List ℕ) → option_map (λ n. words_of words at (Some n)) o ≡ Some ws → words_of words at o ≡ ws
-fields_words words at None ws is = cc
-fields_words words at (Some n) ws is = same_Some (words_of words at (Some n)) ws is
-
--- the fields that were read are those of the object
-pub fields_read : (words : List ℕ) (at : ℕ) (ws : List ℕ) → fields_at words at ≡ Some ws → field_words words at ≡ ws
-fields_read words at ws is = fields_words words at (object_at words at) ws is
-
-no_fields : (words : List ℕ) (at : ℕ) (o : Option ℕ) → option_map (λ n. words_of words at (Some n)) o ≡ None → IsSome o → ⊥
-no_fields words at None is some = cc
-no_fields words at (Some n) is some = cc
-
--- where no object was read there is none
-pub none_read : (words : List ℕ) (at : ℕ) → fields_at words at ≡ None → IsSome (object_at words at) → ⊥
-none_read words at is some = no_fields words at (object_at words at) is some
 
 some_object : (words : List ℕ) (o : Option ℕ) (n : ℕ) → o ≡ Some n → IsSome o
 some_object words None n is = cc

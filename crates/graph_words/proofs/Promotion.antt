@@ -2,8 +2,6 @@
 pub mod Bytes
 pub mod Fix
 pub mod Follow
-pub mod Nothing
-pub mod Parts
 pub mod Records
 pub mod Seal
 pub mod Sealed

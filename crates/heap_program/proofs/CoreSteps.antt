@@ -1,5 +1,5 @@
 -- Laws of the events of a play: what is asked of a valid core, and what was made of it.
-use Rattle.std.proofs.Common.{◌≡◌, true, inl, inr, ℕ, ◌≤◌, List, [], ◌∷◌, ◌++◌, Option, Ok, refl, sym, subst, arith}
+use Rattle.std.proofs.Common.{◌≡◌, true, inl, inr, ℕ, ◌≤◌, List, [], ◌∷◌, ◌++◌, Option, Ok, sym, subst, arith}
 use Rattle.disk_model.specs.declared.disk.Disk.{Ghosts}
 use Rattle.graph_model.specs.declared.event.Event.{Event}
 use Rattle.graph_model.specs.Graph.{new_graph}
@@ -69,10 +69,6 @@ makes_run c made behind d old new ready (inr short) =
     let run = run_step c mid d cut.before cut.event short.0 (whole_run c cut.before) step in
     let last = ready_behind c cut.before (cut.event ∷ []) (subst (AreReady c) cut.parts (ready_front c made behind ready)) in
     (subst (λ (l : List Event). IsRun c l d) (sym cut.parts) run, step_reached mid d cut.event short.0 last.running.reached last.sessions.0 step)
-
--- a new heap runs
-pub made_running : (pages : ℕ) (image : List ℕ) → IsSuper (made_super pages) → IsRunning (made_core pages image)
-made_running pages image limits = record { reached = made_reached pages image limits; unfailed = refl }
 
 -- A script that was read is one.
 pub script_is : (bytes : List ℕ) (lines : List Line) → script bytes ≡ Ok lines → IsScript lines

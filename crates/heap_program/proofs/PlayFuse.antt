@@ -25,9 +25,6 @@ use Rattle.heap_program.proofs.Counts.{counted-counted, counted_mono}
 pub same_disk : {D O : Type 0} (a b : FuseOrigin D O) → a ≡ b → a.disk ≡ b.disk
 same_disk {D} {O} a b same = ap (λ (o : FuseOrigin D O). o.disk) same
 
-pub same_inside : {D O : Type 0} (a b : FuseOrigin D O) → a ≡ b → a.inside ≡ b.inside
-same_inside {D} {O} a b same = ap (λ (o : FuseOrigin D O). o.inside) same
-
 pub same_limit : {D O : Type 0} (a b : FuseOrigin D O) → a ≡ b → a.limit ≡ b.limit
 same_limit {D} {O} a b same = ap (λ (o : FuseOrigin D O). o.limit) same
 

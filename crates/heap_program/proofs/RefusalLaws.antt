@@ -142,19 +142,6 @@ module _ {D : Type 0} (g : Ghosts D) where
 pub end_told_each : (s : Status) (may_leave : List ℕ → Type 0) → IsEndOfPlay s → IsToldOfEach s may_leave
 end_told_each s may_leave end image may = end_told s image end
 
--- A script that was bad or could not be read says nothing of the image.
-pub input_ends : (expected s : Status) → IsInputError s → EndsRefused expected s
-input_ends expected status.Done input = absurd input
-input_ends expected status.NoMemory input = tt
-input_ends expected status.Usage input = absurd input
-input_ends expected (status.Script line) input = tt
-input_ends expected status.ReadFault input = tt
-input_ends expected status.WriteFault input = absurd input
-input_ends expected status.DiskFault input = absurd input
-input_ends expected status.NotHeap input = absurd input
-input_ends expected (status.Damaged at) input = absurd input
-input_ends expected (status.TooSmall size need) input = absurd input
-
 pub input_told : (s : Status) (image : List ℕ) → IsInputError s → IsToldOf s image
 input_told status.Done image input = tt
 input_told status.NoMemory image input = tt

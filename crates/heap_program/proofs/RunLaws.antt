@@ -1,16 +1,13 @@
 -- What a run promises, from what its parts promise.
 use Rattle.std.proofs.Common.{◌≡◌, ◌⊎◌, inl, inr, ⊎_elim, ℕ, ◌<◌, ◌≤◌, Bool, List, Option, None, Some, refl, sym, subst, arith}
-use Rattle.std.specs.Prelude.{IsTrue, IfSome}
+use Rattle.std.specs.Prelude.{IfSome}
 use Rattle.std.specs.List.{AllByRecursion}
 use Rattle.std.proofs.lemmas.Bool.{cases_lt}
 use Rattle.counts.specs.Count.{counted}
 use Rattle.disk_model.specs.declared.disk.Disk.{Ghosts}
-use Rattle.disk_model.specs.declared.disk.DiskError.TheVariants as device
 use Rattle.disk_model.specs.Disk.{SameOutside, Only}
-use Rattle.disk_model.specs.Keeps.{KeepsDisk}
 use Rattle.disk_model.specs.Moments.{LeavesOnly}
 use Rattle.disk_model.proofs.MomentLaws.{begins, joined, weaker}
-use Rattle.gate_slot.specs.Passing.{Passes}
 use Rattle.graph_model.specs.declared.event.Event.{Event}
 use Rattle.graph_model.specs.History.{acknowledged, IsOfSession}
 use Rattle.heap_model.specs.Core.{Core}
@@ -33,15 +30,13 @@ use Rattle.image_plan.specs.declared.superblock.Super.{Super}
 use Rattle.image_plan.specs.Plan.{image_size}
 use Rattle.heap_core.specs.declared.errors.FormatError.{FormatError}
 use Rattle.heap_core.specs.declared.errors.FormatError.TheVariants as format
-use Rattle.heap_core.specs.Format.{IsFormatting, format_calls}
-use Rattle.heap_core.specs.GivenBack.{format_device, IsFromDisk}
+use Rattle.heap_core.specs.Format.{IsFormatting}
 use Rattle.heap_program.specs.declared.status.Status.{Status}
 use Rattle.heap_program.specs.declared.status.Status.TheVariants as status
 use Rattle.command_words.specs.declared.commands.Stop.{Stop}
-use Rattle.heap_program.specs.Headline.{lasting, made_super, made_core, IsEndOfPlay, IsSound, IsUnmade, IsNotMade, IsPlayed, PlaysScript, Runs, RestartsDisk, stop_after}
+use Rattle.heap_program.specs.Headline.{lasting, made_super, made_core, IsEndOfPlay, IsSound, IsUnmade, IsPlayed, PlaysScript, Runs, RestartsDisk, stop_after}
 use Rattle.script_text.specs.declared.line.Line.{Line}
 use Rattle.heap_program.specs.Causes.{IsInputError}
-use Rattle.heap_program.specs.StatusOf.{format_status}
 
 -- a play says nothing against the image
 pub end_sound : (result : Status) → IsEndOfPlay result → IsSound result
@@ -73,12 +68,6 @@ end_done disk sink (status.TooSmall size need) h by_disk by_sink no_disk no_sink
 pub large_made : (size need : ℕ) → (size < need → ⊥) → need ≤ size
 large_made size need small = ⊎_elim (λ (less : size < need). absurd (small less)) (λ (fits : need ≤ size). fits) (cases_lt size need)
 
--- A run whose format failed isn't done.
-pub format_not_done : (e : FormatError) → format_status e ≡ status.Done → ⊥
-format_not_done (format.TooSmall size need) is = cc
-format_not_done format.DiskFault is = cc
-format_not_done format.Stopped is = cc
-
 -- A format that failed made no heap.
 module _ {D : Type 0} (g : Ghosts D) (s : Super) (old new : D) where
   abbrev need : ℕ
@@ -86,27 +75,6 @@ module _ {D : Type 0} (g : Ghosts D) (s : Super) (old new : D) where
 
   fits : (e : FormatError) → (g.extent old < need → (e ≡ format.TooSmall (g.extent old) need) × (new ≡ old)) → ((size full : ℕ) → e ≡ format.TooSmall size full → ⊥) → need ≤ g.extent old
   fits e small other = ⊎_elim (λ (less : g.extent old < need). absurd (other (g.extent old) need (small less).0)) (λ (large : need ≤ g.extent old). large) (cases_lt (g.extent old) need)
-
-  unmade : (e : FormatError) → (g.extent old < need → (e ≡ format.TooSmall (g.extent old) need) × (new ≡ old)) → (need ≤ g.extent old → IsFromDisk e) → KeepsDisk g old new (format_device e)
-      → (need ≤ g.extent old → Passes (format_calls need (g.bytes old)) (g.passed old) (g.passed new) (format_device e)) → IsUnmade g s old new (format_status e)
-  unmade (format.TooSmall size full) small large keeps passes = ⊎_elim
-      (λ (less : g.extent old < need). (small less).1)
-      (λ (fits : need ≤ g.extent old). absurd (large fits))
-      (cases_lt (g.extent old) need)
-  unmade format.DiskFault small large keeps passes = record { error = device.Failed; cause = keeps.cause; passes = passes (fits format.DiskFault small (λ size full is. cc)) }
-  unmade format.Stopped small large keeps passes = record { error = device.Stopped; cause = keeps.cause; passes = passes (fits format.Stopped small (λ size full is. cc)) }
-
-  pub not_made : (e : FormatError) (by : Status) (told : Bool) (before : List ℕ) → IsTrue g.tells → by ≡ format_status e
-      → (g.extent old < need → (e ≡ format.TooSmall (g.extent old) need) × (new ≡ old)) → (need ≤ g.extent old → IsFromDisk e) → KeepsDisk g old new (format_device e)
-      → (need ≤ g.extent old → Passes (format_calls need (g.bytes old)) (g.passed old) (g.passed new) (format_device e)) → LeavesOnly g.moment g.left_since old new (IsFormatting s (g.bytes old))
-      → LeavesOnly g.moment g.left_since old new (SameOutside 0 need (g.bytes old)) → IsNotMade g s old new by told before before
-  not_made e by told before tells is small large keeps passes moments outside = record {
-    reason = subst (IsUnmade g s old new) (sym is) (unmade e small large keeps passes);
-    nothing = λ t. refl;
-    moments = moments;
-    outside = outside;
-    restarts = keeps.restarts tells;
-  }
 
 -- A run that ended before it did anything with the disk, since its script was bad or could not be read, or memory was refused.
 module _ {D : Type 0} (g : Ghosts D) (disk : D) (only : Only (g.bytes disk) (g.may_leave disk)) (now : (image : List ℕ) → g.left_since disk (g.moment disk) image → g.may_leave disk image) where

@@ -9,7 +9,7 @@ use Rattle.heap_program.specs.declared.status.Status.{Status}
 use Rattle.heap_program.specs.declared.status.Status.TheVariants.{Done, DiskFault}
 use Rattle.disk_model.specs.declared.disk.DiskError.TheVariants as device
 use Rattle.disk_model.specs.Disk.{HasCause}
-use Rattle.heap_program.specs.Causes.{DiskRose, played_device}
+use Rattle.heap_program.specs.Causes.{DiskRose}
 use Rattle.heap_program.proofs.Causes.{disk_rose}
 use Rattle.heap_core.specs.Causes.{IsFromOutside, error_device}
 use Rattle.heap_core.specs.declared.errors.OpenError.{OpenError}
@@ -27,10 +27,6 @@ write_not_done : (e : WriteError) → write_status e ≡ Done → ⊥
 write_not_done writing.NoMemory is = cc
 write_not_done writing.SinkFailed is = cc
 
-write_no_fault : (e : WriteError) → write_status e ≡ DiskFault → ⊥
-write_no_fault writing.NoMemory is = cc
-write_no_fault writing.SinkFailed is = cc
-
 -- a play ends behind its output, whether it was written or not
 pub written_end : (r : Result (Unit {0}) WriteError) → IsEndOfPlay (status_after r)
 written_end (Ok done) = tt
@@ -41,10 +37,6 @@ pub written_sound : (r : Result (Unit {0}) WriteError) → IsOfDisk (status_afte
 written_sound (Ok done) is = is
 written_sound (Err writing.NoMemory) is = is
 written_sound (Err writing.SinkFailed) is = is
-
-pub written_no_fault : (r : Result (Unit {0}) WriteError) → status_after r ≡ DiskFault → ⊥
-written_no_fault (Ok done) is = cc
-written_no_fault (Err e) is = write_no_fault e is
 
 -- where all was done, all was written
 pub wrote_all : (r : Result (Unit {0}) WriteError) (before text after : List ℕ) → status_after r ≡ Done → WroteText r before text after → after ≡ before ++ text
@@ -79,13 +71,6 @@ early_some (Err halt.Stopped) s is = cc
 early_some (Err halt.NoMemory) s is = (halt.NoMemory, refl, (λ e. cc), cc)
 early_some (Err halt.WriteFault) s is = (halt.WriteFault, refl, (λ e. cc), cc)
 early_some (Err halt.DiskFault) s is = (halt.DiskFault, refl, (λ e. cc), cc)
-
--- a halt by the disk that isn't a stop is its fault
-pub halt_device : (h : Halt) → h ≢ halt.Stopped → halt_status h ≡ DiskFault → played_device (Err h) ≡ Err device.Failed
-halt_device halt.NoMemory other is = cc
-halt_device halt.WriteFault other is = cc
-halt_device halt.DiskFault other is = refl
-halt_device halt.Stopped other is = absurd (other refl)
 
 -- an opening that the outside hinders ends a play
 pub open_end : (e : OpenError) → IsFromOutside e → IsEndOfPlay (open_status e)

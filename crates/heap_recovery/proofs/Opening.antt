@@ -1,5 +1,5 @@
 -- What an opening reads of a log, and what it leaves.
-use Rattle.std.proofs.Common.{inl, inr, ◌≡◌, ◌≢◌, ◌⊎◌, ⊎_elim, ℕ, ◌+◌, ◌<◌, ◌≤◌, cond, List, [], ◌∷◌, ◌++◌, length, length-append, take, drop, take-append-drop, Option, None, Some, Result, Ok, Err, refl, sym, ap, ◌∙◌, subst, arith}
+use Rattle.std.proofs.Common.{inl, inr, ◌≡◌, ◌⊎◌, ⊎_elim, ℕ, ◌+◌, ◌<◌, ◌≤◌, cond, List, [], ◌∷◌, ◌++◌, length, length-append, take, drop, take-append-drop, Option, None, Some, Result, Ok, Err, refl, sym, ap, ◌∙◌, subst, arith}
 use Rattle.std.specs.Prelude.{option_and_then, nat_lt, if◌then◌else◌, IsFalse, IfOk, IfErr, IsOk}
 use Rattle.std.proofs.lemmas.Option.{option_and_then_some}
 use Rattle.std.proofs.lemmas.Bool.{lt-ltb}
@@ -10,12 +10,10 @@ use Rattle.disk_model.specs.Moments.{LeavesOnly}
 use Rattle.disk_model.proofs.MomentLaws.{joined, weaker}
 use Rattle.gate_slot.specs.Passing.{Passes}
 use Rattle.gated_log.specs.declared.Log.{Log}
-use Rattle.gated_log.specs.declared.LogError.{LogError}
-use Rattle.gated_log.specs.declared.LogError.TheVariants as logging
 use Rattle.gated_log.specs.Log.{records_of, with_batch, HoldsBatches, batches_bytes}
 use Rattle.gated_log.proofs.LogLaws.{buffer_size-Keeps}
 use Rattle.gated_log.specs.LogRoom.{used_bytes}
-use Rattle.gated_log.specs.LogState.{log_place, log_room, log_tail, buffer_size, log_used, log_used_with, log_count, is_waiting, IsBufferEmpty, IsSameLog, Keeps}
+use Rattle.gated_log.specs.LogState.{log_place, log_room, log_tail, buffer_size, log_used, log_used_with, log_count, is_waiting, IsBufferEmpty, Keeps}
 use Rattle.image_plan.specs.declared.plan.Plan.{Plan}
 use Rattle.image_plan.specs.declared.superblock.Super.{Super}
 use Rattle.image_plan.specs.Plan.{log_offset}
@@ -47,13 +45,7 @@ use Rattle.heap_recovery.specs.declared.error.RecoverError.{RecoverError}
 use Rattle.heap_recovery.specs.declared.error.RecoverError.TheVariants.{NoMemory, NotHeap, Damaged, Disk}
 use Rattle.heap_recovery.specs.declared.reading.Reading.{Reading}
 use Rattle.heap_recovery.specs.declared.recovery.Recovered.{Recovered}
-use Rattle.heap_recovery.specs.Recovered.{IsRedone, IsRead, IsRecovered, IsFromOutside, ErrorPasses, OpenPasses, log_error, replay_error}
-
--- a log that is not damaged fails by the outside
-pub outside_of : (e : LogError) → ((offset : ℕ) → e ≢ logging.BadBatch offset) → IsFromOutside (log_error e)
-outside_of logging.NoMemory sound = tt
-outside_of (logging.BadBatch at) sound = absurd (sound at refl)
-outside_of (logging.Disk e) sound = tt
+use Rattle.heap_recovery.specs.Recovered.{IsRedone, IsRead, IsRecovered, IsFromOutside, ErrorPasses, OpenPasses, replay_error}
 
 -- so do records of which all follow one another
 some_front : (s m : State) (rs more : List Record) → after_all s (rs ++ more) ≡ Some m → (n : State) × (after_all s rs ≡ Some n)
@@ -273,17 +265,6 @@ module _ (s : Super) (batches : List (List Record)) (stored : Pages) (read : Rea
   -- and no record waits where nothing is rolled back
   pub nothing_waits : rollback_of s batches ≡ [] → IsBufferEmpty log
   nothing_waits none = none_waits log batches (subst (λ (rs : List Record). Keeps log batches rs) (sym (same_rollback s batches stored read is) ∙ none) keeps)
-
--- a log that only took memory keeps what it did
-pub keeps_same : (old new : Log) (batches : List (List Record)) (pending : List Record) → IsSameLog old new → Keeps old batches pending → Keeps new batches pending
-keeps_same old new batches pending same keeps = record {
-  tail = same.place.tail ∙ keeps.tail;
-  head = keeps.head;
-  four = keeps.four;
-  items = same.buffer ∙ keeps.items;
-  forced = same.place.forced ∙ keeps.forced;
-  count = same.count ∙ keeps.count;
-}
 
 -- A crash at any moment of an opening leaves the image as it was, or with its log rolled back.
 pub opening_moments : {D : Type 0} (moment : D → ℕ) (left_since : D → ℕ → List ℕ → Type 0) (old mid new : D) (may_leave : List ℕ → Type 0) (now image : List ℕ) (s : Super) (batches : List (List Record)) (stored : Pages) → Holds s batches stored image → (read : Reading)

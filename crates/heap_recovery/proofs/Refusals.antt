@@ -15,13 +15,9 @@ use Rattle.image_plan.specs.declared.superblock.Super.{Super}
 use Rattle.image_plan.specs.Plan.{log_offset}
 use Rattle.log_records.specs.declared.Record.{Record}
 use Rattle.log_records.specs.Record.{IsRecord}
-use Rattle.log_machine.specs.declared.replaying.ReplayError.{ReplayError}
-use Rattle.log_machine.specs.declared.replaying.ReplayError.TheVariants as replaying
 use Rattle.log_machine.specs.Machine.{State, start, after_all, all_taken_back, rollback, reserve}
-use Rattle.log_machine.specs.Replay.{IsFirstUnshaped}
 use Rattle.object_layout.specs.Walk.{IsWalked, IsWalkFault}
 use Rattle.page_redo.specs.Pages.{Pages}
-use Rattle.page_redo.specs.Redo.{EachLacks}
 use Rattle.page_cache.specs.CacheState.{IsFirstPast}
 use Rattle.page_cache.proofs.ImageLaws.{stored_behind_log}
 use Rattle.page_cache.specs.CacheState.{cached}
@@ -33,9 +29,9 @@ use Rattle.heap_recovery.specs.declared.error.RecoverError.{RecoverError}
 use Rattle.heap_recovery.specs.declared.error.RecoverError.TheVariants.{NoMemory, NotHeap, Damaged, Disk}
 use Rattle.heap_recovery.specs.declared.reading.Reading.{Reading}
 use Rattle.heap_recovery.specs.declared.recovery.Recovered.{Recovered}
-use Rattle.heap_recovery.specs.Faults.{stored_in, HasSuper, IsNoHeap, HoldsLog, IsReplayed, HasRoom, IsReadable, IsFaultAt, IsToldOf, IsToldOfPages, IsErrorOrOutside, ComesBeforeWrites, IsLogLeft}
+use Rattle.heap_recovery.specs.Faults.{stored_in, HasSuper, IsNoHeap, HoldsLog, IsReplayed, HasRoom, IsReadable, IsFaultAt, IsToldOf, IsToldOfPages, IsErrorOrOutside, IsLogLeft}
 use Rattle.heap_recovery.proofs.FaultLaws.{one_numbers, one_batches, shaped_log, shaped_whole, told_not_heap, told_damaged, left_fault, rolled_spelled}
-use Rattle.heap_recovery.specs.Recovered.{IsRead, IsRecovered, IsFromOutside, log_error, replay_error}
+use Rattle.heap_recovery.specs.Recovered.{IsRead, IsRecovered, IsFromOutside, log_error}
 use Rattle.heap_recovery.proofs.Opening.{committed, only_still, in_log, held_there, outside_log, rolled_held, placed_there, read_shaped}
 
 -- no numbers are those of an image of which an opening tells no damage, if none lets it end so but the outside
@@ -60,13 +56,6 @@ log_held s image at records batches has same holds are good = record {
   good = subst (λ (rs : List Record). AllByRecursion IsRecord rs) are good;
 }
 
--- a record that is told is the first that can't follow
-pub replay_told : (s : Super) (batches : List (List Record)) (image : List ℕ) (records : List Record) (e : ReplayError) → HoldsLog s batches image → records ≡ records_of batches
-    → ((lsn : ℕ) → e ≡ replaying.Unshaped lsn → IsFirstUnshaped (start s.pages s.first) records lsn) → IsToldOf (replay_error e) image
-replay_told s batches image records replaying.NoMemory log are first = tt
-replay_told s batches image records (replaying.Unshaped lsn) log are first =
-    (s, batches, log, subst (λ (rs : List Record). IsFirstUnshaped (start s.pages s.first) rs lsn) are (first lsn refl))
-
 -- where they all follow
 pub replayed : (s : Super) (batches : List (List Record)) (image : List ℕ) (records : List Record) (state : State) → HoldsLog s batches image → records ≡ records_of batches
     → after_all (start s.pages s.first) records ≡ Some state → IsReplayed s batches state image
@@ -82,17 +71,6 @@ pages_told s batches state image count (Damaged Reserve) roomy same told = absur
 pages_told s batches state image count (Damaged (Page page)) roomy same told = (s, batches, state, roomy, subst (λ (n : ℕ). IsFirstPast n page (stored_in s image)) same told)
 pages_told s batches state image count (Damaged (Address address)) roomy same told = absurd told
 pages_told s batches state image count (Disk e) roomy same told = tt
-
--- where no page is ahead an opening of the pages fails by the outside
-pub pages_outside : (count : ℕ) (stored : Pages) (e : RecoverError) → EachLacks (count + 1) stored → IsToldOfPages count stored e → IsFromOutside e
-pages_outside count stored NoMemory behind told = tt
-pages_outside count stored NotHeap behind told = absurd told
-pages_outside count stored (Damaged (Batch offset)) behind told = absurd told
-pages_outside count stored (Damaged (Rec lsn)) behind told = absurd told
-pages_outside count stored (Damaged Reserve) behind told = absurd told
-pages_outside count stored (Damaged (Page page)) behind told = absurd (omega (arith, told.past, behind page))
-pages_outside count stored (Damaged (Address address)) behind told = absurd told
-pages_outside count stored (Disk e) behind told = tt
 
 -- What is opened is a shaped log with its pages, and the image's.
 abbrev pub IsFoundOn : List ℕ → Recovered → Type 0
@@ -121,10 +99,6 @@ module _ (r : Result Recovered RecoverError) (fault : Option ℕ) (damaged : (at
   -- an error tells that fault
   pub finish_told : (image : List ℕ) → ((at : ℕ) → fault ≡ Some at → IsFaultAt (Address at) image) → IfErr r (λ e. IsToldOf e image)
   finish_told image told = ended fault (λ e. IsToldOf e image) refl told
-
-  -- and does not come before the writes
-  pub finish_late : (P : Type 0) → IfErr r (λ e. ComesBeforeWrites e → P)
-  finish_late P = ended fault (λ e. ComesBeforeWrites e → P) refl (λ at is early. absurd early)
 
 module _ (s : Super) (batches : List (List Record)) (image : List ℕ) (read : Reading) (is : IsRead s batches (stored_in s image) read) (readable : IsReadable s batches read.state image) where
   -- a fault of the walk is the image's

@@ -79,11 +79,6 @@ inside_reversed s now t us is same e =
 pub below_pages : (s : State) (u : UndoEntry) → IsConsistent s → LiesInside s.base s.used u → field_at u.object u.field < words_in s.pages
 below_pages s u is inside = let fits = fits_in s is in let below = inside.below in omega arith
 
-pub field_below : (s now : State) (object field : ℕ) → IsConsistent s → s ≡ now → lies_inside now object field ≡ true → field_at object field < words_in now.pages
-field_below s now object field is same inside =
-    let here = ap (λ (x : State). lies_inside x object field) same ∙ inside in
-    subst (λ (x : State). field_at object field < words_in x.pages) same (below_pages s (record { object = object; field = field; was = 0 }) is (inside_told s object field 0 here))
-
 chosen : {X : Type 0} (b : Bool) (x : X) → is_some (cond b (Some x) None) ≡ true → cond b (Some x) None ≡ Some x
 chosen true x e = refl
 chosen false x e = absurd (cc e)
@@ -132,12 +127,6 @@ below_reversed s now t us is same e =
 -- the used words are words of the pages
 pub fits_now : (s now : State) → IsConsistent s → s ≡ now → now.base + now.used ≤ words_in now.pages
 fits_now s now is same = subst (λ (x : State). x.base + x.used ≤ words_in x.pages) same (fits_in s is)
-
-pub room_now : (s now : State) → IsConsistent s → s ≡ now → now.used ≤ space_words now.pages
-room_now s now is same = subst (λ (x : State). x.used ≤ space_words x.pages) same is.room
-
-pub addresses_now : (s now : State) → IsConsistent s → s ≡ now → words_in now.pages ≤ 2 ^ 32
-addresses_now s now is same = subst (λ (x : State). words_in x.pages ≤ 2 ^ 32) same is.addresses
 
 -- what has room in the space has a size of 32 bits
 pub short_now : (s now : State) (size : ℕ) → IsConsistent s → s ≡ now → now.used + size ≤ space_words now.pages → size < 2 ^ 32

@@ -1,5 +1,5 @@
 -- Writes to different fields.
-use Rattle.std.specs.Prelude.{◌≡◌, ◌≢◌, ℕ, List}
+use Rattle.std.specs.Prelude.{◌≢◌, ℕ, List}
 use Rattle.std.specs.List.{AllByRecursion}
 use Rattle.log_machine.specs.declared.UndoEntry.{UndoEntry}
 use Rattle.log_machine.specs.Machine.{State, field_at}
@@ -16,7 +16,3 @@ AreApart us vs = AllByRecursion (λ u. AllByRecursion (λ v. written u ≢ writt
 -- no other transaction's writes that may be taken back are to fields that these have written
 abbrev pub IsApart : State → ℕ → List UndoEntry → Type 0
 IsApart s t us = EachEntry (λ q vs. q ≢ t → AreApart us vs) s.undo
-
--- no other transaction has writes that may be taken back
-abbrev pub IsOnlyLoser : State → ℕ → Type 0
-IsOnlyLoser s t = EachEntry (λ q vs. q ≡ t) s.undo

@@ -112,17 +112,6 @@ pub kept_shorter : (bytes : ℕ) (es n : List (ℕ × Vec UndoEntry)) (t : ℕ) 
     → seen v ≡ drop 1 (seen old) → 1 < length (seen old) → (19 ≤ bytes) × IsKept (bytes - 19) (seen_undo n)
 kept_shorter bytes es n t old v kept found changes rest long = shorter bytes es n t old v (seen old) refl kept found changes rest long
 
--- with a list that may be empty
-pub with_short : (undo : FinMap nat_cmp (List UndoEntry)) (t : ℕ) (us : List UndoEntry) → length us ≤ 1 → with_entries undo t (drop 1 us) ≡ remove undo t
-with_short undo t [] short = refl
-with_short undo t (u ∷ []) short = refl
-with_short undo t (u ∷ w ∷ ws) short = absurd (omega arith)
-
-pub with_long : (undo : FinMap nat_cmp (List UndoEntry)) (t : ℕ) (us : List UndoEntry) → 1 < length us → with_entries undo t (drop 1 us) ≡ insert undo t (drop 1 us)
-with_long undo t [] long = absurd (omega arith)
-with_long undo t (u ∷ []) long = absurd (omega arith)
-with_long undo t (u ∷ w ∷ ws) long = refl
-
 -- what follows of an answer
 pub on_ok : {X E : Type 0} (r : Result X E) {P Q : Type 0} → (P → Q) → OnOk r P → OnOk r Q
 on_ok (Ok x) f h = f h

@@ -38,10 +38,6 @@ one_after (Some s) = refl
 pub after_all-append : (s m : State) (rs : List Record) (r : Record) → after_all s rs ≡ Some m → after_all s (rs ++ r ∷ []) ≡ after m r
 after_all-append s m rs r e = after_all-append2 s m rs (r ∷ []) e ∙ one_after (after m r)
 
--- a record that can't follow ends it
-pub after_all_none : (s m : State) (rs : List Record) (r : Record) (rest : List Record) → after_all s rs ≡ Some m → after m r ≡ None → after_all s (rs ++ r ∷ rest) ≡ None
-after_all_none s m rs r rest e stuck = after_all-append2 s m rs (r ∷ rest) e ∙ ap (λ (x : Option State). option_and_then (λ next. after_all next rest) x) stuck
-
 -- the words with more records behind these
 pub words-append : (pages : ℕ) (rs more : List Record) → words pages (rs ++ more) ≡ fold put_record (words pages rs) more
 words-append pages rs more = fold-append put_record (first_contents pages) rs more
@@ -82,9 +78,6 @@ standing undo t u us e = stands (get undo t) u us e
 -- the numbers that a transaction can have
 pub number_in_range : (t : ℕ) → 1 ≤ t → t ≤ 4294967294 → is_number t ≡ true
 number_in_range t some small = and_from _ _ (le-leb 1 t some) (le-leb t 4294967294 small)
-
-pub number_some : (t : ℕ) → is_number t ≡ true → 1 ≤ t
-number_some t e = leb-true 1 t (and_parts _ _ e).0
 
 pub number_small : (t : ℕ) → is_number t ≡ true → t ≤ 4294967294
 number_small t e = leb-true t 4294967294 (and_parts _ _ e).1

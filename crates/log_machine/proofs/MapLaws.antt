@@ -160,13 +160,6 @@ entries_empty X = nothing_of_length _ (sym (len-entries (empty {X = X} {R = nat_
 module _ {X : Type 0} where
   pub empty_of_entries : (m : FinMap nat_cmp X) → entries m ≡ [] → m ≡ empty
   empty_of_entries m e = empty_of_len m (len-entries m ∙ ap length e)
-  gone_at : (m : FinMap nat_cmp X) (k q : ℕ) (o : Option X) (b : Bool) → get m q ≡ o → eq_by_cmp nat_cmp q k ≡ b → EachEntry (λ q v. q ≡ k) m → get (remove m k) q ≡ get (empty {X = X} {R = nat_cmp}) q
-  gone_at m k q o true some same only = get-remove nat_cmp_total m k q ∙ ap (λ b. cond b None (get m q)) same ∙ sym (get-empty nat_cmp q)
-  gone_at m k q None false some other only = get-remove nat_cmp_total m k q ∙ ap (λ b. cond b None (get m q)) other ∙ some ∙ sym (get-empty nat_cmp q)
-  gone_at m k q (Some v) false some other only = absurd (cc (other, itself k, only q v some))
-  -- without the only key nothing is left
-  pub remove_only : (m : FinMap nat_cmp X) (k : ℕ) → EachEntry (λ q v. q ≡ k) m → remove m k ≡ empty
-  remove_only m k only = same_map nat_cmp_total nat_cmp-IsAntisymmetric _ _ (λ q. gone_at m k q (get m q) (eq_by_cmp nat_cmp q k) refl refl only)
   each_of : (P : ℕ → X → Type 0) (es : List (ℕ × X)) (m : FinMap nat_cmp X) → entries m ≡ es → EachEntry P m → AllByRecursion (λ e. P e.0 e.1) es
   each_of P [] m is each = tt
   each_of P (e ∷ es) m is each = (each e.0 e.1 (get_first m e.0 e.1 es is), each_of P es (remove m e.0) (remove_first m e.0 e.1 es is) (each_remove P m e.0 each))

@@ -12,11 +12,11 @@ use Rattle.log_records.specs.declared.Record.TheVariants.{Update}
 use Rattle.log_machine.specs.declared.UndoEntry.{UndoEntry}
 use Rattle.log_machine.specs.Machine.{State, Loser, field_at, undo_of, with_entries, with_word, turned, put_record, taken_back, each_taken_back, all_taken_back, abort_records, rollback}
 use Rattle.log_machine.specs.Entries.{EachEntry}
-use Rattle.log_machine.proofs.MapLaws.{get_removed, insert_remove, insert_known, remove_absent, entries_empty, each_entry, each_other, remove_only}
+use Rattle.log_machine.proofs.MapLaws.{get_removed, insert_remove, insert_known, remove_absent, entries_empty, each_entry, each_other}
 use Rattle.log_machine.proofs.MachineLaws.{standing}
 use Rattle.log_machine.specs.Sound.{IsSound}
 use Rattle.log_machine.proofs.AbortLaws.{settled, none_standing, none_empty, abort_words, rollback_words}
-use Rattle.log_machine.proofs.Fields.{written, AreApart, IsApart, IsOnlyLoser}
+use Rattle.log_machine.proofs.Fields.{written, AreApart, IsApart}
 use Rattle.log_machine.specs.Apart.{others_taken_back}
 
 -- Writes to different fields, in any order.
@@ -57,14 +57,6 @@ insert_first undo t us now other =
     ∙ ap (λ es. each_taken_back es now) (entries-insert nat_cmp_total (remove undo t) t us)
     ∙ each_put t us (entries (remove undo t)) now (sym (get-entries (remove undo t) t) ∙ get_removed undo t)
     (each_entry (λ q vs. AreApart us vs) (remove undo t) (each_other (λ q vs. AreApart us vs) undo t other))
-
--- where no others have writes nothing else is taken back
-pub others_none : (s : State) (t : ℕ) (now : List ℕ) → IsOnlyLoser s t → others_taken_back s t now ≡ now
-others_none s t now only = ap (λ n. each_taken_back (entries n) now) (remove_only s.undo t only) ∙ ap (λ es. each_taken_back es now) (entries_empty (List UndoEntry))
-
--- and no other transaction's are to the same fields
-pub only_apart : (s : State) (t : ℕ) (us : List UndoEntry) → IsOnlyLoser s t → IsApart s t us
-only_apart s t us only q vs some other = absurd (other (only q vs some))
 
 taken_first : (s : State) (t : ℕ) (us : List UndoEntry) (now : List ℕ) → IsSound s → undo_of s t ≡ us → IsApart s t us → all_taken_back s now ≡ others_taken_back s t (taken_back us now)
 taken_first s t [] now sound own other = ap (λ n. each_taken_back (entries n) now) (sym (remove_absent s.undo t (none_standing s.undo t (none_empty s sound) own)))

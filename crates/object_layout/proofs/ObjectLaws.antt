@@ -123,12 +123,6 @@ pub end_to_end_push : (words : List ℕ) (from : ℕ) (starts : List ℕ) (at n 
 end_to_end_push words from [] at n objects object = (n, sym objects, object, refl)
 end_to_end_push words from (a ∷ rest) at n (m, same, first, later) object = (m, same, first, end_to_end_push words (a + 2 + m) rest at n later object)
 
--- each takes two words at least
-pub end_to_end_long : (words : List ℕ) (from : ℕ) (starts : List ℕ) (end : ℕ) → AreEndToEnd words from starts end → from + 2 * length starts ≤ end
-end_to_end_long words from [] end objects = omega arith
-end_to_end_long words from (a ∷ rest) end (n, same, first, later) =
-    let long = end_to_end_long words (a + 2 + n) rest end later in omega arith
-
 -- none of them starts before the first
 pub end_to_end_begins : (words : List ℕ) (from : ℕ) (starts : List ℕ) (end at : ℕ) → AreEndToEnd words from starts end → Contains starts at → from ≤ at
 end_to_end_begins words from [] end at objects has = absurd (Contains-none at has)

@@ -1,5 +1,5 @@
 -- Laws of what is seen in words: it has one canon, and where a walk passes something is seen.
-use Rattle.std.proofs.Common.{◌≡◌, ℕ, ◌↔◌, zero, suc, Bool, true, false, List, [], ◌∷◌, map, Option, Some, None, refl, sym, ap, ◌∙◌, subst}
+use Rattle.std.proofs.Common.{◌≡◌, ℕ, zero, suc, Bool, true, false, List, [], ◌∷◌, map, Option, Some, None, refl, sym, ap, ◌∙◌, subst}
 use Rattle.std.specs.Prelude.{slice_get}
 use Rattle.std.specs.Option.{option_and_then}
 use Rattle.std.specs.FinMap.{get}
@@ -14,8 +14,7 @@ use Rattle.graph_model.specs.Graph.{Graph, is_same_id}
 use Rattle.graph_model.specs.Canon.{canon}
 use Rattle.graph_model.proofs.Whole.Graph.{same_id, itself}
 use Rattle.graph_model.specs.ClosedGraph.{IsWhole}
-use Rattle.graph_model.specs.Isomorphism.{MatchValues, MatchRows, AreIsomorphic}
-use Rattle.graph_model.proofs.Canon.Isomorphism.{canon_tells_isomorphism}
+use Rattle.graph_model.specs.Isomorphism.{MatchValues, MatchRows}
 use Rattle.graph_model.proofs.Canon.Match.{IsMatch}
 use Rattle.graph_model.proofs.Canon.Matches.{canon_match, match_whole}
 use Rattle.object_layout.specs.Layout.{field_words, stand, referred, as_ref, value, IsMet, at_start, along, IsSeenAs}
@@ -110,12 +109,3 @@ seen_canon name other words start g h one two = canon_match (NamesOne name other
 -- a graph that is seen holds all that is reached in it
 pub seen_whole : (name : ℕ → Id) (words : List ℕ) (start : ℕ) (g : Graph) → IsSeenAs name words start g → IsWhole g
 seen_whole name words start g seen = (match_whole (NamesOne name name words start) g g (seen_match name name words start g g seen seen)).0
-
--- All graphs that are seen from one address are isomorphic, whatever the names.
-pub seen_isomorphic : (name other : ℕ → Id) (words : List ℕ) (start : ℕ) (g h : Graph) → IsSeenAs name words start g → IsSeenAs other words start h → AreIsomorphic g h
-seen_isomorphic name other words start g h one two =
-    (canon_tells_isomorphism g h (seen_whole name words start g one) (seen_whole other words start h two)).0 (seen_canon name other words start g h one two)
-
--- A graph that is isomorphic to one that is seen has its canon, and the other way round.
-pub seen_tells : (name : ℕ → Id) (words : List ℕ) (start : ℕ) (g h : Graph) → IsSeenAs name words start g → IsWhole h → (canon g ≡ canon h) ↔ AreIsomorphic g h
-seen_tells name words start g h seen whole = canon_tells_isomorphism g h (seen_whole name words start g seen) whole

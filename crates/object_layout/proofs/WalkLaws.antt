@@ -1,19 +1,13 @@
 -- Laws of the walk: objects of a space are objects of the words, the first fault is one, and a walk that passes has none.
-use Rattle.std.proofs.Common.{◌≡◌, ℕ, zero, suc, ◌+◌, ◌<◌, ◌≤◌, ◌⊎◌, inl, inr, List, [], ◌∷◌, length, take, drop, Option, None, Some, refl, sym, ap, ◌∙◌, subst, arith, lit<}
-use Rattle.std.specs.Prelude.{slice_get, Contains, if◌then◌else◌}
+use Rattle.std.proofs.Common.{◌≡◌, ℕ, zero, suc, ◌+◌, ◌<◌, ◌≤◌, ◌⊎◌, inl, inr, List, [], ◌∷◌, length, take, drop, Option, None, Some, refl, sym, ap, ◌∙◌, subst, arith}
+use Rattle.std.specs.Prelude.{Contains, if◌then◌else◌}
 use Rattle.std.proofs.lemmas.Bool.{le-leb, cases_order}
-use Rattle.std.proofs.lemmas.List.{get_or-take, length-take, length-take-le}
+use Rattle.std.proofs.lemmas.List.{get_or-take, length-take}
 use Rattle.std.proofs.lemmas.Option.{same_Some}
-use Rattle.heap_words.specs.declared.Word.TheVariants as word
-use Rattle.heap_words.specs.Word.{meaning}
-use Rattle.heap_words.proofs.WordLaws.{meaning-bits}
-use Rattle.graph_model.specs.declared.val.Val.{Val}
-use Rattle.graph_model.specs.declared.val.Val.TheVariants.{Null, Int, Ref}
 use Rattle.heap_words.specs.Header.{header}
 use Rattle.object_layout.specs.Layout.{whole_length, object_at, words_of, field_words}
-use Rattle.object_layout.proofs.LayoutLaws.{object_from_header, object_header}
-use Rattle.object_layout.specs.Walk.{used_words, AreEndToEnd, IsRootAt, IsInside, KeepsInside, IsFilled, IsWalked, BreaksAt, at_root, behind, IsWalkFault, breaks, leads_out}
-use Rattle.object_layout.proofs.RootLaws.{IsRootWord, AreRootWords, StandsAlone, root_field_words}
+use Rattle.object_layout.proofs.LayoutLaws.{object_header}
+use Rattle.object_layout.specs.Walk.{used_words, AreEndToEnd, KeepsInside, IsFilled, IsWalked, BreaksAt, at_root, behind, IsWalkFault, breaks, leads_out}
 
 -- the head of a list is in it
 pub Contains-head : {X : Type 0} (x : X) (xs : List X) → Contains (x ∷ xs) x
@@ -49,46 +43,6 @@ object_take_end words end at n is = let parts = object_header (take end words) a
 -- the object at an address of a front has the same field words there
 pub field_words_take : (words : List ℕ) (end at n : ℕ) → object_at (take end words) at ≡ Some n → field_words words at ≡ take n (drop (at + 2) words)
 field_words_take words end at n is = ap (words_of words at) (object_take words end at n is)
-
-alone_take : (words : List ℕ) (at : ℕ) (vs : List Val) → StandsAlone words at vs → IsRootAt (used_words words at 6) at
-alone_take words at vs alone =
-    let within = alone.within in record {
-      length = object_from_header (used_words words at 6) at 4 (get_or-take (at + 6) words at 0 (omega arith) ∙ alone.header) (lit< tt) (omega (arith, length-take-le (at + 6) words within));
-      birth = get_or-take (at + 6) words (at + 1) 0 (omega arith) ∙ alone.birth;
-    }
-
-root_word_inside : (at w : ℕ) (v : Val) → IsRootWord at w v → IsInside (at ∷ []) (meaning w)
-root_word_inside at w Null is = subst (IsInside (at ∷ [])) (sym (ap meaning is ∙ meaning-bits word.Null tt)) tt
-root_word_inside at w (Int n) is = subst (IsInside (at ∷ [])) (sym (ap meaning is.1 ∙ meaning-bits (word.Int n) is.0)) tt
-root_word_inside at w (Ref id) is = subst (IsInside (at ∷ [])) (sym (ap meaning is.2 ∙ meaning-bits (word.Stable at) is.0)) (Contains-head at [])
-
-root_inside : (at : ℕ) (ws : List ℕ) (vs : List Val) (i w : ℕ) → AreRootWords at ws vs → slice_get ws i ≡ Some w → IsInside (at ∷ []) (meaning w)
-root_inside at [] vs i w are is = cc
-root_inside at (x ∷ ws) [] i w are is = absurd are
-root_inside at (x ∷ ws) (v ∷ vs) zero w are is = subst (λ (y : ℕ). IsInside (at ∷ []) (meaning y)) (same_Some x w is) (root_word_inside at x v are.0)
-root_inside at (x ∷ ws) (v ∷ vs) (suc i) w are is = root_inside at ws vs i w are.1 is
-
-root_keeps_inside : (words : List ℕ) (at : ℕ) (vs : List Val) → StandsAlone words at vs → KeepsInside words (at ∷ []) at
-root_keeps_inside words at vs alone i w is =
-    root_inside at _ vs i w alone.fields (ap (λ ws. slice_get ws i) (sym (root_field_words words at vs alone)) ∙ is)
-
--- the walk of a root that stands alone passes
-pub root_walked : (words : List ℕ) (at : ℕ) (vs : List Val) → StandsAlone words at vs → IsWalked words at 6
-root_walked words at vs alone =
-    let root = alone_take words at vs alone in record {
-      starts = at ∷ [];
-      filled = record { root = root; objects = (4, refl, root.length, omega arith) };
-      inside = λ a has. elim (Contains-cases at [] a has) [
-        | inl same ↦ subst (KeepsInside words (at ∷ [])) same (root_keeps_inside words at vs alone)
-        | inr none ↦ absurd (Contains-none a none)
-      ];
-    }
-
--- objects that stand end to end end no earlier than they begin
-pub end_to_end_grows : (words : List ℕ) (from : ℕ) (starts : List ℕ) (end : ℕ) → AreEndToEnd words from starts end → from ≤ end
-end_to_end_grows words from [] end is = omega arith
-end_to_end_grows words from (at ∷ rest) end (n, same, object, more) =
-    let later = end_to_end_grows words (at + 2 + n) rest end more in omega arith
 
 -- two runs of objects from one address on are one, if no object stands where they end
 pub end_to_end_one : (words : List ℕ) (from : ℕ) (xs ys : List ℕ) (end stop : ℕ) → AreEndToEnd words from xs end → AreEndToEnd words from ys stop

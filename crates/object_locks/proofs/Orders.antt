@@ -3,11 +3,8 @@ use Rattle.std.proofs.Common.{◌≡◌, ℕ, ◌<◌, ◌≤◌, ◌^◌, Bool,
 use Rattle.std.specs.BTreeSet.{BTreeSet, Updates}
 use Rattle.std.specs.Ordering.{nat_cmp, ordering_then, is_gt}
 use Rattle.std.specs.declared.cmp.Ordering.{Ordering}
-use Rattle.std.specs.Cmp.{IsTotalOrder}
-use Rattle.std.specs.FinMap.{IsAntisymmetric}
-use Rattle.std.proofs.lemmas.Cmp.{nat_cmp_total, on_total, then_total, tied_itself, ranked, by_ranked}
+use Rattle.std.proofs.lemmas.Cmp.{nat_cmp_total, tied_itself, ranked, by_ranked}
 use Rattle.std.proofs.lemmas.Bool.{true≢false}
-use Rattle.std.proofs.lemmas.Map.Lookups.{exact_unsigned}
 use Rattle.object_locks.specs.declared.holding.Key.{Key}
 use Rattle.object_locks.specs.declared.holding.Mode.{Mode}
 use Rattle.object_locks.specs.declared.holding.Mode.TheVariants.{Shared, Exclusive}
@@ -17,7 +14,6 @@ use Rattle.object_locks.specs.contracts.holding.HoldingOrd.TheImpl as holding_or
 use Rattle.object_locks.specs.contracts.holding.ModeOrd.TheImpl as mode_ord
 use Rattle.object_locks.specs.contracts.lock_table.OwnedOrd.TheImpl as owned_ord
 use Rattle.object_locks.specs.Holdings.{holding_cmp, mode_number}
-use Rattle.object_locks.proofs.HoldingOrder.{both_tie, mode_exact}
 use Rattle.object_locks.specs.Table.{owned_cmp, owned}
 pub use Rattle.object_locks.proofs.HoldingOrder.{holding_total, holding_exact}
 
@@ -34,20 +30,6 @@ by_object_is i a b = ordering_then (nat_cmp a.key.address b.key.address) (orderi
 -- the derived order by transactions
 pub by_transaction_is : owned_ord.cmp-value.it ≡ owned_cmp
 by_transaction_is i a b = ordering_then (nat_cmp a.transaction b.transaction) (ordering_then (nat_cmp a.key.address b.key.address) (same_mode a.mode b.mode i))
-
-pub owned_total : IsTotalOrder owned_cmp
-owned_total =
-    then_total (on_total (λ (h : Owned). h.transaction) nat_cmp_total)
-    (then_total (on_total (λ (h : Owned). h.key.address) nat_cmp_total) (on_total (λ (h : Owned). mode_number h.mode) nat_cmp_total))
-
-pub owned_exact : IsAntisymmetric owned_cmp
-owned_exact a b e =
-    let first = both_tie (nat_cmp a.transaction b.transaction) _ e in
-    let others = both_tie (nat_cmp a.key.address b.key.address) _ first.1 in
-    let t = exact_unsigned _ _ first.0 in
-    let k = exact_unsigned _ _ others.0 in
-    let m = mode_exact a.mode b.mode (exact_unsigned _ _ others.1) in
-    λ i. record { transaction = t i; key = record { address = k i }; mode = m i }
 
 -- a change as the derived order tells it
 pub object_updates : (s n : BTreeSet Holding) (h : Holding) (b : Bool) → Updates holding_ord.cmp-value.it s n h b → Updates holding_cmp s n h b

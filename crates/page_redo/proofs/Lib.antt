@@ -1,4 +1,3 @@
-pub mod OnePage
 pub mod PageLaws
 pub mod PrefixLaws
 pub mod RedoLaws

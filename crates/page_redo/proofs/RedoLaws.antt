@@ -10,7 +10,7 @@ use Rattle.log_machine.proofs.WordsLaws.{length-put_all}
 use Rattle.page_redo.specs.Pages.{Pages, pages_in, page_of, lsn_of, touched, touches}
 use Rattle.page_redo.specs.Redo.{lacks, EachLacks, redo_record, redo_all, redone, last_lsn}
 use Rattle.page_redo.proofs.PageLaws.{length-raised_to, raised_to-touched, raised_to-other}
-use Rattle.page_redo.specs.Prefix.{EachHoldsPrefix, IsPresent}
+use Rattle.page_redo.specs.Prefix.{EachHoldsPrefix}
 use Rattle.page_redo.proofs.PrefixLaws.{redone-present}
 
 -- records one after another
@@ -131,10 +131,6 @@ EachLacks-prefixes pages records at is p = elim (cases_lt p (length at.lsns)) [
   | inl lt ↦ omega (arith, (is.each p (omega (arith, is.lsns_size))).reached)
   | inr past ↦ omega (arith, get_or_past at.lsns p 0 past)
 ]
-
--- so does each of the present pages
-pub EachLacks-present : (pages : ℕ) (records : List Record) (at : Pages) → IsPresent pages records at → EachLacks (length records + 1) at
-EachLacks-present pages records at is = EachLacks-prefixes pages records at is.prefixes
 
 -- redo is repeated without an effect
 pub redone-redone : (pages : ℕ) (records : List Record) (stored : Pages) → EachHoldsPrefix pages records stored → redone (redone stored records) records ≡ redone stored records

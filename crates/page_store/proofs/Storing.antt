@@ -4,9 +4,9 @@ use Rattle.std.specs.Prelude.{min}
 use Rattle.std.proofs.lemmas.Bool.{eq-eqb, ne_eqb, cases_eq, cond-true, cond-false}
 use Rattle.std.proofs.lemmas.List.{ext_get_or, get_or-set_same, get_or-set_other}
 use Rattle.disk_model.specs.Disk.{overwrite, part}
-use Rattle.gate_slot.specs.Gate.{IsOpen, IsClosed, IsOutside, filled, closed, SameButGate, IsFilling}
+use Rattle.gate_slot.specs.Gate.{IsOpen, IsOutside, filled, closed, SameButGate, IsFilling}
 use Rattle.gate_slot.proofs.GateLaws.{length_filled, filled_outside, filled_next}
-use Rattle.gate_slot.proofs.ImageLaws.{same_part, part_overwrite, torn_overwrite, torn_outside, length_overwrite, overwrite_inside}
+use Rattle.gate_slot.proofs.ImageLaws.{same_part, part_overwrite, torn_overwrite, torn_outside, length_overwrite}
 use Rattle.image_plan.specs.Plan.{frame_offset}
 use Rattle.image_plan.specs.declared.plan.Plan.{Plan}
 use Rattle.page_store.specs.declared.store.PageStore.{PageStore}
@@ -83,19 +83,6 @@ module _ (log_bytes p : ℕ) (frame : Frame) where
       ap (λ (l : List ℕ). part l gate 528) (filled_next gate body image (omega (arith, size)))
       ∙ ap (λ (n : ℕ). part (overwrite image gate (1 ∷ body)) gate n) all
       ∙ part_overwrite image (1 ∷ body) gate (omega (arith, size))
-
-  -- a closed gate is no open one
-  pub closed_is_closed : (image : List ℕ) → gate + 528 ≤ length image → IsClosed gate (closed gate image)
-  closed_is_closed image fits = elim (cases_eq (get_or image gate 0) 1) [
-    | inl is_open ↦ subst (λ (l : List ℕ). get_or l gate 0 ≢ 1) (sym (cond-true _ (overwrite image gate (0 ∷ [])) image (eq-eqb _ _ is_open))) (λ one. zeroed one)
-    | inr shut ↦ subst (λ (l : List ℕ). get_or l gate 0 ≢ 1) (sym (cond-false _ (overwrite image gate (0 ∷ [])) image (ne_eqb _ _ shut))) shut
-  ]
-    where
-      zeroed : get_or (overwrite image gate (0 ∷ [])) gate 0 ≢ 1
-      zeroed one =
-          let none : gate - gate ≡ 0 = omega arith in
-          let zero_there : get_or (overwrite image gate (0 ∷ [])) gate 0 ≡ 0 = overwrite_inside image (0 ∷ []) gate (omega arith) gate (omega arith) (omega arith) ∙ ap (λ (k : ℕ). get_or (0 ∷ []) k 0) none in
-          omega (arith, one, zero_there)
 
   module _ (old new : List ℕ) (but : SameButFrame log_bytes p frame old new) where
     -- all but the page is as it was

@@ -142,10 +142,6 @@ fields_read objects rows i object id vs same apart is read =
     (read_row objects rows i object id vs same is read).1
     ∙ sym (ap (λ o. unwrap_or o []) (get-graph_of rows i id vs (subst AreApart same apart) is))
 
--- where there is no object there are no fields
-pub fields_none : (rows : List (Id × List Val)) (id : Id) → get (graph_of rows) id ≡ None → [] ≡ fields (graph_of rows) id
-fields_none rows id none = sym (ap (λ o. unwrap_or o []) none)
-
 rewritten : (objects : List Object) (i : ℕ) (id : Id) (vs : List Val) (changed : Object) → changed.id ≡ id → changed.fields.items ≡ vs
     → rows_of (slice_set objects i changed) ≡ slice_set (rows_of objects) i (id, vs)
 rewritten objects i id vs changed named are =

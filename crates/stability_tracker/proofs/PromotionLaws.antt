@@ -1,23 +1,20 @@
 -- Laws of what is promoted: it is just what is reached.
-use Rattle.std.proofs.Common.{◌≡◌, ℕ, zero, suc, ◌+◌, ◌≤◌, ◌⊎◌, inl, inr, List, [], ◌∷◌, length, Bool, true, false, cond, Option, None, Some, refl, sym, ap, ◌∙◌, subst, arith}
+use Rattle.std.proofs.Common.{◌≡◌, ℕ, zero, suc, ◌≤◌, ◌⊎◌, inl, inr, List, [], ◌∷◌, length, true, Option, None, Some, refl, ap, ◌∙◌, subst, arith}
 use Rattle.std.specs.Prelude.{slice_get, Contains, filter}
 use Rattle.std.specs.List.{list_any}
 use Rattle.std.specs.List.Sorted.{IsStrictlyIncreasing}
 use Rattle.std.proofs.lemmas.Bool.{or_cases, or_left, or_right, eqb-true, eq-eqb}
 use Rattle.std.proofs.lemmas.List.Kept.{IsStrictlyIncreasing-filter}
-use Rattle.std.proofs.lemmas.List.Sums.{sum_by-cons}
 use Rattle.heap_words.specs.declared.Word.{Word}
 use Rattle.heap_words.specs.declared.Word.TheVariants.{Null, Int, Stable, Volatile}
 use Rattle.heap_words.specs.Word.{meaning}
 use Rattle.object_layout.specs.Layout.{field_words}
-use Rattle.object_layout.proofs.LayoutLaws.{length-field_words}
-use Rattle.object_layout.specs.Walk.{AreEndToEnd}
 use Rattle.object_layout.proofs.WalkLaws.{Contains-none}
-use Rattle.volatile_area.specs.Area.{AreaState, length_at, starts_of, IsArea}
+use Rattle.volatile_area.specs.Area.{AreaState, starts_of}
 use Rattle.volatile_area.proofs.AreaLaws.{length-starts_of, starts_of_increase, Contains-slice_get}
 use Rattle.stability_tracker.proofs.ListLaws.{any_at, at_any, place_of, Contains-from_filter, Contains-filter, length-filter_le, filter_grows, same_rising}
 use Rattle.stability_tracker.proofs.Reached.{IsReached, named, along}
-use Rattle.stability_tracker.specs.Promotion.{refers, some_refers, is_led_to, reached_in, promoted, need}
+use Rattle.stability_tracker.specs.Promotion.{refers, some_refers, is_led_to, reached_in, promoted}
 
 -- References.
 
@@ -165,37 +162,4 @@ pub promoted_one : (area : AreaState) (written xs : List ℕ) → IsStrictlyIncr
 promoted_one area written xs rises only all =
     same_rising xs (promoted area written) rises (promoted_increase area written) (λ at has. reached_promoted area written at (only at has)) (λ at has. all at (promoted_reached area written at has))
 
--- where no word that was written refers to an object, none is promoted
-pub promoted_none : (area : AreaState) (written : List ℕ) → ((i w at : ℕ) → slice_get written i ≡ Some w → meaning w ≡ Some (Volatile at) → Contains (starts_of area) at → ⊥) → promoted area written ≡ []
-promoted_none area written no_word = sym (promoted_one area written [] (λ k within. absurd (omega arith)) (λ at has. absurd (Contains-none at has)) (λ at reached. absurd (none at reached)))
-  where
-    none : (at : ℕ) → IsReached area written at → ⊥
-    none at (named i w is meant start) = no_word i w at is meant start
-    none at (along from i w reached is meant start) = none from reached
-
 -- What the objects take.
-
-need-cons : (area : AreaState) (at : ℕ) (objects : List ℕ) → need area (at ∷ objects) ≡ 2 + length_at area.words at + need area objects
-need-cons area at objects = sum_by-cons (λ x. 2 + length_at area.words x) at objects
-
-need_end_to_end : (area : AreaState) (from : ℕ) (starts : List ℕ) (end : ℕ) → AreEndToEnd area.words from starts end → from + need area starts ≡ end
-need_end_to_end area from [] end objects = omega arith
-need_end_to_end area from (at ∷ rest) end (n, same, first, later) =
-    let long = length-field_words area.words at n first in
-    let more = need_end_to_end area (at + 2 + n) rest end later in
-    omega (arith, need-cons area at rest)
-
-need_filter : (area : AreaState) (p : ℕ → Bool) (objects : List ℕ) → need area (filter p objects) ≤ need area objects
-need_filter area p [] = omega arith
-need_filter area p (at ∷ rest) =
-    let fewer = need_filter area p rest in
-    let all = need-cons area at rest in
-    elim (p at) as (λ b. need area (cond b (at ∷ filter p rest) (filter p rest)) ≤ need area (at ∷ rest)) [ true ↦ omega (arith, need-cons area at (filter p rest)) | false ↦ omega arith ]
-
--- what is promoted takes no more words than the area has
-pub need_few : (area : AreaState) (written : List ℕ) → IsArea area → need area (promoted area written) ≤ length area.words
-need_few area written is =
-    let some = need_filter area (is_led_to area written (promoted area written)) (starts_of area) in
-    let same = ap (need area) (promoted_again area written) in
-    let all = need_end_to_end area 0 (starts_of area) (length area.words) is.objects in
-    omega arith

@@ -124,19 +124,6 @@ named_cases area words w b (i, v, is, meant, start) = elim (got_cases words w i 
   | inr last ↦ inr (ap meaning last ∙ meant, start)
 ]
 
--- no word was followed yet
-pub follows_none : (area : AreaState) (found waiting : List ℕ) → WereFollowed area [] found waiting found waiting
-follows_none area found waiting = record {
-  met = λ b (i, w, is, meant, start). absurd (cc is);
-  only = λ b there. inl there;
-  kept = λ b there. there;
-  waits = λ b there. inl there;
-  stays = λ b there. there;
-  known = λ b there. inl there;
-  counted = refl;
-  rises = λ rises. rises;
-}
-
 -- a word was followed that refers to no object of the area
 pub follows_past : (area : AreaState) (words : List ℕ) (w : ℕ) (found waiting new_found new_waiting : List ℕ) → WereFollowed area words found waiting new_found new_waiting
     → ((b : ℕ) → meaning w ≡ Some (Volatile b) → Contains (starts_of area) b → ⊥) → WereFollowed area (words ++ w ∷ []) found waiting new_found new_waiting

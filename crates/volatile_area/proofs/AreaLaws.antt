@@ -8,13 +8,12 @@ use Rattle.std.proofs.lemmas.List.Elements.{Contains-push_cases}
 use Rattle.std.proofs.lemmas.Option.{same_Some, slice_get_within, get_or_from_slice_get}
 use Rattle.heap_words.specs.declared.Word.TheVariants.{Null}
 use Rattle.heap_words.specs.Header.{birth_bits}
-use Rattle.heap_words.proofs.HeaderLaws.{born_in-birth_bits, born_as-birth_bits}
 use Rattle.heap_words.specs.Word.{IsFieldWord}
-use Rattle.object_layout.specs.Layout.{object_at, field_words, birth_at, id_of, id_at}
+use Rattle.object_layout.specs.Layout.{object_at, field_words, birth_at}
 use Rattle.object_layout.proofs.LayoutLaws.{object_header, length-field_words}
 use Rattle.object_layout.specs.Walk.{AreEndToEnd}
 use Rattle.object_layout.proofs.WalkedLaws.{end_to_end_object}
-use Rattle.volatile_area.specs.Area.{AreaState, new_area, length_at, starts_from, starts_of, new_words, with_object, with_field, HasField, IsArea}
+use Rattle.volatile_area.specs.Area.{AreaState, length_at, starts_from, starts_of, new_words, with_object, with_field, HasField, IsArea}
 use Rattle.volatile_area.proofs.ObjectLaws.{field_words_append, birth_at_append, field_words_beside, field_words_set, birth_at_set, object_behind, field_words_behind, birth_at_behind, end_to_end_append, end_to_end_push, end_to_end_long, end_to_end_apart, end_to_end_set, length-starts_from, starts_from-end_to_end}
 
 -- Starts.
@@ -54,26 +53,7 @@ made_few area is =
     let long = end_to_end_long area.words 0 (starts_of area) (length area.words) is.objects in
     omega (arith, length-starts_of area)
 
--- the object's id tells the transaction, and which of its objects it is
-pub id_at_start : (area : AreaState) (i at : ℕ) → IsArea area → slice_get (starts_of area) i ≡ Some at → id_at area.words at ≡ record { t = area.transaction; k = i + 1 }
-id_at_start area i at is there =
-    let few = made_few area is in
-    let words = is.few in
-    let within = slice_get_within (starts_of area) i at there in
-    let long = length-starts_of area in
-    let t = born_in-birth_bits area.transaction (i + 1) (omega arith) in
-    let k = born_as-birth_bits area.transaction (i + 1) (omega arith) in
-    ap id_of (is.births i at there) ∙ cc
-
 -- The area of a transaction that has made no object.
-
-pub new_area_is : (t : ℕ) → IsArea (new_area t)
-new_area_is t = record {
-  few = omega arith;
-  objects = refl;
-  births = λ i at none. absurd (cc none);
-  fields = λ at i w (k, within, same) there. absurd (omega arith);
-}
 
 -- One object more.
 

@@ -7,5 +7,4 @@ pub mod ObjectFields
 pub mod ReserveLaws
 pub mod Room
 pub mod SealLaws
-pub mod StateLaws
 pub mod Tables

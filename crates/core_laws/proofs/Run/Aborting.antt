@@ -114,32 +114,6 @@ aborts_all P c from (suc n) each =
 abbrev pub aborting_from : ℕ → Core → List Event
 aborting_from s c = aborts c s (33 - s)
 
--- from the first one on all are aborted
-pub aborting_first : (c : Core) → aborting c ≡ aborting_from 1 c
-unfolding sessions
-aborting_first c = refl
-
-from_here : (c : Core) (s : ℕ) → s ≤ 32 → aborting_from s c ≡ abort_of s (active_in c s) ++ aborting_from (s + 1) c
-from_here c s le =
-    let here : 33 - s ≡ suc (32 - s) = omega arith in
-    let rest : 32 - s ≡ 33 - (s + 1) = omega arith in
-    ap (aborts c s) here ∙ ap (λ n. abort_of s (active_in c s) ++ aborts c (s + 1) n) rest
-
--- a session that has no transaction has nothing to abort
-pub aborting_idle : (s : ℕ) (c : Core) → s ≤ 32 → active_in c s ≡ None → aborting_from s c ≡ aborting_from (s + 1) c
-aborting_idle s c le none = from_here c s le ∙ ap (λ o. abort_of s o ++ aborting_from (s + 1) c) none
-
--- one that has a transaction aborts, and then those behind it as before
-pub aborting_active : (s : ℕ) (c : Core) (t : Transaction) → s ≤ 32 → active_in c s ≡ Some t → aborting_from s c ≡ Abort s ∷ aborting_from (s + 1) (after c (Abort s))
-aborting_active s c t le some =
-    from_here c s le
-    ∙ ap (λ o. abort_of s o ++ aborting_from (s + 1) c) some
-    ∙ ap (λ l. Abort s ∷ l) (sym (aborts_same c (after c (Abort s)) (s + 1) (33 - (s + 1)) (λ r low. after_other c (Abort s) r (λ same. omega arith))))
-
--- behind the last session nothing is left to abort
-pub aborting_last : (c : Core) → aborting_from 33 c ≡ []
-aborting_last c = refl
-
 -- What was aborted so far.
 
 -- the aborts of the first n sessions

@@ -13,17 +13,17 @@ use Rattle.graph_model.proofs.Runs.History.{account-append}
 use Rattle.graph_model.specs.Plain.{call_refusal, call_conflict, model_refusal, first_of_two, reply_of}
 use Rattle.log_records.specs.declared.Record.{Record}
 use Rattle.log_machine.proofs.ListLaws.{AllByRecursion-append}
-use Rattle.heap_model.specs.Core.{Core, ground, next_number, room_refusal, words_refusal, log_refusal, core_refusal, granted_by, answer, with_entry, after_refusal, after, force_calls, calls_if, calls}
-use Rattle.heap_model.proofs.Step.Calls.{after_events-append, total_calls-append}
+use Rattle.heap_model.specs.Core.{Core, ground, next_number, room_refusal, words_refusal, log_refusal, core_refusal, granted_by, answer, with_entry, after_refusal, after}
+use Rattle.heap_model.proofs.Step.Calls.{after_events-append}
 use Rattle.heap_model.proofs.Step.Room.{forced-with_batch}
 use Rattle.heap_model.proofs.Run.Calls.{after_history}
-use Rattle.heap_model.specs.CoreRuns.{after_events, total_calls}
+use Rattle.heap_model.specs.CoreRuns.{after_events}
 use Rattle.heap_model.specs.Ending.{abort_of, force_of, aborting, forcing, ending, all_events}
 use Rattle.core_laws.specs.Active.{active_in}
 use Rattle.core_laws.proofs.Run.Aborting.{force_other, after_other, events_other, aborts, aborts_same, abort_all, aborts_all, aborting_until, until_last, until_then}
 use Rattle.core_laws.specs.Ended.{IsUnfailed, AreGranted, HasEnded}
 use Rattle.core_laws.proofs.Run.Calls.{reached_after, unfailed_after, reached_events, unfailed_events, valid_events}
-use Rattle.core_laws.proofs.Run.Events.{force_granted, calls-forced}
+use Rattle.core_laws.proofs.Run.Events.{force_granted}
 use Rattle.core_laws.proofs.Sessions.Actives.{active_same}
 use Rattle.core_laws.proofs.Step.Sound.{sound_valid}
 use Rattle.core_laws.proofs.Step.Events.{unfailed_refusal, log_abort}
@@ -58,33 +58,6 @@ all_few None c events = omega (arith, length-append events (ending (after_events
 all_few (Some n) c events = omega arith
 
 -- What they call.
-
-abort_silent : (why : Option Refusal) (c : Core) (s : ℕ) → calls_if why c (Abort s) ≡ 0
-abort_silent None c s = refl
-abort_silent (Some why) c s = refl
-
--- an abort asks nothing of the disk
-pub abort_calls : (c : Core) (s : ℕ) → calls c (Abort s) ≡ 0
-abort_calls c s = abort_silent (core_refusal c (Abort s)) c s
-
-silent_of : (c : Core) (s : ℕ) (o : Option Transaction) → total_calls c (abort_of s o) ≡ 0
-silent_of c s None = refl
-silent_of c s (Some t) = omega (arith, abort_calls c s)
-
-silent_aborts : (c d : Core) (from n : ℕ) → total_calls d (aborts c from n) ≡ 0
-silent_aborts c d from zero = refl
-silent_aborts c d from (suc n) =
-    let first = abort_of from (active_in c from) in
-    let rest = aborts c (from + 1) n in
-    omega (arith, total_calls-append d first rest, silent_of d from (active_in c from), silent_aborts c (after_events d first) (from + 1) n)
-
--- so none of the aborts that end a run does
-pub aborting_calls : (c : Core) → total_calls c (aborting c) ≡ 0
-aborting_calls c = ap (total_calls c) (sym (until_last c)) ∙ silent_aborts c c 1 32
-
--- nor do those so far
-pub until_calls : (n : ℕ) (c : Core) → total_calls c (aborting_until n c) ≡ 0
-until_calls n c = silent_aborts c c 1 n
 
 -- Of which sessions they are.
 
@@ -235,18 +208,3 @@ ending_ends c reached unfailed =
       idle = force_idle d d.pending (aborting_leaves c reached unfailed);
       settled = force_settles d d.pending refl (reached_events c (aborting c) reached all) (unfailed_events c (aborting c) reached unfailed all);
     })
-
-forced_calls : (c : Core) (waiting : List Record) → c.pending ≡ waiting → IsReached c → IsUnfailed c → total_calls c (force_of waiting) ≡ force_calls waiting
-forced_calls c [] is reached unfailed = refl
-forced_calls c (r ∷ rs) is reached unfailed =
-    let made = calls-forced c (sound_valid c reached.sound unfailed) in
-    let same = ap force_calls is in
-    omega arith
-
--- they call the disk for what waits behind the aborts alone
-pub ending_calls : (c : Core) → IsReached c → IsUnfailed c → total_calls c (ending c) ≡ force_calls (after_events c (aborting c)).pending
-ending_calls c reached unfailed =
-    let all = aborting_of_session c in
-    let d = after_events c (aborting c) in
-    let forced = forced_calls d d.pending refl (reached_events c (aborting c) reached all) (unfailed_events c (aborting c) reached unfailed all) in
-    omega (arith, total_calls-append c (aborting c) (forcing d), aborting_calls c, forced)

@@ -13,7 +13,7 @@ use Rattle.log_machine.specs.Machine.{State, Loser, field_at, effect, put_all, p
 use Rattle.log_machine.proofs.Fields.{written, AreApart, IsApart}
 use Rattle.log_machine.specs.Apart.{others_taken_back}
 use Rattle.log_machine.specs.Entries.{EachEntry}
-use Rattle.log_machine.proofs.MapLaws.{tied, get_removed, insert_remove, insert_known, remove_absent, remove_remove, each_entry, each_remove, each_other}
+use Rattle.log_machine.proofs.MapLaws.{tied, get_removed, insert_remove, insert_known, remove_absent, each_entry, each_remove, each_other}
 use Rattle.log_machine.proofs.MachineLaws.{undo_beside, with_with}
 use Rattle.log_machine.proofs.TakenBackLaws.{taken_back-swap}
 use Rattle.log_machine.specs.Sound.{IsSound}
@@ -181,10 +181,6 @@ pub others_abort : (s : State) (t u : ℕ) (now : List ℕ) → u ≢ t → IsSo
     → others_taken_back (turned s t (with_entries s.undo t []) 0) u (taken_back (undo_of s t) now) ≡ others_taken_back s u now
 others_abort s t u now other sound apart =
     ap (λ m. each_taken_back (entries m) (taken_back (undo_of s t) now)) (remove_remove_other s.undo t u) ∙ sym (without_other s t u now other apart)
-
--- what a transaction sees does not depend on its own writes that may be taken back
-pub others_ended : (s r : State) (t : ℕ) (now : List ℕ) → r.undo ≡ remove s.undo t → others_taken_back r t now ≡ others_taken_back s t now
-others_ended s r t now is = ap (λ m. each_taken_back (entries (remove m t)) now) is ∙ ap (λ m. each_taken_back (entries m) now) (remove_remove s.undo t)
 
 -- where it has ended, its words are the committed ones
 pub all_ended : (s r : State) (t : ℕ) (now : List ℕ) → r.undo ≡ remove s.undo t → all_taken_back r now ≡ others_taken_back s t now

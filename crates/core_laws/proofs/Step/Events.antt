@@ -3,7 +3,6 @@ use Rattle.std.proofs.Common.{◌≡◌, ℕ, ◌+◌, Bool, true, false, List, 
 use Rattle.std.specs.Prelude.{◌==◌, if◌then◌else◌}
 use Rattle.std.proofs.lemmas.Bool.{eqb-false}
 use Rattle.std.proofs.lemmas.List.{append-nil}
-use Rattle.std.specs.List.{AllByRecursion}
 use Rattle.graph_model.specs.declared.event.Event.{Event}
 use Rattle.graph_model.specs.declared.id.Id.{Id}
 use Rattle.graph_model.specs.declared.val.Val.{Val}
@@ -26,14 +25,11 @@ use Rattle.graph_model.proofs.Refusals.Granted.{new_granted}
 use Rattle.commit_order.proofs.CallLaws.{lock_on-held}
 use Rattle.commit_order.proofs.OrderLaws.{two_phase_ordered}
 use Rattle.log_records.specs.declared.Record.{Record}
-use Rattle.log_records.specs.Record.{IsRecord}
-use Rattle.gated_log.specs.Log.{records_of}
 use Rattle.log_machine.specs.Machine.{State, undo_of, abort_records}
 use Rattle.graph_words.specs.Places.{Places, IsVisible}
-use Rattle.heap_model.specs.Core.{Core, ground, all_records, next_number, undo_with, undo_behind, kept_for, view_records, call_records, event_records, event_places, sealed_places, used, need, reserved, reserved_after, room_refusal, words_refusal, log_refusal, core_refusal, granted_by, with_entry, is_dirty, done, after_refusal, after, AsksDisk}
+use Rattle.heap_model.specs.Core.{Core, ground, all_records, next_number, undo_with, undo_behind, kept_for, view_records, call_records, event_records, event_places, sealed_places, used, need, reserved, reserved_after, room_refusal, words_refusal, log_refusal, core_refusal, granted_by, with_entry, is_dirty, done, after_refusal, after}
 use Rattle.heap_model.proofs.Step.Goes.{need_nothing}
 use Rattle.heap_model.proofs.Step.Room.{full_log-none, full_log-room}
-use Rattle.heap_model.proofs.ListLaws.{AllByRecursion-behind}
 use Rattle.heap_model.proofs.Step.Step.{core_refusal-HasNoFault, done_history}
 use Rattle.core_laws.proofs.Step.Forms.{is_write, quiet_records, call_places, is_new, quiet_call, done_records, no_call, two_tests, not_active, has_transaction, area_fits, put_bounds, reference_visible, link_field}
 use Rattle.core_laws.proofs.Step.Goes.{writing_of, agrees_history}
@@ -307,12 +303,3 @@ either_way c event (Some why) valid sound go = valid_entry c c event (Refused wh
 pub valid_after : (c : Core) (event : Event) → IsValid c → RunsLocked c.g0 c.first c.history → IsOfSession event → IsValid (after c event)
 valid_after c event valid runs session =
     either_way c event (core_refusal c event) valid (core_refusal-HasNoFault c event) (λ e. goes c event valid runs session (may_go c event valid.unfailed e))
-
--- the records that a granted event appends have spellings
-pub event_records_good : (c : Core) (event : Event) → IsValid c → RunsLocked c.g0 c.first c.history → IsOfSession event → core_refusal c event ≡ None → (AsksDisk event → ⊥)
-    → AllByRecursion IsRecord (event_records c event)
-event_records_good c event valid runs session free other =
-    let a = account c.history in
-    let left = subst (λ (d : Core). Agrees (account_after a (record { event = event; reply = granted (next_number c) c.g0 a event })) d) (done_records c event other)
-    (goes c event valid runs session (may_go c event valid.unfailed free)) in
-    AllByRecursion-behind IsRecord c.pending _ (AllByRecursion-behind IsRecord (records_of c.batches) _ left.told.good)

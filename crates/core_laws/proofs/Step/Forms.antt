@@ -1,5 +1,5 @@
 -- What events append and place, by their form, and what holds where they are not refused.
-use Rattle.std.proofs.Common.{◌≡◌, ◌≢◌, ℕ, ◌+◌, ◌^◌, ◌<◌, ◌≤◌, Bool, true, false, cond, List, [], ◌++◌, Option, Some, None, is_some, refl, ap, ◌∙◌, subst, arith}
+use Rattle.std.proofs.Common.{◌≡◌, ◌≢◌, ℕ, ◌+◌, ◌^◌, ◌<◌, ◌≤◌, Bool, true, false, cond, [], ◌++◌, Option, Some, None, is_some, refl, ◌∙◌, subst, arith}
 use Rattle.std.specs.Prelude.{nat_le}
 use Rattle.std.proofs.lemmas.Bool.{leb-false, ltb-false}
 use Rattle.graph_model.specs.declared.id.Id.{Id}
@@ -11,7 +11,6 @@ use Rattle.graph_model.specs.Graph.{Graph}
 use Rattle.graph_model.specs.Transaction.{View, Transaction, Registers, IsCall, held, reference_to}
 use Rattle.graph_model.specs.History.{Account, account, session_of}
 use Rattle.graph_model.specs.Plain.{no_int, field_refusal, put_refusal, link_refusal, call_refusal, granted}
-use Rattle.log_records.specs.declared.Record.{Record}
 use Rattle.heap_model.specs.Core.{Core, Ground, ground, next_number, call_records, event_records, event_places, area_refusal, page_refusal, granted_by, done, AsksDisk}
 use Rattle.graph_words.specs.Places.{Places, IsVisible, area_used}
 use Rattle.heap_model.proofs.Step.Granted.{IsQuiet}
@@ -120,13 +119,6 @@ not_active (Some t) e = cc
 pub has_transaction : (g0 : Graph) (a : Account) (o : Option Transaction) (event : Event) → call_refusal g0 a o event ≡ None → (t : Transaction) × (o ≡ Some t)
 has_transaction g0 a None event e = cc
 has_transaction g0 a (Some t) event e = (t, refl)
-
--- what a call leaves that appends no record
-pub left_by : (c : Core) (event : Event) → IsCall event → is_write event ≡ false → done c event ≡ record c { pending = c.pending ++ []; places = c.places ++ [] }
-left_by c event is quiet =
-    done_records c event (no_call event is)
-    ∙ ap (λ (more : List Record). record c { pending = c.pending ++ more; places = c.places ++ event_places c event }) (quiet_records c event is quiet)
-    ∙ ap (λ (placed : Places). record c { pending = c.pending ++ []; places = c.places ++ placed }) (call_places c event is)
 
 test_room : (b : Bool) (why : Refusal) → cond b (Some why) None ≡ None → b ≡ false
 test_room true why e = cc

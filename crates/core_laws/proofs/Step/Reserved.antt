@@ -55,11 +55,6 @@ sum_but f g s x from (suc n) low high own others =
 
 -- What is kept.
 
--- where at most as much is kept for each session, at most as much is kept
-pub reserved_less : (undo other : ℕ → List UndoEntry) (a b : Account) → ((s : ℕ) → kept_for undo (a.active s) ≤ kept_for other (b.active s)) → reserved undo a ≤ reserved other b
-unfolding sessions
-reserved_less undo other a b less = sum_less (λ s. kept_for undo (a.active s)) (λ s. kept_for other (b.active s)) 1 32 (λ s low. less s)
-
 -- where as much is kept for each session, as much is kept
 pub reserved_same : (undo other : ℕ → List UndoEntry) (a b : Account) → ((s : ℕ) → kept_for undo (a.active s) ≡ kept_for other (b.active s)) → reserved undo a ≡ reserved other b
 unfolding sessions

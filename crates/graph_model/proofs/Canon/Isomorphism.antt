@@ -134,16 +134,3 @@ canon_tells_isomorphism g h whole whole' = (
   λ same. (HaveOneNumber g h, numbers-IsIsomorphism g h whole whole' same),
   λ (R, iso). canon_match R g h (isomorphism_match R g h whole whole' iso),
 )
-
--- a whole graph is isomorphic to itself
-pub isomorphic_reflexive : (g : Graph) → IsWhole g → AreIsomorphic g g
-isomorphic_reflexive g whole = (canon_tells_isomorphism g g whole whole).0 refl
-
--- if it is isomorphic to another, then that to it
-pub isomorphic_symmetric : (g h : Graph) → IsWhole g → IsWhole h → AreIsomorphic g h → AreIsomorphic h g
-isomorphic_symmetric g h whole whole' are = (canon_tells_isomorphism h g whole' whole).0 (sym ((canon_tells_isomorphism g h whole whole').1 are))
-
--- and if that is isomorphic to a third, then it too
-pub isomorphic_transitive : (g h j : Graph) → IsWhole g → IsWhole h → IsWhole j → AreIsomorphic g h → AreIsomorphic h j → AreIsomorphic g j
-isomorphic_transitive g h j whole whole' whole'' one other =
-    (canon_tells_isomorphism g j whole whole'').0 ((canon_tells_isomorphism g h whole whole').1 one ∙ (canon_tells_isomorphism h j whole' whole'').1 other)

@@ -2,14 +2,13 @@
 use Rattle.std.proofs.Common.{◌≡◌, ℕ, zero, suc, ◌+◌, Bool, true, false, cond, not, List, [], ◌∷◌, ◌++◌, length, map, Option, Some, None, unwrap_or, refl, sym, ap, ◌∙◌, subst, arith}
 use Rattle.std.specs.Prelude.{nat_lt, ◌||◌, slice_get, position, if◌then◌else◌}
 use Rattle.std.specs.List.{list_any, position_or_len}
-use Rattle.std.specs.FinMap.{get, len}
+use Rattle.std.specs.FinMap.{len}
 use Rattle.std.proofs.lemmas.Option.{same_Some}
 use Rattle.graph_model.specs.declared.id.Id.{Id}
 use Rattle.graph_model.specs.declared.val.Val.{Val}
 use Rattle.graph_model.specs.declared.val.Val.TheVariants.{Null, Int, Ref}
 use Rattle.graph_model.specs.Graph.{Graph, is_same_id, root, fields}
 use Rattle.graph_model.specs.Canon.{Reached, at_root, along, with_target, with_targets, visit, numbered, Number, Object, shown, canon}
-use Rattle.graph_model.proofs.Canon.Numbers.{LeadOn}
 use Rattle.graph_model.specs.ClosedGraph.{IsWhole}
 use Rattle.graph_model.specs.Isomorphism.{MatchValues, MatchRows}
 use Rattle.graph_model.proofs.Canon.Match.{IsMatch}
@@ -186,30 +185,3 @@ canon_match R g h m =
     let There : List Id → Type 0 = λ ys. MatchIds R (numbered g) ys in
     let numbers = subst There (enough_turns h turns whole.1 (omega arith)) (subst Here (enough_turns g turns whole.0 (omega arith)) all) in
     match_rows_of R g h (numbered g) (numbered h) (numbered g) (numbered h) m numbers numbers
-
--- two objects that are one and reached
-abbrev pub IsReachedBoth : Graph → Id → Id → Type 0
-IsReachedBoth g a b = (a ≡ b) × Reached g a
-
-matched_itself : (g : Graph) (vs : List Val) → LeadOn g vs → MatchRows (IsReachedBoth g) vs vs
-matched_itself g [] leads = tt
-matched_itself g (Null ∷ vs) leads = (tt, matched_itself g vs (λ i. leads (suc i)))
-matched_itself g (Int n ∷ vs) leads = (refl, matched_itself g vs (λ i. leads (suc i)))
-matched_itself g (Ref a ∷ vs) leads = ((refl, leads zero a refl), matched_itself g vs (λ i. leads (suc i)))
-
--- A canon is determined by what is reached: two graphs that have the same fields for it have one canon.
-pub canon_agrees : (g h : Graph) → IsWhole g → ((id : Id) → Reached g id → get h id ≡ get g id) → canon g ≡ canon h
-canon_agrees g h whole agree = canon_match (IsReachedBoth g) g h (record {
-  roots = (refl, at_root);
-  objects = λ a b both.
-      let is = whole a both.1 in
-      let lead : LeadOn g is.0 = λ i target leads. along i target both.1 (ap (λ o. slice_get (unwrap_or o []) i) is.1 ∙ leads) in
-      record {
-        one = is.0;
-        other = is.0;
-        here = is.1;
-        there = ap (get h) (sym both.0) ∙ agree a both.1 ∙ is.1;
-        rows = matched_itself g is.0 lead;
-      };
-  one_to_one = λ a b x y both both'. ap (λ c. is_same_id c x) both.0 ∙ ap (is_same_id b) both'.0;
-})

@@ -7,7 +7,7 @@ use Rattle.graph_model.specs.declared.id.Id.{Id}
 use Rattle.graph_model.specs.Graph.{Graph, is_same_id, root, fields}
 use Rattle.graph_model.specs.Canon.{Reached, numbered, canon}
 use Rattle.graph_model.specs.ClosedGraph.{IsWhole}
-use Rattle.graph_model.specs.Isomorphism.{IsIsomorphism, AreIsomorphic, IsRenaming, AreRenamed}
+use Rattle.graph_model.specs.Isomorphism.{IsIsomorphism, IsRenaming, AreRenamed}
 use Rattle.graph_model.proofs.Canon.Isomorphism.{HaveOneNumber, other_number, numbers-IsIsomorphism, canon_tells_isomorphism}
 use Rattle.graph_model.proofs.Canon.MatchRows.{rows_wider}
 use Rattle.graph_model.proofs.Canon.Numbering.{reached_numbered, number_reached, place_of_number}
@@ -57,12 +57,3 @@ canon_tells_renaming g h whole whole' = (
   λ same. (numbered_alike g h, numbered_alike-IsRenaming g h whole whole' same),
   λ (name, renames). (canon_tells_isomorphism g h whole whole').1 ((λ a b. Reached g a × (name a ≡ b)), renames),
 )
-
--- whole graphs are isomorphic exactly where they are one up to renaming objects
-pub isomorphic_renamed : (g h : Graph) → IsWhole g → IsWhole h → AreIsomorphic g h ↔ AreRenamed g h
-isomorphic_renamed g h whole whole' =
-    let tells = canon_tells_isomorphism g h whole whole' in
-    let renames = canon_tells_renaming g h whole whole' in (
-      λ are. renames.0 (tells.1 are),
-      λ are. tells.0 (renames.1 are),
-    )

@@ -127,14 +127,3 @@ enough_turns g (suc turns) whole enough =
       | inr (inl below) ↦ one_more g turns 0 (Some root) (root ∷ []) whole (at_first g) refl (omega arith) ∙ enough_turns g turns whole (omega arith)
       | inr (inr above) ↦ absurd (omega arith)
     ]
-
-visit_visited : (g : Graph) (turns i : ℕ) (next : Option Id) (ids : List Id) → slice_get ids i ≡ next → AreVisited g ids → AreVisited g (visit g turns i next ids)
-visit_visited g zero i next ids is all = all
-visit_visited g (suc turns) i None ids is all = all
-visit_visited g (suc turns) i (Some id) ids is all = visit_visited g turns (i + 1) _ _ refl (visited_next g ids i id is all)
-
--- No more ids are numbered than there are objects.
-pub numbered_count : (g : Graph) → IsWhole g → length (numbered g) ≤ len g
-numbered_count g whole =
-    let all = visit_visited g (len g) 0 (Some root) (root ∷ []) refl (at_first g) in
-    at_most g (numbered g) all.apart (there_reached g (numbered g) whole all.reached)

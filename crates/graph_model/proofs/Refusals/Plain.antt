@@ -1,5 +1,5 @@
 -- Laws of what a plain heap answers.
-use Rattle.std.proofs.Common.{◌≡◌, ℕ, ◌+◌, Bool, true, false, Option, None, Some, refl, ap, ◌∙◌}
+use Rattle.std.proofs.Common.{◌≡◌, ℕ, ◌+◌, Bool, true, false, Option, None, Some, refl, ap}
 use Rattle.std.specs.Prelude.{◌==◌, nat_lt, nat_le, length, is_some, if◌then◌else◌}
 use Rattle.graph_model.specs.declared.id.Id.{Id}
 use Rattle.graph_model.specs.declared.event.Event.{Event}
@@ -159,15 +159,6 @@ granted-call next g0 a (Abort s) never = absurd never
 granted-call next g0 a Force never = absurd never
 granted-call next g0 a (Flush p) never = absurd never
 granted-call next g0 a event is = refl
-
--- what a plain heap that has not failed answers a call
-pub plain_reply-call : (first : ℕ) (g0 : Graph) (a : Account) (event : Event) → a.failed ≡ None → IsCall event
-    → plain_reply first g0 a event ≡ reply_of (first_of_two (call_refusal g0 a (a.active (session_of event)) event) (conflict_refusal g0 a event)) (call_reply g0 a (a.active (session_of event)) event)
-plain_reply-call first g0 a event unfailed is =
-    let next = first + a.begun in
-    ap (λ failed. reply_of (refusal_of failed (model_refusal next g0 a event)) (granted next g0 a event)) unfailed
-    ∙ ap (λ why. reply_of (first_of_two why (conflict_refusal g0 a event)) (granted next g0 a event)) (event_refusal-call next g0 a event is)
-    ∙ ap (reply_of (first_of_two (call_refusal g0 a (a.active (session_of event)) event) (conflict_refusal g0 a event))) (granted-call next g0 a event is)
 
 -- a refusal that doesn't come from the disk adds nothing
 pub answered-refused : (a : Account) (event : Event) (why : Refusal) → IsNoFault why → answered a event (Refused why) ≡ a

@@ -1,7 +1,6 @@
 -- Laws of histories and of what transactions do: one entry, one call and one transaction more.
-use Rattle.std.proofs.Common.{◌≡◌, ◌≢◌, inl, inr, ℕ, ◌+◌, ◌<◌, ◌≤◌, zero, suc, Bool, true, false, List, [], ◌∷◌, ◌++◌, length, replicate, take, Option, Some, None, refl, sym, ap, ◌∙◌, subst, arith}
-use Rattle.std.specs.Prelude.{slice_get, slice_index_or, slice_set, fold, option_and_then, if◌then◌else◌}
-use Rattle.std.proofs.lemmas.Bool.{cases_eq, eq-eqb, ne_eqb}
+use Rattle.std.proofs.Common.{◌≡◌, ℕ, ◌+◌, ◌≤◌, zero, suc, Bool, true, false, List, [], ◌∷◌, ◌++◌, length, replicate, take, Option, Some, None, refl, ap, ◌∙◌, arith}
+use Rattle.std.specs.Prelude.{slice_index_or, fold, option_and_then, if◌then◌else◌}
 use Rattle.std.proofs.lemmas.List.{length-set, length-replicate, take-append-le}
 use Rattle.std.proofs.lemmas.Option.{slice_get_past}
 use Rattle.std.proofs.lemmas.List.Sums.{fold-append}
@@ -9,14 +8,13 @@ use Rattle.graph_model.specs.declared.id.Id.{Id}
 use Rattle.graph_model.specs.declared.event.Event.{Event}
 use Rattle.graph_model.specs.declared.event.Event.TheVariants.{Begin, Root, New, Put, Clear, Link, Drop, Get, Same, Len, Seal, Abort, Force, Flush}
 use Rattle.graph_model.specs.declared.reply.Entry.{Entry}
-use Rattle.graph_model.specs.declared.reply.Refusal.TheVariants.{DiskFault, Stopped}
 use Rattle.graph_model.specs.declared.reply.Reply.{Reply}
 use Rattle.graph_model.specs.declared.reply.Reply.TheVariants.{Begun, Done, Yes, No, Sealed, Aborted, Durable, Flushed, Clean, Refused}
 use Rattle.graph_model.specs.declared.val.Val.{Val}
 use Rattle.graph_model.specs.declared.val.Val.TheVariants.{Null, Int, Ref}
 use Rattle.graph_model.specs.Graph.{Graph, is_same_id}
 use Rattle.graph_model.specs.Transaction.{Registers, no_registers, View, Transaction, held, fields_of, with_referred, value_reply, same_reply, call, after_calls, call_replies, fresh_view, run, serial}
-use Rattle.graph_model.specs.History.{Account, IsSession, AreInSessions, account_after, account, answered, nothing_yet, session_of, with_active, with_call, makes_call, cut_short}
+use Rattle.graph_model.specs.History.{Account, account_after, account, nothing_yet, session_of, makes_call}
 use Rattle.graph_model.specs.Replies.{IsCallReply}
 
 -- what a history says with one entry more
@@ -53,28 +51,6 @@ serial-append g (u ∷ ts) t = serial-append (run g u).graph ts t
 -- the graph after the first k transactions stays when others follow
 pub serial-take : (g : Graph) (ts more : List Transaction) (k : ℕ) → k ≤ length ts → serial g (take k (ts ++ more)) ≡ serial g (take k ts)
 serial-take g ts more k h = ap (serial g) (take-append-le k ts more h)
-
--- what stands at the place that was written
-pub slice_get-set_same : {X : Type 0} (xs : List X) (i : ℕ) (x : X) → i < length xs → slice_get (slice_set xs i x) i ≡ Some x
-slice_get-set_same [] i x h = absurd (omega arith)
-slice_get-set_same (y ∷ xs) zero x h = refl
-slice_get-set_same (y ∷ xs) (suc i) x h = slice_get-set_same xs i x (omega arith)
-
--- what stands at another place
-pub slice_get-set_other : {X : Type 0} (xs : List X) (i j : ℕ) (x : X) → j ≢ i → slice_get (slice_set xs i x) j ≡ slice_get xs j
-slice_get-set_other [] i j x h = refl
-slice_get-set_other (y ∷ xs) zero zero x h = absurd (h refl)
-slice_get-set_other (y ∷ xs) zero (suc j) x h = refl
-slice_get-set_other (y ∷ xs) (suc i) zero x h = refl
-slice_get-set_other (y ∷ xs) (suc i) (suc j) x h = slice_get-set_other xs i j x (λ e. h (ap suc e))
-
--- what a handle holds that was just set
-pub held-set_same : (rs : Registers) (h : ℕ) (o : Option Id) → h < length rs → held (slice_set rs h o) h ≡ o
-held-set_same rs h o lt = ap (option_and_then (λ id. id)) (slice_get-set_same rs h o lt)
-
--- what another handle holds
-pub held-set_other : (rs : Registers) (h j : ℕ) (o : Option Id) → j ≢ h → held (slice_set rs h o) j ≡ held rs j
-held-set_other rs h j o ne = ap (option_and_then (λ id. id)) (slice_get-set_other rs h j o ne)
 
 -- there is no handle past the last
 pub held-past : (rs : Registers) (h : ℕ) → length rs ≤ h → held rs h ≡ None
@@ -176,39 +152,3 @@ account_after-call a event (Flushed page) never = absurd never
 account_after-call a event (Clean page) never = absurd never
 account_after-call a event (Refused why) never = absurd never
 account_after-call a event reply is = refl
-
-in_sessions_with : (active : ℕ → Option Transaction) (s : ℕ) (x : Option Transaction) → ((t : Transaction) → x ≡ Some t → IsSession s) → ((r : ℕ) (t : Transaction) → active r ≡ Some t → IsSession r)
-    → (r : ℕ) (t : Transaction) → with_active active s x r ≡ Some t → IsSession r
-in_sessions_with active s x own others r t is = elim (cases_eq r s) [
-  | inl same ↦ subst IsSession (sym same) (own t (sym (ap (λ b. if b then x else active r) (eq-eqb r s same)) ∙ is))
-  | inr other ↦ others r t (sym (ap (λ b. if b then x else active r) (ne_eqb r s other)) ∙ is)
-]
-
-called_by : (o : Option Transaction) (event : Event) (t : Transaction) → with_call o event ≡ Some t → (u : Transaction) × (o ≡ Some u)
-called_by None event t is = cc
-called_by (Some u) event t is = (u, refl)
-
-active-cut_short : (a : Account) (event : Event) → (cut_short a event).active ≡ a.active
-active-cut_short a (Seal s) = refl
-active-cut_short a event = refl
-
-in_sessions_cut : (a : Account) (event : Event) → AreInSessions a → AreInSessions (cut_short a event)
-in_sessions_cut a event within s t is = within s t (sym (ap (λ (active : ℕ → Option Transaction). active s) (active-cut_short a event)) ∙ is)
-
-answered-AreInSessions : (a : Account) (event : Event) (reply : Reply) → ((n : ℕ) → reply ≡ Begun n → IsSession (session_of event)) → AreInSessions a → AreInSessions (answered a event reply)
-answered-AreInSessions a event (Begun n) begins within = in_sessions_with a.active (session_of event) _ (λ t is. begins n refl) within
-answered-AreInSessions a event (Sealed n) begins within = in_sessions_with a.active (session_of event) None (λ t is. cc) within
-answered-AreInSessions a event Aborted begins within = in_sessions_with a.active (session_of event) None (λ t is. cc) within
-answered-AreInSessions a event (Durable n) begins within = within
-answered-AreInSessions a event (Flushed page) begins within = within
-answered-AreInSessions a event (Clean page) begins within = within
-answered-AreInSessions a event (Refused DiskFault) begins within = in_sessions_cut a event within
-answered-AreInSessions a event (Refused Stopped) begins within = in_sessions_cut a event within
-answered-AreInSessions a event (Refused why) begins within = within
-answered-AreInSessions a event reply begins within =
-    in_sessions_with a.active (session_of event) (with_call (a.active (session_of event)) event)
-    (λ t is. let before = called_by (a.active (session_of event)) event t is in within (session_of event) before.0 before.1) within
-
--- transactions stay in sessions where they begin in sessions
-pub account_after-AreInSessions : (a : Account) (e : Entry) → ((n : ℕ) → e.reply ≡ Begun n → IsSession (session_of e.event)) → AreInSessions a → AreInSessions (account_after a e)
-account_after-AreInSessions a e begins within s t is = answered-AreInSessions a e.event e.reply begins within s t is

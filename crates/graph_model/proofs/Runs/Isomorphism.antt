@@ -1,5 +1,5 @@
 -- Transactions keep isomorphism: run on isomorphic graphs they are answered the same, and leave isomorphic graphs.
-use Rattle.std.proofs.Common.{◌≡◌, ◌≢◌, inl, inr, ℕ, zero, suc, ◌≤◌, List, [], ◌∷◌, replicate, None, refl, sym, ap, ◌∙◌, arith}
+use Rattle.std.proofs.Common.{◌≡◌, ◌≢◌, inl, inr, ℕ, zero, suc, List, [], ◌∷◌, replicate, None, refl, sym, ap, ◌∙◌, arith}
 use Rattle.std.specs.List.{AllByRecursion}
 use Rattle.graph_model.specs.declared.id.Id.{Id}
 use Rattle.graph_model.specs.Graph.{Graph, root, fields}
@@ -7,8 +7,6 @@ use Rattle.graph_model.specs.Canon.{Reached, at_root, along}
 use Rattle.graph_model.specs.Transaction.{Transaction, fresh_view, run, replies, serial, serial_replies}
 use Rattle.graph_model.specs.Isomorphism.{MatchRows, IsIsomorphism, AreIsomorphic}
 use Rattle.graph_model.proofs.Canon.MatchRows.{rows_wider, rows_reference, rows_turned, rows_both}
-use Rattle.graph_model.specs.ClosedGraph.{IsWhole}
-use Rattle.graph_model.proofs.Whole.Names.{AreBelow}
 use Rattle.graph_model.specs.NewNumbers.{IsNewNumber, HaveNewNumbers, HaveOwnNumbers}
 use Rattle.graph_model.proofs.Runs.AlikeViews.{WithMade, MatchRegisters, AreAlike, IsOneToOne, IsApartFrom}
 use Rattle.graph_model.proofs.Runs.Alike.{made_one_to_one, calls_alike}
@@ -116,12 +114,3 @@ serial_from R g h (t ∷ ts) iso own new new' =
 pub serial_isomorphic : (g h : Graph) (ts : List Transaction) → AreIsomorphic g h → HaveOwnNumbers ts → HaveNewNumbers g ts → HaveNewNumbers h ts
     → (serial_replies g ts ≡ serial_replies h ts) × AreIsomorphic (serial g ts) (serial h ts)
 serial_isomorphic g h ts (R, iso) own new new' = serial_from R g h ts iso own new new'
-
--- what is not below the numbers of a whole graph's objects is new to it
-pub below-IsNewNumber : (g : Graph) (n m : ℕ) → IsWhole g → AreBelow g n → n ≤ m → IsNewNumber g m
-below-IsNewNumber g n m whole below above id reached = λ e. let small = below id (whole id reached) in omega arith
-
--- so it is for several transactions
-pub below-HaveNewNumbers : (g : Graph) (n : ℕ) (ts : List Transaction) → IsWhole g → AreBelow g n → AllByRecursion (λ (t : Transaction). n ≤ t.number) ts → HaveNewNumbers g ts
-below-HaveNewNumbers g n [] whole below above = tt
-below-HaveNewNumbers g n (t ∷ ts) whole below above = (below-IsNewNumber g n t.number whole below above.0, below-HaveNewNumbers g n ts whole below above.1)

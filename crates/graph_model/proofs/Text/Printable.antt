@@ -2,7 +2,6 @@
 use Rattle.std.proofs.Common.{◌≡◌, ℕ, zero, suc, ◌^◌, ◌<◌, ◌↔◌, List, [], ◌∷◌, length, map, Option, Some, None, unwrap_or, refl, sym, ap, subst, arith}
 use Rattle.std.specs.Prelude.{slice_get}
 use Rattle.std.specs.List.{AllByRecursion, position}
-use Rattle.std.specs.FinMap.{len}
 use Rattle.std.proofs.lemmas.List.{length-map}
 use Rattle.std.proofs.lemmas.List.Elements.{recursion_from_All}
 use Rattle.std.proofs.lemmas.List.Quantifiers.{position-Some}
@@ -13,7 +12,6 @@ use Rattle.graph_model.specs.Graph.{Graph, is_same_id, fields}
 use Rattle.graph_model.specs.Canon.{Reached, numbered, shown, canon}
 use Rattle.graph_model.proofs.Canon.Numbers.{numbered-Reached}
 use Rattle.graph_model.specs.ClosedGraph.{IsWhole}
-use Rattle.graph_model.proofs.Whole.Names.{IsBounded}
 use Rattle.graph_model.specs.Isomorphism.{AreIsomorphic}
 use Rattle.graph_model.proofs.Canon.Isomorphism.{canon_tells_isomorphism}
 use Rattle.graph_model.proofs.Canon.NumberedRows.{rows_of}
@@ -21,7 +19,6 @@ use Rattle.graph_model.specs.Printable.{IsPrintable}
 use Rattle.graph_model.proofs.Text.Short.{IsShort, AreShort}
 use Rattle.graph_model.specs.Text.{canon_text}
 use Rattle.graph_model.proofs.Text.Text.{canon_text_injective}
-use Rattle.graph_model.proofs.Canon.Visits.{numbered_count}
 
 place_short : (ids : List Id) (id : Id) (o : Option ℕ) → position (is_same_id id) ids ≡ o → length ids < 2 ^ 64 → unwrap_or o 0 < 2 ^ 64
 place_short ids id None is few = omega arith
@@ -47,15 +44,6 @@ canon_short g printable = record {
   count = subst (λ (n : ℕ). n < 2 ^ 64) (sym (length-map (numbered g) (λ id. map (shown (numbered g)) (fields g id)))) printable.objects;
   fields = rows_short g (numbered g) (numbered g) printable printable.objects (recursion_from_All (Reached g) (numbered g) (numbered-Reached g));
 }
-
--- a whole graph with bounded fields is printable, if it does not have too many objects
-pub bounded_printable : (g : Graph) → IsWhole g → IsBounded g → len g < 2 ^ 64 → IsPrintable g
-bounded_printable g whole bounded few =
-    let count = numbered_count g whole in
-    record {
-      numbers = λ id i n reached is. let small = bounded.numbers id i n is in omega arith;
-      objects = omega arith;
-    }
 
 -- Two whole graphs are printed alike exactly where they are isomorphic.
 pub text_tells_isomorphism : (g h : Graph) → IsWhole g → IsWhole h → IsPrintable g → IsPrintable h → (canon_text (canon g) ≡ canon_text (canon h)) ↔ AreIsomorphic g h

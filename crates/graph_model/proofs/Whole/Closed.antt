@@ -1,25 +1,21 @@
 -- Laws of closed graphs: transactions keep them closed, which objects are there, and that no object's length changes.
-use Rattle.std.proofs.Common.{◌≡◌, ◌≢◌, ◌⊎◌, inl, inr, ℕ, zero, suc, ◌+◌, ◌<◌, ◌≤◌, List, [], ◌∷◌, ◌++◌, length, replicate, Option, Some, None, unwrap_or, refl, sym, ap, ◌∙◌, subst, arith}
-use Rattle.std.specs.Prelude.{slice_get, slice_set, slice_index_or, IfSome}
-use Rattle.std.specs.List.{AllByRecursion}
-use Rattle.std.specs.FinMap.{empty, get, insert, get-empty}
+use Rattle.std.proofs.Common.{◌≡◌, ◌≢◌, ◌⊎◌, inl, inr, ℕ, zero, suc, ◌+◌, ◌<◌, ◌≤◌, List, [], ◌∷◌, length, replicate, Option, Some, None, refl, sym, ap, ◌∙◌, subst, arith}
+use Rattle.std.specs.Prelude.{slice_get, slice_set, slice_index_or}
+use Rattle.std.specs.FinMap.{empty, get, insert}
 use Rattle.std.proofs.lemmas.Bool.{cases_lt}
-use Rattle.std.proofs.lemmas.List.{length-set, length-replicate}
+use Rattle.std.proofs.lemmas.List.{length-set}
 use Rattle.std.proofs.lemmas.Option.{same_Some}
 use Rattle.graph_model.specs.declared.id.Id.{Id}
 use Rattle.graph_model.specs.declared.val.Val.{Val}
 use Rattle.graph_model.specs.declared.val.Val.TheVariants.{Null, Int, Ref}
 use Rattle.graph_model.specs.declared.event.Event.{Event}
 use Rattle.graph_model.specs.declared.event.Event.TheVariants.{Begin, Root, New, Put, Clear, Link, Drop, Get, Same, Len, Seal, Abort, Force, Flush}
-use Rattle.graph_model.specs.Graph.{Graph, id_cmp, root, fields, new_graph}
+use Rattle.graph_model.specs.Graph.{Graph, root, fields}
 use Rattle.graph_model.proofs.Whole.Graph.{same_or_other, get-insert_same, get-insert_other, fields_by_insert, get_by_insert}
-use Rattle.graph_model.specs.Canon.{at_root, along}
-use Rattle.graph_model.specs.Transaction.{Registers, View, Transaction, held, fields_of, put_value, with_referred, next_id, make, write, reference_to, call, after_calls, fresh_view, run, serial}
+use Rattle.graph_model.specs.Transaction.{Registers, View, Transaction, held, fields_of, put_value, with_referred, next_id, make, write, reference_to, call, after_calls, fresh_view, run}
 use Rattle.graph_model.proofs.Runs.History.{held-no_registers}
-use Rattle.graph_model.specs.Plain.{no_int, most_fields, view_refusal}
-use Rattle.graph_model.proofs.Refusals.Granted.{new_granted, put_granted, link_granted}
-use Rattle.graph_model.specs.ClosedGraph.{IsThere, IsWhole, IsClosed, IsUnused}
-use Rattle.graph_model.proofs.Whole.Names.{IsBounded, SeesClosed, IsNameOf, AreBelow, SeesMade, IsFieldValue, written_value, AreGranted, AllGranted}
+use Rattle.graph_model.specs.ClosedGraph.{IsThere, IsClosed, IsUnused}
+use Rattle.graph_model.proofs.Whole.Names.{SeesClosed, IsNameOf}
 
 -- each reference among these values leads to an object that is there
 abbrev LeadTo : Graph → List Val → Type 0
@@ -116,11 +112,6 @@ IsClosed-put_value g (Some id) i x leads closed =
     ]))
     closed
 
--- in a closed graph all that is reached is there
-pub closed_whole : (g : Graph) → IsClosed g → IsWhole g
-closed_whole g closed id at_root = closed.root_there
-closed_whole g closed id (along {id = from} i target reached is) = closed.targets from i target is
-
 -- what a reference leads to that is read of a field
 pub read_there : (g : Graph) (o : Option Id) (i : ℕ) (target : Id) → IsClosed g → slice_index_or (fields_of g o) i Null ≡ Ref target → IsThere g target
 read_there g None i target closed is = cc
@@ -196,11 +187,6 @@ fresh_view-SeesClosed g closed = record { graph = closed; handles = λ h id is. 
 pub run-SeesClosed : (g : Graph) (t : Transaction) → IsClosed g → SeesClosed (run g t)
 run-SeesClosed g t closed = after_calls-SeesClosed (fresh_view g) t.number t.calls (fresh_view-SeesClosed g closed)
 
--- transactions leave a closed graph
-pub serial-IsClosed : (g : Graph) (ts : List Transaction) → IsClosed g → IsClosed (serial g ts)
-serial-IsClosed g [] closed = closed
-serial-IsClosed g (t ∷ ts) closed = serial-IsClosed (run g t).graph ts (run-SeesClosed g t closed).graph
-
 -- a call removes no object
 pub IsThere-call : (v : View) (t : ℕ) (c : Event) (q : Id) → IsThere v.graph q → IsThere (call v t c).view.graph q
 IsThere-call v t (New s h len) q there = IsThere-insert v.graph (next_id v t) q _ there
@@ -215,10 +201,6 @@ IsThere-after_calls v t (c ∷ cs) q there = IsThere-after_calls (call v t c).vi
 
 pub IsThere-run : (g : Graph) (t : Transaction) (q : Id) → IsThere g q → IsThere (run g t).graph q
 IsThere-run g t q there = IsThere-after_calls (fresh_view g) t.number t.calls q there
-
-pub IsThere-serial : (g : Graph) (ts : List Transaction) (q : Id) → IsThere g q → IsThere (serial g ts) q
-IsThere-serial g [] q there = there
-IsThere-serial g (t ∷ ts) q there = IsThere-serial (run g t).graph ts q (IsThere-run g t q there)
 
 -- a call has made an object more, or none
 pub made-call : (v : View) (t : ℕ) (c : Event) → v.made ≤ (call v t c).view.made
@@ -304,35 +286,6 @@ made_there g t q name =
     let none : MadeAreThere (fresh_view g) t.number = λ id never. absurd (omega (arith, never.from, never.to)) in
     after_calls-MadeAreThere (fresh_view g) t.number t.calls none q name
 
--- a transaction with a number that was not used sees just what it made
-pub run-SeesMade : (g : Graph) (t : Transaction) → IsClosed g → IsUnused g t.number → SeesMade (run g t) t.number
-run-SeesMade g t closed unused = record {
-  there = made_there g t;
-  alone = λ id there maker. elim (there_run g t id closed there) [
-    | inl was ↦ let none = unused id maker in let some = was.1 in cc
-    | inr name ↦ name
-  ];
-}
-
--- a call keeps it so
-pub call-SeesMade : (v : View) (t : ℕ) (c : Event) → SeesClosed v → SeesMade v t → SeesMade (call v t c).view t
-unfolding MadeAreThere
-call-SeesMade v t c sees made = record {
-  there = call-MadeAreThere v t c made.there;
-  alone = λ id there maker. elim (there_call v t c id sees there) [
-    | inl was ↦ let name = made.alone id was maker in record { maker = name.maker; from = name.from; to = omega (arith, name.to, made-call v t c) }
-    | inr one ↦ record { maker = one.maker; from = omega (arith, one.from); to = one.to }
-  ];
-}
-
--- the next object's name is new
-pub next_id_new : (v : View) (t : ℕ) → SeesMade v t → get v.graph (next_id v t) ≡ None
-next_id_new v t made =
-    elim (there_or_none v.graph (next_id v t)) [
-      | inl there ↦ let name = made.alone (next_id v t) there refl in absurd (omega (arith, name.to))
-      | inr none ↦ none
-    ]
-
 -- names that another transaction gives stay unused
 pub run-IsUnused : (g : Graph) (t : Transaction) (n : ℕ) → IsClosed g → n ≢ t.number → IsUnused g n → IsUnused (run g t).graph n
 run-IsUnused g t n closed other unused id maker =
@@ -341,28 +294,6 @@ run-IsUnused g t n closed other unused id maker =
         | inl was ↦ let none = unused id maker in let some = was.1 in cc
         | inr name ↦ absurd (other (sym maker ∙ name.maker))
       ]
-      | inr none ↦ none
-    ]
-
--- a transaction with a smaller number leaves all numbers below
-pub run-AreBelow : (g : Graph) (t : Transaction) (n : ℕ) → IsClosed g → t.number < n → AreBelow g n → AreBelow (run g t).graph n
-run-AreBelow g t n closed below all id there =
-    elim (there_run g t id closed there) [
-      | inl was ↦ all id was
-      | inr name ↦ let maker = name.maker in omega arith
-    ]
-
--- so do transactions
-pub serial-AreBelow : (g : Graph) (ts : List Transaction) (n : ℕ) → IsClosed g → AllByRecursion (λ (t : Transaction). t.number < n) ts → AreBelow g n → AreBelow (serial g ts) n
-serial-AreBelow g [] n closed below all = all
-serial-AreBelow g (t ∷ ts) n closed below all =
-    serial-AreBelow (run g t).graph ts n (run-SeesClosed g t closed).graph below.1 (run-AreBelow g t n closed below.0 all)
-
--- a number that is not below is unused
-pub unused_above : (g : Graph) (n t : ℕ) → AreBelow g n → n ≤ t → IsUnused g t
-unused_above g n t all above id maker =
-    elim (there_or_none g id) [
-      | inl there ↦ absurd (omega (arith, all id there))
       | inr none ↦ none
     ]
 
@@ -390,113 +321,3 @@ length-fields-after_calls v t (c ∷ cs) q other =
 -- a transaction changes no length of an object that another made
 pub length-fields-run : (g : Graph) (t : Transaction) (q : Id) → q.t ≢ t.number → length (fields (run g t).graph q) ≡ length (fields g q)
 length-fields-run g t q other = length-fields-after_calls (fresh_view g) t.number t.calls q other
-
--- nor do transactions
-pub length-fields-serial : (g : Graph) (ts : List Transaction) (q : Id) → AllByRecursion (λ (t : Transaction). q.t ≢ t.number) ts
-    → length (fields (serial g ts) q) ≡ length (fields g q)
-length-fields-serial g [] q others = refl
-length-fields-serial g (t ∷ ts) q others = length-fields-serial (run g t).graph ts q others.1 ∙ length-fields-run g t q others.0
-
--- an object that was just made has so many null fields
-pub get-make : (v : View) (t h len : ℕ) → get (make v t h len).view.graph (next_id v t) ≡ Some (replicate len Null)
-get-make v t h len = get-insert_same v.graph (next_id v t) (replicate len Null)
-
--- each other object is as it was
-pub get-make_other : (v : View) (t h len : ℕ) (q : Id) → q ≢ next_id v t → get (make v t h len).view.graph q ≡ get v.graph q
-get-make_other v t h len q other = get-insert_other v.graph (next_id v t) q (replicate len Null) other
-
--- an object of which a field was written
-pub get-write_same : (v : View) (h i : ℕ) (x : Val) (id : Id) → held v.registers h ≡ Some id → get (write v h i x).view.graph id ≡ Some (slice_set (fields v.graph id) i x)
-get-write_same v h i x id holds = ap (λ o. get (put_value v.graph o i x) id) holds ∙ get-insert_same v.graph id (slice_set (fields v.graph id) i x)
-
--- each other object is as it was
-pub get-write_another : (v : View) (h i : ℕ) (x : Val) (id q : Id) → held v.registers h ≡ Some id → q ≢ id → get (write v h i x).view.graph q ≡ get v.graph q
-get-write_another v h i x id q holds other = ap (λ o. get (put_value v.graph o i x) q) holds ∙ get-insert_other v.graph id q (slice_set (fields v.graph id) i x) other
-
-IsBounded-insert : (g : Graph) (id : Id) (vs : List Val) → length vs ≤ most_fields → ((i n : ℕ) → slice_get vs i ≡ Some (Int n) → n < no_int) → IsBounded g → IsBounded (insert g id vs)
-IsBounded-insert g id vs few small bounded = record {
-  lengths = λ q. fields_by_insert (λ us. length us ≤ most_fields) g id q vs (λ same. few) (λ other. bounded.lengths q);
-  numbers = λ q. fields_by_insert (λ us. (i n : ℕ) → slice_get us i ≡ Some (Int n) → n < no_int) g id q vs (λ same. small) (λ other. bounded.numbers q);
-}
-
-IsBounded-put_value : (g : Graph) (o : Option Id) (i : ℕ) (x : Val) → ((n : ℕ) → x ≡ Int n → n < no_int) → IsBounded g → IsBounded (put_value g o i x)
-IsBounded-put_value g None i x small bounded = bounded
-IsBounded-put_value g (Some id) i x small bounded =
-    IsBounded-insert g id (slice_set (fields g id) i x) (omega (arith, length-set (fields g id) i x, bounded.lengths id))
-    (λ j n is. elim (slice_get-set_from (fields g id) i j x (Int n) is) [
-      | inl written ↦ small n written
-      | inr was ↦ bounded.numbers id j n was
-    ])
-    bounded
-
-int_is : (n m : ℕ) → Int n ≡ Int m → n ≡ m
-int_is n m is = cc
-
--- a call that is not refused leaves lengths and numbers bounded
-pub call-IsBounded : (v : View) (t : ℕ) (c : Event) → view_refusal v c ≡ None → IsBounded v.graph → IsBounded (call v t c).view.graph
-call-IsBounded v t (New s h len) granted bounded =
-    IsBounded-insert v.graph (next_id v t) (replicate len Null) (omega (arith, (new_granted v s h len granted).1, length-replicate len Null))
-    (λ i n is. let clash = slice_get-replicate len i Null (Int n) is in cc) bounded
-call-IsBounded v t (Put s h i n) granted bounded =
-    IsBounded-put_value v.graph (held v.registers h) i (Int n) (λ m is. subst (λ k. k < no_int) (int_is n m is) (put_granted v s h i n granted).0) bounded
-call-IsBounded v t (Clear s h i) granted bounded = IsBounded-put_value v.graph (held v.registers h) i Null (λ m is. cc) bounded
-call-IsBounded v t (Link s h i h2) granted bounded =
-    let target = (link_granted v s h i h2 granted).0 in
-    IsBounded-put_value v.graph (held v.registers h) i (reference_to (held v.registers h2)) (λ m is. let x = ap reference_to target.1 in cc) bounded
-call-IsBounded v t c granted bounded = bounded
-
--- so do such calls
-pub after_calls-IsBounded : (v : View) (t : ℕ) (cs : List Event) → AreGranted v t cs → IsBounded v.graph → IsBounded (after_calls v t cs).graph
-after_calls-IsBounded v t [] granted bounded = bounded
-after_calls-IsBounded v t (c ∷ cs) granted bounded = after_calls-IsBounded (call v t c).view t cs granted.1 (call-IsBounded v t c granted.0 bounded)
-
--- and transactions of such calls
-pub serial-IsBounded : (g : Graph) (ts : List Transaction) → AllGranted g ts → IsBounded g → IsBounded (serial g ts)
-serial-IsBounded g [] granted bounded = bounded
-serial-IsBounded g (t ∷ ts) granted bounded =
-    serial-IsBounded (run g t).graph ts granted.1 (after_calls-IsBounded (fresh_view g) t.number t.calls granted.0 bounded)
-
--- one granted call more
-pub AreGranted-append : (v : View) (t : ℕ) (cs : List Event) (c : Event) → AreGranted v t cs → view_refusal (after_calls v t cs) c ≡ None → AreGranted v t (cs ++ c ∷ [])
-AreGranted-append v t [] c all granted = (granted, tt)
-AreGranted-append v t (d ∷ cs) c all granted = (all.0, AreGranted-append (call v t d).view t cs c all.1 granted)
-
--- one such transaction more
-pub AllGranted-append : (g : Graph) (ts : List Transaction) (t : Transaction) → AllGranted g ts → AreGranted (fresh_view (serial g ts)) t.number t.calls → AllGranted g (ts ++ t ∷ [])
-AllGranted-append g [] t all granted = (granted, tt)
-AllGranted-append g (u ∷ ts) t all granted = (all.0, AllGranted-append (run g u).graph ts t all.1 granted)
-
--- what a call writes that is not refused is what a field can hold
-pub written_value-IsFieldValue : (v : View) (c : Event) → SeesClosed v → view_refusal v c ≡ None → IfSome (written_value v c) (IsFieldValue v.graph)
-written_value-IsFieldValue v (Put s h i n) sees granted = (put_granted v s h i n granted).0
-written_value-IsFieldValue v (Clear s h i) sees granted = tt
-written_value-IsFieldValue v (Link s h i h2) sees granted =
-    let target = (link_granted v s h i h2 granted).0 in
-    subst (λ o. IsFieldValue v.graph (reference_to o)) (sym target.1) (sees.handles h2 target.0 target.1)
-written_value-IsFieldValue v c sees granted = tt
-
--- the graph of a new heap is closed
-pub new_graph-IsClosed : IsClosed new_graph
-new_graph-IsClosed = record {
-  root_there = (replicate 4 Null, get-insert_same empty root (replicate 4 Null));
-  targets = λ id. fields_by_insert (LeadTo new_graph) empty root id (replicate 4 Null)
-      (λ same i target is. let clash = slice_get-replicate 4 i Null (Ref target) is in cc)
-      (λ other i target is. let nothing = ap (λ o. slice_get (unwrap_or o []) i) (get-empty {X = List Val} id_cmp id) in cc);
-}
-
--- its only object is the root
-pub new_graph-AreBelow : AreBelow new_graph 1
-new_graph-AreBelow id there =
-    elim (there_insert empty root id (replicate 4 Null) there) [
-      | inl same ↦ let t = ap (λ (q : Id). q.t) same in omega arith
-      | inr was ↦ let nothing = get-empty {X = List Val} id_cmp id in let some = was.1 in cc
-    ]
-
--- and its fields are null
-pub new_graph-IsBounded : IsBounded new_graph
-new_graph-IsBounded = IsBounded-insert empty root (replicate 4 Null) (omega arith)
-    (λ i n is. let clash = slice_get-replicate 4 i Null (Int n) is in cc)
-    (record {
-      lengths = λ id. let nothing = ap (λ o. length (unwrap_or o [])) (get-empty {X = List Val} id_cmp id) in omega arith;
-      numbers = λ id i n is. let nothing = ap (λ o. slice_get (unwrap_or o []) i) (get-empty {X = List Val} id_cmp id) in cc;
-    })

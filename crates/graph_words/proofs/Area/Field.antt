@@ -1,8 +1,8 @@
 -- A word that is written into a field of one of several objects end to end: it leaves where these start, their lengths and their births.
-use Rattle.std.proofs.Common.{Contains, List, Some, [], ap, arith, inl, inr, refl, take, ℕ, ◌+◌, ◌<◌, ◌∙◌, ◌∷◌, ◌≡◌, ◌≢◌, ◌≤◌, ◌⊎◌}
+use Rattle.std.proofs.Common.{Contains, List, Some, [], arith, inl, inr, refl, take, ℕ, ◌+◌, ◌<◌, ◌∙◌, ◌∷◌, ◌≡◌, ◌≢◌, ◌≤◌, ◌⊎◌}
 use Rattle.std.specs.List.{AllByRecursion}
 use Rattle.object_layout.specs.Layout.{birth_at, object_at}
-use Rattle.object_layout.proofs.ObjectLaws.{birth_at_set, end_to_end_field, end_to_end_set, object_set, take_set}
+use Rattle.object_layout.proofs.ObjectLaws.{birth_at_set, end_to_end_field, end_to_end_set, object_set}
 use Rattle.object_layout.specs.Walk.{AreEndToEnd}
 use Rattle.object_layout.proofs.WalkLaws.{object_take}
 use Rattle.object_layout.proofs.WalkedLaws.{end_to_end_object}
@@ -78,22 +78,6 @@ rest_fields words from starts end u us ends there all =
     AllByRecursion-map (λ v. IsField words starts v.object v.field) (λ v. IsField (with_word words u.object u.field u.was) starts v.object v.field) us
     (λ v is. field_with_word words from starts end u.object u.field u.was v.object v.field ends there is) all
 
--- the objects stay end to end when writes of their fields are taken back
-pub ends_taken_back : (us : List UndoEntry) (words : List ℕ) (from : ℕ) (starts : List ℕ) (end : ℕ) → AreEndToEnd words from starts end → AreFields words starts us
-    → AreEndToEnd (taken_back us words) from starts end
-ends_taken_back [] words from starts end ends all = ends
-ends_taken_back (u ∷ us) words from starts end ends all =
-    ends_taken_back us (with_word words u.object u.field u.was) from starts end (ends_with_word words from starts end u.object u.field u.was ends all.0)
-    (rest_fields words from starts end u us ends all.0 all.1)
-
--- each of them stays
-pub object_taken_back : (us : List UndoEntry) (words : List ℕ) (from : ℕ) (starts : List ℕ) (end at n : ℕ) → AreEndToEnd words from starts end → AreFields words starts us
-    → Contains starts at → object_at words at ≡ Some n → object_at (taken_back us words) at ≡ Some n
-object_taken_back [] words from starts end at n ends all has is = is
-object_taken_back (u ∷ us) words from starts end at n ends all has is =
-    object_taken_back us (with_word words u.object u.field u.was) from starts end at n (ends_with_word words from starts end u.object u.field u.was ends all.0)
-    (rest_fields words from starts end u us ends all.0 all.1) has (object_with_word words from starts end u.object u.field u.was at n ends all.0 has is)
-
 -- with its birth
 pub birth_taken_back : (us : List UndoEntry) (words : List ℕ) (from : ℕ) (starts : List ℕ) (end at : ℕ) → AreEndToEnd words from starts end → AreFields words starts us
     → Contains starts at → birth_at (taken_back us words) at ≡ birth_at words at
@@ -102,12 +86,6 @@ birth_taken_back (u ∷ us) words from starts end at ends all has =
     birth_taken_back us (with_word words u.object u.field u.was) from starts end at (ends_with_word words from starts end u.object u.field u.was ends all.0)
     (rest_fields words from starts end u us ends all.0 all.1) has
     ∙ birth_with_word words from starts end u.object u.field u.was at ends all.0 has
-
--- a front of the words that are taken back is the front, taken back
-pub take_taken_back : (us : List UndoEntry) (end : ℕ) (words : List ℕ) → take end (taken_back us words) ≡ taken_back us (take end words)
-take_taken_back [] end words = refl
-take_taken_back (u ∷ us) end words =
-    take_taken_back us end (with_word words u.object u.field u.was) ∙ ap (taken_back us) (take_set end words (field_at u.object u.field) u.was)
 
 -- Fields of a front of words.
 

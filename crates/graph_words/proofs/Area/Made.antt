@@ -5,7 +5,7 @@ use Rattle.std.specs.List.{AllByRecursion}
 use Rattle.graph_model.specs.Graph.{Graph, fields}
 use Rattle.graph_model.specs.declared.id.Id.{Id}
 use Rattle.graph_model.specs.declared.val.Val.{Val}
-use Rattle.graph_words.specs.Area.{HasMade, IsMade}
+use Rattle.graph_words.specs.Area.{HasMade}
 use Rattle.graph_words.specs.Places.{IsOwn, IsVisible, Places, address_of, made_by}
 use Rattle.graph_words.proofs.Places.Addresses.{own_made}
 
@@ -25,11 +25,6 @@ pub made_visible : {places : Places} {g : Graph} {t made : ℕ} → HasMade plac
 made_visible {places} {g} {t} {made} has k first last =
     let one = has.each k first last in
     subst (AllByRecursion (IsVisible places t made)) (sym (the_fields g (made_by t k) one.values one.is)) one.visible
-
--- that is what it takes to have been made
-pub is_made : (places : Places) (g : Graph) (t made k : ℕ) → get g (made_by t k) ≡ Some (fields g (made_by t k)) → length (fields g (made_by t k)) ≤ 510
-    → AllByRecursion (IsVisible places t made) (fields g (made_by t k)) → IsMade places g t made k
-is_made places g t made k is short visible = record { values = fields g (made_by t k); is = is; short = short; visible = visible }
 
 -- The same of an object that tells its maker.
 

@@ -1,5 +1,5 @@
 -- Laws of lists: what is at a place.
-use Rattle.std.proofs.Common.{Any, Contains, List, Some, [], ap, arith, inl, inr, length, map, refl, slice_get, slice_set, subst, suc, zero, ℕ, ◌++◌, ◌∙◌, ◌∷◌, ◌≡◌, ◌⊎◌}
+use Rattle.std.proofs.Common.{Any, Contains, List, Some, [], ap, arith, inl, inr, length, map, refl, slice_get, slice_set, subst, suc, zero, ℕ, ◌++◌, ◌∷◌, ◌≡◌, ◌⊎◌}
 use Rattle.std.proofs.lemmas.Option.{get_or_from_slice_get, same_Some, slice_get_within}
 use Rattle.std.specs.List.{AllByRecursion}
 
@@ -19,11 +19,6 @@ pub got_of_map : {X Y : Type 0} (f : X → Y) (xs : List X) (i : ℕ) (y : Y) �
 got_of_map f [] i y is = cc
 got_of_map f (x ∷ xs) zero y is = (x, refl, same_Some (f x) y is)
 got_of_map f (x ∷ xs) (suc i) y is = got_of_map f xs i y is
-
--- two functions that agree on each element make one list
-pub map-same : {X Y : Type 0} (f g : X → Y) (xs : List X) → ((i : ℕ) (x : X) → slice_get xs i ≡ Some x → f x ≡ g x) → map f xs ≡ map g xs
-map-same f g [] each = refl
-map-same f g (x ∷ xs) each = ap (λ y. y ∷ map f xs) (each zero x refl) ∙ ap (λ ys. g x ∷ ys) (map-same f g xs (λ i. each (suc i)))
 
 -- what is got of a list is in it
 pub Contains-get : {X : Type 0} (xs : List X) (i : ℕ) (x : X) → slice_get xs i ≡ Some x → Contains xs x

@@ -1,5 +1,5 @@
 -- Laws of moves: objects of an area get the words from an address on, one behind the other, and each of them has one new address.
-use Rattle.std.proofs.Common.{◌≡◌, ◌≢◌, ℕ, ◌≤◌, zero, suc, ◌+◌, ◌⊎◌, inl, inr, Bool, true, false, List, [], ◌∷◌, map, Option, Some, refl, sym, ap, ◌∙◌, subst, arith, Less, None}
+use Rattle.std.proofs.Common.{◌≡◌, ◌≢◌, ℕ, ◌≤◌, zero, suc, ◌+◌, ◌⊎◌, inl, inr, Bool, true, false, List, [], ◌∷◌, Option, Some, refl, sym, ap, ◌∙◌, subst, arith, Less}
 use Rattle.std.specs.Prelude.{Contains, sum_by, ◌==◌, if◌then◌else◌}
 use Rattle.std.proofs.lemmas.Bool.{eq-eqb, eqb-true, ne_eqb, cases_eq}
 use Rattle.std.proofs.lemmas.Option.{same_Some}
@@ -24,11 +24,6 @@ words_needed area (at ∷ rest) = words_taken area at + words_needed area rest
 abbrev pub AreDistinct : List ℕ → Type 0
 AreDistinct [] = Unit {0}
 AreDistinct (at ∷ rest) = (Contains rest at → ⊥) × AreDistinct rest
-
--- the objects that move are those that were given
-pub moves_to_starts : (area : AreaState) (starts : List ℕ) (address : ℕ) → map (λ m. m.0) (moves_to area starts address) ≡ starts
-moves_to_starts area [] address = refl
-moves_to_starts area (at ∷ rest) address = ap (λ xs. at ∷ xs) (moves_to_starts area rest (address + words_taken area at))
 
 picked : (b : Bool) (x y : ℕ) (rest : Option ℕ) → (if b then Some x else rest) ≡ Some y → ((b ≡ true) × (x ≡ y)) ⊎ ((b ≡ false) × (rest ≡ Some y))
 picked true x y rest is = inl (refl, same_Some x y is)
@@ -59,13 +54,6 @@ moved_given area (a ∷ rest) address at new is = elim (moved-cases (a, address)
   | inl here ↦ subst (λ (x : ℕ). Contains (a ∷ rest) x) here.0 (Contains-head a rest)
   | inr behind ↦ Contains-rest a rest at (moved_given area rest (address + words_taken area a) at new behind.1)
 ]
-
--- no other moves
-pub moved_not : (area : AreaState) (starts : List ℕ) (address at : ℕ) → (Contains starts at → ⊥) → moved (moves_to area starts address) at ≡ None
-moved_not area [] address at apart = refl
-moved_not area (a ∷ rest) address at apart =
-    moved-rest (a, address) (moves_to area rest (address + words_taken area a)) at (λ same. apart (subst (λ (x : ℕ). Contains (a ∷ rest) x) same (Contains-head a rest)))
-    ∙ moved_not area rest (address + words_taken area a) at (λ has. apart (Contains-rest a rest at has))
 
 -- Where an object of the area goes: it moves there, and its words are among those that the objects get.
 pub record IsMovedTo (area : AreaState) (starts : List ℕ) (address at new : ℕ) : Type 0 where
@@ -103,47 +91,6 @@ moved_to area (a ∷ rest) address at has = elim (cases_eq a at) [
   ]
 ]
 
--- objects move to the address from which on they get words, or behind it
-pub moved_above : (area : AreaState) (starts : List ℕ) (address at new : ℕ) → moved (moves_to area starts address) at ≡ Some new → address ≤ new
-moved_above area [] address at new is = absurd (cc is)
-moved_above area (a ∷ rest) address at new is = elim (moved-cases (a, address) (moves_to area rest (address + words_taken area a)) at new is) [
-  | inl here ↦ omega arith
-  | inr behind ↦ let far = moved_above area rest (address + words_taken area a) at new behind.1 in omega arith
-]
-
--- two objects that move are one, or one ends before the other starts
-pub moved_apart : (area : AreaState) (starts : List ℕ) (address i j a b : ℕ) → moved (moves_to area starts address) i ≡ Some a → moved (moves_to area starts address) j ≡ Some b
-    → (i ≡ j) ⊎ ((a + words_taken area i ≤ b) ⊎ (b + words_taken area j ≤ a))
-moved_apart area [] address i j a b one other = absurd (cc one)
-moved_apart area (s ∷ rest) address i j a b one other =
-    let next = address + words_taken area s in
-    elim (moved-cases (s, address) (moves_to area rest next) i a one) [
-      | inl here ↦ elim (moved-cases (s, address) (moves_to area rest next) j b other) [
-        | inl there ↦ inl (sym here.0 ∙ there.0)
-        | inr behind ↦
-            let far = moved_above area rest next j b behind.1 in
-            let taken : words_taken area s ≡ words_taken area i = ap (words_taken area) here.0 in
-            let start = here.1 in
-            inr (inl (omega arith))
-      ]
-      | inr behind ↦ elim (moved-cases (s, address) (moves_to area rest next) j b other) [
-        | inl there ↦
-            let far = moved_above area rest next i a behind.1 in
-            let taken : words_taken area s ≡ words_taken area j = ap (words_taken area) there.0 in
-            let start = there.1 in
-            inr (inr (omega arith))
-        | inr behind' ↦ moved_apart area rest next i j a b behind.1 behind'.1
-      ]
-    ]
-
--- objects that move to one address are one
-pub moved_one : (area : AreaState) (starts : List ℕ) (address i j a : ℕ) → moved (moves_to area starts address) i ≡ Some a → moved (moves_to area starts address) j ≡ Some a → i ≡ j
-moved_one area starts address i j a one other = elim (moved_apart area starts address i j a a one other) [
-  | inl same ↦ same
-  | inr (inl before) ↦ absurd (omega arith)
-  | inr (inr behind) ↦ absurd (omega arith)
-]
-
 -- each move is found by its object, if no object is among them twice
 pub moved_of : (area : AreaState) (starts : List ℕ) (address : ℕ) (m : Move) → AreDistinct starts → Contains (moves_to area starts address) m
     → Contains starts m.0 × (moved (moves_to area starts address) m.0 ≡ Some m.1)
@@ -162,15 +109,6 @@ moved_of area (a ∷ rest) address m distinct (suc k, within, is) =
 pub needed-sum : (area : AreaState) (starts : List ℕ) → need area starts ≡ words_needed area starts
 needed-sum area [] = refl
 needed-sum area (at ∷ rest) = sum_by-cons (words_taken area) at rest ∙ ap (λ n. words_taken area at + n) (needed-sum area rest)
-
--- so it is over their moves
-pub needed-moves : (area : AreaState) (starts : List ℕ) (address : ℕ) → sum_by (λ m. words_taken area m.0) (moves_to area starts address) ≡ need area starts
-needed-moves area [] address = refl
-needed-moves area (at ∷ rest) address =
-    let next = address + words_taken area at in
-    sum_by-cons (λ (m : Move). words_taken area m.0) (at, address) (moves_to area rest next)
-    ∙ ap (λ n. words_taken area at + n) (needed-moves area rest next)
-    ∙ sym (sum_by-cons (words_taken area) at rest)
 
 not_among : (x : ℕ) (xs : List ℕ) → AllByRecursion (λ y. nat_cmp x y ≡ Less) xs → Contains xs x → ⊥
 not_among x [] above has = Contains-none x has

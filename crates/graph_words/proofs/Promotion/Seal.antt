@@ -2,7 +2,6 @@
 use Rattle.std.proofs.Common.{◌≡◌, ℕ, ◌<◌, ◌≤◌, ◌*◌, zero, suc, ◌+◌, true, List, [], ◌∷◌, ◌++◌, map, length, Some, refl, sym, ap, subst, arith}
 use Rattle.std.specs.Prelude.{Contains, fold, slice_get, slice_index}
 use Rattle.std.specs.List.{AllByRecursion}
-use Rattle.std.proofs.lemmas.List.Sums.{fold-append}
 use Rattle.graph_model.specs.Graph.{Graph}
 use Rattle.log_records.specs.declared.Record.TheVariants.{Commit}
 use Rattle.log_records.specs.Record.{IsRecord}
@@ -115,11 +114,6 @@ seal_old {places} {g} {t} {made} {undo} {words} {base} {used} can next later old
     later_old_names (sealing places g t made undo words base used) (is_sealing can) next later old below more
 
 -- The records.
-
--- the commit writes no word
-pub seal_words : (area : AreaState) (words : List ℕ) (undo : List UndoEntry) (address : ℕ)
-    → fold put_record words (seal_records area words undo address) ≡ fold put_record words (promotion_records area words undo address)
-seal_words area words undo address = fold-append put_record words (promotion_records area words undo address) (Commit area.transaction ∷ [])
 
 -- each record of a seal has a spelling
 pub seal_spelled : {places : Places} {g : Graph} {t made : ℕ} {undo : List UndoEntry} {words : List ℕ} {base used : ℕ} → CanSeal places g t made undo words base used

@@ -3,7 +3,7 @@
 use Rattle.std.proofs.Common.{◌≡◌, ◌≢◌, ℕ, ◌<◌, ◌≤◌, ◌+◌, inl, inr, Bool, true, false, List, [], ◌∷◌, ◌++◌, map, length, take, drop, get_or, Some, refl, sym, ap, ◌∙◌, arith}
 use Rattle.std.specs.Prelude.{Contains, fold, slice_get, slice_index, slice_index_or}
 use Rattle.std.proofs.lemmas.Option.{same_Some, slice_get-get_or}
-use Rattle.std.proofs.lemmas.List.{length-map, length-take-le, get_or_append_left, get_or-take, drop_at, length-append, append_assoc}
+use Rattle.std.proofs.lemmas.List.{length-map, length-take-le, get_or_append_left, get_or-take}
 use Rattle.std.proofs.lemmas.List.Sums.{fold-append}
 use Rattle.heap_words.specs.declared.Word.TheVariants as word
 use Rattle.heap_words.specs.declared.Header.TheVariants.{Length}
@@ -28,7 +28,7 @@ use Rattle.graph_words.proofs.Promotion.Fix.{fixes, fixes_beside, fixes_behind, 
 use Rattle.graph_words.proofs.Places.Moved.{moved_word-plain, volatile_told}
 use Rattle.graph_words.proofs.Stands.ReadBack.{IsChangedTo, IsObjectAt, object_from_words}
 use Rattle.graph_words.proofs.Area.Made.{own_short}
-use Rattle.graph_words.proofs.Stands.Run.{all_moved, put_bases, put_at, length-all_moved}
+use Rattle.graph_words.proofs.Stands.Run.{all_moved, put_bases, put_at}
 use Rattle.graph_words.proofs.Seal.Sealing.{Sealing, IsSealing, place, area, moves, need, records, later_words}
 use Rattle.graph_words.proofs.Seal.Fields.{written_field, own_length, own_header}
 
@@ -141,19 +141,6 @@ fields_below c is x above f has =
 later_behind : (c : Sealing) → IsSealing c → (x : ℕ) → c.base + c.used ≤ x → drop x (later_words c) ≡ drop x (middle c)
 later_behind c is x above =
     ap (drop x) (later_from_middle c) ∙ fixes_behind c.t c.words (middle c) (moves c) (written_fields c.undo) x (fields_below c is x above)
-
--- the words behind those that are used then stay
-pub later_rest : (c : Sealing) → IsSealing c → drop (c.base + c.used + need c) (later_words c) ≡ drop (c.base + c.used + need c) c.words
-later_rest c is =
-    let room = is.room in
-    let front = take (c.base + c.used) c.words in
-    let run = all_moved (area c) (moves c) c.starts in
-    let rest = drop (c.base + c.used + need c) c.words in
-    let long : length (front ++ run) ≡ c.base + c.used + need c =
-    length-append front run ∙ ap (λ n. n + length run) (length-take-le (c.base + c.used) c.words (omega arith)) ∙ ap (λ n. c.base + c.used + n) (length-all_moved (area c) (moves c) c.starts) in
-    later_behind c is (c.base + c.used + need c) (omega arith)
-    ∙ ap (drop (c.base + c.used + need c)) (middle_is c is ∙ sym (append_assoc front run rest))
-    ∙ drop_at (front ++ run) rest (c.base + c.used + need c) long
 
 -- at its new address stand the words of an object after the move
 pub later_run : (c : Sealing) → IsSealing c → (at new : ℕ) → moved (moves c) at ≡ Some new → c.base + c.used ≤ new

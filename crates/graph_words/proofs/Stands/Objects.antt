@@ -3,19 +3,16 @@ use Rattle.std.proofs.Common.{Contains, List, None, Some, [], ap, arith, drop, g
 use Rattle.std.proofs.lemmas.List.{get_or-map}
 use Rattle.std.proofs.lemmas.Option.{same_Some}
 use Rattle.std.specs.FinMap.{get}
-use Rattle.heap_words.specs.Header.{header_bits}
-use Rattle.heap_words.proofs.HeaderLaws.{bits-header}
 use Rattle.heap_words.specs.Word.{IsFieldWord, IsWord, meaning}
 use Rattle.heap_words.proofs.WordLaws.{meaning-bits}
-use Rattle.heap_words.specs.declared.Header.TheVariants.{Length}
 use Rattle.heap_words.specs.declared.Word.{Word}
 use Rattle.heap_words.specs.declared.Word.TheVariants as word
-use Rattle.graph_model.specs.Graph.{Graph, fields, root}
+use Rattle.graph_model.specs.Graph.{Graph, fields}
 use Rattle.graph_model.specs.declared.id.Id.{Id}
 use Rattle.graph_model.specs.declared.val.Val.{Val}
 use Rattle.graph_model.specs.declared.val.Val.TheVariants.{Int, Null, Ref}
 use Rattle.object_layout.specs.Layout.{field_words, object_at}
-use Rattle.object_layout.proofs.LayoutLaws.{object_header, object_small}
+use Rattle.object_layout.proofs.LayoutLaws.{object_small}
 use Rattle.object_layout.proofs.ObjectLaws.{end_to_end_begins, end_to_end_field, field_words_at}
 use Rattle.object_layout.specs.Walk.{used_words}
 use Rattle.object_layout.proofs.WalkLaws.{object_take, object_take_end}
@@ -81,17 +78,6 @@ stands_within {places = places} {g = g} {words = words} {base = base} {used = us
 pub stands_short : {t made : ℕ} {places : Places} {g : Graph} {words : List ℕ} {base used : ℕ} → Stands t made places g words base used
     → (id : Id) (at : ℕ) → address_of places id ≡ Some at → length (fields g id) ≤ 510
 stands_short {g = g} {words = words} stands id at is = let small = object_small words at (length (fields g id)) (stands_object stands id at is) in omega arith
-
--- its header's word
-pub stands_header : {t made : ℕ} {places : Places} {g : Graph} {words : List ℕ} {base used : ℕ} → Stands t made places g words base used
-    → (id : Id) (at : ℕ) → address_of places id ≡ Some at → slice_index words at ≡ header_bits (Length (length (fields g id)))
-stands_header {g = g} {words = words} stands id at is =
-    let n = length (fields g id) in
-    (bits-header (slice_index words at) (Length n) (object_header words at n (stands_object stands id at is)).0).1
-
--- the root's address is the base, and a root has four fields
-pub stands_root : {t made : ℕ} {places : Places} {g : Graph} {words : List ℕ} {base used : ℕ} → Stands t made places g words base used → length (fields g root) ≡ 4
-stands_root {g = g} {base = base} stands = same_Some (length (fields g root)) 4 (sym (stands_used_object stands root base stands.root_place) ∙ stands.root_object.length)
 
 -- two objects that stand at one address are one
 pub stands_one : {t made : ℕ} {places : Places} {g : Graph} {words : List ℕ} {base used : ℕ} → Stands t made places g words base used

@@ -1,5 +1,5 @@
 -- Laws of words that are put one behind the other: what stands there then, and that the words before and behind stay.
-use Rattle.std.proofs.Common.{◌≡◌, ℕ, ◌≤◌, ◌+◌, inl, inr, List, [], ◌∷◌, ◌++◌, length, map, take, drop, Some, refl, sym, ap, ◌∙◌, arith}
+use Rattle.std.proofs.Common.{◌≡◌, ℕ, ◌≤◌, ◌+◌, inl, inr, List, [], ◌∷◌, ◌++◌, length, map, take, drop, Some, sym, ap, ◌∙◌, arith}
 use Rattle.std.specs.Prelude.{fold}
 use Rattle.std.specs.List.{flat_map, enumerate_from}
 use Rattle.std.proofs.lemmas.List.{append_assoc, length-append, length-map, length-take-le, take_at, drop_at, drop-drop, take-append-drop}
@@ -22,14 +22,6 @@ length-moved_words area moves at = omega (arith, length-map (field_words area.wo
 -- the words of these objects after the move
 abbrev pub all_moved : AreaState → List Move → List ℕ → List ℕ
 all_moved area moves starts = flat_map (moved_words area moves) starts
-
--- they are as many as the objects need
-pub length-all_moved : (area : AreaState) (moves : List Move) (starts : List ℕ) → length (all_moved area moves starts) ≡ words_needed area starts
-length-all_moved area moves [] = refl
-length-all_moved area moves (at ∷ rest) =
-    length-append (moved_words area moves at) (all_moved area moves rest)
-    ∙ ap (λ n. n + length (all_moved area moves rest)) (length-moved_words area moves at)
-    ∙ ap (λ n. words_taken area at + n) (length-all_moved area moves rest)
 
 front_of_run : (now run : List ℕ) (address : ℕ) (rest : List ℕ) → address ≤ length now → take (address + length run) (take address now ++ (run ++ rest)) ≡ take address now ++ run
 front_of_run now run address rest within =

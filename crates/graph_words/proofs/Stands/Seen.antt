@@ -10,17 +10,15 @@ use Rattle.heap_words.proofs.WordLaws.{meaning-bits}
 use Rattle.heap_words.specs.declared.Word.{Word}
 use Rattle.heap_words.specs.declared.Word.TheVariants as word
 use Rattle.graph_model.specs.Canon.{canon}
-use Rattle.graph_model.specs.ClosedGraph.{IsWhole}
 use Rattle.graph_model.specs.Graph.{Graph, fields, root}
 use Rattle.graph_model.specs.declared.id.Id.{Id}
 use Rattle.graph_model.specs.declared.val.Val.{Val}
 use Rattle.graph_model.specs.declared.val.Val.TheVariants.{Int, Null, Ref}
 use Rattle.object_layout.specs.Layout.{IsKnown, IsMet, IsSeen, IsSeenAs, as_ref, birth_at, id_at, id_of, value}
 use Rattle.object_layout.proofs.LayoutLaws.{stand_object}
-use Rattle.object_layout.proofs.SeenLaws.{seen_canon, seen_whole}
+use Rattle.object_layout.proofs.SeenLaws.{seen_canon}
 use Rattle.object_layout.specs.Walk.{AreBornBefore, HaveOwnBirths, IsBornBefore, IsFilled, IsInside, IsWalked, KeepsInside, used_words}
-use Rattle.object_layout.proofs.WalkLaws.{filled_one}
-use Rattle.object_layout.proofs.WalkedLaws.{KeepApart, walked_base, walked_met, walked_seen, walked_stand}
+use Rattle.object_layout.proofs.WalkedLaws.{KeepApart, walked_base, walked_met, walked_stand}
 use Rattle.graph_words.proofs.Places.Lists.{AllByRecursion-get, got_of_map}
 use Rattle.graph_words.specs.Places.{AreOld, IsOld, IsVisible, Places, address_of, addresses, bits_of, place_of}
 use Rattle.graph_words.proofs.Places.Names.{NamesPlaces, name_at}
@@ -65,11 +63,6 @@ stands_inside {places} {g} {words} stands at has i w is =
 -- The walk of words in which a graph stands passes, and meets the objects of its places.
 abbrev pub stands_walked : {places : Places} {g : Graph} {words : List ℕ} {base used : ℕ} → StandsCommitted places g words base used → IsWalked words base used
 stands_walked {places} stands = record { starts = addresses places; filled = stands_filled stands; inside = stands_inside stands }
-
--- Each walk of these words meets these objects alone.
-pub stands_starts : {places : Places} {g : Graph} {words : List ℕ} {base used : ℕ} → StandsCommitted places g words base used
-    → (walked : IsWalked words base used) → walked.starts ≡ addresses places
-stands_starts {places} {g} {words} {base} {used} stands walked = filled_one words base used walked.starts (addresses places) walked.filled (stands_filled stands)
 
 -- The graph that is seen.
 
@@ -144,17 +137,6 @@ stands_seen {places} {words = words} stands born = stands_seen_as (id_at words) 
 pub stands_canon : {places : Places} {g : Graph} {words : List ℕ} {base used : ℕ} → StandsCommitted places g words base used
     → (name : ℕ → Id) (h : Graph) → IsSeenAs name words base h → canon h ≡ canon g
 stands_canon {places} {g} {words} {base} stands name h seen = seen_canon name (name_at places) words base h g seen (stands_seen_at stands)
-
--- where births differ a graph is seen by them, and has that canon
-pub stands_born_seen : {places : Places} {g : Graph} {words : List ℕ} {base used : ℕ} → StandsCommitted places g words base used → HaveOwnBirths words (addresses places)
-    → (h : Graph) × IsSeen words base h × (canon h ≡ canon g)
-stands_born_seen {words = words} {base = base} {used = used} stands own =
-    let seen = walked_seen words base used (stands_walked stands) own in
-    (seen.0, seen.1, stands_canon stands (id_at words) seen.0 seen.1)
-
--- a graph that stands in words holds all that is reached in it
-pub stands_whole : {places : Places} {g : Graph} {words : List ℕ} {base used : ℕ} → StandsCommitted places g words base used → IsWhole g
-stands_whole {places} {g} {words} {base} stands = seen_whole (name_at places) words base g (stands_seen_at stands)
 
 -- Births.
 
