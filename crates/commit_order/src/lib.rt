@@ -3,11 +3,11 @@
 //! `specs/SerialOrder.antt` has the theorem in its words: what it is for a history to be under strict two-phase locking (`IsTwoPhase`),
 //! to have plain replies (`HasPlainReplies`), and to be serial in the order of the seals (`IsCommitOrdered`). What a transaction holds
 //! and what conflicts with that is said in `graph_model/specs/Locking.antt`, without a lock table. The theorem is proved in
-//! `specs/OrderLaws.antt` and, for the commit that a failing disk leaves in doubt, `specs/CommitLaws.antt`, from the laws of one call
-//! in `specs/CallLaws.antt` and of a run in `specs/LockingLaws.antt`.
+//! `proofs/OrderLaws.antt` and, for the commit that a failing disk leaves in doubt, `proofs/CommitLaws.antt`, from the laws of one call
+//! in `proofs/CallLaws.antt` and of a run in `proofs/LockingLaws.antt`.
 //!
-//! A heap that locks so may rest on the laws of each place of its history: `specs/PlaceLaws.antt`; and `specs/HoldsLaws.antt`, how
-//! what is held changes as a table of locks does. That locks are kept until a transaction ends is in `specs/StrictLaws.antt`.
+//! A heap that locks so may rest on the laws of each place of its history: `proofs/PlaceLaws.antt`; and `proofs/HoldsLaws.antt`, how
+//! what is held changes as a table of locks does. That locks are kept until a transaction ends is in `proofs/StrictLaws.antt`.
 //!
 //! The code is `History`, the list of events and their replies, and what it tells of the commits.
 #![tactic(auto)]

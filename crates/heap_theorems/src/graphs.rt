@@ -15,53 +15,44 @@ ghost use Rattle.object_layout.specs.Walk.{HaveOwnBirths, IsWalked};
 /// Two whole graphs have one canon exactly where they are isomorphic: a one-to-one match of what their roots reach keeps the fields.
 pub fn canon_tells_isomorphism()
     ensures { (g h : Graph) → IsWhole g → IsWhole h → (canon g ≡ canon h) ↔ AreIsomorphic g h }
-{
-}
+{}
 
 /// Two whole graphs have one canon exactly where they are the same up to renaming objects.
 pub fn canon_tells_renaming()
     ensures { (g h : Graph) → IsWhole g → IsWhole h → (canon g ≡ canon h) ↔ AreRenamed g h }
-{
-}
+{}
 
 /// Where numbers are below 2^64, two whole graphs have one text exactly where they are isomorphic.
 pub fn text_tells_isomorphism()
     ensures { (g h : Graph) → IsWhole g → IsWhole h → IsPrintable g → IsPrintable h → (canon_text (canon g) ≡ canon_text (canon h)) ↔ AreIsomorphic g h }
-{
-}
+{}
 
 /// The numbering of a canon has all that is reached, each object once, the root first, in breadth-first order.
 pub fn numbering_is_breadth_first()
     ensures { (g : Graph) → IsWhole g → IsNumbering g (numbered g) }
-{
-}
+{}
 
 /// Transactions with new numbers, run on isomorphic graphs, are answered the same and leave isomorphic graphs.
 pub fn serial_runs_are_isomorphic()
     ensures { (g h : Graph) (ts : List Transaction) → AreIsomorphic g h → HaveOwnNumbers ts → HaveNewNumbers g ts → HaveNewNumbers h ts → (serial_replies g ts ≡ serial_replies h ts) × AreIsomorphic (serial g ts) (serial h ts) }
-{
-}
+{}
 
 /// Transactions that are run on a whole graph leave a whole graph.
 pub fn serial_runs_keep_graphs_whole()
     ensures { (g : Graph) (ts : List Transaction) → IsWhole g → IsWhole (serial g ts) }
-{
-}
+{}
 
 /// Graphs that are seen in words from one address have one canon, whatever names their objects bear.
 pub fn one_canon_is_seen()
     ensures { (name other : ℕ → Id) (words : List ℕ) (start : ℕ) (g h : Graph) → IsSeenAs name words start g → IsSeenAs other words start h → canon g ≡ canon h }
-{
-}
+{}
 
 /// The text of a graph that is seen in words is that of just those whole graphs, of numbers below 2^64, that are isomorphic to it.
 pub fn seen_text_tells_isomorphism()
     ensures { (name : ℕ → Id) (words : List ℕ) (start : ℕ) (g h : Graph) → IsSeenAs name words start g → length words < 2 ^ 64 → IsWhole h → IsPrintable h → (canon_text (canon g) ≡ canon_text (canon h)) ↔ AreIsomorphic g h }
-{
-}
+{}
 
 /// Where the walk of the words passes and births differ, a graph is seen.
 pub fn walked_words_show_a_graph()
     ensures { (words : List ℕ) (base used : ℕ) (walked : IsWalked words base used) → HaveOwnBirths words walked.starts → (g : Graph) × IsSeen words base g }
-{
-}
+{}

@@ -19,119 +19,99 @@ ghost use Rattle.page_redo.specs.Pages.{pages_in};
 /// Each committed transaction had the replies of the serial run, in the order of the seals, where replies are plain and locking is two-phase.
 pub fn serial_order()
     ensures { SerialOrderTheorem }
-{
-}
+{}
 
 /// In such a history each lock is taken with the call that needs it, and kept until its transaction ends.
 pub fn strict_locking()
     ensures { StrictTheorem }
-{
-}
+{}
 
 /// Events of sessions, whichever of them the disk cuts short, lead from a core that is reached to one that is reached.
 pub fn steps()
     ensures { StepsTheorem }
-{
-}
+{}
 
 /// A core answers each event but a flush as the plain heap does, where neither the spaces nor the log lack room.
 pub fn answers()
     ensures { AnswersTheorem }
-{
-}
+{}
 
 /// What the plain heap refuses a core refuses for the same reason.
 pub fn refuses_as_the_plain_heap()
     ensures { (c : Core) (event : Event) (why : Refusal) → refusal (next_number c) c.g0 (account c.history) event ≡ Some why → answer c event ≡ plain_reply c.first c.g0 (account c.history) event }
-{
-}
+{}
 
 /// What the plain heap does not refuse a core refuses for want of room alone.
 pub fn refuses_for_room_alone()
     ensures { (c : Core) (event : Event) → refusal (next_number c) c.g0 (account c.history) event ≡ None → core_refusal c event ≡ first_of_two (words_refusal c event) (log_refusal c event) }
-{
-}
+{}
 
 /// A call that is answered `busy T` is hindered, and T is the least number in its way.
 pub fn busy_names_the_least()
     ensures { (c : Core) (event : Event) (holder : ℕ) → AreInSessions (account c.history) → core_refusal c event ≡ Some (Busy holder) → GivesWay c.g0 (account c.history) event holder }
-{
-}
+{}
 
 /// A call that is not refused for what it asks, and is hindered, is answered `busy` with the least number in its way.
 pub fn least_is_answered_busy()
     ensures { (c : Core) (event : Event) (holder : ℕ) → AreInSessions (account c.history) → (account c.history).failed ≡ None → event_refusal (next_number c) c.g0 (account c.history) event ≡ None → GivesWay c.g0 (account c.history) event holder → core_refusal c event ≡ Some (Busy holder) }
-{
-}
+{}
 
 /// Where a call is hindered there is a least number in its way.
 pub fn some_number_is_least()
     ensures { (g0 : Graph) (a : Account) (event : Event) → AreInSessions a → IsHindered g0 a event → (holder : ℕ) × GivesWay g0 a event holder }
-{
-}
+{}
 
 /// Each committed transaction had, for its calls that were not refused, the replies of the serial run.
 pub fn replies()
     ensures { RepliesTheorem }
-{
-}
+{}
 
 /// A crash leaves a commit prefix, and in it all that was acknowledged or forced.
 pub fn crash()
     ensures { CrashTheorem }
-{
-}
+{}
 
 /// A heap that is opened on any shaped log is a core that is reached.
 pub fn opening()
     ensures { OpeningTheorem }
-{
-}
+{}
 
 /// A heap that is opened on a commit prefix of a core continues from it.
 pub fn again()
     ensures { AgainTheorem }
-{
-}
+{}
 
 /// The events that end a run are granted while the disk does what it is asked.
 pub fn ending_is_granted()
     ensures { (c : Core) → IsReached c → IsUnfailed c → AreGranted c (ending c) }
-{
-}
+{}
 
 /// After them no session has a transaction and no record is pending.
 pub fn ending_ends()
     ensures { (c : Core) → IsReached c → IsUnfailed c → HasEnded (after_events c (ending c)) }
-{
-}
+{}
 
 /// A flush of a page that is there is granted.
 pub fn flush_is_granted()
     ensures { (c : Core) (p : ℕ) → IsValid c → p < pages_in c.pages → core_refusal c (Flush p) ≡ None }
-{
-}
+{}
 
 /// A flush of any other page is refused.
 pub fn flush_is_refused()
     ensures { (c : Core) (p : ℕ) → IsValid c → pages_in c.pages ≤ p → core_refusal c (Flush p) ≡ Some NoSuchPage }
-{
-}
+{}
 
 /// A flush of a page that is there makes just these writes and syncs.
 pub fn flush_calls()
     ensures { (c : Core) (p : ℕ) → IsValid c → p < pages_in c.pages → calls c (Flush p) ≡ flush_calls c p }
-{
-}
+{}
 
 /// No event but a force and a flush that are granted makes a write or sync.
 pub fn calls_are_asked_for()
     ensures { (c : Core) (event : Event) → 0 < calls c event → AsksDisk event × (core_refusal c event ≡ None) }
-{
-}
+{}
 
 /// n events make at most 10 * n writes and syncs.
 pub fn calls_are_few()
     ensures { (c : Core) (events : List Event) → total_calls c events ≤ 10 * length events }
-{
-}
+{}

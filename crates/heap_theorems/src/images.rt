@@ -5,13 +5,14 @@ ghost use Rattle.graph_model.specs.Graph.{Graph};
 ghost use Rattle.graph_words.specs.Places.{Places};
 ghost use Rattle.heap_model.specs.Core.{Core};
 ghost use Rattle.heap_model.specs.CoreCrash.{StandsForFirst};
-ghost use Rattle.heap_model.specs.Image.{IsShaped, IsShapedLog};
+ghost use Rattle.heap_model.specs.Image.{IsShaped, IsShapedLog, StandsFor};
 ghost use Rattle.heap_model.specs.Opening.{IsFound, IsLeftByOpening};
 ghost use Rattle.heap_model.specs.Theorems.{SayingTheorem, OneMeaningTheorem};
 ghost use Rattle.heap_recovery.specs.Faults.{IsFaultAt, IsNoHeap};
 ghost use Rattle.heap_recovery.specs.declared.at.At.{At};
 ghost use Rattle.image_plan.specs.Super.{IsSuper, superblock};
 ghost use Rattle.image_plan.specs.declared.superblock.Super.{Super};
+ghost use Rattle.log_machine.specs.Machine.{words};
 ghost use Rattle.log_records.specs.Record.{IsRecord, spellings};
 ghost use Rattle.log_records.specs.declared.Record.{Record};
 ghost use Rattle.page_redo.specs.Pages.{Pages};
@@ -21,77 +22,74 @@ ghost use Rattle.page_redo.specs.Redo.{redone};
 /// A superblock spells the numbers of one heap.
 pub fn one_superblock()
     ensures { (a b : Super) → IsSuper a → IsSuper b → superblock a ≡ superblock b → a ≡ b }
-{
-}
+{}
 
 /// Bytes spell one list of records.
 pub fn one_list_of_records()
     ensures { (first second : List Record) → AllByRecursion IsRecord first → AllByRecursion IsRecord second → spellings first ≡ spellings second → first ≡ second }
-{
-}
+{}
 
 /// The bytes of a log hold one list of batches.
 pub fn one_list_of_batches()
     ensures { (log : List ℕ) (short : length log < 2 ^ 32) → (first second : List (List Record)) → AllByRecursion IsRecord (records_of first) → AllByRecursion IsRecord (records_of second) → HoldsBatches log first → HoldsBatches log second → first ≡ second }
-{
-}
+{}
 
 /// The bytes of a log break at one offset.
 pub fn one_broken_batch()
     ensures { (log : List ℕ) (short : length log < 2 ^ 32) → (first second : ℕ) → BreaksAt log first → BreaksAt log second → first ≡ second }
-{
-}
+{}
 
 /// The bytes of a log never both hold batches and break.
 pub fn log_holds_or_breaks()
     ensures { (log : List ℕ) (short : length log < 2 ^ 32) → (batches : List (List Record)) (offset : ℕ) → AllByRecursion IsRecord (records_of batches) → HoldsBatches log batches → ¬ BreaksAt log offset }
-{
-}
+{}
 
 /// An image has one fault at most.
 pub fn one_fault()
     ensures { (image : List ℕ) (at other : At) → IsFaultAt at image → IsFaultAt other image → at ≡ other }
-{
-}
+{}
 
 /// An image that is no heap has no fault.
 pub fn no_fault_without_a_heap()
     ensures { (at : At) (image : List ℕ) → IsNoHeap image → IsFaultAt at image → ⊥ }
-{
-}
+{}
 
 /// A shaped image has no fault.
 pub fn no_fault_in_a_shaped_image()
     ensures { (s : Super) (batches : List (List Record)) (stored : Pages) (image : List ℕ) (at : At) → IsShaped s batches stored image → IsFaultAt at image → ⊥ }
-{
-}
+{}
+
+/// Redo of a log on stored pages, each of which holds as many of its records as its LSN says, leaves the words of the whole log.
+pub fn redo_makes_pages_present()
+    ensures { (pages : ℕ) (records : List Record) (stored : Pages) → EachHoldsPrefix pages records stored → (redone stored records).words ≡ words pages records }
+{}
 
 /// Redo of a log on stored pages, repeated, changes nothing.
 pub fn redo_repeats_without_effect()
     ensures { (pages : ℕ) (records : List Record) (stored : Pages) → EachHoldsPrefix pages records stored → redone (redone stored records) records ≡ redone stored records }
-{
-}
+{}
 
 /// In a legal log that is redone on its pages a graph is found, with the canon of each that the log shows.
 pub fn legal_log_shows_its_graph()
     ensures { SayingTheorem }
-{
-}
+{}
 
 /// In a shaped log that is redone on its pages a graph is found, under names by address.
 pub fn shaped_log_shows_a_graph()
     ensures { (s : Super) (batches : List (List Record)) (stored : Pages) (shaped : IsShapedLog s batches stored) → (places : Places) × (g : Graph) × IsFound s batches stored shaped false places g }
-{
-}
+{}
 
 /// An image stands for one graph, up to renaming objects, and for one number of commits.
 pub fn one_meaning()
     ensures { OneMeaningTheorem }
-{
-}
+{}
+
+/// What an opening leaves, at any moment of it, stands for the same graph and number of commits as the image that it opened.
+pub fn openings_keep_the_meaning()
+    ensures { (g : Graph) (k : ℕ) (image : List ℕ) (stands : StandsFor g k image) (new : List ℕ) → IsLeftByOpening stands.super stands.batches stands.stored new → StandsFor g k new }
+{}
 
 /// What an opening leaves, at any moment of it, stands for the same commit prefix as the image that it opened.
 pub fn rolled_back_images_mean_the_same()
     ensures { (c : Core) (k : ℕ) (image : List ℕ) (first : StandsForFirst c k image) (new : List ℕ) → IsLeftByOpening first.stands.super first.stands.batches first.stands.stored new → StandsForFirst c k new }
-{
-}
+{}

@@ -9,5 +9,4 @@ ghost use Rattle.script_text.specs.declared.line.Line.TheVariants.{One};
 /// A printed event is a line of the grammar, and is read as that event.
 pub fn printed_events_are_read()
     ensures { (event : Event) → IsOfSession event → AreSpellable (numbers_of event) → read_text (event_text event) ≡ Some (One event) }
-{
-}
+{}
