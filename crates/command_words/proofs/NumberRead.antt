@@ -9,7 +9,7 @@ use Rattle.clap.specs.Walk.{Text, rows_of}
 use Rattle.clap.specs.declared.parser.matches.ArgMatches.{ArgMatches}
 use Rattle.clap.proofs.WalkLemmas.{both, one_text-rows}
 use Rattle.command_words.specs.Command.{given_in, given_of, number_in, number_of}
-use Rattle.command_words.specs.NumberLaws.{digits_from, digits_pass, is_number}
+use Rattle.command_words.proofs.NumberLaws.{digits_from, digits_pass, is_number}
 
 -- the number that `parse` gives is that of the text, if it is one
 abbrev MatchesNumber : {E : Type 0} → ℕ → Text → Result ℕ E → Type 0

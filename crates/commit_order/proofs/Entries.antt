@@ -6,7 +6,8 @@ use Rattle.graph_model.specs.declared.reply.Refusal.{Refusal}
 use Rattle.graph_model.specs.declared.reply.Reply.{Reply}
 use Rattle.graph_model.specs.declared.reply.Reply.TheVariants.{Begun, Sealed, Aborted, Durable, Flushed, Clean, Refused}
 use Rattle.graph_model.specs.History.{Account, account, account_after, answered, begins, makes_call, session_of}
-use Rattle.graph_model.specs.HistoryLaws.{IsCallReply, account-append, account_after-call}
+use Rattle.graph_model.specs.Replies.{IsCallReply}
+use Rattle.graph_model.proofs.Runs.History.{account-append, account_after-call}
 use Rattle.commit_order.specs.declared.reading.Reading.{Reading}
 use Rattle.commit_order.specs.Told.{TellsOf, Keeps}
 

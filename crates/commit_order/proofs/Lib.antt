@@ -1,1 +1,8 @@
+pub mod CallLaws
+pub mod CommitLaws
 pub mod Entries
+pub mod HoldsLaws
+pub mod LockingLaws
+pub mod OrderLaws
+pub mod PlaceLaws
+pub mod StrictLaws

@@ -1,11 +1,4 @@
-pub mod CallLaws
-pub mod CommitLaws
 pub mod Heard
-pub mod HoldsLaws
-pub mod LockingLaws
-pub mod OrderLaws
-pub mod PlaceLaws
 pub mod Recorded
 pub mod SerialOrder
-pub mod StrictLaws
 pub mod Told

@@ -11,7 +11,7 @@ use Rattle.graph_model.specs.Graph.{Graph}
 use Rattle.graph_model.specs.ClosedGraph.{IsClosed, IsUnused}
 use Rattle.graph_model.specs.Transaction.{Transaction, call, replies, serial, serial_replies}
 use Rattle.graph_model.specs.History.{Account, account, commits, sealed, session_of}
-use Rattle.graph_model.specs.HistoryLaws.{IsCallReply}
+use Rattle.graph_model.specs.Replies.{IsCallReply}
 use Rattle.graph_model.specs.Plain.{view}
 use Rattle.commit_order.specs.Heard.{heard_in, replies_of_commits}
 use Rattle.graph_model.specs.Locking.{Mode, lock_of, Holds, IsFree}

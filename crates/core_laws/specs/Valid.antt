@@ -1,5 +1,5 @@
 -- What holds of every core that the events of sessions side by side reach from an opening.
-use Rattle.std.specs.Prelude.{◌≡◌, ◌≢◌, ◌⊎◌, ℕ, ◌+◌, ◌<◌, ◌≤◌, List, length, take, Option, None, Some}
+use Rattle.std.specs.Prelude.{◌≡◌, ◌⊎◌, ℕ, ◌+◌, ◌<◌, ◌≤◌, List, length, take, Option, None, Some}
 use Rattle.std.specs.List.{AllByRecursion, Contains}
 use Rattle.graph_model.specs.declared.id.Id.{Id}
 use Rattle.graph_model.specs.declared.reply.Entry.{Entry}
@@ -9,12 +9,11 @@ use Rattle.graph_model.specs.Transaction.{View, Transaction, serial}
 use Rattle.graph_model.specs.History.{Account, AreInSessions, account}
 use Rattle.graph_model.specs.Locking.{Exclusive, Lock, locks_of}
 use Rattle.graph_model.specs.Plain.{view, no_number}
-use Rattle.commit_order.specs.OrderLaws.{IsBeside}
 use Rattle.commit_order.specs.SerialOrder.{EachEntry, EndsWithFailure, IsTwoPhase, HasPlainReplies, numbers_begun}
 use Rattle.log_machine.specs.declared.UndoEntry.{UndoEntry}
 use Rattle.log_machine.specs.Apart.{others_taken_back}
 use Rattle.log_machine.specs.Machine.{State, undo_of, reserve}
-use Rattle.log_machine.specs.MapLaws as maps
+use Rattle.log_machine.specs.Entries as maps
 use Rattle.gated_log.specs.Log.{records_of, batches_bytes}
 use Rattle.graph_words.specs.Places.{Places, address_of}
 use Rattle.graph_words.specs.Area.{HasMade}
@@ -52,10 +51,6 @@ pub record IsActive (a : Account) (n : ℕ) : Type 0 where
   pub transaction : Transaction
   pub active : a.active session ≡ Some transaction
   pub number : transaction.number ≡ n
-
--- the transactions of two sessions have different numbers, and hold nothing in conflict
-abbrev pub AreBeside : Graph → Account → Type 0
-AreBeside g0 a = (s r : ℕ) (t u : Transaction) → s ≢ r → a.active s ≡ Some t → a.active r ≡ Some u → IsBeside (serial g0 a.sealed) t u
 
 -- A core agrees with what its history says.
 pub record Agrees (a : Account) (c : Core) : Type 0 where

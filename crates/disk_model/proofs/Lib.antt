@@ -1,7 +1,9 @@
-pub mod Images
 pub mod Blended
-pub mod Ranges
-pub mod Kept
-pub mod Change
-pub mod Moments
 pub mod Calls
+pub mod Change
+pub mod Images
+pub mod KeepsLaws
+pub mod Kept
+pub mod MomentLaws
+pub mod Moments
+pub mod Ranges

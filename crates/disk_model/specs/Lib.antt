@@ -1,10 +1,9 @@
+pub mod Answer
 pub mod Disk
-pub mod Moments
+pub mod Fuse
+pub mod Keeps
 pub mod Memory
 pub mod MemoryLaws
-pub mod Record
+pub mod Moments
 pub mod Range
-pub mod Fuse
-pub mod Answer
-pub mod Keeps
-pub mod KeepsLaws
+pub mod Record

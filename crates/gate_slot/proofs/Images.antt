@@ -3,7 +3,7 @@ use Rattle.std.proofs.Common.{◌≡◌, ◌≢◌, ℕ, ◌+◌, ◌<◌, ◌�
 use Rattle.std.proofs.lemmas.List.{get_or-take, get_or-drop}
 use Rattle.disk_model.specs.Disk.{overwrite, part, Torn}
 use Rattle.gate_slot.specs.Gate.{IsOutside, IsClosed, SameButGate, IsFilling}
-use Rattle.gate_slot.specs.Images.{torn_outside, torn_overwrite, length_overwrite, torn_byte}
+use Rattle.gate_slot.proofs.ImageLaws.{torn_outside, torn_overwrite, length_overwrite, torn_byte}
 
 -- the byte that a read of the gate gave
 pub gate_was : (gate byte : ℕ) (image into : List ℕ) → into ≡ part image gate 1 → get_or into 0 0 ≡ byte → get_or image gate 0 ≡ byte

@@ -1,7 +1,8 @@
 -- What a crash leaves at each stage of the two runs.
 use Rattle.std.proofs.Common.{◌≡◌, ℕ, ◌+◌, ◌<◌, ◌≤◌, List, length, ◌∙◌, subst, arith}
 use Rattle.disk_model.specs.Disk.{overwrite, Torn, WidensBy, Narrows, Only, Elapses}
-use Rattle.disk_model.specs.Moments.{LeavesOnly, begins, goes_on}
+use Rattle.disk_model.specs.Moments.{LeavesOnly}
+use Rattle.disk_model.proofs.MomentLaws.{begins, goes_on}
 use Rattle.gate_slot.specs.Gate.{IsOutside, IsClosedInEach, SameButGate, IsFilling}
 use Rattle.gate_slot.proofs.Images.{torn_gate, untouched, filling_none, filling_bytes, filling_gate}
 

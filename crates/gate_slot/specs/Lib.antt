@@ -1,4 +1,2 @@
 pub mod Gate
-pub mod GateLaws
-pub mod Images
 pub mod Passing

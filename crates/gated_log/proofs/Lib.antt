@@ -1,4 +1,5 @@
 mod LogBytes
 mod LogForce
+pub mod LogLaws
 mod LogPieces
 mod LogReading

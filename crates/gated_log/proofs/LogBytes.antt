@@ -6,8 +6,8 @@ use Rattle.std.proofs.lemmas.List.{append-nil, take-append-drop, take-take, take
 use Rattle.disk_model.specs.Disk.{overwrite, part}
 use Rattle.disk_model.specs.Disk.{SameOutside}
 use Rattle.gate_slot.specs.Gate.{IsOutside, IsClosed, IsFilling, filled}
-use Rattle.gate_slot.specs.GateLaws.{length_filled, filled_outside, filled_next}
-use Rattle.gate_slot.specs.Images.{length_part, part_index, same_part, overwrite_within, overwrite-append}
+use Rattle.gate_slot.proofs.GateLaws.{length_filled, filled_outside, filled_next}
+use Rattle.gate_slot.proofs.ImageLaws.{length_part, part_index, same_part, overwrite_within, overwrite-append}
 use Rattle.log_records.specs.declared.Record.{Record}
 use Rattle.gated_log.specs.Log.{framed, batch, batches_bytes, HoldsBatches}
 

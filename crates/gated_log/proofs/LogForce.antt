@@ -6,7 +6,8 @@ use Rattle.std.proofs.lemmas.List.{append-nil, take_at, drop_at, length-take-le}
 use Rattle.std.proofs.lemmas.Grind.{flat_map-append}
 use Rattle.std.specs.Int.{w32, to_le_bytes}
 use Rattle.disk_model.specs.Disk.{part, Only}
-use Rattle.disk_model.specs.Moments.{LeavesOnly, weaker}
+use Rattle.disk_model.specs.Moments.{LeavesOnly}
+use Rattle.disk_model.proofs.MomentLaws.{weaker}
 use Rattle.disk_model.specs.Disk.{SameOutside}
 use Rattle.gate_slot.specs.Gate.{IsClosed, IsClosedInEach, IsFilling, filled}
 use Rattle.log_records.specs.declared.Record.{Record}
@@ -14,7 +15,7 @@ use Rattle.log_records.specs.Record.{spellings}
 use Rattle.gated_log.specs.declared.Log.{Log}
 use Rattle.gated_log.specs.Log.{framed, batch, batches_bytes, records_of, with_batch, HoldsBatches}
 use Rattle.gated_log.specs.LogRoom.{used_bytes}
-use Rattle.gated_log.specs.LogLaws.{buffer_size-Keeps}
+use Rattle.gated_log.proofs.LogLaws.{buffer_size-Keeps}
 use Rattle.gated_log.specs.LogState.{Keeps}
 use Rattle.gated_log.proofs.LogBytes.{batches_bytes-push, closed_gate, holds_forced, holds_in_force}
 

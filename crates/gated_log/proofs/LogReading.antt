@@ -8,7 +8,7 @@ use Rattle.std.proofs.lemmas.Nat.{le_bytes_4}
 use Rattle.std.specs.List.{AllByRecursion}
 use Rattle.log_records.specs.declared.Record.{Record}
 use Rattle.log_records.specs.Record.{spelling, spellings, IsRecord}
-use Rattle.log_records.specs.RecordLaws.{some_spelling}
+use Rattle.log_records.proofs.RecordLaws.{some_spelling}
 use Rattle.gated_log.specs.declared.Log.{Log}
 use Rattle.gated_log.specs.Log.{records_of, batch, batches_bytes, HoldsBatches, HasBatch, IsBatchRead}
 use Rattle.gated_log.specs.LogState.{Keeps}

@@ -1,6 +1,5 @@
 pub mod Log
 pub mod LogCause
-pub mod LogLaws
 pub mod LogPieces
 pub mod LogRoom
 pub mod LogState

@@ -1,4 +1,5 @@
-pub mod Holders
-pub mod Kept
-pub mod RowLaws
-pub mod Texts
+pub mod Canon
+pub mod Refusals
+pub mod Runs
+pub mod Text
+pub mod Whole

@@ -35,6 +35,12 @@ session_of (Abort s) = s
 session_of Force = 0
 session_of (Flush p) = 0
 
+-- an event of a session, or of none
+abbrev pub IsOfSession : Event → Type 0
+IsOfSession Force = Unit {0}
+IsOfSession (Flush p) = Unit {0}
+IsOfSession event = IsSession (session_of event)
+
 -- What a history says so far.
 pub record Account : Type 0 where
   pub begun : ℕ  -- how many transactions began

@@ -3,7 +3,7 @@ use Rattle.std.specs.Prelude.{◌≡◌, ℕ, ◌↔◌, List, [], ◌∷◌, ma
 use Rattle.graph_model.specs.declared.id.Id.{Id}
 use Rattle.graph_model.specs.declared.val.Val.{Val}
 use Rattle.graph_model.specs.Graph.{Graph, root, fields}
-use Rattle.graph_model.specs.Canon.{Reached, with_targets, Shown, shown}
+use Rattle.graph_model.specs.Canon.{Reached, with_targets}
 
 -- the numbered ids, with those that these rows of fields refer to behind them, each where it is first met
 abbrev pub with_rows : List Id → List (List Val) → List Id
@@ -17,7 +17,3 @@ pub record IsNumbering (g : Graph) (ids : List Id) : Type 0 where
   pub exactly : (id : Id) → Contains ids id ↔ Reached g id
   pub once : (i j : ℕ) (id : Id) → slice_get ids i ≡ Some id → slice_get ids j ≡ Some id → i ≡ j
   pub breadth_first : ids ≡ with_rows (root ∷ []) (map (fields g) ids)
-
--- the rows of these objects, as those numbered show them
-abbrev pub rows_of : Graph → List Id → List Id → List (List Shown)
-rows_of g numbers ids = map (λ id. map (shown numbers) (fields g id)) ids

@@ -1,6 +1,6 @@
 //! What is asked of the heap.
 ghost use Rattle.std.specs.Prelude.{◌≡◌, Some, ◌↔◌, IsTrue};
-ghost use Rattle.graph_model.specs.History.{session_of};
+ghost use Rattle.graph_model.specs.History.{session_of, IsOfSession};
 ghost use Rattle.graph_model.specs.Text.{event_text};
 
 use std::fmt;
@@ -46,8 +46,6 @@ pub const FIRST_SESSION: u32 = 1;
 pub const LAST_SESSION: u32 = 32;
 
 impl Event {
-    ghost use Rattle.graph_model.specs.SlowHeap.{IsOfSession};
-
     /// The session of the event, and 0 for `force` and `flush`, which are of none.
     pub fn session(&self) -> u32
         ensures { result ≡ session_of self.now }

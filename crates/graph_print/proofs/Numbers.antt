@@ -12,7 +12,7 @@ use Rattle.std.proofs.lemmas.List.Folds.{list_any-append, position_or_len_push}
 use Rattle.std.proofs.lemmas.Option.{slice_get_within}
 use Rattle.std.proofs.lemmas.Map.Keys.{IsDistinct-push}
 use Rattle.std.proofs.lemmas.Map.Steps.{length-le_from_distinct_below}
-use Rattle.graph_print.specs.NumberLaws.{same_place}
+use Rattle.graph_print.proofs.NumberLaws.{same_place}
 use Rattle.graph_print.specs.Numbering.{IsNumbering}
 use Rattle.graph_print.specs.Order.{with_place, number_of}
 

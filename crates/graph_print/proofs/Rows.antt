@@ -14,11 +14,12 @@ use Rattle.graph_model.specs.Graph.{Graph}
 use Rattle.graph_model.specs.Canon.{canon}
 use Rattle.graph_model.specs.Text.{field_text, fields_text, rows_text, canon_text}
 use Rattle.object_layout.specs.Layout.{words_of, object_at, field_words, fields_at, referred, IsMet, at_start, along, IsSeenAs}
-use Rattle.object_layout.specs.LayoutLaws.{object_stand}
-use Rattle.graph_print.specs.Order.{with_place, with_places, target, targets, IsWhole, AreWhole, IsOrder, first, next, shown_word, row, rows}
-use Rattle.graph_print.specs.OrderLaws.{order_met, met_get, order_canon}
-use Rattle.graph_print.specs.NumberLaws.{places_grow, places_push, targets_numbered, row_push, rows_push, AreNumbered}
-use Rattle.graph_print.specs.TextLaws.{fields_text_push, row_text, rows_text_push}
+use Rattle.object_layout.proofs.LayoutLaws.{object_stand}
+use Rattle.graph_print.specs.Order.{with_place, with_places, target, targets, IsWhole, AreWhole, IsOrder, first, next, shown_word, row}
+use Rattle.graph_print.proofs.Rows0.{rows}
+use Rattle.graph_print.proofs.OrderLaws.{order_met, met_get, order_canon}
+use Rattle.graph_print.proofs.NumberLaws.{places_grow, places_push, targets_numbered, row_push, rows_push, AreNumbered}
+use Rattle.graph_print.proofs.TextLaws.{fields_text_push, row_text, rows_text_push}
 use Rattle.object_layout.specs.declared.read_error.ReadError.{ReadError}
 use Rattle.object_layout.specs.declared.read_error.ReadError.TheVariants as read
 use Rattle.graph_print.specs.declared.print_error.PrintError.{PrintError}

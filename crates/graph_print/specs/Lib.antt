@@ -1,9 +1,5 @@
-pub mod DamageLaws
 pub mod FromRead
-pub mod NumberLaws
 pub mod Numbering
 pub mod Order
-pub mod OrderLaws
-pub mod Printed
 pub mod PrintFailure
-pub mod TextLaws
+pub mod Printed

@@ -67,7 +67,3 @@ shown_word words places meant = shown_place places (referred words meant)
 -- the row of the fields that have these words
 abbrev pub row : List ℕ → List ℕ → List ℕ → List Shown
 row words places ws = map (λ w. shown_word words places (meaning w)) ws
-
--- a row for each of these places
-abbrev pub rows : List ℕ → List ℕ → List ℕ → List (List Shown)
-rows words places ats = map (λ at. row words places (field_words words at)) ats

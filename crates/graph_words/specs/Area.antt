@@ -21,11 +21,6 @@ abbrev pub area_words : (Id → Word) → Graph → ℕ → ℕ → List ℕ
 area_words place g t zero = []
 area_words place g t (suc n) = area_words place g t n ++ object_words place g (made_by t (suc n))
 
--- where these objects start in the area, in the order of their making
-abbrev pub area_starts : Graph → ℕ → ℕ → List ℕ
-area_starts g t zero = []
-area_starts g t (suc n) = area_starts g t n ++ area_used g t n ∷ []
-
 -- An object that a transaction made is in its graph: it has a length that a header can tell, and its values can be seen.
 pub record IsMade (places : Places) (g : Graph) (t made k : ℕ) : Type 0 where
   pub values : List Val

@@ -1,6 +1,6 @@
 -- Where the objects of a graph stand: at an address of the current space, or at an index of the area of the transaction that made them.
 use Rattle.std.proofs.Common.{zero, suc}
-use Rattle.std.specs.Prelude.{◌≡◌, ◌⊎◌, ℕ, ◌+◌, ◌-◌, ◌^◌, ◌<◌, ◌≤◌, ◌==◌, List, [], ◌∷◌, length, map, Option, None, Some, is_some, true, if◌then◌else◌}
+use Rattle.std.specs.Prelude.{◌≡◌, ◌⊎◌, ℕ, ◌+◌, ◌-◌, ◌^◌, ◌<◌, ◌≤◌, List, [], ◌∷◌, length, map, Option, None, Some, is_some, true, if◌then◌else◌}
 use Rattle.std.specs.List.{AllByRecursion}
 use Rattle.heap_words.specs.declared.Word.{Word}
 use Rattle.heap_words.specs.declared.Word.TheVariants as word
@@ -23,19 +23,6 @@ abbrev pub address_of : Places → Id → Option ℕ
 address_of [] id = None
 address_of (p ∷ ps) id = if is_same_id p.0 id then Some p.1 else address_of ps id
 
--- the id of the object that stands at an address, and the root's where none does
-abbrev pub name_at : Places → ℕ → Id
-name_at [] at = root
-name_at (p ∷ ps) at = if p.1 == at then p.0 else name_at ps at
-
--- these names are those of the objects at their addresses
-abbrev pub NamesPlaces : (ℕ → Id) → Places → Type 0
-NamesPlaces name places = (id : Id) (at : ℕ) → address_of places id ≡ Some at → name at ≡ id
-
--- the objects that start at these addresses, under these names
-abbrev pub named_places : (ℕ → Id) → List ℕ → Places
-named_places name starts = map (λ at. (name at, at)) starts
-
 -- the words that an object takes: a header, a birth and its fields
 abbrev pub size_of : Graph → Id → ℕ
 size_of g id = 2 + length (fields g id)
@@ -43,10 +30,6 @@ size_of g id = 2 + length (fields g id)
 -- the kth object that transaction t made
 abbrev pub made_by : ℕ → ℕ → Id
 made_by t k = record { t = t; k = k }
-
--- a name that tells how far an object stands from the base of the space: the root stands at the base
-abbrev pub address_name : ℕ → ℕ → Id
-address_name base at = made_by 0 (at - base)
 
 -- the root, or an object that a transaction made whose number is below the next one
 abbrev pub IsOld : ℕ → Id → Type 0

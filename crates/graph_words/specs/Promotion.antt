@@ -1,17 +1,16 @@
 -- What a seal does: the objects that become reachable get the next free words, and the fields that led to them are put right.
-use Rattle.std.specs.Prelude.{ℕ, ◌+◌, ◌==◌, List, [], ◌∷◌, ◌++◌, map, slice_index, max, Option, None, Some, if◌then◌else◌}
+use Rattle.std.specs.Prelude.{ℕ, ◌+◌, ◌==◌, List, [], ◌∷◌, ◌++◌, map, slice_index, Option, None, Some, if◌then◌else◌}
 use Rattle.std.specs.List.{flat_map}
 use Rattle.std.specs.Ordering.{nat_cmp, ordering_then}
 use Rattle.std.specs.declared.cmp.Ordering.{Ordering}
 use Rattle.std.specs.FinMap.{from_entries, keys}
-use Rattle.std.specs.FinMap as finite
 use Rattle.heap_words.specs.declared.Word.{Word}
 use Rattle.heap_words.specs.declared.Word.TheVariants.{Stable, Volatile}
 use Rattle.heap_words.specs.Word.{bits, meaning}
 use Rattle.log_records.specs.declared.Record.{Record}
 use Rattle.log_records.specs.declared.Record.TheVariants.{Base, Fix, Commit}
 use Rattle.log_machine.specs.declared.UndoEntry.{UndoEntry}
-use Rattle.log_machine.specs.Machine.{State, field_at}
+use Rattle.log_machine.specs.Machine.{field_at}
 use Rattle.object_layout.specs.Layout.{field_words, birth_at, id_at}
 use Rattle.volatile_area.specs.Area.{AreaState, length_at}
 use Rattle.stability_tracker.specs.Promotion.{promoted, need}
@@ -107,11 +106,6 @@ promotion_records area words undo address =
 -- the records of a seal
 abbrev pub seal_records : AreaState → List ℕ → List UndoEntry → ℕ → List Record
 seal_records area words undo address = promotion_records area words undo address ++ Commit area.transaction ∷ []
-
--- the state behind the seal of a transaction that promotes so many words
-abbrev pub sealed_state : State → ℕ → ℕ → State
-sealed_state s t need =
-    record { pages = s.pages; base = s.base; used = s.used + need; undo = finite.remove s.undo t; commits = s.commits + 1; next = max s.next (t + 1) }
 
 -- the places of the objects that a seal moves
 abbrev pub promoted_places : AreaState → List Move → Places

@@ -1,5 +1,5 @@
 -- A graph that stands in the used words of a space, as a transaction sees it.
-use Rattle.std.specs.Prelude.{◌≡◌, ℕ, ◌+◌, ◌<◌, ◌≤◌, List, length, map, slice_get, Any, Contains, None, Some, is_some, true}
+use Rattle.std.specs.Prelude.{◌≡◌, ℕ, ◌+◌, ◌<◌, ◌≤◌, List, length, map, slice_get, Any, None, Some, is_some, true}
 use Rattle.std.specs.List.{AllByRecursion}
 use Rattle.std.specs.FinMap.{get}
 use Rattle.heap_words.specs.declared.Word.{Word}
@@ -62,10 +62,3 @@ AreOfFields places g undo = AllByRecursion (IsOfField places g) undo
 -- each object of the graph stands in the space
 abbrev pub ArePlaced : Places → Graph → Type 0
 ArePlaced places g = (id : Id) → IsThere g id → is_some (address_of places id) ≡ true
-
--- A field of one of the objects that start at these addresses.
-pub record IsField (words : List ℕ) (starts : List ℕ) (object field : ℕ) : Type 0 where
-  pub start : Contains starts object
-  pub fields : ℕ
-  pub stands : object_at words object ≡ Some fields
-  pub within : field < fields

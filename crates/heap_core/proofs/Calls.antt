@@ -4,7 +4,8 @@ use Rattle.counts.specs.Count.{raised, counted}
 use Rattle.disk_model.specs.Disk.{passed_after}
 use Rattle.disk_model.specs.declared.disk.DiskError.{DiskError}
 use Rattle.disk_model.specs.declared.disk.DiskError.TheVariants.{Failed, Stopped}
-use Rattle.gate_slot.specs.Passing.{Passes, counted-add}
+use Rattle.gate_slot.specs.Passing.{Passes}
+use Rattle.gate_slot.proofs.PassingLaws.{counted-add}
 
 -- Of n calls all but those that are left have passed.
 pub record SoFar (n left before now : ℕ) : Type 0 where

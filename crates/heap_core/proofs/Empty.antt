@@ -6,23 +6,25 @@ use Rattle.std.proofs.lemmas.List.{take_at, drop_at, drop_more, get_or-drop, len
 use Rattle.counts.specs.Count.{counted}
 use Rattle.disk_model.specs.declared.disk.DiskError.{DiskError}
 use Rattle.disk_model.specs.Disk.{part, Only, SameOutside}
-use Rattle.disk_model.specs.Moments.{LeavesOnly, weaker, joined}
+use Rattle.disk_model.specs.Moments.{LeavesOnly}
+use Rattle.disk_model.proofs.MomentLaws.{weaker, joined}
 use Rattle.gate_slot.specs.Gate.{filled, IsClosed, SameButGate, IsFilling}
-use Rattle.gate_slot.specs.Images.{part_index}
-use Rattle.gate_slot.specs.Passing.{Passes, counted-add, joined as then_all, cut_short}
+use Rattle.gate_slot.proofs.ImageLaws.{part_index}
+use Rattle.gate_slot.specs.Passing.{Passes}
+use Rattle.gate_slot.proofs.PassingLaws.{counted-add, joined as then_all, cut_short}
 use Rattle.gated_log.specs.Log.{HoldsBatches}
 use Rattle.image_plan.specs.declared.superblock.Super.{Super}
 use Rattle.image_plan.specs.Plan.{image_size, frame_offset}
 use Rattle.image_plan.specs.Super.{IsSuper, superblock}
 use Rattle.heap_core.proofs.Calls.{then_err}
 use Rattle.heap_core.specs.Format.{AreZero, IsEmptyHeap, IsFormatting, zero_writes, format_calls}
-use Rattle.heap_model.specs.CoreLawsNew.{new_legal}
+use Rattle.heap_model.proofs.Opening.New.{new_legal}
 use Rattle.page_redo.specs.Pages.{pages_in, first_pages}
 use Rattle.page_store.specs.declared.frame.Frame.{Frame}
 use Rattle.page_store.specs.declared.frame.Frame.TheVariants.{First, Second}
 use Rattle.page_store.specs.Frame.{is_frame_open}
 use Rattle.page_store.specs.Page.{frame_of}
-use Rattle.page_cache.specs.ImageLaws.{none_stored}
+use Rattle.page_cache.proofs.ImageLaws.{none_stored}
 use Rattle.heap_model.specs.Image.{IsLegal}
 
 -- what is written over the front of an image, behind its first byte

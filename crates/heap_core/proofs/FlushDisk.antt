@@ -3,23 +3,23 @@ use Rattle.std.proofs.Common.{◌≡◌, ◌≢◌, inl, inr, ℕ, ◌<◌, ◌�
 use Rattle.std.specs.Prelude.{◌==◌, OnOk}
 use Rattle.std.proofs.lemmas.Bool.{eqb-true}
 use Rattle.std.proofs.lemmas.List.{append-nil, take_at}
-use Rattle.gate_slot.specs.Images.{same_part}
+use Rattle.gate_slot.proofs.ImageLaws.{same_part}
 use Rattle.gated_log.specs.Log.{records_of, HoldsBatches}
 use Rattle.image_plan.specs.declared.superblock.Super.{Super}
 use Rattle.image_plan.specs.Plan.{log_offset}
 use Rattle.log_records.specs.declared.Record.{Record}
 use Rattle.page_cache.specs.Stored.{stored_pages}
-use Rattle.page_cache.specs.StoredLaws.{EachHoldsPrefix-storing, flushed_stored}
+use Rattle.page_cache.proofs.StoredLaws.{EachHoldsPrefix-storing, flushed_stored}
 use Rattle.page_redo.specs.Pages.{Pages, pages_in, page_words, lsn_of}
 use Rattle.page_redo.specs.Prefix.{HoldsPrefix, EachHoldsPrefix}
-use Rattle.page_redo.specs.PrefixLaws.{redone-present, HoldsPrefix-own, HoldsPrefix-take, EachHoldsPrefix-append}
+use Rattle.page_redo.proofs.PrefixLaws.{redone-present, HoldsPrefix-own, HoldsPrefix-take, EachHoldsPrefix-append}
 use Rattle.page_redo.specs.Redo.{last_lsn, redone}
-use Rattle.page_redo.specs.RedoLaws.{lsn-redone}
+use Rattle.page_redo.proofs.RedoLaws.{lsn-redone}
 use Rattle.page_store.specs.Page.{HasPage, SamePage, SameButPage, IsStoring}
 use Rattle.heap_model.specs.Core.{Core, all_records, all_words, present_lsn, forced_if, page_stored}
 use Rattle.heap_model.specs.CoreCrash.{IsLogged, IsSuperOf, IsOnDisk}
-use Rattle.heap_model.specs.CoreLawsLogged.{all_logged, logged_forced}
-use Rattle.heap_model.specs.CoreLawsRoom.{forced-with_batch, records_of-with_batch}
+use Rattle.heap_model.proofs.Step.Logged.{all_logged, logged_forced}
+use Rattle.heap_model.proofs.Step.Room.{forced-with_batch, records_of-with_batch}
 use Rattle.heap_model.specs.Image.{Holds}
 
 -- what holds where a call came through

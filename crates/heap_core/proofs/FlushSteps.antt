@@ -11,11 +11,11 @@ use Rattle.image_plan.specs.declared.plan.Plan.{Plan}
 use Rattle.image_plan.specs.declared.superblock.Super.{Super}
 use Rattle.page_cache.specs.CacheState.{cache_pages}
 use Rattle.page_redo.specs.Pages.{pages_in}
-use Rattle.core_laws.specs.Flush.{flush_granted, flush_refused, calls-flushed}
-use Rattle.core_laws.specs.Step.{valid_after}
+use Rattle.core_laws.proofs.Step.Flush.{flush_granted, flush_refused, calls-flushed}
+use Rattle.core_laws.proofs.Step.Events.{valid_after}
 use Rattle.core_laws.specs.Valid.{RunsLocked, IsValid}
 use Rattle.heap_model.specs.Core.{Core, core_refusal, answer, with_entry, is_dirty, is_ahead, page_stored, flushed, force_calls, store_calls, calls, after_refusal, after}
-use Rattle.memory_laws.specs.Answered.{as_it_was}
+use Rattle.memory_laws.proofs.Step.Answered.{as_it_was}
 use Rattle.memory_laws.specs.CoreMemory.{IsMemory, Does}
 use Rattle.heap_core.specs.declared.history.Failure.{Failure}
 use Rattle.heap_core.specs.Refinement.{OnDisk, KnowsPages, Steps, StepsOn}

@@ -1,7 +1,10 @@
 mod Calls
+pub mod CrashLaws
 mod Empty
 mod FlushDisk
 mod FlushSteps
+mod OpenErrors
+mod Outside
 mod RefinementAnswer
 mod RefinementCut
 mod RefinementEvent
@@ -11,7 +14,5 @@ mod RefinementGraph
 pub mod RefinementLeft
 mod RefinementMemory
 mod RefinementOpen
-mod OpenErrors
-mod Outside
 mod Undamaged
 mod Zeros

@@ -2,7 +2,7 @@
 use Rattle.std.proofs.Common.{◌≡◌, inr, ℕ, ◌≤◌, Bool, true, false, List, [], ◌∷◌, length, drop, slice_index, ◌==◌, if◌then◌else◌, ◌∙◌, arith}
 use Rattle.disk_model.specs.Disk.{overwrite, SameOutside}
 use Rattle.gate_slot.specs.Gate.{closed, filled, SameButGate, IsFilling}
-use Rattle.gate_slot.specs.Images.{torn_overwrite}
+use Rattle.gate_slot.proofs.ImageLaws.{torn_overwrite}
 use Rattle.image_plan.specs.declared.superblock.Super.{Super}
 use Rattle.image_plan.specs.Plan.{image_size}
 use Rattle.image_plan.specs.Super.{superblock}

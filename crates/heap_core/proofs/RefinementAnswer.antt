@@ -10,9 +10,8 @@ use Rattle.graph_model.specs.declared.event.Event.TheVariants.{Begin, Root, New,
 use Rattle.graph_model.specs.declared.reply.Refusal.{Refusal}
 use Rattle.graph_model.specs.declared.reply.Reply.{Reply}
 use Rattle.graph_model.specs.declared.reply.Reply.TheVariants as answer
-use Rattle.graph_model.specs.History.{account}
+use Rattle.graph_model.specs.History.{account, IsOfSession}
 use Rattle.graph_model.specs.Plain.{reply_of}
-use Rattle.graph_model.specs.SlowHeap.{IsOfSession}
 use Rattle.core_laws.specs.Valid.{IsValid, RunsLocked}
 use Rattle.heap_memory.specs.Leaves.{IsAsItWas, Begins, SetsHandle, Makes, WritesHeld, Links, Gets, Seals, Aborts}
 use Rattle.heap_memory.specs.Memory.{Memory, own, root_place}
@@ -20,16 +19,16 @@ use Rattle.heap_memory.specs.Refusals.{begin_refusal, handle_refusal, new_refusa
 use Rattle.heap_memory.specs.Replies.{get_reply, same_reply, len_reply, IsGranted}
 use Rattle.heap_model.specs.Core.{Core}
 use Rattle.memory_laws.specs.CoreMemory.{IsMemory, Does}
-use Rattle.memory_laws.specs.RefusalEnds.{begin_refused, seal_refused, abort_refused}
-use Rattle.memory_laws.specs.RefusalHandles.{root_refused, drop_refused, new_refused, get_refused, same_refused, len_refused}
-use Rattle.memory_laws.specs.RefusalWrites.{put_refused, clear_refused, link_refused}
-use Rattle.memory_laws.specs.StepEnds.{begin_does, abort_does}
-use Rattle.memory_laws.specs.StepHandles.{root_does, drop_does}
-use Rattle.memory_laws.specs.StepNew.{new_does}
-use Rattle.memory_laws.specs.StepReads.{get_does}
-use Rattle.memory_laws.specs.StepSame.{same_does, len_does}
-use Rattle.memory_laws.specs.StepSeal.{seal_does}
-use Rattle.memory_laws.specs.StepWrites.{put_does, clear_does, link_does}
+use Rattle.memory_laws.proofs.Refusal.Ends.{begin_refused, seal_refused, abort_refused}
+use Rattle.memory_laws.proofs.Refusal.Handles.{root_refused, drop_refused, new_refused, get_refused, same_refused, len_refused}
+use Rattle.memory_laws.proofs.Refusal.Writes.{put_refused, clear_refused, link_refused}
+use Rattle.memory_laws.proofs.Step.Ends.{begin_does, abort_does}
+use Rattle.memory_laws.proofs.Step.Handles.{root_does, drop_does}
+use Rattle.memory_laws.proofs.Step.New.{new_does}
+use Rattle.memory_laws.proofs.Step.Reads.{get_does}
+use Rattle.memory_laws.proofs.Step.Same.{same_does, len_does}
+use Rattle.memory_laws.proofs.Step.Seal.{seal_does}
+use Rattle.memory_laws.proofs.Step.Writes.{put_does, clear_does, link_does}
 use Rattle.working_state.specs.declared.working.Working.{Working}
 
 -- where an event is refused or not, this holds

@@ -9,14 +9,14 @@ use Rattle.graph_model.specs.declared.reply.Reply.{Reply}
 use Rattle.graph_model.specs.declared.reply.Reply.TheVariants.{Refused}
 use Rattle.graph_model.specs.Transaction.{Transaction}
 use Rattle.graph_model.specs.History.{Account, account, account_after, first_failure}
-use Rattle.graph_model.specs.HistoryLaws.{account-append, entries-account}
+use Rattle.graph_model.proofs.Runs.History.{account-append, entries-account}
 use Rattle.graph_model.specs.Plain.{reply_of}
-use Rattle.graph_model.specs.PlainLaws.{account_after-refused}
+use Rattle.graph_model.proofs.Refusals.Plain.{account_after-refused}
 use Rattle.core_laws.specs.Valid.{IsValid}
 use Rattle.image_plan.specs.declared.superblock.Super.{Super}
 use Rattle.heap_model.specs.Core.{Core, granted_by, answer, with_entry, after, AsksDisk, calls}
 use Rattle.heap_model.specs.CoreCrash.{IsCommitPrefix}
-use Rattle.heap_model.specs.CoreLawsRun.{failed_refusal, failed_after, calls-asks, calls-unfailed, after_history}
+use Rattle.heap_model.proofs.Run.Calls.{failed_refusal, failed_after, calls-asks, calls-unfailed, after_history}
 use Rattle.heap_core.specs.declared.history.Failure.{Failure}
 use Rattle.heap_core.specs.HeapState.{entry_of}
 use Rattle.heap_core.specs.Refinement.{Remembers, DiskHolds, Steps, StepsOn}

@@ -6,11 +6,10 @@ use Rattle.graph_model.specs.declared.event.Event.TheVariants.{Force, Flush}
 use Rattle.graph_model.specs.declared.reply.Entry.{Entry}
 use Rattle.graph_model.specs.declared.reply.Refusal.{Refusal}
 use Rattle.graph_model.specs.declared.reply.Reply.{Reply}
-use Rattle.graph_model.specs.SlowHeap.{IsOfSession}
-use Rattle.graph_model.specs.History.{account}
-use Rattle.core_laws.specs.Events.{done_records}
-use Rattle.core_laws.specs.Sound.{sound_valid}
-use Rattle.core_laws.specs.Step.{valid_after}
+use Rattle.graph_model.specs.History.{account, IsOfSession}
+use Rattle.core_laws.proofs.Step.Forms.{done_records}
+use Rattle.core_laws.proofs.Step.Sound.{sound_valid}
+use Rattle.core_laws.proofs.Step.Events.{valid_after}
 use Rattle.core_laws.specs.Valid.{RunsLocked, IsValid, IsReached}
 use Rattle.image_plan.specs.declared.superblock.Super.{Super}
 use Rattle.log_records.specs.declared.Record.{Record}
@@ -21,14 +20,14 @@ use Rattle.page_store.specs.Gates.{open_gates}
 use Rattle.page_store.specs.StoreState.{Knows}
 use Rattle.heap_model.specs.Core.{Core, core_refusal, answer, forced, done, after_refusal, after, AsksDisk}
 use Rattle.heap_model.specs.CoreCrash.{IsLogged, IsSuperOf}
-use Rattle.heap_model.specs.CoreLawsLogged.{logged_step}
-use Rattle.heap_model.specs.CoreLawsRun.{calls-asks, step_history, same_step}
+use Rattle.heap_model.proofs.Step.Logged.{logged_step}
+use Rattle.heap_model.proofs.Run.Calls.{calls-asks, step_history, same_step}
 use Rattle.heap_model.specs.Image.{Holds}
 use Rattle.heap_core.specs.declared.history.Failure.{Failure}
 use Rattle.heap_core.specs.HeapState.{entry_of}
 use Rattle.heap_core.specs.Refinement.{OnDisk, KnowsPages, Remembers, DiskHolds, Steps, StepsOn}
 use Rattle.memory_laws.specs.CoreMemory.{Does}
-use Rattle.memory_laws.specs.Answered.{does, as_it_was}
+use Rattle.memory_laws.proofs.Step.Answered.{does, as_it_was}
 use Rattle.heap_memory.specs.Leaves.{IsAsItWas}
 use Rattle.heap_core.proofs.RefinementMemory.{is_some_own}
 use Rattle.txn_table.specs.Table.{TableState, transaction_of}

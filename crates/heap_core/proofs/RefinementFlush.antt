@@ -5,10 +5,11 @@ use Rattle.std.proofs.lemmas.Bool.{lt-ltb, eqb-true, eqb-false}
 use Rattle.counts.specs.Count.{counted}
 use Rattle.disk_model.specs.Disk.{part, Only, SameOutside}
 use Rattle.disk_model.specs.declared.disk.DiskError.{DiskError}
-use Rattle.gate_slot.specs.Passing.{Passes, joined, cut_short}
+use Rattle.gate_slot.specs.Passing.{Passes}
+use Rattle.gate_slot.proofs.PassingLaws.{joined, cut_short}
 use Rattle.gated_log.specs.declared.Log.{Log}
 use Rattle.gated_log.specs.Log.{records_of, HoldsBatches}
-use Rattle.gated_log.specs.LogLaws.{buffer_size-Keeps}
+use Rattle.gated_log.proofs.LogLaws.{buffer_size-Keeps}
 use Rattle.gated_log.specs.LogState.{buffer_size, log_place, log_room, log_forced, is_waiting, Keeps, IsSameLog}
 use Rattle.graph_model.specs.History.{Account, account}
 use Rattle.image_plan.specs.declared.plan.Plan.{Plan}
@@ -26,13 +27,13 @@ use Rattle.page_store.specs.StoreState.{store_plan, stored_entry, stored_lsn, ha
 use Rattle.heap_memory.specs.Memory.{Memory}
 use Rattle.heap_model.specs.Core.{Core, all_words, present_lsn, is_dirty, is_ahead, forced_if, page_stored, flushed, force_calls, store_calls, flush_calls}
 use Rattle.heap_model.specs.CoreCrash.{IsCommitPrefix, IsLogged, IsSuperOf}
-use Rattle.heap_model.specs.CoreLawsHeld.{held_with}
-use Rattle.heap_model.specs.CoreLawsRoom.{forced-with_batch}
+use Rattle.heap_model.proofs.Opening.Held.{held_with}
+use Rattle.heap_model.proofs.Step.Room.{forced-with_batch}
 use Rattle.heap_model.specs.Image.{Holds}
-use Rattle.core_laws.specs.Crash.{crash_law}
+use Rattle.core_laws.proofs.Crash.Image.{crash_law}
 use Rattle.core_laws.specs.Valid.{IsSound}
 use Rattle.memory_laws.specs.CoreMemory.{IsMemory}
-use Rattle.memory_laws.specs.StepDisk.{HasSameWork, forced_memory, stored_memory}
+use Rattle.memory_laws.proofs.Step.Disk.{HasSameWork, forced_memory, stored_memory}
 use Rattle.heap_core.specs.Refinement.{OnDisk, KnowsPages}
 use Rattle.heap_core.proofs.FlushDisk.{IsForced, is_forced, present_forced, super_forced, logged_if, storing_prefixes, storing_held, stored_logged}
 use Rattle.heap_core.proofs.RefinementForce.{frames_forced, gates_still}

@@ -5,7 +5,7 @@ use Rattle.disk_model.specs.Disk.{part, Only, SameOutside}
 use Rattle.disk_model.specs.declared.disk.DiskError.{DiskError}
 use Rattle.gated_log.specs.declared.Log.{Log}
 use Rattle.gated_log.specs.Log.{with_batch, HoldsBatches}
-use Rattle.gated_log.specs.LogLaws.{buffer_size-Keeps}
+use Rattle.gated_log.proofs.LogLaws.{buffer_size-Keeps}
 use Rattle.gated_log.specs.LogState.{log_place, log_room, IsBufferEmpty, Keeps, IsSameLog}
 use Rattle.graph_model.specs.declared.event.Event.TheVariants.{Force, Flush}
 use Rattle.graph_model.specs.declared.reply.Refusal.{Refusal}
@@ -13,9 +13,9 @@ use Rattle.graph_model.specs.declared.reply.Refusal.TheVariants.{DiskFault, Stop
 use Rattle.graph_model.specs.declared.reply.Reply.{Reply}
 use Rattle.graph_model.specs.declared.reply.Reply.TheVariants.{Durable, Refused}
 use Rattle.graph_model.specs.History.{account}
-use Rattle.core_laws.specs.Crash.{crash_law, prefixes_on}
-use Rattle.core_laws.specs.Run.{calls-forced, force_granted}
-use Rattle.core_laws.specs.Step.{valid_after}
+use Rattle.core_laws.proofs.Crash.Image.{crash_law, prefixes_on}
+use Rattle.core_laws.proofs.Run.Events.{calls-forced, force_granted}
+use Rattle.core_laws.proofs.Step.Events.{valid_after}
 use Rattle.core_laws.specs.Valid.{RunsLocked, IsValid, IsSound}
 use Rattle.image_plan.specs.declared.plan.Plan.{Plan}
 use Rattle.image_plan.specs.declared.superblock.Super.{Super}
@@ -23,20 +23,21 @@ use Rattle.image_plan.specs.Plan.{log_offset}
 use Rattle.log_records.specs.declared.Record.{Record}
 use Rattle.log_records.specs.Record.{spellings}
 use Rattle.page_cache.specs.CacheState.{cache_store}
-use Rattle.page_store.specs.Gates.{open_gates, gates_behind_log}
-use Rattle.page_store.specs.StoreLaws.{knows_behind_log}
+use Rattle.page_store.specs.Gates.{open_gates}
+use Rattle.page_store.proofs.GateLaws.{gates_behind_log}
+use Rattle.page_store.proofs.StoreLaws.{knows_behind_log}
 use Rattle.page_store.specs.StoreState.{store_log, Knows}
 use Rattle.heap_model.specs.Core.{Core, all_words, core_refusal, answer, with_entry, done, after_refusal, after, force_calls, calls}
 use Rattle.heap_model.specs.CoreCrash.{IsLogged, IsOnDisk, IsCommitPrefix}
-use Rattle.heap_model.specs.CoreLawsRoom.{forced-with_batch}
-use Rattle.heap_model.specs.CoreLawsHeld.{held_with}
+use Rattle.heap_model.proofs.Step.Room.{forced-with_batch}
+use Rattle.heap_model.proofs.Opening.Held.{held_with}
 use Rattle.heap_core.specs.declared.history.Failure.{Failure}
 use Rattle.heap_core.specs.Refinement.{OnDisk, KnowsPages, Steps, StepsOn}
-use Rattle.memory_laws.specs.LogLaws.{keeps_same}
+use Rattle.memory_laws.proofs.Kept.Log.{keeps_same}
 use Rattle.heap_memory.specs.Memory.{Memory}
 use Rattle.memory_laws.specs.CoreMemory.{IsMemory, Does}
-use Rattle.memory_laws.specs.Answered.{does, memory_told}
-use Rattle.memory_laws.specs.StepDisk.{HasSameWork, forced_memory}
+use Rattle.memory_laws.proofs.Step.Answered.{does, memory_told}
+use Rattle.memory_laws.proofs.Step.Disk.{HasSameWork, forced_memory}
 use Rattle.working_state.specs.declared.working.Working.{Working}
 use Rattle.working_state.specs.State.{memory}
 use Rattle.heap_core.proofs.RefinementEvent.{of_same, born_after, logged_after, knows_after, whole_steps}

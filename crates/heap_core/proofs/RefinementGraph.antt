@@ -1,17 +1,17 @@
 -- The graph in memory: the words without what active transactions wrote are those in which the sealed transactions' graph is seen.
 use Rattle.std.proofs.Common.{◌≡◌, ℕ, List, [], ◌∷◌, length, Option, Some, None, refl, sym, ap, ◌∙◌, subst}
-use Rattle.commit_order.specs.OrderLaws.{two_phase_ordered}
-use Rattle.core_laws.specs.TakenBack.{session_undo, taken_by, committed_by_session}
+use Rattle.commit_order.proofs.OrderLaws.{two_phase_ordered}
+use Rattle.core_laws.proofs.Sessions.TakenBack.{session_undo, taken_by, committed_by_session}
 use Rattle.core_laws.specs.Valid.{RunsLocked, IsValid}
 use Rattle.graph_model.specs.Graph.{Graph}
 use Rattle.graph_model.specs.History.{Account, account, sealed, sessions}
 use Rattle.graph_model.specs.Transaction.{Transaction, serial}
 use Rattle.log_machine.specs.declared.UndoEntry.{UndoEntry}
 use Rattle.log_machine.specs.Machine.{State, undo_of, taken_back, all_taken_back}
-use Rattle.log_machine.specs.WordsLaws.{length-taken_back}
+use Rattle.log_machine.proofs.WordsLaws.{length-taken_back}
 use Rattle.object_layout.specs.Layout.{IsSeenAs}
-use Rattle.graph_words.specs.Places.{name_at}
-use Rattle.graph_words.specs.StandsSeen.{stands_seen_at}
+use Rattle.graph_words.proofs.Places.Names.{name_at}
+use Rattle.graph_words.proofs.Stands.Seen.{stands_seen_at}
 use Rattle.heap_model.specs.Core.{Core, Ground, ground, all_words, undo_with}
 use Rattle.memory_laws.specs.CoreMemory.{IsMemory, kept_of}
 use Rattle.txn_table.specs.Table.{TableState, transaction_of}

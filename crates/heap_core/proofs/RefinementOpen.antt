@@ -14,20 +14,20 @@ use Rattle.graph_model.specs.History.{account, nothing_yet}
 use Rattle.heap_spaces.specs.Spaces.{SpacesState, IsSpaces}
 use Rattle.image_plan.specs.declared.superblock.Super.{Super}
 use Rattle.log_records.specs.declared.Record.{Record}
-use Rattle.log_machine.specs.AbortLaws.{settled}
+use Rattle.log_machine.proofs.AbortLaws.{settled}
 use Rattle.log_machine.specs.Machine.{start, words_in}
-use Rattle.log_machine.specs.StateLaws.{leads_after_all, room_after_all}
+use Rattle.log_machine.proofs.StateLaws.{leads_after_all, room_after_all}
 use Rattle.page_redo.specs.Pages.{Pages, pages_in, lsn_of}
-use Rattle.page_redo.specs.PrefixLaws.{redone-words}
+use Rattle.page_redo.proofs.PrefixLaws.{redone-words}
 use Rattle.page_redo.specs.Redo.{EachLacks, last_lsn}
-use Rattle.page_redo.specs.RedoLaws.{EachLacks-redone, lsns-redo_all, lsn-redo_all}
+use Rattle.page_redo.proofs.RedoLaws.{EachLacks-redone, lsns-redo_all, lsn-redo_all}
 use Rattle.page_cache.specs.CacheState.{cached, cache_store}
 use Rattle.page_store.specs.declared.store.PageStore.{PageStore}
 use Rattle.page_store.specs.Gates.{open_gates}
 use Rattle.page_store.specs.StoreState.{store_plan, stored_lsn, has_failed, Knows}
 use Rattle.graph_words.specs.Places.{Places}
 use Rattle.heap_model.specs.CoreCrash.{IsLogged}
-use Rattle.heap_model.specs.CoreLawsOpening.{next_is, rolled_reached, redone_words-rolled_back, length-rolled_words, rolled_behind, rolled_prefixes}
+use Rattle.heap_model.proofs.Opening.Rolled.{next_is, rolled_reached, redone_words-rolled_back, length-rolled_words, rolled_behind, rolled_prefixes}
 use Rattle.heap_model.specs.Core.{state_behind}
 use Rattle.heap_model.specs.Image.{IsShapedLog, IsLegalLog, Holds}
 use Rattle.heap_model.specs.Opening.{rolled_back, rolled_words, opened, used_in}

@@ -12,7 +12,7 @@ use Rattle.heap_words.specs.declared.Word.TheVariants as word
 use Rattle.heap_words.specs.Word.{meaning}
 use Rattle.object_layout.specs.Layout.{field_words, stand, as_ref, value, IsSeenAs}
 use Rattle.graph_print.specs.Order.{IsWhole, AreWhole, IsDamage, no_root, no_object}
-use Rattle.graph_print.specs.OrderLaws.{met_get, order_met}
+use Rattle.graph_print.proofs.OrderLaws.{met_get, order_met}
 
 some_of : {A B : Type 0} (f : A → Option B) (o : Option A) (v : B) → option_and_then f o ≡ Some v → IsSome o
 some_of f None v e = cc e

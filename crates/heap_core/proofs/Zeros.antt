@@ -3,7 +3,7 @@ use Rattle.std.proofs.Common.{◌≡◌, inl, inr, ℕ, ◌+◌, ◌-◌, ◌<�
 use Rattle.std.proofs.lemmas.Bool.{cases_lt}
 use Rattle.std.proofs.lemmas.List.{length-replicate, get_or-replicate, get_or_past}
 use Rattle.disk_model.specs.Disk.{overwrite, Torn, WidensBy, SameOutside}
-use Rattle.gate_slot.specs.Images.{torn_outside, torn_overwrite, overwrite_inside}
+use Rattle.gate_slot.proofs.ImageLaws.{torn_outside, torn_overwrite, overwrite_inside}
 use Rattle.heap_core.specs.Format.{AreZero, zero_writes}
 
 -- what was not touched at all

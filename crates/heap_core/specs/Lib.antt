@@ -1,5 +1,4 @@
 pub mod Causes
-pub mod CrashLaws
 pub mod Format
 pub mod GivenBack
 pub mod HeapState

@@ -3,16 +3,6 @@ use Rattle.std.specs.Prelude.{◌≡◌, ℕ, ◌+◌, ◌≤◌, ◌<◌, List,
 use Rattle.graph_model.specs.declared.event.Event.{Event}
 use Rattle.heap_model.specs.Core.{Core, after, calls}
 
--- What each step keeps of a core: what it was opened with.
-pub record SameOpening (c d : Core) : Type 0 where
-  pub pages : d.pages ≡ c.pages
-  pub room : d.room ≡ c.room
-  pub lowest : d.lowest ≡ c.lowest
-  pub first : d.first ≡ c.first
-  pub g0 : d.g0 ≡ c.g0
-  pub born : d.born ≡ c.born
-  pub before : d.before ≡ c.before
-
 -- the state after these events
 abbrev pub after_events : Core → List Event → Core
 after_events c [] = c

@@ -84,7 +84,3 @@ pub record StandsFor (g : Graph) (k : ℕ) (image : List ℕ) : Type 0 where
   pub stored : Pages
   pub says : Says g k super batches stored
   pub held : Holds super batches stored image
-
--- a legal image is shaped
-abbrev pub shaped_image : {s : Super} {batches : List (List Record)} {stored : Pages} {image : List ℕ} → IsLegal s batches stored image → IsShaped s batches stored image
-shaped_image legal = record { log = legal.log.shaped; held = legal.held }

@@ -6,13 +6,14 @@ use Rattle.std.proofs.lemmas.Bool.{lt-ltb}
 use Rattle.std.proofs.lemmas.Bool.Decides.{nat_tests}
 use Rattle.disk_model.specs.declared.disk.DiskError.{DiskError}
 use Rattle.disk_model.specs.Disk.{part, Only, Narrows, SameOutside}
-use Rattle.disk_model.specs.Moments.{LeavesOnly, joined, weaker}
+use Rattle.disk_model.specs.Moments.{LeavesOnly}
+use Rattle.disk_model.proofs.MomentLaws.{joined, weaker}
 use Rattle.gate_slot.specs.Passing.{Passes}
 use Rattle.gated_log.specs.declared.Log.{Log}
 use Rattle.gated_log.specs.declared.LogError.{LogError}
 use Rattle.gated_log.specs.declared.LogError.TheVariants as logging
 use Rattle.gated_log.specs.Log.{records_of, with_batch, HoldsBatches, batches_bytes}
-use Rattle.gated_log.specs.LogLaws.{buffer_size-Keeps}
+use Rattle.gated_log.proofs.LogLaws.{buffer_size-Keeps}
 use Rattle.gated_log.specs.LogRoom.{used_bytes}
 use Rattle.gated_log.specs.LogState.{log_place, log_room, log_tail, buffer_size, log_used, log_used_with, log_count, is_waiting, IsBufferEmpty, IsSameLog, Keeps}
 use Rattle.image_plan.specs.declared.plan.Plan.{Plan}
@@ -20,25 +21,25 @@ use Rattle.image_plan.specs.declared.superblock.Super.{Super}
 use Rattle.image_plan.specs.Plan.{log_offset}
 use Rattle.log_records.specs.declared.Record.{Record}
 use Rattle.log_records.specs.Record.{spelling, spellings}
-use Rattle.log_records.specs.RecordLaws.{some_spelling}
+use Rattle.log_records.proofs.RecordLaws.{some_spelling}
 use Rattle.log_machine.specs.declared.replaying.ReplayError.{ReplayError}
 use Rattle.log_machine.specs.declared.replaying.ReplayError.TheVariants as replaying
 use Rattle.log_machine.specs.Replay.{IsFirstUnshaped}
 use Rattle.log_machine.specs.Machine.{State, Loser, after, after_all, losing, losing_in, words_in, all_taken_back, each_taken_back, rollback, abort_each, reserve}
-use Rattle.log_machine.specs.StateLaws.{commits-start}
-use Rattle.log_machine.specs.AbortLaws.{rollback_fits}
+use Rattle.log_machine.proofs.StateLaws.{commits-start}
+use Rattle.log_machine.proofs.AbortLaws.{rollback_fits}
 use Rattle.page_redo.specs.Pages.{Pages}
 use Rattle.page_redo.specs.Redo.{EachLacks, redo_all, redone}
-use Rattle.page_redo.specs.RedoLaws.{redo_all-append, EachLacks-redone, length-redone}
+use Rattle.page_redo.proofs.RedoLaws.{redo_all-append, EachLacks-redone, length-redone}
 use Rattle.page_store.specs.declared.store.PageStore.{PageStore}
 use Rattle.page_store.specs.StoreState.{store_plan, store_log, stored_lsn, has_failed, Knows}
-use Rattle.page_store.specs.StoreLaws.{knows_behind_log}
+use Rattle.page_store.proofs.StoreLaws.{knows_behind_log}
 use Rattle.page_cache.specs.declared.cache.PageCache.{PageCache}
 use Rattle.page_cache.specs.CacheState.{cached, cache_store}
 use Rattle.object_layout.specs.Walk.{IsWalked, IsWalkFault}
-use Rattle.object_layout.specs.WalkLaws.{walked_fault}
-use Rattle.heap_model.specs.CoreLawsRoom.{records_of-with_batch}
-use Rattle.heap_model.specs.CoreLawsHeld.{held_with}
+use Rattle.object_layout.proofs.WalkLaws.{walked_fault}
+use Rattle.heap_model.proofs.Step.Room.{records_of-with_batch}
+use Rattle.heap_model.proofs.Opening.Held.{held_with}
 use Rattle.heap_model.specs.Image.{redone_words, words_of, IsShapedLog, Holds}
 use Rattle.heap_model.specs.Core.{force_calls}
 use Rattle.heap_model.specs.Opening.{IsLeftByOpening, opening_calls, rollback_in, rollback_of, rolled_back, used_in, next_in}

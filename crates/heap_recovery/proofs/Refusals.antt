@@ -3,8 +3,9 @@ use Rattle.std.proofs.Common.{inl, inr, ◌≡◌, ◌≢◌, ◌⊎◌, ⊎_eli
 use Rattle.std.specs.Prelude.{IfOk, IfErr, IsOk, IsErrAnd}
 use Rattle.std.specs.List.{AllByRecursion}
 use Rattle.disk_model.specs.Disk.{part, Only, Narrows, SameOutside}
-use Rattle.disk_model.specs.Moments.{LeavesOnly, joined, weaker}
-use Rattle.gate_slot.specs.Images.{same_part}
+use Rattle.disk_model.specs.Moments.{LeavesOnly}
+use Rattle.disk_model.proofs.MomentLaws.{joined, weaker}
+use Rattle.gate_slot.proofs.ImageLaws.{same_part}
 use Rattle.gated_log.specs.declared.Log.{Log}
 use Rattle.gated_log.specs.declared.LogError.{LogError}
 use Rattle.gated_log.specs.declared.LogError.TheVariants as logging
@@ -22,7 +23,7 @@ use Rattle.object_layout.specs.Walk.{IsWalked, IsWalkFault}
 use Rattle.page_redo.specs.Pages.{Pages}
 use Rattle.page_redo.specs.Redo.{EachLacks}
 use Rattle.page_cache.specs.CacheState.{IsFirstPast}
-use Rattle.page_cache.specs.ImageLaws.{stored_behind_log}
+use Rattle.page_cache.proofs.ImageLaws.{stored_behind_log}
 use Rattle.page_cache.specs.CacheState.{cached}
 use Rattle.heap_model.specs.Image.{Holds, IsShaped}
 use Rattle.heap_model.specs.Opening.{rolled_back}
@@ -33,7 +34,7 @@ use Rattle.heap_recovery.specs.declared.error.RecoverError.TheVariants.{NoMemory
 use Rattle.heap_recovery.specs.declared.reading.Reading.{Reading}
 use Rattle.heap_recovery.specs.declared.recovery.Recovered.{Recovered}
 use Rattle.heap_recovery.specs.Faults.{stored_in, HasSuper, IsNoHeap, HoldsLog, IsReplayed, HasRoom, IsReadable, IsFaultAt, IsToldOf, IsToldOfPages, IsErrorOrOutside, ComesBeforeWrites, IsLogLeft}
-use Rattle.heap_recovery.specs.FaultLaws.{one_numbers, one_batches, shaped_log, shaped_whole, told_not_heap, told_damaged, left_fault, rolled_spelled}
+use Rattle.heap_recovery.proofs.FaultLaws.{one_numbers, one_batches, shaped_log, shaped_whole, told_not_heap, told_damaged, left_fault, rolled_spelled}
 use Rattle.heap_recovery.specs.Recovered.{IsRead, IsRecovered, IsFromOutside, log_error, replay_error}
 use Rattle.heap_recovery.proofs.Opening.{committed, only_still, in_log, held_there, outside_log, rolled_held, placed_there, read_shaped}
 

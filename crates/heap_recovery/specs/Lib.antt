@@ -1,5 +1,4 @@
 pub mod At
 pub mod Causes
-pub mod FaultLaws
 pub mod Faults
 pub mod Recovered

@@ -1,19 +1,9 @@
-//! The stable heap as a program: it makes a heap in a file, plays a script of transactions on it, answers each event, and prints
-//! the graph that is reached from the root.
+//! The stable heap as a program: `heap_program::run` on the words of the command line, the standard streams and the file of the heap.
 #![tactic(auto)]
-
-mod again;
-mod output;
-mod play;
-mod playing;
-mod printing;
-mod run;
-mod status;
 
 use disk_file::FileDisk;
 use heap_io::{StdSink, StdSource};
-pub use run::run;
-pub use status::Status;
+use heap_program::{Status, run};
 use std::alloc::AllocError;
 use std::env::{self, Env};
 use std::io;
@@ -51,14 +41,3 @@ fn main(rt: HostRuntime) -> ExitCode {
     }
     ExitCode::from(status.code())
 }
-
-#[cfg(test)]
-mod flush_tests;
-#[cfg(test)]
-mod kept_tests;
-#[cfg(test)]
-mod status_tests;
-#[cfg(test)]
-mod stop_tests;
-#[cfg(test)]
-mod tests;

@@ -1,5 +1,5 @@
 -- What stands in front of an object's fields: a header, and the word of the object's birth.
-use Rattle.std.specs.Prelude.{ℕ, ◌+◌, ◌*◌, ◌/◌, ◌%◌, ◌^◌, ◌<◌, ◌==◌, nat_lt, Option, None, Some, if◌then◌else◌}
+use Rattle.std.specs.Prelude.{ℕ, ◌+◌, ◌*◌, ◌/◌, ◌%◌, ◌^◌, ◌==◌, nat_lt, Option, None, Some, if◌then◌else◌}
 use Rattle.heap_words.specs.declared.Header.{Header}
 use Rattle.heap_words.specs.declared.Header.TheVariants.{Length, Forward}
 
@@ -7,11 +7,6 @@ use Rattle.heap_words.specs.declared.Header.TheVariants.{Length, Forward}
 abbrev pub header_bits : Header → ℕ
 header_bits (Length n) = 4 * n + 1
 header_bits (Forward address) = 4 * address + 2
-
--- the bounds of a header
-abbrev pub IsHeader : Header → Type 0
-IsHeader (Length n) = n < 511
-IsHeader (Forward address) = address < 2097152
 
 -- the header that a word is, if it is one
 unfoldable pub header : ℕ → Option Header

@@ -1,4 +1,2 @@
 pub mod Header
-pub mod HeaderLaws
 pub mod Word
-pub mod WordLaws

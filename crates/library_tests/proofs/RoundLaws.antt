@@ -7,19 +7,19 @@ use Rattle.disk_model.specs.declared.disk.Disk.{Ghosts}
 use Rattle.disk_model.specs.declared.disk.DiskError.{DiskError}
 use Rattle.disk_model.specs.Disk.{HasCause}
 use Rattle.disk_model.specs.Keeps.{KeepsDisk}
-use Rattle.disk_model.specs.KeepsLaws.{rose_since, rose_until}
-use Rattle.core_laws.specs.Opened.{opened_reached}
-use Rattle.core_laws.specs.Run.{step_reached}
+use Rattle.disk_model.proofs.KeepsLaws.{rose_since, rose_until}
+use Rattle.core_laws.proofs.Opening.Opened.{opened_reached}
+use Rattle.core_laws.proofs.Run.Events.{step_reached}
 use Rattle.graph_model.specs.declared.event.Event.{Event}
 use Rattle.graph_model.specs.declared.reply.Refusal.TheVariants.{DiskFault, Stopped}
 use Rattle.graph_model.specs.declared.reply.Reply.{Reply}
 use Rattle.graph_model.specs.declared.reply.Reply.TheVariants.{Refused}
 use Rattle.graph_model.specs.Graph.{Graph}
-use Rattle.graph_model.specs.SlowHeap.{IsOfSession}
+use Rattle.graph_model.specs.History.{IsOfSession}
 use Rattle.heap_model.specs.Core.{Core, IsStep, after}
 use Rattle.heap_model.specs.CoreCrash.{IsCommitPrefix}
-use Rattle.heap_model.specs.CoreLawsCalls.{run_step, after_events-append}
-use Rattle.heap_model.specs.CoreLawsOpened.{saying_law}
+use Rattle.heap_model.proofs.Step.Calls.{run_step, after_events-append}
+use Rattle.heap_model.proofs.Opening.Opened.{saying_law}
 use Rattle.heap_model.specs.CoreRuns.{after_events}
 use Rattle.heap_model.specs.Image.{IsLegal, StandsFor}
 use Rattle.heap_model.specs.Opening.{IsFound}

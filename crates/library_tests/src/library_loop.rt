@@ -4,7 +4,7 @@ ghost use Rattle.std.specs.Prelude.{◌≡◌, ℕ, IsTrue, IfOk};
 ghost use Rattle.std.specs.List.{AllByRecursion};
 ghost use Rattle.disk_model.specs.Disk.{Only};
 ghost use Rattle.graph_model.specs.Graph.{Graph};
-ghost use Rattle.graph_model.specs.SlowHeap.{IsOfSession};
+ghost use Rattle.graph_model.specs.History.{IsOfSession};
 ghost use Rattle.heap_model.specs.Image.{StandsFor};
 ghost use Rattle.library_tests.specs.Rounds.{IsRound, Rounds};
 

@@ -10,11 +10,12 @@ use Rattle.log_records.specs.declared.Record.{Record}
 use Rattle.log_machine.specs.declared.UndoEntry.{UndoEntry}
 use Rattle.log_machine.specs.UndoEntry.{LiesInside}
 use Rattle.log_machine.specs.Machine.{State, Loser, start, undo_of, with_entries, space_words, words_in, field_at, is_number, lies_inside, is_same_write, without_newest, losing, abort_records, abort_each, rollback}
-use Rattle.log_machine.specs.ListLaws.{AllByRecursion-append, AllByRecursion-reverse}
-use Rattle.log_machine.specs.MapLaws.{EachEntry, each_empty, each_remove, get_first, remove_first}
-use Rattle.log_machine.specs.MachineLaws.{inside_told, newest_told}
+use Rattle.log_machine.proofs.ListLaws.{AllByRecursion-append, AllByRecursion-reverse}
+use Rattle.log_machine.specs.Entries.{EachEntry}
+use Rattle.log_machine.proofs.MapLaws.{each_empty, each_remove, get_first, remove_first}
+use Rattle.log_machine.proofs.MachineLaws.{inside_told, newest_told}
 use Rattle.log_machine.specs.Sound.{IsLoser, IsConsistent}
-use Rattle.log_machine.specs.StateLaws.{all_inside, inside_on, sound_with}
+use Rattle.log_machine.proofs.StateLaws.{all_inside, inside_on, sound_with}
 use Rattle.log_machine.specs.Effect.{WritesBelow, EachWritesBelow}
 
 -- the used words are words of the pages

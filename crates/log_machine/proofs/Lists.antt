@@ -9,8 +9,10 @@ use Rattle.std.specs.FinMap.{FinMap, get, insert, remove}
 use Rattle.std.specs.Global.{Vec}
 use Rattle.log_machine.specs.declared.UndoEntry.{UndoEntry}
 use Rattle.log_machine.specs.Machine.{undo_in, with_entries, undo_bytes, end_bytes}
-use Rattle.log_machine.specs.MapLaws.{sum_over, each_empty, each_insert, each_remove, insert_known, entries_empty}
-use Rattle.log_machine.specs.ReserveLaws.{bytes_for, bytes_over, bytes_split, bytes_with}
+use Rattle.log_machine.specs.Entries.{sum_over}
+use Rattle.log_machine.proofs.MapLaws.{each_empty, each_insert, each_remove, insert_known, entries_empty}
+use Rattle.log_machine.proofs.ReserveLaws.{bytes_for, bytes_split, bytes_with}
+use Rattle.log_machine.specs.Entries.{bytes_over}
 use Rattle.log_machine.specs.Sound.{NoneEmpty}
 use Rattle.log_machine.specs.Kept.{IsKept}
 use Rattle.log_machine.specs.Seen.{seen_undo}

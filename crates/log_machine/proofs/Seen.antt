@@ -12,7 +12,7 @@ use Rattle.std.specs.FinMap.{get, insert, remove, entries, keys, find, is_sorted
 use Rattle.std.specs.Global.{Vec}
 use Rattle.log_machine.specs.declared.UndoEntry.{UndoEntry}
 use Rattle.log_machine.specs.Machine.{undo_in}
-use Rattle.log_machine.specs.MapLaws.{tied, itself}
+use Rattle.log_machine.proofs.MapLaws.{tied, itself}
 use Rattle.log_machine.specs.Seen.{seen_loser, seen_undo}
 
 -- a list of writes as contracts see it

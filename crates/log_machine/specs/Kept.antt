@@ -4,7 +4,7 @@ use Rattle.std.specs.Ordering.{nat_cmp}
 use Rattle.std.specs.FinMap.{FinMap}
 use Rattle.log_machine.specs.declared.UndoEntry.{UndoEntry}
 use Rattle.log_machine.specs.Sound.{NoneEmpty}
-use Rattle.log_machine.specs.ReserveLaws.{bytes_over}
+use Rattle.log_machine.specs.Entries.{bytes_over}
 
 -- So many bytes are kept for these lists, none of which is empty.
 pub record IsKept (bytes : ℕ) (undo : FinMap nat_cmp (List UndoEntry)) : Type 0 where

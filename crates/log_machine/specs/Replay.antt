@@ -1,71 +1,9 @@
 -- How the state follows records, one after another from the first, and the first that can't follow.
-use Rattle.std.proofs.Common.{◌≡◌, ℕ, ◌+◌, ◌-◌, ◌*◌, ◌<◌, ◌≤◌, true, List, [], ◌∷◌, ◌++◌, length, get_or, take, drop, Option, None, Some, is_some, refl, sym, ◌∙◌, ap, subst, arith, take-append-drop}
-use Rattle.std.specs.Prelude.{option_and_then}
-use Rattle.std.proofs.lemmas.List.{take_more}
+use Rattle.std.proofs.Common.{◌≡◌, ℕ, ◌-◌, true, List, take, None, is_some}
 use Rattle.log_records.specs.declared.Record.{Record}
-use Rattle.log_machine.specs.Machine.{State, start, after, after_all, reserve}
-use Rattle.log_machine.specs.ListLaws.{AllByRecursion-append}
-use Rattle.log_machine.specs.MachineLaws.{after_all-append}
-use Rattle.log_machine.specs.Effect.{WritesBelow, EachWritesBelow}
-use Rattle.log_machine.specs.Sound.{IsSound}
-use Rattle.log_machine.specs.StateLaws.{sound_start, sound_after, leads_after, commits_few}
-use Rattle.log_machine.specs.ReserveLaws.{reserve-start, reserve-after}
+use Rattle.log_machine.specs.Machine.{State, after_all}
 
 -- The record with an LSN is the first that can't follow those before it.
 pub record IsFirstUnshaped (s : State) (records : List Record) (lsn : ℕ) : Type 0 where
   pub before : is_some (after_all s (take (lsn - 1) records)) ≡ true
   pub stuck : after_all s (take lsn records) ≡ None
-
--- What holds of the state behind i records.
-pub record Bounds (pages i : ℕ) (s : State) : Type 0 where
-  pub sound : IsSound s
-  pub same_pages : s.pages ≡ pages
-  pub few : s.commits ≤ i
-  pub room : reserve s ≤ 29 * i
-
--- before the first record
-pub bounds_start : (pages first : ℕ) → Bounds pages 0 (start pages first)
-bounds_start pages first =
-    let none = reserve-start pages first in
-    record { sound = sound_start pages first; same_pages = refl; few = omega arith; room = omega arith }
-
--- and with one more
-pub bounds_on : (pages i : ℕ) (r : Record) (s n : State) → Bounds pages i s → after s r ≡ Some n → Bounds pages (i + 1) n
-bounds_on pages i r s n b is =
-    let leads = leads_after s n r is in
-    let counted = commits_few s n r is in
-    let kept = reserve-after s n r b.sound is in
-    record { sound = sound_after s n r b.sound is; same_pages = leads.pages ∙ b.same_pages; few = omega (arith, b.few); room = omega (arith, b.room) }
-
--- the records up to a place, and with that one
-front : (rs : List Record) (i : ℕ) (r : Record) → i < length rs → r ≡ get_or rs i r → take (i + 1) rs ≡ take i rs ++ r ∷ []
-front rs i r lt at = take_more rs i r lt ∙ ap (λ (x : Record). take i rs ++ x ∷ []) (sym at)
-
--- the state with the record at a place
-pub state_on : (s : State) (rs : List Record) (i : ℕ) (r : Record) (m n : State) → i < length rs → r ≡ get_or rs i r → after_all s (take i rs) ≡ Some m → after m r ≡ Some n → after_all s (take (i + 1) rs) ≡ Some n
-state_on s rs i r m n lt at so_far is = ap (λ (l : List Record). after_all s l) (front rs i r lt at) ∙ after_all-append s m (take i rs) r so_far ∙ is
-
--- the records with the one at a place write below an address, where that one does
-pub below_on : (end : ℕ) (rs : List Record) (i : ℕ) (r : Record) → i < length rs → r ≡ get_or rs i r → EachWritesBelow end (take i rs) → WritesBelow end r → EachWritesBelow end (take (i + 1) rs)
-below_on end rs i r lt at so_far below = subst (EachWritesBelow end) (sym (front rs i r lt at)) (AllByRecursion-append (WritesBelow end) (take i rs) (r ∷ []) so_far (below, tt))
-
--- the record at a place is the first that can't follow, where those before it do
-pub unshaped_at : (s : State) (rs : List Record) (i : ℕ) (r : Record) (m : State) → i < length rs → r ≡ get_or rs i r → after_all s (take i rs) ≡ Some m → after m r ≡ None → IsFirstUnshaped s rs (i + 1)
-unshaped_at s rs i r m lt at so_far stuck = record {
-  before = ap (λ n. is_some (after_all s (take n rs))) (omega arith) ∙ ap is_some so_far;
-  stuck = ap (λ (l : List Record). after_all s l) (front rs i r lt at) ∙ after_all-append s m (take i rs) r so_far ∙ stuck;
-}
-
--- records behind one that can't follow
-stuck_in : (o : Option State) (rs rest : List Record) → ((n : State) → after_all n rs ≡ None → after_all n (rs ++ rest) ≡ None)
-    → option_and_then (λ n. after_all n rs) o ≡ None → option_and_then (λ n. after_all n (rs ++ rest)) o ≡ None
-stuck_in None rs rest step stuck = refl
-stuck_in (Some n) rs rest step stuck = step n stuck
-
-stuck_behind : (s : State) (rs rest : List Record) → after_all s rs ≡ None → after_all s (rs ++ rest) ≡ None
-stuck_behind s [] rest stuck = absurd (cc stuck)
-stuck_behind s (r ∷ rs) rest stuck = stuck_in (after s r) rs rest (λ n. stuck_behind n rs rest) stuck
-
--- and then the records can't all follow one another
-pub none_follow : (s : State) (rs : List Record) (lsn : ℕ) → IsFirstUnshaped s rs lsn → after_all s rs ≡ None
-none_follow s rs lsn first = ap (λ (l : List Record). after_all s l) (sym (take-append-drop lsn rs)) ∙ stuck_behind s (take lsn rs) (drop lsn rs) first.stuck

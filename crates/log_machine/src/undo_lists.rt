@@ -3,7 +3,7 @@ ghost use Rattle.std.specs.Prelude.{◌≡◌, ◌≢◌, ◌+◌, ◌<◌, ◌^
 ghost use Rattle.std.specs.FinMap as map;
 ghost use Rattle.log_machine.specs.declared.UndoEntry.{UndoEntry};
 ghost use Rattle.log_machine.specs.Machine.{undo_in, with_entries, end_bytes, abort_each};
-ghost use Rattle.log_machine.specs.ReserveLaws.{bytes_over};
+ghost use Rattle.log_machine.specs.Entries.{bytes_over};
 
 use crate::UndoEntry;
 use crate::abort::add_abort_records;

@@ -1,3 +1,4 @@
 mod Fields
+pub mod RecordLaws
 mod Spelled
 pub mod Words

@@ -7,7 +7,7 @@ use Rattle.byteorder.specs.Numbers.{little_number-reads_back}
 use Rattle.heap_words.specs.Word.{IsFieldWord}
 use Rattle.log_records.specs.declared.Record.{Record}
 use Rattle.log_records.specs.declared.Record.TheVariants.{Update, Fix, Undo}
-use Rattle.log_records.specs.RecordLaws.{field_word_small}
+use Rattle.log_records.proofs.RecordLaws.{field_word_small}
 use Rattle.log_records.specs.Record.{Begins, IsUpdate, IsPut, IsRecord}
 use Rattle.log_records.proofs.Fields.{IsBytes, IsBytes-drop, spelled_2, spelled_4, spelled_8}
 

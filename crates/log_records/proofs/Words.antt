@@ -5,7 +5,7 @@ use Rattle.heap_words.specs.Word.{IsFieldWord}
 use Rattle.heap_words.specs.declared.Header.{Header}
 use Rattle.heap_words.specs.declared.Header.TheVariants.{Length}
 use Rattle.heap_words.specs.Header.{header, header_bits}
-use Rattle.heap_words.specs.HeaderLaws.{header-header_bits, bits-header}
+use Rattle.heap_words.proofs.HeaderLaws.{header-header_bits, bits-header}
 use Rattle.std.proofs.lemmas.List.{append-nil, drop-drop, take_at, take_rest}
 use Rattle.std.proofs.lemmas.Grind.{flat_map-append}
 use Rattle.std.specs.Int.{w32, w64, to_le_bytes}
@@ -14,7 +14,7 @@ use Rattle.byteorder.specs.Numbers.{little_number-reads_back}
 use Rattle.log_records.specs.declared.Record.{Record}
 use Rattle.log_records.specs.declared.Record.TheVariants.{Base}
 use Rattle.log_records.specs.Record.{word_bytes, spelling, IsObjectWords, IsBase, IsRecord}
-use Rattle.log_records.specs.RecordLaws.{length-word_bytes, length-Base, one_words, object_small}
+use Rattle.log_records.proofs.RecordLaws.{length-word_bytes, length-Base, one_words, object_small}
 use Rattle.log_records.proofs.Fields.{IsBytes, IsBytes-drop, spelled_4, spelled_8}
 use Rattle.log_records.proofs.Spelled.{from_place}
 

@@ -11,8 +11,8 @@ use Rattle.std.proofs.lemmas.Option.{same_Some, slice_get-get_or}
 use Rattle.heap_words.specs.Word.{meaning}
 use Rattle.object_layout.specs.Layout.{object_at}
 use Rattle.object_layout.specs.Walk.{used_words, AreEndToEnd, IsInside, AreInside, AreAscending, KeepsInside, IsFilled, IsWalkFault, leads_out}
-use Rattle.object_layout.specs.WalkLaws.{field_words_take}
-use Rattle.object_layout.specs.WalkedLaws.{end_to_end_object}
+use Rattle.object_layout.proofs.WalkLaws.{field_words_take}
+use Rattle.object_layout.proofs.WalkedLaws.{end_to_end_object}
 
 -- one object more
 pub end_to_end_push : (words : List ℕ) (from : ℕ) (starts : List ℕ) (at n : ℕ) → AreEndToEnd words from starts at → object_at words at ≡ Some n

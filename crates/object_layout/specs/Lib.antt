@@ -1,14 +1,5 @@
 pub mod Layout
-pub mod LayoutLaws
-pub mod ObjectLaws
 pub mod Read
 pub mod ReadFailure
-pub mod ReadLaws
-pub mod RootLaws
-pub mod SeenLaws
-pub mod SeenPrintable
 pub mod Walk
 pub mod WalkFailure
-pub mod WalkLaws
-pub mod WalkedClosedLaws
-pub mod WalkedLaws

@@ -55,7 +55,7 @@ fn whole_length(end: u32, at: u32, header: Option<Header>) -> Option<u32>
     }
 }
 
-#[tactic(auto, using(crate::specs::LayoutLaws::stand_past))]
+#[tactic(auto, using(crate::proofs::LayoutLaws::stand_past))]
 /// Where the object stands that an address names: there, or where it was moved; none where no object stands.
 pub fn stand<W: Words>(words: &mut W, at: u32) -> Result<Option<u32>, DiskError>
     ensures stand { IsTrue W.tells → IfOk result (λ place. place ≡ standing_at (W.content words.old) at) }

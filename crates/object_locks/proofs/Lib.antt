@@ -1,3 +1,5 @@
+pub mod HolderLaws
+pub mod HoldingOrder
 pub mod Moved
 pub mod Orders
 pub mod Released

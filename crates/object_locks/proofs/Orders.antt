@@ -17,9 +17,9 @@ use Rattle.object_locks.specs.contracts.holding.HoldingOrd.TheImpl as holding_or
 use Rattle.object_locks.specs.contracts.holding.ModeOrd.TheImpl as mode_ord
 use Rattle.object_locks.specs.contracts.lock_table.OwnedOrd.TheImpl as owned_ord
 use Rattle.object_locks.specs.Holdings.{holding_cmp, mode_number}
-use Rattle.object_locks.specs.HoldingOrder.{both_tie, mode_exact}
+use Rattle.object_locks.proofs.HoldingOrder.{both_tie, mode_exact}
 use Rattle.object_locks.specs.Table.{owned_cmp, owned}
-pub use Rattle.object_locks.specs.HoldingOrder.{holding_total, holding_exact}
+pub use Rattle.object_locks.proofs.HoldingOrder.{holding_total, holding_exact}
 
 same_mode : (a b : Mode) → mode_ord.cmp-value.it a b ≡ nat_cmp (mode_number a) (mode_number b)
 same_mode Shared Shared = refl

@@ -4,10 +4,10 @@ use Rattle.log_records.specs.declared.Record.{Record}
 use Rattle.disk_model.specs.declared.disk.DiskError.{DiskError}
 use Rattle.page_redo.specs.Pages.{Pages, pages_in, page_words, lsn_of}
 use Rattle.page_redo.specs.Prefix.{HoldsPrefix, EachHoldsPrefix, IsPresent}
-use Rattle.page_redo.specs.PrefixLaws.{HoldsPrefix-take}
+use Rattle.page_redo.proofs.PrefixLaws.{HoldsPrefix-take}
 use Rattle.page_store.specs.Page.{HasPage, SamePage, SameButPage, IsStoring}
 use Rattle.page_cache.specs.Stored.{stored_pages}
-use Rattle.page_cache.specs.StoredLaws.{EachHoldsPrefix-storing}
+use Rattle.page_cache.proofs.StoredLaws.{EachHoldsPrefix-storing}
 
 module _ (pages log_bytes forced : ℕ) (all : List Record) (at : Pages) (is : IsPresent pages all at) (p : ℕ) (lt : p < pages_in pages) (logged : lsn_of at p ≤ forced) where
   -- pages that may stand beside the records that are forced

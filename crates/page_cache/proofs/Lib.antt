@@ -1,3 +1,5 @@
-pub mod Putting
-pub mod Opening
 pub mod Flushing
+pub mod ImageLaws
+pub mod Opening
+pub mod Putting
+pub mod StoredLaws

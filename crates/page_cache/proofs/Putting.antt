@@ -6,7 +6,7 @@ use Rattle.std.proofs.lemmas.List.Elements.{filter-append}
 use Rattle.std.proofs.lemmas.List.FromFn.{map-range_with_len_more}
 use Rattle.std.proofs.lemmas.List.Sums.{fold-append}
 use Rattle.log_machine.specs.Machine.{put_all}
-use Rattle.log_machine.specs.WordsFrom.{from_more, below_at}
+use Rattle.log_machine.proofs.WordsFrom.{from_more, below_at}
 use Rattle.page_redo.specs.Pages.{page_of}
 use Rattle.page_redo.specs.Redo.{raised_to}
 

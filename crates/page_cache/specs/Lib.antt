@@ -1,4 +1,2 @@
 pub mod CacheState
 pub mod Stored
-pub mod StoredLaws
-pub mod ImageLaws

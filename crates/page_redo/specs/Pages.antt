@@ -1,5 +1,5 @@
 -- Pages of words, each with an LSN, and which of them a record touches.
-use Rattle.std.specs.Prelude.{ℕ, ◌+◌, ◌*◌, ◌/◌, ◌==◌, Bool, List, ◌++◌, map, take, drop, replicate, slice_index, slice_set}
+use Rattle.std.specs.Prelude.{ℕ, ◌*◌, ◌/◌, ◌==◌, Bool, List, map, take, drop, replicate, slice_index}
 use Rattle.std.specs.List.{list_any}
 use Rattle.log_records.specs.declared.Record.{Record}
 use Rattle.log_machine.specs.Machine.{effect, first_contents}
@@ -28,10 +28,6 @@ lsn_of at p = slice_index at.lsns p
 -- pages that were never stored: the first contents, and no record's effect
 abbrev pub first_pages : ℕ → Pages
 first_pages pages = record { words = first_contents pages; lsns = replicate (pages_in pages) 0 }
-
--- the pages when these are the words of one of them, and this is its LSN
-abbrev pub with_page : Pages → ℕ → ℕ → List ℕ → Pages
-with_page at p lsn page = record { words = take (64 * p) at.words ++ page ++ drop (64 * p + 64) at.words; lsns = slice_set at.lsns p lsn }
 
 -- the addresses that a record writes
 abbrev pub addresses : Record → List ℕ

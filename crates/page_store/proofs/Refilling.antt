@@ -3,12 +3,14 @@ use Rattle.std.proofs.Common.{◌≡◌, ℕ, ◌+◌, ◌<◌, Bool, true, fals
 use Rattle.std.specs.Prelude.{if◌then◌else◌}
 use Rattle.std.proofs.lemmas.Bool.{cases_eq}
 use Rattle.disk_model.specs.Disk.{Only}
-use Rattle.disk_model.specs.Moments.{LeavesOnly, weaker, joined}
+use Rattle.disk_model.specs.Moments.{LeavesOnly}
+use Rattle.disk_model.proofs.MomentLaws.{weaker, joined}
 use Rattle.disk_model.specs.declared.disk.Disk.{Ghosts}
 use Rattle.disk_model.specs.declared.disk.DiskError.{DiskError}
 use Rattle.counts.specs.Count.{counted}
 use Rattle.gate_slot.specs.Gate.{IsClosed, closed, SameButGate, IsFilling}
-use Rattle.gate_slot.specs.Passing.{Passes, joined as joined_calls, cut_short}
+use Rattle.gate_slot.specs.Passing.{Passes}
+use Rattle.gate_slot.proofs.PassingLaws.{joined as joined_calls, cut_short}
 use Rattle.page_store.specs.Refill.{IsRefilling}
 
 module _ {D : Type 0} (g : Ghosts D) (gate : ℕ) (body : List ℕ) where

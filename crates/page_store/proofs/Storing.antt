@@ -5,8 +5,8 @@ use Rattle.std.proofs.lemmas.Bool.{eq-eqb, ne_eqb, cases_eq, cond-true, cond-fal
 use Rattle.std.proofs.lemmas.List.{ext_get_or, get_or-set_same, get_or-set_other}
 use Rattle.disk_model.specs.Disk.{overwrite, part}
 use Rattle.gate_slot.specs.Gate.{IsOpen, IsClosed, IsOutside, filled, closed, SameButGate, IsFilling}
-use Rattle.gate_slot.specs.GateLaws.{length_filled, filled_outside, filled_next}
-use Rattle.gate_slot.specs.Images.{same_part, part_overwrite, torn_overwrite, torn_outside, length_overwrite, overwrite_inside}
+use Rattle.gate_slot.proofs.GateLaws.{length_filled, filled_outside, filled_next}
+use Rattle.gate_slot.proofs.ImageLaws.{same_part, part_overwrite, torn_overwrite, torn_outside, length_overwrite, overwrite_inside}
 use Rattle.image_plan.specs.Plan.{frame_offset}
 use Rattle.image_plan.specs.declared.plan.Plan.{Plan}
 use Rattle.page_store.specs.declared.store.PageStore.{PageStore}
@@ -15,13 +15,14 @@ use Rattle.page_store.specs.declared.frame.Frame.{Frame}
 use Rattle.page_store.specs.declared.frame.Frame.TheVariants.{First, Second}
 use Rattle.page_store.specs.Frame.{frame_body, frame_bytes, spare}
 use Rattle.page_store.specs.Page.{frame_place, frame_of, page_frame, page_lsn, HasPage, SamePage, SameButPage, IsStoring}
-use Rattle.page_store.specs.PairLaws.{other}
-use Rattle.page_store.specs.Gates.{open_gates, gate_byte, gates_stored}
-use Rattle.page_store.specs.PageLaws.{same_page, other_pages, other_counts, spare_closed, spare_counts, spare_written}
+use Rattle.page_store.proofs.PairLaws.{other}
+use Rattle.page_store.specs.Gates.{open_gates}
+use Rattle.page_store.proofs.GateLaws.{gate_byte, gates_stored}
+use Rattle.page_store.proofs.PageLaws.{same_page, other_pages, other_counts, spare_closed, spare_counts, spare_written}
 use Rattle.page_store.specs.Reading.{nothing_stored}
 use Rattle.page_store.specs.Refill.{IsRefilling}
 use Rattle.page_store.specs.StoreState.{store_log, store_pages, stored_entry, Knows}
-use Rattle.page_store.specs.WordLaws.{length-frame_body}
+use Rattle.page_store.proofs.WordLaws.{length-frame_body}
 
 -- new has the size of old, and the same bytes but for those of one frame
 pub record SameButFrame (log_bytes p : ℕ) (frame : Frame) (old new : List ℕ) : Type 0 where

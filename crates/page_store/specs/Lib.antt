@@ -1,11 +1,7 @@
 pub mod Frame
-pub mod WordLaws
-pub mod PairLaws
-pub mod Page
-pub mod PageLaws
 pub mod Gates
-pub mod Refill
-pub mod Reading
-pub mod StoreState
-pub mod StoreLaws
 pub mod OpenCause
+pub mod Page
+pub mod Reading
+pub mod Refill
+pub mod StoreState

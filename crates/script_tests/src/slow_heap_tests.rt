@@ -1,6 +1,7 @@
-//! The slow heap of `graph_model`, asked by lines of scripts: what it answers, and which graphs it leaves.
-use graph_model::{Entry, Event, Refusal, Reply, SlowHeap};
+//! The slow heap, asked by lines of scripts: what it answers, and which graphs it leaves.
+use graph_model::{Entry, Event, Refusal, Reply};
 use script_text::{Line, read_script, reply_line};
+use slow_heap::SlowHeap;
 use std::alloc::{AllocError, Global};
 use std::fmt::Debug;
 use std::process::Abort;

@@ -3,7 +3,7 @@ use Rattle.std.proofs.Common.{◌≡◌, ℕ, ◌-◌, ◌≤◌, List, [], ◌�
 use Rattle.std.specs.Prelude.{option_map, option_and_then}
 use Rattle.script_text.specs.Number.{number}
 use Rattle.script_text.specs.Line.{session, numbers, call_of, line_of}
-use Rattle.script_text.specs.LineLaws.{line_of-session}
+use Rattle.script_text.proofs.LineLaws.{line_of-session}
 
 -- a number in front of others, if there are others
 abbrev onto : Option (List ℕ) → Option ℕ → Option (List ℕ)

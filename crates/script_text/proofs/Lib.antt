@@ -1,3 +1,6 @@
 mod Calls
 mod Digits
+pub mod LineLaws
 mod Lines
+pub mod PrintedLaws
+pub mod ScriptLaws

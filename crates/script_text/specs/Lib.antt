@@ -1,7 +1,5 @@
 pub mod Line
-pub mod LineLaws
 pub mod Number
-pub mod PrintedLaws
+pub mod Printed
 pub mod Reader
 pub mod Script
-pub mod ScriptLaws

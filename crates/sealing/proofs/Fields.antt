@@ -7,7 +7,7 @@ use Rattle.graph_words.specs.Stands.{IsWritten}
 use Rattle.graph_words.specs.Promotion.{Field, field_cmp, field_of, written_fields}
 use Rattle.std.specs.BTreeSet.{insert_key}
 use Rattle.sealing.proofs.Inserted.{inserted_from, inserted_there, inserted_keeps}
-use Rattle.graph_words.specs.FieldsLaws.{field_cmp_told, written_fields_one, written_from_field, field_from_written}
+use Rattle.graph_words.proofs.Area.Fields.{field_cmp_told, written_fields_one, written_from_field, field_from_written}
 
 -- what one of these writes wrote, one of them and another did
 pub written_rest : (u : UndoEntry) (us : List UndoEntry) (f : Field) → IsWritten us f.0 f.1 → IsWritten (u ∷ us) f.0 f.1

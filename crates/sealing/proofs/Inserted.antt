@@ -3,7 +3,7 @@ use Rattle.std.proofs.Common.{◌≡◌, ◌⊎◌, inl, inr, List, [], ◌∷�
 use Rattle.std.specs.Prelude.{Contains}
 use Rattle.std.specs.Ordering.{match_ordering}
 use Rattle.std.specs.BTreeSet.{insert_key}
-use Rattle.object_layout.specs.WalkLaws.{Contains-head, Contains-rest, Contains-cases, Contains-none}
+use Rattle.object_layout.proofs.WalkLaws.{Contains-head, Contains-rest, Contains-cases, Contains-none}
 
 module _ {K : Type 0} (R : K → K → Ordering) where
   from_cases : (k y : K) (ys : List K) (x : K) (o : Ordering) → (Contains (insert_key R ys k) x → Contains ys x ⊎ (x ≡ k))

@@ -14,13 +14,15 @@ use Rattle.std.proofs.lemmas.Map.Keys.{IsStrictlyIncreasing-from_sorted}
 use Rattle.heap_words.specs.declared.Word.TheVariants.{Volatile}
 use Rattle.heap_words.specs.Word.{meaning}
 use Rattle.object_layout.specs.Layout.{field_words}
-use Rattle.object_layout.specs.WalkLaws.{Contains-head, Contains-rest, Contains-cases, Contains-none}
+use Rattle.object_layout.proofs.WalkLaws.{Contains-head, Contains-rest, Contains-cases, Contains-none}
 use Rattle.volatile_area.specs.Area.{AreaState, starts_of}
-use Rattle.volatile_area.specs.AreaLaws.{length-starts_of, starts_of_increase, Contains-slice_get}
-use Rattle.stability_tracker.specs.ListLaws.{any_at, at_any, place_of, Contains-from_filter, Contains-filter, length-filter_le, same_rising}
-use Rattle.stability_tracker.specs.Promotion.{IsReached, named, along, promoted}
-use Rattle.stability_tracker.specs.PromotionLaws.{reached_promoted, promoted_one}
-use Rattle.stability_tracker.specs.Search.{IsNamed, Meets, WereFollowed, IsSearching}
+use Rattle.volatile_area.proofs.AreaLaws.{length-starts_of, starts_of_increase, Contains-slice_get}
+use Rattle.stability_tracker.proofs.ListLaws.{any_at, at_any, place_of, Contains-from_filter, Contains-filter, length-filter_le, same_rising}
+use Rattle.stability_tracker.proofs.Reached.{IsReached, named, along}
+use Rattle.stability_tracker.specs.Promotion.{promoted}
+use Rattle.stability_tracker.proofs.PromotionLaws.{reached_promoted, promoted_one}
+use Rattle.stability_tracker.specs.Search.{IsNamed, Meets, WereFollowed}
+use Rattle.stability_tracker.proofs.Searching.{IsSearching}
 
 -- One key more.
 

@@ -1,4 +1,2 @@
-pub mod ListLaws
 pub mod Promotion
-pub mod PromotionLaws
 pub mod Search

@@ -1,17 +1,11 @@
 -- Which of the objects that a transaction has made become stable with what it wrote into stable fields.
-use Rattle.std.specs.Prelude.{◌≡◌, ℕ, zero, suc, ◌+◌, ◌==◌, List, [], Bool, false, ◌||◌, filter, sum_by, slice_get, Option, Some, Contains}
+use Rattle.std.specs.Prelude.{ℕ, zero, suc, ◌+◌, ◌==◌, List, [], Bool, false, ◌||◌, filter, sum_by, Option, Some}
 use Rattle.std.specs.List.{list_any}
 use Rattle.heap_words.specs.declared.Word.{Word}
 use Rattle.heap_words.specs.declared.Word.TheVariants.{Volatile}
 use Rattle.heap_words.specs.Word.{meaning}
 use Rattle.object_layout.specs.Layout.{field_words}
 use Rattle.volatile_area.specs.Area.{AreaState, length_at, starts_of}
-
--- An object of the area is reached from words that were written, through the fields of objects that are reached.
-pub data IsReached (area : AreaState) (written : List ℕ) : ℕ → Type 0 where
-  named : {at : ℕ} (i w : ℕ) → slice_get written i ≡ Some w → meaning w ≡ Some (Volatile at) → Contains (starts_of area) at → IsReached area written at
-  along : {at : ℕ} (from i w : ℕ) → IsReached area written from → slice_get (field_words area.words from) i ≡ Some w → meaning w ≡ Some (Volatile at)
-      → Contains (starts_of area) at → IsReached area written at
 
 -- whether a word of this meaning refers to the object of an area that has an index
 abbrev pub refers : ℕ → Option Word → Bool

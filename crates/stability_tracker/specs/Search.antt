@@ -3,9 +3,7 @@ use Rattle.std.specs.Prelude.{◌≡◌, ℕ, ◌+◌, ◌⊎◌, List, length, 
 use Rattle.std.specs.List.Sorted.{IsStrictlyIncreasing}
 use Rattle.heap_words.specs.declared.Word.TheVariants.{Volatile}
 use Rattle.heap_words.specs.Word.{meaning}
-use Rattle.object_layout.specs.Layout.{field_words}
 use Rattle.volatile_area.specs.Area.{AreaState, starts_of}
-use Rattle.stability_tracker.specs.Promotion.{IsReached}
 
 -- one of these words refers to an object of the area
 abbrev pub IsNamed : AreaState → List ℕ → ℕ → Type 0
@@ -32,11 +30,3 @@ pub record WereFollowed (area : AreaState) (words found waiting new_found new_wa
   pub known : (b : ℕ) → Contains new_waiting b → Contains waiting b ⊎ Contains new_found b
   pub counted : length new_found + length waiting ≡ length found + length new_waiting
   pub rises : IsStrictlyIncreasing found → IsStrictlyIncreasing new_found
-
--- Where a search stands that began with the words that were written: what it found is reached, and what does not wait was followed.
-pub record IsSearching (area : AreaState) (written found waiting : List ℕ) : Type 0 where
-  pub begun : (b : ℕ) → IsNamed area written b → Contains found b
-  pub reached : (b : ℕ) → Contains found b → IsReached area written b
-  pub followed : (b : ℕ) → Contains found b → Contains waiting b ⊎ ((c : ℕ) → IsNamed area (field_words area.words b) c → Contains found c)
-  pub known : (b : ℕ) → Contains waiting b → Contains found b
-  pub rises : IsStrictlyIncreasing found

@@ -1,1 +1,2 @@
 mod SlotLaws
+pub mod TableLaws

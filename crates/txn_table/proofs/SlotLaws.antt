@@ -7,7 +7,7 @@ use Rattle.std.specs.FinMap.{empty, insert, remove, get, get-empty, same_map, na
 use Rattle.std.proofs.lemmas.Bool.{cases_eq}
 use Rattle.std.proofs.lemmas.List.{get_or_past, get_or_read}
 use Rattle.std.proofs.lemmas.Option.{slice_get_within, unwrap_or-slice_get}
-use Rattle.log_machine.specs.MapLaws.{get_inserted, get_beside, get_removed, get_kept}
+use Rattle.log_machine.proofs.MapLaws.{get_inserted, get_beside, get_removed, get_kept}
 use Rattle.txn_table.specs.Table.{TransactionState, TableState, transaction_of, with_transaction, with_ended, Changes}
 use Rattle.txn_table.specs.Slots.{by_session, table_of}
 

@@ -1,4 +1,3 @@
 pub mod Slots
 pub mod Table
 pub mod TableCode
-pub mod TableLaws

@@ -11,11 +11,11 @@ use Rattle.std.proofs.lemmas.Map.Keys.{sorted_from_strictly_increasing, non_decr
 use Rattle.std.proofs.lemmas.Option.{slice_get-get_or}
 use Rattle.heap_words.specs.declared.Header.TheVariants.{Length}
 use Rattle.heap_words.specs.Word.{IsFieldWord}
-use Rattle.heap_words.specs.HeaderLaws.{bits-header}
+use Rattle.heap_words.proofs.HeaderLaws.{bits-header}
 use Rattle.object_layout.specs.Layout.{object_at, field_words}
-use Rattle.object_layout.specs.LayoutLaws.{object_header}
+use Rattle.object_layout.proofs.LayoutLaws.{object_header}
 use Rattle.volatile_area.specs.Area.{AreaState, starts_of, with_object, with_field, HasField, IsArea, IsKept}
-use Rattle.volatile_area.specs.AreaLaws.{starts_of_increase, area_object, starts_of-with_object, with_object_is, starts_of-with_field, with_field_is}
+use Rattle.volatile_area.proofs.AreaLaws.{starts_of_increase, area_object, starts_of-with_object, with_object_is, starts_of-with_field, with_field_is}
 
 -- the starts do not fall
 kept_rise : (kept : List ℕ) (area : AreaState) → IsKept kept area → (i j : ℕ) → i ≤ j → j < length kept → get_or kept i 0 ≤ get_or kept j 0

@@ -1,1 +1,3 @@
+pub mod AreaLaws
 mod Kept
+pub mod ObjectLaws

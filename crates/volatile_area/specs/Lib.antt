@@ -1,3 +1,1 @@
 pub mod Area
-pub mod AreaLaws
-pub mod ObjectLaws

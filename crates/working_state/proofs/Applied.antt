@@ -13,7 +13,7 @@ use Rattle.log_machine.specs.Machine.{field_at, abort_records}
 use Rattle.log_machine.specs.Effect.{EachWritesBelow}
 use Rattle.page_redo.specs.Pages.{Pages, lsn_of}
 use Rattle.page_redo.specs.Redo.{EachLacks, redo_all}
-use Rattle.page_redo.specs.RedoLaws.{EachLacks-later, EachLacks-redo_all}
+use Rattle.page_redo.proofs.RedoLaws.{EachLacks-later, EachLacks-redo_all}
 
 -- few bytes are used
 few_bytes : (tail buffer room : ℕ) → used_bytes tail buffer ≤ room → room < 2 ^ 32 → tail + buffer < 2 ^ 33

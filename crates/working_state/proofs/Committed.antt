@@ -3,7 +3,7 @@ use Rattle.std.proofs.Common.{◌≡◌, ℕ, suc, ◌+◌, List, length, Option
 use Rattle.std.specs.List.{range_with_len}
 use Rattle.graph_model.specs.History.{sessions}
 use Rattle.log_machine.specs.Machine.{taken_back}
-use Rattle.log_machine.specs.WordsLaws.{length-taken_back}
+use Rattle.log_machine.proofs.WordsLaws.{length-taken_back}
 use Rattle.txn_table.specs.Table.{TransactionState, TableState, transaction_of}
 use Rattle.working_state.specs.Reserve.{undo_if}
 use Rattle.working_state.specs.State.{without_writes}

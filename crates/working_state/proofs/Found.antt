@@ -12,7 +12,7 @@ use Rattle.log_machine.specs.Machine.{field_at, words_in, end_bytes}
 use Rattle.log_machine.specs.Effect.{EachWritesBelow}
 use Rattle.volatile_area.specs.Area.{AreaState, starts_of}
 use Rattle.stability_tracker.specs.Promotion.{need}
-use Rattle.stability_tracker.specs.PromotionLaws.{promoted_increase}
+use Rattle.stability_tracker.proofs.PromotionLaws.{promoted_increase}
 use Rattle.graph_words.specs.Promotion.{Field, written_fields, words_in_fields, moves_to, base_of, fix_of, promoted_by}
 use Rattle.heap_spaces.specs.Spaces.{SpacesState, IsSpaces, open_words}
 use Rattle.sealing.specs.declared.sealing.Sealing.{Sealing}

@@ -7,7 +7,7 @@ use Rattle.gated_log.specs.LogState.{Keeps}
 use Rattle.log_records.specs.declared.Record.{Record}
 use Rattle.heap_words.specs.declared.Word.{Word}
 use Rattle.txn_table.specs.Table.{TransactionState}
-use Rattle.txn_table.specs.TableLaws.{with_transaction_known}
+use Rattle.txn_table.proofs.TableLaws.{with_transaction_known}
 use Rattle.heap_memory.specs.Memory.{Memory, own}
 use Rattle.heap_memory.specs.Leaves.{Adds, LeavesOwn, with_read}
 

@@ -4,6 +4,8 @@ pub mod Found
 pub mod Left
 pub mod Made
 pub mod ObjectFields
+pub mod ReserveLaws
 pub mod Room
 pub mod SealLaws
+pub mod StateLaws
 pub mod Tables

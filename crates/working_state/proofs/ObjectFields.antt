@@ -6,7 +6,7 @@ use Rattle.std.proofs.lemmas.Bool.{eqb-true}
 use Rattle.std.proofs.lemmas.Map.Views.{Contains-from_any}
 use Rattle.log_machine.specs.Machine.{field_at}
 use Rattle.object_layout.specs.Layout.{object_at, words_of, field_words}
-use Rattle.object_layout.specs.LayoutLaws.{object_header, object_small, length-field_words}
+use Rattle.object_layout.proofs.LayoutLaws.{object_header, object_small, length-field_words}
 use Rattle.volatile_area.specs.Area.{AreaState, starts_of, HasField}
 use Rattle.txn_table.specs.declared.place.Place.{Place}
 use Rattle.txn_table.specs.declared.place.Place.TheVariants.{Stable, Volatile}

@@ -12,8 +12,8 @@ use Rattle.gated_log.specs.LogState.{log_tail, buffer_size, log_room, log_used, 
 use Rattle.log_records.specs.Record.{spellings}
 use Rattle.log_machine.specs.declared.UndoEntry.{UndoEntry}
 use Rattle.log_machine.specs.Machine.{field_at, abort_records, end_bytes}
-use Rattle.log_machine.specs.AbortLaws.{abort_length}
-use Rattle.log_machine.specs.ListLaws.{AllByRecursion-reverse}
+use Rattle.log_machine.proofs.AbortLaws.{abort_length}
+use Rattle.log_machine.proofs.ListLaws.{AllByRecursion-reverse}
 use Rattle.graph_model.specs.declared.reply.Refusal.TheVariants.{LogFull, Exhausted}
 use Rattle.heap_memory.specs.Refusals.{no_room, space_refusal}
 use Rattle.heap_spaces.specs.Spaces.{SpacesState, free_words, open_words, with_taken}

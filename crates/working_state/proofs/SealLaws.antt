@@ -16,15 +16,15 @@ use Rattle.log_records.specs.Record.{spellings}
 use Rattle.log_machine.specs.declared.UndoEntry.{UndoEntry}
 use Rattle.log_machine.specs.Machine.{field_at}
 use Rattle.log_machine.specs.Effect.{WritesBelow, EachWritesBelow}
-use Rattle.log_machine.specs.ListLaws.{AllByRecursion-append}
-use Rattle.log_machine.specs.WordsFrom.{from_below}
+use Rattle.log_machine.proofs.ListLaws.{AllByRecursion-append}
+use Rattle.log_machine.proofs.WordsFrom.{from_below}
 use Rattle.volatile_area.specs.Area.{AreaState, starts_of}
-use Rattle.stability_tracker.specs.PromotionLaws.{promoted_start}
+use Rattle.stability_tracker.proofs.PromotionLaws.{promoted_start}
 use Rattle.graph_words.specs.Promotion.{Field, Move, field_of, field_cmp, written_fields, words_in_fields, words_taken, moves_to, moved_words, base_of, fix_meant, fix_of, promoted_by, promoted_need, moves_of, seal_records}
-use Rattle.graph_words.specs.FieldsLaws.{field_cmp_total, written_from_field}
-use Rattle.graph_words.specs.MovesLaws.{words_needed, needed-sum}
-use Rattle.graph_words.specs.RunLaws.{length-moved_words}
-use Rattle.graph_words.specs.PromotionBytes.{is_volatile_in, length-seal_records}
+use Rattle.graph_words.proofs.Area.Fields.{field_cmp_total, written_from_field}
+use Rattle.graph_words.proofs.Places.Moves.{words_needed, needed-sum}
+use Rattle.graph_words.proofs.Stands.Run.{length-moved_words}
+use Rattle.graph_words.proofs.Promotion.Bytes.{is_volatile_in, length-seal_records}
 use Rattle.working_state.specs.Reserve.{WroteBelow}
 
 -- the fields that writes wrote lie where these did

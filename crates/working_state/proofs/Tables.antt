@@ -10,13 +10,13 @@ use Rattle.log_machine.specs.declared.UndoEntry.{UndoEntry}
 use Rattle.log_machine.specs.Machine.{field_at, end_bytes}
 use Rattle.txn_table.specs.declared.place.Place.{Place}
 use Rattle.txn_table.specs.Table.{TransactionState, TableState, new_table, new_transaction, transaction_of, with_transaction, with_begun, with_ended, Changes}
-use Rattle.txn_table.specs.TableLaws.{changes_is, changes_same, with_transaction_twice, with_transaction_known, with_transaction_same, with_transaction_other, with_begun_same, with_begun_other, with_ended_same, with_ended_other}
+use Rattle.txn_table.proofs.TableLaws.{changes_is, changes_same, with_transaction_twice, with_transaction_known, with_transaction_same, with_transaction_other, with_begun_same, with_begun_other, with_ended_same, with_ended_other}
 use Rattle.heap_memory.specs.Memory.{kept_for_end, reserved}
 use Rattle.heap_memory.specs.Refusals.{handle_refusal}
 use Rattle.heap_memory.specs.Leaves.{with_handle}
 use Rattle.volatile_area.specs.Area.{AreaState}
 use Rattle.working_state.specs.Reserve.{active_count, one_if, WroteBelow, can_refer, IsSound, AreSound, undo_if}
-use Rattle.working_state.specs.ReserveLaws.{total_none, reserved_begun, reserved_ended, reserved_more, count_begun, count_ended, count_same}
+use Rattle.working_state.proofs.ReserveLaws.{total_none, reserved_begun, reserved_ended, reserved_more, count_begun, count_ended, count_same}
 
 -- the transaction that there is
 pub there : (o : Option TransactionState) → IsSome o → (t : TransactionState) × (o ≡ Some t)

@@ -1,7 +1,7 @@
 use Rattle.std.proofs.Common.{◌≡◌, ◌-◌, ◌<◌, ℕ, List, Ok, get_or, length, take, drop, sym, ◌∙◌, ap, subst, arith, length-drop}
 use Rattle.std.proofs.lemmas.List.{take_rest, get_or_append_left, get_or_default}
 use Rattle.disk_model.specs.Disk.{part}
-use Rattle.disk_model.specs.KeepsLaws.{reads_on, reads_ok}
+use Rattle.disk_model.proofs.KeepsLaws.{reads_on, reads_ok}
 use Rattle.gated_log.specs.Log.{BreaksAt}
 use Rattle.gated_log.proofs.LogReading.{at_tail, walked_on, walked_all}
 use Rattle.gated_log.proofs.LogPieces.{read_further, longer, walked_further, gate_further, holds_in_log, breaks_in_log}

@@ -1,5 +1,5 @@
 use Rattle.std.proofs.Common.{◌++◌}
-use Rattle.disk_model.specs.KeepsLaws.{reads_on, reads_ok}
+use Rattle.disk_model.proofs.KeepsLaws.{reads_on, reads_ok}
 use Rattle.gated_log.proofs.LogPieces.{read_further, and_more}
 use Rattle.gated_log.proofs.read_on.Goals as goal
 

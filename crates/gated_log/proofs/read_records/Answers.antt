@@ -2,7 +2,7 @@ use Rattle.std.proofs.Common.{◌≡◌, ℕ, ◌<◌, ◌≤◌, ◌++◌, leng
 use Rattle.std.proofs.lemmas.Bool.Decides.{nat_tests}
 use Rattle.std.proofs.lemmas.List.{take_rest, nil_from_length, append-nil}
 use Rattle.log_records.specs.Record.{spelling, spellings}
-use Rattle.log_records.specs.RecordLaws.{some_spelling}
+use Rattle.log_records.proofs.RecordLaws.{some_spelling}
 use Rattle.gated_log.proofs.LogReading.{finds_next, reads_on, good_push, fewer, spelled_on}
 use Rattle.gated_log.proofs.read_records.Goals as goal
 

@@ -6,8 +6,8 @@ use Rattle.clap.specs.Simple.{app_of}
 use Rattle.clap.specs.Walk.{rows_of}
 use Rattle.clap.specs.Values.{kind_of}
 use Rattle.command_words.specs.Command.{command, error_of}
-use Rattle.command_words.specs.LimitLaws.{command_within}
-use Rattle.command_words.specs.SpellLaws.{none_not_taken, spelled_taken}
+use Rattle.command_words.proofs.LimitLaws.{command_within}
+use Rattle.command_words.proofs.SpellLaws.{none_not_taken, spelled_taken}
 use Rattle.command_words.specs.declared.commands.CommandError.TheVariants.{Usage}
 use Rattle.command_words.proofs.WordsRead.{fault_is_none, has_fault, met_is, met_none, met_some, no_fault, read_of}
 use Rattle.command_words.proofs.read.read_command.Goals as goal

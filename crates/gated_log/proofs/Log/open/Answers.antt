@@ -5,7 +5,7 @@ use Rattle.log_records.specs.declared.Record.{Record}
 use Rattle.log_records.specs.Record.{IsRecord}
 use Rattle.gated_log.specs.declared.LogError.TheVariants.{BadBatch}
 use Rattle.gated_log.specs.Log.{batches_bytes, records_of}
-use Rattle.gated_log.specs.LogLaws.{holds_once, holds_or_breaks}
+use Rattle.gated_log.proofs.LogLaws.{holds_once, holds_or_breaks}
 use Rattle.gated_log.proofs.LogReading.{keeps_read}
 use Rattle.gated_log.proofs.Log.open.Goals as goal
 

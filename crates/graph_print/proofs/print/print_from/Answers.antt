@@ -4,9 +4,10 @@ use Rattle.std.specs.Prelude.{string_bytes, slice_get, codes, IsSome, IsTrue}
 use Rattle.std.specs.Fmt.{decimal}
 use Rattle.graph_model.specs.Text.{rows_text}
 use Rattle.object_layout.specs.Layout.{field_words, object_at, stand}
-use Rattle.object_layout.specs.ReadLaws.{not_read, read_on}
-use Rattle.graph_print.specs.Order.{AreWhole, IsOrder, rows, first, IsDamage, no_object}
-use Rattle.graph_print.specs.DamageLaws.{complete_damage}
+use Rattle.object_layout.proofs.ReadLaws.{not_read, read_on}
+use Rattle.graph_print.specs.Order.{AreWhole, IsOrder, first, IsDamage, no_object}
+use Rattle.graph_print.proofs.Rows0.{rows}
+use Rattle.graph_print.proofs.DamageLaws.{complete_damage}
 use Rattle.graph_print.specs.Printed.{AreFieldsPrinted}
 use Rattle.graph_print.proofs.Rows.{order_object, rows_more, rows_all, no_damage}
 use Rattle.graph_print.proofs.print.print_from.Goals as goal

@@ -3,7 +3,8 @@ use Rattle.std.specs.Prelude.{IsTrue, None, string_bytes}
 use Rattle.graph_model.specs.Text.{rows_text}
 use Rattle.object_layout.specs.Layout.{stand}
 use Rattle.object_layout.specs.Read.{IsRead}
-use Rattle.graph_print.specs.Order.{IsOrder, rows}
+use Rattle.graph_print.specs.Order.{IsOrder}
+use Rattle.graph_print.proofs.Rows0.{rows}
 use Rattle.graph_print.proofs.print.print_from.Given as goal
 
 abbrev pub decreases-rows : goal.decreases-rows

@@ -3,7 +3,7 @@ use Rattle.std.proofs.Common.{◌<◌, ℕ, List, take, length, get_or, sym, sub
 use Rattle.std.specs.Prelude.{string_bytes}
 use Rattle.std.proofs.lemmas.List.{take_more}
 use Rattle.graph_print.specs.Printed.{IsFieldPrinted, AreFieldsPrinted}
-use Rattle.object_layout.specs.ReadLaws.{read_on}
+use Rattle.object_layout.proofs.ReadLaws.{read_on}
 use Rattle.graph_print.proofs.Rows.{fields_more}
 use Rattle.graph_print.proofs.print.push_fields.Goals as goal
 

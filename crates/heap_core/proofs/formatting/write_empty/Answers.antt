@@ -2,7 +2,8 @@ use Rattle.std.proofs.Common.{◌≡◌, ℕ, ◌-◌, ◌≤◌, List, [], take
 use Rattle.std.proofs.lemmas.Result.{on_ok_weaker}
 use Rattle.counts.specs.Count.{counted}
 use Rattle.disk_model.specs.Disk.{SameOutside}
-use Rattle.disk_model.specs.Moments.{LeavesOnly, weaker}
+use Rattle.disk_model.specs.Moments.{LeavesOnly}
+use Rattle.disk_model.proofs.MomentLaws.{weaker}
 use Rattle.gate_slot.specs.Gate.{filled, IsClosedInEach, SameButGate, IsFilling}
 use Rattle.gate_slot.specs.Passing.{Passes}
 use Rattle.image_plan.specs.declared.plan.Plan.{Plan}

@@ -1,8 +1,8 @@
 use Rattle.std.proofs.Common.{◌≡◌, ℕ, ◌+◌, ◌≤◌, List, arith, length, get_or, IsTrue, Ok, Err, rules, ◌∙◌, ap}
 use Rattle.std.proofs.lemmas.List.{length-replicate}
 use Rattle.disk_model.specs.Disk.{overwrite}
-use Rattle.disk_model.specs.KeepsLaws.{keeps_ok, keeps_on}
-use Rattle.disk_model.specs.Moments.{goes_on}
+use Rattle.disk_model.proofs.KeepsLaws.{keeps_ok, keeps_on}
+use Rattle.disk_model.proofs.MomentLaws.{goes_on}
 use Rattle.heap_core.proofs.Zeros.{crash_on, zero_on, outside_on, zero_at, write_more, some_writes}
 use Rattle.heap_core.proofs.Calls.{one_more, ended}
 use Rattle.heap_core.proofs.formatting.write_zeros.Goals as goal

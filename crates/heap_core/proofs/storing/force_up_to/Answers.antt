@@ -5,7 +5,7 @@ use Rattle.disk_model.specs.Disk.{part}
 use Rattle.gated_log.specs.Log.{HoldsBatches}
 use Rattle.gated_log.specs.LogState.{log_place, log_room, log_forced}
 use Rattle.heap_model.specs.Core.{forced_if}
-use Rattle.heap_model.specs.CoreLawsRoom.{forced-with_batch}
+use Rattle.heap_model.proofs.Step.Room.{forced-with_batch}
 use Rattle.log_records.specs.declared.Record.{Record}
 use Rattle.heap_core.proofs.FlushDisk.{on_ok}
 use Rattle.heap_core.proofs.storing.force_up_to.Goals as goal

@@ -1,7 +1,7 @@
 use Rattle.std.proofs.Common.{Bool, refl, ap, ◌∙◌, subst, ⊎_elim}
 use Rattle.std.specs.Prelude.{is_err}
 use Rattle.disk_model.specs.Disk.{part}
-use Rattle.disk_model.specs.Moments.{joined, weaker}
+use Rattle.disk_model.proofs.MomentLaws.{joined, weaker}
 use Rattle.gated_log.specs.Log.{HoldsBatches}
 use Rattle.gated_log.specs.LogState.{log_place, log_room, Keeps}
 use Rattle.heap_model.specs.Core.{forced_if}

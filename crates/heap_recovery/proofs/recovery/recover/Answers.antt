@@ -3,14 +3,14 @@ use Rattle.disk_model.specs.Disk.{part, SameOutside}
 use Rattle.disk_model.specs.Moments.{LeavesOnly}
 use Rattle.gated_log.specs.Log.{with_batch, HoldsBatches}
 use Rattle.log_machine.specs.Machine.{rollback}
-use Rattle.heap_model.specs.CoreLawsHeld.{held_with}
-use Rattle.page_store.specs.Gates.{gates_behind_log}
+use Rattle.heap_model.proofs.Opening.Held.{held_with}
+use Rattle.page_store.proofs.GateLaws.{gates_behind_log}
 use Rattle.heap_model.specs.Opening.{opening_calls, rolled_back}
 use Rattle.heap_recovery.proofs.Opening.{error_passes, only_still, held, outside_log, rolled_held, recovered, opened_shaped, shaped_fault, forced_passes, nothing_waits, known_still, known_found, ok_outside, ok_passes, if_ok, placed_there, opening_moments}
 use Rattle.page_cache.specs.CacheState.{cached}
 use Rattle.heap_recovery.specs.declared.error.RecoverError.TheVariants.{Disk}
 use Rattle.heap_recovery.specs.Faults.{stored_in, IsNoHeap, IsLogLeft}
-use Rattle.heap_recovery.specs.FaultLaws.{readable_heap, readable_late, told_not_heap, told_damaged}
+use Rattle.heap_recovery.proofs.FaultLaws.{readable_heap, readable_late, told_not_heap, told_damaged}
 use Rattle.heap_recovery.proofs.Refusals.{not_heap_told, damaged_told, finish_told, walk_told, found_on, still_moments, forced_run, left_readable, left_no_heap, left_damaged}
 use Rattle.heap_recovery.proofs.recovery.recover.Goals as goal
 

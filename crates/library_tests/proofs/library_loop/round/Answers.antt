@@ -1,7 +1,7 @@
 use Rattle.std.proofs.Common.{◌≡◌, ◌∙◌, List, take, ap, subst, arith}
 use Rattle.std.proofs.lemmas.List.{take_all}
 use Rattle.graph_model.specs.declared.event.Event.{Event}
-use Rattle.heap_core.specs.CrashLaws.{heap_keeps}
+use Rattle.heap_core.proofs.CrashLaws.{heap_keeps}
 use Rattle.heap_core.specs.HeapState.{heap_disk}
 use Rattle.library_tests.specs.Rounds.{KeepsCounts, HasGone}
 use Rattle.library_tests.proofs.RoundLaws.{legal_of, found_of, core_of, going_opened, of_session_at, gone_on, round_ends, counts_then, counts_of}

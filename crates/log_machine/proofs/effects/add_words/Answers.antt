@@ -1,6 +1,6 @@
 use Rattle.std.proofs.Common.{◌+◌, ◌++◌, ◌∷◌, [], ℕ, List, take, get_or, ap, sym, ◌∙◌, append_assoc, arith}
 use Rattle.std.specs.List.{enumerate_from}
-use Rattle.log_machine.specs.WordsFrom.{from_more, below_at}
+use Rattle.log_machine.proofs.WordsFrom.{from_more, below_at}
 use Rattle.log_machine.proofs.effects.add_words.Goals as goal
 
 pub overflow_cast-i : goal.overflow_cast-i

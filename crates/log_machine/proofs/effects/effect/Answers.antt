@@ -1,7 +1,7 @@
 use Rattle.std.proofs.Common.{ℕ, ◌^◌, ◌<◌, List, sym, subst, arith}
 use Rattle.std.specs.List.{AllByRecursion, enumerate_from}
 use Rattle.log_records.specs.declared.Record.{Record}
-use Rattle.log_machine.specs.ListLaws.{AllByRecursion-map}
+use Rattle.log_machine.proofs.ListLaws.{AllByRecursion-map}
 use Rattle.log_machine.specs.Effect.{WritesBelow}
 use Rattle.log_machine.proofs.effects.effect.Goals as goal
 

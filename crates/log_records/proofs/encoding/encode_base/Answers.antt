@@ -1,5 +1,5 @@
 use Rattle.std.proofs.Common.{arith}
-use Rattle.log_records.specs.RecordLaws.{length-word_bytes}
+use Rattle.log_records.proofs.RecordLaws.{length-word_bytes}
 use Rattle.log_records.proofs.encoding.encode_base.Goals as goal
 
 pub returns-in_err-reserve-clause-in_room : goal.returns-in_err-reserve-clause-in_room

@@ -1,6 +1,6 @@
 -- One more word is read, and stands behind those that were.
 use Rattle.std.proofs.Common.{◌≡◌, ℕ, List, ◌∙◌, ◌++◌, ◌∷◌, [], ◌≤◌, ◌<◌, ap, arith, get_or, length}
-use Rattle.object_layout.specs.ReadLaws.{read_on}
+use Rattle.object_layout.proofs.ReadLaws.{read_on}
 use Rattle.object_layout.proofs.Runs.{run_more}
 use Rattle.object_layout.proofs.object.read_run.Goals as goal
 

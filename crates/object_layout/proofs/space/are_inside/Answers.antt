@@ -1,7 +1,7 @@
 -- Each word is one of the run.
 use Rattle.std.proofs.Common.{◌≡◌, ◌∙◌, ◌≤◌, ◌<◌, ap, subst, arith, get_or, length}
 use Rattle.object_layout.specs.Walk.{AreInside}
-use Rattle.object_layout.specs.ReadLaws.{read_on}
+use Rattle.object_layout.proofs.ReadLaws.{read_on}
 use Rattle.object_layout.proofs.Runs.{run_more}
 use Rattle.object_layout.proofs.Starts.{inside_push, run_get}
 use Rattle.object_layout.proofs.space.are_inside.Goals as goal

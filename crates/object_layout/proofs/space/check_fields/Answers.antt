@@ -2,7 +2,7 @@
 use Rattle.std.proofs.Common.{◌≡◌, ℕ, List, ◌+◌, ◌-◌, ◌∙◌, ◌<◌, Some, None, ap, sym, subst, take, drop, length, get_or, arith}
 use Rattle.object_layout.specs.Layout.{object_at}
 use Rattle.object_layout.specs.Walk.{used_words, AreInside, IsWalkFault}
-use Rattle.object_layout.specs.ReadLaws.{read_on}
+use Rattle.object_layout.proofs.ReadLaws.{read_on}
 use Rattle.object_layout.proofs.Starts.{end_to_end_ascend, fields_run, run_fields, keep_more, keep_all, keep_fault, start_object}
 use Rattle.object_layout.proofs.space.check_fields.Goals as goal
 

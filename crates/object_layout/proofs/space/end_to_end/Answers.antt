@@ -2,7 +2,7 @@
 use Rattle.std.proofs.Common.{◌≡◌, ℕ, List, ◌+◌, ◌∙◌, Some, ap, sym, subst, take, arith}
 use Rattle.object_layout.specs.Layout.{object_at}
 use Rattle.object_layout.specs.Walk.{AreEndToEnd}
-use Rattle.object_layout.specs.ReadLaws.{read_on}
+use Rattle.object_layout.proofs.ReadLaws.{read_on}
 use Rattle.object_layout.proofs.Starts.{end_to_end_push}
 use Rattle.object_layout.proofs.space.end_to_end.Goals as goal
 

@@ -8,9 +8,9 @@ use Rattle.std.proofs.lemmas.Map.Keys.{sorted_from_strictly_increasing}
 use Rattle.log_machine.specs.declared.UndoEntry.{UndoEntry}
 use Rattle.log_machine.specs.Machine.{field_at}
 use Rattle.volatile_area.specs.Area.{AreaState, starts_of}
-use Rattle.stability_tracker.specs.PromotionLaws.{promoted_start, promoted_increase}
+use Rattle.stability_tracker.proofs.PromotionLaws.{promoted_start, promoted_increase}
 use Rattle.graph_words.specs.Promotion.{Field, written_fields, words_in_fields, promoted_by}
-use Rattle.graph_words.specs.FieldsLaws.{written_from_field}
+use Rattle.graph_words.proofs.Area.Fields.{written_from_field}
 use Rattle.object_tests.proofs.sealing_tests.promote.Goals as goal
 
 -- the fields that writes wrote lie where these did

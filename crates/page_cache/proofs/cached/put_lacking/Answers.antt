@@ -3,7 +3,7 @@ use Rattle.std.specs.Prelude.{filter, nat_lt, slice_index}
 use Rattle.std.specs.List.{enumerate_from}
 use Rattle.std.proofs.lemmas.Bool.{lt-ltb, le-ltb, cond-true, cond-false}
 use Rattle.log_machine.specs.Machine.{put_all}
-use Rattle.log_machine.specs.WordsFrom.{below_at}
+use Rattle.log_machine.proofs.WordsFrom.{below_at}
 use Rattle.page_redo.specs.Pages.{page_of}
 use Rattle.page_cache.proofs.Putting.{put_kept_more}
 use Rattle.page_cache.proofs.cached.put_lacking.Goals as goal

@@ -2,7 +2,7 @@ use Rattle.std.proofs.Common.{◌≡◌, ◌-◌, ◌*◌, ◌<◌, ℕ, take, d
 use Rattle.std.proofs.lemmas.List.{take_rest}
 use Rattle.byteorder.specs.Endian.{little_number}
 use Rattle.page_store.specs.Frame.{words_in}
-use Rattle.page_store.specs.WordLaws.{words_in-each}
+use Rattle.page_store.proofs.WordLaws.{words_in-each}
 use Rattle.page_store.proofs.frame.words_of.Goals as goal
 
 pub returns : goal.returns

@@ -1,6 +1,6 @@
 use Rattle.std.proofs.Common.{◌≡◌, ℕ, ◌*◌, List, ap, ◌∙◌, arith}
 use Rattle.disk_model.specs.Disk.{part}
-use Rattle.disk_model.specs.KeepsLaws.{reads_none, reads_on}
+use Rattle.disk_model.proofs.KeepsLaws.{reads_none, reads_on}
 use Rattle.image_plan.specs.Plan.{frame_offset}
 use Rattle.page_store.proofs.Opening.{read_none}
 use Rattle.page_store.proofs.store.read_pages.Goals as goal

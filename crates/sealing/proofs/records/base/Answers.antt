@@ -1,6 +1,6 @@
 -- The object's header and birth stand in the area.
 use Rattle.std.proofs.Common.{◌≡◌, length, ap, arith}
-use Rattle.volatile_area.specs.AreaLaws.{area_object}
+use Rattle.volatile_area.proofs.AreaLaws.{area_object}
 use Rattle.sealing.proofs.records.base.Goals as goal
 
 pub bounds-words-at : goal.bounds-words-at

@@ -2,7 +2,7 @@
 use Rattle.std.proofs.Common.{◌≡◌, ◌++◌, ◌∷◌, ℕ, List, ap, sym, ◌∙◌, subst}
 use Rattle.std.specs.Prelude.{Contains}
 use Rattle.std.proofs.lemmas.List.Elements.{All-contains, Contains-append_right}
-use Rattle.object_layout.specs.WalkLaws.{Contains-head}
+use Rattle.object_layout.proofs.WalkLaws.{Contains-head}
 use Rattle.volatile_area.specs.Area.{starts_of}
 use Rattle.stability_tracker.proofs.tracker.measured.Goals as goal
 

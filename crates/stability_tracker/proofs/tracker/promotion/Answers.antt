@@ -4,7 +4,8 @@ use Rattle.std.specs.Prelude.{IfOk}
 use Rattle.std.proofs.lemmas.List.{length_push}
 use Rattle.std.proofs.lemmas.List.Elements.{Contains-get_or}
 use Rattle.stability_tracker.specs.Promotion.{need}
-use Rattle.stability_tracker.specs.Search.{WereFollowed, IsSearching}
+use Rattle.stability_tracker.specs.Search.{WereFollowed}
+use Rattle.stability_tracker.proofs.Searching.{IsSearching}
 use Rattle.stability_tracker.proofs.Steps.{searching_begins, searching_on, popped_found, searching_ends, reached_starts, found_few, some_promoted, named_reached}
 use Rattle.stability_tracker.proofs.tracker.promotion.Goals.{In_ok-follow-2}
 use Rattle.stability_tracker.proofs.tracker.promotion.Goals as goal

@@ -1,5 +1,5 @@
 use Rattle.std.proofs.Common.{◌+◌, ◌-◌, length}
-use Rattle.stability_tracker.specs.Search.{IsSearching}
+use Rattle.stability_tracker.proofs.Searching.{IsSearching}
 use Rattle.stability_tracker.proofs.tracker.promotion.Given as goal
 
 abbrev pub invariant-loop-object : goal.invariant-loop-object

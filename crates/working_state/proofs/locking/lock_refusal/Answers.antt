@@ -1,5 +1,5 @@
 use Rattle.std.proofs.Common.{Some, sym, ap, ◌∙◌}
-use Rattle.object_locks.specs.HolderLaws.{find_free, find_least}
+use Rattle.object_locks.proofs.HolderLaws.{find_free, find_least}
 use Rattle.graph_model.specs.Plain.{busy_with}
 use Rattle.heap_memory.specs.Refusals.{asked}
 use Rattle.working_state.proofs.locking.lock_refusal.Goals as goal

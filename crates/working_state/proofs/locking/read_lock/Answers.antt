@@ -1,7 +1,7 @@
 use Rattle.std.proofs.Common.{Some, sym, ap, ◌∙◌, subst}
 use Rattle.object_locks.specs.declared.holding.Mode.TheVariants.{Shared}
 use Rattle.object_locks.specs.declared.lock_error.LockError.{LockError}
-use Rattle.object_locks.specs.HolderLaws.{find_free, find_least}
+use Rattle.object_locks.proofs.HolderLaws.{find_free, find_least}
 use Rattle.object_locks.specs.Refused.{IsCause}
 use Rattle.graph_model.specs.Plain.{busy_with}
 use Rattle.heap_memory.specs.Refusals.{asked}

@@ -1,14 +1,14 @@
 use Rattle.std.proofs.Common.{◌≡◌, sym, subst}
 use Rattle.std.specs.Prelude.{IfOk}
 use Rattle.disk_model.specs.Keeps.{KeepsDisk}
-use Rattle.disk_model.specs.KeepsLaws.{keeps_none}
+use Rattle.disk_model.proofs.KeepsLaws.{keeps_none}
 use Rattle.gate_slot.specs.Passing.{Passes}
 use Rattle.heap_core.specs.Refinement.{KnowsPages, Remembers, Steps, StepsOn}
 use Rattle.graph_model.specs.declared.event.Event.{Event}
 use Rattle.heap_core.specs.Causes.{reply_device}
 use Rattle.heap_model.specs.Core.{calls}
 use Rattle.heap_model.specs.CoreCrash.{IsCommitPrefix}
-use Rattle.heap_core.specs.CrashLaws.{heap_keeps}
+use Rattle.heap_core.proofs.CrashLaws.{heap_keeps}
 use Rattle.heap_core.proofs.RefinementLeft.{stays, quiet_passes, on_error}
 use Rattle.heap_core.proofs.RefinementEvent.{unfailed_valid, memory_steps, kept_as, knows_as, quiet_on}
 use Rattle.heap_core.proofs.heap.Heap.answer.Goals as goal

@@ -4,10 +4,10 @@ use Rattle.gate_slot.specs.Passing.{Passes}
 use Rattle.graph_model.specs.declared.event.Event.TheVariants.{Flush}
 use Rattle.heap_model.specs.Core.{calls}
 use Rattle.heap_model.specs.CoreCrash.{IsCommitPrefix}
-use Rattle.core_laws.specs.Flush.{calls-flushed}
-use Rattle.memory_laws.specs.LogLaws.{some_waits, keeps_same}
-use Rattle.memory_laws.specs.StepFlush.{flush_no_page, flush_clean, flush_done}
-use Rattle.heap_core.specs.CrashLaws.{heap_keeps}
+use Rattle.core_laws.proofs.Step.Flush.{calls-flushed}
+use Rattle.memory_laws.proofs.Kept.Log.{some_waits, keeps_same}
+use Rattle.memory_laws.proofs.Step.Flush.{flush_no_page, flush_clean, flush_done}
+use Rattle.heap_core.proofs.CrashLaws.{heap_keeps}
 use Rattle.heap_core.proofs.FlushSteps.{past, is_there, works_again, left_refused, left_flushed, left_clean, clean_calls, dirty_calls, flush_steps, flush_on}
 use Rattle.heap_core.proofs.RefinementFlush.{within, dirty_is}
 use Rattle.heap_core.proofs.RefinementEvent.{unfailed_valid, knows_as, kept_as}

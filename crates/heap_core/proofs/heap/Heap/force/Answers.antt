@@ -1,11 +1,11 @@
 use Rattle.std.proofs.Common.{Result, Some, refl, ap, sym, ◌∙◌, length, subst}
-use Rattle.disk_model.specs.Moments.{weaker}
+use Rattle.disk_model.proofs.MomentLaws.{weaker}
 use Rattle.disk_model.specs.declared.disk.DiskError.{DiskError}
 use Rattle.gate_slot.specs.Passing.{Passes}
 use Rattle.graph_model.specs.declared.event.Event.TheVariants.{Force}
 use Rattle.heap_model.specs.Core.{calls}
 use Rattle.heap_model.specs.CoreCrash.{IsCommitPrefix}
-use Rattle.heap_core.specs.CrashLaws.{heap_keeps}
+use Rattle.heap_core.proofs.CrashLaws.{heap_keeps}
 use Rattle.heap_core.proofs.RefinementLeft.{stays, force_passes, no_calls_empty, on_error}
 use Rattle.heap_core.proofs.RefinementEvent.{unfailed_valid, kept_as, knows_as}
 use Rattle.heap_core.proofs.RefinementForce.{keeps, holds, knows_forced, force_keeps, ok_steps, ok_on, err_steps, err_on}

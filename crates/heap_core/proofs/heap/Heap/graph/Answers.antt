@@ -1,7 +1,7 @@
 use Rattle.std.proofs.Common.{List, ℕ, length, sym, ap, ◌∙◌, subst, arith}
 use Rattle.graph_model.specs.Transaction.{serial}
 use Rattle.graph_model.specs.History.{sealed, sessions}
-use Rattle.graph_words.specs.Places.{name_at}
+use Rattle.graph_words.proofs.Places.Names.{name_at}
 use Rattle.object_layout.specs.Layout.{IsSeenAs}
 use Rattle.heap_core.proofs.RefinementEvent.{unfailed_valid, no_failure_at}
 use Rattle.heap_core.proofs.RefinementGraph.{memory_seen, length-without_writes}

@@ -1,7 +1,7 @@
 use Rattle.std.proofs.Common.{◌≡◌, List, sym, subst}
 use Rattle.commit_order.specs.Heard.{replies_of_commits}
 use Rattle.commit_order.specs.SerialOrder.{IsCommitOrdered}
-use Rattle.core_laws.specs.Replies.{ordered_law, replies_law}
+use Rattle.core_laws.proofs.Run.Replies.{ordered_law, replies_law}
 use Rattle.graph_model.specs.declared.reply.Entry.{Entry}
 use Rattle.graph_model.specs.History.{commits}
 use Rattle.graph_model.specs.Transaction.{serial_replies}

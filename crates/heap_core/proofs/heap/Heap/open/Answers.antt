@@ -2,9 +2,9 @@ use Rattle.log_machine.specs.Machine.{words_in}
 use Rattle.std.proofs.Common.{◌≤◌, ℕ, true, Result, refl, sym, ap, ◌∙◌, subst}
 use Rattle.disk_model.specs.declared.disk.DiskError.{DiskError}
 use Rattle.disk_model.specs.Keeps.{OnlyReads}
-use Rattle.disk_model.specs.Moments.{begins}
+use Rattle.disk_model.proofs.MomentLaws.{begins}
 use Rattle.heap_recovery.specs.Faults.{IsNoHeap}
-use Rattle.heap_model.specs.Image.{shaped_image}
+use Rattle.heap_model.proofs.Shaped.{shaped_image}
 use Rattle.heap_model.specs.Opening.{opening_calls}
 use Rattle.heap_core.specs.Causes.{IsFromOutside, ErrorPasses, error_device}
 use Rattle.heap_core.proofs.RefinementOpen.{opened_bounds, opened_memory, opened_pages, opened_disk_holds, is_fresh}

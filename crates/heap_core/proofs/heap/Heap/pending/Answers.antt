@@ -1,7 +1,7 @@
 use Rattle.std.specs.Prelude.{IsTrue, ◌↔◌, ◌≢◌, [], MatchOption}
 use Rattle.std.proofs.Common.{Bool, Option, sym, subst}
 use Rattle.heap_core.specs.declared.history.Failure.{Failure}
-use Rattle.memory_laws.specs.LogLaws.{some_waits}
+use Rattle.memory_laws.proofs.Kept.Log.{some_waits}
 use Rattle.heap_core.proofs.heap.Heap.pending.Goals as goal
 
 pub returns-in-Some : goal.returns-in-Some

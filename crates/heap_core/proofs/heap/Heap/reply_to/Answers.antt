@@ -3,7 +3,7 @@ use Rattle.graph_model.specs.declared.reply.Reply.{Reply}
 use Rattle.heap_core.specs.HeapState.{entry_of}
 use Rattle.heap_core.specs.Refinement.{Steps}
 use Rattle.heap_model.specs.CoreCrash.{IsCommitPrefix}
-use Rattle.heap_core.specs.CrashLaws.{heap_keeps}
+use Rattle.heap_core.proofs.CrashLaws.{heap_keeps}
 use Rattle.heap_core.proofs.RefinementLeft.{stays, failed_passes}
 use Rattle.heap_core.proofs.RefinementCut.{failed_steps, failed_on}
 use Rattle.heap_core.proofs.heap.Heap.reply_to.Goals as goal

@@ -1,9 +1,9 @@
 use Rattle.std.proofs.Common.{List, ◌++◌, ◌∷◌, [], sym, ap, ◌∙◌}
 use Rattle.graph_model.specs.declared.reply.Entry.{Entry}
 use Rattle.heap_core.specs.declared.history.History.{History}
-use Rattle.heap_model.specs.CoreLawsRun.{same_step}
+use Rattle.heap_model.proofs.Run.Calls.{same_step}
 use Rattle.heap_model.specs.CoreCrash.{IsCommitPrefix}
-use Rattle.heap_core.specs.CrashLaws.{heap_keeps}
+use Rattle.heap_core.proofs.CrashLaws.{heap_keeps}
 use Rattle.heap_core.proofs.RefinementLeft.{stays}
 use Rattle.heap_core.proofs.RefinementEvent.{with_history}
 use Rattle.heap_core.proofs.heap.Heap.step.Goals as goal

@@ -2,9 +2,9 @@ use Rattle.std.proofs.Common.{◌≡◌, ℕ, ◌+◌, List, length, ap, ◌∙�
 use Rattle.std.specs.Prelude.{fold}
 use Rattle.gated_log.specs.LogState.{log_count}
 use Rattle.log_records.specs.declared.Record.{Record}
-use Rattle.log_machine.specs.AbortLaws.{rollback_words}
+use Rattle.log_machine.proofs.AbortLaws.{rollback_words}
 use Rattle.log_machine.specs.Machine.{put_record, losing, rollback, all_taken_back}
-use Rattle.log_machine.specs.WordsLaws.{length-each_taken_back}
+use Rattle.log_machine.proofs.WordsLaws.{length-each_taken_back}
 use Rattle.page_redo.specs.Redo.{redo_all}
 use Rattle.page_cache.specs.CacheState.{cached}
 use Rattle.heap_recovery.proofs.Opening.{roll_fits}

@@ -1,7 +1,7 @@
 use Rattle.std.proofs.Common.{◌≡◌, ◌+◌, ◌≤◌, ℕ, List, length, is_some, true, sym, subst}
 use Rattle.log_records.specs.declared.Record.{Record}
 use Rattle.log_machine.specs.Machine.{space_words, after}
-use Rattle.log_machine.specs.MachineLaws.{follows_Base}
+use Rattle.log_machine.proofs.MachineLaws.{follows_Base}
 use Rattle.log_machine.proofs.log_state.LogState.after.Goals as goal
 
 pub promote-requires-clause-room : goal.promote-requires-clause-room

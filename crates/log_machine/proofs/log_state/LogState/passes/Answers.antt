@@ -2,7 +2,7 @@ use Rattle.std.proofs.Common.{◌+◌, ◌≤◌, ℕ, List, length, sym, subst}
 use Rattle.log_records.specs.declared.Record.{Record}
 use Rattle.log_machine.specs.Machine.{words_in}
 use Rattle.log_machine.specs.Effect.{WritesBelow}
-use Rattle.log_machine.specs.WordsFrom.{from_below}
+use Rattle.log_machine.proofs.WordsFrom.{from_below}
 use Rattle.log_machine.proofs.log_state.LogState.passes.Goals as goal
 
 pub returns-then-is_next_free-clause-inside : goal.returns-then-is_next_free-clause-inside

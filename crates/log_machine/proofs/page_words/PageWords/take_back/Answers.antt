@@ -3,7 +3,7 @@ use Rattle.std.specs.List.{AllByRecursion}
 use Rattle.std.proofs.lemmas.Grind.{common_steps}
 use Rattle.log_machine.specs.declared.UndoEntry.{UndoEntry}
 use Rattle.log_machine.specs.Machine.{field_at}
-use Rattle.log_machine.specs.ListLaws.{AllByRecursion-front}
+use Rattle.log_machine.proofs.ListLaws.{AllByRecursion-front}
 use Rattle.log_machine.proofs.page_words.PageWords.take_back.Goals as goal
 
 pub loop-entry-preserved : goal.loop-entry-preserved

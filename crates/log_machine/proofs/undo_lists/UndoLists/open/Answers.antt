@@ -1,6 +1,6 @@
 use Rattle.std.proofs.Common.{◌≡◌, [], ◌∷◌, ap, ◌∙◌, arith}
 use Rattle.log_machine.specs.Machine.{undo_in}
-use Rattle.log_machine.specs.ReserveLaws.{bytes_for}
+use Rattle.log_machine.proofs.ReserveLaws.{bytes_for}
 use Rattle.log_machine.proofs.Lists.{put_list, kept_put, added}
 use Rattle.log_machine.proofs.Seen.{seen}
 use Rattle.log_machine.proofs.undo_lists.UndoLists.open.Goals as goal

@@ -1,6 +1,6 @@
 use Rattle.std.proofs.Common.{ap, ◌∙◌}
 use Rattle.page_redo.specs.Pages.{Pages}
-use Rattle.page_redo.specs.RedoLaws.{redo_all-words}
+use Rattle.page_redo.proofs.RedoLaws.{redo_all-words}
 use Rattle.page_cache.proofs.cache.PageCache.apply_all.Goals as goal
 
 pub returns-clause-words : goal.returns-clause-words

@@ -1,9 +1,9 @@
 use Rattle.std.proofs.Common.{ℕ, ap, ◌∙◌, subst}
-use Rattle.disk_model.specs.Moments.{weaker}
+use Rattle.disk_model.proofs.MomentLaws.{weaker}
 use Rattle.gate_slot.specs.Passing.{Passes}
 use Rattle.page_store.specs.Frame.{spare}
 use Rattle.page_store.specs.Page.{store_calls}
-use Rattle.page_store.specs.Gates.{calls_by_gates}
+use Rattle.page_store.proofs.GateLaws.{calls_by_gates}
 use Rattle.page_cache.specs.CacheState.{cache_log}
 use Rattle.page_cache.proofs.Flushing.{still_legal, then_legal}
 use Rattle.page_cache.proofs.cache.PageCache.flush.Goals as goal

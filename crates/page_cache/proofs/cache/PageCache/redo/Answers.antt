@@ -1,6 +1,6 @@
 use Rattle.std.proofs.Common.{length, ap, ◌∙◌, arith}
 use Rattle.page_redo.specs.Pages.{Pages, lsn_of}
-use Rattle.page_redo.specs.RedoLaws.{lsns-redo_record, lsn-rises}
+use Rattle.page_redo.proofs.RedoLaws.{lsns-redo_record, lsn-rises}
 use Rattle.page_cache.proofs.cache.PageCache.redo.Goals as goal
 
 pub invariant_of-self : goal.invariant_of-self

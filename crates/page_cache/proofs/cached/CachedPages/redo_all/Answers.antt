@@ -1,7 +1,7 @@
 use Rattle.std.proofs.Common.{◌+◌, ◌∙◌, length, ap, sym}
 use Rattle.page_redo.specs.Pages.{Pages}
 use Rattle.page_redo.specs.Redo.{redo_record}
-use Rattle.page_redo.specs.RedoLaws.{redo_all-more, words-redo_record}
+use Rattle.page_redo.proofs.RedoLaws.{redo_all-more, words-redo_record}
 use Rattle.page_cache.proofs.cached.CachedPages.redo_all.Goals as goal
 
 pub loop-i-preserved : goal.loop-i-preserved

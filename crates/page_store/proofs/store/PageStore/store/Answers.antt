@@ -1,11 +1,12 @@
 use Rattle.std.proofs.Common.{ℕ, ◌+◌, ◌<◌, ◌≤◌, List, Ok, Some, length, get_or, eqb, refl, sym, ◌∙◌, ap, subst, arith}
 use Rattle.std.specs.Prelude.{if◌then◌else◌}
-use Rattle.disk_model.specs.Moments.{weaker}
+use Rattle.disk_model.proofs.MomentLaws.{weaker}
 use Rattle.gate_slot.specs.Passing.{Passes}
 use Rattle.page_store.specs.Frame.{spare}
 use Rattle.page_store.specs.Page.{frame_of, frame_place, page_lsn, page_frame, HasPage, SameButPage}
-use Rattle.page_store.specs.Gates.{open_gates, other_gates}
-use Rattle.page_store.specs.PageLaws.{other_pages}
+use Rattle.page_store.specs.Gates.{open_gates}
+use Rattle.page_store.proofs.GateLaws.{other_gates}
+use Rattle.page_store.proofs.PageLaws.{other_pages}
 use Rattle.page_store.specs.StoreState.{store_log, stored_frame}
 use Rattle.page_store.proofs.Storing.{is_stored_image, left_by, written_has, written_outside, written_page, written_frame, written_gates, knows_stored}
 use Rattle.page_store.proofs.store.PageStore.store.Goals as goal

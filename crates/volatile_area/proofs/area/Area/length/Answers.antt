@@ -2,7 +2,7 @@
 use Rattle.std.proofs.Common.{◌≡◌, ◌/◌, Some, ◌∙◌, ap, sym, arith}
 use Rattle.std.specs.Prelude.{slice_index}
 use Rattle.std.proofs.lemmas.List.{get_or_read}
-use Rattle.object_layout.specs.LayoutLaws.{length-field_words}
+use Rattle.object_layout.proofs.LayoutLaws.{length-field_words}
 use Rattle.volatile_area.specs.Area.{area_of}
 use Rattle.volatile_area.proofs.Kept.{stands_at, StandsAt}
 use Rattle.volatile_area.proofs.area.Area.length.Goals.{After-self, After-index}

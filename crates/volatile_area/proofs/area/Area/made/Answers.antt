@@ -1,5 +1,5 @@
 use Rattle.std.proofs.Common.{arith}
-use Rattle.volatile_area.specs.AreaLaws.{made_few}
+use Rattle.volatile_area.proofs.AreaLaws.{made_few}
 use Rattle.volatile_area.proofs.area.Area.made.Goals as goal
 
 pub overflow_cast-result : goal.overflow_cast-result

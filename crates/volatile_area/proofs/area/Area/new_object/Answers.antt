@@ -4,7 +4,7 @@ use Rattle.std.specs.Prelude.{replicate}
 use Rattle.std.proofs.lemmas.List.{length_push}
 use Rattle.heap_words.specs.Header.{birth_bits}
 use Rattle.volatile_area.specs.Area.{AreaState, area_of, new_words, with_object, IsKept}
-use Rattle.volatile_area.specs.AreaLaws.{made_few}
+use Rattle.volatile_area.proofs.AreaLaws.{made_few}
 use Rattle.volatile_area.proofs.Kept.{kept_with_object}
 use Rattle.volatile_area.proofs.area.Area.new_object.Goals as goal
 

@@ -7,7 +7,7 @@ use Rattle.log_records.specs.Record.{spellings}
 use Rattle.log_machine.specs.declared.UndoEntry.{UndoEntry}
 use Rattle.log_machine.specs.Machine.{field_at, put_record, abort_records, end_bytes}
 use Rattle.log_machine.specs.Effect.{EachWritesBelow}
-use Rattle.log_machine.specs.WordsLaws.{length-put_records}
+use Rattle.log_machine.proofs.WordsLaws.{length-put_records}
 use Rattle.page_cache.specs.CacheState.{cached}
 use Rattle.txn_table.specs.Table.{TransactionState, transaction_of, with_ended}
 use Rattle.object_locks.specs.Holdings.{without}

@@ -8,7 +8,7 @@ use Rattle.page_cache.specs.CacheState.{cached}
 use Rattle.volatile_area.specs.Area.{with_object}
 use Rattle.txn_table.specs.declared.place.Place.TheVariants.{Volatile}
 use Rattle.txn_table.specs.Table.{TransactionState, transaction_of, with_transaction}
-use Rattle.txn_table.specs.TableLaws.{with_transaction_twice}
+use Rattle.txn_table.proofs.TableLaws.{with_transaction_twice}
 use Rattle.heap_memory.specs.Leaves.{with_handle, with_made}
 use Rattle.working_state.proofs.Left.{adds_nothing}
 use Rattle.working_state.proofs.Made.{area_room, can_refer_made, new_granted, new_full}

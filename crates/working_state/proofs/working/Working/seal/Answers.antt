@@ -7,7 +7,7 @@ use Rattle.log_records.specs.declared.Record.{Record}
 use Rattle.log_records.specs.Record.{spellings}
 use Rattle.log_machine.specs.Machine.{words_in, put_record, end_bytes}
 use Rattle.log_machine.specs.Effect.{EachWritesBelow}
-use Rattle.graph_words.specs.SealingWords.{length-records}
+use Rattle.graph_words.proofs.Seal.Words.{length-records}
 use Rattle.object_locks.specs.Holdings.{without}
 use Rattle.txn_table.specs.Table.{transaction_of, with_ended}
 use Rattle.heap_memory.specs.Refusals.{sealing_records}

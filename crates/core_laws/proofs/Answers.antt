@@ -1,0 +1,3 @@
+-- What a core answers.
+pub mod Busy
+pub mod Plain

@@ -1,0 +1,143 @@
+-- What a crash leaves of a reached core: the graph of the first commits since its opening, among them all that were acknowledged.
+use Rattle.std.proofs.Common.{◌≡◌, inl, inr, ℕ, ◌+◌, ◌≤◌, List, ◌++◌, length, take, Option, None, sym, ap, ◌∙◌, subst, arith}
+use Rattle.std.specs.Prelude.{IsTrue}
+use Rattle.std.specs.Option.{option_to_list}
+use Rattle.std.proofs.lemmas.List.{append-nil}
+use Rattle.graph_model.specs.Transaction.{Transaction, serial}
+use Rattle.graph_model.specs.History.{Account, account, sealed, commits, acknowledged}
+use Rattle.image_plan.specs.declared.superblock.Super.{Super}
+use Rattle.log_records.specs.declared.Record.{Record}
+use Rattle.gated_log.specs.Log.{batches_bytes, records_of}
+use Rattle.log_machine.specs.Machine as machine
+use Rattle.log_machine.specs.Machine.{State, reserve}
+use Rattle.log_machine.proofs.StateLaws.{commits-start}
+use Rattle.page_redo.specs.Pages.{Pages}
+use Rattle.page_redo.specs.Prefix.{EachHoldsPrefix}
+use Rattle.page_redo.proofs.PrefixLaws.{EachHoldsPrefix-append}
+use Rattle.graph_words.specs.Places.{Places}
+use Rattle.heap_model.specs.Core.{Core, all_words}
+use Rattle.heap_model.specs.CoreCrash.{HasLogWords, IsLogged, IsOnDisk, IsSuperOf}
+use Rattle.heap_model.specs.CoreTold.{IsTold}
+use Rattle.heap_model.proofs.Step.Goes.{told_sound}
+use Rattle.heap_model.proofs.Opening.Legal.{told_says}
+use Rattle.heap_model.proofs.Step.Logged.{all_logged}
+use Rattle.heap_model.proofs.Step.Room.{records_of-with_batch, length-with_batch}
+use Rattle.heap_model.specs.Image.{Says}
+use Rattle.heap_model.specs.Opening.{next_of, next_in}
+use Rattle.core_laws.proofs.Step.Goes.{known_on}
+use Rattle.core_laws.proofs.Step.GrantedEnds.{all_on_disk}
+use Rattle.core_laws.proofs.Step.Reserved.{reserve_reserved}
+use Rattle.core_laws.proofs.Step.Sound.{sound_agrees}
+use Rattle.core_laws.specs.Theorems.{CrashTheorem}
+use Rattle.core_laws.specs.Valid.{Agrees, IsSound}
+
+-- Records tell the first k commits of a core since its opening, and all that was acknowledged or forced is among them; the log has room
+-- to take back what else they hold.
+pub record TellFirst (c : Core) (k : ℕ) (batches : List (List Record)) : Type 0 where
+  pub state : State
+  pub places : Places
+  pub words : List ℕ
+  pub told : IsTold c.pages c.lowest c.born places (serial c.g0 (take k (commits c.history))) (c.before + k) (records_of batches) words state
+  pub logged : words ≡ machine.words c.pages (records_of batches)
+  pub room : length (batches_bytes batches) + 1 + reserve state ≤ c.room
+  pub next : c.first ≤ state.next
+  pub kept : acknowledged c.history ≤ k
+  pub forced : machine.commits (records_of c.batches) ≤ c.before + k
+  pub some : k ≤ length (commits c.history)
+
+-- a seal asks nothing of the disk, so the commits are the sealed transactions
+pub commits-sealed : (c : Core) → IsSound c → commits c.history ≡ sealed c.history
+commits-sealed c h =
+    let b = sound_agrees c h in
+    ap (λ (o : Option Transaction). sealed c.history ++ option_to_list o) b.certain ∙ append-nil (sealed c.history)
+
+tell_sealed : (c : Core) (k : ℕ) (batches : List (List Record)) (places : Places) (now : List ℕ) (state : State) → IsSound c
+    → IsTold c.pages c.lowest c.born places (serial c.g0 (take k (sealed c.history))) (c.before + k) (records_of batches) now state → now ≡ machine.words c.pages (records_of batches)
+    → length (batches_bytes batches) + 1 + reserve state ≤ c.room → c.first ≤ state.next → acknowledged c.history ≤ k → machine.commits (records_of c.batches) ≤ c.before + k
+    → k ≤ length (sealed c.history) → TellFirst c k batches
+tell_sealed c k batches places now state h told logged room next kept forced some =
+    let same = commits-sealed c h in
+    record {
+      state = state;
+      places = places;
+      words = now;
+      told = subst (λ (ts : List Transaction). IsTold c.pages c.lowest c.born places (serial c.g0 (take k ts)) (c.before + k) (records_of batches) now state) (sym same) told;
+      logged = logged;
+      room = room;
+      next = next;
+      kept = kept;
+      forced = forced;
+      some = subst (λ (ts : List Transaction). k ≤ length ts) (sym same) some;
+    }
+
+-- so many commits of the log on the disk came before the opening, and so many since then
+forced_commits : (a : Account) (c : Core) → (b : Agrees a c) → machine.commits (records_of c.batches) ≡ c.before + b.durable
+forced_commits a c b =
+    let all = commits-start c.pages c.lowest b.on_disk (records_of c.batches) b.disk_told.reached in
+    let count = b.disk_told.count in
+    omega arith
+
+-- pages that may stand beside the forced records may stand beside these batches
+pub prefixes_on : (c : Core) (batches : List (List Record)) (stored : Pages) → IsLogged c stored → IsOnDisk c batches → EachHoldsPrefix c.pages (records_of batches) stored
+prefixes_on c batches stored logged (inl is) = subst (λ (bs : List (List Record)). EachHoldsPrefix c.pages (records_of bs) stored) (sym is) logged.prefixes
+prefixes_on c batches stored logged (inr is) =
+    subst (λ (rs : List Record). EachHoldsPrefix c.pages rs stored) (sym (ap records_of is ∙ records_of-with_batch c.batches c.pending))
+    (EachHoldsPrefix-append c.pages (records_of c.batches) c.pending stored logged.prefixes)
+
+-- the batches on the disk tell the first commits
+pub tell_first : (c : Core) (batches : List (List Record)) → IsSound c → HasLogWords c → IsOnDisk c batches → (k : ℕ) × TellFirst c k batches
+tell_first c batches h logged (inl is) =
+    let b = sound_agrees c h in
+    let forced = forced_commits (record (account c.history) { failed = None }) c b in
+    let P : List (List Record) → Type 0 = λ bs. TellFirst c b.durable bs in
+    (b.durable, subst P (sym is) (tell_sealed c b.durable c.batches b.disk_places c.words b.on_disk h b.disk_told logged b.disk_room b.first_known b.acknowledged_last (omega arith) b.sealed_first))
+tell_first c batches h logged (inr is) =
+    let b = sound_agrees c h in
+    let a = record (account c.history) { failed = None } in
+    let all = length (sealed c.history) in
+    let last = b.acknowledged_last in
+    let first = b.sealed_first in
+    let records = ap records_of is ∙ records_of-with_batch c.batches c.pending in
+    let told = all_on_disk a c batches b records in
+    let words = all_logged c logged ∙ ap (machine.words c.pages) (sym records) in
+    let size = ap (λ (bs : List (List Record)). length (batches_bytes bs)) is in
+    let whole = length-with_batch c.batches c.pending in
+    let fits = reserve_reserved a b.behind b.in_sessions (told_sound b.told) b.losers in
+    let room = b.room in
+    let known = known_on a c b in
+    let forced = forced_commits a c b in
+    (all, tell_sealed c all batches c.places (all_words c) b.behind h told words (omega arith) known (omega arith) (omega arith) (omega arith))
+
+module _ (c : Core) (s : Super) (batches : List (List Record)) (stored : Pages) (h : IsSound c) (logged : HasLogWords c) (beside : EachHoldsPrefix c.pages (records_of batches) stored) (on : IsOnDisk c batches) (of : IsSuperOf s c) where
+  first : (k : ℕ) × TellFirst c k batches
+  first = tell_first c batches h logged on
+  told : IsTold s.pages s.first c.born first.1.places (serial c.g0 (take first.0 (commits c.history))) (c.before + first.0) (records_of batches) first.1.words first.1.state
+  told =
+      let P : ℕ → ℕ → Type 0 = λ pages lowest. IsTold pages lowest c.born first.1.places (serial c.g0 (take first.0 (commits c.history))) (c.before + first.0) (records_of batches) first.1.words first.1.state in
+      subst (λ pages. P pages s.first) (sym of.pages) (subst (λ lowest. P c.pages lowest) (sym of.first) first.1.told)
+  fits : length (batches_bytes batches) + 1 + reserve first.1.state ≤ s.log_bytes
+  fits = let room = first.1.room in let same = of.room in omega arith
+  -- the pages on the disk may stand beside the log there
+  prefixes : EachHoldsPrefix s.pages (records_of batches) stored
+  prefixes = subst (λ (pages : ℕ). EachHoldsPrefix pages (records_of batches) stored) (sym of.pages) beside
+  words_are : first.1.words ≡ machine.words s.pages (records_of batches)
+  words_are = first.1.logged ∙ ap (λ (pages : ℕ). machine.words pages (records_of batches)) (sym of.pages)
+  -- its next transaction number is not below the first of this opening
+  disk_next : c.first ≤ next_of s batches
+  disk_next = let same : next_of s batches ≡ first.1.state.next = ap next_in told.reached in let next = first.1.next in omega arith
+  -- where births give the names it is legal, and says the first commits since the opening, with all that was acknowledged or forced
+  pub disk_says : IsTrue c.born → (k : ℕ) × Says (serial c.g0 (take k (commits c.history))) (c.before + k) s batches stored × (c.first ≤ next_of s batches) × (acknowledged c.history ≤ k) × (machine.commits (records_of c.batches) ≤ c.before + k) × (k ≤ length (commits c.history))
+  disk_says by_birth = (
+    first.0,
+    told_says s batches stored c.born first.1.places (serial c.g0 (take first.0 (commits c.history))) (c.before + first.0) first.1.words first.1.state of.limits told words_are prefixes fits by_birth,
+    disk_next,
+    first.1.kept,
+    first.1.forced,
+    first.1.some,
+  )
+
+-- A crash leaves an image of the first commits.
+pub crash_law : CrashTheorem
+crash_law c s batches stored sound by_birth logged beside on of image held =
+    let says = disk_says c s batches stored sound logged beside on of by_birth in
+    (says.0, record { stands = record { super = s; batches = batches; stored = stored; says = says.1; held = held }; of = of; next = says.2; kept = says.3; forced = says.4; some = says.5 })

@@ -1,0 +1,7 @@
+pub mod Answers
+pub mod Crash
+pub mod Opening
+pub mod Run
+pub mod Seal
+pub mod Sessions
+pub mod Step

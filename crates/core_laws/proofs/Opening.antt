@@ -1,0 +1,3 @@
+-- An opened heap continues.
+pub mod Again
+pub mod Opened

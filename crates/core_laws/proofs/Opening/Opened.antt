@@ -1,0 +1,123 @@
+-- A core that was opened on a shaped log is reached, whatever graph stands in its words, under whatever names.
+use Rattle.std.proofs.Common.{◌≡◌, ℕ, ◌+◌, ◌≤◌, inl, Bool, List, [], ◌∷◌, ◌++◌, Option, Some, None, refl, sym, ◌∙◌, subst, arith}
+use Rattle.std.specs.Prelude.{sum_by}
+use Rattle.std.proofs.lemmas.List.{append-nil}
+use Rattle.std.proofs.lemmas.List.Sums.{sum_by-cons}
+use Rattle.std.specs.FinMap.{get}
+use Rattle.graph_model.specs.declared.val.Val.{Val}
+use Rattle.graph_model.specs.Graph.{Graph}
+use Rattle.graph_model.proofs.Whole.Names.{AreBelow}
+use Rattle.graph_model.specs.ClosedGraph.{IsUnused}
+use Rattle.graph_model.specs.History.{nothing_yet, sessions}
+use Rattle.image_plan.specs.declared.superblock.Super.{Super}
+use Rattle.log_records.specs.declared.Record.{Record}
+use Rattle.log_machine.proofs.AbortLaws.{settled}
+use Rattle.log_machine.specs.Machine.{start, all_taken_back, commits, undo_of}
+use Rattle.log_machine.proofs.MapLaws.{each_empty}
+use Rattle.log_machine.proofs.StateLaws.{leads_after_all, commits-start}
+use Rattle.log_machine.proofs.TakenBackLaws.{taken_back-settled}
+use Rattle.page_redo.specs.Pages.{Pages}
+use Rattle.log_machine.specs.declared.UndoEntry.{UndoEntry}
+use Rattle.gated_log.specs.Log.{records_of}
+use Rattle.commit_order.proofs.PlaceLaws.{nothing_plain, nothing_two_phase}
+use Rattle.graph_words.specs.Places.{Places}
+use Rattle.graph_words.specs.Stands.{AreNamedByBirth, StandsCommitted}
+use Rattle.graph_words.proofs.Stands.Closed.{stands_closed, placed_below}
+use Rattle.heap_model.proofs.Opening.Rolled.{next_is, rolled_reached, rolled_good, rolled_room, rolled_words-is, length-rolled_words, settled_reserve}
+use Rattle.heap_model.specs.CoreTold.{IsTold}
+use Rattle.heap_model.specs.Core.{kept_for}
+use Rattle.heap_model.specs.Image.{words_of, IsShapedLog}
+use Rattle.heap_model.specs.Opening.{rolled_back, rolled_words, next_of, opened, IsFound}
+use Rattle.core_laws.specs.Valid.{IsActive, RunsLocked, IsValid, IsReached}
+
+-- where each object is below a number, none is of a transaction from it on
+pub below_unused : (g : Graph) (next n : ℕ) → AreBelow g next → next ≤ n → IsUnused g n
+below_unused g next n below more id maker = none_there (get g id) refl where
+  none_there : (o : Option (List Val)) → get g id ≡ o → get g id ≡ None
+  none_there None is = is
+  none_there (Some vs) is = absurd (omega (arith, below id (vs, is), maker))
+
+no_entry : {X : Type 0} (xs : List X) (y : X) (ys : List X) → [] ≡ xs ++ y ∷ ys → ⊥
+no_entry [] y ys is = cc
+no_entry (x ∷ xs) y ys is = cc
+
+-- nothing is kept where no transaction is active
+none_kept : (undo : ℕ → List UndoEntry) (ss : List ℕ) → sum_by (λ s. kept_for undo (nothing_yet.active s)) ss ≡ 0
+none_kept undo [] = refl
+none_kept undo (s ∷ ss) =
+    let more = sum_by-cons (λ s. kept_for undo (nothing_yet.active s)) s ss in
+    let rest = none_kept undo ss in
+    omega arith
+
+module _ (s : Super) (batches : List (List Record)) (stored : Pages) (shaped : IsShapedLog s batches stored) (gates : ℕ → ℕ) (born : Bool) (places : Places) (g : Graph) (found : IsFound s batches stored shaped born places g) where
+  abbrev now : List ℕ
+  now = rolled_words s batches stored
+  opened_told : IsTold s.pages s.first born places g (commits (records_of batches) + 0) (records_of (rolled_back s batches)) now (settled shaped.state)
+  opened_told =
+      let count = commits-start s.pages s.first shaped.state (records_of batches) shaped.reached in
+      let settled_now = taken_back-settled (settled shaped.state) now refl in
+      let same : words_of s batches stored ≡ all_taken_back (settled shaped.state) now = sym (settled_now ∙ rolled_words-is s batches stored shaped) in
+      record {
+        good = rolled_good s batches stored shaped;
+        reached = rolled_reached s batches stored shaped;
+        size = length-rolled_words s batches stored shaped;
+        count = omega arith;
+        base = (leads_after_all (start s.pages s.first) shaped.state (records_of batches) shaped.reached).base;
+        stands = subst (λ ws. StandsCommitted places g ws shaped.state.base shaped.state.used) same found.stands;
+        old = found.old;
+        births = λ by_birth. subst (AreNamedByBirth places) same (found.births by_birth);
+      }
+  -- the core is valid
+  pub opened_valid : IsValid (opened s batches stored gates born places g)
+  opened_valid =
+      let to = leads_after_all (start s.pages s.first) shaped.state (records_of batches) shaped.reached in
+      let next = next_is s batches stored shaped in
+      let some_first = shaped.limits.some_first in
+      let small_first = shaped.limits.small_first in
+      let grows = to.grows in
+      let fits = to.next_in_range (omega arith) in
+      let room = rolled_room s batches stored shaped in
+      let none = settled_reserve shaped.state in
+      let kept = none_kept (undo_of (settled shaped.state)) sessions in
+      record {
+        unfailed = refl;
+        certain = refl;
+        in_sessions = λ session t is. cc;
+        some_pages = shaped.limits.some_pages;
+        few_pages = shaped.limits.few_pages;
+        some_first = omega arith;
+        next_fits = omega arith;
+        numbered = λ session. tt;
+        durable = 0;
+        sealed_first = omega arith;
+        acknowledged_last = omega arith;
+        on_disk = settled shaped.state;
+        disk_places = places;
+        disk_told = opened_told;
+        first_known = omega arith;
+        disk_room = omega arith;
+        behind = settled shaped.state;
+        told = subst (λ rs. IsTold s.pages s.first born places g (commits (records_of batches) + 0) rs now (settled shaped.state)) (sym (append-nil (records_of (rolled_back s batches)))) opened_told;
+        next_known = omega arith;
+        losers = each_empty (λ q us. IsActive nothing_yet q);
+        writers = λ session. tt;
+        room = omega arith;
+      }
+  -- no transaction to come can give a name that an object has
+  opened_unused : (n : ℕ) → next_of s batches ≤ n → IsUnused g n
+  opened_unused n more =
+      let next = next_is s batches stored shaped in
+      let grows = (leads_after_all (start s.pages s.first) shaped.state (records_of batches) shaped.reached).grows in
+      let some_first = shaped.limits.some_first in
+      below_unused g shaped.state.next n (placed_below places g shaped.state.next found.placed found.old (omega arith)) (omega arith)
+  opened_locked : RunsLocked g (next_of s batches) []
+  opened_locked = record {
+    plain = nothing_plain g (stands_closed found.stands found.placed);
+    two_phase = nothing_two_phase g;
+    fails = λ before e after is. absurd (no_entry before e after is);
+    begun_below = λ n there. absurd (omega (arith, there.1));
+    unused = opened_unused;
+  }
+  -- A core that was opened on a shaped log is reached.
+  pub opened_reached : IsReached (opened s batches stored gates born places g)
+  opened_reached = record { sound = inl opened_valid; locked = opened_locked }

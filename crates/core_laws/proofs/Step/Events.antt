@@ -1,0 +1,318 @@
+-- Each step of a valid core whose transactions run under two-phase locking leaves a valid core.
+use Rattle.std.proofs.Common.{◌≡◌, ℕ, ◌+◌, Bool, true, false, List, [], ◌∷◌, ◌++◌, length, Option, Some, None, is_some, refl, sym, ap, ◌∙◌, subst, arith}
+use Rattle.std.specs.Prelude.{◌==◌, if◌then◌else◌}
+use Rattle.std.proofs.lemmas.Bool.{eqb-false}
+use Rattle.std.proofs.lemmas.List.{append-nil}
+use Rattle.std.specs.List.{AllByRecursion}
+use Rattle.graph_model.specs.declared.event.Event.{Event}
+use Rattle.graph_model.specs.declared.id.Id.{Id}
+use Rattle.graph_model.specs.declared.val.Val.{Val}
+use Rattle.graph_model.specs.declared.val.Val.TheVariants.{Null, Int}
+use Rattle.graph_model.specs.declared.event.Event.TheVariants.{Begin, Root, New, Put, Clear, Link, Drop, Get, Same, Len, Seal, Abort, Force, Flush}
+use Rattle.graph_model.specs.declared.reply.Entry.{Entry}
+use Rattle.graph_model.specs.declared.reply.Refusal.{Refusal}
+use Rattle.graph_model.specs.declared.reply.Refusal.TheVariants.{AlreadyActive, NumbersSpent}
+use Rattle.graph_model.specs.declared.reply.Reply.{Reply}
+use Rattle.graph_model.specs.declared.reply.Reply.TheVariants.{Durable, Flushed, Clean, Refused}
+use Rattle.graph_model.specs.Graph.{Graph}
+use Rattle.graph_model.specs.Transaction.{Transaction, IsCall, held, put_value, reference_to, call}
+use Rattle.graph_model.specs.History.{Account, IsSession, account, account_after, session_of, IsOfSession}
+use Rattle.graph_model.specs.Replies.{IsCallReply}
+use Rattle.graph_model.proofs.Runs.History.{account-append, account_after-call}
+use Rattle.graph_model.specs.Locking.{Exclusive, lock_on, lock_of, IsFree}
+use Rattle.graph_model.specs.Plain.{view, no_number, field_refusal, call_refusal, event_refusal, call_conflict, conflict_refusal, model_refusal, first_of_two, refusal_of, granted, reply_of}
+use Rattle.graph_model.proofs.Refusals.Plain.{IsNoFault, HasNoFault, call_reply-IsCallReply, event_refusal-call, granted-call, account_after-refused}
+use Rattle.graph_model.proofs.Refusals.Granted.{new_granted}
+use Rattle.commit_order.proofs.CallLaws.{lock_on-held}
+use Rattle.commit_order.proofs.OrderLaws.{two_phase_ordered}
+use Rattle.log_records.specs.declared.Record.{Record}
+use Rattle.log_records.specs.Record.{IsRecord}
+use Rattle.gated_log.specs.Log.{records_of}
+use Rattle.log_machine.specs.Machine.{State, undo_of, abort_records}
+use Rattle.graph_words.specs.Places.{Places, IsVisible}
+use Rattle.heap_model.specs.Core.{Core, ground, all_records, next_number, undo_with, undo_behind, kept_for, view_records, call_records, event_records, event_places, sealed_places, used, need, reserved, reserved_after, room_refusal, words_refusal, log_refusal, core_refusal, granted_by, with_entry, is_dirty, done, after_refusal, after, AsksDisk}
+use Rattle.heap_model.proofs.Step.Goes.{need_nothing}
+use Rattle.heap_model.proofs.Step.Room.{full_log-none, full_log-room}
+use Rattle.heap_model.proofs.ListLaws.{AllByRecursion-behind}
+use Rattle.heap_model.proofs.Step.Step.{core_refusal-HasNoFault, done_history}
+use Rattle.core_laws.proofs.Step.Forms.{is_write, quiet_records, call_places, is_new, quiet_call, done_records, no_call, two_tests, not_active, has_transaction, area_fits, put_bounds, reference_visible, link_field}
+use Rattle.core_laws.proofs.Step.Goes.{writing_of, agrees_history}
+use Rattle.core_laws.proofs.Step.Granted.{HasRoom, begin_agrees, quiet_agrees, new_agrees}
+use Rattle.core_laws.proofs.Step.GrantedWrites.{write_agrees}
+use Rattle.core_laws.proofs.Step.GrantedEnds.{abort_room, abort_agrees, force_agrees, flush_agrees}
+use Rattle.core_laws.proofs.Step.Reserved.{reserved_same}
+use Rattle.core_laws.proofs.Seal.Agrees.{seal_agrees}
+use Rattle.core_laws.proofs.Sessions.Actives.{called, called_reserved}
+use Rattle.core_laws.proofs.Step.Sound.{agrees_entry}
+use Rattle.core_laws.proofs.Step.TwoPhase.{model_granted, free_call}
+use Rattle.core_laws.specs.Valid.{RunsLocked, Agrees, IsValid}
+
+-- What an event leaves that isn't refused agrees with its entry.
+abbrev pub Goes : Core → Event → Type 0
+Goes c event =
+    let a = account c.history in
+    Agrees (account_after a (record { event = event; reply = granted (next_number c) c.g0 a event })) (done c event)
+
+-- An event isn't refused: not for what it asks, nor for what others hold, nor for want of room.
+pub record IsGranted (c : Core) (event : Event) : Type 0 where
+  pub asks : event_refusal (next_number c) c.g0 (account c.history) event ≡ None
+  pub free : conflict_refusal c.g0 (account c.history) event ≡ None
+  pub words : words_refusal c event ≡ None
+  pub log : log_refusal c event ≡ None
+
+-- a core that has not failed refuses for the model, for the words or for the log
+pub unfailed_refusal : (c : Core) (event : Event) → (account c.history).failed ≡ None
+    → core_refusal c event ≡ first_of_two (model_refusal (next_number c) c.g0 (account c.history) event) (first_of_two (words_refusal c event) (log_refusal c event))
+unfailed_refusal c event e =
+    ap (λ (o : Option ℕ). refusal_of o (first_of_two (model_refusal (next_number c) c.g0 (account c.history) event) (first_of_two (words_refusal c event) (log_refusal c event)))) e
+
+both_none : (first second : Option Refusal) → first_of_two first second ≡ None → (first ≡ None) × (second ≡ None)
+both_none None second e = (refl, e)
+both_none (Some why) second e = cc
+
+-- an event that a core does not refuse is granted
+pub may_go : (c : Core) (event : Event) → (account c.history).failed ≡ None → core_refusal c event ≡ None → IsGranted c event
+may_go c event unfailed e =
+    let model = model_granted c event e in
+    let first = both_none (model_refusal (next_number c) c.g0 (account c.history) event) (first_of_two (words_refusal c event) (log_refusal c event)) (sym (unfailed_refusal c event unfailed) ∙ e) in
+    let second = both_none (words_refusal c event) (log_refusal c event) first.1 in
+    record { asks = model.0; free = model.1; words = second.0; log = second.1 }
+
+-- Room in the log.
+
+-- what the log's test tells
+pub log_has_room : (c : Core) (event : Event) → log_refusal c event ≡ None
+    → HasRoom c (event_records c event) (account_after (account c.history) (record { event = event; reply = granted (next_number c) c.g0 (account c.history) event }))
+log_has_room c event room = full_log-room c.room (used c) (need c.pending (event_records c event)) (reserved_after c event) room
+
+-- and back
+log_roomy : (c : Core) (event : Event)
+    → HasRoom c (event_records c event) (account_after (account c.history) (record { event = event; reply = granted (next_number c) c.g0 (account c.history) event }))
+    → log_refusal c event ≡ None
+log_roomy c event room = full_log-none c.room (used c) (need c.pending (event_records c event)) (reserved_after c event) room
+
+-- a call that isn't refused is one more of its transaction
+pub call_account : (next : ℕ) (g0 : Graph) (a : Account) (event : Event) → IsCall event
+    → account_after a (record { event = event; reply = granted next g0 a event }) ≡ called a (session_of event) event
+call_account next g0 a event is =
+    let reply = call_reply-IsCallReply g0 a (a.active (session_of event)) event in
+    account_after-call a event (granted next g0 a event) (subst IsCallReply (sym (granted-call next g0 a event is)) reply)
+
+-- what is kept where no record is appended
+pub kept_still : (c : Core) (b : Account) → (valid : IsValid c) → reserved (undo_behind c (all_records c ++ [])) b ≡ reserved (undo_of valid.behind) b
+kept_still c b valid =
+    ap (λ (rs : List Record). reserved (undo_behind c rs) b) (append-nil (all_records c)) ∙ ap (λ (o : Option State). reserved (undo_with o) b) valid.told.reached
+
+-- the log has room for a call that writes nothing
+pub log_quiet : (c : Core) (event : Event) → IsValid c → IsCall event → is_write event ≡ false → log_refusal c event ≡ None
+log_quiet c event valid is quiet =
+    let a = account c.history in
+    let s = session_of event in
+    let b = account_after a (record { event = event; reply = granted (next_number c) c.g0 a event }) in
+    let none = quiet_records c event is quiet in
+    let said : HasRoom c [] (called a s event) =
+    let nothing = need_nothing c.pending in
+    let kept = kept_still c (called a s event) valid in
+    let same = called_reserved (undo_of valid.behind) a s event in
+    omega (arith, valid.room) in
+    log_roomy c event (subst (λ (rs : List Record). HasRoom c rs b) (sym none) (subst (HasRoom c []) (sym (call_account (next_number c) c.g0 a event is)) said))
+
+-- and for what neither appends a record nor changes a transaction
+room_still : (c : Core) (b : Account) → IsValid c → ((s : ℕ) → b.active s ≡ (account c.history).active s) → HasRoom c [] b
+room_still c b valid actives =
+    let nothing = need_nothing c.pending in
+    let kept = kept_still c b valid in
+    let same = reserved_same (undo_of valid.behind) (undo_of valid.behind) b (account c.history) (λ s. ap (kept_for (undo_of valid.behind)) (actives s)) in
+    omega (arith, valid.room)
+
+-- so it has for a force
+pub log_force : (c : Core) → IsValid c → log_refusal c Force ≡ None
+log_force c valid = log_roomy c Force (room_still c (account_after (account c.history) (record { event = Force; reply = Durable (length (account c.history).sealed) })) valid (λ s. refl))
+
+-- and for a flush
+pub log_flush : (c : Core) (p : ℕ) → IsValid c → log_refusal c (Flush p) ≡ None
+log_flush c p valid = log_roomy c (Flush p) (room_still c (account_after (account c.history) (record { event = Flush p; reply = Flushed p })) valid (λ s. refl))
+
+-- the records of an abort, where the transaction is known
+pub abort_is : (c : Core) (s : ℕ) (t : Transaction) (valid : IsValid c) → (account c.history).active s ≡ Some t → event_records c (Abort s) ≡ abort_records t.number (undo_of valid.behind t.number)
+abort_is c s t valid e =
+    let a = account c.history in
+    ap (λ (o : Option Transaction). call_records (ground c) c.g0 a o (Abort s)) e ∙ ap (λ (o : Option State). abort_records t.number (undo_with o t.number)) valid.told.reached
+
+-- the log has room for the abort of an active transaction
+pub log_abort : (c : Core) (s : ℕ) (t : Transaction) → IsValid c → RunsLocked c.g0 c.first c.history → (account c.history).active s ≡ Some t → log_refusal c (Abort s) ≡ None
+log_abort c s t valid runs e =
+    let a = account c.history in
+    log_roomy c (Abort s) (abort_room a c (two_phase_ordered c.g0 c.history runs.plain runs.two_phase) s t (event_records c (Abort s)) valid e (abort_is c s t valid e))
+
+-- Events that are granted.
+
+-- a call that isn't refused has a transaction
+call_transaction : (c : Core) (event : Event) → IsCall event → event_refusal (next_number c) c.g0 (account c.history) event ≡ None
+    → (t : Transaction) × ((account c.history).active (session_of event) ≡ Some t) × (call_refusal c.g0 (account c.history) (Some t) event ≡ None)
+call_transaction c event is may =
+    let a = account c.history in
+    let own : call_refusal c.g0 a (a.active (session_of event)) event ≡ None = sym (event_refusal-call (next_number c) c.g0 a event is) ∙ may in
+    let t = has_transaction c.g0 a (a.active (session_of event)) event own in
+    (t.0, t.1, ap (λ (o : Option Transaction). call_refusal c.g0 a o event) (sym t.1) ∙ own)
+
+begin_goes : (c : Core) (s : ℕ) → IsValid c → IsSession s → IsGranted c (Begin s) → Goes c (Begin s)
+begin_goes c s valid session may =
+    let a = account c.history in
+    let tests = two_tests (is_some (a.active s)) (next_number c == no_number) AlreadyActive NumbersSpent may.asks in
+    begin_agrees a c s valid session (not_active (a.active s) tests.0) (eqb-false (next_number c) no_number tests.1) (log_has_room c (Begin s) may.log)
+
+-- what a call leaves, by what it appends
+call_left : (c : Core) (event : Event) (more : List Record) → IsCall event → event_records c event ≡ more → Agrees (called (account c.history) (session_of event) event) (record c { pending = c.pending ++ more; places = c.places ++ [] })
+    → Goes c event
+call_left c event more is records go =
+    let a = account c.history in
+    let left = done_records c event (no_call event is)
+    ∙ ap (λ (rs : List Record). record c { pending = c.pending ++ rs; places = c.places ++ event_places c event }) records
+    ∙ ap (λ (placed : Places). record c { pending = c.pending ++ more; places = c.places ++ placed }) (call_places c event is) in
+    let there = subst (λ (d : Core). Agrees (called a (session_of event) event) d) (sym left) go in
+    subst (λ (b : Account). Agrees b (done c event)) (sym (call_account (next_number c) c.g0 a event is)) there
+
+quiet_goes : (c : Core) (event : Event) → IsValid c → IsCall event → is_write event ≡ false → is_new event ≡ false → IsGranted c event → Goes c event
+quiet_goes c event valid is quiet old may =
+    let a = account c.history in
+    let t = call_transaction c event is may.asks in
+    call_left c event [] is (quiet_records c event is quiet) (quiet_agrees a c (session_of event) t.0 event valid t.1 (quiet_call (view c.g0 a t.0) t.0.number event quiet old))
+
+new_goes : (c : Core) (s h len : ℕ) → IsValid c → IsGranted c (New s h len) → Goes c (New s h len)
+new_goes c s h len valid may =
+    let a = account c.history in
+    let event : Event = New s h len in
+    let t = call_transaction c event tt may.asks in
+    let bounds = new_granted (view c.g0 a t.0) s h len t.2 in
+    let room = ap (λ (o : Option Transaction). room_refusal (ground c) c.g0 a o event) (sym t.1) ∙ may.words in
+    call_left c event [] tt (quiet_records c event tt refl) (new_agrees a c s t.0 h len valid t.1 bounds.1 (area_fits (view c.g0 a t.0) t.0.number len room))
+
+-- a transaction that writes into what a handle holds finds it free
+write_free : (c : Core) (event : Event) (t : Transaction) (hd : ℕ) → IsValid c → (account c.history).active (session_of event) ≡ Some t → conflict_refusal c.g0 (account c.history) event ≡ None
+    → lock_of (view c.g0 (account c.history) t).registers event ≡ lock_on (view c.g0 (account c.history) t).registers hd Exclusive
+    → (id : Id) → held (view c.g0 (account c.history) t).registers hd ≡ Some id → IsFree c.g0 (account c.history) t.number (Some (id, Exclusive))
+write_free c event t hd valid e free lock id holds =
+    let a = account c.history in
+    let all = free_call c.g0 a t event valid.in_sessions (ap (λ (o : Option Transaction). call_conflict c.g0 a o event) (sym e) ∙ free) in
+    subst (IsFree c.g0 a t.number) (lock ∙ lock_on-held (view c.g0 a t).registers hd Exclusive id holds) all
+
+-- a call that writes a value into a field
+write_goes : (c : Core) (t : Transaction) (event : Event) (hd i : ℕ) (v : Val) → (valid : IsValid c) → RunsLocked c.g0 c.first c.history → IsCall event → IsGranted c event
+    → (account c.history).active (session_of event) ≡ Some t
+    → (call (view c.g0 (account c.history) t) t.number event).view.graph ≡ put_value (view c.g0 (account c.history) t).graph (held (view c.g0 (account c.history) t).registers hd) i v
+    → (call (view c.g0 (account c.history) t) t.number event).view.made ≡ (view c.g0 (account c.history) t).made
+    → IsVisible c.places t.number (view c.g0 (account c.history) t).made v
+    → field_refusal (view c.g0 (account c.history) t).graph (held (view c.g0 (account c.history) t).registers hd) i ≡ None
+    → lock_of (view c.g0 (account c.history) t).registers event ≡ lock_on (view c.g0 (account c.history) t).registers hd Exclusive
+    → event_records c event ≡ view_records c.places t.number (view c.g0 (account c.history) t) hd i v → Goes c event
+write_goes c t event hd i v valid runs is may e graph made seen within lock records =
+    let a = account c.history in
+    let s = session_of event in
+    let room = subst (HasRoom c (event_records c event)) (call_account (next_number c) c.g0 a event is) (log_has_room c event may.log) in
+    call_left c event (event_records c event) is refl
+    (write_agrees a c (two_phase_ordered c.g0 c.history runs.plain runs.two_phase) s t event hd i v (event_records c event) valid e graph made seen within lock (write_free c event t hd valid e may.free lock) records room)
+
+put_goes : (c : Core) (s h i v : ℕ) → IsValid c → RunsLocked c.g0 c.first c.history → IsGranted c (Put s h i v) → Goes c (Put s h i v)
+put_goes c s h i v valid runs may =
+    let a = account c.history in
+    let event : Event = Put s h i v in
+    let t = call_transaction c event tt may.asks in
+    let bounds = put_bounds (view c.g0 a t.0).graph (held (view c.g0 a t.0).registers h) i v t.2 in
+    write_goes c t.0 event h i (Int v) valid runs tt may t.1 refl refl bounds.0 bounds.1 refl (ap (λ (o : Option Transaction). call_records (ground c) c.g0 a o event) t.1)
+
+clear_goes : (c : Core) (s h i : ℕ) → IsValid c → RunsLocked c.g0 c.first c.history → IsGranted c (Clear s h i) → Goes c (Clear s h i)
+clear_goes c s h i valid runs may =
+    let a = account c.history in
+    let event : Event = Clear s h i in
+    let t = call_transaction c event tt may.asks in
+    write_goes c t.0 event h i Null valid runs tt may t.1 refl refl tt t.2 refl (ap (λ (o : Option Transaction). call_records (ground c) c.g0 a o event) t.1)
+
+link_goes : (c : Core) (s h i h2 : ℕ) → IsValid c → RunsLocked c.g0 c.first c.history → IsGranted c (Link s h i h2) → Goes c (Link s h i h2)
+link_goes c s h i h2 valid runs may =
+    let a = account c.history in
+    let event : Event = Link s h i h2 in
+    let t = call_transaction c event tt may.asks in
+    let v = view c.g0 a t.0 in
+    let w = writing_of a c s t.0 t.1 valid in
+    let within = link_field v.graph (held v.registers h) i (held v.registers h2) t.2 in
+    write_goes c t.0 event h i (reference_to (held v.registers h2)) valid runs tt may t.1 refl refl
+    (reference_visible c.places t.0.number v.made v.registers h2 (held v.registers h2) w.handles refl)
+    within refl (ap (λ (o : Option Transaction). call_records (ground c) c.g0 a o event) t.1)
+
+seal_goes : (c : Core) (s : ℕ) → IsValid c → RunsLocked c.g0 c.first c.history → IsGranted c (Seal s) → Goes c (Seal s)
+seal_goes c s valid runs may =
+    let a = account c.history in
+    let t = has_transaction c.g0 a (a.active s) (Seal s) may.asks in
+    let space = ap (λ (o : Option Transaction). room_refusal (ground c) c.g0 a o (Seal s)) (sym t.1) ∙ may.words in
+    seal_agrees a c (two_phase_ordered c.g0 c.history runs.plain runs.two_phase) s t.0 (length a.sealed + 1) (event_records c (Seal s)) (event_places c (Seal s)) valid t.1
+    (ap (λ (o : Option Transaction). call_records (ground c) c.g0 a o (Seal s)) t.1) (ap (sealed_places (ground c) c.g0 a) t.1) space (log_has_room c (Seal s) may.log)
+
+abort_goes : (c : Core) (s : ℕ) → IsValid c → RunsLocked c.g0 c.first c.history → IsGranted c (Abort s) → Goes c (Abort s)
+abort_goes c s valid runs may =
+    let a = account c.history in
+    let t = has_transaction c.g0 a (a.active s) (Abort s) may.asks in
+    abort_agrees a c (two_phase_ordered c.g0 c.history runs.plain runs.two_phase) s t.0 (event_records c (Abort s)) valid t.1 (abort_is c s t.0 valid t.1)
+
+-- an event that isn't refused, by its form
+pub goes : (c : Core) (event : Event) → IsValid c → RunsLocked c.g0 c.first c.history → IsOfSession event → IsGranted c event → Goes c event
+goes c (Begin s) valid runs session may = begin_goes c s valid session may
+goes c (Root s h) valid runs session may = quiet_goes c (Root s h) valid tt refl refl may
+goes c (New s h len) valid runs session may = new_goes c s h len valid may
+goes c (Put s h i v) valid runs session may = put_goes c s h i v valid runs may
+goes c (Clear s h i) valid runs session may = clear_goes c s h i valid runs may
+goes c (Link s h i h2) valid runs session may = link_goes c s h i h2 valid runs may
+goes c (Drop s h) valid runs session may = quiet_goes c (Drop s h) valid tt refl refl may
+goes c (Get s h i h2) valid runs session may = quiet_goes c (Get s h i h2) valid tt refl refl may
+goes c (Same s h h2) valid runs session may = quiet_goes c (Same s h h2) valid tt refl refl may
+goes c (Len s h) valid runs session may = quiet_goes c (Len s h) valid tt refl refl may
+goes c (Seal s) valid runs session may = seal_goes c s valid runs may
+goes c (Abort s) valid runs session may = abort_goes c s valid runs may
+goes c Force valid runs session may = force_agrees (account c.history) c valid
+goes c (Flush p) valid runs session may = flush_agrees (account c.history) c p valid
+
+-- What a step leaves.
+
+flush_adds : (a : Account) (p : ℕ) (dirty : Bool) → account_after a (record { event = Flush p; reply = if dirty then Flushed p else Clean p }) ≡ account_after a (record { event = Flush p; reply = Flushed p })
+flush_adds a p true = refl
+flush_adds a p false = refl
+
+-- the history says the same whether the core answers an event that isn't refused or a plain heap does: no answer to a flush adds anything
+pub reply_adds : (c : Core) (event : Event)
+    → account_after (account c.history) (record { event = event; reply = granted_by c event }) ≡ account_after (account c.history) (record { event = event; reply = granted (next_number c) c.g0 (account c.history) event })
+reply_adds c (Flush p) = flush_adds (account c.history) p (is_dirty c p)
+reply_adds c event = refl
+
+-- what a history says with one entry more, behind any core
+pub valid_entry : (c d : Core) (event : Event) (reply : Reply) → d.history ≡ c.history → Agrees (account_after (account c.history) (record { event = event; reply = reply })) d → IsValid (with_entry d event reply)
+valid_entry c d event reply same h =
+    let entry : Entry = record { event = event; reply = reply } in
+    let said : account (d.history ++ entry ∷ []) ≡ account_after (account c.history) entry = account-append d.history entry ∙ ap (λ (l : List Entry). account_after (account l) entry) same in
+    let P : Account → Type 0 = λ a. Agrees a (with_entry d event reply) in
+    subst P (sym said) (agrees_history _ d (d.history ++ entry ∷ []) h)
+
+-- a refused event changes nothing but the history
+pub refused_agrees : (a : Account) (c : Core) (event : Event) (why : Refusal) → IsNoFault why → Agrees a c → Agrees (account_after a (record { event = event; reply = Refused why })) c
+refused_agrees a c event why sound h =
+    let P : Account → Type 0 = λ b. Agrees b c in
+    subst P (sym (account_after-refused a event why sound)) (subst (λ (f : Option ℕ). Agrees (record a { failed = f; entries = a.entries + 1 }) c) (sym h.unfailed) (agrees_entry a c (a.entries + 1) h))
+
+either_way : (c : Core) (event : Event) (o : Option Refusal) → IsValid c → HasNoFault o → (o ≡ None → Goes c event)
+    → IsValid (with_entry (after_refusal o c event) event (reply_of o (granted_by c event)))
+either_way c event None valid sound go =
+    valid_entry c (done c event) event (granted_by c event) (done_history c event) (subst (λ (b : Account). Agrees b (done c event)) (sym (reply_adds c event)) (go refl))
+either_way c event (Some why) valid sound go = valid_entry c c event (Refused why) refl (refused_agrees (account c.history) c event why sound valid)
+
+-- A valid core stays valid where the disk does what it is asked.
+pub valid_after : (c : Core) (event : Event) → IsValid c → RunsLocked c.g0 c.first c.history → IsOfSession event → IsValid (after c event)
+valid_after c event valid runs session =
+    either_way c event (core_refusal c event) valid (core_refusal-HasNoFault c event) (λ e. goes c event valid runs session (may_go c event valid.unfailed e))
+
+-- the records that a granted event appends have spellings
+pub event_records_good : (c : Core) (event : Event) → IsValid c → RunsLocked c.g0 c.first c.history → IsOfSession event → core_refusal c event ≡ None → (AsksDisk event → ⊥)
+    → AllByRecursion IsRecord (event_records c event)
+event_records_good c event valid runs session free other =
+    let a = account c.history in
+    let left = subst (λ (d : Core). Agrees (account_after a (record { event = event; reply = granted (next_number c) c.g0 a event })) d) (done_records c event other)
+    (goes c event valid runs session (may_go c event valid.unfailed free)) in
+    AllByRecursion-behind IsRecord c.pending _ (AllByRecursion-behind IsRecord (records_of c.batches) _ left.told.good)

@@ -1,0 +1,153 @@
+-- What an event leaves of a core that agrees with its history.
+use Rattle.std.proofs.Common.{◌≡◌, ℕ, ◌+◌, ◌<◌, ◌≤◌, true, List, [], ◌++◌, length, take, Option, Some, None, sym, ap, ◌∙◌, subst, arith, length-append, append_assoc}
+use Rattle.std.specs.Prelude.{fold}
+use Rattle.std.proofs.lemmas.List.Sums.{fold-append}
+use Rattle.std.proofs.lemmas.List.{append-nil}
+use Rattle.graph_model.specs.declared.reply.Entry.{Entry}
+use Rattle.graph_model.specs.Graph.{Graph}
+use Rattle.graph_model.specs.Transaction.{Transaction, serial}
+use Rattle.graph_model.specs.History.{Account, AreInSessions}
+use Rattle.graph_model.proofs.Runs.History.{serial-take}
+use Rattle.graph_model.specs.Locking.{locks_of}
+use Rattle.graph_model.specs.Plain.{view, no_number}
+use Rattle.log_records.specs.declared.Record.{Record}
+use Rattle.log_machine.specs.Machine.{State, start, after_all, put_record, is_number, undo_of}
+use Rattle.log_machine.proofs.MachineLaws.{number_in_range, after_all-append2}
+use Rattle.log_machine.specs.Entries.{EachEntry}
+use Rattle.log_machine.proofs.StateLaws.{leads_after_all}
+use Rattle.gated_log.specs.Log.{records_of}
+use Rattle.graph_words.specs.Places.{Places}
+use Rattle.heap_model.specs.Core.{Core, all_records, all_words, used, need, reserved}
+use Rattle.heap_model.proofs.Step.Goes.{used-append}
+use Rattle.heap_model.specs.CoreTold.{IsTold, IsNumbered}
+use Rattle.core_laws.specs.Valid.{IsWriting, IsWriter, IsActive, Agrees}
+
+-- the words with these records behind all that there are
+abbrev pub words_with : Core → List Record → List ℕ
+words_with c more = fold put_record (all_words c) more
+
+-- what the transaction of a session sees stands in the words
+pub writing_of : (a : Account) (c : Core) (s : ℕ) (t : Transaction) → a.active s ≡ Some t → (h : Agrees a c)
+    → IsWriting c.places (view c.g0 a t) t.number (locks_of (serial c.g0 a.sealed) t) (all_words c) h.behind
+writing_of a c s t e h = let P : Option Transaction → Type 0 = λ o. IsWriter c.places c.g0 a o (all_words c) h.behind in subst P e (h.writers s)
+
+-- its number is below the next one
+pub number_below : (a : Account) (c : Core) (s : ℕ) (t : Transaction) → a.active s ≡ Some t → Agrees a c → (1 ≤ t.number) × (t.number < c.first + a.begun)
+number_below a c s t e h = let P : Option Transaction → Type 0 = λ o. IsNumbered (c.first + a.begun) o in subst P e (h.numbered s)
+
+-- and is one that a transaction can have
+pub numbered_as : (a : Account) (c : Core) (s : ℕ) (t : Transaction) → a.active s ≡ Some t → Agrees a c → is_number t.number ≡ true
+numbered_as a c s t e h =
+    let n = number_below a c s t e h in
+    let fits = h.next_fits in
+    let some = n.0 in
+    let below = n.1 in
+    number_in_range t.number some (omega arith)
+
+-- all records know the numbers that were given before the opening
+pub known_on : (a : Account) (c : Core) → (h : Agrees a c) → c.first ≤ h.behind.next
+known_on a c h =
+    let pending : after_all h.on_disk c.pending ≡ Some h.behind = sym (after_all-append2 (start c.pages c.lowest) h.on_disk (records_of c.batches) c.pending h.disk_told.reached) ∙ h.told.reached in
+    let grows = (leads_after_all h.on_disk h.behind c.pending pending).grows in
+    let known = h.first_known in
+    omega arith
+
+-- Another history, or more records that wait.
+
+-- another history changes nothing of this
+pub agrees_history : (a : Account) (c : Core) (history : List Entry) → Agrees a c → Agrees a (record c { history = history })
+agrees_history a c history h = record {
+  unfailed = h.unfailed;
+  certain = h.certain;
+  in_sessions = h.in_sessions;
+  some_pages = h.some_pages;
+  few_pages = h.few_pages;
+  some_first = h.some_first;
+  next_fits = h.next_fits;
+  numbered = h.numbered;
+  durable = h.durable;
+  sealed_first = h.sealed_first;
+  acknowledged_last = h.acknowledged_last;
+  on_disk = h.on_disk;
+  disk_places = h.disk_places;
+  disk_told = h.disk_told;
+  first_known = h.first_known;
+  disk_room = h.disk_room;
+  behind = h.behind;
+  told = h.told;
+  next_known = h.next_known;
+  losers = h.losers;
+  writers = h.writers;
+  room = h.room;
+}
+
+-- What an event leaves of a core that agrees with its history: what the history says of the transactions, and what all records tell
+-- with those that it appends, where these objects have come to stand in the current space.
+pub record Goes (a : Account) (c : Core) (b : Account) (more : List Record) (placed : Places) : Type 0 where
+  pub unfailed : b.failed ≡ None
+  pub certain : b.in_doubt ≡ None
+  pub acknowledged : b.acknowledged ≡ a.acknowledged
+  pub in_sessions : AreInSessions b
+  pub next_fits : c.first + b.begun ≤ no_number
+  pub numbered : (s : ℕ) → IsNumbered (c.first + b.begun) (b.active s)
+  pub later : List Transaction
+  pub sealed : b.sealed ≡ a.sealed ++ later
+  pub behind : State
+  pub told : IsTold c.pages c.lowest c.born (c.places ++ placed) (serial c.g0 b.sealed) (c.before + length b.sealed) (all_records c ++ more) (words_with c more) behind
+  pub next_known : behind.next ≤ c.first + b.begun
+  pub losers : EachEntry (λ q us. IsActive b q) behind.undo
+  pub writers : (s : ℕ) → IsWriter (c.places ++ placed) c.g0 b (b.active s) (words_with c more) behind
+  pub room : used c + need c.pending more + reserved (undo_of behind) b ≤ c.room
+
+-- so a core is left that agrees with its history
+pub goes_on : (a : Account) (c : Core) (b : Account) (more : List Record) (placed : Places) → Agrees a c → Goes a c b more placed
+    → Agrees b (record c { pending = c.pending ++ more; places = c.places ++ placed })
+goes_on a c b more placed h go =
+    let all = used-append c more in
+    let room = go.room in
+    let first = h.sealed_first in
+    let last = h.acknowledged_last in
+    let same = go.acknowledged in
+    let longer : length b.sealed ≡ length a.sealed + length go.later = ap (λ (ts : List Transaction). length ts) go.sealed ∙ length-append a.sealed go.later in
+    let graph : serial c.g0 (take h.durable b.sealed) ≡ serial c.g0 (take h.durable a.sealed) =
+    ap (λ (ts : List Transaction). serial c.g0 (take h.durable ts)) go.sealed ∙ serial-take c.g0 a.sealed go.later h.durable first in
+    let records = append_assoc (records_of c.batches) c.pending more in
+    let words = sym (fold-append put_record c.words c.pending more) in
+    record {
+      unfailed = go.unfailed;
+      certain = go.certain;
+      in_sessions = go.in_sessions;
+      some_pages = h.some_pages;
+      few_pages = h.few_pages;
+      some_first = h.some_first;
+      next_fits = go.next_fits;
+      numbered = go.numbered;
+      durable = h.durable;
+      sealed_first = omega arith;
+      acknowledged_last = omega arith;
+      on_disk = h.on_disk;
+      disk_places = h.disk_places;
+      disk_told = subst (λ (g : Graph). IsTold c.pages c.lowest c.born h.disk_places g (c.before + h.durable) (records_of c.batches) c.words h.on_disk) (sym graph) h.disk_told;
+      first_known = h.first_known;
+      disk_room = h.disk_room;
+      behind = go.behind;
+      told =
+          let told = subst (λ (rs : List Record). IsTold c.pages c.lowest c.born (c.places ++ placed) (serial c.g0 b.sealed) (c.before + length b.sealed) rs (words_with c more) go.behind) records go.told in
+          subst (λ (ws : List ℕ). IsTold c.pages c.lowest c.born (c.places ++ placed) (serial c.g0 b.sealed) (c.before + length b.sealed) (records_of c.batches ++ (c.pending ++ more)) ws go.behind) words told;
+      next_known = go.next_known;
+      losers = go.losers;
+      writers = λ s. subst (λ (ws : List ℕ). IsWriter (c.places ++ placed) c.g0 b (b.active s) ws go.behind) words (go.writers s);
+      room = omega arith;
+    }
+
+-- no more records, and no more places
+pub as_told : (a : Account) (c : Core) → (h : Agrees a c)
+    → IsTold c.pages c.lowest c.born (c.places ++ []) (serial c.g0 a.sealed) (c.before + length a.sealed) (all_records c ++ []) (words_with c []) h.behind
+as_told a c h =
+    subst (λ (ps : Places). IsTold c.pages c.lowest c.born ps (serial c.g0 a.sealed) (c.before + length a.sealed) (all_records c ++ []) (words_with c []) h.behind) (sym (append-nil c.places))
+    (subst (λ (rs : List Record). IsTold c.pages c.lowest c.born c.places (serial c.g0 a.sealed) (c.before + length a.sealed) rs (all_words c) h.behind) (sym (append-nil (all_records c))) h.told)
+
+-- a writer of the same words and places
+pub as_writer : (c : Core) (b : Account) (o : Option Transaction) (state : State) → IsWriter c.places c.g0 b o (all_words c) state
+    → IsWriter (c.places ++ []) c.g0 b o (words_with c []) state
+as_writer c b o state w = subst (λ (ps : Places). IsWriter ps c.g0 b o (words_with c []) state) (sym (append-nil c.places)) w

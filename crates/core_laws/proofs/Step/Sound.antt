@@ -1,0 +1,47 @@
+-- What a sound core agrees with.
+use Rattle.std.proofs.Common.{◌≡◌, inl, inr, ℕ, None, refl}
+use Rattle.graph_model.specs.History.{Account, account}
+use Rattle.heap_model.specs.Core.{Core}
+use Rattle.core_laws.proofs.Sessions.Actives.{same_actives}
+use Rattle.core_laws.specs.Valid.{Agrees, IsValid, IsSound, IsReached}
+
+-- one entry more changes nothing, nor does it whether the disk failed
+pub agrees_entry : (a : Account) (c : Core) (n : ℕ) → Agrees a c → Agrees (record a { failed = None; entries = n }) c
+agrees_entry a c n h = record {
+  unfailed = refl;
+  certain = h.certain;
+  in_sessions = h.in_sessions;
+  some_pages = h.some_pages;
+  few_pages = h.few_pages;
+  some_first = h.some_first;
+  next_fits = h.next_fits;
+  numbered = h.numbered;
+  durable = h.durable;
+  sealed_first = h.sealed_first;
+  acknowledged_last = h.acknowledged_last;
+  on_disk = h.on_disk;
+  disk_places = h.disk_places;
+  disk_told = h.disk_told;
+  first_known = h.first_known;
+  disk_room = h.disk_room;
+  behind = h.behind;
+  told = h.told;
+  next_known = h.next_known;
+  losers = λ q us is. same_actives a (record a { failed = None; entries = n }) refl q (h.losers q us is);
+  writers = h.writers;
+  room = h.room;
+}
+
+-- a sound core agrees with its history but for a failure
+pub sound_agrees : (c : Core) → IsSound c → Agrees (record (account c.history) { failed = None }) c
+sound_agrees c (inl valid) = agrees_entry (account c.history) c (account c.history).entries valid
+sound_agrees c (inr failed) = failed.before
+
+-- so does a reached one
+pub reached_agrees : (c : Core) → IsReached c → Agrees (record (account c.history) { failed = None }) c
+reached_agrees c reached = sound_agrees c reached.sound
+
+-- a sound core is valid until the disk stops or fails
+pub sound_valid : (c : Core) → IsSound c → (account c.history).failed ≡ None → IsValid c
+sound_valid c (inl valid) none = valid
+sound_valid c (inr failed) none = let is = failed.failed in cc

@@ -1,0 +1,112 @@
+-- Laws of what calls keep of a disk: calls one after another, and the parts of a clause of one call.
+use Rattle.std.specs.Prelude.{◌≡◌, ℕ, ◌≤◌, List, IsTrue, Result, Ok, refl}
+use Rattle.std.proofs.Common.{◌∙◌, inl, inr, arith}
+use Rattle.std.proofs.lemmas.Bool.{cases_lt}
+use Rattle.counts.specs.Count.{Rose}
+use Rattle.disk_model.specs.Disk.{Narrows, Elapses, HasCause}
+use Rattle.disk_model.proofs.MomentLaws.{begins, goes_on, weaker, joined}
+use Rattle.disk_model.specs.Keeps.{KeepsDisk, SameContents, OnlyReads}
+use Rattle.disk_model.specs.declared.disk.Disk.{Ghosts}
+use Rattle.disk_model.specs.declared.disk.DiskError.{DiskError}
+
+-- what rose after a moment rose since an earlier one
+pub rose_since : (a b c : ℕ) → a ≤ b → b ≤ c → Rose b c → Rose a c
+rose_since a b c ab bc (inl up) = inl (omega arith)
+rose_since a b c ab bc (inr full) = elim (cases_lt a b) [ inl up ↦ inl (omega arith) | inr same_count ↦ inr (omega arith) ]
+
+-- what rose before a moment rose until a later one
+pub rose_until : (a b c : ℕ) → b ≤ c → Rose a b → Rose a c
+rose_until a b c bc (inl up) = inl (omega arith)
+rose_until a b c bc (inr full) = inr full
+
+-- an answer that tells no error of the disk
+pub no_cause : {S T : Type 0} (faults faults' stops stops' : ℕ) (result : Result S DiskError) (x : T) → HasCause faults faults' stops stops' result → HasCause {T = T} faults faults' stops stops' (Ok x)
+no_cause faults faults' stops stops' result x cause = record { faults_kept = cause.faults_kept; stops_kept = cause.stops_kept; failed = λ is. absurd (cc is); stopped = λ is. absurd (cc is) }
+
+-- the causes of two calls, of which the second one's answer is told
+pub cause_last : {S T : Type 0} (faults mid faults' stops mids stops' : ℕ) (first : Result S DiskError) (result : Result T DiskError) → HasCause faults mid stops mids first → HasCause mid faults' mids stops' result → HasCause faults faults' stops stops' result
+cause_last faults mid faults' stops mids stops' first result before cause = record {
+  faults_kept = omega (arith, before.faults_kept, cause.faults_kept);
+  stops_kept = omega (arith, before.stops_kept, cause.stops_kept);
+  failed = λ is. rose_since faults mid faults' before.faults_kept cause.faults_kept (cause.failed is);
+  stopped = λ is. rose_since stops mids stops' before.stops_kept cause.stops_kept (cause.stopped is);
+}
+
+-- likewise, where the first one's answer is told
+pub cause_first : {S T : Type 0} (faults mid faults' stops mids stops' : ℕ) (result : Result S DiskError) (last : Result T DiskError) → HasCause faults mid stops mids result → HasCause mid faults' mids stops' last → HasCause faults faults' stops stops' result
+cause_first faults mid faults' stops mids stops' result last cause behind = record {
+  faults_kept = omega (arith, cause.faults_kept, behind.faults_kept);
+  stops_kept = omega (arith, cause.stops_kept, behind.stops_kept);
+  failed = λ is. rose_until faults mid faults' behind.faults_kept (cause.failed is);
+  stopped = λ is. rose_until stops mids stops' behind.stops_kept (cause.stopped is);
+}
+
+module _ {D : Type 0} (g : Ghosts D) where
+  -- a call, by its clauses
+  pub keeps_by_call : {T : Type 0} (old new : D) (result : Result T DiskError) → g.extent new ≡ g.extent old → g.origin new ≡ g.origin old → HasCause (g.faults old) (g.faults new) (g.stops old) (g.stops new) result
+      → (IsTrue g.tells → g.restarts new ≡ g.restarts old) → KeepsDisk g old new result
+  keeps_by_call old new result extent origin cause restarts = record { extent = extent; origin = origin; cause = cause; restarts = restarts }
+  -- no call was made, and no error of the disk is told
+  pub keeps_none : {T : Type 0} (disk : D) (x : T) → KeepsDisk {T = T} g disk disk (Ok x)
+  keeps_none disk x = record {
+    extent = refl;
+    origin = refl;
+    cause = record { faults_kept = omega arith; stops_kept = omega arith; failed = λ is. absurd (cc is); stopped = λ is. absurd (cc is) };
+    restarts = λ told. refl;
+  }
+  -- what a call kept is kept where no error of the disk is told
+  pub keeps_ok : {S T : Type 0} (old new : D) (result : Result S DiskError) (x : T) → KeepsDisk g old new result → KeepsDisk {T = T} g old new (Ok x)
+  keeps_ok old new result x kept = record {
+    extent = kept.extent;
+    origin = kept.origin;
+    cause = no_cause (g.faults old) (g.faults new) (g.stops old) (g.stops new) result x kept.cause;
+    restarts = kept.restarts;
+  }
+  -- one call more, whose answer is told
+  pub keeps_on : {S T : Type 0} (old mid new : D) (first : Result S DiskError) (result : Result T DiskError) → KeepsDisk g old mid first → KeepsDisk g mid new result → KeepsDisk g old new result
+  keeps_on old mid new first result before kept = record {
+    extent = kept.extent ∙ before.extent;
+    origin = kept.origin ∙ before.origin;
+    cause = cause_last (g.faults old) (g.faults mid) (g.faults new) (g.stops old) (g.stops mid) (g.stops new) first result before.cause kept.cause;
+    restarts = λ told. kept.restarts told ∙ before.restarts told;
+  }
+  -- one call more, where the answer of those before it is told
+  pub keeps_still : {S T : Type 0} (old mid new : D) (result : Result S DiskError) (last : Result T DiskError) → KeepsDisk g old mid result → KeepsDisk g mid new last → KeepsDisk g old new result
+  keeps_still old mid new result last kept behind = record {
+    extent = behind.extent ∙ kept.extent;
+    origin = behind.origin ∙ kept.origin;
+    cause = cause_first (g.faults old) (g.faults mid) (g.faults new) (g.stops old) (g.stops mid) (g.stops new) result last kept.cause behind.cause;
+    restarts = λ told. behind.restarts told ∙ kept.restarts told;
+  }
+  -- a read, by its clauses
+  pub same_by_read : (old new : D) → ((disk : D) (c : List ℕ) → g.left_since disk (g.moment disk) c → g.may_leave disk c) → g.bytes new ≡ g.bytes old → Narrows (g.may_leave old) (g.may_leave new)
+      → Elapses (g.moment old) (g.moment new) (g.left_since old) (g.left_since new) (g.may_leave new) → g.passed new ≡ g.passed old → SameContents g old new
+  same_by_read old new only_now bytes crash time passed = record {
+    bytes = bytes;
+    crash = crash;
+    moments = goes_on g.moment g.left_since old old new (g.may_leave old) (g.may_leave new) (begins g.moment g.left_since old (g.may_leave old) (only_now old)) time crash;
+    passed = passed;
+  }
+  -- nothing was read
+  pub same_none : (disk : D) → ((c : List ℕ) → g.left_since disk (g.moment disk) c → g.may_leave disk c) → SameContents g disk disk
+  same_none disk only_now = record { bytes = refl; crash = λ c left. left; moments = begins g.moment g.left_since disk (g.may_leave disk) only_now; passed = refl }
+  -- two that wrote nothing
+  pub same_on : (old mid new : D) → SameContents g old mid → SameContents g mid new → SameContents g old new
+  same_on old mid new first second = record {
+    bytes = second.bytes ∙ first.bytes;
+    crash = λ c left. first.crash c (second.crash c left);
+    moments = weaker g.moment g.left_since old new _ _ (joined g.moment g.left_since old mid new _ _ first.moments second.moments) (λ c left. elim left [ inl old ↦ old | inr mid ↦ first.crash c mid ]);
+    passed = second.passed ∙ first.passed;
+  }
+  -- nothing was read, and no error of the disk is told
+  pub reads_none : {T : Type 0} (disk : D) (x : T) → (IsTrue g.tells → (c : List ℕ) → g.left_since disk (g.moment disk) c → g.may_leave disk c) → OnlyReads {T = T} g disk disk (Ok x)
+  reads_none disk x only_now = record { disk = keeps_none disk x; contents = λ told. same_none disk (only_now told); no_first_stop = λ none. none }
+  pub reads_ok : {S T : Type 0} (old new : D) (result : Result S DiskError) (x : T) → OnlyReads g old new result → OnlyReads {T = T} g old new (Ok x)
+  reads_ok old new result x reads = record { disk = keeps_ok old new result x reads.disk; contents = reads.contents; no_first_stop = reads.no_first_stop }
+  -- one more that only reads, whose answer is told
+  pub reads_on : {S T : Type 0} (old mid new : D) (first : Result S DiskError) (result : Result T DiskError) → OnlyReads g old mid first → OnlyReads g mid new result → OnlyReads g old new result
+  reads_on old mid new first result before reads = record {
+    disk = keeps_on old mid new first result before.disk reads.disk;
+    contents = λ told. same_on old mid new (before.contents told) (reads.contents told);
+    no_first_stop = λ none. reads.no_first_stop (before.no_first_stop none);
+  }

@@ -1,0 +1,214 @@
+-- Laws of histories and of what transactions do: one entry, one call and one transaction more.
+use Rattle.std.proofs.Common.{◌≡◌, ◌≢◌, inl, inr, ℕ, ◌+◌, ◌<◌, ◌≤◌, zero, suc, Bool, true, false, List, [], ◌∷◌, ◌++◌, length, replicate, take, Option, Some, None, refl, sym, ap, ◌∙◌, subst, arith}
+use Rattle.std.specs.Prelude.{slice_get, slice_index_or, slice_set, fold, option_and_then, if◌then◌else◌}
+use Rattle.std.proofs.lemmas.Bool.{cases_eq, eq-eqb, ne_eqb}
+use Rattle.std.proofs.lemmas.List.{length-set, length-replicate, take-append-le}
+use Rattle.std.proofs.lemmas.Option.{slice_get_past}
+use Rattle.std.proofs.lemmas.List.Sums.{fold-append}
+use Rattle.graph_model.specs.declared.id.Id.{Id}
+use Rattle.graph_model.specs.declared.event.Event.{Event}
+use Rattle.graph_model.specs.declared.event.Event.TheVariants.{Begin, Root, New, Put, Clear, Link, Drop, Get, Same, Len, Seal, Abort, Force, Flush}
+use Rattle.graph_model.specs.declared.reply.Entry.{Entry}
+use Rattle.graph_model.specs.declared.reply.Refusal.TheVariants.{DiskFault, Stopped}
+use Rattle.graph_model.specs.declared.reply.Reply.{Reply}
+use Rattle.graph_model.specs.declared.reply.Reply.TheVariants.{Begun, Done, Yes, No, Sealed, Aborted, Durable, Flushed, Clean, Refused}
+use Rattle.graph_model.specs.declared.val.Val.{Val}
+use Rattle.graph_model.specs.declared.val.Val.TheVariants.{Null, Int, Ref}
+use Rattle.graph_model.specs.Graph.{Graph, is_same_id}
+use Rattle.graph_model.specs.Transaction.{Registers, no_registers, View, Transaction, held, fields_of, with_referred, value_reply, same_reply, call, after_calls, call_replies, fresh_view, run, serial}
+use Rattle.graph_model.specs.History.{Account, IsSession, AreInSessions, account_after, account, answered, nothing_yet, session_of, with_active, with_call, makes_call, cut_short}
+use Rattle.graph_model.specs.Replies.{IsCallReply}
+
+-- what a history says with one entry more
+pub account-append : (h : List Entry) (e : Entry) → account (h ++ e ∷ []) ≡ account_after (account h) e
+account-append h e = fold-append account_after nothing_yet h (e ∷ [])
+
+entries-fold : (a : Account) (h : List Entry) → (fold account_after a h).entries ≡ a.entries + length h
+entries-fold a [] = omega arith
+entries-fold a (e ∷ h) = let next = entries-fold (account_after a e) h in omega arith
+
+-- a history says how long it is
+pub entries-account : (h : List Entry) → (account h).entries ≡ length h
+entries-account h = entries-fold nothing_yet h ∙ omega arith
+
+-- the view after one call more
+pub after_calls-append : (v : View) (t : ℕ) (cs : List Event) (c : Event) → after_calls v t (cs ++ c ∷ []) ≡ (call (after_calls v t cs) t c).view
+after_calls-append v t [] c = refl
+after_calls-append v t (d ∷ cs) c = after_calls-append (call v t d).view t cs c
+
+-- the replies with one call more
+pub call_replies-append : (v : View) (t : ℕ) (cs : List Event) (c : Event) → call_replies v t (cs ++ c ∷ []) ≡ call_replies v t cs ++ (call (after_calls v t cs) t c).reply ∷ []
+call_replies-append v t [] c = refl
+call_replies-append v t (d ∷ cs) c = ap (λ rs. (call v t d).reply ∷ rs) (call_replies-append (call v t d).view t cs c)
+
+-- what a transaction sees after one call more
+pub run-append : (g : Graph) (t : Transaction) (c : Event) → run g (record { number = t.number; calls = t.calls ++ c ∷ [] }) ≡ (call (run g t) t.number c).view
+run-append g t c = after_calls-append (fresh_view g) t.number t.calls c
+
+-- the graph after one transaction more
+pub serial-append : (g : Graph) (ts : List Transaction) (t : Transaction) → serial g (ts ++ t ∷ []) ≡ (run (serial g ts) t).graph
+serial-append g [] t = refl
+serial-append g (u ∷ ts) t = serial-append (run g u).graph ts t
+
+-- the graph after the first k transactions stays when others follow
+pub serial-take : (g : Graph) (ts more : List Transaction) (k : ℕ) → k ≤ length ts → serial g (take k (ts ++ more)) ≡ serial g (take k ts)
+serial-take g ts more k h = ap (serial g) (take-append-le k ts more h)
+
+-- what stands at the place that was written
+pub slice_get-set_same : {X : Type 0} (xs : List X) (i : ℕ) (x : X) → i < length xs → slice_get (slice_set xs i x) i ≡ Some x
+slice_get-set_same [] i x h = absurd (omega arith)
+slice_get-set_same (y ∷ xs) zero x h = refl
+slice_get-set_same (y ∷ xs) (suc i) x h = slice_get-set_same xs i x (omega arith)
+
+-- what stands at another place
+pub slice_get-set_other : {X : Type 0} (xs : List X) (i j : ℕ) (x : X) → j ≢ i → slice_get (slice_set xs i x) j ≡ slice_get xs j
+slice_get-set_other [] i j x h = refl
+slice_get-set_other (y ∷ xs) zero zero x h = absurd (h refl)
+slice_get-set_other (y ∷ xs) zero (suc j) x h = refl
+slice_get-set_other (y ∷ xs) (suc i) zero x h = refl
+slice_get-set_other (y ∷ xs) (suc i) (suc j) x h = slice_get-set_other xs i j x (λ e. h (ap suc e))
+
+-- what a handle holds that was just set
+pub held-set_same : (rs : Registers) (h : ℕ) (o : Option Id) → h < length rs → held (slice_set rs h o) h ≡ o
+held-set_same rs h o lt = ap (option_and_then (λ id. id)) (slice_get-set_same rs h o lt)
+
+-- what another handle holds
+pub held-set_other : (rs : Registers) (h j : ℕ) (o : Option Id) → j ≢ h → held (slice_set rs h o) j ≡ held rs j
+held-set_other rs h j o ne = ap (option_and_then (λ id. id)) (slice_get-set_other rs h j o ne)
+
+-- there is no handle past the last
+pub held-past : (rs : Registers) (h : ℕ) → length rs ≤ h → held rs h ≡ None
+held-past rs h le = ap (option_and_then (λ id. id)) (slice_get_past rs h le)
+
+held-replicate : (n h : ℕ) → held (replicate n None) h ≡ None
+held-replicate zero h = refl
+held-replicate (suc n) zero = refl
+held-replicate (suc n) (suc h) = held-replicate n h
+
+-- at first no handle holds anything
+pub held-no_registers : (h : ℕ) → held no_registers h ≡ None
+held-no_registers h = held-replicate 64 h
+
+length-with_referred : (rs : Registers) (h : ℕ) (v : Val) → length (with_referred rs h v) ≡ length rs
+length-with_referred rs h Null = refl
+length-with_referred rs h (Int n) = refl
+length-with_referred rs h (Ref id) = length-set _ _ _
+
+-- a call neither adds nor removes handles
+pub length-registers-call : (v : View) (t : ℕ) (c : Event) → length (call v t c).view.registers ≡ length v.registers
+length-registers-call v t (Begin s) = refl
+length-registers-call v t (Root s h) = length-set _ _ _
+length-registers-call v t (New s h len) = length-set _ _ _
+length-registers-call v t (Put s h i n) = refl
+length-registers-call v t (Clear s h i) = refl
+length-registers-call v t (Link s h i h2) = refl
+length-registers-call v t (Drop s h) = length-set _ _ _
+length-registers-call v t (Get s h i h2) = length-with_referred v.registers h2 _
+length-registers-call v t (Same s h h2) = refl
+length-registers-call v t (Len s h) = refl
+length-registers-call v t (Seal s) = refl
+length-registers-call v t (Abort s) = refl
+length-registers-call v t Force = refl
+length-registers-call v t (Flush p) = refl
+
+-- nor do calls
+pub length-registers-after_calls : (v : View) (t : ℕ) (cs : List Event) → length (after_calls v t cs).registers ≡ length v.registers
+length-registers-after_calls v t [] = refl
+length-registers-after_calls v t (c ∷ cs) = length-registers-after_calls (call v t c).view t cs ∙ length-registers-call v t c
+
+-- a transaction has 64 handles
+pub length-registers-run : (g : Graph) (t : Transaction) → length (run g t).registers ≡ 64
+length-registers-run g t = length-registers-after_calls (fresh_view g) t.number t.calls ∙ length-replicate {A = Option Id} 64 None
+
+value_reply-IsCallReply : (v : Val) → IsCallReply (value_reply v)
+value_reply-IsCallReply Null = tt
+value_reply-IsCallReply (Int n) = tt
+value_reply-IsCallReply (Ref id) = tt
+
+yes_or_no : (b : Bool) → IsCallReply (if b then Yes else No)
+yes_or_no true = tt
+yes_or_no false = tt
+
+same_reply-IsCallReply : (o p : Option Id) → IsCallReply (same_reply o p)
+same_reply-IsCallReply None p = tt
+same_reply-IsCallReply (Some id) None = tt
+same_reply-IsCallReply (Some id) (Some other) = yes_or_no (is_same_id id other)
+
+-- what a call is answered is such a reply
+pub call-IsCallReply : (v : View) (t : ℕ) (c : Event) → IsCallReply (call v t c).reply
+call-IsCallReply v t (Begin s) = tt
+call-IsCallReply v t (Root s h) = tt
+call-IsCallReply v t (New s h len) = tt
+call-IsCallReply v t (Put s h i n) = tt
+call-IsCallReply v t (Clear s h i) = tt
+call-IsCallReply v t (Link s h i h2) = tt
+call-IsCallReply v t (Drop s h) = tt
+call-IsCallReply v t (Get s h i h2) = value_reply-IsCallReply (slice_index_or (fields_of v.graph (held v.registers h)) i Null)
+call-IsCallReply v t (Same s h h2) = same_reply-IsCallReply (held v.registers h) (held v.registers h2)
+call-IsCallReply v t (Len s h) = tt
+call-IsCallReply v t (Seal s) = tt
+call-IsCallReply v t (Abort s) = tt
+call-IsCallReply v t Force = tt
+call-IsCallReply v t (Flush p) = tt
+
+-- an order is an event that asks nothing
+abbrev pub IsOrder : Event → Type 0
+IsOrder (Get s h i h2) = ⊥
+IsOrder (Same s h h2) = ⊥
+IsOrder (Len s h) = ⊥
+IsOrder event = Unit {0}
+
+-- an order that isn't refused is answered `done`
+pub call-reply : (v : View) (t : ℕ) (c : Event) → IsOrder c → (call v t c).reply ≡ Done
+call-reply v t (Get s h i h2) order = absurd order
+call-reply v t (Same s h h2) order = absurd order
+call-reply v t (Len s h) order = absurd order
+call-reply v t c order = refl
+
+-- what a history says with one call more that was not refused
+pub account_after-call : (a : Account) (event : Event) (reply : Reply) → IsCallReply reply
+    → account_after a (record { event = event; reply = reply }) ≡ record (makes_call a (session_of event) event) { entries = a.entries + 1 }
+account_after-call a event (Begun n) never = absurd never
+account_after-call a event (Sealed n) never = absurd never
+account_after-call a event Aborted never = absurd never
+account_after-call a event (Durable n) never = absurd never
+account_after-call a event (Flushed page) never = absurd never
+account_after-call a event (Clean page) never = absurd never
+account_after-call a event (Refused why) never = absurd never
+account_after-call a event reply is = refl
+
+in_sessions_with : (active : ℕ → Option Transaction) (s : ℕ) (x : Option Transaction) → ((t : Transaction) → x ≡ Some t → IsSession s) → ((r : ℕ) (t : Transaction) → active r ≡ Some t → IsSession r)
+    → (r : ℕ) (t : Transaction) → with_active active s x r ≡ Some t → IsSession r
+in_sessions_with active s x own others r t is = elim (cases_eq r s) [
+  | inl same ↦ subst IsSession (sym same) (own t (sym (ap (λ b. if b then x else active r) (eq-eqb r s same)) ∙ is))
+  | inr other ↦ others r t (sym (ap (λ b. if b then x else active r) (ne_eqb r s other)) ∙ is)
+]
+
+called_by : (o : Option Transaction) (event : Event) (t : Transaction) → with_call o event ≡ Some t → (u : Transaction) × (o ≡ Some u)
+called_by None event t is = cc
+called_by (Some u) event t is = (u, refl)
+
+active-cut_short : (a : Account) (event : Event) → (cut_short a event).active ≡ a.active
+active-cut_short a (Seal s) = refl
+active-cut_short a event = refl
+
+in_sessions_cut : (a : Account) (event : Event) → AreInSessions a → AreInSessions (cut_short a event)
+in_sessions_cut a event within s t is = within s t (sym (ap (λ (active : ℕ → Option Transaction). active s) (active-cut_short a event)) ∙ is)
+
+answered-AreInSessions : (a : Account) (event : Event) (reply : Reply) → ((n : ℕ) → reply ≡ Begun n → IsSession (session_of event)) → AreInSessions a → AreInSessions (answered a event reply)
+answered-AreInSessions a event (Begun n) begins within = in_sessions_with a.active (session_of event) _ (λ t is. begins n refl) within
+answered-AreInSessions a event (Sealed n) begins within = in_sessions_with a.active (session_of event) None (λ t is. cc) within
+answered-AreInSessions a event Aborted begins within = in_sessions_with a.active (session_of event) None (λ t is. cc) within
+answered-AreInSessions a event (Durable n) begins within = within
+answered-AreInSessions a event (Flushed page) begins within = within
+answered-AreInSessions a event (Clean page) begins within = within
+answered-AreInSessions a event (Refused DiskFault) begins within = in_sessions_cut a event within
+answered-AreInSessions a event (Refused Stopped) begins within = in_sessions_cut a event within
+answered-AreInSessions a event (Refused why) begins within = within
+answered-AreInSessions a event reply begins within =
+    in_sessions_with a.active (session_of event) (with_call (a.active (session_of event)) event)
+    (λ t is. let before = called_by (a.active (session_of event)) event t is in within (session_of event) before.0 before.1) within
+
+-- transactions stay in sessions where they begin in sessions
+pub account_after-AreInSessions : (a : Account) (e : Entry) → ((n : ℕ) → e.reply ≡ Begun n → IsSession (session_of e.event)) → AreInSessions a → AreInSessions (account_after a e)
+account_after-AreInSessions a e begins within s t is = answered-AreInSessions a e.event e.reply begins within s t is

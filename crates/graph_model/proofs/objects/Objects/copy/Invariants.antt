@@ -1,7 +1,0 @@
-use Rattle.std.proofs.Common.{◌≡◌, take}
-use Rattle.graph_model.specs.Objects.{rows_of}
-use Rattle.graph_model.proofs.objects.Objects.copy.Given as goal
-
--- what was copied so far
-abbrev pub invariant-loop-object : goal.invariant-loop-object
-invariant-loop-object l = rows_of l.objects.items ≡ rows_of (take l.object-index l.object-items)

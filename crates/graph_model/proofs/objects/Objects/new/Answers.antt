@@ -1,5 +1,0 @@
-use Rattle.graph_model.proofs.RowLaws.{one_apart}
-use Rattle.graph_model.proofs.objects.Objects.new.Goals as goal
-
-pub invariant_of-result : goal.invariant_of-result
-invariant_of-result c = one_apart _ _ _ c.new-objects.ensures.items c.in_ok-push.ensures.items

@@ -1,6 +1,0 @@
-use Rattle.graph_model.specs.Objects.{rows_of}
-use Rattle.graph_model.proofs.RowLaws.{HasNoneBefore}
-use Rattle.graph_model.proofs.objects.Objects.place_of.Given as goal
-
-abbrev pub invariant-loop-i : goal.invariant-loop-i
-invariant-loop-i l = HasNoneBefore l.id (rows_of l.object-items) l.i

@@ -1,0 +1,15 @@
+-- Which replies answer a call of a transaction.
+use Rattle.graph_model.specs.declared.reply.Reply.{Reply}
+use Rattle.graph_model.specs.declared.reply.Reply.TheVariants.{Begun, Sealed, Aborted, Durable, Flushed, Clean, Refused}
+use Rattle.graph_model.specs.Transaction.{call}
+
+-- a reply to a call that was not refused
+abbrev pub IsCallReply : Reply → Type 0
+IsCallReply (Begun n) = ⊥
+IsCallReply (Sealed n) = ⊥
+IsCallReply Aborted = ⊥
+IsCallReply (Durable n) = ⊥
+IsCallReply (Flushed page) = ⊥
+IsCallReply (Clean page) = ⊥
+IsCallReply (Refused why) = ⊥
+IsCallReply reply = Unit {0}

@@ -1,0 +1,5 @@
+pub mod Area
+pub mod Places
+pub mod Promotion
+pub mod Seal
+pub mod Stands

@@ -1,0 +1,9 @@
+-- The records of a promotion.
+pub mod Bytes
+pub mod Fix
+pub mod Follow
+pub mod Nothing
+pub mod Parts
+pub mod Records
+pub mod Seal
+pub mod Sealed

@@ -1,0 +1,5 @@
+pub mod ListLaws
+pub mod Opening
+pub mod Run
+pub mod Shaped
+pub mod Step

@@ -1,0 +1,190 @@
+-- Laws of an opening: the batches behind it are a legal log that says the same graph and commits, and the core that it opens is reached.
+use Rattle.std.proofs.Common.{◌≡◌, ℕ, ◌+◌, ◌≤◌, List, [], ◌∷◌, ◌++◌, length, length-append, Some, refl, sym, ap, ◌∙◌, subst, arith}
+use Rattle.std.specs.List.{AllByRecursion}
+use Rattle.std.specs.Prelude.{sum_by, fold, Option}
+use Rattle.graph_model.specs.Graph.{Graph}
+use Rattle.image_plan.specs.declared.superblock.Super.{Super}
+use Rattle.log_records.specs.declared.Record.{Record}
+use Rattle.log_records.specs.Record.{spellings, IsRecord}
+use Rattle.log_machine.specs.declared.UndoEntry.{UndoEntry}
+use Rattle.log_machine.specs.Machine.{State, Loser, start, after_all, put_record, words_in, all_taken_back, each_taken_back, losing_in, commits, losing, abort_each, rollback, reserve, undo_bytes}
+use Rattle.log_machine.proofs.ListLaws.{AllByRecursion-append}
+use Rattle.log_machine.proofs.MapLaws.{entries_empty}
+use Rattle.log_machine.proofs.MachineLaws.{after_all-append2, commits-append}
+use Rattle.log_machine.proofs.StateLaws.{can_roll_back}
+use Rattle.log_machine.proofs.Bounds.{CanRollBack}
+use Rattle.log_machine.proofs.AbortLaws.{settled, rollback_reaches, rollback_words, rollback_commits, rollback_fits, rollback_good}
+use Rattle.log_machine.proofs.TakenBackLaws.{taken_back-rollback}
+use Rattle.page_redo.specs.Pages.{Pages}
+use Rattle.page_redo.specs.Prefix.{EachHoldsPrefix}
+use Rattle.page_redo.proofs.PrefixLaws.{EachHoldsPrefix-append}
+use Rattle.page_redo.specs.Redo.{EachLacks, redone}
+use Rattle.page_redo.proofs.RedoLaws.{EachLacks-later, redone_words-append, length-redone}
+use Rattle.gated_log.specs.Log.{batches_bytes, records_of}
+use Rattle.object_layout.specs.Layout.{IsSeen}
+use Rattle.object_layout.specs.Walk.{IsWalked, HaveOwnBirths, AreBornBefore}
+use Rattle.heap_model.specs.Core.{need}
+use Rattle.heap_model.proofs.Step.Room.{records_of-with_batch, length-with_batch, length-pending_batch-append}
+use Rattle.heap_model.specs.Image.{redone_words, words_of, IsShapedLog, IsLegalLog, Shows, Says}
+use Rattle.heap_model.specs.Opening.{rollback_in, rollback_of, rolled_back, rolled_words, next_in, next_of}
+
+need_most : (rs : List Record) → need [] rs ≤ length (spellings rs) + 5
+need_most [] = omega arith
+need_most (r ∷ rs) = omega arith
+
+need_some : (s : State) (es : List Loser) → losing s ≡ es → need [] (abort_each es) ≤ reserve s
+need_some s [] is = omega arith
+need_some s (e ∷ es) is =
+    let fits = rollback_fits s (λ none. let never : e ∷ es ≡ [] = sym is ∙ none in cc) in
+    let most = need_most (abort_each (e ∷ es)) in
+    let same = ap (λ l. length (spellings (abort_each l))) is in
+    omega arith
+
+-- the records that take writes back need no more than is kept for them
+pub rollback_need : (s : State) → need [] (rollback s) ≤ reserve s
+rollback_need s = need_some s (losing s) refl
+
+-- no writes that may be taken back keep no bytes
+pub settled_reserve : (s : State) → reserve (settled s) ≡ 0
+settled_reserve s = ap (λ (es : List Loser). sum_by (λ e. undo_bytes e.1) es) (entries_empty (List UndoEntry))
+
+-- The batches behind an opening.
+
+module _ (s : Super) (batches : List (List Record)) (stored : Pages) (shaped : IsShapedLog s batches stored) where
+  abbrev rs : List Record
+  rs = records_of batches
+  abbrev taken : List Record
+  taken = rollback shaped.state
+  can : CanRollBack shaped.state
+  can = can_roll_back s.pages s.first shaped.state rs shaped.good shaped.reached
+  -- the records that an opening appends, where the state is known
+  pub rollback_is : rollback_of s batches ≡ rollback shaped.state
+  rollback_is = ap rollback_in shaped.reached
+  -- the number of the next transaction
+  pub next_is : next_of s batches ≡ shaped.state.next
+  next_is = ap next_in shaped.reached
+  rolled_records : records_of (rolled_back s batches) ≡ rs ++ taken
+  rolled_records = records_of-with_batch batches (rollback_of s batches) ∙ ap (λ (l : List Record). rs ++ l) rollback_is
+  -- behind it no write may be taken back
+  pub rolled_reached : after_all (start s.pages s.first) (records_of (rolled_back s batches)) ≡ Some (settled shaped.state)
+  rolled_reached =
+      ap (λ (l : List Record). after_all (start s.pages s.first) l) rolled_records
+      ∙ after_all-append2 (start s.pages s.first) shaped.state rs taken shaped.reached
+      ∙ rollback_reaches shaped.state can.sound
+  -- the words as the log leaves them of the pages
+  abbrev now : List ℕ
+  now = redone_words batches stored
+  -- the words without the writes of transactions that have not ended, where the state is known
+  pub words_of-is : words_of s batches stored ≡ all_taken_back shaped.state now
+  words_of-is = ap (λ (o : Option State). each_taken_back (losing_in o) now) shaped.reached
+  -- the words behind the opening are these
+  pub rolled_words-is : rolled_words s batches stored ≡ words_of s batches stored
+  rolled_words-is = ap (fold put_record now) rollback_is ∙ rollback_words shaped.state now ∙ sym words_of-is
+  -- redone on the pages, the log behind the opening gives them too
+  pub redone_words-rolled_back : redone_words (rolled_back s batches) stored ≡ rolled_words s batches stored
+  redone_words-rolled_back =
+      ap (λ (l : List Record). (redone stored l).words) rolled_records
+      ∙ redone_words-append stored rs taken shaped.behind
+      ∙ ap (fold put_record now) (sym rollback_is)
+  -- and no writes are to be taken back from it any more
+  pub words_of-rolled_back : words_of s (rolled_back s batches) stored ≡ words_of s batches stored
+  words_of-rolled_back =
+      ap (λ (o : Option State). each_taken_back (losing_in o) (redone_words (rolled_back s batches) stored)) rolled_reached
+      ∙ ap (all_taken_back (settled shaped.state)) (redone_words-rolled_back ∙ ap (fold put_record now) rollback_is)
+      ∙ taken_back-rollback shaped.state now
+      ∙ sym words_of-is
+  -- there are as many as both spaces have
+  pub length-rolled_words : length (rolled_words s batches stored) ≡ words_in s.pages
+  length-rolled_words = ap length (sym redone_words-rolled_back) ∙ length-redone stored (records_of (rolled_back s batches)) ∙ shaped.size
+  -- no page is ahead of the log behind the opening
+  pub rolled_behind : EachLacks (length (records_of (rolled_back s batches)) + 1) stored
+  rolled_behind =
+      let more : length (records_of (rolled_back s batches)) ≡ length rs + length taken = ap length rolled_records ∙ length-append rs taken in
+      EachLacks-later (length rs + 1) (length (records_of (rolled_back s batches)) + 1) stored (omega (arith, more)) shaped.behind
+  -- the commits stay
+  pub rolled_commits : commits (records_of (rolled_back s batches)) ≡ commits (records_of batches)
+  rolled_commits =
+      let all = ap commits rolled_records ∙ commits-append rs taken in
+      let none = rollback_commits shaped.state in
+      omega arith
+  -- each record has a spelling
+  pub rolled_good : AllByRecursion IsRecord (records_of (rolled_back s batches))
+  rolled_good = subst (λ (l : List Record). AllByRecursion IsRecord l) (sym rolled_records) (AllByRecursion-append IsRecord rs taken shaped.good (rollback_good shaped.state can))
+  -- the log has room for the records that it appends
+  pub rolled_fits : length (batches_bytes batches) + 1 + need [] (rollback_of s batches) ≤ s.log_bytes
+  rolled_fits =
+      let few = rollback_need shaped.state in
+      let same = ap (need []) rollback_is in
+      let room = shaped.room in
+      omega arith
+  -- and for the batch that they make
+  pub rolled_room : length (batches_bytes (rolled_back s batches)) + 1 ≤ s.log_bytes
+  rolled_room =
+      let whole = length-with_batch batches (rollback_of s batches) in
+      let more = length-pending_batch-append [] (rollback_of s batches) in
+      let fits = rolled_fits in
+      omega arith
+  pub rolled_walked : IsWalked (words_of s (rolled_back s batches) stored) shaped.state.base shaped.state.used
+  rolled_walked = subst (λ ws. IsWalked ws shaped.state.base shaped.state.used) (sym words_of-rolled_back) shaped.walked
+  -- so they are a shaped log
+  abbrev pub rolled_shaped : IsShapedLog s (rolled_back s batches) stored
+  rolled_shaped =
+      let room = rolled_room in
+      let none = settled_reserve shaped.state in
+      record {
+        limits = shaped.limits;
+        good = rolled_good;
+        state = settled shaped.state;
+        reached = rolled_reached;
+        room = omega arith;
+        size = shaped.size;
+        lsns_size = shaped.lsns_size;
+        behind = rolled_behind;
+        walked = rolled_walked;
+      }
+
+-- the walk passes in words, and births are what they must be
+abbrev Walks : State → List ℕ → Type 0
+Walks state words = (walked : IsWalked words state.base state.used) × HaveOwnBirths words walked.starts × AreBornBefore state.next words state.base walked.starts
+
+module _ (s : Super) (batches : List (List Record)) (stored : Pages) (legal : IsLegalLog s batches stored) where
+  pub rolled_walks : Walks (settled legal.shaped.state) (words_of s (rolled_back s batches) stored)
+  rolled_walks = subst (Walks (settled legal.shaped.state)) (sym (words_of-rolled_back s batches stored legal.shaped)) (legal.shaped.walked, legal.own_births, legal.born_before)
+  -- each page holds as many of its records as its LSN says
+  pub rolled_prefixes : EachHoldsPrefix s.pages (records_of (rolled_back s batches)) stored
+  rolled_prefixes =
+      subst (λ (l : List Record). EachHoldsPrefix s.pages l stored) (sym (rolled_records s batches stored legal.shaped))
+      (EachHoldsPrefix-append s.pages (records_of batches) (rollback legal.shaped.state) stored legal.prefixes)
+  -- the batches behind an opening of a legal log are a legal log
+  abbrev pub rolled_legal : IsLegalLog s (rolled_back s batches) stored
+  rolled_legal =
+      let shaped = rolled_shaped s batches stored legal.shaped in
+      record {
+        shaped = record {
+          limits = shaped.limits;
+          good = shaped.good;
+          state = shaped.state;
+          reached = shaped.reached;
+          room = shaped.room;
+          size = shaped.size;
+          lsns_size = shaped.lsns_size;
+          behind = shaped.behind;
+          walked = rolled_walks.0;
+        };
+        prefixes = rolled_prefixes;
+        own_births = rolled_walks.1;
+        born_before = rolled_walks.2;
+      }
+  -- in which the same graphs are seen
+  pub rolled_shows : (g : Graph) → Shows s batches stored legal g → Shows s (rolled_back s batches) stored rolled_legal g
+  rolled_shows g shows = subst (λ ws. IsSeen ws legal.shaped.state.base g) (sym (words_of-rolled_back s batches stored legal.shaped)) shows
+
+-- behind an opening a log says what it said
+pub rolled_says : (g : Graph) (k : ℕ) (s : Super) (batches : List (List Record)) (stored : Pages) → Says g k s batches stored → Says g k s (rolled_back s batches) stored
+rolled_says g k s batches stored says = record {
+  legal = rolled_legal s batches stored says.legal;
+  seen = says.seen;
+  shows = rolled_shows s batches stored says.legal says.seen says.shows;
+  graph = says.graph;
+  count = rolled_commits s batches stored says.legal.shaped ∙ says.count;
+}

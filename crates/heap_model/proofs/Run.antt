@@ -1,0 +1,4 @@
+-- Runs of events.
+pub mod Calls
+pub mod Ending
+pub mod Opening

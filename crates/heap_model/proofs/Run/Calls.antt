@@ -1,0 +1,104 @@
+-- What each step of a core keeps: what it was opened with, its history with one entry more, and a failure.
+use Rattle.std.specs.Prelude.{if◌then◌else◌}
+use Rattle.std.proofs.Common.{◌≡◌, ◌≢◌, ◌<◌, arith, inl, inr, ℕ, Bool, true, false, List, [], ◌∷◌, ◌++◌, Option, Some, None, refl, sym, ap, ◌∙◌, subst}
+use Rattle.graph_model.specs.declared.event.Event.{Event}
+use Rattle.graph_model.specs.declared.event.Event.TheVariants.{Force, Flush}
+use Rattle.graph_model.specs.declared.reply.Entry.{Entry}
+use Rattle.graph_model.specs.declared.reply.Refusal.{Refusal}
+use Rattle.graph_model.specs.declared.reply.Refusal.TheVariants.{Failed}
+use Rattle.graph_model.specs.declared.reply.Reply.{Reply}
+use Rattle.graph_model.specs.declared.reply.Reply.TheVariants.{Refused}
+use Rattle.graph_model.specs.History.{account}
+use Rattle.graph_model.specs.Plain.{model_refusal, first_of_two, refusal_of, reply_of}
+use Rattle.log_records.specs.declared.Record.{Record}
+use Rattle.heap_model.specs.Core.{Core, next_number, words_refusal, log_refusal, core_refusal, granted_by, answer, with_entry, is_dirty, is_ahead, forced, forced_if, page_stored, done, after_refusal, after, force_calls, AsksDisk, calls_if, calls, IsStep, IsRun}
+use Rattle.heap_model.proofs.Run.Opening.{SameOpening}
+use Rattle.heap_model.proofs.Step.Step.{done_history}
+
+-- a core that has failed refuses everything
+pub failed_refusal : (c : Core) (event : Event) (entry : ℕ) → (account c.history).failed ≡ Some entry → core_refusal c event ≡ Some (Failed entry)
+failed_refusal c event entry e = ap (λ (o : Option ℕ). refusal_of o (first_of_two (model_refusal (next_number c) c.g0 (account c.history) event) (first_of_two (words_refusal c event) (log_refusal c event)))) e
+
+-- and all that changes is its history
+pub failed_after : (c : Core) (event : Event) (entry : ℕ) → (account c.history).failed ≡ Some entry → after c event ≡ with_entry c event (Refused (Failed entry))
+failed_after c event entry e = ap (λ (o : Option Refusal). with_entry (after_refusal o c event) event (reply_of o (granted_by c event))) (failed_refusal c event entry e)
+
+calls_made : (why : Option Refusal) (c : Core) (event : Event) → 0 < calls_if why c event → AsksDisk event × (why ≡ None)
+calls_made (Some why) c event some = absurd (omega arith)
+calls_made None c Force some = (tt, refl)
+calls_made None c (Flush p) some = (tt, refl)
+calls_made None c event some = absurd (omega arith)
+
+-- what calls the disk is a force or a flush that is not refused
+pub calls-asks : (c : Core) (event : Event) → 0 < calls c event → AsksDisk event × (core_refusal c event ≡ None)
+calls-asks c event some = calls_made (core_refusal c event) c event some
+
+unfailed_if : (failed : Option ℕ) (o : Option Refusal) → refusal_of failed o ≡ None → failed ≡ None
+unfailed_if None o e = refl
+unfailed_if (Some entry) o e = cc
+
+-- a core that calls the disk has not failed
+pub calls-unfailed : (c : Core) (event : Event) → 0 < calls c event → (account c.history).failed ≡ None
+calls-unfailed c event some =
+    let a = account c.history in
+    unfailed_if a.failed (first_of_two (model_refusal (next_number c) c.g0 a event) (first_of_two (words_refusal c event) (log_refusal c event))) (calls-asks c event some).1
+
+refusal_history : (o : Option Refusal) (c : Core) (event : Event) → (after_refusal o c event).history ≡ c.history
+refusal_history None c event = done_history c event
+refusal_history (Some why) c event = refl
+
+-- the history has one entry more
+pub after_history : (c : Core) (event : Event) → (after c event).history ≡ c.history ++ record { event = event; reply = answer c event } ∷ []
+after_history c event = ap (λ (l : List Entry). l ++ record { event = event; reply = answer c event } ∷ []) (refusal_history (core_refusal c event) c event)
+
+-- so it has after each step
+pub step_history : (c d : Core) (event : Event) (reply : Reply) → IsStep c event reply d → d.history ≡ c.history ++ record { event = event; reply = reply } ∷ []
+step_history c d event reply (inl whole) =
+    ap (λ (x : Core). x.history) whole.1 ∙ after_history c event ∙ ap (λ (r : Reply). c.history ++ record { event = event; reply = r } ∷ []) (sym whole.0)
+step_history c d event reply (inr cut) = ap (λ (x : Core). x.history) cut.1
+
+-- What each step keeps.
+
+same_forced : (c : Core) (p : List Record) → SameOpening c (forced c p)
+same_forced c [] = record { pages = refl; room = refl; lowest = refl; first = refl; g0 = refl; born = refl; before = refl }
+same_forced c (r ∷ rs) = record { pages = refl; room = refl; lowest = refl; first = refl; g0 = refl; born = refl; before = refl }
+
+same_done : (c : Core) (event : Event) → SameOpening c (done c event)
+same_done c Force = same_forced c c.pending
+same_done c (Flush p) = same_flushed (is_dirty c p) (is_ahead c p)
+  where
+    same_flushed : (dirty ahead : Bool) → SameOpening c (if dirty then page_stored (forced_if ahead c) p else c)
+    same_flushed true true = let same = same_forced c c.pending in record { pages = same.pages; room = same.room; lowest = same.lowest; first = same.first; g0 = same.g0; born = same.born; before = same.before }
+    same_flushed true false = record { pages = refl; room = refl; lowest = refl; first = refl; g0 = refl; born = refl; before = refl }
+    same_flushed false ahead = record { pages = refl; room = refl; lowest = refl; first = refl; g0 = refl; born = refl; before = refl }
+same_done c event = record { pages = refl; room = refl; lowest = refl; first = refl; g0 = refl; born = refl; before = refl }
+
+same_refusal : (o : Option Refusal) (c : Core) (event : Event) → SameOpening c (after_refusal o c event)
+same_refusal None c event = same_done c event
+same_refusal (Some why) c event = record { pages = refl; room = refl; lowest = refl; first = refl; g0 = refl; born = refl; before = refl }
+
+same_entry : (c d : Core) (event : Event) (reply : Reply) → SameOpening c d → SameOpening c (with_entry d event reply)
+same_entry c d event reply same = record { pages = same.pages; room = same.room; lowest = same.lowest; first = same.first; g0 = same.g0; born = same.born; before = same.before }
+
+-- a step keeps what the core was opened with
+pub same_step : (c d : Core) (event : Event) (reply : Reply) → IsStep c event reply d → SameOpening c d
+same_step c d event reply (inl whole) =
+    subst (SameOpening c) (sym whole.1) (same_entry c (after_refusal (core_refusal c event) c event) event (answer c event) (same_refusal (core_refusal c event) c event))
+same_step c d event reply (inr cut) =
+    subst (SameOpening c) (sym cut.1) (same_entry c c event reply (record { pages = refl; room = refl; lowest = refl; first = refl; g0 = refl; born = refl; before = refl }))
+
+same_on : (c mid d : Core) → SameOpening c mid → SameOpening mid d → SameOpening c d
+same_on c mid d one more = record {
+  pages = more.pages ∙ one.pages;
+  room = more.room ∙ one.room;
+  lowest = more.lowest ∙ one.lowest;
+  first = more.first ∙ one.first;
+  g0 = more.g0 ∙ one.g0;
+  born = more.born ∙ one.born;
+  before = more.before ∙ one.before;
+}
+
+-- so do steps, one after another
+pub same_run : (c d : Core) (events : List Event) → IsRun c events d → SameOpening c d
+same_run c d [] run = subst (SameOpening c) (sym run) (record { pages = refl; room = refl; lowest = refl; first = refl; g0 = refl; born = refl; before = refl })
+same_run c d (event ∷ events) run = same_on c run.1 d (same_step c run.1 event run.0 run.2) (same_run run.1 d events run.3)

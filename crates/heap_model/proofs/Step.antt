@@ -1,0 +1,9 @@
+-- Steps of a core.
+pub mod Calls
+pub mod Goes
+pub mod Granted
+pub mod Grow
+pub mod Handles
+pub mod Logged
+pub mod Room
+pub mod Step

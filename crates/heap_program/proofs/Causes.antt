@@ -1,0 +1,39 @@
+-- How the causes of errors go on over several calls.
+use Rattle.std.proofs.Common.{◌≡◌, inl, inr, ℕ, ◌+◌, ◌≤◌, arith, Result, Err}
+use Rattle.counts.specs.Count.{Rose}
+use Rattle.disk_model.specs.declared.disk.DiskError.{DiskError}
+use Rattle.disk_model.specs.declared.disk.DiskError.TheVariants.{Failed, Stopped}
+use Rattle.disk_model.specs.Disk.{HasCause}
+use Rattle.disk_model.proofs.KeepsLaws.{rose_since, rose_until}
+use Rattle.heap_program.specs.Causes.{DiskRose}
+
+-- counts of two kinds together
+pub rose_sum : (f s f' s' : ℕ) → f ≤ f' → s ≤ s' → Rose f f' → DiskRose f s f' s'
+rose_sum f s f' s' ff ss (inl up) = inl (omega arith)
+rose_sum f s f' s' ff ss (inr full) = inr (omega arith)
+
+pub rose_sum_stops : (f s f' s' : ℕ) → f ≤ f' → s ≤ s' → Rose s s' → DiskRose f s f' s'
+rose_sum_stops f s f' s' ff ss (inl up) = inl (omega arith)
+rose_sum_stops f s f' s' ff ss (inr full) = inr (omega arith)
+
+-- an error means that the disk's counts rose
+pub disk_rose : {A : Type 0} (f s f' s' : ℕ) (result : Result A DiskError) (e : DiskError) → HasCause f f' s s' result → result ≡ Err e → DiskRose f s f' s'
+disk_rose f s f' s' result Failed cause is = rose_sum f s f' s' cause.faults_kept cause.stops_kept (cause.failed is)
+disk_rose f s f' s' result Stopped cause is = rose_sum_stops f s f' s' cause.faults_kept cause.stops_kept (cause.stopped is)
+
+-- and so they rose since an earlier moment
+pub disk_rose_since : (f s m n f' s' : ℕ) → f ≤ m → s ≤ n → m ≤ f' → n ≤ s' → DiskRose m n f' s' → DiskRose f s f' s'
+disk_rose_since f s m n f' s' fm sn mf ns up = rose_since (f + s) (m + n) (f' + s') (omega arith) (omega arith) up
+
+-- what rose between two moments rose between an earlier and a later one
+pub rose_within : (a b c d : ℕ) → a ≤ b → b ≤ c → c ≤ d → Rose b c → Rose a d
+rose_within a b c d ab bc cd up = rose_until a c d cd (rose_since a b c ab bc up)
+
+-- an error's count rose since the first call, if it rose in the last one
+pub cause_on : {A B : Type 0} (faults mid faults' stops mids stops' : ℕ) (result : Result A DiskError) (last : Result B DiskError) → faults ≤ mid → stops ≤ mids → HasCause mid faults' mids stops' last → ((e : DiskError) → result ≡ Err e → last ≡ Err e) → HasCause faults faults' stops stops' result
+cause_on faults mid faults' stops mids stops' result last f s cause same_error = record {
+  faults_kept = omega (arith, cause.faults_kept);
+  stops_kept = omega (arith, cause.stops_kept);
+  failed = λ is. rose_since faults mid faults' f cause.faults_kept (cause.failed (same_error Failed is));
+  stopped = λ is. rose_since stops mids stops' s cause.stops_kept (cause.stopped (same_error Stopped is));
+}

@@ -1,0 +1,124 @@
+-- What the command says of a run.
+use Rattle.std.proofs.Common.{◌≡◌, ◌≢◌, inl, ℕ, List, Bool, Option, Some, None, refl, sym, subst, arith}
+use Rattle.disk_model.specs.declared.disk.Disk.{Ghosts}
+use Rattle.disk_model.specs.Disk.{Only}
+use Rattle.disk_model.proofs.MomentLaws.{begins}
+use Rattle.graph_model.specs.Graph.{Graph}
+use Rattle.image_plan.specs.declared.superblock.Super.{Super}
+use Rattle.log_records.specs.declared.Record.{Record}
+use Rattle.command_words.specs.declared.commands.Command.{Command}
+use Rattle.command_words.specs.declared.commands.Command.TheVariants as asked
+use Rattle.command_words.specs.declared.commands.CommandError.{CommandError}
+use Rattle.command_words.specs.declared.commands.CommandError.TheVariants as asking
+use Rattle.command_words.specs.declared.commands.Stop.{Stop}
+use Rattle.page_redo.specs.Pages.{Pages}
+use Rattle.heap_model.specs.Image.{Holds}
+use Rattle.heap_model.specs.Opening.{IsLeftByOpening}
+use Rattle.heap_program.specs.declared.status.Status.{Status}
+use Rattle.heap_program.specs.declared.status.Status.TheVariants as status
+use Rattle.heap_core.specs.declared.errors.FormatError.{FormatError}
+use Rattle.heap_core.specs.declared.errors.FormatError.TheVariants as format
+use Rattle.command_words.specs.declared.commands.Numbers.{Numbers}
+use Rattle.heap_program.specs.Commands.{makes, IsEndOf, PrintsGraph}
+use Rattle.heap_program.specs.Headline.{IsEndOfPlay, IsSound, graph_text, starts_asked, restarts_asked}
+use Rattle.heap_program.specs.Refusals.{IsToldOfEach}
+use Rattle.heap_program.specs.StatusOf.{command_status, format_status}
+use Rattle.heap_program.proofs.Written.{none_written}
+
+-- words spell one command
+pub same_play : (a : Option ℕ) (s : Option Stop) (b : Option ℕ) (t : Option Stop) → Some (asked.Play a s) ≡ Some (asked.Play b t) → (a ≡ b) × (s ≡ t)
+same_play a s b t same = (cc, cc)
+
+-- Memory was refused while the words were read: nothing was done.
+pub graph_unread : {D : Type 0} (g : Ghosts D) (disk : D) (e : CommandError) (words : Option Command) → words ≡ Some asked.Graph → (e ≡ asking.Usage → words ≡ None) → (by : Status) → by ≡ command_status e
+    → ((image : List ℕ) → g.left_since disk (g.moment disk) image → g.may_leave disk image) → Only (g.bytes disk) (g.may_leave disk) → (s : Super) (batches : List (List Record)) (stored : Pages) (graph : Graph) → Holds s batches stored (g.bytes disk)
+    → (told : Bool) (before : List ℕ) → PrintsGraph g s batches stored graph disk disk by told before before
+graph_unread g disk asking.Usage words is usage by by_is now only s batches stored graph held told before = let none : words ≡ None = usage refl in cc
+graph_unread g disk asking.NoMemory words is usage by by_is now only s batches stored graph held told before =
+    let still : (image : List ℕ) → g.may_leave disk image → IsLeftByOpening s batches stored image = λ image may. inl (subst (Holds s batches stored) (sym (only image may)) held) in
+    record {
+      moments = begins g.moment g.left_since disk (IsLeftByOpening s batches stored) (λ image since. still image (now image since));
+      left = still;
+      calls = record { times = 0; most = omega arith; all = λ done. cc; told = refl };
+      restarts = refl;
+      holds = λ done. cc;
+      written = λ t. record { front = none_written before (graph_text graph); whole = λ done. cc };
+      end = rw by_is tt;
+    }
+
+-- The statuses of a format: those of what it writes, and of its errors.
+pub written_format : (n : Numbers) (s : Status) → IsEndOfPlay s → IsEndOf (asked.Format n) s
+written_format n status.Done end = end
+written_format n status.NoMemory end = end
+written_format n status.Usage end = end
+written_format n (status.Script line) end = end
+written_format n status.ReadFault end = end
+written_format n status.WriteFault end = end
+written_format n status.DiskFault end = end
+written_format n status.NotHeap end = end
+written_format n (status.Damaged at) end = end
+written_format n (status.TooSmall size need) end = absurd end
+
+-- it says nothing of an image
+pub format_told_each : (n : Numbers) (s : Status) (may_leave : List ℕ → Type 0) → IsEndOf (asked.Format n) s → IsToldOfEach s may_leave
+format_told_each n status.Done may_leave end image may = tt
+format_told_each n status.NoMemory may_leave end image may = tt
+format_told_each n status.Usage may_leave end image may = absurd end
+format_told_each n (status.Script line) may_leave end image may = absurd end
+format_told_each n status.ReadFault may_leave end image may = absurd end
+format_told_each n status.WriteFault may_leave end image may = tt
+format_told_each n status.DiskFault may_leave end image may = tt
+format_told_each n status.NotHeap may_leave end image may = absurd end
+format_told_each n (status.Damaged at) may_leave end image may = absurd end
+format_told_each n (status.TooSmall size need) may_leave end image may = tt
+
+pub format_sound : (n : Numbers) (s : Status) → IsEndOf (asked.Format n) s → IsSound s
+format_sound n status.Done end = tt
+format_sound n status.NoMemory end = tt
+format_sound n status.Usage end = absurd end
+format_sound n (status.Script line) end = absurd end
+format_sound n status.ReadFault end = absurd end
+format_sound n status.WriteFault end = tt
+format_sound n status.DiskFault end = tt
+format_sound n status.NotHeap end = absurd end
+format_sound n (status.Damaged at) end = absurd end
+format_sound n (status.TooSmall size need) end = tt
+
+-- without a restart no stop was asked
+pub no_stop : (stop : Option Stop) → restarts_asked stop ≡ 0 → stop ≡ None
+no_stop None is = refl
+no_stop (Some stop) is = absurd (some stop.again is)
+  where
+    some : (again : Option ℕ) → starts_asked again ≡ 0 → ⊥
+    some None asks = omega arith
+    some (Some m) asks = omega arith
+
+-- a play that makes no heap names no pages
+pub not_made : (fresh : Option ℕ) (stop : Option Stop) → makes (asked.Play fresh stop) ≡ None → fresh ≡ None
+not_made None stop none = refl
+not_made (Some pages) stop none = cc
+
+pub format_ends : (n : Numbers) (e : FormatError) → IsEndOf (asked.Format n) (format_status e)
+format_ends n (format.TooSmall size need) = tt
+format_ends n format.DiskFault = tt
+format_ends n format.Stopped = tt
+
+-- those of a play
+pub play_ends : (fresh : Option ℕ) (stop : Option Stop) (s : Status) → s ≢ status.Usage → IsEndOf (asked.Play fresh stop) s
+play_ends fresh stop status.Done other = tt
+play_ends fresh stop status.NoMemory other = tt
+play_ends fresh stop status.Usage other = absurd (other refl)
+play_ends fresh stop (status.Script line) other = tt
+play_ends fresh stop status.ReadFault other = tt
+play_ends fresh stop status.WriteFault other = tt
+play_ends fresh stop status.DiskFault other = tt
+play_ends fresh stop status.NotHeap other = tt
+play_ends fresh stop (status.Damaged at) other = tt
+play_ends fresh stop (status.TooSmall size need) other = tt
+
+-- and that of words for which there was no memory
+pub unread_ends : (which : Command) (words : Option Command) (e : CommandError) (by : Status) → words ≡ Some which → (e ≡ asking.Usage → words ≡ None) → by ≡ command_status e → IsEndOf which by
+unread_ends which words asking.Usage by is usage by_is = let none : words ≡ None = usage refl in cc
+unread_ends (asked.Format n) words asking.NoMemory by is usage by_is = rw by_is tt
+unread_ends (asked.Play fresh stop) words asking.NoMemory by is usage by_is = rw by_is tt
+unread_ends asked.Graph words asking.NoMemory by is usage by_is = rw by_is tt

@@ -1,0 +1,172 @@
+-- How what an opening tells of an image goes on to the status of a run.
+use Rattle.std.proofs.Common.{◌≡◌, ⊎_elim, ℕ, ◌≤◌, List, Result, refl, subst, sym}
+use Rattle.std.specs.Prelude.{IsTrue}
+use Rattle.disk_model.specs.declared.disk.Disk.{Ghosts}
+use Rattle.disk_model.specs.declared.disk.DiskError.{DiskError}
+use Rattle.disk_model.specs.Keeps.{OnlyReads}
+use Rattle.disk_model.proofs.KeepsLaws.{same_none}
+use Rattle.disk_model.specs.Moments.{LeavesOnly}
+use Rattle.heap_recovery.specs.declared.at.At.{At}
+use Rattle.heap_recovery.specs.declared.at.At.TheVariants as place
+use Rattle.heap_recovery.specs.Faults.{IsNoHeap, IsFaultAt}
+use Rattle.heap_core.specs.Causes.{IsFromOutside}
+use Rattle.heap_core.specs.Refusals as opening_refusals
+use Rattle.heap_core.specs.declared.errors.OpenError.{OpenError}
+use Rattle.heap_core.specs.declared.errors.OpenError.TheVariants as opening
+use Rattle.heap_program.specs.declared.status.Status.{Status}
+use Rattle.heap_program.specs.declared.status.Status.TheVariants as status
+use Rattle.heap_program.specs.Causes.{IsInputError}
+use Rattle.heap_program.specs.Headline.{IsEndOfPlay}
+use Rattle.heap_program.specs.Refusals.{IsFault, IsToldOf, IsToldOfEach, EndsRefused, IsLeftAlone, LeavesAlone}
+use Rattle.heap_program.specs.StatusOf.{open_status}
+
+-- what the error of an opening tells, its status tells
+pub told_status : (e : OpenError) (image : List ℕ) → opening_refusals.IsToldOf e image → IsToldOf (open_status e) image
+told_status opening.NoMemory image told = tt
+told_status opening.NotHeap image told = told
+told_status (opening.Damaged at) image told = told
+told_status opening.DiskFault image told = tt
+told_status opening.Stopped image told = tt
+
+-- the end of a play says nothing of the image
+pub end_told : (s : Status) (image : List ℕ) → IsEndOfPlay s → IsToldOf s image
+end_told status.Done image end = tt
+end_told status.NoMemory image end = tt
+end_told status.Usage image end = absurd end
+end_told (status.Script line) image end = absurd end
+end_told status.ReadFault image end = absurd end
+end_told status.WriteFault image end = tt
+end_told status.DiskFault image end = tt
+end_told status.NotHeap image end = absurd end
+end_told (status.Damaged at) image end = absurd end
+end_told (status.TooSmall size need) image end = absurd end
+
+outside_ends : (expected : Status) (e : OpenError) → IsFromOutside e → EndsRefused expected (open_status e)
+outside_ends expected opening.NoMemory outside = tt
+outside_ends expected opening.NotHeap outside = absurd outside
+outside_ends expected (opening.Damaged at) outside = absurd outside
+outside_ends expected opening.DiskFault outside = tt
+outside_ends expected opening.Stopped outside = tt
+
+either_ends : (this e : OpenError) → opening_refusals.IsErrorOrOutside this e → EndsRefused (open_status this) (open_status this) → EndsRefused (open_status this) (open_status e)
+either_ends this e is same = ⊎_elim (λ (one : e ≡ this). subst (λ (x : OpenError). EndsRefused (open_status this) (open_status x)) (sym one) same) (λ (outside : IsFromOutside e). outside_ends (open_status this) e outside) is
+
+-- An opening of an image that is to be refused gives its status.
+pub refused_by : (expected : Status) (image : List ℕ) (e : OpenError) → IsFault expected image → (IsNoHeap image → opening_refusals.IsErrorOrOutside opening.NotHeap e)
+    → ((at : At) → IsFaultAt at image → opening_refusals.IsErrorOrOutside (opening.Damaged at) e) → EndsRefused expected (open_status e)
+refused_by status.Done image e fault no_heap damaged = absurd fault
+refused_by status.NoMemory image e fault no_heap damaged = absurd fault
+refused_by status.Usage image e fault no_heap damaged = absurd fault
+refused_by (status.Script line) image e fault no_heap damaged = absurd fault
+refused_by status.ReadFault image e fault no_heap damaged = absurd fault
+refused_by status.WriteFault image e fault no_heap damaged = absurd fault
+refused_by status.DiskFault image e fault no_heap damaged = absurd fault
+refused_by status.NotHeap image e fault no_heap damaged = either_ends opening.NotHeap e (no_heap fault) refl
+refused_by (status.Damaged at) image e fault no_heap damaged = either_ends (opening.Damaged at) e (damaged at fault) refl
+refused_by (status.TooSmall size need) image e fault no_heap damaged = absurd fault
+
+-- And it is not opened.
+pub not_opened : (expected : Status) (image : List ℕ) → IsFault expected image → (IsNoHeap image → ⊥) → ((at : At) → IsFaultAt at image → ⊥) → ⊥
+not_opened status.Done image fault no_heap damaged = fault
+not_opened status.NoMemory image fault no_heap damaged = fault
+not_opened status.Usage image fault no_heap damaged = fault
+not_opened (status.Script line) image fault no_heap damaged = fault
+not_opened status.ReadFault image fault no_heap damaged = fault
+not_opened status.WriteFault image fault no_heap damaged = fault
+not_opened status.DiskFault image fault no_heap damaged = fault
+not_opened status.NotHeap image fault no_heap damaged = no_heap fault
+not_opened (status.Damaged at) image fault no_heap damaged = damaged at fault
+not_opened (status.TooSmall size need) image fault no_heap damaged = fault
+
+-- A status that comes before a write is that of an error that does.
+alone_early : (at : At) → IsLeftAlone (status.Damaged at) → opening_refusals.ComesBeforeWrites (opening.Damaged at)
+alone_early (place.Batch offset) alone = tt
+alone_early (place.Rec lsn) alone = tt
+alone_early place.Reserve alone = tt
+alone_early (place.Page page) alone = tt
+alone_early (place.Address address) alone = absurd alone
+
+module _ {D : Type 0} (g : Ghosts D) where
+  -- An opening of an image with such a fault only reads.
+  pub only_read : {T : Type 0} (expected : Status) (image : List ℕ) (old new : D) (result : Result T DiskError) → IsFault expected image → IsLeftAlone expected → (IsNoHeap image → OnlyReads g old new result)
+      → ((at : At) → IsFaultAt at image → opening_refusals.ComesBeforeWrites (opening.Damaged at) → OnlyReads g old new result) → OnlyReads g old new result
+  only_read status.Done image old new result fault alone no_heap damaged = absurd fault
+  only_read status.NoMemory image old new result fault alone no_heap damaged = absurd fault
+  only_read status.Usage image old new result fault alone no_heap damaged = absurd fault
+  only_read (status.Script line) image old new result fault alone no_heap damaged = absurd fault
+  only_read status.ReadFault image old new result fault alone no_heap damaged = absurd fault
+  only_read status.WriteFault image old new result fault alone no_heap damaged = absurd fault
+  only_read status.DiskFault image old new result fault alone no_heap damaged = absurd fault
+  only_read status.NotHeap image old new result fault alone no_heap damaged = no_heap fault
+  only_read (status.Damaged at) image old new result fault alone no_heap damaged = damaged at fault (alone_early at alone)
+  only_read (status.TooSmall size need) image old new result fault alone no_heap damaged = absurd fault
+
+  -- and what only reads leaves the disk alone
+  pub alone_read : {T : Type 0} (old new : D) (result : Result T DiskError) → IsTrue g.tells → OnlyReads g old new result → LeavesAlone g old new
+  alone_read old new result tells reads = record { contents = reads.contents tells; restarts = reads.disk.restarts tells }
+
+  -- as does a run that did not come to the disk
+  pub alone_untouched : (disk : D) → ((image : List ℕ) → g.left_since disk (g.moment disk) image → g.may_leave disk image) → LeavesAlone g disk disk
+  alone_untouched disk now = record { contents = same_none g disk now; restarts = refl }
+
+  -- At each moment of an opening the fault stays.
+  pub fault_moments : (expected : Status) (image : List ℕ) (old new : D) → IsFault expected image → (IsNoHeap image → LeavesOnly g.moment g.left_since old new IsNoHeap)
+      → ((at : At) → IsFaultAt at image → LeavesOnly g.moment g.left_since old new (IsFaultAt at)) → LeavesOnly g.moment g.left_since old new (IsFault expected)
+  fault_moments status.Done image old new fault no_heap damaged = absurd fault
+  fault_moments status.NoMemory image old new fault no_heap damaged = absurd fault
+  fault_moments status.Usage image old new fault no_heap damaged = absurd fault
+  fault_moments (status.Script line) image old new fault no_heap damaged = absurd fault
+  fault_moments status.ReadFault image old new fault no_heap damaged = absurd fault
+  fault_moments status.WriteFault image old new fault no_heap damaged = absurd fault
+  fault_moments status.DiskFault image old new fault no_heap damaged = absurd fault
+  fault_moments status.NotHeap image old new fault no_heap damaged = no_heap fault
+  fault_moments (status.Damaged at) image old new fault no_heap damaged = damaged at fault
+  fault_moments (status.TooSmall size need) image old new fault no_heap damaged = absurd fault
+
+  -- what holds at each moment holds at the end
+  pub at_end : (old new : D) (P : List ℕ → Type 0) → LeavesOnly g.moment g.left_since old new P → ((t : ℕ) (image : List ℕ) → t ≤ g.moment new → g.may_leave new image → g.left_since new t image)
+      → (image : List ℕ) → g.may_leave new image → P image
+  at_end old new P moments counts image may = moments.each image (counts (g.moment old) image moments.later may)
+
+  -- what an opening's error tells of the image that it read, its status tells of each image that a crash may leave behind it
+  pub told_each : (e : OpenError) (by : Status) (old new : D) → by ≡ open_status e → opening_refusals.IsToldOf e (g.bytes old) → (IsNoHeap (g.bytes old) → LeavesOnly g.moment g.left_since old new IsNoHeap)
+      → ((at : At) → IsFaultAt at (g.bytes old) → LeavesOnly g.moment g.left_since old new (IsFaultAt at))
+      → ((t : ℕ) (image : List ℕ) → t ≤ g.moment new → g.may_leave new image → g.left_since new t image) → IsToldOfEach by (g.may_leave new)
+  told_each opening.NoMemory by old new is told no_heap damaged counts = rw is (λ image may. tt)
+  told_each opening.NotHeap by old new is told no_heap damaged counts = rw is (at_end old new IsNoHeap (no_heap told) counts)
+  told_each (opening.Damaged at) by old new is told no_heap damaged counts = rw is (at_end old new (IsFaultAt at) (damaged at told) counts)
+  told_each opening.DiskFault by old new is told no_heap damaged counts = rw is (λ image may. tt)
+  told_each opening.Stopped by old new is told no_heap damaged counts = rw is (λ image may. tt)
+
+-- the end of a play says nothing of them
+pub end_told_each : (s : Status) (may_leave : List ℕ → Type 0) → IsEndOfPlay s → IsToldOfEach s may_leave
+end_told_each s may_leave end image may = end_told s image end
+
+-- A script that was bad or could not be read says nothing of the image.
+pub input_ends : (expected s : Status) → IsInputError s → EndsRefused expected s
+input_ends expected status.Done input = absurd input
+input_ends expected status.NoMemory input = tt
+input_ends expected status.Usage input = absurd input
+input_ends expected (status.Script line) input = tt
+input_ends expected status.ReadFault input = tt
+input_ends expected status.WriteFault input = absurd input
+input_ends expected status.DiskFault input = absurd input
+input_ends expected status.NotHeap input = absurd input
+input_ends expected (status.Damaged at) input = absurd input
+input_ends expected (status.TooSmall size need) input = absurd input
+
+pub input_told : (s : Status) (image : List ℕ) → IsInputError s → IsToldOf s image
+input_told status.Done image input = tt
+input_told status.NoMemory image input = tt
+input_told status.Usage image input = tt
+input_told (status.Script line) image input = tt
+input_told status.ReadFault image input = tt
+input_told status.WriteFault image input = tt
+input_told status.DiskFault image input = tt
+input_told status.NotHeap image input = absurd input
+input_told (status.Damaged at) image input = absurd input
+input_told (status.TooSmall size need) image input = tt
+
+-- nor of those that a crash may leave
+pub input_told_each : (s : Status) (may_leave : List ℕ → Type 0) → IsInputError s → IsToldOfEach s may_leave
+input_told_each s may_leave input image may = input_told s image input

@@ -1,0 +1,181 @@
+use Rattle.std.proofs.Common.{◌≡◌, ◌≢◌, ◌≤◌, inl, ℕ, min, rules, refl, sym, ap, ◌∙◌, subst, arith}
+use Rattle.counts.specs.Count.{counted}
+use Rattle.disk_model.specs.Disk.{Only}
+use Rattle.disk_model.specs.Moments.{LeavesOnly}
+use Rattle.disk_model.specs.Fuse.{fuse_inner, fuse_passed}
+use Rattle.heap_core.specs.Causes.{ErrorPasses}
+use Rattle.heap_core.specs.declared.errors.OpenError.TheVariants as opening
+use Rattle.heap_program.specs.declared.status.Status.TheVariants.{NoMemory}
+use Rattle.heap_model.specs.CoreCrash.{StandsForFirst}
+use Rattle.heap_model.specs.Image.{IsLegal}
+use Rattle.heap_model.proofs.Shaped.{shaped_image}
+use Rattle.heap_model.specs.Opening.{opening_calls, rollback_of}
+use Rattle.heap_program.specs.Headline.{IsCutOff, FailsToOpen}
+use Rattle.heap_program.proofs.PlayFuse.{same_disk, same_limit, fuse_since, fuse_passes, fuse_none, fuse_most}
+use Rattle.heap_program.proofs.PrintRecovered.{keeps_first, few_to_open, whole_passes, error_cut}
+use Rattle.heap_recovery.specs.Faults.{IsNoHeap, IsFaultAt}
+use Rattle.heap_program.specs.Refusals.{IsFault}
+use Rattle.heap_program.proofs.RefusalLaws.{fault_moments, at_end}
+use Rattle.heap_program.proofs.again.open_cut_off.Goals as goal
+
+-- the whole opening passed
+pub returns-in-Ok-clause-cut : goal.returns-in-Ok-clause-cut
+returns-in-Ok-clause-cut g c tells core k at_first at_only =
+    let d = g.D.Disk in
+    let start = fuse_inner c.new.result in
+    let inner = c.new.ensures.inner in
+    let fuse = c.in-Ok.heap.disk in
+    let e = c.in-Ok.ensures in
+    let first = subst (λ x. StandsForFirst core k (d.bytes x)) (sym inner) at_first in
+    let only = subst (λ x. Only (d.bytes x) (d.may_leave x)) (sym inner) at_only in
+    let stands = first.stands in
+    let legal : IsLegal stands.super stands.batches stands.stored (d.bytes start) = record { log = stands.says.legal; held = stands.held } in
+    let n = opening_calls stands.super stands.batches in
+    let origin = e.disk.origin ∙ c.new.ensures.origin in
+    let began = same_disk _ _ origin ∙ sym inner in
+    let within = subst (λ (m : ℕ). fuse_passed fuse ≤ m) (same_limit _ _ origin) fuse.within in
+    let keeps = keeps_first d core k start (fuse_inner fuse) first (fuse_since c.new.result fuse _ (e.moments tells only stands.super stands.batches stands.stored (shaped_image legal))) (λ left may. e.crash tells only stands.super stands.batches stands.stored (shaped_image legal) left may) (e.disk.restarts tells) in
+    let through = min c.args.calls n in
+    let all : fuse_passed fuse ≡ through = whole_passes c.args.calls n (fuse_passed fuse) (few_to_open (rollback_of stands.super stands.batches)) within ((e.passes tells stands.super stands.batches stands.stored (shaped_image legal)).ok ∙ ap (counted n) c.new.ensures.passed) in
+    let cut : IsCutOff d c.args.calls core k start (fuse_inner fuse) = record {
+      keeps = keeps;
+      passed = λ u. fuse_passes fuse start through tells began u all;
+      most = fuse_most fuse start through tells began (omega (arith, all));
+    } in
+    rw (c.into_inner.ensures, c.close.ensures, sym inner) cut
+
+-- it did not, and was let go
+pub returns-else-eq-clause-cut : goal.returns-else-eq-clause-cut
+returns-else-eq-clause-cut g c tells core k at_first at_only =
+    let d = g.D.Disk in
+    let start = fuse_inner c.new.result in
+    let inner = c.new.ensures.inner in
+    let fuse = c.in-Err.fuse in
+    let e = c.in-Err.ensures in
+    let other : c.in-Err.e ≢ opening.NoMemory = search rules in
+    let first = subst (λ x. StandsForFirst core k (d.bytes x)) (sym inner) at_first in
+    let only = subst (λ x. Only (d.bytes x) (d.may_leave x)) (sym inner) at_only in
+    let stands = first.stands in
+    let legal : IsLegal stands.super stands.batches stands.stored (d.bytes start) = record { log = stands.says.legal; held = stands.held } in
+    let n = opening_calls stands.super stands.batches in
+    let origin = e.disk.origin ∙ c.new.ensures.origin in
+    let limit = same_limit _ _ origin in
+    let began = same_disk _ _ origin ∙ sym inner in
+    let within = subst (λ (m : ℕ). fuse_passed fuse ≤ m) limit fuse.within in
+    let keeps = keeps_first d core k start (fuse_inner fuse) first (fuse_since c.new.result fuse _ (e.moments tells only stands.super stands.batches stands.stored (shaped_image legal))) (λ left may. e.crash tells only stands.super stands.batches stands.stored (shaped_image legal) left may) (e.disk.restarts tells) in
+    let passes = subst (λ (p : ℕ). ErrorPasses n p (fuse_passed fuse) c.in-Err.e) c.new.ensures.passed (e.passes tells stands.super stands.batches stands.stored (shaped_image legal)) in
+    let all = error_cut c.args.calls n (fuse_passed fuse) (few_to_open (rollback_of stands.super stands.batches)) within _ _ _ _ c.in-Err.e (λ blown. fuse.blown blown ∙ limit) e.disk.cause (e.shaped tells stands.super stands.batches stands.stored (shaped_image legal)) other passes in
+    let cut : IsCutOff d c.args.calls core k start (fuse_inner fuse) = record {
+      keeps = keeps;
+      passed = λ u. fuse_passes fuse start _ tells began u (all.1 u);
+      most = fuse_most fuse start _ tells began all.0;
+    } in
+    rw (c.into_inner-disk.ensures, sym inner) cut
+
+-- memory was refused
+pub returns-then-eq-clause-cut : goal.returns-then-eq-clause-cut
+returns-then-eq-clause-cut g c tells core k at_first at_only =
+    let d = g.D.Disk in
+    let start = fuse_inner c.new.result in
+    let inner = c.new.ensures.inner in
+    let fuse = c.in-Err.fuse in
+    let e = c.in-Err.ensures in
+    let is : c.in-Err.e ≡ opening.NoMemory = search rules in
+    let first = subst (λ x. StandsForFirst core k (d.bytes x)) (sym inner) at_first in
+    let only = subst (λ x. Only (d.bytes x) (d.may_leave x)) (sym inner) at_only in
+    let stands = first.stands in
+    let legal : IsLegal stands.super stands.batches stands.stored (d.bytes start) = record { log = stands.says.legal; held = stands.held } in
+    let n = opening_calls stands.super stands.batches in
+    let began = same_disk _ _ (e.disk.origin ∙ c.new.ensures.origin) ∙ sym inner in
+    let keeps = keeps_first d core k start (fuse_inner fuse) first (fuse_since c.new.result fuse _ (e.moments tells only stands.super stands.batches stands.stored (shaped_image legal))) (λ left may. e.crash tells only stands.super stands.batches stands.stored (shaped_image legal) left may) (e.disk.restarts tells) in
+    let passes = subst (λ error. ErrorPasses n (fuse_passed c.new.result) (fuse_passed fuse) error) is (e.passes tells stands.super stands.batches stands.stored (shaped_image legal)) in
+    let same = fuse_none fuse start tells began (passes ∙ c.new.ensures.passed) in
+    let fails : FailsToOpen d core k NoMemory start (fuse_inner fuse) = record {
+      reason = inl refl;
+      keeps = keeps;
+      most = (0, omega arith, same);
+      none = λ refused. same;
+    } in
+    rw (c.into_inner-disk.ensures, sym inner) fails
+
+-- at each moment of such an opening the fault stays
+pub returns-in-Ok-clause-refuses : goal.returns-in-Ok-clause-refuses
+returns-in-Ok-clause-refuses g c tells only expected fault =
+    let d = g.D.Disk in
+    let inner = c.new.ensures.inner in
+    let first = fuse_inner c.new.result in
+    let cut = fuse_inner c.in-Ok.heap.disk in
+    let at = subst (λ x. IsFault expected (d.bytes x)) (sym inner) fault in
+    let only_f = subst (λ x. Only (d.bytes x) (d.may_leave x)) (sym inner) only in
+    let moments = fault_moments d expected (d.bytes first) first cut at
+    (λ none. fuse_since c.new.result c.in-Ok.heap.disk IsNoHeap (c.in-Ok.ensures.moments_not_heap tells only_f none))
+    (λ place damage. fuse_since c.new.result c.in-Ok.heap.disk (IsFaultAt place) (c.in-Ok.ensures.moments_damaged tells only_f place damage)) in
+    let left = at_end d first cut (IsFault expected) moments (λ t image le may. g.met.D.Disk.counts_now tells cut t image le may) in
+    rw (c.into_inner.ensures, c.close.ensures) left
+
+pub returns-else-eq-clause-refuses : goal.returns-else-eq-clause-refuses
+returns-else-eq-clause-refuses g c tells only expected fault =
+    let d = g.D.Disk in
+    let inner = c.new.ensures.inner in
+    let first = fuse_inner c.new.result in
+    let cut = fuse_inner c.in-Err.fuse in
+    let at = subst (λ x. IsFault expected (d.bytes x)) (sym inner) fault in
+    let only_f = subst (λ x. Only (d.bytes x) (d.may_leave x)) (sym inner) only in
+    let moments = fault_moments d expected (d.bytes first) first cut at
+    (λ none. fuse_since c.new.result c.in-Err.fuse IsNoHeap (c.in-Err.ensures.moments_not_heap tells only_f none))
+    (λ place damage. fuse_since c.new.result c.in-Err.fuse (IsFaultAt place) (c.in-Err.ensures.moments_damaged tells only_f place damage)) in
+    let left = at_end d first cut (IsFault expected) moments (λ t image le may. g.met.D.Disk.counts_now tells cut t image le may) in
+    rw c.into_inner-disk.ensures left
+
+pub returns-then-eq-clause-refuses : goal.returns-then-eq-clause-refuses
+returns-then-eq-clause-refuses g c tells only expected fault =
+    let d = g.D.Disk in
+    let inner = c.new.ensures.inner in
+    let first = fuse_inner c.new.result in
+    let cut = fuse_inner c.in-Err.fuse in
+    let at = subst (λ x. IsFault expected (d.bytes x)) (sym inner) fault in
+    let only_f = subst (λ x. Only (d.bytes x) (d.may_leave x)) (sym inner) only in
+    let moments = fault_moments d expected (d.bytes first) first cut at
+    (λ none. fuse_since c.new.result c.in-Err.fuse IsNoHeap (c.in-Err.ensures.moments_not_heap tells only_f none))
+    (λ place damage. fuse_since c.new.result c.in-Err.fuse (IsFaultAt place) (c.in-Err.ensures.moments_damaged tells only_f place damage)) in
+    let left = at_end d first cut (IsFault expected) moments (λ t image le may. g.met.D.Disk.counts_now tells cut t image le may) in
+    rw c.into_inner-disk.ensures left
+
+pub returns-in-Ok-clause-keeps_fault : goal.returns-in-Ok-clause-keeps_fault
+returns-in-Ok-clause-keeps_fault g c tells only expected fault =
+    let d = g.D.Disk in
+    let inner = c.new.ensures.inner in
+    let first = fuse_inner c.new.result in
+    let cut = fuse_inner c.in-Ok.heap.disk in
+    let at = subst (λ x. IsFault expected (d.bytes x)) (sym inner) fault in
+    let only_f = subst (λ x. Only (d.bytes x) (d.may_leave x)) (sym inner) only in
+    let moments = fault_moments d expected (d.bytes first) first cut at
+    (λ none. fuse_since c.new.result c.in-Ok.heap.disk IsNoHeap (c.in-Ok.ensures.moments_not_heap tells only_f none))
+    (λ place damage. fuse_since c.new.result c.in-Ok.heap.disk (IsFaultAt place) (c.in-Ok.ensures.moments_damaged tells only_f place damage)) in
+    rw (c.into_inner.ensures, c.close.ensures) (subst (λ x. LeavesOnly d.moment d.left_since x cut (IsFault expected)) inner moments)
+
+pub returns-else-eq-clause-keeps_fault : goal.returns-else-eq-clause-keeps_fault
+returns-else-eq-clause-keeps_fault g c tells only expected fault =
+    let d = g.D.Disk in
+    let inner = c.new.ensures.inner in
+    let first = fuse_inner c.new.result in
+    let cut = fuse_inner c.in-Err.fuse in
+    let at = subst (λ x. IsFault expected (d.bytes x)) (sym inner) fault in
+    let only_f = subst (λ x. Only (d.bytes x) (d.may_leave x)) (sym inner) only in
+    let moments = fault_moments d expected (d.bytes first) first cut at
+    (λ none. fuse_since c.new.result c.in-Err.fuse IsNoHeap (c.in-Err.ensures.moments_not_heap tells only_f none))
+    (λ place damage. fuse_since c.new.result c.in-Err.fuse (IsFaultAt place) (c.in-Err.ensures.moments_damaged tells only_f place damage)) in
+    rw c.into_inner-disk.ensures (subst (λ x. LeavesOnly d.moment d.left_since x cut (IsFault expected)) inner moments)
+
+pub returns-then-eq-clause-keeps_fault : goal.returns-then-eq-clause-keeps_fault
+returns-then-eq-clause-keeps_fault g c tells only expected fault =
+    let d = g.D.Disk in
+    let inner = c.new.ensures.inner in
+    let first = fuse_inner c.new.result in
+    let cut = fuse_inner c.in-Err.fuse in
+    let at = subst (λ x. IsFault expected (d.bytes x)) (sym inner) fault in
+    let only_f = subst (λ x. Only (d.bytes x) (d.may_leave x)) (sym inner) only in
+    let moments = fault_moments d expected (d.bytes first) first cut at
+    (λ none. fuse_since c.new.result c.in-Err.fuse IsNoHeap (c.in-Err.ensures.moments_not_heap tells only_f none))
+    (λ place damage. fuse_since c.new.result c.in-Err.fuse (IsFaultAt place) (c.in-Err.ensures.moments_damaged tells only_f place damage)) in
+    rw c.into_inner-disk.ensures (subst (λ x. LeavesOnly d.moment d.left_since x cut (IsFault expected)) inner moments)

@@ -1,0 +1,115 @@
+use Rattle.std.proofs.Common.{◌≡◌, true, ℕ, ◌+◌, min, List, ◌++◌, inl, sym, refl, ap, ◌∙◌, subst}
+use Rattle.std.specs.Prelude.{IsTrue}
+use Rattle.counts.specs.Count.{counted, greatest}
+use Rattle.disk_model.specs.Disk.{Only}
+use Rattle.disk_model.specs.Moments.{LeavesOnly}
+use Rattle.disk_model.proofs.MomentLaws.{weaker}
+use Rattle.gated_log.specs.Log.{records_of}
+use Rattle.graph_model.specs.Text.{canon_text}
+use Rattle.log_machine.specs.Machine as machine
+use Rattle.heap_model.specs.CoreCrash.{StandsForFirst}
+use Rattle.heap_model.proofs.Opening.Held.{left_first}
+use Rattle.core_laws.proofs.Opening.Opened.{opened_reached}
+use Rattle.heap_model.proofs.Opening.Opened.{saying_law}
+use Rattle.heap_model.specs.Opening.{opened, opening_calls, IsLeftByOpening}
+use Rattle.heap_model.proofs.Shaped.{shaped_image}
+use Rattle.page_store.specs.Gates.{open_gates}
+use Rattle.heap_program.specs.Headline.{recovered_line, graph_text, Reopens, FailsToOpen}
+use Rattle.heap_program.specs.Output.{WroteText, commits_since}
+use Rattle.heap_program.proofs.PlayOpen.{opened_core, opened_unfailed}
+use Rattle.heap_program.proofs.PlayPrints.{wrote_again}
+use Rattle.heap_program.proofs.Statuses.{open_not_done, written_end}
+use Rattle.heap_program.proofs.PrintRecovered.{Left, legal_of, keeps_first, few_commits, since_before, recovers_nothing, recovers_first}
+use Rattle.heap_program.proofs.RefusalLaws.{told_each, end_told_each, refused_by, not_opened, fault_moments}
+use Rattle.heap_program.proofs.again.print_recovered.Goals as goal
+
+-- an opening leaves the same commits at each moment
+pub returns-in-Err-clause-moments : goal.returns-in-Err-clause-moments
+returns-in-Err-clause-moments g c tells core k first only =
+    let d = g.D.Disk in
+    weaker d.moment d.left_since c.args.disk c.in-Err.disk (Left d core k c.args.disk c.in-Err.disk first) (StandsForFirst core k)
+    (c.in-Err.ensures.moments tells only first.stands.super first.stands.batches first.stands.stored (shaped_image (legal_of first))) (left_first core k (d.bytes c.args.disk) first)
+
+-- a legal image is refused by the outside alone
+pub returns-in-Err-clause-recovers : goal.returns-in-Err-clause-recovers
+returns-in-Err-clause-recovers g c = λ tells core k first only none.
+    let d = g.D.Disk in
+    let s = first.stands.super in
+    let batches = first.stands.batches in
+    let stored = first.stands.stored in
+    let legal = legal_of first in
+    let keeps = keeps_first d core k c.args.disk c.in-Err.disk first (c.in-Err.ensures.moments tells only s batches stored (shaped_image legal)) (c.in-Err.ensures.crash tells only s batches stored (shaped_image legal)) (c.in-Err.ensures.disk.restarts tells) in
+    recovers_nothing d core k c.args.disk c.in-Err.disk keeps (Reopens d core k c.args.disk c.in-Err.disk) c.in-Err.e c.from.result _ _ (c.in-Err.ensures.shaped tells s batches stored (shaped_image legal)) c.from.ensures
+    c.in-Err.ensures.disk.cause (c.in-Err.ensures.passes tells s batches stored (shaped_image legal))
+
+pub returns-clause-moments : goal.returns-clause-moments
+returns-clause-moments g c tells core k first only =
+    let d = g.D.Disk in
+    rw c.close.ensures (weaker d.moment d.left_since c.args.disk c.in-Ok.heap.disk (Left d core k c.args.disk c.in-Ok.heap.disk first) (StandsForFirst core k)
+    (c.in-Ok.ensures.moments tells only first.stands.super first.stands.batches first.stands.stored (shaped_image (legal_of first))) (left_first core k (d.bytes c.args.disk) first))
+
+-- the heap that was opened is the core that the image stands for
+pub returns-clause-recovers : goal.returns-clause-recovers
+returns-clause-recovers g c = λ tells core k first only same.
+    let d = g.D.Disk in
+    let sink = g.K.Sink in
+    let final = c.close.result in
+    let says = first.stands.says in
+    let s = first.stands.super in
+    let batches = first.stands.batches in
+    let stored = first.stands.stored in
+    let gates = open_gates s.log_bytes (d.bytes c.args.disk) in
+    let legal = legal_of first in
+    let found = saying_law s batches stored says.legal says.seen says.shows in
+    let heap = c.in-Ok.ensures.holds tells s batches stored legal only found.0 found.1 found.2 in
+    let reached = opened_reached s batches stored says.legal.shaped gates true found.0 found.1 found.2 in
+    let few = few_commits s batches stored says.legal in
+    let count = says.count in
+    let since : commits_since c.args.before (min (machine.commits (records_of batches) + 0) greatest) ≡ k = since_before c.args.before core (machine.commits (records_of batches)) k same count first.some few in
+    let moments = subst (λ x. LeavesOnly d.moment d.left_since c.args.disk x (IsLeftByOpening s batches stored)) (sym c.close.ensures) (c.in-Ok.ensures.moments tells only s batches stored (shaped_image legal)) in
+    let leaves = λ (left : List ℕ) (may : d.may_leave final left). c.in-Ok.ensures.crash tells only s batches stored (shaped_image legal) left (subst (λ x. d.may_leave x left) c.close.ensures may) in
+    let keeps = keeps_first d core k c.args.disk final first moments leaves (ap d.restarts c.close.ensures ∙ c.in-Ok.ensures.disk.restarts tells) in
+    let calls : d.passed final ≡ counted (opening_calls s batches) (d.passed c.args.disk) =
+    ap d.passed c.close.ensures ∙ (c.in-Ok.ensures.passes tells s batches stored (shaped_image legal)).ok in
+    let last = subst (λ x. Only (d.bytes x) (d.may_leave x)) (sym c.close.ensures) (c.in-Ok.ensures.durable tells only) in
+    let wrote = λ (told : IsTrue sink.tells). c.write_recovered.ensures.wrote told (opened s batches stored gates true found.0 found.1) heap.core reached in
+    recovers_first d core k c.args.disk final keeps (FailsToOpen d core k c.status_after-status.result c.args.disk final) c.write_recovered.result c.status_after-status.result _ _ _ c.status_after-status.ensures calls last
+    (λ told. subst (λ (t : List ℕ). WroteText c.write_recovered.result (sink.written c.args.sink.now) (recovered_line k ++ t) (sink.written c.write_recovered.new.sink)) (ap canon_text (found.3 ∙ says.graph))
+    (subst (λ (n : ℕ). WroteText c.write_recovered.result (sink.written c.args.sink.now) (recovered_line n ++ graph_text found.1) (sink.written c.write_recovered.new.sink)) since (wrote told)))
+
+pub write_recovered-requires : goal.write_recovered-requires
+write_recovered-requires g c =
+    let some = opened_core g.D.Disk.tells (g.D.Disk.bytes c.args.disk) c.in-Ok.heap c.in-Ok.ensures.opens c.in-Ok.ensures.sound in
+    record { unfailed = opened_unfailed c.in-Ok.heap some.0 some.1 some.2 }
+
+pub returns-in-Err-clause-again : goal.returns-in-Err-clause-again
+returns-in-Err-clause-again g c tells = inl ((λ done. open_not_done c.in-Err.e (sym c.from.ensures ∙ done)), refl)
+
+pub returns-clause-again : goal.returns-clause-again
+returns-clause-again g c tells =
+    let k = g.K.Sink in
+    let some = opened_core g.D.Disk.tells (g.D.Disk.bytes c.args.disk) c.in-Ok.heap c.in-Ok.ensures.opens c.in-Ok.ensures.sound in
+    wrote_again c.write_recovered.result _ _ c.status_after-status.result (k.written c.args.sink.now) (k.written c.write_recovered.new.sink) c.status_after-status.ensures (c.write_recovered.ensures.wrote tells some.0 some.2 some.1.running.reached)
+
+pub returns-in-Err-clause-refuses : goal.returns-in-Err-clause-refuses
+returns-in-Err-clause-refuses g c tells expected fault = (rw c.from.ensures (refused_by expected (g.D.Disk.bytes c.args.disk) c.in-Err.e fault (c.in-Err.ensures.not_heap tells) (c.in-Err.ensures.damaged tells)), refl)
+
+-- what can't be opened is not printed
+pub returns-clause-refuses : goal.returns-clause-refuses
+returns-clause-refuses g c tells expected fault = absurd (not_opened expected (g.D.Disk.bytes c.args.disk) fault (c.in-Ok.ensures.not_heap tells) (c.in-Ok.ensures.damaged tells))
+
+pub returns-in-Err-clause-keeps_fault : goal.returns-in-Err-clause-keeps_fault
+returns-in-Err-clause-keeps_fault g c tells only expected fault =
+    fault_moments g.D.Disk expected (g.D.Disk.bytes c.args.disk) c.args.disk c.in-Err.disk fault (c.in-Err.ensures.moments_not_heap tells only) (c.in-Err.ensures.moments_damaged tells only)
+
+pub returns-clause-keeps_fault : goal.returns-clause-keeps_fault
+returns-clause-keeps_fault g c tells only expected fault = absurd (not_opened expected (g.D.Disk.bytes c.args.disk) fault (c.in-Ok.ensures.not_heap tells) (c.in-Ok.ensures.damaged tells))
+
+-- a status against the image tells of what a crash may leave now
+pub returns-in-Err-clause-refused_at_end : goal.returns-in-Err-clause-refused_at_end
+returns-in-Err-clause-refused_at_end g c tells only =
+    told_each g.D.Disk c.in-Err.e c.from.result c.args.disk c.in-Err.disk c.from.ensures (c.in-Err.ensures.refused tells) (c.in-Err.ensures.moments_not_heap tells only) (c.in-Err.ensures.moments_damaged tells only)
+    (λ t image le may. g.met.D.Disk.counts_now tells c.in-Err.disk t image le may)
+
+pub returns-clause-refused_at_end : goal.returns-clause-refused_at_end
+returns-clause-refused_at_end g c tells only = rw c.status_after-status.ensures (end_told_each _ _ (written_end c.write_recovered.result))

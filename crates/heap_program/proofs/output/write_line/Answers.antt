@@ -1,0 +1,10 @@
+use Rattle.std.proofs.Common.{rules}
+use Rattle.heap_program.proofs.Written.{wrote_nothing, wrote_front}
+use Rattle.heap_program.proofs.output.write_line.Goals as goal
+
+pub returns-in_err-line-clause-wrote : goal.returns-in_err-line-clause-wrote
+returns-in_err-line-clause-wrote g c tells = wrote_nothing _ _ _ c.from_residual.ensures.0
+
+pub returns-in_err-put_all-clause-wrote : goal.returns-in_err-put_all-clause-wrote
+returns-in_err-put_all-clause-wrote g c tells =
+    wrote_front _ _ c.as_bytes.result.now _ _ c.from_residual-in_err-put_all.ensures.0 (search rules) (c.in_err-put_all.ensures.front tells)

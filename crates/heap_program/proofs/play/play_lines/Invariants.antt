@@ -1,0 +1,23 @@
+use Rattle.std.proofs.Common.{◌≤◌, take, Ok}
+use Rattle.std.specs.Prelude.{IsTrue, Result}
+use Rattle.disk_model.specs.declared.disk.DiskError.{DiskError}
+use Rattle.disk_model.specs.Keeps.{KeepsDisk}
+use Rattle.image_plan.specs.declared.superblock.Super.{Super}
+use Rattle.heap_model.specs.Core.{Core}
+use Rattle.heap_core.specs.HeapState.{heap_disk}
+use Rattle.heap_core.specs.Refinement.{IsCore, IsHeap}
+use Rattle.heap_program.specs.Play.{IsRunning, PlaysCore, Plays}
+use Rattle.script_text.specs.Line.{events}
+use Rattle.heap_program.proofs.play.play_lines.Given as goal
+
+-- what the lines so far, which ended well, keep of the disk and the sink, and what was played
+abbrev pub invariant-loop-line : goal.invariant-loop-line
+invariant-loop-line g l =
+    let k = g.K.Sink in
+    let well : Result (Unit {0}) DiskError = Ok tt in
+    record {
+      disk : KeepsDisk g.D.Disk (heap_disk l.fn.heap) (heap_disk l.heap) well;
+      sink : k.faults l.fn.sink ≤ k.faults l.sink;
+      core : (c : Core) → IsCore c l.fn.heap → IsRunning c → PlaysCore c (events (take l.line-index l.lines)) l.heap k.tells (k.written l.fn.sink) (k.written l.sink) (Ok tt);
+      plays : IsTrue g.D.Disk.tells → (of : Super) (c : Core) → IsHeap of c l.fn.heap → IsRunning c → Plays of c (events (take l.line-index l.lines)) l.fn.heap l.heap k.tells (k.written l.fn.sink) (k.written l.sink) (Ok tt);
+    }

@@ -1,0 +1,12 @@
+use Rattle.std.proofs.Common.{◌≡◌, None, Some, sym, ◌∙◌}
+use Rattle.heap_program.proofs.playing.play_script.Goals as goal
+
+pub returns-in-None-clause-played : goal.returns-in-None-clause-played
+returns-in-None-clause-played g c tells stored only = rw c.in-None.is (c.play_whole.ensures.played tells stored only)
+
+pub returns-in-Some-clause-played : goal.returns-in-Some-clause-played
+returns-in-Some-clause-played g c tells stored only = rw c.in-Some.is (c.play_stopped.ensures.played tells stored only)
+
+-- a stop was asked, so the disk was not started again
+pub returns-in-Some-clause-refused : goal.returns-in-Some-clause-refused
+returns-in-Some-clause-refused g c tells unstarted = c.play_stopped.ensures.refused tells (λ rose. let never : None ≡ Some c.in-Some.stop = sym (unstarted rose) ∙ c.in-Some.is in cc never)

@@ -1,0 +1,112 @@
+use Rattle.std.proofs.Common.{◌≡◌, inr, arith, refl}
+use Rattle.counts.specs.Count.{counted}
+use Rattle.graph_model.specs.Transaction.{serial}
+use Rattle.graph_model.specs.History.{sealed}
+use Rattle.core_laws.proofs.Opening.Opened.{opened_reached}
+use Rattle.heap_model.specs.Opening.{opened, opening_calls}
+use Rattle.page_store.specs.Gates.{open_gates}
+use Rattle.heap_program.specs.Headline.{graph_text}
+use Rattle.heap_program.proofs.PlayOpen.{opened_core}
+use Rattle.heap_program.proofs.PrintRecovered.{fails_most}
+use Rattle.heap_program.proofs.RefusalLaws.{told_status, told_each, end_told, end_told_each, refused_by, not_opened, only_read, alone_read, fault_moments}
+use Rattle.heap_program.proofs.Statuses.{open_end, open_not_done, written_end, wrote_all}
+use Rattle.heap_program.proofs.Written.{none_written, wrote_some}
+use Rattle.heap_program.proofs.RunLaws.{end_sound}
+use Rattle.heap_program.proofs.printing.run_graph.Goals as goal
+
+pub returns-in-Ok-clause-graph : goal.returns-in-Ok-clause-graph
+returns-in-Ok-clause-graph g c tells only s batches stored shaped born places graph found =
+    let d = g.D.Disk in
+    let k = g.K.Sink in
+    let e = c.in-Ok.ensures in
+    let gates = open_gates s.log_bytes (d.bytes c.args.disk) in
+    let core = opened s batches stored gates born places graph in
+    let is = e.found tells s batches stored shaped born places graph found in
+    let reached = opened_reached s batches stored shaped.log gates born places graph found in
+    let before = k.written c.args.sink.now in
+    let after = k.written c.write_graph.new.sink in
+    let passed : d.passed c.in-Ok.heap.disk ≡ counted (opening_calls s batches) (d.passed c.args.disk) = (e.passes tells s batches stored shaped).ok in
+    rw (c.close.ensures, c.status_after-status.ensures) (record {
+      moments = e.moments tells only s batches stored shaped;
+      left = e.crash tells only s batches stored shaped;
+      calls = record { times = opening_calls s batches; most = omega arith; all = λ done. refl; told = passed };
+      restarts = e.disk.restarts tells;
+      holds = λ done. (e.rolled tells s batches stored shaped, e.durable tells only);
+      written = λ t. record {
+        front = wrote_some c.write_graph.result before (graph_text graph) after (c.write_graph.ensures.wrote t core is reached);
+        whole = λ done. wrote_all c.write_graph.result before (graph_text graph) after done (c.write_graph.ensures.wrote t core is reached);
+      };
+      end = written_end c.write_graph.result;
+    })
+
+pub returns-in-Err-clause-graph : goal.returns-in-Err-clause-graph
+returns-in-Err-clause-graph g c tells only s batches stored shaped born places graph found =
+    let d = g.D.Disk in
+    let k = g.K.Sink in
+    let e = c.in-Err.ensures in
+    let most = fails_most (opening_calls s batches) (d.passed c.args.disk) (d.passed c.in-Err.disk) c.in-Err.e (e.passes tells s batches stored shaped) in
+    rw c.from.ensures (record {
+      moments = e.moments tells only s batches stored shaped;
+      left = e.crash tells only s batches stored shaped;
+      calls = record { times = most.0; most = most.1; all = λ done. absurd (open_not_done c.in-Err.e done); told = most.2 };
+      restarts = e.disk.restarts tells;
+      holds = λ done. absurd (open_not_done c.in-Err.e done);
+      written = λ t. record { front = none_written (k.written c.args.sink.now) (graph_text graph); whole = λ done. absurd (open_not_done c.in-Err.e done) };
+      end = open_end c.in-Err.e (e.shaped tells s batches stored shaped);
+    })
+
+pub returns-in-Ok-clause-prints : goal.returns-in-Ok-clause-prints
+returns-in-Ok-clause-prints g c tells =
+    let k = g.K.Sink in
+    let some = opened_core g.D.Disk.tells (g.D.Disk.bytes c.args.disk) c.in-Ok.heap c.in-Ok.ensures.opens c.in-Ok.ensures.sound in
+    let core = some.0 in
+    let before = k.written c.args.sink.now in
+    let after = k.written c.write_graph.new.sink in
+    let graph = serial core.g0 (sealed core.history) in
+    let wrote = c.write_graph.ensures.wrote tells core some.2 some.1.running.reached in
+    rw c.status_after-status.ensures (inr (
+      graph,
+      record {
+        front = wrote_some c.write_graph.result before (graph_text graph) after wrote;
+        whole = λ done. wrote_all c.write_graph.result before (graph_text graph) after done wrote;
+      },
+    ))
+
+pub returns-in-Ok-clause-refused : goal.returns-in-Ok-clause-refused
+returns-in-Ok-clause-refused g c tells = rw c.status_after-status.ensures (end_told _ (g.D.Disk.bytes c.args.disk) (written_end c.write_graph.result))
+
+pub returns-in-Err-clause-refused : goal.returns-in-Err-clause-refused
+returns-in-Err-clause-refused g c tells = rw c.from.ensures (told_status c.in-Err.e (g.D.Disk.bytes c.args.disk) (c.in-Err.ensures.refused tells))
+
+pub returns-in-Ok-clause-refuses : goal.returns-in-Ok-clause-refuses
+returns-in-Ok-clause-refuses g c tells expected fault = absurd (not_opened expected (g.D.Disk.bytes c.args.disk) fault (c.in-Ok.ensures.not_heap tells) (c.in-Ok.ensures.damaged tells))
+
+pub returns-in-Err-clause-refuses : goal.returns-in-Err-clause-refuses
+returns-in-Err-clause-refuses g c tells expected fault = (rw c.from.ensures (refused_by expected (g.D.Disk.bytes c.args.disk) c.in-Err.e fault (c.in-Err.ensures.not_heap tells) (c.in-Err.ensures.damaged tells)), refl)
+
+pub returns-in-Ok-clause-left_alone : goal.returns-in-Ok-clause-left_alone
+returns-in-Ok-clause-left_alone g c tells expected fault alone = absurd (not_opened expected (g.D.Disk.bytes c.args.disk) fault (c.in-Ok.ensures.not_heap tells) (c.in-Ok.ensures.damaged tells))
+
+pub returns-in-Err-clause-left_alone : goal.returns-in-Err-clause-left_alone
+returns-in-Err-clause-left_alone g c tells expected fault alone =
+    let d = g.D.Disk in
+    alone_read d c.args.disk c.in-Err.disk _ tells (only_read d expected (d.bytes c.args.disk) c.args.disk c.in-Err.disk _ fault alone (c.in-Err.ensures.reads_not_heap tells) (c.in-Err.ensures.reads_damaged tells))
+
+pub returns-in-Err-clause-keeps_fault : goal.returns-in-Err-clause-keeps_fault
+returns-in-Err-clause-keeps_fault g c tells only expected fault =
+    fault_moments g.D.Disk expected (g.D.Disk.bytes c.args.disk) c.args.disk c.in-Err.disk fault (c.in-Err.ensures.moments_not_heap tells only) (c.in-Err.ensures.moments_damaged tells only)
+
+pub returns-in-Ok-clause-keeps_fault : goal.returns-in-Ok-clause-keeps_fault
+returns-in-Ok-clause-keeps_fault g c tells only expected fault = absurd (not_opened expected (g.D.Disk.bytes c.args.disk) fault (c.in-Ok.ensures.not_heap tells) (c.in-Ok.ensures.damaged tells))
+
+-- a status against the image tells of what a crash may leave now
+pub returns-in-Ok-clause-refused_at_end : goal.returns-in-Ok-clause-refused_at_end
+returns-in-Ok-clause-refused_at_end g c tells only = rw c.status_after-status.ensures (end_told_each _ _ (written_end c.write_graph.result))
+
+pub returns-in-Err-clause-refused_at_end : goal.returns-in-Err-clause-refused_at_end
+returns-in-Err-clause-refused_at_end g c tells only =
+    told_each g.D.Disk c.in-Err.e c.from.result c.args.disk c.in-Err.disk c.from.ensures (c.in-Err.ensures.refused tells) (c.in-Err.ensures.moments_not_heap tells only) (c.in-Err.ensures.moments_damaged tells only)
+    (λ t image le may. g.met.D.Disk.counts_now tells c.in-Err.disk t image le may)
+
+pub returns-in-Ok-clause-unwritten : goal.returns-in-Ok-clause-unwritten
+returns-in-Ok-clause-unwritten g c against = absurd (against (rw c.status_after-status.ensures (end_sound _ (written_end c.write_graph.result))))

@@ -1,0 +1,66 @@
+-- Why a run ends as it does.
+use Rattle.std.specs.Prelude.{◌≡◌, ℕ, ◌+◌, ◌≤◌, List, Result, Ok, Err}
+use Rattle.counts.specs.Count.{Rose}
+use Rattle.disk_model.specs.declared.disk.Disk.{Ghosts}
+use Rattle.disk_model.specs.declared.disk.DiskError.{DiskError}
+use Rattle.disk_model.specs.declared.disk.DiskError.TheVariants as device
+use Rattle.heap_program.specs.declared.play.Halt.{Halt}
+use Rattle.heap_program.specs.declared.play.Halt.TheVariants as halt
+use Rattle.script_text.specs.declared.script.ScriptError.TheVariants.{Fault}
+use Rattle.heap_program.specs.declared.status.Status.{Status}
+use Rattle.heap_program.specs.declared.status.Status.TheVariants as status
+use Rattle.script_text.specs.Script.{script}
+
+-- what the disk answered in a play
+abbrev pub played_device : Result (Unit {0}) Halt → Result (Unit {0}) DiskError
+played_device (Err halt.Stopped) = Err device.Stopped
+played_device (Err halt.DiskFault) = Err device.Failed
+played_device result = Ok tt
+
+-- The disk's faults and stops together rose.
+abbrev pub DiskRose : ℕ → ℕ → ℕ → ℕ → Type 0
+DiskRose faults stops faults' stops' = Rose (faults + stops) (faults' + stops')
+
+-- A stream's count of faults didn't fall, and it rose if a call of that stream failed.
+pub record StreamCause (before now : ℕ) (failed : Type 0) : Type 0 where
+  pub kept : before ≤ now
+  pub cause : failed → Rose before now
+
+-- no call of the disk failed or found it stopped
+abbrev pub Unharmed : {D : Type 0} (g : Ghosts D) → D → D → Type 0
+Unharmed g old new = ¬ DiskRose (g.faults old) (g.stops old) (g.faults new) (g.stops new)
+
+-- What a run keeps of a disk that it may start again: its size, and what it was made of. Its faults and stops together didn't fall, and
+-- they rose if the run ended in the disk's fault.
+pub record RunsDisk {D : Type 0} (g : Ghosts D) (old new : D) (failed : Type 0) : Type 0 where
+  pub extent : g.extent new ≡ g.extent old
+  pub origin : g.origin new ≡ g.origin old
+  pub kept : g.faults old + g.stops old ≤ g.faults new + g.stops new
+  pub cause : failed → DiskRose (g.faults old) (g.stops old) (g.faults new) (g.stops new)
+
+-- Memory was refused, the script is bad, or the source failed.
+abbrev pub IsInputError : Status → Type 0
+IsInputError (status.Script line) = Unit {0}
+IsInputError status.NoMemory = Unit {0}
+IsInputError status.ReadFault = Unit {0}
+IsInputError s = ⊥
+
+-- The statuses of a run that has opened a disk, or could not.
+abbrev pub IsOpenedEnd : Status → Type 0
+IsOpenedEnd status.Done = Unit {0}
+IsOpenedEnd status.NoMemory = Unit {0}
+IsOpenedEnd status.WriteFault = Unit {0}
+IsOpenedEnd status.DiskFault = Unit {0}
+IsOpenedEnd status.NotHeap = Unit {0}
+IsOpenedEnd (status.Damaged at) = Unit {0}
+IsOpenedEnd s = ⊥
+
+-- Where a script is bad, reading it tells its first bad line.
+abbrev pub FailsByScript : List ℕ → Status → Type 0
+FailsByScript bytes (status.Script line) = script bytes ≡ Err (Fault line)
+FailsByScript bytes s = Unit {0}
+
+-- the disk that a call gives back either way
+abbrev pub either_disk : {D : Type 0} → Result D D → D
+either_disk (Ok disk) = disk
+either_disk (Err disk) = disk

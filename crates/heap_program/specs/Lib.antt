@@ -1,0 +1,12 @@
+pub mod Causes
+pub mod Commands
+pub mod CrashSafe
+pub mod Headline
+pub mod Output
+pub mod Play
+pub mod Playable
+pub mod Refusals
+pub mod Status
+pub mod StatusOf
+pub mod Steps
+pub mod Stored

@@ -1,0 +1,44 @@
+-- What a run says against an image that can't be opened.
+use Rattle.std.specs.Prelude.{◌≡◌, List, ℕ}
+use Rattle.disk_model.specs.declared.disk.Disk.{Ghosts}
+use Rattle.disk_model.specs.Keeps.{SameContents}
+use Rattle.heap_recovery.specs.Faults.{IsNoHeap, IsFaultAt}
+use Rattle.heap_recovery.specs.declared.at.At.TheVariants.{Address}
+use Rattle.heap_program.specs.declared.status.Status.{Status}
+use Rattle.heap_program.specs.declared.status.Status.TheVariants as status
+
+-- The image is to be refused with this status: it is no heap, or what comes first is damaged there.
+abbrev pub IsFault : Status → List ℕ → Type 0
+IsFault status.NotHeap image = IsNoHeap image
+IsFault (status.Damaged at) image = IsFaultAt at image
+IsFault s image = ⊥
+
+-- A status that speaks of the image tells what is so.
+abbrev pub IsToldOf : Status → List ℕ → Type 0
+IsToldOf status.NotHeap image = IsNoHeap image
+IsToldOf (status.Damaged at) image = IsFaultAt at image
+IsToldOf s image = Unit {0}
+
+-- A status that speaks of an image tells what is so of each image that a crash may leave.
+abbrev pub IsToldOfEach : Status → (List ℕ → Type 0) → Type 0
+IsToldOfEach s may_leave = (image : List ℕ) → may_leave image → IsToldOf s image
+
+-- A run ends so on an image that is to be refused, unless its script was bad or could not be read before, memory was refused, or the disk failed.
+abbrev pub EndsRefused : Status → Status → Type 0
+EndsRefused expected (status.Script line) = Unit {0}
+EndsRefused expected status.ReadFault = Unit {0}
+EndsRefused expected status.NoMemory = Unit {0}
+EndsRefused expected status.DiskFault = Unit {0}
+EndsRefused expected result = result ≡ expected
+
+-- The statuses against an image that come before anything is written. Damage at an address is told behind the rollback.
+abbrev pub IsLeftAlone : Status → Type 0
+IsLeftAlone status.NotHeap = Unit {0}
+IsLeftAlone (status.Damaged (Address address)) = ⊥
+IsLeftAlone (status.Damaged at) = Unit {0}
+IsLeftAlone s = ⊥
+
+-- The disk is as it was: nothing was written, and it was not started again.
+pub record LeavesAlone {D : Type 0} (g : Ghosts D) (old new : D) : Type 0 where
+  pub contents : SameContents g old new
+  pub restarts : g.restarts new ≡ g.restarts old

@@ -1,0 +1,56 @@
+-- A run of steps on a disk, each with the core and the disk before and after it.
+use Rattle.std.specs.Prelude.{◌≡◌, ℕ, ◌+◌, ◌≤◌, List, [], ◌∷◌, Option, None, Some}
+use Rattle.counts.specs.Count.{Rose, counted}
+use Rattle.disk_model.specs.declared.disk.Disk.{Ghosts}
+use Rattle.disk_model.specs.Disk.{HasCause}
+use Rattle.disk_model.specs.Keeps.{KeepsDisk}
+use Rattle.disk_model.specs.Moments.{LeavesOnly}
+use Rattle.gate_slot.specs.Passing.{Passes}
+use Rattle.graph_model.specs.declared.event.Event.{Event}
+use Rattle.graph_model.specs.declared.reply.Refusal.TheVariants.{DiskFault, Stopped}
+use Rattle.graph_model.specs.declared.reply.Reply.{Reply}
+use Rattle.graph_model.specs.declared.reply.Reply.TheVariants.{Refused}
+use Rattle.heap_core.specs.Causes.{reply_device}
+use Rattle.heap_model.specs.Core.{Core, IsStep, calls}
+use Rattle.heap_model.specs.CoreCrash.{IsCommitPrefix}
+use Rattle.heap_program.specs.Causes.{DiskRose, Unharmed}
+
+-- Why a step was cut short on a disk that is to stop: it is answered `diskfault` only where the disk's faults and stops together rose in
+-- that step, and `stopped`, if the disk doesn't stop by itself, only where it had let n writes and syncs through since the start.
+pub record StopCause {D : Type 0} (g : Ghosts D) (n : ℕ) (start before after : D) (reply : Reply) : Type 0 where
+  pub kept : g.faults before + g.stops before ≤ g.faults after + g.stops after
+  pub failed : reply ≡ Refused DiskFault → DiskRose (g.faults before) (g.stops before) (g.faults after) (g.stops after)
+  pub stopped : reply ≡ Refused Stopped → ¬ Rose (g.stops start) (g.stops after) → g.passed after ≡ counted n (g.passed start)
+
+-- Why a step was cut short. Where no stop was asked, it is answered `diskfault` only where the disk's faults rose in that step, and
+-- `stopped` only where its stops did.
+abbrev pub StepCause : {D : Type 0} (g : Ghosts D) → Option ℕ → D → D → D → Reply → Type 0
+StepCause g None start before after reply = HasCause (g.faults before) (g.faults after) (g.stops before) (g.stops after) (reply_device reply)
+StepCause g (Some n) start before after reply = StopCause g n start before after reply
+
+-- An event was answered in a run from start to final, which led from one core and disk to others.
+pub record Step {D : Type 0} (g : Ghosts D) (stop : Option ℕ) (start final : D) (c : Core) (before : D) (event : Event) (d : Core) (after : D) : Type 0 where
+  pub reply : Reply
+  pub step : IsStep c event reply d
+  pub cause : StepCause g stop start before after reply
+  -- at each moment of it a crash left first commits, and among them all that were acknowledged or forced before it
+  pub moments : LeavesOnly g.moment g.left_since before after (IsCommitPrefix c)
+  -- once it was answered, also those that its answer acknowledged, or that it forced
+  pub kept : (image : List ℕ) → g.may_leave after image → IsCommitPrefix d image
+  -- without a fault it made the writes and syncs of the core's step, or fewer where it was stopped
+  pub passes : Unharmed g start final → Passes (calls c event) (g.passed before) (g.passed after) (reply_device reply)
+  pub restarts : g.restarts after ≡ g.restarts before
+
+-- A step of a heap on its own disk.
+pub record HeapStep {D : Type 0} (g : Ghosts D) (c : Core) (before : D) (event : Event) (d : Core) (after : D) : Type 0 where
+  pub reply : Reply
+  pub step : IsStep c event reply d
+  pub moments : LeavesOnly g.moment g.left_since before after (IsCommitPrefix c)
+  pub kept : (image : List ℕ) → g.may_leave after image → IsCommitPrefix d image
+  pub passes : Passes (calls c event) (g.passed before) (g.passed after) (reply_device reply)
+  pub disk : KeepsDisk g before after (reply_device reply)
+
+-- These events were made by such steps, one after another: each begins with the core and the disk that the one before it left.
+abbrev pub AreSteps : {D : Type 0} (step : Core → D → Event → Core → D → Type 0) → Core → D → List Event → Core → D → Type 0
+AreSteps step c old [] d new = (d ≡ c) × (new ≡ old)
+AreSteps {D} step c old (event ∷ events) d new = (mid : Core) × (between : D) × step c old event mid between × AreSteps step mid between events d new

@@ -1,0 +1,112 @@
+//! A disk that was stopped is started again: the heap is opened once more, and what came back is printed.
+ghost use Rattle.std.specs.Prelude.{◌≡◌, ℕ, List, min, MatchResult, IsTrue};
+ghost use Rattle.counts.specs.Count.{Rose};
+ghost use Rattle.disk_model.specs.Disk.{Only};
+ghost use Rattle.disk_model.specs.Fuse.{fuse_inner};
+ghost use Rattle.disk_model.specs.Moments.{LeavesOnly};
+ghost use Rattle.heap_model.specs.Core.{Core};
+ghost use Rattle.heap_model.specs.CoreCrash.{StandsForFirst, IsCommitPrefix};
+ghost use Rattle.heap_program.specs.Causes.{StreamCause, RunsDisk, IsOpenedEnd, either_disk};
+ghost use Rattle.heap_program.specs.Headline.{Restarts, Reopens, FailsToOpen, IsCutOff, StartsAgain, EndsUnopened, RestartsDisk, starts_asked};
+ghost use Rattle.heap_program.specs.Refusals.{IsFault, IsToldOfEach, EndsRefused};
+ghost use Rattle.heap_program.specs.Output.{IsBefore, Recovers, WroteAgain};
+
+use crate::output::write_recovered;
+use crate::status::{Status, status_after};
+use disk_model::{Disk, FuseDisk};
+use heap_core::{Heap, OpenError};
+use heap_io::Sink;
+use std::alloc::Global;
+
+/// Starts the disk behind the fuse again, and prints what came back: how many commits the log then holds more than `before`, which is left out if
+/// the disk was stopped before the first event. If it is to stop once more, it does so in an opening before.
+pub fn start_again<D: Disk, K: Sink>(
+    alloc: Global,
+    fuse: FuseDisk<D>,
+    again: Option<u64>,
+    before: Option<u64>,
+    sink: &mut K,
+) -> (Status, D)
+    ensures end { IsOpenedEnd result.0 }
+    ensures disk { RunsDisk D.Disk (fuse_inner fuse) result.1 (result.0 ≡ Status.DiskFault) }
+    ensures sink { StreamCause (K.faults sink.old) (K.faults sink.new) (result.0 ≡ Status.WriteFault) }
+    ensures restarts { IsTrue D.tells → RestartsDisk (starts_asked again) result.0 (D.restarts (fuse_inner fuse)) (D.restarts result.1) }
+    ensures started { IsTrue D.tells → Rose (D.restarts (fuse_inner fuse)) (D.restarts result.1) }
+    ensures again { IsTrue K.tells → WroteAgain result.0 (K.written sink.old) (K.written sink.new) }
+    ensures moments { IsTrue D.tells → (c : Core) → ((image : List ℕ) → D.may_leave (fuse_inner fuse) image → IsCommitPrefix c image) → LeavesOnly D.moment D.left_since (fuse_inner fuse) result.1 (IsCommitPrefix c) }
+    ensures recovers { IsTrue D.tells → (c : Core) → ((image : List ℕ) → D.may_leave (fuse_inner fuse) image → IsCommitPrefix c image) → IsBefore before c
+        → (k : ℕ) × Recovers c k (StartsAgain D.Disk again c k (Reopens D.Disk c k) (fuse_inner fuse) result.1) (EndsUnopened D.Disk again c k (fuse_inner fuse) result.1 result.0) (D.may_leave result.1) result.0 K.tells (K.written sink.old) (K.written sink.new) }
+    // A status against an image tells what is so of the disk that is given back.
+    ensures refused_at_end { IsTrue D.tells → IsToldOfEach result.0 (D.may_leave result.1) }
+    // An image that can't be opened gives its own status, and nothing is written then.
+    ensures refuses { IsTrue D.tells → (expected : Status) → ((image : List ℕ) → D.may_leave (fuse_inner fuse) image → IsFault expected image) → EndsRefused expected result.0 × (sink.new ≡ sink.old) }
+    ensures keeps_fault { IsTrue D.tells → (expected : Status) → ((image : List ℕ) → D.may_leave (fuse_inner fuse) image → IsFault expected image) → LeavesOnly D.moment D.left_since (fuse_inner fuse) result.1 (IsFault expected) }
+{
+    let disk = restart(fuse.into_inner());
+    match again {
+        None => print_recovered(alloc, disk, before, sink),
+        Some(calls) => match open_cut_off(alloc, disk, calls) {
+            Ok(disk) => print_recovered(alloc, restart(disk), before, sink),
+            Err(disk) => (Status::NoMemory, disk),
+        },
+    }
+}
+
+/// The disk, started again.
+fn restart<D: Disk>(mut disk: D) -> D
+    ensures disk { RunsDisk D.Disk disk result ⊥ }
+    ensures restarts { IsTrue D.tells → Restarts D.Disk disk result }
+{
+    disk.restart();
+    disk
+}
+
+/// Opens the heap on a disk that stops after that many writes and syncs, and gives the disk back whatever came of it; as an error
+/// if memory was refused.
+fn open_cut_off<D: Disk>(alloc: Global, disk: D, calls: u64) -> Result<D, D>
+    ensures disk { RunsDisk D.Disk disk (either_disk result) ⊥ }
+    ensures cut { IsTrue D.tells → (c : Core) (k : ℕ) → StandsForFirst c k (D.bytes disk) → Only (D.bytes disk) (D.may_leave disk)
+        → MatchResult result (λ new. IsCutOff D.Disk calls c k disk new) (λ new. FailsToOpen D.Disk c k Status.NoMemory disk new) }
+    ensures restarts { IsTrue D.tells → D.restarts (either_disk result) ≡ D.restarts disk }
+    // An image that can't be opened leaves one with the same fault.
+    ensures refuses { IsTrue D.tells → Only (D.bytes disk) (D.may_leave disk) → (expected : Status) → IsFault expected (D.bytes disk) → (image : List ℕ) → D.may_leave (either_disk result) image → IsFault expected image }
+    ensures keeps_fault { IsTrue D.tells → Only (D.bytes disk) (D.may_leave disk) → (expected : Status) → IsFault expected (D.bytes disk) → LeavesOnly D.moment D.left_since disk (either_disk result) (IsFault expected) }
+{
+    match Heap::open(alloc, FuseDisk::new(disk, calls)) {
+        Ok(heap) => Ok(heap.close().into_inner()),
+        Err((e, fuse)) => {
+            let disk = fuse.into_inner();
+            if e == OpenError::NoMemory {
+                return Err(disk);
+            }
+            Ok(disk)
+        }
+    }
+}
+
+/// Opens the heap again after a restart, and writes how many commits came back, and the graph.
+fn print_recovered<D: Disk, K: Sink>(
+    alloc: Global,
+    disk: D,
+    before: Option<u64>,
+    sink: &mut K,
+) -> (Status, D)
+    ensures end { IsOpenedEnd result.0 }
+    ensures disk { RunsDisk D.Disk disk result.1 (result.0 ≡ Status.DiskFault) }
+    ensures sink { StreamCause (K.faults sink.old) (K.faults sink.new) (result.0 ≡ Status.WriteFault) }
+    ensures restarts { IsTrue D.tells → D.restarts result.1 ≡ D.restarts disk }
+    ensures again { IsTrue K.tells → WroteAgain result.0 (K.written sink.old) (K.written sink.new) }
+    ensures moments { IsTrue D.tells → (c : Core) (k : ℕ) → StandsForFirst c k (D.bytes disk) → Only (D.bytes disk) (D.may_leave disk) → LeavesOnly D.moment D.left_since disk result.1 (StandsForFirst c k) }
+    ensures recovers { IsTrue D.tells → (c : Core) (k : ℕ) → StandsForFirst c k (D.bytes disk) → Only (D.bytes disk) (D.may_leave disk) → IsBefore before c
+        → Recovers c k (Reopens D.Disk c k disk result.1) (FailsToOpen D.Disk c k result.0 disk result.1) (D.may_leave result.1) result.0 K.tells (K.written sink.old) (K.written sink.new) }
+    ensures refused_at_end { IsTrue D.tells → Only (D.bytes disk) (D.may_leave disk) → IsToldOfEach result.0 (D.may_leave result.1) }
+    ensures refuses { IsTrue D.tells → (expected : Status) → IsFault expected (D.bytes disk) → EndsRefused expected result.0 × (sink.new ≡ sink.old) }
+    ensures keeps_fault { IsTrue D.tells → Only (D.bytes disk) (D.may_leave disk) → (expected : Status) → IsFault expected (D.bytes disk) → LeavesOnly D.moment D.left_since disk result.1 (IsFault expected) }
+{
+    let heap = match Heap::open(alloc, disk) {
+        Ok(heap) => heap,
+        Err((e, disk)) => return (Status::from(e), disk),
+    };
+    let status = status_after(write_recovered(alloc, &heap, before, sink));
+    (status, heap.close())
+}

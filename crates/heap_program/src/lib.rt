@@ -1,0 +1,14 @@
+//! The stable heap's one call, `run`: it makes a heap on a disk, plays a script of transactions on it, answers each event, and prints
+//! the graph that is reached from the root. The program over it is `heap_shell`.
+#![tactic(auto)]
+
+mod again;
+mod dispatch;
+mod output;
+mod play;
+mod playing;
+mod printing;
+mod status;
+
+pub use dispatch::run;
+pub use status::Status;

@@ -1,0 +1,240 @@
+-- Every state that records reach is sound, and what its fields are.
+use Rattle.std.proofs.Common.{◌≡◌, ℕ, ◌+◌, true, cond, List, [], ◌∷◌, length, Option, None, Some, refl, ◌∙◌, subst, arith, Bool, false, ◌≤◌}
+use Rattle.std.specs.Prelude.{unwrap_or}
+use Rattle.std.specs.List.{AllByRecursion}
+use Rattle.std.specs.Ordering.{nat_cmp}
+use Rattle.std.specs.FinMap.{FinMap, get, entries}
+use Rattle.std.proofs.lemmas.Bool.{and_parts}
+use Rattle.std.proofs.lemmas.Option.{option_and_then_some, cond_some}
+use Rattle.std.proofs.lemmas.List.Sums.{sum_by-cons}
+use Rattle.log_records.specs.declared.Record.{Record}
+use Rattle.log_records.specs.declared.Record.TheVariants.{Update, Base, Fix, Undo, Commit, End}
+use Rattle.log_records.specs.Record.{IsRecord}
+use Rattle.log_machine.specs.declared.UndoEntry.{UndoEntry}
+use Rattle.log_machine.proofs.Entries.{IsEntry}
+use Rattle.log_machine.specs.UndoEntry.{LiesInside}
+use Rattle.log_machine.specs.Machine.{State, start, undo_in, undo_of, with_entries, number_of, is_number, turned, promoted, row_after, after, after_all, is_commit, commits, space_words}
+use Rattle.log_machine.specs.Entries.{EachEntry}
+use Rattle.log_machine.proofs.MapLaws.{each_empty, each_insert, each_remove}
+use Rattle.log_machine.proofs.MachineLaws.{told_if, free_told, newest_told, inside_told, number_small}
+use Rattle.log_machine.specs.Sound.{IsLoser, IsSound}
+use Rattle.log_machine.proofs.Bounds.{HaveSpellings, CanRollBack, Turns, Leads}
+
+-- What one record does.
+
+-- a record that uses no words more
+turned_turns : (s n : State) (r : Record) (undo : FinMap nat_cmp (List UndoEntry)) → is_number (number_of r) ≡ true → turned s (number_of r) undo (cond (is_commit r) 1 0) ≡ n → Turns s r n
+turned_turns s n r undo number is =
+    subst (Turns s r) is (record { number = number; pages = refl; base = refl; used = omega arith; room = λ fits. fits; commits = refl; next = refl })
+
+-- what one row does
+row_turns : (s n : State) (r : Record) → is_number (number_of r) ≡ true → row_after s r ≡ Some n → Turns s r n
+row_turns s n (Update t object field was word) number e =
+    let told = cond_some _ _ _ e in
+    turned_turns s n (Update t object field was word) (with_entries s.undo t (record { object = object; field = field; was = was } ∷ undo_of s t)) number told.1
+row_turns s n (Base t address words) number e =
+    let told = cond_some _ _ _ e in
+    let free = free_told s address (length words) (and_parts _ _ told.0).0 in
+    subst (Turns s (Base t address words)) told.1
+    (record { number = number; pages = refl; base = refl; used = omega arith; room = λ fits. free.room; commits = omega arith; next = refl })
+row_turns s n (Fix t object field word) number e = let told = cond_some _ _ _ e in turned_turns s n (Fix t object field word) s.undo number told.1
+row_turns s n (Undo t object field word) number e =
+    option_and_then_some (λ rest. Some (turned s t (with_entries s.undo t rest) 0)) _ n e (λ rest newest is. turned_turns s n (Undo t object field word) (with_entries s.undo t rest) number (cc is))
+row_turns s n (Commit t) number e = turned_turns s n (Commit t) (with_entries s.undo t []) number (cc e)
+row_turns s n (End t) number e = let told = cond_some _ _ _ e in turned_turns s n (End t) s.undo number told.1
+
+-- what one record does
+pub turns : (s n : State) (r : Record) → after s r ≡ Some n → Turns s r n
+turns s n r e = let told = told_if _ _ _ e in row_turns s n r told.0 told.1
+
+-- Sound states.
+
+-- a write of a used word is one where more words are used
+pub inside_on : (base used used' : ℕ) (us : List UndoEntry) → used ≤ used' → AllByRecursion (LiesInside base used) us → AllByRecursion (LiesInside base used') us
+inside_on base used used' [] more inside = tt
+inside_on base used used' (u ∷ us) more inside = (record { above = inside.0.above; below = omega (arith, inside.0.below, more) }, inside_on base used used' us more inside.1)
+
+-- a loser is one behind a record more
+pub grown : (s : State) (t : ℕ) (undo : FinMap nat_cmp (List UndoEntry)) (more q : ℕ) (entries : List UndoEntry) → IsLoser s q entries → IsLoser (turned s t undo more) q entries
+grown s t undo more q entries is = record { some = is.some; number = is.number; known = omega (arith, is.known); inside = is.inside }
+
+-- and where an object has become stable
+pub grown_on : (s : State) (t size q : ℕ) (entries : List UndoEntry) → IsLoser s q entries → IsLoser (promoted s t size) q entries
+grown_on s t size q entries is =
+    record { some = is.some; number = is.number; known = omega (arith, is.known); inside = inside_on s.base s.used (s.used + size) entries (omega arith) is.inside }
+
+at_option : (P : ℕ → List UndoEntry → Type 0) (o : Option (List UndoEntry)) (t : ℕ) → P t [] → ((v : List UndoEntry) → o ≡ Some v → P t v) → P t (unwrap_or o [])
+at_option P None t none each = none
+at_option P (Some v) t none each = each v refl
+
+-- what a transaction's writes are, where all of a map's are so
+pub each_at : (P : ℕ → List UndoEntry → Type 0) (undo : FinMap nat_cmp (List UndoEntry)) (t : ℕ) → P t [] → EachEntry P undo → P t (undo_in undo t)
+each_at P undo t none each = at_option P (get undo t) t none (λ v some. each t v some)
+
+-- the writes of each transaction lie inside
+pub all_inside : (s : State) (t : ℕ) → IsSound s → AllByRecursion (LiesInside s.base s.used) (undo_of s t)
+all_inside s t sound = each_at (λ q us. AllByRecursion (LiesInside s.base s.used) us) s.undo t tt (λ q us some. (sound q us some).inside)
+
+-- and have spellings
+pub all_spelled : (undo : FinMap nat_cmp (List UndoEntry)) (t : ℕ) → HaveSpellings undo → AllByRecursion IsEntry (undo_in undo t)
+all_spelled undo t good = each_at (λ q us. AllByRecursion IsEntry us) undo t tt good
+
+-- with other writes of one transaction
+pub sound_with : (s : State) (t : ℕ) (us : List UndoEntry) (more : ℕ) → is_number t ≡ true → AllByRecursion (LiesInside s.base s.used) us → IsSound s → IsSound (turned s t (with_entries s.undo t us) more)
+sound_with s t [] more number inside sound =
+    each_remove (IsLoser (turned s t (with_entries s.undo t []) more)) s.undo t (λ q w some. grown s t (with_entries s.undo t []) more q w (sound q w some))
+sound_with s t (u ∷ us) more number inside sound =
+    let here : IsLoser (turned s t (with_entries s.undo t (u ∷ us)) more) t (u ∷ us) = record { some = λ none. absurd (cc none); number = number; known = omega arith; inside = inside } in
+    each_insert (IsLoser (turned s t (with_entries s.undo t (u ∷ us)) more)) s.undo t (u ∷ us) here (λ q w some. grown s t (with_entries s.undo t (u ∷ us)) more q w (sound q w some))
+
+spelled_with : (undo : FinMap nat_cmp (List UndoEntry)) (t : ℕ) (us : List UndoEntry) → AllByRecursion IsEntry us → HaveSpellings undo → HaveSpellings (with_entries undo t us)
+spelled_with undo t [] good each = each_remove (λ q us. AllByRecursion IsEntry us) undo t each
+spelled_with undo t (u ∷ us) good each = each_insert (λ q us. AllByRecursion IsEntry us) undo t (u ∷ us) good each
+
+-- nothing may be taken back before the first record
+pub sound_start : (pages first : ℕ) → IsSound (start pages first)
+sound_start pages first = each_empty (IsLoser (start pages first))
+
+sound_row : (s n : State) (r : Record) → is_number (number_of r) ≡ true → IsSound s → row_after s r ≡ Some n → IsSound n
+sound_row s n (Update t object field was word) number sound e =
+    let told = cond_some _ _ _ e in
+    let write : UndoEntry = record { object = object; field = field; was = was } in
+    let is : turned s t (with_entries s.undo t (write ∷ undo_of s t)) 0 ≡ n = told.1 in
+    subst IsSound is (sound_with s t (write ∷ undo_of s t) 0 number (inside_told s object field was told.0, all_inside s t sound) sound)
+sound_row s n (Base t address words) number sound e =
+    let told = cond_some _ _ _ e in
+    let is : promoted s t (length words) ≡ n = told.1 in
+    subst IsSound is (λ q w some. grown_on s t (length words) q w (sound q w some))
+sound_row s n (Fix t object field word) number sound e =
+    let told = cond_some _ _ _ e in
+    let is : turned s t s.undo 0 ≡ n = told.1 in
+    subst IsSound is (λ q w some. grown s t s.undo 0 q w (sound q w some))
+sound_row s n (Undo t object field word) number sound e =
+    let write : UndoEntry = record { object = object; field = field; was = word } in
+    option_and_then_some (λ rest. Some (turned s t (with_entries s.undo t rest) 0)) _ n e (λ rest newest is.
+    let same : turned s t (with_entries s.undo t rest) 0 ≡ n = cc is in
+    let inside = subst (λ (l : List UndoEntry). AllByRecursion (LiesInside s.base s.used) l) (newest_told (undo_of s t) write rest newest) (all_inside s t sound) in
+    subst IsSound same (sound_with s t rest 0 number inside.1 sound))
+sound_row s n (Commit t) number sound e =
+    let is : turned s t (with_entries s.undo t []) 1 ≡ n = cc e in
+    subst IsSound is (sound_with s t [] 1 number tt sound)
+sound_row s n (End t) number sound e =
+    let told = cond_some _ _ _ e in
+    let is : turned s t s.undo 0 ≡ n = told.1 in
+    subst IsSound is (λ q w some. grown s t s.undo 0 q w (sound q w some))
+
+spelled_row : (s n : State) (r : Record) → IsRecord r → HaveSpellings s.undo → row_after s r ≡ Some n → HaveSpellings n.undo
+spelled_row s n (Update t object field was word) good each e =
+    let told = cond_some _ _ _ e in
+    let write : UndoEntry = record { object = object; field = field; was = was } in
+    let is : turned s t (with_entries s.undo t (write ∷ undo_of s t)) 0 ≡ n = told.1 in
+    let entry : IsEntry write = record { object_fits = good.object_fits; field_fits = good.field_fits; was_word = good.was_word } in
+    subst (λ (x : State). HaveSpellings x.undo) is (spelled_with s.undo t (write ∷ undo_of s t) (entry, all_spelled s.undo t each) each)
+spelled_row s n (Base t address words) good each e =
+    let told = cond_some _ _ _ e in
+    let is : promoted s t (length words) ≡ n = told.1 in
+    subst (λ (x : State). HaveSpellings x.undo) is each
+spelled_row s n (Fix t object field word) good each e =
+    let told = cond_some _ _ _ e in
+    let is : turned s t s.undo 0 ≡ n = told.1 in
+    subst (λ (x : State). HaveSpellings x.undo) is each
+spelled_row s n (Undo t object field word) good each e =
+    let write : UndoEntry = record { object = object; field = field; was = word } in
+    option_and_then_some (λ rest. Some (turned s t (with_entries s.undo t rest) 0)) _ n e (λ rest newest is.
+    let same : turned s t (with_entries s.undo t rest) 0 ≡ n = cc is in
+    let entries = subst (λ (l : List UndoEntry). AllByRecursion IsEntry l) (newest_told (undo_of s t) write rest newest) (all_spelled s.undo t each) in
+    subst (λ (x : State). HaveSpellings x.undo) same (spelled_with s.undo t rest entries.1 each))
+spelled_row s n (Commit t) good each e =
+    let is : turned s t (with_entries s.undo t []) 1 ≡ n = cc e in
+    subst (λ (x : State). HaveSpellings x.undo) is (spelled_with s.undo t [] tt each)
+spelled_row s n (End t) good each e =
+    let told = cond_some _ _ _ e in
+    let is : turned s t s.undo 0 ≡ n = told.1 in
+    subst (λ (x : State). HaveSpellings x.undo) is each
+
+-- one record more leaves a sound state
+pub sound_after : (s n : State) (r : Record) → IsSound s → after s r ≡ Some n → IsSound n
+sound_after s n r sound e = let told = told_if _ _ _ e in sound_row s n r told.0 sound told.1
+
+-- so do these records
+pub sound_after_all : (s m : State) (rs : List Record) → IsSound s → after_all s rs ≡ Some m → IsSound m
+sound_after_all s m [] sound e = let same : s ≡ m = cc e in subst IsSound same sound
+sound_after_all s m (r ∷ rs) sound e = option_and_then_some (λ next. after_all next rs) (after s r) m e (λ next first rest. sound_after_all next m rs (sound_after s next r sound first) rest)
+
+-- one record more leaves undos that have spellings
+pub spelled_after : (s n : State) (r : Record) → IsRecord r → HaveSpellings s.undo → after s r ≡ Some n → HaveSpellings n.undo
+spelled_after s n r good each e = let told = told_if _ _ _ e in spelled_row s n r good each told.1
+
+pub spelled_after_all : (s m : State) (rs : List Record) → AllByRecursion IsRecord rs → HaveSpellings s.undo → after_all s rs ≡ Some m → HaveSpellings m.undo
+spelled_after_all s m [] good each e = let same : s ≡ m = cc e in subst (λ (x : State). HaveSpellings x.undo) same each
+spelled_after_all s m (r ∷ rs) good each e =
+    option_and_then_some (λ next. after_all next rs) (after s r) m e (λ next first rest. spelled_after_all next m rs good.1 (spelled_after s next r good.0 each first) rest)
+
+-- records that have spellings leave writes that records can take back
+pub can_after_all : (s m : State) (rs : List Record) → AllByRecursion IsRecord rs → CanRollBack s → after_all s rs ≡ Some m → CanRollBack m
+can_after_all s m rs good can e = record { sound = sound_after_all s m rs can.sound e; entries = spelled_after_all s m rs good can.entries e }
+
+pub can_start : (pages first : ℕ) → CanRollBack (start pages first)
+can_start pages first = record { sound = sound_start pages first; entries = each_empty (λ q us. AllByRecursion IsEntry us) }
+
+pub can_roll_back : (pages first : ℕ) (s : State) (rs : List Record) → AllByRecursion IsRecord rs → after_all (start pages first) rs ≡ Some s → CanRollBack s
+can_roll_back pages first s rs good e = can_after_all (start pages first) s rs good (can_start pages first) e
+
+-- The other fields.
+
+-- where one record more leads
+leads_turned : (s n : State) (r : Record) → Turns s r n → Leads s n
+leads_turned s n r is =
+    let small = number_small (number_of r) is.number in
+    record { pages = is.pages; base = is.base; used = is.used; room = is.room; grows = omega (arith, is.next); next_in_range = λ fits. omega (arith, is.next) }
+
+pub leads_after : (s n : State) (r : Record) → after s r ≡ Some n → Leads s n
+leads_after s n r e = leads_turned s n r (turns s n r e)
+
+leads_on : (s n m : State) → Leads s n → Leads n m → Leads s m
+leads_on s n m first rest = record {
+  pages = rest.pages ∙ first.pages;
+  base = rest.base ∙ first.base;
+  used = omega (arith, first.used, rest.used);
+  room = λ fits. rest.room (first.room fits);
+  grows = omega (arith, first.grows, rest.grows);
+  next_in_range = λ fits. rest.next_in_range (first.next_in_range fits);
+}
+
+-- where these records lead
+pub leads_after_all : (s m : State) (rs : List Record) → after_all s rs ≡ Some m → Leads s m
+leads_after_all s m [] e =
+    let same : s ≡ m = cc e in
+    subst (Leads s) same (record { pages = refl; base = refl; used = omega arith; room = λ fits. fits; grows = omega arith; next_in_range = λ fits. fits })
+leads_after_all s m (r ∷ rs) e = option_and_then_some (λ next. after_all next rs) (after s r) m e (λ next first rest. leads_on s next m (leads_after s next r first) (leads_after_all next m rs rest))
+
+-- they leave the used words within the pages of the space
+pub room_after_all : (pages first : ℕ) (s : State) (rs : List Record) → 1 ≤ pages → after_all (start pages first) rs ≡ Some s → (s.pages ≡ pages) × (s.base ≡ 0) × (6 ≤ s.used) × (s.used ≤ space_words pages)
+room_after_all pages first s rs some e =
+    let leads = leads_after_all (start pages first) s rs e in
+    (leads.pages, leads.base, leads.used, subst (λ p. s.used ≤ space_words p) leads.pages (leads.room (omega arith)))
+
+-- one record is a commit or none
+pub commits_after : (s n : State) (r : Record) → after s r ≡ Some n → n.commits ≡ cond (is_commit r) 1 0 + s.commits
+commits_after s n r e = omega (arith, (turns s n r e).commits)
+
+-- records say how many of them are commits
+pub commits-after_all : (s m : State) (rs : List Record) → after_all s rs ≡ Some m → m.commits ≡ commits rs + s.commits
+commits-after_all s m [] e = let same : s.commits ≡ m.commits = cc in omega arith
+commits-after_all s m (r ∷ rs) e = option_and_then_some (λ next. after_all next rs) (after s r) m e (λ next first rest.
+    let one = commits_after s next r first in
+    let others = commits-after_all next m rs rest in
+    let more = sum_by-cons (λ x. cond (is_commit x) 1 0) r rs in
+    omega arith)
+
+-- so does the state that they leave behind the start
+pub commits-start : (pages first : ℕ) (m : State) (rs : List Record) → after_all (start pages first) rs ≡ Some m → m.commits ≡ commits rs
+commits-start pages first m rs e = let all = commits-after_all (start pages first) m rs e in omega arith
+
+one_at_most : (b : Bool) → cond b 1 0 ≤ 1
+one_at_most true = omega arith
+one_at_most false = omega arith
+
+-- one record is at most one commit
+pub commits_few : (s n : State) (r : Record) → after s r ≡ Some n → n.commits ≤ s.commits + 1
+commits_few s n r e = let one = commits_after s n r e in let few = one_at_most (is_commit r) in omega arith

@@ -1,0 +1,7 @@
+-- What an event leaves as it was.
+pub mod Beside
+pub mod Held
+pub mod Locks
+pub mod Log
+pub mod Pages
+pub mod Writes

@@ -1,0 +1,3 @@
+pub mod Kept
+pub mod Refusal
+pub mod Step

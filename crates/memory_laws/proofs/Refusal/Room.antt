@@ -1,0 +1,81 @@
+-- Why a core refuses an event, by parts.
+use Rattle.std.proofs.Common.{◌≡◌, ℕ, Bool, true, false, cond, Option, None, Some, refl, ap, ◌∙◌}
+use Rattle.graph_model.specs.declared.event.Event.{Event}
+use Rattle.graph_model.specs.declared.event.Event.TheVariants.{Begin, Root, New, Put, Clear, Link, Drop, Get, Same, Len, Seal, Abort, Force, Flush}
+use Rattle.graph_model.specs.declared.reply.Refusal.{Refusal}
+use Rattle.graph_model.specs.Graph.{Graph}
+use Rattle.graph_model.specs.Transaction.{Transaction, IsCall}
+use Rattle.graph_model.specs.History.{Account, account, session_of}
+use Rattle.graph_model.specs.Plain.{call_refusal, call_conflict, first_of_two}
+use Rattle.graph_model.proofs.Refusals.Plain.{event_refusal-call}
+use Rattle.heap_model.specs.Core.{Core, Ground, ground, next_number, full_log, room_refusal, words_refusal, log_refusal, core_refusal}
+use Rattle.core_laws.proofs.Step.Forms.{is_write, is_new, call_no_page}
+use Rattle.core_laws.proofs.Step.Events.{unfailed_refusal, log_quiet}
+use Rattle.core_laws.specs.Valid.{IsValid}
+
+-- a second reason where the first is none
+pub second_same : (o p q : Option Refusal) → (o ≡ None → p ≡ q) → first_of_two o p ≡ first_of_two o q
+second_same None p q h = h refl
+second_same (Some why) p q h = refl
+
+-- the first alone, where there is no second
+pub first_none : (o : Option Refusal) → first_of_two o None ≡ o
+first_none None = refl
+first_none (Some why) = refl
+
+-- the first of three reasons
+pub first_assoc : (o p q : Option Refusal) → first_of_two (first_of_two o p) q ≡ first_of_two o (first_of_two p q)
+first_assoc None p q = refl
+first_assoc (Some why) p q = refl
+
+-- a reason where a test holds, or another
+pub first_if : (b : Bool) (why : Refusal) (o : Option Refusal) → cond b (Some why) o ≡ first_of_two (cond b (Some why) None) o
+first_if true why o = refl
+first_if false why o = refl
+
+-- a log is full as another is that has the same room, and the same used, needed and kept
+pub full_same : (room room' used used' more more' kept kept' : ℕ) → room ≡ room' → used ≡ used' → more ≡ more' → kept ≡ kept' → full_log room used more kept ≡ full_log room' used' more' kept'
+full_same room room' used used' more more' kept kept' a b c d =
+    ap (λ (n : ℕ). full_log n used more kept) a ∙ ap (λ (n : ℕ). full_log room' n more kept) b ∙ ap (λ (n : ℕ). full_log room' used' n kept) c ∙ ap (λ (n : ℕ). full_log room' used' more' n) d
+
+-- a call that makes no object needs no words
+words_quiet : (g : Ground) (g0 : Graph) (a : Account) (o : Option Transaction) (event : Event) → IsCall event → is_new event ≡ false → room_refusal g g0 a o event ≡ None
+words_quiet g g0 a None event is old = refl
+words_quiet g g0 a (Some t) (Begin s) is old = refl
+words_quiet g g0 a (Some t) (Root s h) is old = refl
+words_quiet g g0 a (Some t) (New s h len) is old = cc
+words_quiet g g0 a (Some t) (Put s h i v) is old = refl
+words_quiet g g0 a (Some t) (Clear s h i) is old = refl
+words_quiet g g0 a (Some t) (Link s h i h2) is old = refl
+words_quiet g g0 a (Some t) (Drop s h) is old = refl
+words_quiet g g0 a (Some t) (Get s h i h2) is old = refl
+words_quiet g g0 a (Some t) (Same s h h2) is old = refl
+words_quiet g g0 a (Some t) (Len s h) is old = refl
+words_quiet g g0 a (Some t) (Seal s) is old = absurd is
+words_quiet g g0 a (Some t) (Abort s) is old = refl
+words_quiet g g0 a (Some t) Force is old = refl
+words_quiet g g0 a (Some t) (Flush p) is old = refl
+
+module _ (c : Core) (event : Event) (valid : IsValid c) (call : IsCall event) where
+  -- what the history says
+  abbrev a : Account
+  a = account c.history
+  -- the transaction of the event's session
+  abbrev own : Option Transaction
+  own = a.active (session_of event)
+  -- for what its transaction sees, or for what others hold
+  abbrev asked : Option Refusal
+  asked = first_of_two (call_refusal c.g0 a own event) (call_conflict c.g0 a own event)
+  -- a call of a session is refused so, for its words or for the log
+  pub call_refused : core_refusal c event ≡ first_of_two asked (first_of_two (room_refusal (ground c) c.g0 a own event) (log_refusal c event))
+  call_refused =
+      unfailed_refusal c event valid.unfailed
+      ∙ ap (λ (o : Option Refusal). first_of_two (first_of_two o (call_conflict c.g0 a own event)) (first_of_two (words_refusal c event) (log_refusal c event)))
+      (event_refusal-call (next_number c) c.g0 a event call)
+      ∙ ap (λ (o : Option Refusal). first_of_two asked (first_of_two (first_of_two o (room_refusal (ground c) c.g0 a own event)) (log_refusal c event))) (call_no_page c.pages event call)
+  -- one that makes no object is refused so, or for the log
+  pub old_refused : is_new event ≡ false → core_refusal c event ≡ first_of_two asked (log_refusal c event)
+  old_refused old = call_refused ∙ ap (λ (o : Option Refusal). first_of_two asked (first_of_two o (log_refusal c event))) (words_quiet (ground c) c.g0 a own event call old)
+  -- and one that writes nothing either is refused so
+  pub quiet_refused : is_write event ≡ false → is_new event ≡ false → core_refusal c event ≡ asked
+  quiet_refused quiet old = old_refused old ∙ ap (first_of_two asked) (log_quiet c event valid call quiet) ∙ first_none asked

@@ -1,0 +1,184 @@
+-- What an event appends leaves the memory of the core after it: what holds of each event.
+use Rattle.std.proofs.Common.{◌≡◌, ◌≢◌, ℕ, ◌+◌, List, [], ◌++◌, length, Option, Some, None, refl, sym, ap, ◌∙◌, subst, append_assoc}
+use Rattle.std.specs.Prelude.{fold, IsFalse}
+use Rattle.std.proofs.lemmas.List.Sums.{fold-append}
+use Rattle.std.proofs.lemmas.List.{append-nil}
+use Rattle.gated_log.specs.Log.{records_of}
+use Rattle.gated_log.specs.LogState.{Keeps, log_count}
+use Rattle.graph_model.specs.declared.event.Event.{Event}
+use Rattle.graph_model.specs.Graph.{Graph}
+use Rattle.graph_model.specs.Locking.{lock_of}
+use Rattle.graph_model.specs.Transaction.{Transaction, View, IsCall, call, serial}
+use Rattle.graph_model.specs.History.{Account, account, session_of, with_call}
+use Rattle.graph_model.proofs.Runs.History.{run-append}
+use Rattle.graph_model.specs.Plain.{view}
+use Rattle.log_records.specs.declared.Record.{Record}
+use Rattle.log_machine.specs.Machine.{State, undo_of, put_record}
+use Rattle.log_machine.specs.declared.UndoEntry.{UndoEntry}
+use Rattle.object_locks.specs.Holdings.{Holdings}
+use Rattle.txn_table.specs.Table.{TransactionState, TableState, transaction_of, with_transaction}
+use Rattle.txn_table.proofs.TableLaws.{with_transaction_same, with_transaction_other}
+use Rattle.heap_spaces.specs.Spaces.{SpacesState}
+use Rattle.graph_words.specs.Places.{Places}
+use Rattle.heap_model.specs.Core.{Core, Ground, all_records, all_words, next_number, state_behind, undo_with, event_records, done}
+use Rattle.core_laws.proofs.Step.Forms.{call_places, done_records, no_call}
+use Rattle.page_redo.proofs.RedoLaws.{lsns-redo_all}
+use Rattle.page_store.specs.declared.store.PageStore.{PageStore}
+use Rattle.page_store.specs.StoreState.{store_plan, stored_lsn, has_failed}
+use Rattle.memory_laws.proofs.Kept.Pages.{lsn_appended}
+use Rattle.core_laws.proofs.Step.Events.{call_account, reply_adds}
+use Rattle.core_laws.proofs.Sessions.Actives.{each_session, called}
+use Rattle.core_laws.specs.Valid.{IsValid}
+use Rattle.heap_memory.specs.Memory.{Memory, own}
+use Rattle.heap_memory.specs.Leaves.{Leaves, pages_of}
+use Rattle.memory_laws.specs.CoreMemory.{kept, kept_of, spaces_of, AreHeld, IsMemory}
+use Rattle.memory_laws.proofs.Step.Answered.{Goes}
+use Rattle.memory_laws.proofs.Kept.Locks.{held_same}
+
+-- what is there on both sides is one
+pub some_one : {A : Type 0} (x y : A) → Some x ≡ Some y → x ≡ y
+some_one x y e = cc e
+
+-- a call leaves of the core these records more
+pub call_done : (c : Core) (event : Event) (more : List Record) → IsCall event → event_records c event ≡ more → done c event ≡ record c { pending = c.pending ++ more; places = c.places ++ [] }
+call_done c event more is records =
+    done_records c event (no_call event is) ∙ ap (λ (placed : Places). record c { pending = c.pending ++ event_records c event; places = c.places ++ placed }) (call_places c event is)
+    ∙ ap (λ (rs : List Record). record c { pending = c.pending ++ rs; places = c.places ++ [] }) records
+
+-- where the heap is found with these places, in this state
+abbrev pub ground_in : Core → Places → State → Ground
+ground_in c places state = record { places = places; words = all_words c; state = Some state }
+
+-- what is kept of a transaction that has made one call more
+kept_call : (g : Ground) (g0 : Graph) (a : Account) (o : Option Transaction) (t : Transaction) (event : Event) → o ≡ Some t
+    → kept_of g g0 a (with_call o event) ≡ Some (kept g.places (call (view g0 a t) t.number event).view t.number (undo_with g.state t.number))
+kept_call g g0 a o t event e =
+    ap (λ (p : Option Transaction). kept_of g g0 a (with_call p event)) e
+    ∙ ap (λ (v : View). Some (kept g.places v t.number (undo_with g.state t.number))) (run-append (serial g0 a.sealed) t event)
+
+-- the transaction of the core where one is kept in memory
+has_kept : (g : Ground) (g0 : Graph) (a : Account) (o : Option Transaction) (x : TransactionState) → kept_of g g0 a o ≡ Some x
+    → (t : Transaction) × (o ≡ Some t) × (x ≡ kept g.places (view g0 a t) t.number (undo_with g.state t.number))
+has_kept g g0 a None x e = cc e
+has_kept g g0 a (Some t) x e = (t, refl, sym (some_one _ _ e))
+
+module _ (m n : Memory) (c : Core) (valid : IsValid c) (is : IsMemory m (account c.history) c) where
+  -- what the history says
+  abbrev a : Account
+  a = account c.history
+  -- the state behind all records
+  abbrev behind : State
+  behind = valid.behind
+  -- it is the one that memory follows
+  same_state : is.state ≡ behind
+  same_state = some_one is.state behind (sym is.reached ∙ valid.told.reached)
+  -- the spaces in memory are the state's
+  pub spaces_are : m.spaces ≡ spaces_of behind
+  spaces_are = is.spaces ∙ ap spaces_of same_state
+  -- each session's transaction is in memory what the core keeps of it
+  pub own_kept : (s : ℕ) → own m s ≡ kept_of (ground_in c c.places behind) c.g0 a (a.active s)
+  own_kept s =
+      is.transactions s ∙ ap (λ (o : Option State). kept_of (record { places = c.places; words = all_words c; state = o }) c.g0 a (a.active s)) valid.told.reached
+  -- the transaction of a session in memory is the core's
+  pub mine : (s : ℕ) (x : TransactionState) → own m s ≡ Some x → (t : Transaction) × (a.active s ≡ Some t) × (x ≡ kept c.places (view c.g0 a t) t.number (undo_of behind t.number))
+  mine s x e = has_kept (ground_in c c.places behind) c.g0 a (a.active s) x (sym (own_kept s) ∙ e)
+  -- memory that is the same follows the same core
+  pub stays : n ≡ m → IsMemory n a c
+  stays same = let P : Memory → Type 0 = λ x. IsMemory x a c in subst P (sym same) is
+  -- records more wait, and objects more stand in the current space
+  pub appended : (b : Account) (more : List Record) (placed : Places) (table : TableState) (locks : Holdings) (current : SpacesState) (count : ℕ) (later : State)
+      → Leaves m n more table locks current count → state_behind c (all_records c ++ more) ≡ Some later → current ≡ spaces_of later
+      → ((r : ℕ) → transaction_of table r ≡ kept_of (ground_in c (c.places ++ placed) later) c.g0 b (b.active r)) → AreHeld locks (c.places ++ placed) c.g0 b
+      → table.next ≡ c.first + b.begun → count ≡ length b.sealed → IsMemory n b (record c { pending = c.pending ++ more; places = c.places ++ placed })
+  appended b more placed table locks current count later left reached room there held next sealed =
+      let all = append_assoc (records_of c.batches) c.pending more in
+      let then : state_behind c (records_of c.batches ++ (c.pending ++ more)) ≡ Some later = ap (state_behind c) (sym all) ∙ reached in
+      record {
+        log = left.log.kept c.batches c.pending is.log;
+        place = left.log.place.at ∙ is.place;
+        room = left.log.place.room ∙ is.room;
+        words = left.words ∙ ap (λ (ws : List ℕ). fold put_record ws more) is.words ∙ sym (fold-append put_record c.words c.pending more);
+        pages = ap (λ (l : List ℕ). length l) left.lsns ∙ lsns-redo_all (log_count m.log + 1) (pages_of m) more ∙ is.pages;
+        lsns = λ p lt. lsn_appended m n c is more left.lsns p lt;
+        flushed = λ p lt. ap (λ (x : PageStore). stored_lsn x p) left.store ∙ is.flushed p lt;
+        plan = ap store_plan left.store ∙ is.plan;
+        unfailed = subst (λ (x : PageStore). IsFalse (has_failed x)) (sym left.store) is.unfailed;
+        state = later;
+        reached = then;
+        spaces = left.spaces ∙ room;
+        transactions = λ r. ap (λ (t : TableState). transaction_of t r) left.table ∙ there r
+            ∙ ap (λ (o : Option State). kept_of (record { places = c.places ++ placed; words = all_words c; state = o }) c.g0 b (b.active r)) (sym then);
+        locks = subst (λ (ls : Holdings). AreHeld ls (c.places ++ placed) c.g0 b) (sym left.locks) held;
+        next = ap (λ (t : TableState). t.next) left.table ∙ next;
+        sealed = left.sealed ∙ sealed;
+      }
+  -- records more wait, and the same objects stand there
+  pub appended_here : (b : Account) (more : List Record) (table : TableState) (locks : Holdings) (count : ℕ) (later : State) → Leaves m n more table locks m.spaces count
+      → state_behind c (all_records c ++ more) ≡ Some later → spaces_of behind ≡ spaces_of later
+      → ((r : ℕ) → transaction_of table r ≡ kept_of (ground_in c c.places later) c.g0 b (b.active r)) → AreHeld locks c.places c.g0 b
+      → table.next ≡ c.first + b.begun → count ≡ length b.sealed → IsMemory n b (record c { pending = c.pending ++ more; places = c.places ++ [] })
+  appended_here b more table locks count later left reached same there held next sealed =
+      let here = sym (append-nil c.places) in
+      appended b more [] table locks m.spaces count later left reached (spaces_are ∙ same)
+      (λ r. there r ∙ ap (λ (places : Places). kept_of (ground_in c places later) c.g0 b (b.active r)) here) (subst (λ (places : Places). AreHeld locks places c.g0 b) here held) next sealed
+  -- In a later state the transactions of all other sessions have the same writes that may be taken back.
+  abbrev pub LeavesOthers : ℕ → State → Type 0
+  LeavesOthers s later = (r : ℕ) (u : Transaction) → r ≢ s → a.active r ≡ Some u → undo_of later u.number ≡ undo_of behind u.number
+  -- what is kept of a transaction whose writes are as before
+  kept_beside : (later : State) (o : Option Transaction) → ((u : Transaction) → o ≡ Some u → undo_of later u.number ≡ undo_of behind u.number)
+      → kept_of (ground_in c c.places behind) c.g0 a o ≡ kept_of (ground_in c c.places later) c.g0 a o
+  kept_beside later None same = refl
+  kept_beside later (Some u) same = ap (λ (us : List UndoEntry). Some (kept c.places (view c.g0 a u) u.number us)) (sym (same u refl))
+  -- what is kept of the transaction of each other session, in a table that is the same there
+  pub others_kept : (s : ℕ) (table : TableState) (later : State) → ((r : ℕ) → r ≢ s → transaction_of table r ≡ own m r) → LeavesOthers s later
+      → (r : ℕ) → r ≢ s → transaction_of table r ≡ kept_of (ground_in c c.places later) c.g0 a (a.active r)
+  others_kept s table later beside same r other = beside r other ∙ own_kept r ∙ kept_beside later (a.active r) (λ u also. same r u other also)
+  -- no record more waits
+  pub reached_still : state_behind c (all_records c ++ []) ≡ Some behind
+  reached_still = ap (state_behind c) (append-nil (all_records c)) ∙ valid.told.reached
+  -- a call of the transaction of a session
+  pub call_leaves : (s : ℕ) (t : Transaction) (event : Event) (more : List Record) (later : State) (table : TableState) (locks : Holdings) (x : TransactionState) → a.active s ≡ Some t → IsCall event
+      → session_of event ≡ s → event_records c event ≡ more → Leaves m n more table locks m.spaces m.sealed → transaction_of table s ≡ Some x → ((r : ℕ) → r ≢ s → transaction_of table r ≡ own m r)
+      → table.next ≡ m.table.next → state_behind c (all_records c ++ more) ≡ Some later → spaces_of behind ≡ spaces_of later → LeavesOthers s later
+      → x ≡ kept c.places (call (view c.g0 a t) t.number event).view t.number (undo_of later t.number) → AreHeld locks c.places c.g0 (called a s event) → Goes n c event
+  call_leaves s t event more later table locks x e called_it one records left holds beside next reached same others kept_so held =
+      let P : ℕ → Option Transaction → Type 0 = λ r o. transaction_of table r ≡ kept_of (ground_in c c.places later) c.g0 a o in
+      let there : transaction_of table s ≡ kept_of (ground_in c c.places later) c.g0 a (with_call (a.active s) event) =
+      holds ∙ ap (λ (y : TransactionState). Some y) kept_so ∙ sym (kept_call (ground_in c c.places later) c.g0 a (a.active s) t event e) in
+      let each = each_session P a.active s (with_call (a.active s) event) there (others_kept s table later beside others) in
+      let now = appended_here (called a s event) more table locks m.sealed later left reached same each held (next ∙ is.next) is.sealed in
+      subst (λ (b : Account). IsMemory n b (done c event)) (sym (reply_adds c event ∙ call_account (next_number c) c.g0 a event called_it ∙ ap (λ (q : ℕ). called a q event) one))
+      (subst (λ (d : Core). IsMemory n (called a s event) d) (sym (call_done c event more called_it records)) now)
+  -- the same, where the transaction alone is changed in the table
+  pub call_goes : (s : ℕ) (t : Transaction) (event : Event) (more : List Record) (later : State) (locks : Holdings) (x : TransactionState) → a.active s ≡ Some t → IsCall event → session_of event ≡ s
+      → event_records c event ≡ more → Leaves m n more (with_transaction m.table s x) locks m.spaces m.sealed → state_behind c (all_records c ++ more) ≡ Some later
+      → spaces_of behind ≡ spaces_of later → LeavesOthers s later → x ≡ kept c.places (call (view c.g0 a t) t.number event).view t.number (undo_of later t.number)
+      → AreHeld locks c.places c.g0 (called a s event) → Goes n c event
+  call_goes s t event more later locks x e called_it one records left reached same others kept_so held =
+      call_leaves s t event more later (with_transaction m.table s x) locks x e called_it one records left (with_transaction_same m.table s x) (with_transaction_other m.table s x) refl reached same
+      others kept_so held
+  -- and no record is appended
+  pub quiet_goes : (s : ℕ) (t : Transaction) (event : Event) (locks : Holdings) (x : TransactionState) → a.active s ≡ Some t → IsCall event → session_of event ≡ s → event_records c event ≡ []
+      → Leaves m n [] (with_transaction m.table s x) locks m.spaces m.sealed → x ≡ kept c.places (call (view c.g0 a t) t.number event).view t.number (undo_of behind t.number)
+      → AreHeld locks c.places c.g0 (called a s event) → Goes n c event
+  quiet_goes s t event locks x e called_it one records left kept_so held =
+      call_goes s t event [] behind locks x e called_it one records left reached_still refl (λ r u other also. refl) kept_so held
+  -- a call that needs no lock leaves the locks
+  pub no_lock : (s : ℕ) (t : Transaction) (event : Event) → a.active s ≡ Some t → lock_of (view c.g0 a t).registers event ≡ None → AreHeld m.locks c.places c.g0 (called a s event)
+  no_lock s t event e none = held_same m.locks c.places c.g0 a s t event e (λ id mode some. let never = sym none ∙ some in cc) is.locks
+
+-- what an event leaves that changes nothing
+pub nothing_left : (m : Memory) → Leaves m m [] m.table m.locks m.spaces m.sealed
+nothing_left m = record {
+  log = record {
+    place = record { at = refl; room = refl; tail = refl; forced = refl };
+    kept = λ batches pending keeps. subst (λ (rs : List Record). Keeps m.log batches rs) (sym (append-nil pending)) keeps;
+  };
+  words = refl;
+  lsns = refl;
+  store = refl;
+  table = refl;
+  locks = refl;
+  spaces = refl;
+  sealed = refl;
+}

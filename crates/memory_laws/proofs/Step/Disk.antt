@@ -1,0 +1,94 @@
+-- What a force and the store of a page leave in memory.
+use Rattle.std.proofs.Common.{◌≡◌, ◌≢◌, ℕ, ◌<◌, max, Bool, true, false, cond, List, [], ◌++◌, length, get_or, refl, sym, ap, ◌∙◌, subst, arith}
+use Rattle.std.specs.Prelude.{◌==◌, slice_index, IsFalse}
+use Rattle.std.proofs.lemmas.Bool.{eqb-true, eqb-false}
+use Rattle.std.proofs.lemmas.List.{append-nil}
+use Rattle.gated_log.specs.Log.{records_of, with_batch}
+use Rattle.gated_log.specs.declared.Log.{Log}
+use Rattle.gated_log.specs.LogState.{Keeps, log_place, log_room}
+use Rattle.graph_model.specs.History.{Account}
+use Rattle.log_records.specs.declared.Record.{Record}
+use Rattle.object_locks.specs.Holdings.{Holdings}
+use Rattle.page_redo.specs.Pages.{pages_in}
+use Rattle.page_redo.specs.Redo.{last_lsn}
+use Rattle.page_store.specs.declared.store.PageStore.{PageStore}
+use Rattle.page_store.specs.StoreState.{store_plan, stored_lsn, has_failed}
+use Rattle.txn_table.specs.Table.{TableState, transaction_of}
+use Rattle.heap_memory.specs.Memory.{Memory}
+use Rattle.heap_model.specs.Core.{Core, ground, all_records, all_words, present_lsn, state_behind, forced, page_stored}
+use Rattle.heap_model.proofs.Step.Room.{forced-with_batch, records_of-with_batch}
+use Rattle.memory_laws.specs.CoreMemory.{IsMemory, AreHeld, kept_of}
+
+-- Nothing but the log, and what is known of the stored pages, may be other than it was.
+pub record HasSameWork (old new : Memory) : Type 0 where
+  pub words : new.words ≡ old.words
+  pub lsns : new.lsns ≡ old.lsns
+  pub table : new.table ≡ old.table
+  pub locks : new.locks ≡ old.locks
+  pub spaces : new.spaces ≡ old.spaces
+  pub sealed : new.sealed ≡ old.sealed
+
+-- batches with all that waits have all records
+pub records_forced : (bs : List (List Record)) (p : List Record) → records_of (with_batch bs p) ++ [] ≡ records_of bs ++ p
+records_forced bs p = append-nil (records_of (with_batch bs p)) ∙ records_of-with_batch bs p
+
+-- what waited is on the disk
+pub forced_memory : (m n : Memory) (a : Account) (c : Core) → IsMemory m a c → Keeps n.log (with_batch c.batches c.pending) [] → log_place n.log ≡ log_place m.log → log_room n.log ≡ log_room m.log
+    → HasSameWork m n → n.store ≡ m.store → IsMemory n a (forced c c.pending)
+forced_memory m n a c is keeps at room same store =
+    let records = records_forced c.batches c.pending in
+    let d = record c { batches = with_batch c.batches c.pending; words = all_words c; pending = [] } in
+    let here : ground d ≡ ground c = ap (λ rs. record { places = c.places; words = all_words c; state = state_behind c rs }) records in
+    subst (IsMemory n a) (sym (forced-with_batch c)) (record {
+      log = keeps;
+      place = at ∙ is.place;
+      room = room ∙ is.room;
+      words = same.words ∙ is.words;
+      pages = ap (λ (l : List ℕ). length l) same.lsns ∙ is.pages;
+      lsns = λ p lt. ap (λ (l : List ℕ). get_or l p 0) same.lsns ∙ is.lsns p lt ∙ ap (λ (rs : List Record). max (c.stored_lsns p) (last_lsn p 1 rs)) (sym records);
+      flushed = λ p lt. ap (λ (x : PageStore). stored_lsn x p) store ∙ is.flushed p lt;
+      plan = ap store_plan store ∙ is.plan;
+      unfailed = subst (λ (x : PageStore). IsFalse (has_failed x)) (sym store) is.unfailed;
+      state = is.state;
+      reached = ap (state_behind c) records ∙ is.reached;
+      spaces = same.spaces ∙ is.spaces;
+      transactions = λ s. ap (λ (t : TableState). transaction_of t s) same.table ∙ is.transactions s ∙ ap (λ h. kept_of h c.g0 a (a.active s)) (sym here);
+      locks = subst (λ (l : Holdings). AreHeld l c.places c.g0 a) (sym same.locks) is.locks;
+      next = ap (λ (t : TableState). t.next) same.table ∙ is.next;
+      sealed = same.sealed ∙ is.sealed;
+    })
+
+-- a page that is stored has the LSN that it had
+still_present : (c : Core) (q : ℕ) (stored : Bool) → present_lsn c q ≡ max (cond stored (present_lsn c q) (c.stored_lsns q)) (last_lsn q 1 (all_records c))
+still_present c q true = omega arith
+still_present c q false = refl
+
+-- it is known to be stored with that one, and each other page with the one that it was stored with
+known_stored : (m n : Memory) (a : Account) (c : Core) (p : ℕ) → IsMemory m a c → p < pages_in c.pages → stored_lsn n.store p ≡ slice_index m.lsns p
+    → ((q : ℕ) → q ≢ p → stored_lsn n.store q ≡ stored_lsn m.store q) → (q : ℕ) → q < pages_in c.pages → (b : Bool) → (q == p) ≡ b → stored_lsn n.store q ≡ cond b (present_lsn c q) (c.stored_lsns q)
+known_stored m n a c p is lt stored others q within true e =
+    let same = eqb-true q p e in
+    ap (stored_lsn n.store) same ∙ stored ∙ is.lsns p lt ∙ ap (present_lsn c) (sym same)
+known_stored m n a c p is lt stored others q within false e = others q (eqb-false q p e) ∙ is.flushed q within
+
+-- a page was stored as it is
+pub stored_memory : (m n : Memory) (a : Account) (c : Core) (p : ℕ) → IsMemory m a c → n.log ≡ m.log → HasSameWork m n → store_plan n.store ≡ store_plan m.store → IsFalse (has_failed n.store)
+    → stored_lsn n.store p ≡ slice_index m.lsns p → ((q : ℕ) → q ≢ p → stored_lsn n.store q ≡ stored_lsn m.store q) → p < pages_in c.pages → IsMemory n a (page_stored c p)
+stored_memory m n a c p is log same plan unfailed stored others lt = record {
+  log = subst (λ (l : Log). Keeps l c.batches c.pending) (sym log) is.log;
+  place = ap log_place log ∙ is.place;
+  room = ap log_room log ∙ is.room;
+  words = same.words ∙ is.words;
+  pages = ap (λ (l : List ℕ). length l) same.lsns ∙ is.pages;
+  lsns = λ q within. ap (λ (l : List ℕ). get_or l q 0) same.lsns ∙ is.lsns q within ∙ still_present c q (q == p);
+  flushed = λ q within. known_stored m n a c p is lt stored others q within (q == p) refl;
+  plan = plan ∙ is.plan;
+  unfailed = unfailed;
+  state = is.state;
+  reached = is.reached;
+  spaces = same.spaces ∙ is.spaces;
+  transactions = λ s. ap (λ (t : TableState). transaction_of t s) same.table ∙ is.transactions s;
+  locks = subst (λ (l : Holdings). AreHeld l c.places c.g0 a) (sym same.locks) is.locks;
+  next = ap (λ (t : TableState). t.next) same.table ∙ is.next;
+  sealed = same.sealed ∙ is.sealed;
+}

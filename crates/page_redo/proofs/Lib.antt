@@ -1,0 +1,5 @@
+pub mod OnePage
+pub mod PageLaws
+pub mod PrefixLaws
+pub mod RedoLaws
+pub mod RedoSteps

@@ -1,0 +1,149 @@
+-- Laws of redo, whatever the pages hold.
+use Rattle.std.proofs.Common.{◌≡◌, ℕ, ◌+◌, ◌<◌, ◌≤◌, Bool, true, cond, List, [], ◌∷◌, ◌++◌, length, get_or, take, refl, sym, ap, ◌∙◌, arith, inl, inr}
+use Rattle.std.specs.Prelude.{max, fold}
+use Rattle.std.specs.List.{filter}
+use Rattle.std.proofs.lemmas.Bool.{cases_Bool, cases_lt, lt-ltb, cond-true, cond-false}
+use Rattle.std.proofs.lemmas.List.{ext_get_or, get_or_past, take_more, length-take-le}
+use Rattle.log_records.specs.declared.Record.{Record}
+use Rattle.log_machine.specs.Machine.{effect, put_all, put_record}
+use Rattle.log_machine.proofs.WordsLaws.{length-put_all}
+use Rattle.page_redo.specs.Pages.{Pages, pages_in, page_of, lsn_of, touched, touches}
+use Rattle.page_redo.specs.Redo.{lacks, EachLacks, redo_record, redo_all, redone, last_lsn}
+use Rattle.page_redo.proofs.PageLaws.{length-raised_to, raised_to-touched, raised_to-other}
+use Rattle.page_redo.specs.Prefix.{EachHoldsPrefix, IsPresent}
+use Rattle.page_redo.proofs.PrefixLaws.{redone-present}
+
+-- records one after another
+pub redo_all-append : (lsn : ℕ) (at : Pages) (rs ss : List Record) → redo_all lsn at (rs ++ ss) ≡ redo_all (lsn + length rs) (redo_all lsn at rs) ss
+redo_all-append lsn at [] ss = let same : lsn ≡ lsn + length {A = Record} [] = omega arith in ap (λ (n : ℕ). redo_all n at ss) same
+redo_all-append lsn at (r ∷ rs) ss =
+    let same : lsn + 1 + length rs ≡ lsn + length (r ∷ rs) = omega arith in
+    redo_all-append (lsn + 1) (redo_record lsn at r) rs ss ∙ ap (λ (n : ℕ). redo_all n (redo_all (lsn + 1) (redo_record lsn at r) rs) ss) same
+
+-- the records so far, and the one at a place
+pub redo_all-more : (lsn : ℕ) (at : Pages) (rs : List Record) (i : ℕ) (r : Record) → i < length rs → r ≡ get_or rs i r → redo_all lsn at (take (i + 1) rs) ≡ redo_record (lsn + i) (redo_all lsn at (take i rs)) r
+redo_all-more lsn at rs i r lt is =
+    ap (redo_all lsn at) (take_more rs i r lt ∙ ap (λ (x : Record). take i rs ++ x ∷ []) (sym is))
+    ∙ redo_all-append lsn at (take i rs) (r ∷ [])
+    ∙ ap (λ (n : ℕ). redo_record (lsn + n) (redo_all lsn at (take i rs)) r) (length-take-le i rs (omega arith))
+
+-- the words keep their number
+pub words-redo_record : (lsn : ℕ) (at : Pages) (rec : Record) → length (redo_record lsn at rec).words ≡ length at.words
+words-redo_record lsn at rec = length-put_all (filter (λ (w : ℕ × ℕ). lacks at lsn (page_of w.0)) (effect rec)) at.words
+
+words-redo_all : (lsn : ℕ) (at : Pages) (rs : List Record) → length (redo_all lsn at rs).words ≡ length at.words
+words-redo_all lsn at [] = refl
+words-redo_all lsn at (r ∷ rs) = words-redo_all (lsn + 1) (redo_record lsn at r) rs ∙ words-redo_record lsn at r
+
+-- so they do after a whole log
+pub length-redone : (stored : Pages) (records : List Record) → length (redone stored records).words ≡ length stored.words
+length-redone stored records = words-redo_all 1 stored records
+
+filter_all : (test : ℕ × ℕ → Bool) (ws : List (ℕ × ℕ)) → ((w : ℕ × ℕ) → test w ≡ true) → filter test ws ≡ ws
+filter_all test [] each = refl
+filter_all test (w ∷ ws) each = cond-true (test w) (w ∷ filter test ws) (filter test ws) (each w) ∙ ap (λ (l : List (ℕ × ℕ)). w ∷ l) (filter_all test ws each)
+
+-- where each page lacks a record, the words are those with its effect
+pub redo_record-words : (lsn : ℕ) (at : Pages) (rec : Record) → EachLacks lsn at → (redo_record lsn at rec).words ≡ put_record at.words rec
+redo_record-words lsn at rec lacking = ap (put_all at.words) (filter_all (λ w. lacks at lsn (page_of w.0)) (effect rec) (λ w. lt-ltb (lsn_of at (page_of w.0)) lsn (lacking (page_of w.0))))
+
+-- The LSNs.
+
+pub lsn-redo_record : (lsn : ℕ) (at : Pages) (rec : Record) (p : ℕ) → p < length at.lsns → lsn_of (redo_record lsn at rec) p ≡ max (lsn_of at p) (cond (touches rec p) lsn 0)
+lsn-redo_record lsn at rec p lt = elim (cases_Bool (touches rec p)) [
+  | inl some ↦ omega (arith, raised_to-touched lsn p (touched rec) at.lsns lt some, cond-true (touches rec p) lsn 0 some)
+  | inr none ↦ omega (arith, raised_to-other lsn p (touched rec) at.lsns none, cond-false (touches rec p) lsn 0 none)
+]
+
+pub lsns-redo_record : (lsn : ℕ) (at : Pages) (rec : Record) → length (redo_record lsn at rec).lsns ≡ length at.lsns
+lsns-redo_record lsn at rec = length-raised_to lsn (touched rec) at.lsns
+
+pub lsns-redo_all : (lsn : ℕ) (at : Pages) (rs : List Record) → length (redo_all lsn at rs).lsns ≡ length at.lsns
+lsns-redo_all lsn at [] = refl
+lsns-redo_all lsn at (r ∷ rs) = lsns-redo_all (lsn + 1) (redo_record lsn at r) rs ∙ length-raised_to lsn (touched r) at.lsns
+
+-- a page has the greater of its LSN and that of the last record that touches it
+pub lsn-redo_all : (lsn : ℕ) (at : Pages) (rs : List Record) (p : ℕ) → p < length at.lsns → lsn_of (redo_all lsn at rs) p ≡ max (lsn_of at p) (last_lsn p lsn rs)
+lsn-redo_all lsn at [] p lt = omega arith
+lsn-redo_all lsn at (r ∷ rs) p lt =
+    omega (arith, lsn-redo_record lsn at r p lt, lsn-redo_all (lsn + 1) (redo_record lsn at r) rs p (omega (arith, length-raised_to lsn (touched r) at.lsns)))
+
+-- no LSN falls
+pub lsn-rises : (lsn : ℕ) (at : Pages) (rec : Record) (p : ℕ) → p < length at.lsns → lsn_of at p ≤ lsn_of (redo_record lsn at rec) p
+lsn-rises lsn at rec p lt = omega (arith, lsn-redo_record lsn at rec p lt)
+
+pub lsn-rises_all : (lsn : ℕ) (at : Pages) (rs : List Record) (p : ℕ) → p < length at.lsns → lsn_of at p ≤ lsn_of (redo_all lsn at rs) p
+lsn-rises_all lsn at rs p lt = omega (arith, lsn-redo_all lsn at rs p lt)
+
+-- each page lacks what follows
+pub EachLacks-next : (lsn : ℕ) (at : Pages) (rec : Record) → EachLacks lsn at → EachLacks (lsn + 1) (redo_record lsn at rec)
+EachLacks-next lsn at rec lacking p = elim (cases_lt p (length at.lsns)) [
+  | inl lt ↦ elim (cases_Bool (touches rec p)) [
+    | inl some ↦ omega (arith, lsn-redo_record lsn at rec p lt, cond-true (touches rec p) lsn 0 some, lacking p)
+    | inr none ↦ omega (arith, lsn-redo_record lsn at rec p lt, cond-false (touches rec p) lsn 0 none, lacking p)
+  ]
+  | inr past ↦ omega (arith, get_or_past (redo_record lsn at rec).lsns p 0 (omega (arith, length-raised_to lsn (touched rec) at.lsns)))
+]
+
+-- where each page lacks the first of these records, the words are those with all of them
+pub redo_all-words : (lsn : ℕ) (at : Pages) (rs : List Record) → EachLacks lsn at → (redo_all lsn at rs).words ≡ fold put_record at.words rs
+redo_all-words lsn at [] lacking = refl
+redo_all-words lsn at (r ∷ rs) lacking =
+    redo_all-words (lsn + 1) (redo_record lsn at r) rs (EachLacks-next lsn at r lacking)
+    ∙ ap (λ (l : List ℕ). fold put_record l rs) (redo_record-words lsn at r lacking)
+
+-- so have stored pages on which a whole log was redone
+pub lsn-redone : (pages : ℕ) (records : List Record) (stored : Pages) (p : ℕ) → EachHoldsPrefix pages records stored → p < pages_in pages → lsn_of (redone stored records) p ≡ max (lsn_of stored p) (last_lsn p 1 records)
+lsn-redone pages records stored p legal lt = lsn-redo_all 1 stored records p (omega (arith, legal.lsns_size))
+
+-- each page lacks all that follows a record that it lacks
+pub EachLacks-later : (lsn later : ℕ) (at : Pages) → lsn ≤ later → EachLacks lsn at → EachLacks later at
+EachLacks-later lsn later at le lacking p = omega (arith, lacking p)
+
+-- no record's LSN is above that of the last one
+pub last_lsn-reached : (p lsn : ℕ) (rs : List Record) → last_lsn p (lsn + 1) rs ≤ lsn + length rs
+last_lsn-reached p lsn [] = omega arith
+last_lsn-reached p lsn (r ∷ rs) = elim (cases_Bool (touches r p)) [
+  | inl some ↦ omega (arith, cond-true (touches r p) (lsn + 1) 0 some, last_lsn-reached p (lsn + 1) rs)
+  | inr none ↦ omega (arith, cond-false (touches r p) (lsn + 1) 0 none, last_lsn-reached p (lsn + 1) rs)
+]
+
+-- so pages that lack the record after some others lack it still once these are redone, whatever the pages hold
+pub EachLacks-redo_all : (lsn : ℕ) (at : Pages) (rs : List Record) → EachLacks (lsn + length rs + 1) at → EachLacks (lsn + length rs + 1) (redo_all (lsn + 1) at rs)
+EachLacks-redo_all lsn at rs lacking p = elim (cases_lt p (length at.lsns)) [
+  | inl lt ↦ omega (arith, lsn-redo_all (lsn + 1) at rs p lt, last_lsn-reached p lsn rs, lacking p)
+  | inr past ↦ omega (arith, get_or_past (redo_all (lsn + 1) at rs).lsns p 0 (omega (arith, lsns-redo_all (lsn + 1) at rs)))
+]
+
+-- so do those after a whole log, if no LSN of the stored pages is above that of its last record
+pub EachLacks-redone : (records : List Record) (stored : Pages) → EachLacks (length records + 1) stored → EachLacks (length records + 1) (redone stored records)
+EachLacks-redone records stored lacking p = omega (arith, EachLacks-redo_all 0 stored records (λ q. omega (arith, lacking q)) p)
+
+-- then the words go on with more records as any words do
+pub redone_words-append : (stored : Pages) (records more : List Record) → EachLacks (length records + 1) stored → (redone stored (records ++ more)).words ≡ fold put_record (redone stored records).words more
+redone_words-append stored records more lacking =
+    ap (λ (at : Pages). at.words) (redo_all-append 1 stored records more)
+    ∙ redo_all-words (1 + length records) (redone stored records) more (λ p. omega (arith, EachLacks-redone records stored lacking p))
+
+-- each of the pages that may stand beside records lacks the next one
+pub EachLacks-prefixes : (pages : ℕ) (records : List Record) (at : Pages) → EachHoldsPrefix pages records at → EachLacks (length records + 1) at
+EachLacks-prefixes pages records at is p = elim (cases_lt p (length at.lsns)) [
+  | inl lt ↦ omega (arith, (is.each p (omega (arith, is.lsns_size))).reached)
+  | inr past ↦ omega (arith, get_or_past at.lsns p 0 past)
+]
+
+-- so does each of the present pages
+pub EachLacks-present : (pages : ℕ) (records : List Record) (at : Pages) → IsPresent pages records at → EachLacks (length records + 1) at
+EachLacks-present pages records at is = EachLacks-prefixes pages records at is.prefixes
+
+-- redo is repeated without an effect
+pub redone-redone : (pages : ℕ) (records : List Record) (stored : Pages) → EachHoldsPrefix pages records stored → redone (redone stored records) records ≡ redone stored records
+redone-redone pages records stored legal =
+    let once = redone-present pages records stored legal in
+    let twice = redone-present pages records (redone stored records) once.prefixes in
+    let same_lsns : (redone (redone stored records) records).lsns ≡ (redone stored records).lsns =
+    ext_get_or 0 (redone (redone stored records) records).lsns (redone stored records).lsns (lsns-redo_all 1 (redone stored records) records)
+    (λ p lt. let within : p < length stored.lsns = omega (arith, lsns-redo_all 1 (redone stored records) records, lsns-redo_all 1 stored records) in
+    omega (arith, lsn-redo_all 1 (redone stored records) records p (omega (arith, lsns-redo_all 1 stored records)), lsn-redo_all 1 stored records p within)) in
+    let made : List ℕ → List ℕ → Pages = λ words lsns. record { words = words; lsns = lsns } in
+    ap (λ (l : List ℕ). made l (redone (redone stored records) records).lsns) (twice.present ∙ sym once.present) ∙ ap (made (redone stored records).words) same_lsns

@@ -1,0 +1,290 @@
+//! Scripts with flushes, played with a stop at each of their device calls and of their recoveries, by each pick of a restart. The slow heap, which has
+//! no pages, is asked for the same scripts without the flushes.
+use crate::run_tests::{Played, expect_played, make_disk, play_on, same};
+use crate::stop_tests::{
+    DRAWN, DRAWN_LINES, FLUSH_STOPPED, FORCE_CALLS, FORCED_INSIDE, FOUR, OBJECTS_FORCED_INSIDE,
+    ONE, Told, check_played, draw_script, ending_of,
+};
+use disk_model::{MemoryDisk, Pick};
+use heap_program::Status;
+use std::alloc::{AllocError, Global};
+use std::process::Abort;
+use std::str;
+use std::test::Fail;
+
+/// A heap of eight pages a space, with a log that has room for what the scripts with flushes write. It is far smaller than a new one that a play
+/// makes, so that many plays on it fit into a minute.
+const STORED_FORMAT: &str = "heap format 8 8192 1";
+
+const STORED_BYTES: usize = 25_152;
+
+const STORED_RECORD_BYTES: usize = 131_072;
+
+/// Its bytes.
+fn make_stored(alloc: Global) -> Result<Vec<u8>, AllocError> {
+    let disk = make_disk(alloc, STORED_BYTES, Pick::Newest)?;
+    let none = (Vec::new(alloc), Vec::new(alloc));
+    let (_, disk) = play_on(alloc, STORED_FORMAT, b"", disk, none)?;
+    disk.contents().to_vec(alloc)
+}
+
+/// What stands behind the lines of a script, in turn.
+type Flushes = [&'static str; 5];
+
+/// Both pages, behind each line.
+const EACH: Flushes = ["flush 0\nflush 1\n"; 5];
+
+/// A page behind some lines, so that both have records behind what is stored of them, of which some are on the disk and some are not.
+const SOME: Flushes = ["", "", "flush 0\n", "", "flush 1\n"];
+
+/// The lines of flushes that are neither refused nor cut short.
+const FLUSH_LINES: [&str; 8] = [
+    "flush 0 -> flushed 0",
+    "flush 0 -> clean 0",
+    "flush 1 -> flushed 1",
+    "flush 1 -> clean 1",
+    "flush 2 -> flushed 2",
+    "flush 2 -> clean 2",
+    "flush 3 -> flushed 3",
+    "flush 3 -> clean 3",
+];
+
+fn with_flushes(alloc: Global, script: &str, flushes: Flushes) -> Result<String, AllocError> {
+    let mut flushed = String::new(alloc);
+    for (i, line) in script.lines().enumerate() {
+        write!(flushed, "{line}\n{}", flushes[i % 5])?;
+    }
+    Ok(flushed)
+}
+
+/// Leaves the lines of flushes out, which the slow heap has no pages for. Of one that stopped it leaves that.
+fn without_flushes(rt: &impl Abort, alloc: Global, output: &[u8]) -> Result<Vec<u8>, AllocError> {
+    let text = str::from_utf8(output).unwrap_or("");
+    let mut kept = String::new(alloc);
+    for line in text.lines() {
+        if !line.starts_with("flush ") {
+            writeln!(kept, "{line}")?;
+        } else if line.ends_with(" -> stopped") {
+            kept.push_str(FLUSH_STOPPED)?;
+        } else {
+            same(rt, (line, FLUSH_LINES.contains(&line)), (line, true));
+        }
+    }
+    Ok(kept.into_bytes())
+}
+
+/// A script with flushes, what the slow heap answers to it without them, and the heap that it is played on.
+#[derive(Drop)]
+struct Flushed<'a> {
+    told: Told<'a>,
+    script: String,
+    image: Vec<u8>,
+}
+
+impl<'a> Flushed<'a> {
+    fn of(
+        rt: &impl Abort,
+        alloc: Global,
+        script: &'a str,
+        flushes: Flushes,
+    ) -> Result<Flushed<'a>, Fail> {
+        Ok(Flushed {
+            told: Told::of(rt, alloc, script)?,
+            script: with_flushes(alloc, script, flushes)?,
+            image: make_stored(alloc)?,
+        })
+    }
+
+    /// Plays it, and leaves the lines of its flushes out.
+    fn play(
+        &self,
+        rt: &impl Abort,
+        alloc: Global,
+        line: &str,
+        pick: Pick,
+    ) -> Result<Played, AllocError> {
+        let (image, room) = (self.image.clone()?, STORED_RECORD_BYTES);
+        let disk = MemoryDisk::of(alloc, image, pick, room, Vec::new(alloc), Vec::new(alloc))?;
+        let none = (Vec::new(alloc), Vec::new(alloc));
+        let played = play_on(alloc, line, self.script.as_bytes(), disk, none)?.0;
+        Ok(Played {
+            status: played.status,
+            output: without_flushes(rt, alloc, &played.output)?,
+        })
+    }
+
+    /// Plays it without a stop. Such a play ends with these lines of its own.
+    fn expect_whole(&self, rt: &impl Abort, alloc: Global, ending: &str) -> Result<(), AllocError> {
+        let played = self.play(rt, alloc, "heap play", Pick::Newest)?;
+        let mut output = self.told.lines.clone()?.into_bytes();
+        output.extend_from_slice(ending.as_bytes())?;
+        output.extend_from_slice(&self.told.heap.text(self.told.heap.sealed())?)?;
+        expect_played(rt, &played, Status::Done, &output);
+        Ok(())
+    }
+
+    /// Stops it after so many calls, and then the recovery at each of its own and behind them, which changes nothing. Says whether the first
+    /// stop came.
+    fn stops(
+        &self,
+        rt: &impl Abort,
+        alloc: Global,
+        pick: Pick,
+        calls: usize,
+    ) -> Result<bool, Fail> {
+        let line = format!(in alloc; "heap play --stop {calls}")?;
+        let once = self.play(rt, alloc, line.as_str(), pick)?;
+        for again in 0..=FORCE_CALLS {
+            let line = format!(in alloc; "heap play --stop {calls} --again {again}")?;
+            let twice = self.play(rt, alloc, line.as_str(), pick)?;
+            expect_played(rt, &twice, once.status, &once.output);
+        }
+        Ok(check_played(rt, &self.told, &once, pick, calls)?.0)
+    }
+}
+
+/// A script, the flushes behind its lines, what a run appends, and how many writes and syncs it makes before that.
+type Stored = (&'static str, Flushes, &'static str, usize);
+
+/// Stops a script with flushes at each of its calls and behind them.
+fn check_flushed(
+    rt: &impl Abort,
+    alloc: Global,
+    (script, flushes, ending, calls): Stored,
+    pick: Pick,
+) -> Result<(), Fail> {
+    let flushed = Flushed::of(rt, alloc, script, flushes)?;
+    flushed.expect_whole(rt, alloc, ending)?;
+    for stop in 0..=calls {
+        let stopped = flushed.stops(rt, alloc, pick, stop)?;
+        same(rt, (stop, stopped), (stop, stop < calls));
+    }
+    Ok(())
+}
+
+/// An object that lies on the first two pages is made and then written at both ends, by a transaction that commits and by one that is taken back.
+const TWO_PAGES: &str =
+    "1 begin\n1 root 0\n1 new 1 60\n1 put 1 59 5\n1 link 0 0 1\n1 commit\n1 begin\n1 root 0\n1 get 0 0 1\n1 put 1 0 6\n1 put 1 59 7\n1 seal\n1 begin\n1 root 0\n1 get 0 0 1\n1 put 1 59 8\n1 put 1 0 9\n1 clear 0 0\n";
+
+/// Two sessions write side by side, and one of them is forced while the other commits.
+const SIDE_BY_SIDE: &str =
+    "1 begin\n1 root 0\n1 new 1 1\n1 new 2 57\n1 new 3 1\n1 link 0 0 1\n1 link 0 1 2\n1 link 1 0 3\n1 commit\n2 begin\n1 begin\n2 root 0\n1 root 0\n2 get 0 0 1\n1 get 0 1 1\n2 put 1 0 4\n1 put 1 56 5\n1 seal\n2 put 1 0 6\n1 begin\n1 root 0\n1 get 0 1 1\n1 put 1 0 7\n";
+
+const UNSEALED: Stored = (FORCED_INSIDE, EACH, "", 40);
+
+const PROMOTED: Stored = (OBJECTS_FORCED_INSIDE, SOME, "", 24);
+
+const BOTH_PAGES: Stored = (
+    TWO_PAGES,
+    EACH,
+    "1 abort -> aborted\nforce -> durable 2\n",
+    68,
+);
+
+const BOTH_SESSIONS: Stored = (
+    SIDE_BY_SIDE,
+    SOME,
+    "1 abort -> aborted\n2 abort -> aborted\nforce -> durable 2\n",
+    44,
+);
+
+#[test]
+fn stored_writes_are_taken_back_from_synced_bytes(rt: HostRuntime) -> Result<(), Fail> {
+    check_flushed(&rt, rt.alloc(), UNSEALED, Pick::Synced)
+}
+
+#[test]
+fn stored_writes_are_taken_back_from_newest_bytes(rt: HostRuntime) -> Result<(), Fail> {
+    check_flushed(&rt, rt.alloc(), UNSEALED, Pick::Newest)
+}
+
+#[test]
+fn stored_writes_are_taken_back_from_bytes_of_ones(rt: HostRuntime) -> Result<(), Fail> {
+    check_flushed(&rt, rt.alloc(), UNSEALED, Pick::AllOnes)
+}
+
+#[test]
+fn stored_writes_are_taken_back_from_open_gates(rt: HostRuntime) -> Result<(), Fail> {
+    check_flushed(&rt, rt.alloc(), UNSEALED, Pick::AllOpen)
+}
+
+#[test]
+fn stored_pages_come_back_from_synced_bytes(rt: HostRuntime) -> Result<(), Fail> {
+    check_flushed(&rt, rt.alloc(), BOTH_PAGES, Pick::Synced)
+}
+
+#[test]
+fn stored_pages_come_back_from_newest_bytes(rt: HostRuntime) -> Result<(), Fail> {
+    check_flushed(&rt, rt.alloc(), BOTH_PAGES, Pick::Newest)
+}
+
+#[test]
+fn stored_pages_come_back_from_bytes_of_ones(rt: HostRuntime) -> Result<(), Fail> {
+    check_flushed(&rt, rt.alloc(), BOTH_PAGES, Pick::AllOnes)
+}
+
+#[test]
+fn stored_pages_come_back_from_open_gates(rt: HostRuntime) -> Result<(), Fail> {
+    check_flushed(&rt, rt.alloc(), BOTH_PAGES, Pick::AllOpen)
+}
+
+#[test]
+fn stored_sessions_come_back_from_synced_bytes(rt: HostRuntime) -> Result<(), Fail> {
+    check_flushed(&rt, rt.alloc(), BOTH_SESSIONS, Pick::Synced)
+}
+
+#[test]
+fn stored_sessions_come_back_from_newest_bytes(rt: HostRuntime) -> Result<(), Fail> {
+    check_flushed(&rt, rt.alloc(), BOTH_SESSIONS, Pick::Newest)
+}
+
+#[test]
+fn stored_sessions_come_back_from_bytes_of_ones(rt: HostRuntime) -> Result<(), Fail> {
+    check_flushed(&rt, rt.alloc(), BOTH_SESSIONS, Pick::AllOnes)
+}
+
+#[test]
+fn stored_sessions_come_back_from_open_gates(rt: HostRuntime) -> Result<(), Fail> {
+    check_flushed(&rt, rt.alloc(), BOTH_SESSIONS, Pick::AllOpen)
+}
+
+#[test]
+fn stored_objects_are_promoted_or_gone_from_written_bytes(rt: HostRuntime) -> Result<(), Fail> {
+    check_flushed(&rt, rt.alloc(), PROMOTED, Pick::Synced)?;
+    check_flushed(&rt, rt.alloc(), PROMOTED, Pick::Newest)
+}
+
+#[test]
+fn stored_objects_are_promoted_or_gone_from_filled_bytes(rt: HostRuntime) -> Result<(), Fail> {
+    check_flushed(&rt, rt.alloc(), PROMOTED, Pick::AllOnes)?;
+    check_flushed(&rt, rt.alloc(), PROMOTED, Pick::AllOpen)
+}
+
+/// Four pages, behind some lines.
+const FOUR_PAGES: Flushes = ["", "flush 0\n", "flush 1\nflush 2\n", "", "flush 3\n"];
+
+/// Plays drawn scripts of these sessions with flushes and without a stop.
+fn check_whole_flushed(
+    rt: &impl Abort,
+    alloc: Global,
+    sessions: [u32; 4],
+    flushes: Flushes,
+) -> Result<(), Fail> {
+    for seed in 0..DRAWN {
+        let script = draw_script(alloc, seed, sessions, DRAWN_LINES)?;
+        let flushed = Flushed::of(rt, alloc, script.as_str(), flushes)?;
+        let ending = ending_of(alloc, &flushed.told, sessions)?;
+        flushed.expect_whole(rt, alloc, ending.as_str())?;
+    }
+    Ok(())
+}
+
+#[test]
+fn flushes_leave_drawn_scripts_their_answers(rt: HostRuntime) -> Result<(), Fail> {
+    check_whole_flushed(&rt, rt.alloc(), ONE, FOUR_PAGES)
+}
+
+#[test]
+fn flushes_leave_four_drawn_sessions_their_answers(rt: HostRuntime) -> Result<(), Fail> {
+    check_whole_flushed(&rt, rt.alloc(), FOUR, FOUR_PAGES)
+}

@@ -1,0 +1,4 @@
+pub mod Holders
+pub mod Kept
+pub mod RowLaws
+pub mod Texts
