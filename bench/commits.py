@@ -46,7 +46,7 @@ def commits_of_heap(n, log, replies):
 
 
 def check_acknowledged(n):
-    """Ends the bench where the replies in the file don't tell of the last commit."""
+    """Ends the bench where the replies in the file lack the last commit."""
     with open("replies") as replies:
         if f"force -> durable {n}\n" not in replies.read():
             sys.exit("commits: the last commit was not acknowledged")

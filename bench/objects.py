@@ -54,7 +54,7 @@ def play(text):
 
 
 def best(text, objects):
-    """The least seconds of some runs of a script that leaves so many objects beside the root."""
+    """The least seconds of some runs of a script that leaves that many objects beside the root."""
     times = []
     for _ in range(RUNS):
         out, seconds = play(text)

@@ -37,7 +37,7 @@ def objects():
 
 
 def write(steps):
-    """A transaction that writes into the object so many steps behind the first."""
+    """A transaction that writes into the object that many steps after the first."""
     return "1 begin\n1 root 0\n1 get 0 0 1\n" + "1 get 1 0 1\n" * steps + "1 put 1 1 7\n1 seal\n"
 
 
@@ -63,7 +63,7 @@ def opening(transactions, flushed):
 
 
 def flush_cost(pages):
-    """The seconds that a flush takes more than a transaction without one, in a heap of so many pages a space."""
+    """The seconds that a flush takes more than a transaction without one, in a heap of that many pages a space."""
     one = "1 begin\n1 root 0\n1 put 0 0 7\n1 commit\n"
     times = 2_000
 

@@ -41,7 +41,7 @@ spoiled 'byte 78, the field of the write: 4' 78 004
 spoiled 'byte 97, the number of the commit: 0' 97 000
 spoiled 'byte 88, the word: a reference to nothing' 88 032
 spoiled 'byte 88, the word: the number 8 and not 7' 88 041
-# cut WHY BYTES: that heap, of which no more than so many bytes are left.
+# cut WHY BYTES: that heap, of which no more than that many bytes are left.
 cut() {
     head -c "$2" whole >heap.img
     opened "$1"

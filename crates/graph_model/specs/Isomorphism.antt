@@ -29,10 +29,6 @@ pub record IsIsomorphism (R : Id → Id → Type 0) (g h : Graph) : Type 0 where
   pub one_to_one : (a b x y : Id) → R a b → R x y → (a ≡ x) ↔ (b ≡ y)
   pub same_fields : (a b : Id) → R a b → MatchRows R (fields g a) (fields h b)
 
--- there is such a match
-abbrev pub AreIsomorphic : Graph → Graph → Type 1
-AreIsomorphic g h = (R : Id → Id → Type 0) × IsIsomorphism R g h
-
 -- What is reached in one graph, under new names: each object's new name is the match of its old one.
 abbrev pub IsRenaming : (Id → Id) → Graph → Graph → Type 0
 IsRenaming name g h = IsIsomorphism (λ a b. Reached g a × (name a ≡ b)) g h

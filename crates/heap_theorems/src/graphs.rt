@@ -2,7 +2,7 @@ ghost use Rattle.std.specs.Prelude.{◌≡◌, ◌↔◌, List, ℕ, length, ◌
 ghost use Rattle.graph_model.specs.Canon.{canon, numbered};
 ghost use Rattle.graph_model.specs.ClosedGraph.{IsWhole};
 ghost use Rattle.graph_model.specs.Graph.{Graph};
-ghost use Rattle.graph_model.specs.Isomorphism.{AreIsomorphic, AreRenamed};
+ghost use Rattle.graph_model.specs.Isomorphism.{AreRenamed};
 ghost use Rattle.graph_model.specs.NewNumbers.{HaveNewNumbers, HaveOwnNumbers};
 ghost use Rattle.graph_model.specs.Numbering.{IsNumbering};
 ghost use Rattle.graph_model.specs.Printable.{IsPrintable};
@@ -12,19 +12,14 @@ ghost use Rattle.graph_model.specs.declared.id.Id.{Id};
 ghost use Rattle.object_layout.specs.Layout.{IsSeenAs, IsSeen};
 ghost use Rattle.object_layout.specs.Walk.{HaveOwnBirths, IsWalked};
 
-/// Two whole graphs have one canon exactly where they are isomorphic: a one-to-one match of what their roots reach keeps the fields.
-pub fn canon_tells_isomorphism()
-    ensures { (g h : Graph) → IsWhole g → IsWhole h → (canon g ≡ canon h) ↔ AreIsomorphic g h }
-{}
-
 /// Two whole graphs have one canon exactly where they are the same up to renaming objects.
 pub fn canon_tells_renaming()
     ensures { (g h : Graph) → IsWhole g → IsWhole h → (canon g ≡ canon h) ↔ AreRenamed g h }
 {}
 
-/// Where numbers are below 2^64, two whole graphs have one text exactly where they are isomorphic.
-pub fn text_tells_isomorphism()
-    ensures { (g h : Graph) → IsWhole g → IsWhole h → IsPrintable g → IsPrintable h → (canon_text (canon g) ≡ canon_text (canon h)) ↔ AreIsomorphic g h }
+/// Where numbers are below 2^64, two whole graphs have one text exactly where they are the same up to renaming objects.
+pub fn text_tells_renaming()
+    ensures { (g h : Graph) → IsWhole g → IsWhole h → IsPrintable g → IsPrintable h → (canon_text (canon g) ≡ canon_text (canon h)) ↔ AreRenamed g h }
 {}
 
 /// The numbering of a canon has all that is reached, each object once, the root first, in breadth-first order.
@@ -32,9 +27,9 @@ pub fn numbering_is_breadth_first()
     ensures { (g : Graph) → IsWhole g → IsNumbering g (numbered g) }
 {}
 
-/// Transactions with new numbers, run on isomorphic graphs, are answered the same and leave isomorphic graphs.
-pub fn serial_runs_are_isomorphic()
-    ensures { (g h : Graph) (ts : List Transaction) → AreIsomorphic g h → HaveOwnNumbers ts → HaveNewNumbers g ts → HaveNewNumbers h ts → (serial_replies g ts ≡ serial_replies h ts) × AreIsomorphic (serial g ts) (serial h ts) }
+/// Transactions with new numbers, run on whole graphs that are the same up to renaming objects, are answered the same and leave such graphs.
+pub fn serial_runs_keep_renamings()
+    ensures { (g h : Graph) (ts : List Transaction) → IsWhole g → IsWhole h → AreRenamed g h → HaveOwnNumbers ts → HaveNewNumbers g ts → HaveNewNumbers h ts → (serial_replies g ts ≡ serial_replies h ts) × AreRenamed (serial g ts) (serial h ts) }
 {}
 
 /// Transactions that are run on a whole graph leave a whole graph.
@@ -47,9 +42,9 @@ pub fn one_canon_is_seen()
     ensures { (name other : ℕ → Id) (words : List ℕ) (start : ℕ) (g h : Graph) → IsSeenAs name words start g → IsSeenAs other words start h → canon g ≡ canon h }
 {}
 
-/// The text of a graph that is seen in words is that of just those whole graphs, of numbers below 2^64, that are isomorphic to it.
-pub fn seen_text_tells_isomorphism()
-    ensures { (name : ℕ → Id) (words : List ℕ) (start : ℕ) (g h : Graph) → IsSeenAs name words start g → length words < 2 ^ 64 → IsWhole h → IsPrintable h → (canon_text (canon g) ≡ canon_text (canon h)) ↔ AreIsomorphic g h }
+/// The text of a graph that is seen in words is that of just those whole graphs, of numbers below 2^64, that are the same up to renaming objects.
+pub fn seen_text_tells_renaming()
+    ensures { (name : ℕ → Id) (words : List ℕ) (start : ℕ) (g h : Graph) → IsSeenAs name words start g → length words < 2 ^ 64 → IsWhole h → IsPrintable h → (canon_text (canon g) ≡ canon_text (canon h)) ↔ AreRenamed g h }
 {}
 
 /// Where the walk of the words passes and births differ, a graph is seen.

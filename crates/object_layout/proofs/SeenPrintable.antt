@@ -18,7 +18,7 @@ use Rattle.graph_model.proofs.Whole.Graph.{itself}
 use Rattle.graph_model.specs.Canon.{Reached, numbered, canon}
 use Rattle.graph_model.proofs.Canon.Numbers.{numbered-Reached, numbered-IsDistinct}
 use Rattle.graph_model.specs.ClosedGraph.{IsWhole}
-use Rattle.graph_model.specs.Isomorphism.{AreIsomorphic}
+use Rattle.graph_model.proofs.Canon.Isomorphism.{AreIsomorphic}
 use Rattle.graph_model.proofs.Canon.Matches.{match_there}
 use Rattle.graph_model.specs.Printable.{IsPrintable}
 use Rattle.graph_model.proofs.Text.Printable.{text_tells_isomorphism}

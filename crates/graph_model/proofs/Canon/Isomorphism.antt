@@ -10,12 +10,16 @@ use Rattle.graph_model.specs.declared.val.Val.TheVariants.{Null, Int, Ref}
 use Rattle.graph_model.specs.Graph.{Graph, root, fields}
 use Rattle.graph_model.specs.Canon.{Reached, numbered, Object, shown, canon}
 use Rattle.graph_model.specs.ClosedGraph.{IsWhole}
-use Rattle.graph_model.specs.Isomorphism.{MatchValues, MatchRows, IsIsomorphism, AreIsomorphic}
+use Rattle.graph_model.specs.Isomorphism.{MatchValues, MatchRows, IsIsomorphism}
 use Rattle.graph_model.proofs.Canon.Match.{IsMatch}
 use Rattle.graph_model.proofs.Canon.Matches.{canon_match}
 use Rattle.graph_model.proofs.Canon.MatchRows.{tests_alike}
 use Rattle.graph_model.proofs.Runs.Over.{IsNumbered, AreNumbered, numbered_over}
 use Rattle.graph_model.proofs.Canon.Numbering.{numbered_first, reached_numbered, number_reached, number_once, canon_row, shown_reference}
+
+-- there is a one-to-one match of what the roots reach that keeps fields
+abbrev pub AreIsomorphic : Graph → Graph → Type 1
+AreIsomorphic g h = (R : Id → Id → Type 0) × IsIsomorphism R g h
 
 -- the objects of two graphs that have one number
 abbrev pub HaveOneNumber : Graph → Graph → Id → Id → Type 0

@@ -5,7 +5,8 @@ use Rattle.graph_model.specs.declared.id.Id.{Id}
 use Rattle.graph_model.specs.Graph.{Graph, root, fields}
 use Rattle.graph_model.specs.Canon.{Reached, at_root, along}
 use Rattle.graph_model.specs.Transaction.{Transaction, fresh_view, run, replies, serial, serial_replies}
-use Rattle.graph_model.specs.Isomorphism.{MatchRows, IsIsomorphism, AreIsomorphic}
+use Rattle.graph_model.specs.Isomorphism.{MatchRows, IsIsomorphism}
+use Rattle.graph_model.proofs.Canon.Isomorphism.{AreIsomorphic}
 use Rattle.graph_model.proofs.Canon.MatchRows.{rows_wider, rows_reference, rows_turned, rows_both}
 use Rattle.graph_model.specs.NewNumbers.{IsNewNumber, HaveNewNumbers, HaveOwnNumbers}
 use Rattle.graph_model.proofs.Runs.AlikeViews.{WithMade, MatchRegisters, AreAlike, IsOneToOne, IsApartFrom}

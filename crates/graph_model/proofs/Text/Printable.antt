@@ -12,8 +12,7 @@ use Rattle.graph_model.specs.Graph.{Graph, is_same_id, fields}
 use Rattle.graph_model.specs.Canon.{Reached, numbered, shown, canon}
 use Rattle.graph_model.proofs.Canon.Numbers.{numbered-Reached}
 use Rattle.graph_model.specs.ClosedGraph.{IsWhole}
-use Rattle.graph_model.specs.Isomorphism.{AreIsomorphic}
-use Rattle.graph_model.proofs.Canon.Isomorphism.{canon_tells_isomorphism}
+use Rattle.graph_model.proofs.Canon.Isomorphism.{AreIsomorphic, canon_tells_isomorphism}
 use Rattle.graph_model.proofs.Canon.NumberedRows.{rows_of}
 use Rattle.graph_model.specs.Printable.{IsPrintable}
 use Rattle.graph_model.proofs.Text.Short.{IsShort, AreShort}
