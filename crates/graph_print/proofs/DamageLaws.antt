@@ -1,10 +1,18 @@
 -- Damage is told at one address, and nowhere where a graph is seen.
-use Rattle.std.proofs.Common.{◌≡◌, ℕ, ◌<◌, inl, inr, List, [], ◌∷◌, Some, None, refl, sym, ap, ◌∙◌, subst, arith}
-use Rattle.std.specs.Prelude.{slice_get}
+use Rattle.std.proofs.Common.{◌≡◌, ℕ, zero, suc, ◌<◌, inl, inr, List, [], ◌∷◌, map, Option, Some, None, refl, sym, ap, ◌∙◌, subst, arith}
+use Rattle.std.specs.Prelude.{slice_get, IsSome}
+use Rattle.std.specs.Option.{option_and_then}
 use Rattle.std.proofs.lemmas.Option.{same_Some}
 use Rattle.std.proofs.lemmas.Bool.{cases_order}
-use Rattle.object_layout.specs.Layout.{field_words, stand}
-use Rattle.graph_print.specs.Order.{with_places, targets, AreWhole, IsOrder, first, next, IsDamage, no_root, no_object}
+use Rattle.heap_words.specs.declared.Word.{Word}
+use Rattle.heap_words.specs.declared.Word.TheVariants as word
+use Rattle.heap_words.specs.Word.{meaning}
+use Rattle.graph_model.specs.declared.id.Id.{Id}
+use Rattle.graph_model.specs.declared.val.Val.{Val}
+use Rattle.graph_model.specs.Graph.{Graph}
+use Rattle.object_layout.specs.Layout.{field_words, stand, as_ref, value, IsSeenAs}
+use Rattle.graph_print.specs.Order.{with_places, targets, IsWhole, AreWhole, IsOrder, first, next, IsDamage, no_root, no_object}
+use Rattle.graph_print.proofs.OrderLaws.{order_met, met_get}
 
 -- the order is one at each count
 pub order_one : (words : List ℕ) (start c d : ℕ) (p q : List ℕ) → c ≡ d → IsOrder words start c p → IsOrder words start d q → p ≡ q
@@ -61,3 +69,30 @@ complete_damage words start count places at order over (no_object {count = d} {p
           let same_places = order_one words start count count places visited.places refl order visited.order in
           let clash = sym over ∙ ap (λ xs. slice_get xs count) same_places ∙ visited.is in cc
     ]
+
+some_place : (name : ℕ → Id) (o : Option ℕ) (v : Val) → option_and_then (as_ref name) o ≡ Some v → IsSome o
+some_place name None v is = cc
+some_place name (Some b) v is = refl
+
+value_whole : (name : ℕ → Id) (words : List ℕ) (meant : Option Word) (v : Val) → value name words meant ≡ Some v → IsWhole words meant
+value_whole name words None v is = cc
+value_whole name words (Some word.Null) v is = tt
+value_whole name words (Some (word.Int n)) v is = tt
+value_whole name words (Some (word.Stable b)) v is = some_place name (stand words b) v is
+value_whole name words (Some (word.Volatile k)) v is = cc
+
+values_whole : (name : ℕ → Id) (words ws : List ℕ) (vs : List Val) → map (λ w. value name words (meaning w)) ws ≡ map Some vs → AreWhole words ws
+values_whole name words [] vs is i w here = cc
+values_whole name words (x ∷ ws) [] is i w here = cc
+values_whole name words (x ∷ ws) (v ∷ vs) is zero w here =
+    let same : value name words (meaning x) ≡ Some v = cc in
+    subst (λ (y : ℕ). IsWhole words (meaning y)) (same_Some x w here) (value_whole name words (meaning x) v same)
+values_whole name words (x ∷ ws) (v ∷ vs) is (suc i) w here =
+    let rest : map (λ y. value name words (meaning y)) ws ≡ map Some vs = cc in values_whole name words ws vs rest i w here
+
+-- where a graph is seen there is none
+pub seen_damage : (name : ℕ → Id) (words : List ℕ) (start : ℕ) (g : Graph) (at : ℕ) → IsSeenAs name words start g → IsDamage words start at → ⊥
+seen_damage name words start g at seen (no_root none) = let clash = sym none ∙ seen.stands in cc
+seen_damage name words start g at seen (no_object {count = c} {places = p} x order is out) =
+    let known = seen.known at (met_get words start p c at (order_met words start c p order) is) in
+    out (values_whole name words (field_words words at) known.fields known.values)

@@ -2,6 +2,7 @@
 pub mod Bytes
 pub mod Fix
 pub mod Follow
+pub mod Nothing
 pub mod Records
 pub mod Seal
 pub mod Sealed

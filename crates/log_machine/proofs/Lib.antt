@@ -7,6 +7,8 @@ pub mod ListLaws
 pub mod Lists
 pub mod MachineLaws
 pub mod MapLaws
+pub mod Promotion
+pub mod PromotionLaws
 pub mod ReplayLaws
 pub mod ReserveLaws
 pub mod Seen

@@ -1,5 +1,5 @@
 -- Words that are put one after another from an address on.
-use Rattle.std.proofs.Common.{◌≡◌, ℕ, ◌+◌, ◌<◌, ◌≤◌, suc, List, [], ◌∷◌, ◌++◌, length, get_or, take, drop, set, refl, ap, ◌∙◌, subst, arith}
+use Rattle.std.proofs.Common.{◌≡◌, ℕ, ◌+◌, ◌<◌, ◌≤◌, zero, suc, List, [], ◌∷◌, ◌++◌, length, get_or, take, drop, set, refl, ap, ◌∙◌, subst, arith, length-set, get_or-set_same, get_or-set_other}
 use Rattle.std.specs.List.{AllByRecursion, enumerate_from}
 use Rattle.std.proofs.lemmas.List.{take_more, length-take-le}
 use Rattle.std.proofs.lemmas.List.Edits.{sets, sets-eq}
@@ -41,3 +41,28 @@ put_sets now address (w ∷ ws) =
 -- the words with these put from an address on: those before it, these, and those behind them
 pub put_from : (now : List ℕ) (address : ℕ) (words : List ℕ) → address + length words ≤ length now → put_all now (enumerate_from address words) ≡ take address now ++ words ++ drop (address + length words) now
 put_from now address words fits = put_sets now address words ∙ sets-eq words now address fits
+
+-- those before the address stay as they were
+pub put_from-before : (now : List ℕ) (address i : ℕ) (words : List ℕ) → i < address → get_or (put_all now (enumerate_from address words)) i 0 ≡ get_or now i 0
+put_from-before now address i [] lt = refl
+put_from-before now address i (w ∷ ws) lt =
+    put_from-before (set now address w) (address + 1) i ws (omega arith) ∙ get_or-set_other now address i w 0 (omega arith)
+
+-- each of them stands at its address
+pub put_from-at : (now : List ℕ) (address i : ℕ) (words : List ℕ) → address + length words ≤ length now → i < length words → get_or (put_all now (enumerate_from address words)) (address + i) 0 ≡ get_or words i 0
+put_from-at now address i [] fits lt = absurd (omega arith)
+put_from-at now address zero (w ∷ ws) fits lt =
+    let here : address + 0 ≡ address = omega arith in
+    ap (λ (a : ℕ). get_or (put_all (set now address w) (enumerate_from (address + 1) ws)) a 0) here
+    ∙ put_from-before (set now address w) (address + 1) address ws (omega arith)
+    ∙ get_or-set_same now address w 0 (omega arith)
+put_from-at now address (suc i) (w ∷ ws) fits lt =
+    let here : address + suc i ≡ address + 1 + i = omega arith in
+    let size = length-set now address w in
+    ap (λ (a : ℕ). get_or (put_all (set now address w) (enumerate_from (address + 1) ws)) a 0) here ∙ put_from-at (set now address w) (address + 1) i ws (omega arith) (omega arith)
+
+-- those behind them stay as they were
+pub put_from-behind : (now : List ℕ) (address i : ℕ) (words : List ℕ) → address + length words ≤ i → get_or (put_all now (enumerate_from address words)) i 0 ≡ get_or now i 0
+put_from-behind now address i [] le = refl
+put_from-behind now address i (w ∷ ws) le =
+    put_from-behind (set now address w) (address + 1) i ws (omega arith) ∙ get_or-set_other now address i w 0 (omega arith)

@@ -1,5 +1,5 @@
 -- The transaction that a lock is refused for is the one of the relations: the least in conflict with it.
-use Rattle.std.proofs.Common.{◌≡◌, inl, inr, ℕ, ◌≤◌, Bool, true, false, List, [], ◌∷◌, Option, None, Some, Less, Equal, Greater, refl, sym, ap, ◌∙◌, arith}
+use Rattle.std.proofs.Common.{◌≡◌, inl, inr, ℕ, ◌≤◌, Bool, true, false, List, [], ◌∷◌, Option, None, Some, Less, Equal, Greater, refl, sym, ap, ◌∙◌, subst, arith}
 use Rattle.std.specs.Prelude.{◌||◌, cond, MatchOption}
 use Rattle.std.specs.FinSet as set
 use Rattle.std.specs.List.{list_any}
@@ -133,3 +133,7 @@ find_free held asked free = sym (holder_found held asked None free)
 
 pub find_least : (held : Holdings) (asked : Holding) (t : ℕ) → IsLeastInConflict held asked t → holder_of held asked ≡ Some t
 find_least held asked t least = sym (holder_found held asked (Some t) least)
+
+-- and back
+pub free_found : (held : Holdings) (asked : Holding) → holder_of held asked ≡ None → IsFree held asked
+free_found held asked is = subst (λ (o : Option ℕ). MatchOption o (IsFree held asked) (IsLeastInConflict held asked)) is (holder_is held asked)

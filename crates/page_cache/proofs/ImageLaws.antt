@@ -1,14 +1,17 @@
 -- Laws of images: which of them have the same pages stored, and which have pages that were never stored.
-use Rattle.std.proofs.Common.{◌≡◌, ℕ, ◌+◌, ◌-◌, ◌*◌, ◌<◌, ◌≤◌, zero, suc, false, List, ◌∷◌, length, take, drop, set, replicate, map, sym, ap, ◌∙◌, arith}
+use Rattle.std.proofs.Common.{◌≡◌, ℕ, ◌+◌, ◌-◌, ◌*◌, ◌<◌, ◌≤◌, zero, suc, false, List, ◌∷◌, length, take, drop, set, replicate, map, sym, subst, ap, ◌∙◌, arith}
 use Rattle.std.specs.List.{range_with_len}
 use Rattle.std.proofs.lemmas.List.{length-replicate, get_or-replicate, take-replicate, drop-replicate}
 use Rattle.std.proofs.lemmas.List.FromFn.{fill_by_all, length-map-range_with_len}
 use Rattle.disk_model.specs.Disk.{SameOutside}
 use Rattle.image_plan.specs.Plan.{log_offset}
+use Rattle.log_records.specs.declared.Record.{Record}
 use Rattle.log_machine.specs.Machine.{first_contents, words_in}
 use Rattle.log_machine.proofs.WordsLaws.{length-first_contents}
 use Rattle.page_redo.specs.Pages.{Pages, pages_in, page_words, lsn_of, first_pages}
 use Rattle.page_redo.proofs.PageLaws.{alike_pages}
+use Rattle.page_redo.specs.Prefix.{EachHoldsPrefix}
+use Rattle.page_redo.proofs.PrefixLaws.{first_pages-prefixes}
 use Rattle.page_store.specs.declared.frame.Frame.{Frame}
 use Rattle.page_store.specs.declared.frame.Frame.TheVariants.{First, Second}
 use Rattle.page_store.specs.Frame.{is_frame_open}
@@ -65,3 +68,6 @@ module _ (pages log_bytes : ℕ) where
     none_stored = are_stored image (first_pages pages) (length-first_contents pages) (length-replicate (pages_in pages) 0) (λ p lt.
         let never = never_stored log_bytes p image (shut p lt First) (shut p lt Second) in
         record { lsn_is = never.lsn_is ∙ sym (get_or-replicate (pages_in pages) p 0 0 lt); words_are = never.words_are ∙ sym (first_contents-page pages p lt) })
+    -- so the pages of a new heap may stand beside any records
+    pub none_stored-prefixes : (records : List Record) → EachHoldsPrefix pages records (stored_pages pages log_bytes image)
+    none_stored-prefixes records = subst (EachHoldsPrefix pages records) (sym none_stored) (first_pages-prefixes pages records)

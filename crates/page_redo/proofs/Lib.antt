@@ -1,3 +1,4 @@
+pub mod OnePage
 pub mod PageLaws
 pub mod PrefixLaws
 pub mod RedoLaws

@@ -1,9 +1,9 @@
 -- Laws of pages: what is put on one page leaves the others as they were.
-use Rattle.std.proofs.Common.{◌≡◌, ℕ, ◌+◌, ◌-◌, ◌*◌, ◌<◌, ◌≤◌, Bool, true, false, List, [], ◌∷◌, length, get_or, set, refl, sym, ap, subst, ◌∙◌, arith, inl, inr, ⊎_elim, length-set, get_or-set_same, get_or-set_other, drop, get_or-take, get_or-drop, length-take, length-drop}
+use Rattle.std.proofs.Common.{◌≡◌, ℕ, ◌+◌, ◌-◌, ◌*◌, ◌<◌, ◌≤◌, Bool, true, false, List, [], ◌∷◌, ◌++◌, length, get_or, set, refl, sym, ap, subst, ◌∙◌, arith, inl, inr, ⊎_elim, length-set, get_or-set_same, get_or-set_other, take, drop, get_or-take, get_or-drop, length-take, length-drop, length-append, append_assoc}
 use Rattle.std.specs.List.{filter, list_any}
 use Rattle.std.specs.Prelude.{◌==◌, map, max}
 use Rattle.std.proofs.lemmas.Bool.{cases_Bool, cases_eq, cases_lt, eqb-true, eq-eqb, both_ways, or_parts, cond-true, cond-false, false≢true, or_cases}
-use Rattle.std.proofs.lemmas.List.{get_or_past, ext_get_or}
+use Rattle.std.proofs.lemmas.List.{get_or_past, ext_get_or, length-take-le, drop_at, take_at, get_or_append_left, get_or-append_right}
 use Rattle.log_machine.specs.Machine.{put_all, words_in}
 use Rattle.page_redo.specs.Pages.{page_of, page_words, pages_in}
 use Rattle.page_redo.specs.Redo.{raised_to}
@@ -128,3 +128,41 @@ alike_page p xs ys size same =
 -- two lists of words that are alike on each page are one
 pub alike_pages : (pages : ℕ) (xs ys : List ℕ) → length xs ≡ words_in pages → length ys ≡ words_in pages → ((p : ℕ) → p < pages_in pages → page_words xs p ≡ page_words ys p) → xs ≡ ys
 alike_pages pages xs ys size size' same = ext_get_or 0 xs ys (size ∙ sym size') (λ a lt. page_alike (page_of a) a xs ys (same (page_of a) (omega arith)) refl)
+
+-- Words that are put in the place of one page.
+module _ (p : ℕ) (page xs : List ℕ) (size : length page ≡ 64) (fits : 64 * p + 64 ≤ length xs) where
+  abbrev new : List ℕ
+  new = take (64 * p) xs ++ page ++ drop (64 * p + 64) xs
+  front : length (take (64 * p) xs) ≡ 64 * p
+  front = length-take-le (64 * p) xs (omega arith)
+  -- those in front of it and those of it
+  both : length (take (64 * p) xs ++ page) ≡ 64 * p + 64
+  both = omega (arith, length-append (take (64 * p) xs) page, front)
+  pub length-with_words : length new ≡ length xs
+  length-with_words = omega (arith, length-append (take (64 * p) xs ++ page) (drop (64 * p + 64) xs), both, length-drop (64 * p + 64) xs)
+  -- are the words of that page
+  pub with_words-same : page_words new p ≡ page
+  with_words-same =
+      ap (λ (l : List ℕ). page_words l p) (append_assoc (take (64 * p) xs) page (drop (64 * p + 64) xs))
+      ∙ ap (take 64) (drop_at (take (64 * p) xs) (page ++ drop (64 * p + 64) xs) (64 * p) front)
+      ∙ take_at page (drop (64 * p + 64) xs) 64 size
+  word_before : (a : ℕ) → a < 64 * p → get_or new a 0 ≡ get_or xs a 0
+  word_before a lt =
+      get_or_append_left (take (64 * p) xs ++ page) (drop (64 * p + 64) xs) 0 a (omega (arith, both))
+      ∙ get_or_append_left (take (64 * p) xs) page 0 a (omega (arith, front))
+      ∙ get_or-take (64 * p) xs a 0 lt
+  word_behind : (a : ℕ) → 64 * p + 64 ≤ a → get_or new a 0 ≡ get_or xs a 0
+  word_behind a le =
+      let there : 64 * p + 64 + (a - (64 * p + 64)) ≡ a = omega arith in
+      get_or-append_right (take (64 * p) xs ++ page) (drop (64 * p + 64) xs) (64 * p + 64) a 0 both le
+      ∙ get_or-drop (64 * p + 64) xs (a - (64 * p + 64)) 0
+      ∙ ap (λ (i : ℕ). get_or xs i 0) there
+  -- and leave the other pages as they were
+  pub with_words-other : (q : ℕ) → (q ≡ p → ⊥) → page_words new q ≡ page_words xs q
+  with_words-other q apart = alike_page q new xs length-with_words (λ a there. elim (cases_lt a (64 * p)) [
+    | inl before ↦ word_before a before
+    | inr from ↦ elim (cases_lt a (64 * p + 64)) [
+      | inl here ↦ let same : q ≡ p = omega arith in absurd (apart same)
+      | inr behind ↦ word_behind a behind
+    ]
+  ])

@@ -1,14 +1,16 @@
 -- Laws of stored pages: redo makes them the present ones, and what may be stored in their place.
-use Rattle.std.proofs.Common.{◌≡◌, ℕ, ◌+◌, ◌<◌, ◌≤◌, List, [], ◌++◌, length, get_or, take, refl, sym, ap, ◌∙◌, arith, length-append, length-take}
+use Rattle.std.proofs.Common.{◌≡◌, ℕ, ◌+◌, ◌*◌, ◌<◌, ◌≤◌, List, [], ◌++◌, length, get_or, take, refl, sym, ap, subst, ◌∙◌, arith, inl, inr, length-set, length-append, length-take, get_or-set_same, get_or-set_other}
 use Rattle.std.specs.Prelude.{max}
-use Rattle.std.proofs.lemmas.List.{take_all, take-take, take-append-le, length-replicate, get_or-replicate}
+use Rattle.std.proofs.lemmas.Bool.{cases_eq}
+use Rattle.std.proofs.lemmas.List.{take_all, take_at, take-take, take-append-le, length-replicate, get_or-replicate}
 use Rattle.log_records.specs.declared.Record.{Record}
 use Rattle.log_machine.specs.Machine.{words}
 use Rattle.log_machine.proofs.WordsLaws.{length-words, length-first_contents}
 use Rattle.page_redo.specs.Pages.{Pages, pages_in, page_of, page_words, lsn_of, first_pages}
-use Rattle.page_redo.specs.Redo.{redone}
+use Rattle.page_redo.proofs.OnePage.{with_page}
+use Rattle.page_redo.specs.Redo.{redo_all, redone}
 use Rattle.page_redo.specs.Prefix.{HoldsPrefix, EachHoldsPrefix, IsPresent}
-use Rattle.page_redo.proofs.PageLaws.{page_alike, alike_page, alike_pages}
+use Rattle.page_redo.proofs.PageLaws.{page_alike, alike_page, alike_pages, length-with_words, with_words-same, with_words-other}
 use Rattle.page_redo.proofs.RedoSteps.{IsRedoneTo, redone_to_end}
 
 -- Redo.
@@ -58,6 +60,41 @@ redone-present pages records stored legal = at_end pages records (redone stored 
 pub redone-words : (pages : ℕ) (records : List Record) (stored : Pages) → EachHoldsPrefix pages records stored → (redone stored records).words ≡ words pages records
 redone-words pages records stored legal = (redone-present pages records stored legal).present
 
+-- where more records follow those of present pages, these are the ones that have been redone
+from_present : (pages : ℕ) (records more : List Record) (at : Pages) → IsPresent pages records at → IsRedoneTo pages (records ++ more) (length records) at
+from_present pages records more at is =
+    let longer = length-append records more in
+    let front : take (length records) (records ++ more) ≡ records = take_at records more (length records) refl in
+    let now : (a : ℕ) → get_or (words pages (take (length records) (records ++ more))) a 0 ≡ get_or at.words a 0 = λ a.
+    ap (λ (l : List Record). get_or (words pages l) a 0) front ∙ ap (λ (l : List ℕ). get_or l a 0) (sym is.present) in
+    record {
+      size = is.prefixes.size;
+      lsns_size = is.prefixes.lsns_size;
+      reached = λ p lt. omega (arith, longer, (is.prefixes.each p lt).reached);
+      same = λ p a lt there.
+          let last : length records ≡ max (length records) (lsn_of at p) = omega (arith, (is.prefixes.each p lt).reached) in
+          sym (now a) ∙ ap (λ (k : ℕ). get_or (words pages (take k (records ++ more))) a 0) last;
+      own = λ p a lt le there.
+          now a
+          ∙ page_alike p a at.words (words pages (take (lsn_of at p) records)) (is.prefixes.each p lt).same there
+          ∙ ap (λ (l : List Record). get_or (words pages l) a 0) (sym (take-append-le (lsn_of at p) records more le));
+    }
+
+-- records that are put on present pages leave present ones
+pub present-append : (pages : ℕ) (records more : List Record) (at : Pages) → IsPresent pages records at → IsPresent pages (records ++ more) (redo_all (length records + 1) at more)
+present-append pages records more at is =
+    at_end pages (records ++ more) (redo_all (length records + 1) at more) (redone_to_end pages records more (records ++ more) (length records) at refl refl (from_present pages records more at is))
+
+-- a page that no record has changed since it was stored is the present one
+pub stored_is_present : (pages : ℕ) (records : List Record) (stored : Pages) (p : ℕ) → EachHoldsPrefix pages records stored → p < pages_in pages
+    → lsn_of stored p ≡ lsn_of (redone stored records) p → page_words stored.words p ≡ page_words (words pages records) p
+stored_is_present pages records stored p legal lt same =
+    let now = redone-present pages records stored legal in
+    (legal.each p lt).same
+    ∙ ap (λ (k : ℕ). page_words (words pages (take k records)) p) same
+    ∙ sym (now.prefixes.each p lt).same
+    ∙ ap (λ (l : List ℕ). page_words l p) now.present
+
 -- What may be stored.
 
 -- one page may stand beside more records
@@ -100,3 +137,29 @@ EachHoldsPrefix-append pages records more at is = record {
   lsns_size = is.lsns_size;
   each = λ p lt. HoldsPrefix-append pages records more p (lsn_of at p) (page_words at.words p) (is.each p lt);
 }
+
+pub EachHoldsPrefix-take : (pages : ℕ) (records : List Record) (n : ℕ) (at : Pages) → EachHoldsPrefix pages records at → ((p : ℕ) → p < pages_in pages → lsn_of at p ≤ n) → EachHoldsPrefix pages (take n records) at
+EachHoldsPrefix-take pages records n at is le = record {
+  size = is.size;
+  lsns_size = is.lsns_size;
+  each = λ p lt. HoldsPrefix-take pages records n p (lsn_of at p) (page_words at.words p) (is.each p lt) (le p lt);
+}
+
+-- a page that holds as many records as its new LSN says may be stored
+pub EachHoldsPrefix-with_page : (pages : ℕ) (records : List Record) (at : Pages) (p lsn : ℕ) (page : List ℕ) → EachHoldsPrefix pages records at → p < pages_in pages
+    → length page ≡ 64 → HoldsPrefix pages records p lsn page → EachHoldsPrefix pages records (with_page at p lsn page)
+EachHoldsPrefix-with_page pages records at p lsn page is lt size here =
+    let fits : 64 * p + 64 ≤ length at.words = omega (arith, is.size) in
+    let P : ℕ → ℕ → List ℕ → Type 0 = HoldsPrefix pages records in
+    record {
+      size = length-with_words p page at.words size fits ∙ is.size;
+      lsns_size = length-set at.lsns p lsn ∙ is.lsns_size;
+      each = λ q lt'. elim (cases_eq q p) [
+        | inl same ↦ subst (λ (i : ℕ). P i (lsn_of (with_page at p lsn page) i) (page_words (with_page at p lsn page).words i)) (sym same)
+            (subst (λ (l : List ℕ). P p (lsn_of (with_page at p lsn page) p) l) (sym (with_words-same p page at.words size fits))
+            (subst (λ (k : ℕ). P p k page) (sym (get_or-set_same at.lsns p lsn 0 (omega (arith, is.lsns_size)))) here))
+        | inr apart ↦
+            subst (λ (l : List ℕ). P q (lsn_of (with_page at p lsn page) q) l) (sym (with_words-other p page at.words size fits q apart))
+            (subst (λ (k : ℕ). P q k (page_words at.words q)) (sym (get_or-set_other at.lsns p q lsn 0 apart)) (is.each q lt'))
+      ];
+    }

@@ -1,8 +1,8 @@
 -- What becomes of an image's pages when bytes of it are written.
-use Rattle.std.specs.Prelude.{◌≡◌, ◌≢◌, ◌⊎◌, ℕ, ◌+◌, ◌^◌, ◌<◌, ◌≤◌, false, List, length, Some}
+use Rattle.std.specs.Prelude.{◌≡◌, ◌≢◌, ◌⊎◌, ℕ, ◌+◌, ◌^◌, ◌<◌, ◌≤◌, false, List, length, take, Some}
 use Rattle.std.proofs.Common.{refl, sym, ap, ◌∙◌, inl, inr, get_or, subst, arith}
 use Rattle.std.proofs.lemmas.Bool.{cases_lt, eq-eqb}
-use Rattle.disk_model.specs.Disk.{SameOutside}
+use Rattle.disk_model.specs.Disk.{part, SameOutside}
 use Rattle.gate_slot.proofs.ImageLaws.{same_part}
 use Rattle.image_plan.specs.Plan.{log_offset, frame_offset}
 use Rattle.page_store.specs.declared.frame.Frame.{Frame}
@@ -42,6 +42,15 @@ module _ (log_bytes : ℕ) where
     other_pages q apart = same_page q old new (other_frames q apart)
     pub other_counts : (q : ℕ) → q ≢ p → page_frame log_bytes q new ≡ page_frame log_bytes q old
     other_counts q apart = same_frame q old new (other_frames q apart)
+    -- and so all bytes before the page, those of the superblock and the log among them
+    pub part_before : (at n : ℕ) → at + n ≤ frame_offset log_bytes p 0 → part new at n ≡ part old at n
+    part_before at n before = same_part at n old new but.size (λ i above below. but.before i (omega arith))
+    -- so the superblock is as it was
+    pub same_superblock : take log_offset new ≡ take log_offset old
+    same_superblock = part_before 0 log_offset (omega arith)
+    -- and the log
+    pub same_log : part new log_offset log_bytes ≡ part old log_offset log_bytes
+    same_log = part_before log_offset log_bytes (omega arith)
   module _ (old new : List ℕ) (behind : SameOutside log_offset (log_offset + log_bytes) old new) where
     -- where only bytes of the log differ, each frame is the same
     pub frames_behind_log : (p : ℕ) (frame : Frame) → frame_of log_bytes p new frame ≡ frame_of log_bytes p old frame

@@ -1,5 +1,5 @@
 -- Laws of what is promoted: it is just what is reached.
-use Rattle.std.proofs.Common.{◌≡◌, ℕ, zero, suc, ◌≤◌, ◌⊎◌, inl, inr, List, [], ◌∷◌, length, true, Option, None, Some, refl, ap, ◌∙◌, subst, arith}
+use Rattle.std.proofs.Common.{◌≡◌, ℕ, zero, suc, ◌≤◌, ◌⊎◌, inl, inr, List, [], ◌∷◌, length, true, Option, None, Some, refl, sym, ap, ◌∙◌, subst, arith}
 use Rattle.std.specs.Prelude.{slice_get, Contains, filter}
 use Rattle.std.specs.List.{list_any}
 use Rattle.std.specs.List.Sorted.{IsStrictlyIncreasing}
@@ -161,5 +161,13 @@ pub promoted_one : (area : AreaState) (written xs : List ℕ) → IsStrictlyIncr
     → xs ≡ promoted area written
 promoted_one area written xs rises only all =
     same_rising xs (promoted area written) rises (promoted_increase area written) (λ at has. reached_promoted area written at (only at has)) (λ at has. all at (promoted_reached area written at has))
+
+-- where no word that was written refers to an object, none is promoted
+pub promoted_none : (area : AreaState) (written : List ℕ) → ((i w at : ℕ) → slice_get written i ≡ Some w → meaning w ≡ Some (Volatile at) → Contains (starts_of area) at → ⊥) → promoted area written ≡ []
+promoted_none area written no_word = sym (promoted_one area written [] (λ k within. absurd (omega arith)) (λ at has. absurd (Contains-none at has)) (λ at reached. absurd (none at reached)))
+  where
+    none : (at : ℕ) → IsReached area written at → ⊥
+    none at (named i w is meant start) = no_word i w at is meant start
+    none at (along from i w reached is meant start) = none from reached
 
 -- What the objects take.

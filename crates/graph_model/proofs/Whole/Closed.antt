@@ -1,7 +1,7 @@
 -- Laws of closed graphs: transactions keep them closed, which objects are there, and that no object's length changes.
-use Rattle.std.proofs.Common.{◌≡◌, ◌≢◌, ◌⊎◌, inl, inr, ℕ, zero, suc, ◌+◌, ◌<◌, ◌≤◌, List, [], ◌∷◌, length, replicate, Option, Some, None, refl, sym, ap, ◌∙◌, subst, arith}
+use Rattle.std.proofs.Common.{◌≡◌, ◌≢◌, ◌⊎◌, inl, inr, ℕ, zero, suc, ◌+◌, ◌<◌, ◌≤◌, List, [], ◌∷◌, length, replicate, Option, Some, None, unwrap_or, refl, sym, ap, ◌∙◌, subst, arith}
 use Rattle.std.specs.Prelude.{slice_get, slice_set, slice_index_or}
-use Rattle.std.specs.FinMap.{empty, get, insert}
+use Rattle.std.specs.FinMap.{empty, get, insert, get-empty}
 use Rattle.std.proofs.lemmas.Bool.{cases_lt}
 use Rattle.std.proofs.lemmas.List.{length-set}
 use Rattle.std.proofs.lemmas.Option.{same_Some}
@@ -10,11 +10,12 @@ use Rattle.graph_model.specs.declared.val.Val.{Val}
 use Rattle.graph_model.specs.declared.val.Val.TheVariants.{Null, Int, Ref}
 use Rattle.graph_model.specs.declared.event.Event.{Event}
 use Rattle.graph_model.specs.declared.event.Event.TheVariants.{Begin, Root, New, Put, Clear, Link, Drop, Get, Same, Len, Seal, Abort, Force, Flush}
-use Rattle.graph_model.specs.Graph.{Graph, root, fields}
+use Rattle.graph_model.specs.Graph.{Graph, id_cmp, root, fields, new_graph}
 use Rattle.graph_model.proofs.Whole.Graph.{same_or_other, get-insert_same, get-insert_other, fields_by_insert, get_by_insert}
+use Rattle.graph_model.specs.Canon.{at_root, along}
 use Rattle.graph_model.specs.Transaction.{Registers, View, Transaction, held, fields_of, put_value, with_referred, next_id, make, write, reference_to, call, after_calls, fresh_view, run}
 use Rattle.graph_model.proofs.Runs.History.{held-no_registers}
-use Rattle.graph_model.specs.ClosedGraph.{IsThere, IsClosed, IsUnused}
+use Rattle.graph_model.specs.ClosedGraph.{IsThere, IsWhole, IsClosed, IsUnused}
 use Rattle.graph_model.proofs.Whole.Names.{SeesClosed, IsNameOf}
 
 -- each reference among these values leads to an object that is there
@@ -111,6 +112,11 @@ IsClosed-put_value g (Some id) i x leads closed =
       | inr was ↦ closed.targets id j target was
     ]))
     closed
+
+-- in a closed graph all that is reached is there
+pub closed_whole : (g : Graph) → IsClosed g → IsWhole g
+closed_whole g closed id at_root = closed.root_there
+closed_whole g closed id (along {id = from} i target reached is) = closed.targets from i target is
 
 -- what a reference leads to that is read of a field
 pub read_there : (g : Graph) (o : Option Id) (i : ℕ) (target : Id) → IsClosed g → slice_index_or (fields_of g o) i Null ≡ Ref target → IsThere g target
@@ -321,3 +327,12 @@ length-fields-after_calls v t (c ∷ cs) q other =
 -- a transaction changes no length of an object that another made
 pub length-fields-run : (g : Graph) (t : Transaction) (q : Id) → q.t ≢ t.number → length (fields (run g t).graph q) ≡ length (fields g q)
 length-fields-run g t q other = length-fields-after_calls (fresh_view g) t.number t.calls q other
+
+-- the graph of a new heap is closed
+pub new_graph-IsClosed : IsClosed new_graph
+new_graph-IsClosed = record {
+  root_there = (replicate 4 Null, get-insert_same empty root (replicate 4 Null));
+  targets = λ id. fields_by_insert (LeadTo new_graph) empty root id (replicate 4 Null)
+      (λ same i target is. let clash = slice_get-replicate 4 i Null (Ref target) is in cc)
+      (λ other i target is. let nothing = ap (λ o. slice_get (unwrap_or o []) i) (get-empty {X = List Val} id_cmp id) in cc);
+}

@@ -8,13 +8,13 @@ use Rattle.graph_model.specs.declared.val.Val.{Val}
 use Rattle.graph_model.specs.declared.val.Val.TheVariants.{Null, Int, Ref}
 use Rattle.graph_model.specs.declared.event.Event.{Event}
 use Rattle.graph_model.specs.declared.event.Event.TheVariants.{Begin, Root, New, Put, Clear, Link, Drop, Get, Same, Len, Seal, Abort, Force, Flush}
-use Rattle.graph_model.specs.Graph.{Graph, root, fields}
+use Rattle.graph_model.specs.Graph.{Graph, root, fields, new_graph}
 use Rattle.graph_model.proofs.Whole.Graph.{get-insert_same, fields_by_insert}
 use Rattle.graph_model.specs.Canon.{Reached, at_root, along}
 use Rattle.graph_model.specs.Transaction.{Registers, View, Transaction, held, fields_of, put_value, with_referred, next_id, make, write, reference_to, call, after_calls, fresh_view, run, serial}
 use Rattle.graph_model.proofs.Runs.History.{held-no_registers}
 use Rattle.graph_model.specs.ClosedGraph.{IsThere, IsWhole}
-use Rattle.graph_model.proofs.Whole.Closed.{slice_get-set_from, slice_get-replicate, held-set_from, reference_to-Ref, slice_get_reference, IsThere-insert}
+use Rattle.graph_model.proofs.Whole.Closed.{slice_get-set_from, slice_get-replicate, held-set_from, reference_to-Ref, slice_get_reference, IsThere-insert, closed_whole, new_graph-IsClosed}
 use Rattle.graph_model.proofs.Runs.InReach.{IsInReach, of_root, of_handle, of_field, SeesWhole}
 
 -- each reference among these values leads to what is in reach
@@ -153,3 +153,7 @@ run-IsWhole g t whole = sees_whole (run g t) (after_calls-SeesWhole (fresh_view 
 pub serial-IsWhole : (g : Graph) (ts : List Transaction) → IsWhole g → IsWhole (serial g ts)
 serial-IsWhole g [] whole = whole
 serial-IsWhole g (t ∷ ts) whole = serial-IsWhole (run g t).graph ts (run-IsWhole g t whole)
+
+-- the graph of a new heap is whole
+pub new_graph-IsWhole : IsWhole new_graph
+new_graph-IsWhole = closed_whole new_graph new_graph-IsClosed

@@ -10,6 +10,7 @@ use Rattle.heap_words.specs.Word.{bits, meaning}
 use Rattle.heap_words.proofs.WordLaws.{bits-meaning}
 use Rattle.heap_words.specs.declared.Word.{Word}
 use Rattle.heap_words.specs.declared.Word.TheVariants as word
+use Rattle.graph_model.specs.Canon.{canon}
 use Rattle.graph_model.specs.ClosedGraph.{IsThere}
 use Rattle.graph_model.proofs.Whole.Closed.{there_insert}
 use Rattle.graph_model.specs.Graph.{Graph, fields, id_cmp, root}
@@ -17,7 +18,7 @@ use Rattle.graph_model.proofs.Whole.Graph.{same_or_other}
 use Rattle.graph_model.specs.declared.id.Id.{Id}
 use Rattle.graph_model.specs.declared.val.Val.{Val}
 use Rattle.graph_model.specs.declared.val.Val.TheVariants.{Ref}
-use Rattle.object_layout.specs.Layout.{as_ref, birth_at, field_words, id_at, id_of, value}
+use Rattle.object_layout.specs.Layout.{IsSeenAs, as_ref, birth_at, field_words, id_at, id_of, value}
 use Rattle.object_layout.proofs.LayoutLaws.{length-field_words}
 use Rattle.object_layout.proofs.ObjectLaws.{end_to_end_begins}
 use Rattle.object_layout.specs.Walk.{AreBornBefore, AreEndToEnd, HaveOwnBirths, IsBornBefore, IsInside, IsWalked, used_words}
@@ -28,6 +29,7 @@ use Rattle.graph_words.specs.Places.{AreOld, IsOld, IsVisible, address_of, addre
 use Rattle.graph_words.proofs.Places.Names.{NamesPlaces, address_name, named_places}
 use Rattle.graph_words.proofs.Places.Addresses.{address_of-Contains, address_of-cases, address_of-head, address_of-rest}
 use Rattle.graph_words.specs.Stands.{AreNamedByBirth, ArePlaced, StandsAt, StandsCommitted}
+use Rattle.graph_words.proofs.Stands.Seen.{stands_canon}
 use Rattle.graph_words.proofs.Stands.Visible.{place_of-placed, placed_at_hand}
 
 -- Places that names give.
@@ -236,3 +238,8 @@ walked_stands_by_birth words base used walked top own =
     walked_stands (id_at words) words base used walked top (id_at-base words base used walked) (id_at-KeepApart words walked.starts own)
 
 -- The canon.
+
+-- all graphs that are seen in words whose walk passes have the canon of that of its objects
+pub walked_canon : (name : ℕ → Id) (words : List ℕ) (base used : ℕ) (walked : IsWalked words base used) → base + used ≤ 2097152 → name base ≡ root → KeepApart name walked.starts
+    → (other : ℕ → Id) (h : Graph) → IsSeenAs other words base h → canon h ≡ canon (gathered name words walked.starts)
+walked_canon name words base used walked top named apart other h seen = stands_canon (walked_stands name words base used walked top named apart) other h seen

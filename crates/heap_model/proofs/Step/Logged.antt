@@ -1,7 +1,7 @@
 -- A core's words stay those that its log leaves, and the pages stored beside it may stay there: a step appends records, and only a flush changes
 -- a page.
-use Rattle.std.specs.Prelude.{fold}
-use Rattle.std.proofs.Common.{◌≡◌, ◌≢◌, inl, inr, ℕ, List, [], ◌∷◌, Option, None, Some, refl, sym, ap, ◌∙◌, subst}
+use Rattle.std.specs.Prelude.{if◌then◌else◌, fold}
+use Rattle.std.proofs.Common.{◌≡◌, ◌≢◌, inl, inr, ℕ, Bool, true, false, List, [], ◌∷◌, ◌++◌, Option, None, Some, refl, sym, ap, ◌∙◌, subst, append_assoc}
 use Rattle.graph_model.specs.declared.event.Event.{Event}
 use Rattle.graph_model.specs.declared.event.Event.TheVariants.{Force, Flush}
 use Rattle.graph_model.specs.declared.reply.Refusal.{Refusal}
@@ -13,7 +13,7 @@ use Rattle.gated_log.specs.Log.{records_of}
 use Rattle.page_redo.specs.Pages.{Pages}
 use Rattle.page_redo.specs.Prefix.{EachHoldsPrefix}
 use Rattle.page_redo.proofs.PrefixLaws.{EachHoldsPrefix-append}
-use Rattle.heap_model.specs.Core.{Core, all_words, all_records, answer, core_refusal, with_entry, forced, done, after_refusal, IsStep}
+use Rattle.heap_model.specs.Core.{Core, all_words, all_records, answer, core_refusal, with_entry, is_dirty, is_ahead, forced, forced_if, page_stored, done, after_refusal, after, IsStep, IsRun}
 use Rattle.heap_model.specs.CoreCrash.{HasLogWords, IsLogged}
 use Rattle.heap_model.proofs.Step.Room.{records_of-append}
 
@@ -27,6 +27,25 @@ words_forced c (r ∷ rs) logged =
     ap (λ (ws : List ℕ). fold put_record ws (r ∷ rs)) logged
     ∙ sym (words-append c.pages (records_of c.batches) (r ∷ rs))
     ∙ ap (words c.pages) (sym (records_of-append c.batches (r ∷ rs)))
+
+words_flushed : (c : Core) (p : ℕ) (dirty ahead : Bool) → HasLogWords c → HasLogWords (if dirty then page_stored (forced_if ahead c) p else c)
+words_flushed c p true true logged = words_forced c c.pending logged
+words_flushed c p true false logged = logged
+words_flushed c p false ahead logged = logged
+
+words_done : (c : Core) (event : Event) → HasLogWords c → HasLogWords (done c event)
+words_done c Force logged = words_forced c c.pending logged
+words_done c (Flush p) logged = words_flushed c p (is_dirty c p) (is_ahead c p) logged
+words_done c event logged = logged
+
+words_after : (why : Option Refusal) (c : Core) (event : Event) → HasLogWords c → HasLogWords (after_refusal why c event)
+words_after None c event logged = words_done c event logged
+words_after (Some why) c event logged = logged
+
+-- each step leaves the words that the log leaves
+pub words_step : (c d : Core) (event : Event) (reply : Reply) → IsStep c event reply d → HasLogWords c → HasLogWords d
+words_step c d event reply (inl whole) logged = subst HasLogWords (sym whole.1) (words_after (core_refusal c event) c event logged)
+words_step c d event reply (inr cut) logged = subst HasLogWords (sym cut.1) logged
 
 -- a force keeps the pages that may stand beside the log
 pub logged_forced : (c : Core) (stored : Pages) (p : List Record) → IsLogged c stored → IsLogged (forced c p) stored
