@@ -1,3 +1,4 @@
+//! Graphs up to renaming objects, and the words in which they are seen.
 ghost use Rattle.std.specs.Prelude.{◌≡◌, ◌↔◌, List, ℕ, length, ◌^◌, ◌<◌};
 ghost use Rattle.graph_model.specs.Canon.{canon, numbered};
 ghost use Rattle.graph_model.specs.ClosedGraph.{IsWhole};

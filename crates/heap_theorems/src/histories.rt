@@ -1,3 +1,4 @@
+//! Histories of sessions side by side, and the core that their events lead to.
 ghost use Rattle.std.specs.Prelude.{Some, ◌≡◌, None, ℕ, ◌<◌, ◌≤◌, List, length, ◌*◌};
 ghost use Rattle.commit_order.specs.SerialOrder.{SerialOrderTheorem, StrictTheorem};
 ghost use Rattle.core_laws.specs.Conflicts.{GivesWay, IsHindered};

@@ -1,3 +1,4 @@
+//! What bytes and images mean: one thing, or one fault.
 ghost use Rattle.std.specs.List.{AllByRecursion};
 ghost use Rattle.std.specs.Prelude.{◌≡◌, List, length, ℕ, ◌^◌, ◌<◌, false};
 ghost use Rattle.gated_log.specs.Log.{HoldsBatches, records_of, BreaksAt};

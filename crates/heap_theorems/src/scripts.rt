@@ -1,3 +1,4 @@
+//! Printed events.
 ghost use Rattle.std.specs.Prelude.{Some, ◌≡◌};
 ghost use Rattle.graph_model.specs.History.{IsOfSession};
 ghost use Rattle.graph_model.specs.Text.{event_text};
