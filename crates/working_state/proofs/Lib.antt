@@ -1,9 +1,0 @@
-pub mod Applied
-pub mod Committed
-pub mod Found
-pub mod Left
-pub mod Made
-pub mod ObjectFields
-pub mod Room
-pub mod SealLaws
-pub mod Tables
