@@ -1,4 +1,4 @@
--- What a crash leaves of a heap, and how many device calls an event makes.
+-- What a crash leaves of a heap whose history gets an entry that neither commits nor acknowledges anything.
 use Rattle.std.proofs.Common.{◌≡◌, ◌⊎◌, inl, inr, ℕ, ◌+◌, ◌≤◌, cond, List, [], ◌∷◌, ◌++◌, length, take, Option, Some, None, Result, Ok, Err, refl, sym, ap, ◌∙◌, subst, arith}
 use Rattle.std.specs.Option.{option_to_list}
 use Rattle.std.proofs.lemmas.Bool.{lt-ltb}
@@ -80,7 +80,3 @@ cut_account a event reply asks told = absurd asks
 pub keeps_cut : (c : Core) (event : Event) (reply : Reply) (image : List ℕ) → AsksDisk event → (reply ≡ Refused DiskFault) ⊎ (reply ≡ Refused Stopped) → IsCommitPrefix c image
     → IsCommitPrefix (with_entry c event reply) image
 keeps_cut c event reply image asks told kept = keeps_entry c event reply _ image (cut_account (account c.history) event reply asks told) refl refl refl kept
-
--- nor does an event that a heap refuses since it has failed
-pub failed_passes : (c : Core) (event : Event) (entry before : ℕ) (reply : Reply) → (account c.history).failed ≡ Some entry → Passes (calls c event) before before (reply_device reply)
-failed_passes c event entry before reply is = none_pass (calls c event) before (reply_device reply) (ap (λ (o : Option Refusal). calls_if o c event) (failed_refusal c event entry is))

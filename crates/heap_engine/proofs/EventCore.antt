@@ -212,6 +212,7 @@ module _ {D : Type 0} (g : Ghosts D) where
             );
         still = λ c is reached none. refl;
         untouched = λ never. refl;
+        kept = λ never. absurd (cc never);
       };
       holds = λ now. record {
         holds = λ s c is reached held. disk_stays s c event (g.bytes disk) (g.may_leave disk) other held;
@@ -226,9 +227,10 @@ module _ {D : Type 0} (g : Ghosts D) where
       inside = still_within old new (g.extent disk) (leaves_as old new same);
       works = still_works old new (leaves_as old new same);
       core = record {
-        core = λ c is reached. engine_as c old new disk same is;
+        core = λ c is reached. tt;
         still = λ c is reached none. refl;
         untouched = λ it. refl;
+        kept = λ it c is. engine_as c old new disk same is;
       };
       holds = λ now. record {
         holds = λ s c is reached held. tt;

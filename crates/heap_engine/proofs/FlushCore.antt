@@ -97,6 +97,7 @@ module _ {D : Type 0} (g : Ghosts D) (p : ℕ) (e : Engine) (disk : D) where
           );
       still = λ c is reached none. refl;
       untouched = λ never. refl;
+      kept = λ never. absurd (cc never);
     }
 
     pub idle_on : ((image : List ℕ) → g.left_since disk (g.moment disk) image → g.may_leave disk image) → StepsOn g (Flush p) e disk e disk (Ok reply)

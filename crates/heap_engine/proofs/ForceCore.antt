@@ -102,9 +102,9 @@ module _ (c : Core) (w : Engine) (log : Log) (works : IsMemory (memory w) (accou
   pub gates_still : (old image : List ℕ) → SameOutside (log_place log) (log_place log + log_room log) old image → (p : ℕ) → open_gates c.room image p ≡ open_gates c.room old p
   gates_still old image outside = gates_behind_log c.room old image (in_core (λ n m. SameOutside n (n + m) old image) outside)
 
-  pub knows_forced : (new : Engine) (old image : List ℕ) → cache_store new.cache ≡ cache_store w.cache → SameOutside (log_place log) (log_place log + log_room log) old image → KnowsPages c (memory w) old
-      → KnowsPages (after c Force) (memory new) image
-  knows_forced new old image store outside pages = knows_after c Force (memory w) (memory new) old image force_flush store (frames_forced old image outside pages.frames) (gates_still old image outside) pages
+  pub knows_forced : (n : Memory) (old image : List ℕ) → n.store ≡ cache_store w.cache → SameOutside (log_place log) (log_place log + log_room log) old image → KnowsPages c (memory w) old
+      → KnowsPages (after c Force) n image
+  knows_forced n old image store outside pages = knows_after c Force (memory w) n old image force_flush store (frames_forced old image outside pages.frames) (gates_still old image outside) pages
 
   -- something waits where a force ends in an error
   pub force_waits : (result : Result (Unit {0}) DiskError) (e : DiskError) → (IsBufferEmpty log → result ≡ Ok tt) → result ≡ Err e → c.pending ≢ []

@@ -159,16 +159,16 @@ module _ (c : Core) (w : Engine) (p : ℕ) (works : IsMemory (memory w) (account
         ap (open_gates c.room image) is ∙ one ∙ ap (λ (n : ℕ). min 2 (n + 1)) (gates_mid p) ∙ ap (λ (k : ℕ). min 2 ((ready c p).gates k + 1)) (sym is)
     gates_one q false here one others = others q (eqb-false q p here) ∙ gates_mid q
 
-    pub flushed_knows : (new : Engine) → IsTrue (cache.is_dirty w.cache p) → Knows (cache_store new.cache) image
+    pub flushed_knows : (n : Memory) → IsTrue (cache.is_dirty w.cache p) → Knows n.store image
         → open_gates (cache_log w.cache) image p ≡ min 2 (open_gates (cache_log w.cache) mid p + 1) → ((q : ℕ) → q ≢ p → open_gates (cache_log w.cache) image q ≡ open_gates (cache_log w.cache) mid q)
-        → KnowsPages (flushed c p) (memory new) image
-    flushed_knows new dirty frames one others =
-        let P : Core → Type 0 = λ d. KnowsPages d (memory new) image in
-        let one' = subst (λ (n : ℕ). open_gates n image p ≡ min 2 (open_gates n mid p + 1)) bytes one in
-        let others' = subst (λ (n : ℕ). (q : ℕ) → q ≢ p → open_gates n image q ≡ open_gates n mid q) bytes others in
+        → KnowsPages (flushed c p) n image
+    flushed_knows n dirty frames one others =
+        let P : Core → Type 0 = λ d. KnowsPages d n image in
+        let one' = subst (λ (k : ℕ). open_gates k image p ≡ min 2 (open_gates k mid p + 1)) bytes one in
+        let others' = subst (λ (k : ℕ). (q : ℕ) → q ≢ p → open_gates k image q ≡ open_gates k mid q) bytes others in
         subst P (sym (flushed_is dirty)) (record {
           frames = frames;
-          gates = λ q. ap (λ (n : ℕ). open_gates n image q) same.room ∙ gates_one q (q == p) refl one' others';
+          gates = λ q. ap (λ (k : ℕ). open_gates k image q) same.room ∙ gates_one q (q == p) refl one' others';
         })
 
   -- What is on the disk.

@@ -1,5 +1,5 @@
 -- When an engine and its disk are a core, and what an event on them comes to.
-use Rattle.std.specs.Prelude.{◌≡◌, ◌<◌, IsTrue, ℕ, List, length, is_some, None, Result, Ok, Err, OnOk}
+use Rattle.std.specs.Prelude.{◌≡◌, ◌<◌, IsTrue, ℕ, List, length, is_some, None, Result, Ok, Err, OnOk, ⊤}
 use Rattle.disk_model.specs.Disk.{Only}
 use Rattle.disk_model.specs.Moments.{LeavesOnly}
 use Rattle.disk_model.specs.declared.disk.Disk.{Ghosts}
@@ -48,13 +48,13 @@ module _ {D : Type 0} (g : Ghosts D) where
   -- are stored. The disk has not failed.
   pub record IsEngine (c : Core) (e : Engine) (disk : D) : Type 0 where
     pub unfailed : (account c.history).failed ≡ None
-    pub memory : IsMemory (memory e) (account c.history) c
     pub pages : IsTrue g.tells → KnowsPages c (memory e) (g.bytes disk)
+    pub memory : IsMemory (memory e) (account c.history) c
 
-  -- What an event came to that was asked of a core: it was answered as the core answers it, memory was refused, or the disk failed or stopped.
+  -- What an event came to that had its memory: it was answered as the core answers it, or the disk failed or stopped.
   abbrev pub CameTo : Core → Event → Engine → D → Result Reply StepError → Type 0
   CameTo c event e disk (Ok reply) = (reply ≡ answer c event) × IsEngine (after c event) e disk
-  CameTo c event e disk (Err NoMemory) = IsEngine c e disk
+  CameTo c event e disk (Err NoMemory) = ⊤
   CameTo c event e disk (Err (Disk error)) = WasCutShort c event e
 
   -- An event is a step of each core that the engine is, on every disk.
@@ -62,8 +62,9 @@ module _ {D : Type 0} (g : Ghosts D) where
     pub core : (c : Core) → IsEngine c old before → IsReached c → CameTo c event new now result
     -- an event that makes no write or sync leaves the disk alone, and does not read it either
     pub still : (c : Core) → IsEngine c old before → IsReached c → calls c event ≡ 0 → now ≡ before
-    -- so does one without memory
+    -- so does one without memory, and it changes nothing
     pub untouched : result ≡ Err NoMemory → now ≡ before
+    pub kept : result ≡ Err NoMemory → (c : Core) → IsEngine c old before → IsEngine c new now
 
   -- So is what a modelled disk holds.
   pub record StepsOn (event : Event) (old : Engine) (before : D) (new : Engine) (now : D) (result : Result Reply StepError) : Type 0 where

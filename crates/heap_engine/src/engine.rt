@@ -1,5 +1,5 @@
 //! The engine of an open heap: what it keeps in memory, and its one call, which makes an event.
-ghost use Rattle.std.specs.Prelude.{◌≡◌, ◌+◌, ◌≤◌, ℕ, length, Ok, IsTrue, IsSome, ◌↔◌};
+ghost use Rattle.std.specs.Prelude.{◌≡◌, ◌+◌, ◌≤◌, length, Ok, IfOk, IsTrue, IsSome, ◌↔◌};
 ghost use Rattle.disk_model.specs.Keeps.{KeepsDisk};
 ghost use Rattle.gated_log.specs.LogState.{log_count, log_room, log_used, is_waiting};
 ghost use Rattle.graph_model.specs.History.{account};
@@ -12,7 +12,7 @@ ghost use Rattle.heap_memory.specs.Memory.{own};
 ghost use Rattle.heap_model.specs.Core.{Core, is_dirty};
 ghost use Rattle.memory_laws.specs.CoreMemory.{IsMemory};
 ghost use Rattle.heap_engine.specs.Reserve.{AreSound};
-ghost use Rattle.heap_engine.specs.StepResult.{step_device};
+ghost use Rattle.heap_engine.specs.StepResult.{engine_device, reply_device};
 
 use crate::step_error::StepError;
 use disk_model::Disk;
@@ -96,8 +96,10 @@ impl Engine {
         requires inside { LiesWithin self.old (D.extent disk.old) }
         requires works { HasNotFailed self.old }
         ensures inside { LiesWithin self.new (D.extent disk.new) }
-        ensures works { step_device result ≡ Ok tt → HasNotFailed self.new }
-        ensures disk { KeepsDisk D.Disk disk.old disk.new (step_device result) }
+        ensures works { engine_device result ≡ Ok tt → HasNotFailed self.new }
+        ensures disk { KeepsDisk D.Disk disk.old disk.new (engine_device result) }
+        // An answer tells of no failure of the disk.
+        ensures answered { IfOk result (λ reply. reply_device reply ≡ Ok tt) }
         // It is a step of the core that the engine is, and so is what a modelled disk holds.
         ensures core { Steps D.Disk event self.old disk.old self.new disk.new result }
         ensures holds { IsTrue D.tells → StepsOn D.Disk event self.old disk.old self.new disk.new result }

@@ -1,5 +1,5 @@
 //! The events that write the disk: what is pending is forced, and a page is stored, never ahead of the log.
-ghost use Rattle.std.specs.Prelude.{◌≡◌, ◌⊎◌, ◌+◌, ◌≤◌, ◌<◌, ℕ, nat_lt, Ok, IsTrue, IsFalse, OnOk, if◌then◌else◌};
+ghost use Rattle.std.specs.Prelude.{◌≡◌, ◌⊎◌, ◌+◌, ◌≤◌, ◌<◌, ℕ, nat_lt, Ok, IfOk, IsTrue, OnOk, if◌then◌else◌};
 ghost use Rattle.disk_model.specs.Disk.{Only, SameOutside, part};
 ghost use Rattle.disk_model.specs.Keeps.{KeepsDisk};
 ghost use Rattle.disk_model.specs.Moments.{LeavesOnly};
@@ -15,7 +15,7 @@ ghost use Rattle.heap_model.specs.Core.{Core, forced_if, flushed, flush_calls};
 ghost use Rattle.heap_model.specs.CoreCrash.{IsCommitPrefix};
 ghost use Rattle.core_laws.specs.Valid.{IsSound};
 ghost use Rattle.memory_laws.specs.CoreMemory.{IsMemory};
-ghost use Rattle.heap_engine.specs.StepResult.{step_device};
+ghost use Rattle.heap_engine.specs.StepResult.{engine_device, reply_device};
 
 use crate::engine::{Engine, refused};
 use crate::step_error::StepError;
@@ -61,8 +61,10 @@ impl Engine {
         requires inside { LiesWithin self.old (D.extent disk.old) }
         requires works { HasNotFailed self.old }
         ensures inside { LiesWithin self.new (D.extent disk.new) }
-        ensures works { step_device result ≡ Ok tt → HasNotFailed self.new }
-        ensures disk { KeepsDisk D.Disk disk.old disk.new (step_device result) }
+        ensures works { engine_device result ≡ Ok tt → HasNotFailed self.new }
+        ensures disk { KeepsDisk D.Disk disk.old disk.new (engine_device result) }
+        // An answer tells of no failure of the disk.
+        ensures answered { IfOk result (λ reply. reply_device reply ≡ Ok tt) }
         ensures core { Steps D.Disk Force self.old disk.old self.new disk.new result }
         ensures holds { IsTrue D.tells → StepsOn D.Disk Force self.old disk.old self.new disk.new result }
     {
@@ -76,8 +78,10 @@ impl Engine {
         requires inside { LiesWithin self.old (D.extent disk.old) }
         requires works { HasNotFailed self.old }
         ensures inside { LiesWithin self.new (D.extent disk.new) }
-        ensures works { step_device result ≡ Ok tt → HasNotFailed self.new }
-        ensures disk { KeepsDisk D.Disk disk.old disk.new (step_device result) }
+        ensures works { engine_device result ≡ Ok tt → HasNotFailed self.new }
+        ensures disk { KeepsDisk D.Disk disk.old disk.new (engine_device result) }
+        // An answer tells of no failure of the disk.
+        ensures answered { IfOk result (λ reply. reply_device reply ≡ Ok tt) }
         ensures core { Steps D.Disk (Flush p) self.old disk.old self.new disk.new result }
         ensures holds { IsTrue D.tells → StepsOn D.Disk (Flush p) self.old disk.old self.new disk.new result }
     {

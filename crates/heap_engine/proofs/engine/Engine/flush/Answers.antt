@@ -1,18 +1,18 @@
 use Rattle.std.proofs.Common.{rules, ◌≡◌, ℕ, true, Result, Ok, Err, refl, sym, ◌∙◌, subst, arith}
-use Rattle.disk_model.specs.Keeps.{KeepsDisk}
-use Rattle.disk_model.specs.KeepsLaws.{keeps_none}
 use Rattle.gate_slot.specs.Passing.{Passes}
 use Rattle.graph_model.specs.declared.event.Event.TheVariants.{Flush}
-use Rattle.graph_model.specs.declared.reply.Reply.{Reply}
+use Rattle.graph_model.specs.History.{account}
 use Rattle.graph_model.specs.declared.reply.Reply.TheVariants.{Flushed}
+use Rattle.core_laws.specs.Valid.{IsReached}
+use Rattle.heap_model.specs.Core.{Core}
+use Rattle.memory_laws.specs.CoreMemory.{IsMemory}
 use Rattle.core_laws.specs.Flush.{calls-flushed}
 use Rattle.core_laws.specs.Step.{valid_after}
 use Rattle.memory_laws.specs.StepFlush.{flush_no_page, flush_clean, flush_done}
-use Rattle.heap_engine.specs.declared.step_error.StepError.{StepError}
 use Rattle.heap_engine.specs.declared.step_error.StepError.TheVariants.{NoMemory, Disk}
 use Rattle.heap_engine.specs.EngineState.{memory}
-use Rattle.heap_engine.specs.StepResult.{step_device}
-use Rattle.heap_engine.proofs.EventCore.{LeavesDisk, lack_leaves, engine_valid, engine_after, knows_as, cut_short}
+use Rattle.heap_engine.specs.Refinement.{IsEngine}
+use Rattle.heap_engine.proofs.EventCore.{lack_leaves, engine_valid, engine_after, knows_as, cut_short}
 use Rattle.heap_engine.proofs.FlushCore.{past, is_there, works_again, left_refused, left_flushed, left_clean, refused_calls, clean_calls, dirty_calls, knows_left, disk_left, idle_steps, idle_on}
 use Rattle.heap_engine.proofs.StoreCore.{within, dirty_is}
 use Rattle.heap_engine.proofs.engine.Engine.flush.Goals as goal
@@ -21,7 +21,7 @@ pub returns-then-p-from-clause-core : goal.returns-then-p-from-clause-core
 returns-then-p-from-clause-core g c =
     let e = c.args.self.now in
     let p = c.args.p in
-    let beyond = λ core works. past core e p c.from.result works (c.from.ensures ∙ c.pages.ensures.value) c.if-p-from.true in
+    let beyond = λ (core : Core) (works : IsMemory (memory e) (account core.history) core). past core e p c.from.result works (c.from.ensures ∙ c.pages.ensures.value) c.if-p-from.true in
     idle_steps g.D.Disk p e c.args.disk.now c.refused.result (λ core works valid. flush_no_page _ core p _ valid (beyond core works) works c.refused.ensures) (λ core works valid. left_refused core p valid (beyond core works))
     (λ core works valid. refused_calls core p valid (beyond core works))
 
@@ -29,7 +29,7 @@ pub returns-then-p-from-clause-holds : goal.returns-then-p-from-clause-holds
 returns-then-p-from-clause-holds g c tells =
     let e = c.args.self.now in
     let p = c.args.p in
-    let beyond = λ core works. past core e p c.from.result works (c.from.ensures ∙ c.pages.ensures.value) c.if-p-from.true in
+    let beyond = λ (core : Core) (works : IsMemory (memory e) (account core.history) core). past core e p c.from.result works (c.from.ensures ∙ c.pages.ensures.value) c.if-p-from.true in
     idle_on g.D.Disk p e c.args.disk.now c.refused.result (λ core works valid. flush_no_page _ core p _ valid (beyond core works) works c.refused.ensures) (λ core works valid. left_refused core p valid (beyond core works))
     (λ core works valid. refused_calls core p valid (beyond core works)) (g.met.D.Disk.only_now tells c.args.disk.now)
 
@@ -38,7 +38,7 @@ returns-then-not-dirty-clause-core g c =
     let e = c.args.self.now in
     let p = c.args.p in
     let page = is_there e p c.from.result (c.from.ensures ∙ c.pages.ensures.value) c.if-p-from.false in
-    let clean = λ core works. sym (dirty_is core e p works page) ∙ sym c.dirty.ensures ∙ c.if-not-dirty.true in
+    let clean = λ (core : Core) (works : IsMemory (memory e) (account core.history) core). sym (dirty_is core e p works page) ∙ sym c.dirty.ensures ∙ c.if-not-dirty.true in
     idle_steps g.D.Disk p e c.args.disk.now _ (λ core works valid. flush_clean _ core p _ valid (within core e p works page) (clean core works) works refl)
     (λ core works valid. left_clean core p valid (within core e p works page) (clean core works)) (λ core works valid. clean_calls core p valid (within core e p works page) (clean core works))
 
@@ -47,24 +47,21 @@ returns-then-not-dirty-clause-holds g c tells =
     let e = c.args.self.now in
     let p = c.args.p in
     let page = is_there e p c.from.result (c.from.ensures ∙ c.pages.ensures.value) c.if-p-from.false in
-    let clean = λ core works. sym (dirty_is core e p works page) ∙ sym c.dirty.ensures ∙ c.if-not-dirty.true in
+    let clean = λ (core : Core) (works : IsMemory (memory e) (account core.history) core). sym (dirty_is core e p works page) ∙ sym c.dirty.ensures ∙ c.if-not-dirty.true in
     idle_on g.D.Disk p e c.args.disk.now _ (λ core works valid. flush_clean _ core p _ valid (within core e p works page) (clean core works) works refl)
     (λ core works valid. left_clean core p valid (within core e p works page) (clean core works)) (λ core works valid. clean_calls core p valid (within core e p works page) (clean core works))
     (g.met.D.Disk.only_now tells c.args.disk.now)
 
-pub returns-in_err-reserve : goal.returns-in_err-reserve
-returns-in_err-reserve g c =
-    let disk = c.args.disk.now in
+pub returns-in_err-reserve-clause-core : goal.returns-in_err-reserve-clause-core
+returns-in_err-reserve-clause-core g c =
     let err : c.from_residual.result ≡ Err NoMemory = search rules in
-    let P : Result Reply StepError → Type 0 = λ r. LeavesDisk g.D.Disk (Flush c.args.p) c.args.self.now _ disk r in
-    let all = subst P (sym err) (lack_leaves g.D.Disk (Flush c.args.p) c.args.self.now _ disk (record { log = c.reserve.ensures.same; words = refl; lsns = refl; store = refl; table = refl; locks = refl; spaces = refl; sealed = refl })) in
-    record {
-      inside = all.inside c.requires.inside;
-      works = λ fine. all.works c.requires.works;
-      disk = subst (λ (r : Result Reply StepError). KeepsDisk g.D.Disk disk disk (step_device r)) (sym err) (keeps_none g.D.Disk disk tt);
-      core = all.core;
-      holds = λ tells. all.holds (g.met.D.Disk.only_now tells disk);
-    }
+    rw err (lack_leaves g.D.Disk (Flush c.args.p) c.args.self.now _ c.args.disk.now (record { log = c.reserve.ensures.same; words = refl; lsns = refl; store = refl; table = refl; locks = refl; spaces = refl; sealed = refl })).core
+
+pub returns-in_err-reserve-clause-holds : goal.returns-in_err-reserve-clause-holds
+returns-in_err-reserve-clause-holds g c tells =
+    let err : c.from_residual.result ≡ Err NoMemory = search rules in
+    rw err ((lack_leaves g.D.Disk (Flush c.args.p) c.args.self.now _ c.args.disk.now (record { log = c.reserve.ensures.same; words = refl; lsns = refl; store = refl; table = refl; locks = refl; spaces = refl; sealed = refl })).holds
+    (g.met.D.Disk.only_now tells c.args.disk.now))
 
 pub returns-clause-core : goal.returns-clause-core
 returns-clause-core g c =
@@ -88,6 +85,7 @@ returns-clause-core g c =
           let dirty = sym (dirty_is core e p is.memory page) ∙ sym c.dirty.ensures ∙ c.if-not-dirty.false in
           absurd (omega (arith, no_calls, dirty_calls core p valid (within core e p is.memory page) dirty));
       untouched = λ never. absurd (cc never);
+      kept = λ never. absurd (cc never);
     }
 
 pub returns-clause-holds : goal.returns-clause-holds
@@ -119,7 +117,7 @@ returns-in_err-store-clause-core g c =
     let e = c.in_err-store.field-0.0 in
     let err : c.from_residual-in_err-store.result ≡ Err (Disk e) = search rules in
     let page = is_there old p c.from.result (c.from.ensures ∙ c.pages.ensures.value) c.if-p-from.false in
-    let some = λ core is reached.
+    let some = λ (core : Core) (is : IsEngine d core old c.args.disk.now) (reached : IsReached core).
         let valid = engine_valid d core old c.args.disk.now is reached in
         let dirty = sym (dirty_is core old p is.memory page) ∙ sym c.dirty.ensures ∙ c.if-not-dirty.false in
         dirty_calls core p valid (within core old p is.memory page) dirty in
@@ -127,6 +125,7 @@ returns-in_err-store-clause-core g c =
       core = λ core is reached. cut_short core (Flush p) old _ is.memory (some core is reached) c.store.ensures.sealed c.store.ensures.table;
       still = λ core is reached no_calls. absurd (omega (arith, no_calls, some core is reached));
       untouched = λ never. absurd (cc never);
+      kept = λ never. absurd (cc never);
     })
 
 pub returns-in_err-store-clause-holds : goal.returns-in_err-store-clause-holds

@@ -1,35 +1,26 @@
 use Rattle.std.proofs.Common.{rules, ◌≡◌, Result, Ok, Err, refl, sym, ◌∙◌, subst}
-use Rattle.disk_model.specs.Keeps.{KeepsDisk}
-use Rattle.disk_model.specs.KeepsLaws.{keeps_none}
 use Rattle.disk_model.specs.Moments.{weaker}
 use Rattle.graph_model.specs.declared.event.Event.TheVariants.{Force}
-use Rattle.graph_model.specs.declared.reply.Reply.{Reply}
 use Rattle.graph_model.specs.declared.reply.Reply.TheVariants.{Durable}
 use Rattle.heap_model.specs.CoreCrash.{IsCommitPrefix}
 use Rattle.core_laws.specs.Step.{valid_after}
-use Rattle.heap_engine.specs.declared.step_error.StepError.{StepError}
 use Rattle.heap_engine.specs.declared.step_error.StepError.TheVariants.{NoMemory, Disk}
 use Rattle.heap_engine.specs.EngineState.{memory}
-use Rattle.heap_engine.specs.Refinement.{Steps, StepsOn}
-use Rattle.heap_engine.specs.StepResult.{step_device}
 use Rattle.heap_engine.proofs.DeviceCalls.{force_passes, no_calls_empty}
-use Rattle.heap_engine.proofs.EventCore.{LeavesDisk, lack_leaves, engine_valid, engine_after}
+use Rattle.heap_engine.proofs.EventCore.{lack_leaves, engine_valid, engine_after}
 use Rattle.heap_engine.proofs.ForceCore.{keeps, holds, knows_forced, force_does, forced_on, force_keeps, force_cut_short}
 use Rattle.heap_engine.proofs.engine.Engine.force.Goals as goal
 
-pub returns-in_err-reserve : goal.returns-in_err-reserve
-returns-in_err-reserve g c =
-    let disk = c.args.disk.now in
+pub returns-in_err-reserve-clause-core : goal.returns-in_err-reserve-clause-core
+returns-in_err-reserve-clause-core g c =
     let err : c.from_residual.result ≡ Err NoMemory = search rules in
-    let P : Result Reply StepError → Type 0 = λ r. LeavesDisk g.D.Disk Force c.args.self.now _ disk r in
-    let all = subst P (sym err) (lack_leaves g.D.Disk Force c.args.self.now _ disk (record { log = c.reserve.ensures.same; words = refl; lsns = refl; store = refl; table = refl; locks = refl; spaces = refl; sealed = refl })) in
-    record {
-      inside = all.inside c.requires.inside;
-      works = λ fine. all.works c.requires.works;
-      disk = subst (λ (r : Result Reply StepError). KeepsDisk g.D.Disk disk disk (step_device r)) (sym err) (keeps_none g.D.Disk disk tt);
-      core = all.core;
-      holds = λ tells. all.holds (g.met.D.Disk.only_now tells disk);
-    }
+    rw err (lack_leaves g.D.Disk Force c.args.self.now _ c.args.disk.now (record { log = c.reserve.ensures.same; words = refl; lsns = refl; store = refl; table = refl; locks = refl; spaces = refl; sealed = refl })).core
+
+pub returns-in_err-reserve-clause-holds : goal.returns-in_err-reserve-clause-holds
+returns-in_err-reserve-clause-holds g c tells =
+    let err : c.from_residual.result ≡ Err NoMemory = search rules in
+    rw err ((lack_leaves g.D.Disk Force c.args.self.now _ c.args.disk.now (record { log = c.reserve.ensures.same; words = refl; lsns = refl; store = refl; table = refl; locks = refl; spaces = refl; sealed = refl })).holds
+    (g.met.D.Disk.only_now tells c.args.disk.now))
 
 pub returns-clause-core : goal.returns-clause-core
 returns-clause-core g c =
@@ -39,16 +30,17 @@ returns-clause-core g c =
       core = λ core is reached.
           let valid = engine_valid g.D.Disk core old c.args.disk.now is reached in
           let kept = c.in_ok-force.ensures.kept core.batches core.pending (keeps core old log is.memory c.reserve.ensures.same) in
-          let does = force_does (memory old) _ core (Durable old.sealed) valid is.memory kept (c.force.ensures.at ∙ c.reserve.ensures.same.place.at) (c.force.ensures.same_room ∙ c.reserve.ensures.same.place.room)
+          let does = force_does (memory old) (record (memory old) { log = c.force.new.self }) core (Durable old.sealed) valid is.memory kept (c.force.ensures.at ∙ c.reserve.ensures.same.place.at) (c.force.ensures.same_room ∙ c.reserve.ensures.same.place.room)
           (record { words = refl; lsns = refl; table = refl; locks = refl; spaces = refl; sealed = refl }) refl refl in (
             does.replied,
             engine_after g.D.Disk core Force (Durable old.sealed) _ c.force.new.disk (valid_after core Force valid reached.locked tt) does
-            (λ told. knows_forced core old log is.memory c.reserve.ensures.same _ _ _ refl (c.in_ok-force.ensures.outside told) (is.pages told)),
+            (λ told. knows_forced core old log is.memory c.reserve.ensures.same (record (memory old) { log = c.force.new.self }) _ _ refl (c.in_ok-force.ensures.outside told) (is.pages told)),
           );
       still = λ core is reached no_calls.
           let valid = engine_valid g.D.Disk core old c.args.disk.now is reached in
           (c.force.ensures.idle (no_calls_empty core log valid (keeps core old log is.memory c.reserve.ensures.same) no_calls)).1;
       untouched = λ never. absurd (cc never);
+      kept = λ never. absurd (cc never);
     }
 
 pub returns-clause-holds : goal.returns-clause-holds
@@ -85,6 +77,7 @@ returns-in_err-force-clause-core g c =
           let valid = engine_valid d core old c.args.disk.now is reached in
           (c.force.ensures.idle (no_calls_empty core log valid (keeps core old log is.memory c.reserve.ensures.same) no_calls)).1;
       untouched = λ never. absurd (cc never);
+      kept = λ never. absurd (cc never);
     })
 
 pub returns-in_err-force-clause-holds : goal.returns-in_err-force-clause-holds

@@ -10,7 +10,7 @@ use Rattle.memory_laws.specs.CoreMemory.{Does}
 use Rattle.heap_engine.specs.declared.step_error.StepError.{StepError}
 use Rattle.heap_engine.specs.declared.step_error.StepError.TheVariants.{NoMemory}
 use Rattle.heap_engine.specs.EngineState.{memory}
-use Rattle.heap_engine.specs.StepResult.{step_device}
+use Rattle.heap_engine.specs.StepResult.{engine_device}
 use Rattle.heap_engine.proofs.CallsCore.{begins, roots, drops, makes, puts, clears, links, gets, seals, aborts, compares, counts, either, answered, granted_or, read_or}
 use Rattle.heap_engine.proofs.EventCore.{LeavesStored, leaves_same, leaves_as, same_as_it_was, LeavesDisk, call_leaves, lack_leaves}
 use Rattle.heap_engine.proofs.engine.Engine.step_on.Goals as goal
@@ -110,13 +110,13 @@ pub returns-in_err-make-in-New : goal.returns-in_err-make-in-New
 returns-in_err-make-in-New g c =
     let old = c.args.self.now in
     let new = c.make.new.self in
-    let err : c.from_residual-in_err-make-in-New.result ≡ Err NoMemory = search rules in
+    let err : c.from_residual.result ≡ Err NoMemory = search rules in
     let P : Result Reply StepError → Type 0 = λ r. LeavesDisk g.D.Disk c.args.event old new c.args.disk.now r in
     let all = subst P (sym err) (lack_leaves g.D.Disk c.args.event old new c.args.disk.now (same_as_it_was old new c.in_err-make-in-New.ensures.err)) in
     record {
       inside = all.inside c.requires.inside;
       works = λ fine. all.works c.requires.works;
-      disk = subst (λ (r : Result Reply StepError). KeepsDisk g.D.Disk c.args.disk.now c.args.disk.now (step_device r)) (sym err) (keeps_none g.D.Disk c.args.disk.now tt);
+      disk = subst (λ (r : Result Reply StepError). KeepsDisk g.D.Disk c.args.disk.now c.args.disk.now (engine_device r)) (sym err) (keeps_none g.D.Disk c.args.disk.now tt);
       core = all.core;
       holds = λ tells. all.holds (g.met.D.Disk.only_now tells c.args.disk.now);
     }
@@ -148,7 +148,7 @@ returns-in_err-put-in-Put g c =
     record {
       inside = all.inside c.requires.inside;
       works = λ fine. all.works c.requires.works;
-      disk = subst (λ (r : Result Reply StepError). KeepsDisk g.D.Disk c.args.disk.now c.args.disk.now (step_device r)) (sym err) (keeps_none g.D.Disk c.args.disk.now tt);
+      disk = subst (λ (r : Result Reply StepError). KeepsDisk g.D.Disk c.args.disk.now c.args.disk.now (engine_device r)) (sym err) (keeps_none g.D.Disk c.args.disk.now tt);
       core = all.core;
       holds = λ tells. all.holds (g.met.D.Disk.only_now tells c.args.disk.now);
     }
@@ -180,7 +180,7 @@ returns-in_err-clear-in-Clear g c =
     record {
       inside = all.inside c.requires.inside;
       works = λ fine. all.works c.requires.works;
-      disk = subst (λ (r : Result Reply StepError). KeepsDisk g.D.Disk c.args.disk.now c.args.disk.now (step_device r)) (sym err) (keeps_none g.D.Disk c.args.disk.now tt);
+      disk = subst (λ (r : Result Reply StepError). KeepsDisk g.D.Disk c.args.disk.now c.args.disk.now (engine_device r)) (sym err) (keeps_none g.D.Disk c.args.disk.now tt);
       core = all.core;
       holds = λ tells. all.holds (g.met.D.Disk.only_now tells c.args.disk.now);
     }
@@ -212,7 +212,7 @@ returns-in_err-link-in-Link g c =
     record {
       inside = all.inside c.requires.inside;
       works = λ fine. all.works c.requires.works;
-      disk = subst (λ (r : Result Reply StepError). KeepsDisk g.D.Disk c.args.disk.now c.args.disk.now (step_device r)) (sym err) (keeps_none g.D.Disk c.args.disk.now tt);
+      disk = subst (λ (r : Result Reply StepError). KeepsDisk g.D.Disk c.args.disk.now c.args.disk.now (engine_device r)) (sym err) (keeps_none g.D.Disk c.args.disk.now tt);
       core = all.core;
       holds = λ tells. all.holds (g.met.D.Disk.only_now tells c.args.disk.now);
     }
@@ -245,7 +245,7 @@ returns-in_err-get-in-Get g c =
     record {
       inside = all.inside c.requires.inside;
       works = λ fine. all.works c.requires.works;
-      disk = subst (λ (r : Result Reply StepError). KeepsDisk g.D.Disk c.args.disk.now c.args.disk.now (step_device r)) (sym err) (keeps_none g.D.Disk c.args.disk.now tt);
+      disk = subst (λ (r : Result Reply StepError). KeepsDisk g.D.Disk c.args.disk.now c.args.disk.now (engine_device r)) (sym err) (keeps_none g.D.Disk c.args.disk.now tt);
       core = all.core;
       holds = λ tells. all.holds (g.met.D.Disk.only_now tells c.args.disk.now);
     }
@@ -277,7 +277,7 @@ returns-in_err-seal-in-Seal g c =
     record {
       inside = all.inside c.requires.inside;
       works = λ fine. all.works c.requires.works;
-      disk = subst (λ (r : Result Reply StepError). KeepsDisk g.D.Disk c.args.disk.now c.args.disk.now (step_device r)) (sym err) (keeps_none g.D.Disk c.args.disk.now tt);
+      disk = subst (λ (r : Result Reply StepError). KeepsDisk g.D.Disk c.args.disk.now c.args.disk.now (engine_device r)) (sym err) (keeps_none g.D.Disk c.args.disk.now tt);
       core = all.core;
       holds = λ tells. all.holds (g.met.D.Disk.only_now tells c.args.disk.now);
     }
@@ -309,7 +309,7 @@ returns-in_err-abort-in-Abort g c =
     record {
       inside = all.inside c.requires.inside;
       works = λ fine. all.works c.requires.works;
-      disk = subst (λ (r : Result Reply StepError). KeepsDisk g.D.Disk c.args.disk.now c.args.disk.now (step_device r)) (sym err) (keeps_none g.D.Disk c.args.disk.now tt);
+      disk = subst (λ (r : Result Reply StepError). KeepsDisk g.D.Disk c.args.disk.now c.args.disk.now (engine_device r)) (sym err) (keeps_none g.D.Disk c.args.disk.now tt);
       core = all.core;
       holds = λ tells. all.holds (g.met.D.Disk.only_now tells c.args.disk.now);
     }

@@ -16,14 +16,14 @@ pub carry_out-requires-clause-room : goal.carry_out-requires-clause-room
 carry_out-requires-clause-room c =
     let s = c.args.self.now in
     let left = room_left s.log c.need_of.result (s.reserved + 19) (sym c.log_refusal.ensures ∙ c.in_default-log_refusal.is) in
-    let need : c.need_of.result ≡ log_need s.log 27 = c.need_of.ensures ∙ ap (log_need s.log) c.length-bytes.ensures in
+    let need : c.need_of.result ≡ log_need s.log 27 = c.need_of.ensures ∙ ap (log_need s.log) c.length-bytes.ensures.value in
     room_after s.log c.reserve.new.self c.reserve.ensures.same 27 (omega (arith, left, need, used_with_need s.log 27))
 
 pub invariant_of-self-2-clause-room : goal.invariant_of-self-2-clause-room
 invariant_of-self-2-clause-room c =
     let s = c.args.self.now in
     let left = room_left s.log c.need_of.result (s.reserved + 19) (sym c.log_refusal.ensures ∙ c.in_default-log_refusal.is) in
-    let need : c.need_of.result ≡ log_need s.log 27 = c.need_of.ensures ∙ ap (log_need s.log) c.length-bytes.ensures in
+    let need : c.need_of.result ≡ log_need s.log 27 = c.need_of.ensures ∙ ap (log_need s.log) c.length-bytes.ensures.value in
     let used = c.carry_out.ensures.used ∙ used_after s.log c.reserve.new.self c.reserve.ensures.same 27 in
     omega (arith, used, left, need, used_with_need s.log 27, c.carry_out.ensures.log.place.room, c.reserve.ensures.same.place.room)
 

@@ -1,8 +1,11 @@
-//! Transactions of a heap of one page: what is sealed is there afterwards, what is aborted is not, and sessions that are side by side are in
-//! each other's way where both use an object and one writes it.
+//! Transactions of a heap of one page: what is sealed is there afterwards, what is aborted is not, sessions that are side by side are in
+//! each other's way where both use an object and one writes it, and the log keeps room for their ends.
+ghost use Rattle.heap_engine.specs.EngineState.{LiesWithin, HasNotFailed};
+
 use disk_model::{Disk, MemoryDisk, Pick};
 use gated_log::Log;
 use graph_model::{Event, Refusal, Reply};
+use heap_engine::{Engine, StepError};
 use heap_spaces::Spaces;
 use image_plan::Plan;
 use page_cache::PageCache;
@@ -11,7 +14,6 @@ use std::fmt::Debug;
 use std::process::Abort;
 use std::test::Fail;
 use txn_table::TxnTable;
-use working_state::Working;
 
 /// A heap of one page a space, with a log of 500 bytes.
 const PLAN: Plan = Plan {
@@ -19,19 +21,36 @@ const PLAN: Plan = Plan {
     log_bytes: 500,
 };
 
-// That heap, when it is new.
-fn opened(rt: &impl Abort, alloc: Global) -> Result<Working, Fail> {
-    let bytes = vec![in alloc; 0u8; PLAN.size() as usize]?;
+/// One with a log of 80 bytes.
+const SMALL: Plan = Plan {
+    pages: 1,
+    log_bytes: 80,
+};
+
+/// An open heap: its engine and its disk.
+#[derive(Drop)]
+struct Opened {
+    engine: Engine,
+    disk: MemoryDisk,
+    ghost inside: { LiesWithin engine (⟦<MemoryDisk as Disk>⟧.extent disk) },
+    ghost works: { HasNotFailed engine },
+}
+
+// A heap of that plan, when it is new.
+fn new_heap(rt: &impl Abort, alloc: Global, plan: Plan) -> Result<Opened, Fail> {
+    assert!(rt; plan.pages == 1 && plan.log_bytes > 0);
+    let bytes = vec![in alloc; 0u8; plan.size() as usize]?;
     let none = Vec::new(alloc);
     let mut disk = MemoryDisk::of(alloc, bytes, Pick::Newest, 1000, none, Vec::new(alloc))?;
-    assert!(rt; disk.size() >= PLAN.size());
-    let (log, _) = Log::open(alloc, &mut disk, PLAN.log_at(), PLAN.log_bytes)?;
-    assert!(rt; disk.size() >= PLAN.size());
-    let cache = PageCache::open(alloc, &mut disk, PLAN)?;
+    assert!(rt; disk.size() >= plan.size());
+    let (log, _) = Log::open(alloc, &mut disk, plan.log_at(), plan.log_bytes)?;
+    assert!(rt; disk.size() >= plan.size());
+    let cache = PageCache::open(alloc, &mut disk, plan)?;
     assert!(rt; cache.first_past(log.records()).is_none());
     let spaces = Spaces::new(1, 0, 6, 0);
     let table = TxnTable::new(alloc, 1)?;
-    Ok(Working::new(alloc, log, cache, spaces, table))
+    let engine = Engine::new(alloc, log, cache, spaces, table);
+    Ok(Opened { engine, disk })
 }
 
 /// An event of a session, and what it is answered.
@@ -224,7 +243,7 @@ const UNSEEN: [Step; 5] = [
     ),
 ];
 
-/// And behind it they see it.
+/// And after it they see it.
 const SEEN: [Step; 2] = [
     (Event::Seal { s: 1 }, Reply::Sealed { n: 2 }),
     (
@@ -238,83 +257,152 @@ const SEEN: [Step; 2] = [
     ),
 ];
 
+/// What is pending is forced once, as one commit, and then the one page that has changed is stored.
+const FORCED: [Step; 5] = [
+    (Event::Force, Reply::Durable { n: 1 }),
+    (Event::Force, Reply::Durable { n: 1 }),
+    (Event::Flush { p: 0 }, Reply::Flushed { page: 0 }),
+    (Event::Flush { p: 1 }, Reply::Clean { page: 1 }),
+    (
+        Event::Flush { p: 2 },
+        Reply::Refused {
+            why: Refusal::NoSuchPage,
+        },
+    ),
+];
+
+/// Ten words of 64 are taken: an object of 53 fields has no room in the rest.
+const TOO_LARGE: [Step; 5] = [
+    (Event::Begin { s: 4 }, Reply::Begun { n: 3 }),
+    (Event::Root { s: 4, h: 0 }, Reply::Done),
+    (
+        Event::New {
+            s: 4,
+            h: 1,
+            len: 53,
+        },
+        Reply::Done,
+    ),
+    (
+        Event::Link {
+            s: 4,
+            h: 0,
+            i: 0,
+            h2: 1,
+        },
+        Reply::Done,
+    ),
+    (
+        Event::Seal { s: 4 },
+        Reply::Refused {
+            why: Refusal::Exhausted {
+                need: 55,
+                free: 54,
+                owed: 0,
+            },
+        },
+    ),
+];
+
+/// Ten bytes are kept for the end of each transaction, and 19 for each of its writes. A write takes 27, an end 5, and the first record of a batch 5
+/// more.
+const ROOM: [Step; 4] = [
+    (
+        Event::Put {
+            s: 1,
+            h: 0,
+            i: 0,
+            v: 5,
+        },
+        Reply::Refused {
+            why: Refusal::LogFull {
+                used: 1,
+                need: 32,
+                reserved: 49,
+            },
+        },
+    ),
+    (Event::Abort { s: 3 }, Reply::Aborted),
+    (
+        Event::Put {
+            s: 1,
+            h: 0,
+            i: 0,
+            v: 5,
+        },
+        Reply::Done,
+    ),
+    (
+        Event::Begin { s: 4 },
+        Reply::Refused {
+            why: Refusal::LogFull {
+                used: 38,
+                need: 0,
+                reserved: 49,
+            },
+        },
+    ),
+];
+
 /// Compares what was found.
 fn same<T: PartialEq + Debug + Copy>(rt: &impl Abort, found: T, want: T) {
     assert_eq!(rt; found, want);
 }
 
-fn begin(rt: &impl Abort, heap: &mut Working, session: u32) -> Reply {
-    assert!(rt; 1 <= session && session <= 32);
-    heap.begin(session)
-}
-
-fn ask(
-    rt: &impl Abort,
-    alloc: Global,
-    heap: &mut Working,
-    event: Event,
-) -> Result<Reply, AllocError> {
-    match event {
-        Event::Begin { s } => Ok(begin(rt, heap, s)),
-        Event::Root { s, h } => Ok(heap.root(s, h)),
-        Event::New { s, h, len } => heap.make(s, h, len),
-        Event::Put { s, h, i, v } => heap.put(s, h, i, v),
-        Event::Clear { s, h, i } => heap.clear(s, h, i),
-        Event::Link { s, h, i, h2 } => heap.link(s, h, i, h2),
-        Event::Drop { s, h } => Ok(heap.drop_handle(s, h)),
-        Event::Get { s, h, i, h2 } => heap.get(s, h, i, h2),
-        Event::Same { s, h, h2 } => Ok(heap.same(s, h, h2)),
-        Event::Len { s, h } => Ok(heap.len(s, h)),
-        Event::Seal { s } => heap.seal(s, alloc),
-        Event::Abort { s } => heap.abort(s, alloc),
-        Event::Force | Event::Flush { .. } => panic!(rt; "it is of no session"),
+/// Asks an event, whose session, if it has one, is from 1 to 32.
+fn ask(rt: &impl Abort, heap: &mut Opened, event: Event) -> Result<Reply, AllocError> {
+    assert!(rt; event.is_of_session());
+    match heap.engine.step_on(&mut heap.disk, event) {
+        Ok(reply) => Ok(reply),
+        Err(StepError::NoMemory) => Err(AllocError),
+        Err(StepError::Disk(_)) => panic!(rt; "the disk failed or stopped"),
     }
 }
 
 /// Asks each event, and compares what it is answered.
-fn play(
-    rt: &impl Abort,
-    alloc: Global,
-    heap: &mut Working,
-    steps: &[Step],
-) -> Result<(), AllocError> {
+fn play(rt: &impl Abort, heap: &mut Opened, steps: &[Step]) -> Result<(), AllocError> {
     for (event, reply) in steps {
-        let found = ask(rt, alloc, heap, *event)?;
+        let found = ask(rt, heap, *event)?;
         same(rt, (*event, found), (*event, *reply));
     }
     Ok(())
 }
 
-#[test]
-fn what_was_sealed_stays(rt: HostRuntime) -> Result<(), Fail> {
-    let mut heap = opened(&rt, rt.alloc())?;
-    play(&rt, rt.alloc(), &mut heap, &MADE)?;
-    same(&rt, (heap.spaces.used(), heap.reserved), (10, 0));
-    play(&rt, rt.alloc(), &mut heap, &WRITTEN_IN_VAIN)?;
-    let word = heap.cache.as_slice().get(9).copied();
-    same(&rt, (word, heap.log.records()), (Some(29), 7));
-    Ok(())
+/// A committed word.
+fn committed(alloc: Global, heap: &Opened, at: usize) -> Result<Option<u64>, AllocError> {
+    let words = heap.engine.committed_words(alloc)?;
+    Ok(words.as_slice().get(at).copied())
 }
 
-/// The word of the root's first field, as it is and as it is committed.
-fn first_field(alloc: Global, heap: &Working) -> Result<(Option<u64>, Option<u64>), AllocError> {
-    let committed = heap.committed_words(alloc)?;
-    let now = heap.cache.as_slice().get(2).copied();
-    Ok((now, committed.as_slice().get(2).copied()))
+#[test]
+fn what_was_sealed_stays(rt: HostRuntime) -> Result<(), Fail> {
+    let mut heap = new_heap(&rt, rt.alloc(), PLAN)?;
+    play(&rt, &mut heap, &MADE)?;
+    play(&rt, &mut heap, &WRITTEN_IN_VAIN)?;
+    same(&rt, committed(rt.alloc(), &heap, 9)?, Some(29));
+    same(&rt, heap.engine.pending(), true);
+    play(&rt, &mut heap, &FORCED)?;
+    same(&rt, heap.engine.pending(), false);
+    play(&rt, &mut heap, &TOO_LARGE)?;
+    Ok(())
 }
 
 #[test]
 fn sessions_give_way(rt: HostRuntime) -> Result<(), Fail> {
-    let mut heap = opened(&rt, rt.alloc())?;
-    play(&rt, rt.alloc(), &mut heap, &THREE)?;
-    same(&rt, heap.reserved, 30);
-    play(&rt, rt.alloc(), &mut heap, &READERS_FIRST)?;
-    same(&rt, heap.reserved, 29);
-    play(&rt, rt.alloc(), &mut heap, &UNSEEN)?;
-    same(&rt, heap.reserved, 39);
-    let words = first_field(rt.alloc(), &heap)?;
-    same(&rt, words, (Some(21), Some(0)));
-    play(&rt, rt.alloc(), &mut heap, &SEEN)?;
-    same(&rt, heap.reserved, 10);
+    let mut heap = new_heap(&rt, rt.alloc(), PLAN)?;
+    play(&rt, &mut heap, &THREE)?;
+    play(&rt, &mut heap, &READERS_FIRST)?;
+    play(&rt, &mut heap, &UNSEEN)?;
+    same(&rt, committed(rt.alloc(), &heap, 2)?, Some(0));
+    play(&rt, &mut heap, &SEEN)?;
+    same(&rt, committed(rt.alloc(), &heap, 2)?, Some(21));
+    Ok(())
+}
+
+#[test]
+fn the_log_keeps_room_for_the_ends(rt: HostRuntime) -> Result<(), Fail> {
+    let mut heap = new_heap(&rt, rt.alloc(), SMALL)?;
+    play(&rt, &mut heap, &THREE)?;
+    play(&rt, &mut heap, &ROOM)?;
     Ok(())
 }

@@ -1,7 +1,7 @@
 use Rattle.std.proofs.Common.{rules, ◌≡◌, ℕ, ◌+◌, subst, None}
 use Rattle.page_cache.specs.CacheState.{cached}
 use Rattle.page_redo.specs.Redo.{EachLacks}
-use Rattle.object_tests.proofs.working_state_tests.opened.Goals as goal
+use Rattle.object_tests.proofs.engine_tests.new_heap.Goals as goal
 
 -- no page is ahead of the log
 pub new-requires-3-clause-new : goal.new-requires-3-clause-new
