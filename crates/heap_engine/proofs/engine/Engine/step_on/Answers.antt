@@ -27,6 +27,7 @@ returns-in-Begin g c =
       inside = all.inside c.requires.inside;
       works = λ fine. all.works c.requires.works;
       disk = keeps_none g.D.Disk c.args.disk.now tt;
+      answered = search rules;
       core = all.core;
       holds = λ tells. all.holds (g.met.D.Disk.only_now tells c.args.disk.now);
     }
@@ -43,6 +44,7 @@ returns-in-Root g c =
       inside = all.inside c.requires.inside;
       works = λ fine. all.works c.requires.works;
       disk = keeps_none g.D.Disk c.args.disk.now tt;
+      answered = search rules;
       core = all.core;
       holds = λ tells. all.holds (g.met.D.Disk.only_now tells c.args.disk.now);
     }
@@ -59,6 +61,7 @@ returns-in-Drop g c =
       inside = all.inside c.requires.inside;
       works = λ fine. all.works c.requires.works;
       disk = keeps_none g.D.Disk c.args.disk.now tt;
+      answered = search rules;
       core = all.core;
       holds = λ tells. all.holds (g.met.D.Disk.only_now tells c.args.disk.now);
     }
@@ -72,6 +75,7 @@ returns-in-Same g c =
       inside = all.inside c.requires.inside;
       works = λ fine. all.works c.requires.works;
       disk = keeps_none g.D.Disk c.args.disk.now tt;
+      answered = search rules;
       core = all.core;
       holds = λ tells. all.holds (g.met.D.Disk.only_now tells c.args.disk.now);
     }
@@ -85,6 +89,7 @@ returns-in-Len g c =
       inside = all.inside c.requires.inside;
       works = λ fine. all.works c.requires.works;
       disk = keeps_none g.D.Disk c.args.disk.now tt;
+      answered = search rules;
       core = all.core;
       holds = λ tells. all.holds (g.met.D.Disk.only_now tells c.args.disk.now);
     }
@@ -102,6 +107,7 @@ returns-in_ok-make-in-New g c =
       inside = all.inside c.requires.inside;
       works = λ fine. all.works c.requires.works;
       disk = keeps_none g.D.Disk c.args.disk.now tt;
+      answered = search rules;
       core = all.core;
       holds = λ tells. all.holds (g.met.D.Disk.only_now tells c.args.disk.now);
     }
@@ -117,6 +123,7 @@ returns-in_err-make-in-New g c =
       inside = all.inside c.requires.inside;
       works = λ fine. all.works c.requires.works;
       disk = subst (λ (r : Result Reply StepError). KeepsDisk g.D.Disk c.args.disk.now c.args.disk.now (engine_device r)) (sym err) (keeps_none g.D.Disk c.args.disk.now tt);
+      answered = search rules;
       core = all.core;
       holds = λ tells. all.holds (g.met.D.Disk.only_now tells c.args.disk.now);
     }
@@ -134,6 +141,7 @@ returns-in_ok-put-in-Put g c =
       inside = all.inside c.requires.inside;
       works = λ fine. all.works c.requires.works;
       disk = keeps_none g.D.Disk c.args.disk.now tt;
+      answered = search rules;
       core = all.core;
       holds = λ tells. all.holds (g.met.D.Disk.only_now tells c.args.disk.now);
     }
@@ -149,6 +157,7 @@ returns-in_err-put-in-Put g c =
       inside = all.inside c.requires.inside;
       works = λ fine. all.works c.requires.works;
       disk = subst (λ (r : Result Reply StepError). KeepsDisk g.D.Disk c.args.disk.now c.args.disk.now (engine_device r)) (sym err) (keeps_none g.D.Disk c.args.disk.now tt);
+      answered = search rules;
       core = all.core;
       holds = λ tells. all.holds (g.met.D.Disk.only_now tells c.args.disk.now);
     }
@@ -166,6 +175,7 @@ returns-in_ok-clear-in-Clear g c =
       inside = all.inside c.requires.inside;
       works = λ fine. all.works c.requires.works;
       disk = keeps_none g.D.Disk c.args.disk.now tt;
+      answered = search rules;
       core = all.core;
       holds = λ tells. all.holds (g.met.D.Disk.only_now tells c.args.disk.now);
     }
@@ -181,6 +191,7 @@ returns-in_err-clear-in-Clear g c =
       inside = all.inside c.requires.inside;
       works = λ fine. all.works c.requires.works;
       disk = subst (λ (r : Result Reply StepError). KeepsDisk g.D.Disk c.args.disk.now c.args.disk.now (engine_device r)) (sym err) (keeps_none g.D.Disk c.args.disk.now tt);
+      answered = search rules;
       core = all.core;
       holds = λ tells. all.holds (g.met.D.Disk.only_now tells c.args.disk.now);
     }
@@ -198,6 +209,7 @@ returns-in_ok-link-in-Link g c =
       inside = all.inside c.requires.inside;
       works = λ fine. all.works c.requires.works;
       disk = keeps_none g.D.Disk c.args.disk.now tt;
+      answered = search rules;
       core = all.core;
       holds = λ tells. all.holds (g.met.D.Disk.only_now tells c.args.disk.now);
     }
@@ -213,6 +225,7 @@ returns-in_err-link-in-Link g c =
       inside = all.inside c.requires.inside;
       works = λ fine. all.works c.requires.works;
       disk = subst (λ (r : Result Reply StepError). KeepsDisk g.D.Disk c.args.disk.now c.args.disk.now (engine_device r)) (sym err) (keeps_none g.D.Disk c.args.disk.now tt);
+      answered = search rules;
       core = all.core;
       holds = λ tells. all.holds (g.met.D.Disk.only_now tells c.args.disk.now);
     }
@@ -231,6 +244,7 @@ returns-in_ok-get-in-Get g c =
       inside = all.inside c.requires.inside;
       works = λ fine. all.works c.requires.works;
       disk = keeps_none g.D.Disk c.args.disk.now tt;
+      answered = search rules;
       core = all.core;
       holds = λ tells. all.holds (g.met.D.Disk.only_now tells c.args.disk.now);
     }
@@ -246,6 +260,7 @@ returns-in_err-get-in-Get g c =
       inside = all.inside c.requires.inside;
       works = λ fine. all.works c.requires.works;
       disk = subst (λ (r : Result Reply StepError). KeepsDisk g.D.Disk c.args.disk.now c.args.disk.now (engine_device r)) (sym err) (keeps_none g.D.Disk c.args.disk.now tt);
+      answered = search rules;
       core = all.core;
       holds = λ tells. all.holds (g.met.D.Disk.only_now tells c.args.disk.now);
     }
@@ -263,6 +278,7 @@ returns-in_ok-seal-in-Seal g c =
       inside = all.inside c.requires.inside;
       works = λ fine. all.works c.requires.works;
       disk = keeps_none g.D.Disk c.args.disk.now tt;
+      answered = search rules;
       core = all.core;
       holds = λ tells. all.holds (g.met.D.Disk.only_now tells c.args.disk.now);
     }
@@ -278,6 +294,7 @@ returns-in_err-seal-in-Seal g c =
       inside = all.inside c.requires.inside;
       works = λ fine. all.works c.requires.works;
       disk = subst (λ (r : Result Reply StepError). KeepsDisk g.D.Disk c.args.disk.now c.args.disk.now (engine_device r)) (sym err) (keeps_none g.D.Disk c.args.disk.now tt);
+      answered = search rules;
       core = all.core;
       holds = λ tells. all.holds (g.met.D.Disk.only_now tells c.args.disk.now);
     }
@@ -295,6 +312,7 @@ returns-in_ok-abort-in-Abort g c =
       inside = all.inside c.requires.inside;
       works = λ fine. all.works c.requires.works;
       disk = keeps_none g.D.Disk c.args.disk.now tt;
+      answered = search rules;
       core = all.core;
       holds = λ tells. all.holds (g.met.D.Disk.only_now tells c.args.disk.now);
     }
@@ -310,6 +328,7 @@ returns-in_err-abort-in-Abort g c =
       inside = all.inside c.requires.inside;
       works = λ fine. all.works c.requires.works;
       disk = subst (λ (r : Result Reply StepError). KeepsDisk g.D.Disk c.args.disk.now c.args.disk.now (engine_device r)) (sym err) (keeps_none g.D.Disk c.args.disk.now tt);
+      answered = search rules;
       core = all.core;
       holds = λ tells. all.holds (g.met.D.Disk.only_now tells c.args.disk.now);
     }
