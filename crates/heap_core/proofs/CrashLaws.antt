@@ -1,20 +1,18 @@
 -- What a crash leaves of an open heap.
-use Rattle.std.proofs.Common.{◌≡◌, inl, ℕ, List, Option, Some, None, refl, sym, ◌∙◌, subst}
+use Rattle.std.proofs.Common.{◌≡◌, ℕ, List, Option, Some, None, refl, sym, ◌∙◌}
 use Rattle.graph_model.specs.History.{account}
 use Rattle.image_plan.specs.declared.superblock.Super.{Super}
 use Rattle.heap_model.specs.Core.{Core}
 use Rattle.heap_model.specs.CoreCrash.{IsCommitPrefix}
-use Rattle.core_laws.proofs.Crash.Image.{crash_law, prefixes_on}
 use Rattle.core_laws.specs.Valid.{IsSound}
-use Rattle.heap_model.specs.Image.{Holds}
 use Rattle.heap_core.specs.Refinement.{DiskHolds}
+use Rattle.heap_engine.proofs.EventCore.{disk_keeps}
 
 module _ (s : Super) (c : Core) (image : List ℕ) (may_leave : List ℕ → Type 0) (holds : DiskHolds s c image may_leave) (sound : IsSound c) where
   keeps_as : (o : Option ℕ) → (account c.history).failed ≡ o → (d : List ℕ) → may_leave d → IsCommitPrefix c d
-  keeps_as None is d left =
-      let disk = holds.unfailed is in
-      crash_law c s c.batches disk.stored sound holds.born disk.logged.words (prefixes_on c c.batches disk.stored disk.logged (inl refl)) (inl refl) disk.of d (subst (λ (x : List ℕ). Holds s c.batches disk.stored x) (sym (disk.only d left)) disk.held)
+  keeps_as None is d left = disk_keeps s c image may_leave (holds.unfailed is) sound d left
   keeps_as (Some entry) is d left = holds.failed (λ none. let never : None ≡ Some entry = sym none ∙ is in cc) d left
+
   -- a crash leaves the heap's first commits
   pub heap_keeps : (d : List ℕ) → may_leave d → IsCommitPrefix c d
   heap_keeps d left = keeps_as (account c.history).failed refl d left

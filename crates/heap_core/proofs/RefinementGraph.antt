@@ -15,9 +15,9 @@ use Rattle.graph_words.proofs.Stands.Seen.{stands_seen_at}
 use Rattle.heap_model.specs.Core.{Core, Ground, ground, all_words, undo_with}
 use Rattle.memory_laws.specs.CoreMemory.{IsMemory, kept_of}
 use Rattle.txn_table.specs.Table.{TableState, transaction_of}
-use Rattle.working_state.specs.declared.working.Working.{Working}
-use Rattle.working_state.specs.Reserve.{undo_if}
-use Rattle.working_state.specs.State.{memory, without_writes, committed}
+use Rattle.heap_engine.specs.declared.engine.Engine.{Engine}
+use Rattle.heap_engine.specs.Reserve.{undo_if}
+use Rattle.heap_engine.specs.EngineState.{memory, without_writes, committed}
 
 -- of a session's transaction its writes are kept
 undo_kept : (g : Ground) (s : State) (g0 : Graph) (a : Account) (o : Option Transaction) → g.state ≡ Some s → undo_if (kept_of g g0 a o) ≡ session_undo (undo_of s) o
@@ -32,7 +32,7 @@ taken_same table undo a same (s ∷ ss) now =
     taken_same table undo a same ss (taken_back (undo_if (transaction_of table s)) now) ∙ ap (λ (us : List UndoEntry). taken_by undo a ss (taken_back us now)) (same s)
 
 -- what is in memory without it
-memory_committed : (c : Core) (w : Working) → (valid : IsValid c) → RunsLocked c.g0 c.first c.history → IsMemory (memory w) (account c.history) c → committed w ≡ all_taken_back valid.behind (all_words c)
+memory_committed : (c : Core) (w : Engine) → (valid : IsValid c) → RunsLocked c.g0 c.first c.history → IsMemory (memory w) (account c.history) c → committed w ≡ all_taken_back valid.behind (all_words c)
 memory_committed c w valid runs is =
     let a = account c.history in
     let undo = undo_of valid.behind in
@@ -41,7 +41,7 @@ memory_committed c w valid runs is =
     ∙ committed_by_session a c valid (two_phase_ordered c.g0 c.history runs.plain runs.two_phase)
 
 -- the graph of the sealed transactions is seen in it
-pub memory_seen : (c : Core) (w : Working) → IsValid c → RunsLocked c.g0 c.first c.history → IsMemory (memory w) (account c.history) c
+pub memory_seen : (c : Core) (w : Engine) → IsValid c → RunsLocked c.g0 c.first c.history → IsMemory (memory w) (account c.history) c
     → IsSeenAs (name_at c.places) (committed w) 0 (serial c.g0 (sealed c.history))
 memory_seen c w valid runs is =
     let now = all_taken_back valid.behind (all_words c) in

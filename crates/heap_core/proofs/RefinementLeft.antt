@@ -1,6 +1,5 @@
--- What a crash leaves of a heap, and how many device calls an event makes.
+-- What a crash leaves of a heap whose history gets an entry that neither commits nor acknowledges anything.
 use Rattle.std.proofs.Common.{◌≡◌, ◌⊎◌, inl, inr, ℕ, ◌+◌, ◌≤◌, cond, List, [], ◌∷◌, ◌++◌, length, take, Option, Some, None, Result, Ok, Err, refl, sym, ap, ◌∙◌, subst, arith}
-use Rattle.std.specs.Prelude.{OnOk, OnErr, nat_lt, if◌then◌else◌}
 use Rattle.std.specs.Option.{option_to_list}
 use Rattle.std.proofs.lemmas.Bool.{lt-ltb}
 use Rattle.counts.specs.Count.{counted}
@@ -82,58 +81,3 @@ cut_account a event reply asks told = absurd asks
 pub keeps_cut : (c : Core) (event : Event) (reply : Reply) (image : List ℕ) → AsksDisk event → (reply ≡ Refused DiskFault) ⊎ (reply ≡ Refused Stopped) → IsCommitPrefix c image
     → IsCommitPrefix (with_entry c event reply) image
 keeps_cut c event reply image asks told kept = keeps_entry c event reply _ image (cut_account (account c.history) event reply asks told) refl refl refl kept
-
--- an event that asks nothing of the disk
-pub stays : {D : Type 0} (moment : D → ℕ) (left_since : D → ℕ → List ℕ → Type 0) (disk : D) (may_leave P : List ℕ → Type 0)
-    → ((d : List ℕ) → left_since disk (moment disk) d → may_leave d) → ((d : List ℕ) → may_leave d → P d) → LeavesOnly moment left_since disk disk P
-stays moment left_since disk may_leave P now here = begins moment left_since disk P (λ d left. here d (now d left))
-
-all_of_none : (before : ℕ) (result : Result (Unit {0}) DiskError) → OnOk result (before ≡ counted 0 before)
-all_of_none before (Ok nothing) = refl
-all_of_none before (Err e) = tt
-
--- no calls are all of none
-pub none_pass : (n before : ℕ) (result : Result (Unit {0}) DiskError) → n ≡ 0 → Passes n before before result
-none_pass n before result none = subst (λ (k : ℕ). Passes k before before result) (sym none) (record {
-  ok = all_of_none before result;
-  some = (0, (omega arith), refl);
-  stopped = λ same any. absurd (omega (arith, any));
-})
-
-quiet_calls : (o : Option Refusal) (c : Core) (event : Event) → (AsksDisk event → ⊥) → calls_if o c event ≡ 0
-quiet_calls (Some why) c event other = refl
-quiet_calls None c Force other = absurd (other tt)
-quiet_calls None c (Flush p) other = absurd (other tt)
-quiet_calls None c event other = refl
-
-pub quiet_passes : (c : Core) (event : Event) (before : ℕ) (reply : Reply) → (AsksDisk event → ⊥) → Passes (calls c event) before before (reply_device reply)
-quiet_passes c event before reply other = none_pass (calls c event) before (reply_device reply) (quiet_calls (core_refusal c event) c event other)
-
--- nor does an event that a heap refuses since it has failed
-pub failed_passes : (c : Core) (event : Event) (entry before : ℕ) (reply : Reply) → (account c.history).failed ≡ Some entry → Passes (calls c event) before before (reply_device reply)
-failed_passes c event entry before reply is = none_pass (calls c event) before (reply_device reply) (ap (λ (o : Option Refusal). calls_if o c event) (failed_refusal c event entry is))
-
--- what a log says of its buffer, says whether a force makes calls
-pub hand_calls : (n : ℕ) (p : List Record) → n ≡ 4 + length (spellings p) → (if nat_lt 4 n then 4 else 0) ≡ force_calls p
-hand_calls n [] is = ap (λ (k : ℕ). if nat_lt 4 k then 4 else 0) is
-hand_calls n (r ∷ rs) is = ap (λ b. cond b 4 0) (lt-ltb 4 n (omega (arith, is, some_spellings r rs)))
-
--- a force makes four calls where something waits
-pub force_passes : (c : Core) (log : Log) (before now : ℕ) (result : Result (Unit {0}) DiskError) → IsValid c → Keeps log c.batches c.pending
-    → Passes (if is_waiting log then 4 else 0) before now result → Passes (calls c Force) before now result
-force_passes c log before now result valid keeps passes =
-    subst (λ (n : ℕ). Passes n before now result) (hand_calls (buffer_size log) c.pending (buffer_size-Keeps log c.batches c.pending keeps) ∙ sym (calls-forced c valid)) passes
-
-nothing_pending : (p : List Record) → force_calls p ≡ 0 → p ≡ []
-nothing_pending [] none = refl
-nothing_pending (r ∷ rs) none = absurd (omega (arith, none))
-
--- and finds an empty buffer where it makes none
-pub no_calls_empty : (c : Core) (log : Log) → IsValid c → Keeps log c.batches c.pending → calls c Force ≡ 0 → IsBufferEmpty log
-no_calls_empty c log valid keeps none =
-    buffer_size-Keeps log c.batches c.pending keeps ∙ ap (λ (p : List Record). 4 + length (spellings p)) (nothing_pending c.pending (sym (calls-forced c valid) ∙ none))
-
--- what holds anyway holds after an error
-pub on_error : {T E P : Type 0} (result : Result T E) → P → OnErr result P
-on_error (Ok x) holds = tt
-on_error (Err e) holds = holds

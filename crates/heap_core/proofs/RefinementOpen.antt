@@ -1,5 +1,5 @@
 -- A heap that has just been opened.
-use Rattle.std.specs.Prelude.{IsFalse}
+use Rattle.std.specs.Prelude.{IsTrue, IsFalse}
 use Rattle.std.proofs.Common.{◌≡◌, inl, ℕ, ◌+◌, ◌<◌, ◌≤◌, max, get_or, Bool, true, false, List, length, None, is_some, refl, sym, ap, ◌∙◌, subst, arith}
 use Rattle.std.specs.FinMap.{get-empty}
 use Rattle.std.specs.FinSet as set
@@ -37,10 +37,12 @@ use Rattle.heap_memory.specs.Memory.{Memory}
 use Rattle.memory_laws.specs.CoreMemory.{AreHeld, IsMemory}
 use Rattle.object_locks.specs.Holdings.{Holdings, holding_cmp}
 use Rattle.txn_table.specs.Table.{TransactionState, TableState, transaction_of, new_table}
-use Rattle.working_state.specs.declared.working.Working.{Working}
-use Rattle.working_state.specs.State as state
-use Rattle.working_state.specs.State.{memory}
-use Rattle.heap_core.specs.Refinement.{KnowsPages, Remembers, DiskHolds}
+use Rattle.heap_engine.specs.declared.engine.Engine.{Engine}
+use Rattle.heap_engine.specs.EngineState as state
+use Rattle.heap_engine.specs.EngineState.{memory}
+use Rattle.disk_model.specs.declared.disk.Disk.{Ghosts}
+use Rattle.heap_engine.specs.Refinement.{KnowsPages, IsEngine}
+use Rattle.heap_core.specs.Refinement.{DiskHolds}
 
 -- as many words are used as the log says
 used_found : (s : Super) (batches : List (List Record)) (stored : Pages) (found : Recovered) (shaped : IsShapedLog s batches stored) → IsRecovered s batches stored found → found.used ≡ shaped.state.used
@@ -135,22 +137,22 @@ fresh_memory s batches stored gates born places g found m shaped recovered fresh
       sealed = fresh.sealed;
     }
 
-pub opened_memory : (s : Super) (batches : List (List Record)) (stored : Pages) (gates : ℕ → ℕ) (born : Bool) (places : Places) (g : Graph) (found : Recovered) (w : Working) → (shaped : IsShapedLog s batches stored)
-    → IsRecovered s batches stored found → IsFresh found (memory w) → Remembers (opened s batches stored gates born places g) w None
-opened_memory s batches stored gates born places g found w shaped recovered fresh = record {
-  failure = refl;
-  works = λ none. fresh_memory s batches stored gates born places g found (memory w) shaped recovered fresh;
-  waited = tt;
-  sealed = fresh.sealed;
-  active = λ s. ap is_some (none_begun (memory w).table found.next fresh.table s);
-}
-
--- what was known of the pages that are stored is known of them
-pub opened_pages : (s : Super) (batches : List (List Record)) (stored : Pages) (gates : ℕ → ℕ) (born : Bool) (places : Places) (g : Graph) (found : Recovered) (w : Working) (image : List ℕ)
-    → IsFresh found (memory w) → Knows (cache_store found.cache) image → ((p : ℕ) → open_gates s.log_bytes image p ≡ gates p) → KnowsPages (opened s batches stored gates born places g) w image
-opened_pages s batches stored gates born places g found w image fresh knows are = record {
+-- What was known of the pages that are stored is known of them.
+opened_pages : (s : Super) (batches : List (List Record)) (stored : Pages) (gates : ℕ → ℕ) (born : Bool) (places : Places) (g : Graph) (found : Recovered) (m : Memory) (image : List ℕ)
+    → IsFresh found m → Knows (cache_store found.cache) image → ((p : ℕ) → open_gates s.log_bytes image p ≡ gates p) → KnowsPages (opened s batches stored gates born places g) m image
+opened_pages s batches stored gates born places g found m image fresh knows are = record {
   frames = subst (λ (x : PageStore). Knows x image) (sym fresh.store) knows;
   gates = are;
+}
+
+-- so the engine that is made of it is that core
+pub opened_engine : {D : Type 0} (d : Ghosts D) (s : Super) (batches : List (List Record)) (stored : Pages) (gates : ℕ → ℕ) (born : Bool) (places : Places) (g : Graph) (found : Recovered) (e : Engine) (disk : D)
+    → (shaped : IsShapedLog s batches stored) → IsRecovered s batches stored found → IsFresh found (memory e) → (IsTrue d.tells → Knows (cache_store found.cache) (d.bytes disk))
+    → (IsTrue d.tells → (p : ℕ) → open_gates s.log_bytes (d.bytes disk) p ≡ gates p) → IsEngine d (opened s batches stored gates born places g) e disk
+opened_engine d s batches stored gates born places g found e disk shaped recovered fresh knows are = record {
+  unfailed = refl;
+  pages = λ told. opened_pages s batches stored gates born places g found (memory e) (d.bytes disk) fresh (knows told) (are told);
+  memory = fresh_memory s batches stored gates born places g found (memory e) shaped recovered fresh;
 }
 
 -- its words are those that a legal log leaves, beside pages that may stand there
@@ -170,6 +172,7 @@ opened_disk_holds s batches stored gates places g new may_leave legal held only 
   born = refl;
   unfailed = λ none. record {
     of = record { limits = legal.shaped.limits; pages = refl; room = refl; first = refl };
+    born = refl;
     stored = stored;
     logged = opened_logged s batches stored legal gates places g;
     held = held;

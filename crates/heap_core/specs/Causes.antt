@@ -4,11 +4,10 @@ use Rattle.std.specs.declared.alloc.AllocError.{AllocError}
 use Rattle.disk_model.specs.declared.disk.DiskError.{DiskError}
 use Rattle.disk_model.specs.declared.disk.DiskError.TheVariants as device
 use Rattle.gate_slot.specs.Passing.{Passes}
-use Rattle.graph_model.specs.declared.reply.Refusal.TheVariants.{DiskFault, Stopped}
 use Rattle.graph_model.specs.declared.reply.Reply.{Reply}
-use Rattle.graph_model.specs.declared.reply.Reply.TheVariants.{Refused}
 use Rattle.graph_print.specs.declared.print_error.PrintError.{PrintError}
 use Rattle.graph_print.specs.declared.print_error.PrintError.TheVariants as printing
+pub use Rattle.heap_engine.specs.StepResult.{reply_device}
 use Rattle.heap_recovery.specs.declared.error.RecoverError.{RecoverError}
 use Rattle.heap_recovery.specs.declared.error.RecoverError.TheVariants as recovery
 use Rattle.heap_core.specs.declared.errors.GraphError.{GraphError}
@@ -17,11 +16,6 @@ use Rattle.heap_core.specs.declared.errors.OpenError.{OpenError}
 use Rattle.heap_core.specs.declared.errors.OpenError.TheVariants as opening
 
 -- what the disk answered in a step
-abbrev pub reply_device : Reply → Result (Unit {0}) DiskError
-reply_device (Refused DiskFault) = Err device.Failed
-reply_device (Refused Stopped) = Err device.Stopped
-reply_device reply = Ok tt
-
 abbrev pub step_device : Result Reply AllocError → Result (Unit {0}) DiskError
 step_device (Ok reply) = reply_device reply
 step_device (Err e) = Ok tt

@@ -1,11 +1,11 @@
 -- A heap, as the clauses of its calls see it.
 use Rattle.std.specs.Prelude.{ℕ, List, Option, Result, Ok, Err}
 use Rattle.std.specs.Option.{option_map}
+use Rattle.commit_order.specs.Recorded.{Recorded}
 use Rattle.disk_model.specs.declared.disk.Disk.{Ghosts}
 use Rattle.graph_model.specs.declared.reply.Entry.{Entry}
-use Rattle.heap_core.specs.declared.history.Failure.{Failure}
+use Rattle.heap_core.specs.declared.heap.Failure.{Failure}
 use Rattle.heap_core.specs.declared.heap.Heap.{Heap}
-use Rattle.heap_core.specs.declared.history.History.{History}
 use Rattle.heap_core.specs.declared.errors.OpenError.{OpenError}
 
 -- the disk that an opening keeps, or gives back
@@ -26,5 +26,5 @@ abbrev pub failed_at : {D : Type 0} {g : Ghosts D} → Heap D g → Option ℕ
 failed_at heap = entry_of heap.failed
 
 -- the entries of a history
-abbrev pub entries_of : History → List Entry
-entries_of history = history.entries.items
+abbrev pub entries_of : Recorded → List Entry
+entries_of history = history.entries

@@ -1,17 +1,16 @@
 //! The heap: events on an image, each of them one step.
-ghost use Rattle.std.specs.Prelude.{◌≡◌, ◌≢◌, ◌⊎◌, ◌↔◌, ◌+◌, ◌≤◌, ◌^◌, ◌<◌, ℕ, List, [], length, min, is_some, Bool, true, None, Some, Ok, Err, IsTrue, IsFalse, IfOk, IfErr, IsErrAnd, OnErr};
+ghost use Rattle.std.specs.Prelude.{◌≡◌, ◌≢◌, ◌⊎◌, ◌↔◌, ◌+◌, ◌≤◌, ◌^◌, ◌<◌, ℕ, List, [], ◌∷◌, ◌++◌, length, min, is_some, Bool, true, None, Some, Ok, Err, IsTrue, IfOk, IfErr, IsErrAnd, OnErr};
 ghost use Rattle.counts.specs.Count.{greatest};
 ghost use Rattle.disk_model.specs.Disk.{Only};
 ghost use Rattle.disk_model.specs.Keeps.{KeepsDisk, OnlyReads};
 ghost use Rattle.disk_model.specs.Moments.{LeavesOnly};
 ghost use Rattle.gate_slot.specs.Passing.{Passes};
-ghost use Rattle.gated_log.specs.LogState.{log_place, log_room, IsPlaced};
 ghost use Rattle.graph_model.specs.Graph.{Graph};
 ghost use Rattle.graph_model.specs.Canon.{canon};
 ghost use Rattle.graph_model.specs.Text.{canon_text};
-ghost use Rattle.graph_model.specs.History.{account, commits, sealed, IsOfSession};
+ghost use Rattle.graph_model.specs.History.{IsOfSession};
+ghost use Rattle.graph_model.specs.History.{account, commits, sealed};
 ghost use Rattle.graph_model.specs.Transaction.{serial, serial_replies};
-ghost use Rattle.graph_model.specs.declared.event.Event.TheVariants.{Force, Flush};
 ghost use Rattle.graph_model.specs.declared.reply.Refusal.TheVariants.{DiskFault, Stopped};
 ghost use Rattle.image_plan.specs.declared.superblock.Super.{Super};
 ghost use Rattle.log_records.specs.declared.Record.{Record};
@@ -22,29 +21,25 @@ ghost use Rattle.graph_words.specs.Places.{Places};
 ghost use Rattle.object_layout.specs.Layout.{IsSeenAs};
 ghost use Rattle.heap_model.specs.Opening.{opened, rolled_back, rollback_of, opening_calls, IsFound, IsLeftByOpening};
 ghost use Rattle.heap_core.specs.Causes.{step_device, reply_device, opened_device, IsFromOutside, OpenedPasses};
-ghost use Rattle.heap_model.specs.Core.{Core, AsksDisk, IsStep, calls, is_dirty};
-ghost use Rattle.page_cache.specs.CacheState.{cache_store, cache_size, cache_failed};
+ghost use Rattle.heap_model.specs.Core.{Core, IsStep, calls, is_dirty};
 ghost use Rattle.page_store.specs.Gates.{open_gates};
 ghost use Rattle.heap_model.specs.CoreCrash.{IsCommitPrefix};
-ghost use Rattle.core_laws.specs.Valid.{IsReached, IsValid, RunsLocked};
+ghost use Rattle.core_laws.specs.Valid.{IsReached};
+ghost use Rattle.heap_engine.specs.EngineState.{LiesWithin, HasNotFailed};
 ghost use Rattle.commit_order.specs.Heard.{replies_of_commits};
 ghost use Rattle.commit_order.specs.SerialOrder.{IsCommitOrdered};
-ghost use Rattle.heap_memory.specs.Leaves.{IsAsItWas};
-ghost use Rattle.memory_laws.specs.CoreMemory.{IsMemory, Does};
-ghost use Rattle.working_state.specs.State.{memory};
 
 use crate::errors::{GraphError, OpenError};
-use crate::history::{Failure, History};
-use crate::storing::store_page;
+use commit_order::History;
 use disk_model::{Disk, DiskError};
-use graph_model::{Entry, Event, Refusal, Reply};
+use graph_model::{Event, Refusal, Reply};
+use heap_engine::{Engine, StepError};
 use heap_recovery::{Recovered, recover};
 use heap_spaces::Spaces;
 use log_machine::PageWords;
 use object_layout::WordSlice;
 use std::alloc::{AllocError, Global};
 use txn_table::TxnTable;
-use working_state::{Working, refused};
 
 /// The word address of the root object.
 const ROOT_AT: u32 = 0;
@@ -53,26 +48,23 @@ const ROOT_AT: u32 = 0;
 #[derive(Debug, Drop)]
 pub struct Heap<D: Disk> {
     disk: D,
-    working: Working,
+    engine: Engine,
     history: History,
     // How many commits the log held when the heap was opened.
     before: u64,
     // Where the disk failed or stopped.
     failed: Option<Failure>,
-    ghost inside: { log_place working.log + log_room working.log ≤ D.extent disk },
-    ghost pages_inside: { cache_size working.cache ≤ D.extent disk },
-    ghost works: { failed ≡ None → IsFalse (cache_failed working.cache) },
+    ghost inside: { LiesWithin engine (D.extent disk) },
+    ghost works: { failed ≡ None → HasNotFailed engine },
 }
 
-/// How an event is answered.
+/// Where the disk failed or stopped.
 #[derive(Clone, Copy, Debug)]
-enum Answer {
-    /// With this reply, and the disk is not asked.
-    Told(Reply),
-    /// By a force.
-    Force,
-    /// By a flush of the page of that number.
-    Flush { p: u64 },
+struct Failure {
+    /// The entry, from 1.
+    entry: u64,
+    /// Whether records were pending before it.
+    pending: bool,
 }
 
 /// What an event is answered that the disk cut short.
@@ -80,40 +72,21 @@ fn cut_short(e: DiskError) -> Reply
     ensures device { reply_device result ≡ Err e }
     ensures told { (result ≡ Reply.Refused DiskFault) ⊎ (result ≡ Reply.Refused Stopped) }
 {
-    refused(match e {
+    let why = match e {
         DiskError::Failed => Refusal::DiskFault,
         DiskError::Stopped => Refusal::Stopped,
-    })
+    };
+    Reply::Refused { why }
 }
 
-/// What is answered to an event that asks nothing of the disk. One that does is left to be made.
-fn reply_in_memory(working: &mut Working, alloc: Global, event: Event) -> Result<Answer, AllocError>
-    requires { IsOfSession event }
-    ensures does { (c : Core) → IsMemory (memory working.old) (account c.history) c → IsValid c → RunsLocked c.g0 c.first c.history → IfOk result (λ answer. (reply : Reply) → answer ≡ Answer.Told reply → Does c event reply (memory working.new)) }
-    ensures replied { IfOk result (λ answer. (reply : Reply) → answer ≡ Answer.Told reply → AsksDisk event → ⊥) }
-    ensures quiet { IfOk result (λ answer. (reply : Reply) → answer ≡ Answer.Told reply → reply_device reply ≡ Ok tt) }
-    ensures forced { IfOk result (λ answer. answer ≡ Answer.Force → (event ≡ Force) × (working.new ≡ working.old)) }
-    ensures flushed { IfOk result (λ answer. (p : ℕ) → answer ≡ Answer.Flush p → (event ≡ Flush p) × (working.new ≡ working.old)) }
-    ensures placed { IsPlaced working.old.log working.new.log }
-    ensures stored { cache_store working.new.cache ≡ cache_store working.old.cache }
-    ensures err { OnErr result (IsAsItWas (memory working.old) (memory working.new)) }
+/// Adds an event to the history with its reply, for which there is room, and gives the reply back.
+fn entered(history: &mut History, event: Event, reply: Reply) -> Reply
+    requires { 0 < history.old.room }
+    ensures entries { history.new.entries ≡ history.old.entries ++ record { event = event; reply = reply } ∷ [] }
+    ensures reply { result ≡ reply }
 {
-    match event {
-        Event::Begin { s } => Ok(Answer::Told(working.begin(s))),
-        Event::Root { s, h } => Ok(Answer::Told(working.root(s, h))),
-        Event::New { s, h, len } => Ok(Answer::Told(working.make(s, h, len)?)),
-        Event::Put { s, h, i, v } => Ok(Answer::Told(working.put(s, h, i, v)?)),
-        Event::Clear { s, h, i } => Ok(Answer::Told(working.clear(s, h, i)?)),
-        Event::Link { s, h, i, h2 } => Ok(Answer::Told(working.link(s, h, i, h2)?)),
-        Event::Drop { s, h } => Ok(Answer::Told(working.drop_handle(s, h))),
-        Event::Get { s, h, i, h2 } => Ok(Answer::Told(working.get(s, h, i, h2)?)),
-        Event::Same { s, h, h2 } => Ok(Answer::Told(working.same(s, h, h2))),
-        Event::Len { s, h } => Ok(Answer::Told(working.len(s, h))),
-        Event::Seal { s } => Ok(Answer::Told(working.seal(s, alloc)?)),
-        Event::Abort { s } => Ok(Answer::Told(working.abort(s, alloc)?)),
-        Event::Force => Ok(Answer::Force),
-        Event::Flush { p } => Ok(Answer::Flush { p }),
-    }
+    history.push(event, reply);
+    reply
 }
 
 /// The text of the graph that is seen from the root on.
@@ -128,7 +101,7 @@ fn print(alloc: Global, words: &PageWords) -> Result<Vec<u8>, GraphError>
 
 impl<D: Disk> Heap<D> {
     ghost use Rattle.heap_core.specs.HeapState.{opened_disk, heap_disk, failed_at, entries_of};
-    ghost use Rattle.heap_core.specs.Refinement.{IsCore, IsHeap, Steps, StepsOn};
+    ghost use Rattle.heap_core.specs.Refinement.{IsCore, IsHeap};
     ghost use Rattle.heap_core.specs.Refusals.{IsToldOf, IsErrorOrOutside, ComesBeforeWrites};
     ghost use Rattle.heap_core.specs.declared.errors.OpenError.TheVariants.{NotHeap, Damaged};
     ghost use Rattle.heap_recovery.specs.declared.at.At.{At};
@@ -190,10 +163,10 @@ impl<D: Disk> Heap<D> {
                 } = found;
                 table.set_next(next);
                 let spaces = Spaces::new(pages, 0, used, 0);
-                let working = Working::new(alloc, log, cache, spaces, table);
+                let engine = Engine::new(alloc, log, cache, spaces, table);
                 Ok(Heap {
                     disk,
-                    working,
+                    engine,
                     history: History::new(alloc),
                     before: commits,
                     failed: None,
@@ -221,108 +194,21 @@ impl<D: Disk> Heap<D> {
         // An event that makes no write or sync leaves the disk alone, and does not read it either.
         ensures still { (c : Core) → IsCore c self.old → IsReached c → calls c event ≡ 0 → self.new.disk ≡ self.old.disk }
     {
-        self.history.reserve()?;
-        let reply = self.reply_to(event)?;
-        self.history.push(Entry { event, reply });
-        Ok(reply)
-    }
-
-    fn reply_to(&mut self, event: Event) -> Result<Reply, AllocError>
-        requires { IsOfSession event }
-        ensures disk { KeepsDisk D.Disk self.old.disk self.new.disk (step_device result) }
-        ensures history { self.new.history ≡ self.old.history }
-        ensures core { (c : Core) → IsCore c self.old → IsReached c → IfOk result (λ reply. Steps c event reply self.new.working self.new.failed D.tells (D.bytes self.new.disk)) }
-        ensures holds { IsTrue D.tells → (s : Super) (c : Core) → IsHeap s c self.old → IsReached c → IfOk result (λ reply. StepsOn s c event reply self.new.working self.new.failed D.tells (D.bytes self.new.disk) (D.may_leave self.new.disk)) }
-        ensures kept { (c : Core) → IsCore c self.old → OnErr result (IsCore c self.new) }
-        ensures before { self.new.before ≡ self.old.before }
-        ensures untouched { OnErr result (self.new.disk ≡ self.old.disk) }
-        ensures moments { IsTrue D.tells → (s : Super) (c : Core) → IsHeap s c self.old → IsReached c → LeavesOnly D.moment D.left_since self.old.disk self.new.disk (IsCommitPrefix c) }
-        ensures passes { IsTrue D.tells → (c : Core) → IsCore c self.old → IsReached c → IfOk result (λ reply. Passes (calls c event) (D.passed self.old.disk) (D.passed self.new.disk) (reply_device reply)) }
-        ensures still { (c : Core) → IsCore c self.old → IsReached c → calls c event ≡ 0 → self.new.disk ≡ self.old.disk }
-    {
-        match self.failed {
-            Some(failure) => Ok(refused(Refusal::Failed {
+        self.history.reserve(1)?;
+        if let Some(failure) = self.failed {
+            let why = Refusal::Failed {
                 entry: failure.entry,
-            })),
-            None => self.answer(event),
+            };
+            return Ok(entered(&mut self.history, event, Reply::Refused { why }));
         }
-    }
-
-    fn answer(&mut self, event: Event) -> Result<Reply, AllocError>
-        requires session { IsOfSession event }
-        requires unfailed { self.old.failed ≡ None }
-        ensures disk { KeepsDisk D.Disk self.old.disk self.new.disk (step_device result) }
-        ensures core { (c : Core) → IsCore c self.old → IsReached c → IfOk result (λ reply. Steps c event reply self.new.working self.new.failed D.tells (D.bytes self.new.disk)) }
-        ensures holds { IsTrue D.tells → (s : Super) (c : Core) → IsHeap s c self.old → IsReached c → IfOk result (λ reply. StepsOn s c event reply self.new.working self.new.failed D.tells (D.bytes self.new.disk) (D.may_leave self.new.disk)) }
-        ensures kept { (c : Core) → IsCore c self.old → OnErr result (IsCore c self.new) }
-        ensures before { self.new.before ≡ self.old.before }
-        ensures history { self.new.history ≡ self.old.history }
-        ensures untouched { OnErr result (self.new.disk ≡ self.old.disk) }
-        ensures moments { IsTrue D.tells → (s : Super) (c : Core) → IsHeap s c self.old → IsReached c → LeavesOnly D.moment D.left_since self.old.disk self.new.disk (IsCommitPrefix c) }
-        ensures passes { IsTrue D.tells → (c : Core) → IsCore c self.old → IsReached c → IfOk result (λ reply. Passes (calls c event) (D.passed self.old.disk) (D.passed self.new.disk) (reply_device reply)) }
-        ensures still { (c : Core) → IsCore c self.old → IsReached c → calls c event ≡ 0 → self.new.disk ≡ self.old.disk }
-    {
-        let alloc = self.history.allocator();
-        match reply_in_memory(&mut self.working, alloc, event)? {
-            Answer::Told(reply) => Ok(reply),
-            Answer::Force => self.force(),
-            Answer::Flush { p } => self.flush(p),
-        }
-    }
-
-    fn force(&mut self) -> Result<Reply, AllocError>
-        requires unfailed { self.old.failed ≡ None }
-        ensures disk { KeepsDisk D.Disk self.old.disk self.new.disk (step_device result) }
-        ensures core { (c : Core) → IsCore c self.old → IsReached c → IfOk result (λ reply. Steps c Force reply self.new.working self.new.failed D.tells (D.bytes self.new.disk)) }
-        ensures holds { IsTrue D.tells → (s : Super) (c : Core) → IsHeap s c self.old → IsReached c → IfOk result (λ reply. StepsOn s c Force reply self.new.working self.new.failed D.tells (D.bytes self.new.disk) (D.may_leave self.new.disk)) }
-        ensures kept { (c : Core) → IsCore c self.old → OnErr result (IsCore c self.new) }
-        ensures before { self.new.before ≡ self.old.before }
-        ensures history { self.new.history ≡ self.old.history }
-        ensures untouched { OnErr result (self.new.disk ≡ self.old.disk) }
-        ensures moments { IsTrue D.tells → (s : Super) (c : Core) → IsHeap s c self.old → IsReached c → LeavesOnly D.moment D.left_since self.old.disk self.new.disk (IsCommitPrefix c) }
-        ensures passes { IsTrue D.tells → (c : Core) → IsCore c self.old → IsReached c → IfOk result (λ reply. Passes (calls c Force) (D.passed self.old.disk) (D.passed self.new.disk) (reply_device reply)) }
-        ensures still { (c : Core) → IsCore c self.old → IsReached c → calls c Force ≡ 0 → self.new.disk ≡ self.old.disk }
-    {
-        self.working.log.reserve(0)?;
-        match self.working.log.force(&mut self.disk) {
-            Ok(()) => Ok(Reply::Durable {
-                n: self.working.sealed,
-            }),
-            Err(e) => {
-                self.failed = Some(self.history.failure(true));
-                Ok(cut_short(e))
-            }
-        }
-    }
-
-    /// Stores page `p`, if there is one that has changed since it was stored.
-    fn flush(&mut self, p: u64) -> Result<Reply, AllocError>
-        requires unfailed { self.old.failed ≡ None }
-        ensures disk { KeepsDisk D.Disk self.old.disk self.new.disk (step_device result) }
-        ensures core { (c : Core) → IsCore c self.old → IsReached c → IfOk result (λ reply. Steps c (Flush p) reply self.new.working self.new.failed D.tells (D.bytes self.new.disk)) }
-        ensures holds { IsTrue D.tells → (s : Super) (c : Core) → IsHeap s c self.old → IsReached c → IfOk result (λ reply. StepsOn s c (Flush p) reply self.new.working self.new.failed D.tells (D.bytes self.new.disk) (D.may_leave self.new.disk)) }
-        ensures kept { (c : Core) → IsCore c self.old → OnErr result (IsCore c self.new) }
-        ensures before { self.new.before ≡ self.old.before }
-        ensures history { self.new.history ≡ self.old.history }
-        ensures untouched { OnErr result (self.new.disk ≡ self.old.disk) }
-        ensures moments { IsTrue D.tells → (s : Super) (c : Core) → IsHeap s c self.old → IsReached c → LeavesOnly D.moment D.left_since self.old.disk self.new.disk (IsCommitPrefix c) }
-        ensures passes { IsTrue D.tells → (c : Core) → IsCore c self.old → IsReached c → IfOk result (λ reply. Passes (calls c (Flush p)) (D.passed self.old.disk) (D.passed self.new.disk) (reply_device reply)) }
-        ensures still { (c : Core) → IsCore c self.old → IsReached c → calls c (Flush p) ≡ 0 → self.new.disk ≡ self.old.disk }
-    {
-        if p >= u64::from(self.working.cache.pages()) {
-            return Ok(refused(Refusal::NoSuchPage));
-        }
-        let page = p as u32;
-        if !self.working.cache.dirty(page) {
-            return Ok(Reply::Clean { page: p });
-        }
-        self.working.log.reserve(0)?;
-        let waited = self.working.log.pending();
-        match store_page(&mut self.working, &mut self.disk, page) {
-            Ok(()) => Ok(Reply::Flushed { page: p }),
-            Err(e) => {
-                self.failed = Some(self.history.failure(waited));
-                Ok(cut_short(e))
+        let pending = self.engine.pending();
+        match self.engine.step_on(&mut self.disk, event) {
+            Ok(reply) => Ok(entered(&mut self.history, event, reply)),
+            Err(StepError::NoMemory) => Err(AllocError),
+            Err(StepError::Disk(e)) => {
+                let entry = self.history.len() as u64 + 1;
+                self.failed = Some(Failure { entry, pending });
+                Ok(entered(&mut self.history, event, cut_short(e)))
             }
         }
     }
@@ -355,7 +241,7 @@ impl<D: Disk> Heap<D> {
     pub fn commits(&self) -> u64
         ensures { (c : Core) → IsCore c self.now → result ≡ min (c.before + length (sealed c.history)) greatest }
     {
-        self.before.saturating_add(self.working.sealed)
+        self.before.saturating_add(self.engine.sealed())
     }
 
     /// Whether records have been appended that are not known to be on the disk. Where it stopped or failed in an event, they are those
@@ -364,8 +250,8 @@ impl<D: Disk> Heap<D> {
         ensures { (c : Core) → IsCore c self.now → IsTrue result ↔ (c.pending ≢ []) }
     {
         match self.failed {
-            Some(failure) => failure.waited,
-            None => self.working.log.pending(),
+            Some(failure) => failure.pending,
+            None => self.engine.pending(),
         }
     }
 
@@ -375,14 +261,14 @@ impl<D: Disk> Heap<D> {
         requires unfailed { failed_at self.now ≡ None }
         ensures { (c : Core) → IsCore c self.now → result ≡ is_dirty c p }
     {
-        p < self.working.cache.pages() && self.working.cache.dirty(p)
+        self.engine.dirty(p)
     }
 
     /// Whether a session, of 1 to 32, has a transaction. No other number has one.
     pub fn active(&self, session: u32) -> bool
         ensures { (c : Core) → IsCore c self.now → result ≡ is_some ((account c.history).active session) }
     {
-        self.working.active(session)
+        self.engine.active(session)
     }
 
     /// The text of the graph, without what active transactions wrote. It asks that the disk has neither failed nor stopped.
@@ -391,7 +277,7 @@ impl<D: Disk> Heap<D> {
         ensures text { (c : Core) → IsCore c self.now → IsReached c → IfOk result (λ text. text.items ≡ canon_text (canon (serial c.g0 (sealed c.history)))) }
         ensures error { (c : Core) → IsCore c self.now → IsReached c → IfErr result (λ e. e ≡ GraphError.NoMemory) }
     {
-        let words = self.working.committed_words(alloc)?;
+        let words = self.engine.committed_words(alloc)?;
         print(alloc, &words)
     }
 
@@ -401,7 +287,7 @@ impl<D: Disk> Heap<D> {
     {
         let Heap {
             disk,
-            working: _,
+            engine: _,
             history: _,
             before: _,
             failed: _,

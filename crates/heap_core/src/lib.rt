@@ -7,10 +7,8 @@
 mod errors;
 mod formatting;
 mod heap;
-mod history;
-mod storing;
 
+pub use commit_order::History;
 pub use errors::{FormatError, GraphError, OpenError};
 pub use heap::Heap;
 pub use heap_recovery::At;
-pub use history::History;

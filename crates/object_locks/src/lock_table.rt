@@ -97,7 +97,16 @@ impl LockTable {
         })
     }
 
-    // Takes the lock that is asked for.
+    /// Takes a lock in whose way no other transaction stands, as `conflict` says. An error changes nothing.
+    pub fn take(&mut self, lock: Holding) -> Result<(), AllocError>
+        requires { IsFree self.old lock }
+        ensures taken { OnOk result (self.new ≡ set.insert self.old lock) }
+        ensures err { OnErr result (self.new ≡ self.old) }
+    {
+        self.add(lock)
+    }
+
+    // Takes the lock that is asked for, if it is free.
     fn lock(&mut self, asked: Holding) -> Result<(), LockError>
         ensures granted { OnOk result (self.new ≡ set.insert self.old asked) }
         ensures free { OnOk result (IsFree self.old asked) }
@@ -107,7 +116,7 @@ impl LockTable {
         if let Some(holder) = self.conflict(asked) {
             return Err(LockError::Busy { holder });
         }
-        self.add(asked)?;
+        self.take(asked)?;
         Ok(())
     }
 

@@ -2,6 +2,8 @@
 #![tactic(auto)]
 
 #[cfg(test)]
+mod engine_tests;
+#[cfg(test)]
 mod graph_print_tests;
 #[cfg(test)]
 mod heap_spaces_tests;
@@ -17,5 +19,3 @@ mod stability_tracker_tests;
 mod txn_table_tests;
 #[cfg(test)]
 mod volatile_area_tests;
-#[cfg(test)]
-mod working_state_tests;

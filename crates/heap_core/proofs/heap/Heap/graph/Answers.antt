@@ -3,14 +3,14 @@ use Rattle.graph_model.specs.Transaction.{serial}
 use Rattle.graph_model.specs.History.{sealed, sessions}
 use Rattle.graph_words.proofs.Places.Names.{name_at}
 use Rattle.object_layout.specs.Layout.{IsSeenAs}
-use Rattle.heap_core.proofs.RefinementEvent.{unfailed_valid, no_failure_at}
+use Rattle.heap_core.proofs.StepCore.{unfailed_valid, no_failure_at}
 use Rattle.heap_core.proofs.RefinementGraph.{memory_seen, length-without_writes}
-use Rattle.working_state.specs.State.{memory}
+use Rattle.heap_engine.specs.EngineState.{memory}
 use Rattle.heap_core.proofs.heap.Heap.graph.Goals as goal
 
 pub print-requires : goal.print-requires
 print-requires g c =
-    let w = c.args.self.now.working in
+    let w = c.args.self.now.engine in
     let same = ap (λ (ws : List ℕ). length ws) c.in_ok-words.ensures ∙ length-without_writes w.table sessions (memory w).words in
     omega (arith, same, w.few)
 
@@ -20,7 +20,7 @@ returns-clause-text g c core heap reached =
     let valid = unfailed_valid core _ heap.memory.failure none reached in
     let gr = serial core.g0 (sealed core.history) in
     c.print.ensures.text (name_at core.places) gr
-    (subst (λ (ws : List ℕ). IsSeenAs (name_at core.places) ws 0 gr) (sym c.in_ok-words.ensures) (memory_seen core c.args.self.now.working valid reached.locked (heap.memory.works none)))
+    (subst (λ (ws : List ℕ). IsSeenAs (name_at core.places) ws 0 gr) (sym c.in_ok-words.ensures) (memory_seen core c.args.self.now.engine valid reached.locked (heap.engine none).memory))
 
 pub returns-clause-error : goal.returns-clause-error
 returns-clause-error g c core heap reached =
@@ -28,4 +28,4 @@ returns-clause-error g c core heap reached =
     let valid = unfailed_valid core _ heap.memory.failure none reached in
     let gr = serial core.g0 (sealed core.history) in
     c.print.ensures.error (name_at core.places) gr
-    (subst (λ (ws : List ℕ). IsSeenAs (name_at core.places) ws 0 gr) (sym c.in_ok-words.ensures) (memory_seen core c.args.self.now.working valid reached.locked (heap.memory.works none)))
+    (subst (λ (ws : List ℕ). IsSeenAs (name_at core.places) ws 0 gr) (sym c.in_ok-words.ensures) (memory_seen core c.args.self.now.engine valid reached.locked (heap.engine none).memory))

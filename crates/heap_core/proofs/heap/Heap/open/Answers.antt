@@ -7,7 +7,8 @@ use Rattle.heap_recovery.specs.Faults.{IsNoHeap}
 use Rattle.heap_model.proofs.Shaped.{shaped_image}
 use Rattle.heap_model.specs.Opening.{opening_calls}
 use Rattle.heap_core.specs.Causes.{IsFromOutside, ErrorPasses, error_device}
-use Rattle.heap_core.proofs.RefinementOpen.{opened_bounds, opened_memory, opened_pages, opened_disk_holds, is_fresh}
+use Rattle.heap_core.proofs.RefinementOpen.{opened_bounds, opened_engine, opened_disk_holds, is_fresh}
+use Rattle.heap_core.proofs.StepCore.{remembers}
 use Rattle.page_store.specs.Gates.{open_gates}
 use Rattle.heap_core.proofs.OpenErrors.{device_as, outside_as, passes_as}
 use Rattle.heap_core.proofs.heap.Heap.open.Goals as goal
@@ -17,30 +18,30 @@ new-spaces-requires g c =
     let found = c.in-Ok-recover.ensures.opens in
     (opened_bounds found.0 found.1 found.2 c.in-Ok-recover.found found.3 found.4).spaces
 
-pub new-working-requires-clause-sized : goal.new-working-requires-clause-sized
-new-working-requires-clause-sized g c =
+pub new-engine-requires-clause-sized : goal.new-engine-requires-clause-sized
+new-engine-requires-clause-sized g c =
     let found = c.in-Ok-recover.ensures.opens in
     (opened_bounds found.0 found.1 found.2 c.in-Ok-recover.found found.3 found.4).size ∙ ap (λ x. words_in x.pages) (sym c.new-spaces.ensures)
 
-pub new-working-requires-clause-new : goal.new-working-requires-clause-new
-new-working-requires-clause-new g c =
+pub new-engine-requires-clause-new : goal.new-engine-requires-clause-new
+new-engine-requires-clause-new g c =
     let found = c.in-Ok-recover.ensures.opens in
     (opened_bounds found.0 found.1 found.2 c.in-Ok-recover.found found.3 found.4).new
 
-pub new-working-requires-clause-few : goal.new-working-requires-clause-few
-new-working-requires-clause-few g c =
+pub new-engine-requires-clause-few : goal.new-engine-requires-clause-few
+new-engine-requires-clause-few g c =
     let found = c.in-Ok-recover.ensures.opens in
     subst (λ x. x.pages ≤ 16384) (sym c.new-spaces.ensures) (opened_bounds found.0 found.1 found.2 c.in-Ok-recover.found found.3 found.4).spaces.few
 
-pub new-working-requires-clause-number : goal.new-working-requires-clause-number
-new-working-requires-clause-number g c =
+pub new-engine-requires-clause-number : goal.new-engine-requires-clause-number
+new-engine-requires-clause-number g c =
     let found = c.in-Ok-recover.ensures.opens in
     subst (λ x. 1 ≤ x.next) (sym c.set_next.ensures) (opened_bounds found.0 found.1 found.2 c.in-Ok-recover.found found.3 found.4).next
 
 pub returns-in-Ok-recover-clause-opens : goal.returns-in-Ok-recover-clause-opens
 returns-in-Ok-recover-clause-opens g c =
     let found = c.in-Ok-recover.ensures.opens in
-    let fresh = is_fresh c.in-Ok-recover.found c.new-spaces.result c.set_next.new.self c.in-Ok.table _ c.new-working.ensures c.new-spaces.ensures c.set_next.ensures in
+    let fresh = is_fresh c.in-Ok-recover.found c.new-spaces.result c.set_next.new.self c.in-Ok.table _ c.new-engine.ensures c.new-spaces.ensures c.set_next.ensures in
     let image = g.D.Disk.bytes c.recover.new.disk in
     let gates : ℕ → ℕ = λ p. open_gates found.0.log_bytes image p in (
       found.0,
@@ -48,30 +49,24 @@ returns-in-Ok-recover-clause-opens g c =
       found.2,
       gates,
       found.3,
-      λ born places gr stands. record {
-        history = c.new-in-Ok-recover.ensures;
-        before = found.4.commits;
-        memory = opened_memory found.0 found.1 found.2 gates born places gr c.in-Ok-recover.found _ found.3 found.4 fresh;
-        pages = λ tells none. opened_pages found.0 found.1 found.2 gates born places gr c.in-Ok-recover.found _ image fresh (c.in-Ok-recover.ensures.known tells) (λ p. refl);
-      },
+      λ born places gr stands.
+          let is = opened_engine g.D.Disk found.0 found.1 found.2 gates born places gr c.in-Ok-recover.found c.new-engine.result c.recover.new.disk found.3 found.4 fresh c.in-Ok-recover.ensures.known (λ told p. refl) in
+          record { history = c.new-in-Ok-recover.ensures; before = found.4.commits; memory = remembers g.D.Disk _ c.new-engine.result c.recover.new.disk _ refl is; engine = λ none. is },
     )
 
 pub returns-in-Ok-recover-clause-sound : goal.returns-in-Ok-recover-clause-sound
 returns-in-Ok-recover-clause-sound g c tells =
     let found = c.in-Ok-recover.ensures.sound tells in
-    let fresh = is_fresh c.in-Ok-recover.found c.new-spaces.result c.set_next.new.self c.in-Ok.table _ c.new-working.ensures c.new-spaces.ensures c.set_next.ensures in
+    let fresh = is_fresh c.in-Ok-recover.found c.new-spaces.result c.set_next.new.self c.in-Ok.table _ c.new-engine.ensures c.new-spaces.ensures c.set_next.ensures in
     let gates = open_gates found.0.log_bytes (g.D.Disk.bytes c.args.disk) in
     let still = c.in-Ok-recover.ensures.gates tells found.0 found.1 found.2 found.3 in (
       found.0,
       found.1,
       found.2,
       found.3,
-      λ born places gr stands. record {
-        history = c.new-in-Ok-recover.ensures;
-        before = found.4.commits;
-        memory = opened_memory found.0 found.1 found.2 gates born places gr c.in-Ok-recover.found _ found.3.log found.4 fresh;
-        pages = λ told none. opened_pages found.0 found.1 found.2 gates born places gr c.in-Ok-recover.found _ (g.D.Disk.bytes c.recover.new.disk) fresh (c.in-Ok-recover.ensures.known tells) still;
-      },
+      λ born places gr stands.
+          let is = opened_engine g.D.Disk found.0 found.1 found.2 gates born places gr c.in-Ok-recover.found c.new-engine.result c.recover.new.disk found.3.log found.4 fresh c.in-Ok-recover.ensures.known (λ told. still) in
+          record { history = c.new-in-Ok-recover.ensures; before = found.4.commits; memory = remembers g.D.Disk _ c.new-engine.result c.recover.new.disk _ refl is; engine = λ none. is },
     )
 
 pub returns-in-Err-clause-moments_not_heap : goal.returns-in-Err-clause-moments_not_heap
@@ -82,15 +77,11 @@ returns-in-Err-clause-moments_not_heap g c tells only none =
 pub returns-in-Ok-recover-clause-found : goal.returns-in-Ok-recover-clause-found
 returns-in-Ok-recover-clause-found g c tells s batches stored shaped born places gr stands =
     let found = c.in-Ok-recover.ensures.found tells s batches stored shaped in
-    let fresh = is_fresh c.in-Ok-recover.found c.new-spaces.result c.set_next.new.self c.in-Ok.table _ c.new-working.ensures c.new-spaces.ensures c.set_next.ensures in
+    let fresh = is_fresh c.in-Ok-recover.found c.new-spaces.result c.set_next.new.self c.in-Ok.table _ c.new-engine.ensures c.new-spaces.ensures c.set_next.ensures in
     let gates = open_gates s.log_bytes (g.D.Disk.bytes c.args.disk) in
     let still = c.in-Ok-recover.ensures.gates tells s batches stored shaped in
-    record {
-      history = c.new-in-Ok-recover.ensures;
-      before = found.commits;
-      memory = opened_memory s batches stored gates born places gr c.in-Ok-recover.found _ shaped.log found fresh;
-      pages = λ told none. opened_pages s batches stored gates born places gr c.in-Ok-recover.found _ (g.D.Disk.bytes c.recover.new.disk) fresh (c.in-Ok-recover.ensures.known tells) still;
-    }
+    let is = opened_engine g.D.Disk s batches stored gates born places gr c.in-Ok-recover.found c.new-engine.result c.recover.new.disk shaped.log found fresh c.in-Ok-recover.ensures.known (λ told. still) in
+    record { history = c.new-in-Ok-recover.ensures; before = found.commits; memory = remembers g.D.Disk _ c.new-engine.result c.recover.new.disk _ refl is; engine = λ none. is }
 
 pub returns-in-Ok-recover-clause-holds : goal.returns-in-Ok-recover-clause-holds
 returns-in-Ok-recover-clause-holds g c tells s batches stored legal only places gr stands =

@@ -1,0 +1,111 @@
+-- What an engine answers to a call, and leaves of memory, is what the core does.
+use Rattle.std.proofs.Common.{◌≡◌, ℕ, ◌+◌, ◌*◌, Option, Some, None, Result, Ok, Err, refl, sym, ap, ◌∙◌, subst}
+use Rattle.std.specs.Prelude.{IfOk}
+use Rattle.std.specs.declared.alloc.AllocError.{AllocError}
+use Rattle.graph_model.specs.declared.event.Event.{Event}
+use Rattle.graph_model.specs.declared.event.Event.TheVariants.{Begin, Root, New, Put, Clear, Link, Drop, Get, Same, Len, Seal, Abort}
+use Rattle.graph_model.specs.declared.reply.Refusal.{Refusal}
+use Rattle.graph_model.specs.declared.reply.Reply.{Reply}
+use Rattle.graph_model.specs.declared.reply.Reply.TheVariants as answer
+use Rattle.graph_model.specs.History.{account}
+use Rattle.graph_model.specs.Plain.{reply_of}
+use Rattle.graph_model.specs.History.{IsOfSession}
+use Rattle.core_laws.specs.Valid.{IsValid, RunsLocked}
+use Rattle.heap_memory.specs.Leaves.{IsAsItWas, Begins, SetsHandle, Makes, WritesHeld, Links, Gets, Seals, Aborts}
+use Rattle.heap_memory.specs.Memory.{Memory, own, root_place}
+use Rattle.heap_memory.specs.Refusals.{begin_refusal, handle_refusal, new_refusal, put_refusal, clear_refusal, link_refusal, get_refusal, same_refusal, len_refusal, seal_refusal, end_refusal}
+use Rattle.heap_memory.specs.Replies.{get_reply, same_reply, len_reply, IsGranted}
+use Rattle.heap_model.specs.Core.{Core}
+use Rattle.memory_laws.specs.CoreMemory.{IsMemory, Does}
+use Rattle.memory_laws.proofs.Refusal.Ends.{begin_refused, seal_refused, abort_refused}
+use Rattle.memory_laws.proofs.Refusal.Handles.{root_refused, drop_refused, new_refused, get_refused, same_refused, len_refused}
+use Rattle.memory_laws.proofs.Refusal.Writes.{put_refused, clear_refused, link_refused}
+use Rattle.memory_laws.proofs.Step.Ends.{begin_does, abort_does}
+use Rattle.memory_laws.proofs.Step.Handles.{root_does, drop_does}
+use Rattle.memory_laws.proofs.Step.New.{new_does}
+use Rattle.memory_laws.proofs.Step.Reads.{get_does}
+use Rattle.memory_laws.proofs.Step.Same.{same_does, len_does}
+use Rattle.memory_laws.proofs.Step.Seal.{seal_does}
+use Rattle.memory_laws.proofs.Step.Writes.{put_does, clear_does, link_does}
+
+-- where an event is refused or not, this holds
+pub either : (o : Option Refusal) (gives reply : Reply) (P : Type 0) → reply ≡ reply_of o gives → (reply ≡ gives → P) → ((why : Refusal) → reply ≡ answer.Refused why → P) → P
+either None gives reply P is granted refused = granted is
+either (Some why) gives reply P is granted refused = refused why is
+
+-- An event in memory is answered as the core answers it.
+module _ (m n : Memory) (c : Core) (is : IsMemory m (account c.history) c) (valid : IsValid c) (runs : RunsLocked c.g0 c.first c.history) (event : Event) (s : ℕ) where
+  abbrev DoesIt : Reply → Event → Type 0
+  DoesIt reply event = Does c event reply n
+
+  abbrev DoesOr : Result Reply AllocError → Event → Type 0
+  DoesOr result event = IfOk result (λ reply. Does c event reply n)
+
+  pub begins : (reply : Reply) → event ≡ Begin s → IsOfSession event → reply ≡ reply_of (begin_refusal m s) (answer.Begun m.table.next)
+      → ((k : ℕ) → reply ≡ answer.Begun k → Begins m n s) → ((why : Refusal) → reply ≡ answer.Refused why → n ≡ m) → DoesIt reply event
+  begins reply form one replied done stays =
+      subst (DoesIt reply) (sym form) (begin_does m n c valid runs is s (begin_refused m c valid runs is s (subst IsOfSession form one)) reply replied done stays)
+
+  pub roots : (h : ℕ) (reply : Reply) → event ≡ Root s h → reply ≡ reply_of (handle_refusal (own m s) h) answer.Done
+      → (reply ≡ answer.Done → SetsHandle m n s h (Some root_place)) → ((why : Refusal) → reply ≡ answer.Refused why → n ≡ m) → DoesIt reply event
+  roots h reply form replied done stays = subst (DoesIt reply) (sym form) (root_does m n c valid is s h (root_refused m c valid runs is s h) reply replied done stays)
+
+  pub drops : (h : ℕ) (reply : Reply) → event ≡ Drop s h → reply ≡ reply_of (handle_refusal (own m s) h) answer.Done
+      → (reply ≡ answer.Done → SetsHandle m n s h None) → ((why : Refusal) → reply ≡ answer.Refused why → n ≡ m) → DoesIt reply event
+  drops h reply form replied done stays = subst (DoesIt reply) (sym form) (drop_does m n c valid is s h (drop_refused m c valid runs is s h) reply replied done stays)
+
+  pub makes : (h len : ℕ) (result : Result Reply AllocError) → event ≡ New s h len → IfOk result (λ reply. reply ≡ reply_of (new_refusal (own m s) h len) answer.Done)
+      → (result ≡ Ok answer.Done → Makes m n s h len) → ((why : Refusal) → result ≡ Ok (answer.Refused why) → n ≡ m) → DoesOr result event
+  makes h len result form replied done stays = subst (DoesOr result) (sym form) (new_does m n c valid is s h len (new_refused m c valid runs is s h len) result replied done stays)
+
+  pub puts : (h i v : ℕ) (result : Result Reply AllocError) → event ≡ Put s h i v → IfOk result (λ reply. reply ≡ reply_of (put_refusal m s h i v) answer.Done)
+      → (result ≡ Ok answer.Done → WritesHeld m n s h i (4 * v + 1)) → ((why : Refusal) → result ≡ Ok (answer.Refused why) → IsAsItWas m n) → DoesOr result event
+  puts h i v result form replied done stays = subst (DoesOr result) (sym form) (put_does m n c valid runs is s h i v (put_refused m c valid runs is s h i v) result replied done stays)
+
+  pub clears : (h i : ℕ) (result : Result Reply AllocError) → event ≡ Clear s h i → IfOk result (λ reply. reply ≡ reply_of (clear_refusal m s h i) answer.Done)
+      → (result ≡ Ok answer.Done → WritesHeld m n s h i 0) → ((why : Refusal) → result ≡ Ok (answer.Refused why) → IsAsItWas m n) → DoesOr result event
+  clears h i result form replied done stays = subst (DoesOr result) (sym form) (clear_does m n c valid runs is s h i (clear_refused m c valid runs is s h i) result replied done stays)
+
+  pub links : (h i h2 : ℕ) (result : Result Reply AllocError) → event ≡ Link s h i h2 → IfOk result (λ reply. reply ≡ reply_of (link_refusal m s h i h2) answer.Done)
+      → (result ≡ Ok answer.Done → Links m n s h i h2) → ((why : Refusal) → result ≡ Ok (answer.Refused why) → IsAsItWas m n) → DoesOr result event
+  links h i h2 result form replied done stays = subst (DoesOr result) (sym form) (link_does m n c valid runs is s h i h2 (link_refused m c valid runs is s h i h2) result replied done stays)
+
+  get_result : (h i h2 : ℕ) (result : Result Reply AllocError) → IfOk result (λ reply. reply ≡ reply_of (get_refusal m s h i h2) (get_reply m s h i))
+      → IfOk result (λ reply. IsGranted reply → Gets m n s h i h2) → ((why : Refusal) → result ≡ Ok (answer.Refused why) → n ≡ m) → DoesOr result (Get s h i h2)
+  get_result h i h2 (Err e) replied done stays = tt
+  get_result h i h2 (Ok reply) replied done stays =
+      get_does m n c valid runs is s h i h2 (get_refused m c valid runs is s h i h2) reply replied done (λ why refused. stays why (ap Ok refused))
+
+  pub gets : (h i h2 : ℕ) (result : Result Reply AllocError) → event ≡ Get s h i h2 → IfOk result (λ reply. reply ≡ reply_of (get_refusal m s h i h2) (get_reply m s h i))
+      → IfOk result (λ reply. IsGranted reply → Gets m n s h i h2) → ((why : Refusal) → result ≡ Ok (answer.Refused why) → n ≡ m) → DoesOr result event
+  gets h i h2 result form replied done stays = subst (DoesOr result) (sym form) (get_result h i h2 result replied done stays)
+
+  pub seals : (result : Result Reply AllocError) → event ≡ Seal s → IfOk result (λ reply. reply ≡ reply_of (seal_refusal m s) (answer.Sealed (m.sealed + 1)))
+      → ((number : ℕ) → result ≡ Ok (answer.Sealed number) → Seals m n s) → ((why : Refusal) → result ≡ Ok (answer.Refused why) → IsAsItWas m n) → DoesOr result event
+  seals result form replied done stays = subst (DoesOr result) (sym form) (seal_does m n c valid runs is s (seal_refused m c valid runs is s) result replied done stays)
+
+  pub aborts : (result : Result Reply AllocError) → event ≡ Abort s → IfOk result (λ reply. reply ≡ reply_of (end_refusal (own m s)) answer.Aborted)
+      → (result ≡ Ok answer.Aborted → Aborts m n s) → ((why : Refusal) → result ≡ Ok (answer.Refused why) → IsAsItWas m n) → DoesOr result event
+  aborts result form replied done stays = subst (DoesOr result) (sym form) (abort_does m n c valid runs is s (abort_refused m c valid runs is s) result replied done stays)
+
+module _ (m : Memory) (c : Core) (is : IsMemory m (account c.history) c) (valid : IsValid c) (runs : RunsLocked c.g0 c.first c.history) (event : Event) (s : ℕ) where
+  pub compares : (h h2 : ℕ) (reply : Reply) → event ≡ Same s h h2 → reply ≡ reply_of (same_refusal m s h h2) (same_reply m s h h2) → Does c event reply m
+  compares h h2 reply form replied = subst (λ e. Does c e reply m) (sym form) (same_does m c valid runs is s h h2 (same_refused m c valid runs is s h h2) reply replied)
+
+  pub counts : (h : ℕ) (reply : Reply) → event ≡ Len s h → reply ≡ reply_of (len_refusal m s h) (len_reply m s h) → Does c event reply m
+  counts h reply form replied = subst (λ e. Does c e reply m) (sym form) (len_does m c valid runs is s h (len_refused m c valid runs is s h) reply replied)
+
+-- what follows for the answer of a call that had its memory
+pub answered : (result : Result Reply AllocError) (x : Reply) (P : Reply → Type 0) → result ≡ Ok x → IfOk result P → P x
+answered result x P was holds = subst (λ r. IfOk r P) was holds
+
+-- a call that may be refused was granted or refused
+pub granted_or : (o : Option Refusal) (gives : Reply) (result : Result Reply AllocError) (x : Reply) (P : Type 0) → result ≡ Ok x → IfOk result (λ reply. reply ≡ reply_of o gives) → (result ≡ Ok gives → P)
+    → ((why : Refusal) → result ≡ Ok (answer.Refused why) → P) → P
+granted_or o gives result x P was replied granted refused =
+    either o gives x P (answered result x (λ reply. reply ≡ reply_of o gives) was replied) (λ done. granted (was ∙ ap Ok done)) (λ why stays. refused why (was ∙ ap Ok stays))
+
+-- so was a read
+pub read_or : (reply : Reply) (P : Type 0) → (IsGranted reply → P) → ((why : Refusal) → reply ≡ answer.Refused why → P) → P
+read_or (answer.Refused why) P granted refused = refused why refl
+read_or reply P granted refused = granted tt

@@ -1,0 +1,240 @@
+-- An event that the disk did not cut short is a step of the core that an engine is.
+use Rattle.std.proofs.Common.{◌≡◌, ◌≢◌, inl, ℕ, ◌+◌, ◌<◌, ◌≤◌, List, [], ◌∷◌, Option, Some, None, Result, Ok, Err, is_some, refl, sym, ap, ◌∙◌, subst, arith}
+use Rattle.std.specs.Prelude.{IsTrue, IsFalse}
+use Rattle.disk_model.specs.declared.disk.Disk.{Ghosts}
+use Rattle.disk_model.specs.Moments.{LeavesOnly}
+use Rattle.gated_log.specs.LogState.{IsPlaced}
+use Rattle.graph_model.specs.declared.event.Event.{Event}
+use Rattle.graph_model.specs.declared.event.Event.TheVariants.{Force, Flush}
+use Rattle.graph_model.specs.declared.reply.Refusal.{Refusal}
+use Rattle.graph_model.specs.declared.reply.Reply.{Reply}
+use Rattle.graph_model.specs.History.{account}
+use Rattle.graph_model.specs.History.{IsOfSession}
+use Rattle.core_laws.proofs.Crash.Image.{crash_law, prefixes_on}
+use Rattle.core_laws.proofs.Step.Forms.{done_records}
+use Rattle.core_laws.proofs.Step.Sound.{sound_valid}
+use Rattle.core_laws.proofs.Step.Events.{valid_after}
+use Rattle.core_laws.specs.Valid.{RunsLocked, IsValid, IsReached, IsSound}
+use Rattle.image_plan.specs.declared.superblock.Super.{Super}
+use Rattle.log_records.specs.declared.Record.{Record}
+use Rattle.page_redo.specs.Pages.{Pages}
+use Rattle.page_cache.specs.CacheState.{cache_store}
+use Rattle.page_store.specs.declared.store.PageStore.{PageStore}
+use Rattle.page_store.specs.Gates.{open_gates}
+use Rattle.page_store.specs.StoreState.{store_size, has_failed, Knows}
+use Rattle.heap_model.specs.Core.{Core, core_refusal, answer, forced, done, after_refusal, after, calls, AsksDisk}
+use Rattle.heap_model.specs.CoreCrash.{IsLogged, IsSuperOf, IsCommitPrefix}
+use Rattle.heap_model.proofs.Step.Logged.{logged_step}
+use Rattle.heap_model.proofs.Run.Calls.{same_step}
+use Rattle.heap_model.specs.Image.{Holds}
+use Rattle.heap_memory.specs.Leaves.{IsAsItWas}
+use Rattle.heap_memory.specs.Memory.{Memory}
+use Rattle.memory_laws.specs.CoreMemory.{IsMemory, Does}
+use Rattle.memory_laws.proofs.Step.Answered.{as_it_was}
+use Rattle.heap_engine.specs.declared.engine.Engine.{Engine}
+use Rattle.heap_engine.specs.declared.step_error.StepError.{StepError}
+use Rattle.heap_engine.specs.declared.step_error.StepError.TheVariants.{NoMemory}
+use Rattle.heap_engine.specs.EngineState.{memory, LiesWithin, HasNotFailed}
+use Rattle.heap_engine.specs.Refinement.{OnDisk, KnowsPages, WasCutShort, IsEngine, Steps, StepsOn}
+use Rattle.txn_table.specs.Table.{TableState, transaction_of}
+use Rattle.heap_engine.proofs.DeviceCalls.{stays, quiet_passes}
+use Rattle.heap_engine.proofs.SessionsCore.{is_some_own}
+
+-- another history, and other records, are of a heap with the same numbers
+pub of_same : (s : Super) (c d : Core) → IsSuperOf s c → d.pages ≡ c.pages → d.room ≡ c.room → d.lowest ≡ c.lowest → IsSuperOf s d
+of_same s c d of pages room lowest = record { limits = of.limits; pages = of.pages ∙ sym pages; room = of.room ∙ sym room; first = of.first ∙ sym lowest }
+
+record SameDisk (c d : Core) : Type 0 where
+  batches : d.batches ≡ c.batches
+  pages : d.pages ≡ c.pages
+  room : d.room ≡ c.room
+  lowest : d.lowest ≡ c.lowest
+  born : d.born ≡ c.born
+
+all_same : (c : Core) → SameDisk c c
+all_same c = record { batches = refl; pages = refl; room = refl; lowest = refl; born = refl }
+
+same_disk : (o : Option Refusal) (c : Core) (event : Event) → (AsksDisk event → ⊥) → SameDisk c (after_refusal o c event)
+same_disk (Some why) c event other = all_same c
+same_disk None c event other = let P : Core → Type 0 = λ d. SameDisk c d in subst P (sym (done_records c event other)) (record { batches = refl; pages = refl; room = refl; lowest = refl; born = refl })
+
+-- the names of objects are their births behind an event, if they were before
+pub born_after : (c : Core) (event : Event) → IsTrue c.born → IsTrue (after c event).born
+born_after c event born = (same_step c (after c event) event (answer c event) (inl (refl, refl))).born ∙ born
+
+-- what asks nothing of the disk is no flush
+quiet_flush : (event : Event) → (AsksDisk event → ⊥) → (p : ℕ) → event ≢ Flush p
+quiet_flush event other p is = other (subst AsksDisk (sym is) tt)
+
+-- its words are those that its log leaves, if they were before, and stored pages hold as many records as their LSNs say
+pub logged_after : (c : Core) (event : Event) (stored : Pages) → ((p : ℕ) → event ≢ Flush p) → IsLogged c stored → IsLogged (after c event) stored
+logged_after c event stored other logged = logged_step c (after c event) stored event (answer c event) other (inl (refl, refl)) logged
+
+-- what asks nothing of the disk leaves it
+pub disk_stays : (s : Super) (c : Core) (event : Event) (image : List ℕ) (may_leave : List ℕ → Type 0) → (AsksDisk event → ⊥) → OnDisk s c image may_leave → OnDisk s (after c event) image may_leave
+disk_stays s c event image may_leave other disk =
+    let same = same_disk (core_refusal c event) c event other in
+    record {
+      of = of_same s c (after c event) disk.of same.pages same.room same.lowest;
+      born = born_after c event disk.born;
+      stored = disk.stored;
+      logged = logged_after c event disk.stored (quiet_flush event other) disk.logged;
+      held = let P : List (List Record) → Type 0 = λ bs. Holds s bs disk.stored image in subst P (sym same.batches) disk.held;
+      only = disk.only;
+    }
+
+-- The pages that are stored.
+
+gates_forced : (c : Core) (p : List Record) → (forced c p).gates ≡ c.gates
+gates_forced c [] = refl
+gates_forced c (r ∷ rs) = refl
+
+gates_done : (c : Core) (event : Event) → ((p : ℕ) → event ≢ Flush p) → (done c event).gates ≡ c.gates
+gates_done c Force other = gates_forced c c.pending
+gates_done c (Flush p) other = absurd (other p refl)
+gates_done c event other = refl
+
+gates_refusal : (o : Option Refusal) (c : Core) (event : Event) → ((p : ℕ) → event ≢ Flush p) → (after_refusal o c event).gates ≡ c.gates
+gates_refusal None c event other = gates_done c event other
+gates_refusal (Some why) c event other = refl
+
+-- only a flush stores a page
+pub knows_after : (c : Core) (event : Event) (m n : Memory) (old image : List ℕ) → ((p : ℕ) → event ≢ Flush p) → n.store ≡ m.store → Knows m.store image
+    → ((p : ℕ) → open_gates c.room image p ≡ open_gates c.room old p) → KnowsPages c m old → KnowsPages (after c event) n image
+knows_after c event m n old image other store knows same pages =
+    let room : (after c event).room ≡ c.room = (same_step c (after c event) event (answer c event) (inl (refl, refl))).room in
+    record {
+      frames = subst (λ (x : PageStore). Knows x image) (sym store) knows;
+      gates = λ p. ap (λ (n : ℕ). open_gates n image p) room ∙ same p ∙ pages.gates p ∙ sym (ap (λ (f : ℕ → ℕ). f p) (gates_refusal (core_refusal c event) c event other));
+    }
+
+-- other memory with the same store knows the same
+pub knows_as : (c : Core) (m n : Memory) (image : List ℕ) → n.store ≡ m.store → KnowsPages c m image → KnowsPages c n image
+knows_as c m n image store pages = record {
+  frames = subst (λ (x : PageStore). Knows x image) (sym store) pages.frames;
+  gates = pages.gates;
+}
+
+-- a crash of a disk that holds a core leaves a commit prefix
+pub disk_keeps : (s : Super) (c : Core) (image : List ℕ) (may_leave : List ℕ → Type 0) → OnDisk s c image may_leave → IsSound c → (d : List ℕ) → may_leave d → IsCommitPrefix c d
+disk_keeps s c image may_leave disk sound d left =
+    crash_law c s c.batches disk.stored sound disk.born disk.logged.words (prefixes_on c c.batches disk.stored disk.logged (inl refl)) (inl refl) disk.of d
+    (subst (λ (x : List ℕ). Holds s c.batches disk.stored x) (sym (disk.only d left)) disk.held)
+
+-- the sessions of an event that the disk cut short are as they were
+pub cut_short : (c : Core) (event : Event) (old new : Engine) → IsMemory (memory old) (account c.history) c → 0 < calls c event → new.sealed ≡ old.sealed → new.table ≡ old.table → WasCutShort c event new
+cut_short c event old new is some sealed table = record {
+  some = some;
+  sealed = sealed ∙ is.sealed;
+  active = λ s. ap (λ (t : TableState). is_some (transaction_of t s)) table ∙ is_some_own (memory old) (account c.history) c is s;
+}
+
+-- An event left the log where it was, and stored no page.
+pub record LeavesStored (old new : Engine) : Type 0 where
+  pub log : IsPlaced old.log new.log
+  pub store : cache_store new.cache ≡ cache_store old.cache
+
+-- so it did where it changed nothing
+pub leaves_same : (old new : Engine) → new ≡ old → LeavesStored old new
+leaves_same old new same = subst (λ (e : Engine). LeavesStored old e) (sym same) (record { log = record { at = refl; room = refl; tail = refl; forced = refl }; store = refl })
+
+-- nothing but memory that was taken in advance is then other
+pub same_as_it_was : (old new : Engine) → new ≡ old → IsAsItWas (memory old) (memory new)
+same_as_it_was old new same = subst (λ (e : Engine). IsAsItWas (memory old) (memory e)) (sym same) (record {
+  log = record { place = record { at = refl; room = refl; tail = refl; forced = refl }; buffer = refl; size = refl; count = refl };
+  words = refl;
+  lsns = refl;
+  store = refl;
+  table = refl;
+  locks = refl;
+  spaces = refl;
+  sealed = refl;
+})
+
+pub leaves_as : (old new : Engine) → IsAsItWas (memory old) (memory new) → LeavesStored old new
+leaves_as old new same = record { log = same.log.place; store = same.store }
+
+-- they still lie within the disk
+pub still_within : (old new : Engine) (extent : ℕ) → LeavesStored old new → LiesWithin old extent → LiesWithin new extent
+still_within old new extent leaves within = record {
+  log = omega (arith, leaves.log.at, leaves.log.room, within.log);
+  pages = subst (λ (x : PageStore). store_size x ≤ extent) (sym leaves.store) within.pages;
+}
+
+pub still_works : (old new : Engine) → LeavesStored old new → HasNotFailed old → HasNotFailed new
+still_works old new leaves works = subst (λ (x : PageStore). IsFalse (has_failed x)) (sym leaves.store) works
+
+module _ {D : Type 0} (g : Ghosts D) where
+  -- an engine is a valid core
+  pub engine_valid : (c : Core) (e : Engine) (disk : D) → IsEngine g c e disk → IsReached c → IsValid c
+  engine_valid c e disk is reached = sound_valid c reached.sound is.unfailed
+
+  -- an engine that has done an event as a core does is that core after it
+  pub engine_after : (c : Core) (event : Event) (reply : Reply) (e : Engine) (disk : D) → IsValid (after c event) → Does c event reply (memory e)
+      → (IsTrue g.tells → KnowsPages (after c event) (memory e) (g.bytes disk)) → IsEngine g (after c event) e disk
+  engine_after c event reply e disk valid does knows = record { unfailed = valid.unfailed; memory = does.memory; pages = knows }
+
+  -- memory that was taken in advance changes nothing
+  pub engine_as : (c : Core) (old new : Engine) (disk : D) → IsAsItWas (memory old) (memory new) → IsEngine g c old disk → IsEngine g c new disk
+  engine_as c old new disk same is = record {
+    unfailed = is.unfailed;
+    memory = as_it_was (memory old) (memory new) c is.memory same;
+    pages = λ told. knows_as c (memory old) (memory new) (g.bytes disk) same.store (is.pages told);
+  }
+
+  -- What an event comes to that leaves the disk alone.
+  pub record LeavesDisk (event : Event) (old new : Engine) (disk : D) (result : Result Reply StepError) : Type 0 where
+    pub inside : LiesWithin old (g.extent disk) → LiesWithin new (g.extent disk)
+    pub works : HasNotFailed old → HasNotFailed new
+    pub core : Steps g event old disk new disk result
+    pub holds : ((image : List ℕ) → g.left_since disk (g.moment disk) image → g.may_leave disk image) → StepsOn g event old disk new disk result
+
+  module _ (event : Event) (old new : Engine) (disk : D) where
+    -- at each moment of it a crash leaves what it left before
+    alone : ((image : List ℕ) → g.left_since disk (g.moment disk) image → g.may_leave disk image) → (s : Super) (c : Core) → IsReached c → OnDisk s c (g.bytes disk) (g.may_leave disk)
+        → LeavesOnly g.moment g.left_since disk disk (IsCommitPrefix c)
+    alone now s c reached held = stays g.moment g.left_since disk (g.may_leave disk) (IsCommitPrefix c) now (disk_keeps s c (g.bytes disk) (g.may_leave disk) held reached.sound)
+
+    -- a call of a session, or a begin
+    pub call_leaves : (reply : Reply) → IsOfSession event → (AsksDisk event → ⊥) → LeavesStored old new
+        → ((c : Core) → IsMemory (memory old) (account c.history) c → IsValid c → RunsLocked c.g0 c.first c.history → Does c event reply (memory new)) → LeavesDisk event old new disk (Ok reply)
+    call_leaves reply one other leaves does = record {
+      inside = still_within old new (g.extent disk) leaves;
+      works = still_works old new leaves;
+      core = record {
+        core = λ c is reached.
+            let valid = engine_valid c old disk is reached in
+            let done = does c is.memory valid reached.locked in
+            let later = valid_after c event valid reached.locked one in (
+              done.replied,
+              engine_after c event reply new disk later done
+              (λ told. let known = is.pages told in knows_after c event (memory old) (memory new) (g.bytes disk) (g.bytes disk) (quiet_flush event other) leaves.store known.frames (λ p. refl) known),
+            );
+        still = λ c is reached none. refl;
+        untouched = λ never. refl;
+        kept = λ never. absurd (cc never);
+      };
+      holds = λ now. record {
+        holds = λ s c is reached held. disk_stays s c event (g.bytes disk) (g.may_leave disk) other held;
+        moments = λ s c is reached held. alone now s c reached held;
+        passes = λ c is reached. quiet_passes c event (g.passed disk) (Ok tt) other;
+      };
+    }
+
+    -- one that had no memory
+    pub lack_leaves : IsAsItWas (memory old) (memory new) → LeavesDisk event old new disk (Err NoMemory)
+    lack_leaves same = record {
+      inside = still_within old new (g.extent disk) (leaves_as old new same);
+      works = still_works old new (leaves_as old new same);
+      core = record {
+        core = λ c is reached. tt;
+        still = λ c is reached none. refl;
+        untouched = λ it. refl;
+        kept = λ it c is. engine_as c old new disk same is;
+      };
+      holds = λ now. record {
+        holds = λ s c is reached held. tt;
+        moments = λ s c is reached held. alone now s c reached held;
+        passes = λ c is reached. refl;
+      };
+    }

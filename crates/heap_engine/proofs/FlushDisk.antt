@@ -1,0 +1,120 @@
+-- A force and the store of a page: what they leave of a core, and what the disk holds then.
+use Rattle.std.proofs.Common.{◌≡◌, ◌≢◌, inl, inr, ℕ, ◌<◌, ◌≤◌, max, Bool, true, false, cond, List, length, Result, Ok, Err, refl, sym, ap, ◌∙◌, subst, arith}
+use Rattle.std.specs.Prelude.{◌==◌, OnOk}
+use Rattle.std.proofs.lemmas.Bool.{eqb-true}
+use Rattle.std.proofs.lemmas.List.{append-nil, take_at}
+use Rattle.gate_slot.proofs.ImageLaws.{same_part}
+use Rattle.gated_log.specs.Log.{records_of, HoldsBatches}
+use Rattle.image_plan.specs.declared.superblock.Super.{Super}
+use Rattle.image_plan.specs.Plan.{log_offset}
+use Rattle.log_records.specs.declared.Record.{Record}
+use Rattle.page_cache.specs.Stored.{stored_pages}
+use Rattle.page_cache.proofs.StoredLaws.{EachHoldsPrefix-storing, flushed_stored}
+use Rattle.page_redo.specs.Pages.{Pages, pages_in, page_words, lsn_of}
+use Rattle.page_redo.specs.Prefix.{HoldsPrefix, EachHoldsPrefix}
+use Rattle.page_redo.proofs.PrefixLaws.{redone-present, HoldsPrefix-own, HoldsPrefix-take, EachHoldsPrefix-append}
+use Rattle.page_redo.specs.Redo.{last_lsn, redone}
+use Rattle.page_redo.proofs.RedoLaws.{lsn-redone}
+use Rattle.page_store.specs.Page.{HasPage, SamePage, SameButPage, IsStoring}
+use Rattle.heap_model.specs.Core.{Core, all_records, all_words, present_lsn, forced_if, page_stored}
+use Rattle.heap_model.specs.CoreCrash.{IsLogged, IsSuperOf, IsOnDisk}
+use Rattle.heap_model.proofs.Step.Logged.{all_logged, logged_forced}
+use Rattle.heap_model.proofs.Step.Room.{forced-with_batch, records_of-with_batch}
+use Rattle.heap_model.specs.Image.{Holds}
+
+-- what holds where a call came through
+pub on_ok : {T E P Q : Type 0} (result : Result T E) → (P → Q) → OnOk result P → OnOk result Q
+on_ok (Ok x) goes holds = goes holds
+on_ok (Err e) goes holds = tt
+
+-- A force leaves a core with the same numbers, words and records, which are on the disk.
+pub record IsForced (c d : Core) : Type 0 where
+  pub pages : d.pages ≡ c.pages
+  pub room : d.room ≡ c.room
+  pub lowest : d.lowest ≡ c.lowest
+  pub stored_lsns : d.stored_lsns ≡ c.stored_lsns
+  pub gates : d.gates ≡ c.gates
+  pub born : d.born ≡ c.born
+  pub words : all_words d ≡ all_words c
+  pub records : all_records d ≡ all_records c
+  pub on : IsOnDisk c d.batches
+
+-- so it does where it is only made if something is ahead
+pub is_forced : (ahead : Bool) (c : Core) → IsForced c (forced_if ahead c)
+is_forced true c = subst (IsForced c) (sym (forced-with_batch c)) (record {
+  pages = refl;
+  room = refl;
+  lowest = refl;
+  stored_lsns = refl;
+  gates = refl;
+  born = refl;
+  words = refl;
+  records = append-nil _ ∙ records_of-with_batch c.batches c.pending;
+  on = inr refl;
+})
+is_forced false c = record { pages = refl; room = refl; lowest = refl; stored_lsns = refl; gates = refl; born = refl; words = refl; records = refl; on = inl refl }
+
+-- each page has the LSN that it had
+pub present_forced : (c d : Core) (p : ℕ) → IsForced c d → present_lsn d p ≡ present_lsn c p
+present_forced c d p same =
+    ap (λ (f : ℕ → ℕ). max (f p) (last_lsn p 1 (all_records d))) same.stored_lsns ∙ ap (λ (rs : List Record). max (c.stored_lsns p) (last_lsn p 1 rs)) same.records
+
+-- and the superblock is that of its heap
+pub super_forced : (s : Super) (c d : Core) → IsForced c d → IsSuperOf s c → IsSuperOf s d
+super_forced s c d same of = record { limits = of.limits; pages = of.pages ∙ sym same.pages; room = of.room ∙ sym same.room; first = of.first ∙ sym same.lowest }
+
+-- the stored pages may stay beside the log
+pub logged_if : (ahead : Bool) (c : Core) (stored : Pages) → IsLogged c stored → IsLogged (forced_if ahead c) stored
+logged_if true c stored logged = logged_forced c stored c.pending logged
+logged_if false c stored logged = logged
+
+-- The store of a page that is not ahead of the log.
+module _ (s : Super) (d : Core) (p : ℕ) (of : IsSuperOf s d) (lt : p < pages_in d.pages) (behind : present_lsn d p ≤ length (records_of d.batches)) (stored : Pages) (logged : IsLogged d stored) where
+  -- it holds as many records of those on the disk as its LSN says
+  holds_prefix : HoldsPrefix d.pages (records_of d.batches) p (present_lsn d p) (page_words (all_words d) p)
+  holds_prefix =
+      let records : List Record = records_of d.batches in
+      let all : List Record = all_records d in
+      let legal = EachHoldsPrefix-append d.pages records d.pending stored logged.prefixes in
+      let lsn : lsn_of (redone stored all) p ≡ present_lsn d p = lsn-redone d.pages all stored p legal lt ∙ ap (λ (n : ℕ). max n (last_lsn p 1 all)) (logged.lsns p lt) in
+      let own = HoldsPrefix-own d.pages all (redone stored all) p (redone-present d.pages all stored legal) lt in
+      let words = subst (λ (ws : List ℕ). HoldsPrefix d.pages all p (lsn_of (redone stored all) p) (page_words ws p)) (sym (all_logged d logged.words)) own in
+      let here : HoldsPrefix d.pages all p (present_lsn d p) (page_words (all_words d) p) = subst (λ (n : ℕ). HoldsPrefix d.pages all p n (page_words (all_words d) p)) lsn words in
+      subst (λ (rs : List Record). HoldsPrefix d.pages rs p (present_lsn d p) (page_words (all_words d) p)) (take_at records d.pending (length records) refl)
+      (HoldsPrefix-take d.pages all (length records) p (present_lsn d p) (page_words (all_words d) p) here behind)
+
+  module _ (old new : List ℕ) (held : Holds s d.batches stored old) where
+    -- a crash leaves pages that may stand beside the log
+    pub storing_prefixes : IsStoring s.log_bytes p (present_lsn d p) (page_words (all_words d) p) old new → EachHoldsPrefix d.pages (records_of d.batches) (stored_pages s.pages s.log_bytes new)
+    storing_prefixes storing =
+        let records : List Record = records_of d.batches in
+        let before = subst (λ (at : Pages). EachHoldsPrefix d.pages records at) (sym held.pages) logged.prefixes in
+        subst (λ (n : ℕ). EachHoldsPrefix n records (stored_pages s.pages s.log_bytes new)) of.pages
+        (EachHoldsPrefix-storing s.pages s.log_bytes records p (present_lsn d p) (page_words (all_words d) p) old new
+        (subst (λ (n : ℕ). EachHoldsPrefix n records (stored_pages s.pages s.log_bytes old)) (sym of.pages) before)
+        (subst (λ (n : ℕ). HoldsPrefix n records p (present_lsn d p) (page_words (all_words d) p)) (sym of.pages) holds_prefix) storing)
+
+    -- and the superblock and the log as they were
+    pub storing_held : SameButPage s.log_bytes p old new → Holds s d.batches (stored_pages s.pages s.log_bytes new) new
+    storing_held but = record {
+      size = omega (arith, held.size, but.size);
+      super = same_part 0 64 old new but.size (λ i low high. but.before i (omega (arith, high))) ∙ held.super;
+      log = subst (λ (l : List ℕ). HoldsBatches l d.batches) (sym (same_part log_offset s.log_bytes old new but.size (λ i low high. but.before i (omega (arith, high))))) held.log;
+      pages = refl;
+    }
+
+    stored_one : (q : ℕ) (b : Bool) (was : ℕ) → (q == p) ≡ b → was ≡ d.stored_lsns q → cond b (present_lsn d p) was ≡ cond b (present_lsn d q) (d.stored_lsns q)
+    stored_one q true was here before = ap (present_lsn d) (sym (eqb-true q p here))
+    stored_one q false was here before = before
+
+    -- once it is stored, it is stored with its LSN
+    pub stored_logged : HasPage s.log_bytes p (present_lsn d p) (page_words (all_words d) p) new → ((q : ℕ) → q ≢ p → SamePage s.log_bytes q old new) → SameButPage s.log_bytes p old new
+        → IsLogged (page_stored d p) (stored_pages s.pages s.log_bytes new)
+    stored_logged has others but = record {
+      words = logged.words;
+      prefixes = storing_prefixes (record { page = inr has; others = others; outside = but });
+      lsns = λ q within.
+          let was : lsn_of (stored_pages s.pages s.log_bytes old) q ≡ d.stored_lsns q = ap (λ (at : Pages). lsn_of at q) held.pages ∙ logged.lsns q within in
+          flushed_stored s.pages s.log_bytes p (present_lsn d p) (page_words (all_words d) p) old new has others q (subst (λ (n : ℕ). q < pages_in n) (sym of.pages) within)
+          ∙ stored_one q (q == p) (lsn_of (stored_pages s.pages s.log_bytes old) q) refl was;
+    }

@@ -1,0 +1,43 @@
+-- What holds of a log holds once more memory was taken for it.
+use Rattle.std.proofs.Common.{◌≡◌, ℕ, ◌+◌, ◌<◌, ◌≤◌, ◌^◌, List, ◌++◌, length, sym, ap, ◌∙◌, subst, arith}
+use Rattle.std.proofs.lemmas.Bool.Decides.{nat_tests}
+use Rattle.gated_log.specs.declared.Log.{Log}
+use Rattle.gated_log.specs.LogRoom.{used_bytes}
+use Rattle.gated_log.specs.LogState.{log_room, log_tail, buffer_size, log_count, log_used_with, IsSameLog}
+use Rattle.heap_memory.specs.Leaves.{Adds}
+use Rattle.log_records.specs.declared.Record.{Record}
+use Rattle.memory_laws.proofs.Kept.Log.{keeps_same}
+use Rattle.page_redo.specs.Pages.{Pages}
+use Rattle.page_redo.specs.Redo.{EachLacks, redo_all}
+
+module _ (old mid : Log) (same : IsSameLog old mid) where
+  -- the records that are added to it are added to the log as it was
+  pub adds_to : (new : Log) (records : List Record) → Adds mid new records → Adds old new records
+  adds_to new records adds = record {
+    place = record { at = adds.place.at ∙ same.place.at; room = adds.place.room ∙ same.place.room; tail = adds.place.tail ∙ same.place.tail; forced = adds.place.forced ∙ same.place.forced };
+    kept = λ batches pending keeps. adds.kept batches pending (keeps_same old mid batches pending same keeps);
+  }
+
+  -- each page lacks its next record
+  pub lacks_next : (at : Pages) → EachLacks (log_count old + 1) at → EachLacks (log_count mid + 1) at
+  lacks_next at lacking = subst (λ (n : ℕ). EachLacks (n + 1) at) (sym same.count) lacking
+
+  pub used_after : (n : ℕ) → log_used_with mid n ≡ log_used_with old n
+  used_after n = λ i. used_bytes (same.place.tail i) (same.size i + n)
+
+  -- it has room for as many bytes
+  pub room_after : (n : ℕ) → log_used_with old n ≤ log_room old → log_used_with mid n ≤ log_room mid
+  room_after n fits = omega (arith, used_after n, same.place.room)
+
+  -- and the pages have the same LSNs once these were put on them
+  pub lsns_after : (at after : Pages) (records others : List Record) → after.lsns ≡ (redo_all (log_count mid + 1) at records).lsns → records ≡ others → after.lsns ≡ (redo_all (log_count old + 1) at others).lsns
+  lsns_after at after records others are is = are ∙ (λ i. (redo_all (same.count i + 1) at (is i)).lsns)
+
+covered : (tail buffer n room : ℕ) → 4 ≤ buffer → used_bytes tail (buffer + n) ≤ room → n ≤ room
+covered tail buffer n room head fits = grind (arith, nat_tests)
+
+-- what fits into a log are few bytes
+pub few_fit : (log : Log) (n others : ℕ) → log_used_with log n + others ≤ log_room log → n < 2 ^ 32
+few_fit log n others fits =
+    let within : log_used_with log n ≤ log_room log = omega arith in
+    omega (arith, covered (log_tail log) (buffer_size log) n (log_room log) log.has_head within, log.small)

@@ -1,0 +1,22 @@
+use Rattle.std.proofs.Common.{◌+◌, ◌<◌, ◌^◌, length, refl, sym, ◌∙◌, arith}
+use Rattle.log_machine.specs.Machine.{end_bytes}
+use Rattle.page_cache.specs.CacheState.{cached}
+use Rattle.txn_table.specs.Table.{transaction_of, with_begun}
+use Rattle.heap_engine.proofs.Tables.{idle, sound_same, sound_begun}
+use Rattle.heap_engine.proofs.Room.{room_left}
+use Rattle.heap_engine.proofs.engine.Engine.begin.Goals as goal
+
+pub invariant_of-self-clause-sound : goal.invariant_of-self-clause-sound
+invariant_of-self-clause-sound c =
+    let old = c.args.self.now in
+    let none = idle (transaction_of old.table c.args.session) c.active.result c.active.ensures c.if-active.false in
+    let small : old.table.next + 1 < 2 ^ 32 = omega arith in
+    let begun = sound_begun old.table (length (cached old.cache).words) old.reserved old.sealed c.args.session old.sound (c.requires.first, c.requires.last) none small in
+    sound_same (with_begun old.table c.args.session) c.begin-number.new.self (length (cached old.cache).words) (length (cached old.cache).words) (old.reserved + end_bytes 0) (old.reserved + c.end_bytes.result) old.sealed
+    begun c.begin-number.ensures.begun refl (omega (arith, c.end_bytes.ensures))
+
+pub invariant_of-self-clause-room : goal.invariant_of-self-clause-room
+invariant_of-self-clause-room c =
+    let old = c.args.self.now in
+    let left = room_left old.log 0 (old.reserved + c.end_bytes.result) (sym c.log_refusal.ensures ∙ c.in_default.is) in
+    omega (arith, left)

@@ -1,0 +1,334 @@
+use Rattle.std.proofs.Common.{rules, ◌≡◌, ◌+◌, Result, Ok, Err, refl, sym, ap, ◌∙◌, subst}
+use Rattle.disk_model.specs.Keeps.{KeepsDisk}
+use Rattle.disk_model.proofs.KeepsLaws.{keeps_none}
+use Rattle.graph_model.specs.declared.reply.Reply.{Reply}
+use Rattle.graph_model.specs.declared.reply.Reply.TheVariants.{Begun, Done, Sealed, Aborted}
+use Rattle.heap_memory.specs.Memory.{own}
+use Rattle.heap_memory.specs.Refusals.{begin_refusal, handle_refusal, new_refusal, put_refusal, clear_refusal, link_refusal, get_refusal, seal_refusal, end_refusal}
+use Rattle.heap_model.specs.Core.{AsksDisk}
+use Rattle.memory_laws.specs.CoreMemory.{Does}
+use Rattle.heap_engine.specs.declared.step_error.StepError.{StepError}
+use Rattle.heap_engine.specs.declared.step_error.StepError.TheVariants.{NoMemory}
+use Rattle.heap_engine.specs.EngineState.{memory}
+use Rattle.heap_engine.specs.StepResult.{engine_device}
+use Rattle.heap_engine.proofs.CallsCore.{begins, roots, drops, makes, puts, clears, links, gets, seals, aborts, compares, counts, either, answered, granted_or, read_or}
+use Rattle.heap_engine.proofs.EventCore.{LeavesStored, leaves_same, leaves_as, same_as_it_was, LeavesDisk, call_leaves, lack_leaves}
+use Rattle.heap_engine.proofs.engine.Engine.step_on.Goals as goal
+
+pub returns-in-Begin : goal.returns-in-Begin
+returns-in-Begin g c =
+    let old = c.args.self.now in
+    let new = c.begin.new.self in
+    let leaves = either (begin_refusal (memory old) c.in-Begin.s) (Begun old.table.next) c.begin.result (LeavesStored old new) c.begin.ensures.reply
+    (λ done. let left = c.begin.ensures.begun old.table.next done in record { log = left.log.place; store = left.store }) (λ why refused. leaves_same old new (c.begin.ensures.refused why refused)) in
+    let all = call_leaves g.D.Disk c.args.event old new c.args.disk.now c.begin.result c.requires.session (subst AsksDisk c.in-Begin.is) leaves
+    (λ core is valid runs. begins (memory old) (memory new) core is valid runs c.args.event c.in-Begin.s c.begin.result c.in-Begin.is c.requires.session c.begin.ensures.reply c.begin.ensures.begun (λ why refused. ap memory (c.begin.ensures.refused why refused))) in
+    record {
+      inside = all.inside c.requires.inside;
+      works = λ fine. all.works c.requires.works;
+      disk = keeps_none g.D.Disk c.args.disk.now tt;
+      answered = search rules;
+      core = all.core;
+      holds = λ tells. all.holds (g.met.D.Disk.only_now tells c.args.disk.now);
+    }
+
+pub returns-in-Root : goal.returns-in-Root
+returns-in-Root g c =
+    let old = c.args.self.now in
+    let new = c.root.new.self in
+    let leaves = either (handle_refusal (own (memory old) c.in-Root.s) c.in-Root.h) Done c.root.result (LeavesStored old new) c.root.ensures.reply
+    (λ done. let left = (c.root.ensures.done done).left in record { log = left.log.place; store = left.store }) (λ why refused. leaves_same old new (c.root.ensures.refused why refused)) in
+    let all = call_leaves g.D.Disk c.args.event old new c.args.disk.now c.root.result c.requires.session (subst AsksDisk c.in-Root.is) leaves
+    (λ core is valid runs. roots (memory old) (memory new) core is valid runs c.args.event c.in-Root.s c.in-Root.h c.root.result c.in-Root.is c.root.ensures.reply c.root.ensures.done (λ why refused. ap memory (c.root.ensures.refused why refused))) in
+    record {
+      inside = all.inside c.requires.inside;
+      works = λ fine. all.works c.requires.works;
+      disk = keeps_none g.D.Disk c.args.disk.now tt;
+      answered = search rules;
+      core = all.core;
+      holds = λ tells. all.holds (g.met.D.Disk.only_now tells c.args.disk.now);
+    }
+
+pub returns-in-Drop : goal.returns-in-Drop
+returns-in-Drop g c =
+    let old = c.args.self.now in
+    let new = c.drop_handle.new.self in
+    let leaves = either (handle_refusal (own (memory old) c.in-Drop.s) c.in-Drop.h) Done c.drop_handle.result (LeavesStored old new) c.drop_handle.ensures.reply
+    (λ done. let left = (c.drop_handle.ensures.done done).left in record { log = left.log.place; store = left.store }) (λ why refused. leaves_same old new (c.drop_handle.ensures.refused why refused)) in
+    let all = call_leaves g.D.Disk c.args.event old new c.args.disk.now c.drop_handle.result c.requires.session (subst AsksDisk c.in-Drop.is) leaves
+    (λ core is valid runs. drops (memory old) (memory new) core is valid runs c.args.event c.in-Drop.s c.in-Drop.h c.drop_handle.result c.in-Drop.is c.drop_handle.ensures.reply c.drop_handle.ensures.done (λ why refused. ap memory (c.drop_handle.ensures.refused why refused))) in
+    record {
+      inside = all.inside c.requires.inside;
+      works = λ fine. all.works c.requires.works;
+      disk = keeps_none g.D.Disk c.args.disk.now tt;
+      answered = search rules;
+      core = all.core;
+      holds = λ tells. all.holds (g.met.D.Disk.only_now tells c.args.disk.now);
+    }
+
+pub returns-in-Same : goal.returns-in-Same
+returns-in-Same g c =
+    let old = c.args.self.now in
+    let all = call_leaves g.D.Disk c.args.event old old c.args.disk.now c.same.result c.requires.session (subst AsksDisk c.in-Same.is) (leaves_same old old refl)
+    (λ core is valid runs. compares (memory old) core is valid runs c.args.event c.in-Same.s c.in-Same.h c.in-Same.h2 c.same.result c.in-Same.is c.same.ensures) in
+    record {
+      inside = all.inside c.requires.inside;
+      works = λ fine. all.works c.requires.works;
+      disk = keeps_none g.D.Disk c.args.disk.now tt;
+      answered = search rules;
+      core = all.core;
+      holds = λ tells. all.holds (g.met.D.Disk.only_now tells c.args.disk.now);
+    }
+
+pub returns-in-Len : goal.returns-in-Len
+returns-in-Len g c =
+    let old = c.args.self.now in
+    let all = call_leaves g.D.Disk c.args.event old old c.args.disk.now c.len.result c.requires.session (subst AsksDisk c.in-Len.is) (leaves_same old old refl)
+    (λ core is valid runs. counts (memory old) core is valid runs c.args.event c.in-Len.s c.in-Len.h c.len.result c.in-Len.is c.len.ensures) in
+    record {
+      inside = all.inside c.requires.inside;
+      works = λ fine. all.works c.requires.works;
+      disk = keeps_none g.D.Disk c.args.disk.now tt;
+      answered = search rules;
+      core = all.core;
+      holds = λ tells. all.holds (g.met.D.Disk.only_now tells c.args.disk.now);
+    }
+
+pub returns-in_ok-make-in-New : goal.returns-in_ok-make-in-New
+returns-in_ok-make-in-New g c =
+    let old = c.args.self.now in
+    let new = c.make.new.self in
+    let leaves = granted_or (new_refusal (own (memory old) c.in-New.s) c.in-New.h c.in-New.len) Done c.make.result c.in_ok-make-in-New.field-0 (LeavesStored old new) c.in_ok-make-in-New.was c.make.ensures.reply
+    (λ done. let left = (c.make.ensures.done done).left in record { log = left.log.place; store = left.store }) (λ why refused. leaves_same old new (c.make.ensures.refused why refused)) in
+    let all = call_leaves g.D.Disk c.args.event old new c.args.disk.now c.in_ok-make-in-New.field-0 c.requires.session (subst AsksDisk c.in-New.is) leaves
+    (λ core is valid runs. answered c.make.result c.in_ok-make-in-New.field-0 (λ reply. Does core c.args.event reply (memory new)) c.in_ok-make-in-New.was
+    (makes (memory old) (memory new) core is valid runs c.args.event c.in-New.s c.in-New.h c.in-New.len c.make.result c.in-New.is c.make.ensures.reply c.make.ensures.done (λ why refused. ap memory (c.make.ensures.refused why refused)))) in
+    record {
+      inside = all.inside c.requires.inside;
+      works = λ fine. all.works c.requires.works;
+      disk = keeps_none g.D.Disk c.args.disk.now tt;
+      answered = search rules;
+      core = all.core;
+      holds = λ tells. all.holds (g.met.D.Disk.only_now tells c.args.disk.now);
+    }
+
+pub returns-in_err-make-in-New : goal.returns-in_err-make-in-New
+returns-in_err-make-in-New g c =
+    let old = c.args.self.now in
+    let new = c.make.new.self in
+    let err : c.from_residual.result ≡ Err NoMemory = search rules in
+    let P : Result Reply StepError → Type 0 = λ r. LeavesDisk g.D.Disk c.args.event old new c.args.disk.now r in
+    let all = subst P (sym err) (lack_leaves g.D.Disk c.args.event old new c.args.disk.now (same_as_it_was old new c.in_err-make-in-New.ensures.err)) in
+    record {
+      inside = all.inside c.requires.inside;
+      works = λ fine. all.works c.requires.works;
+      disk = subst (λ (r : Result Reply StepError). KeepsDisk g.D.Disk c.args.disk.now c.args.disk.now (engine_device r)) (sym err) (keeps_none g.D.Disk c.args.disk.now tt);
+      answered = search rules;
+      core = all.core;
+      holds = λ tells. all.holds (g.met.D.Disk.only_now tells c.args.disk.now);
+    }
+
+pub returns-in_ok-put-in-Put : goal.returns-in_ok-put-in-Put
+returns-in_ok-put-in-Put g c =
+    let old = c.args.self.now in
+    let new = c.put.new.self in
+    let leaves = granted_or (put_refusal (memory old) c.in-Put.s c.in-Put.h c.in-Put.i c.in-Put.v) Done c.put.result c.in_ok-put-in-Put.field-0 (LeavesStored old new) c.in_ok-put-in-Put.was c.put.ensures.reply
+    (λ done. let left = (c.put.ensures.done done).writes.left in record { log = left.log.place; store = left.store }) (λ why refused. leaves_as old new (c.put.ensures.refused why refused)) in
+    let all = call_leaves g.D.Disk c.args.event old new c.args.disk.now c.in_ok-put-in-Put.field-0 c.requires.session (subst AsksDisk c.in-Put.is) leaves
+    (λ core is valid runs. answered c.put.result c.in_ok-put-in-Put.field-0 (λ reply. Does core c.args.event reply (memory new)) c.in_ok-put-in-Put.was
+    (puts (memory old) (memory new) core is valid runs c.args.event c.in-Put.s c.in-Put.h c.in-Put.i c.in-Put.v c.put.result c.in-Put.is c.put.ensures.reply c.put.ensures.done c.put.ensures.refused)) in
+    record {
+      inside = all.inside c.requires.inside;
+      works = λ fine. all.works c.requires.works;
+      disk = keeps_none g.D.Disk c.args.disk.now tt;
+      answered = search rules;
+      core = all.core;
+      holds = λ tells. all.holds (g.met.D.Disk.only_now tells c.args.disk.now);
+    }
+
+pub returns-in_err-put-in-Put : goal.returns-in_err-put-in-Put
+returns-in_err-put-in-Put g c =
+    let old = c.args.self.now in
+    let new = c.put.new.self in
+    let err : c.from_residual-in_err-put-in-Put.result ≡ Err NoMemory = search rules in
+    let P : Result Reply StepError → Type 0 = λ r. LeavesDisk g.D.Disk c.args.event old new c.args.disk.now r in
+    let all = subst P (sym err) (lack_leaves g.D.Disk c.args.event old new c.args.disk.now c.in_err-put-in-Put.ensures.err) in
+    record {
+      inside = all.inside c.requires.inside;
+      works = λ fine. all.works c.requires.works;
+      disk = subst (λ (r : Result Reply StepError). KeepsDisk g.D.Disk c.args.disk.now c.args.disk.now (engine_device r)) (sym err) (keeps_none g.D.Disk c.args.disk.now tt);
+      answered = search rules;
+      core = all.core;
+      holds = λ tells. all.holds (g.met.D.Disk.only_now tells c.args.disk.now);
+    }
+
+pub returns-in_ok-clear-in-Clear : goal.returns-in_ok-clear-in-Clear
+returns-in_ok-clear-in-Clear g c =
+    let old = c.args.self.now in
+    let new = c.clear.new.self in
+    let leaves = granted_or (clear_refusal (memory old) c.in-Clear.s c.in-Clear.h c.in-Clear.i) Done c.clear.result c.in_ok-clear-in-Clear.field-0 (LeavesStored old new) c.in_ok-clear-in-Clear.was c.clear.ensures.reply
+    (λ done. let left = (c.clear.ensures.done done).writes.left in record { log = left.log.place; store = left.store }) (λ why refused. leaves_as old new (c.clear.ensures.refused why refused)) in
+    let all = call_leaves g.D.Disk c.args.event old new c.args.disk.now c.in_ok-clear-in-Clear.field-0 c.requires.session (subst AsksDisk c.in-Clear.is) leaves
+    (λ core is valid runs. answered c.clear.result c.in_ok-clear-in-Clear.field-0 (λ reply. Does core c.args.event reply (memory new)) c.in_ok-clear-in-Clear.was
+    (clears (memory old) (memory new) core is valid runs c.args.event c.in-Clear.s c.in-Clear.h c.in-Clear.i c.clear.result c.in-Clear.is c.clear.ensures.reply c.clear.ensures.done c.clear.ensures.refused)) in
+    record {
+      inside = all.inside c.requires.inside;
+      works = λ fine. all.works c.requires.works;
+      disk = keeps_none g.D.Disk c.args.disk.now tt;
+      answered = search rules;
+      core = all.core;
+      holds = λ tells. all.holds (g.met.D.Disk.only_now tells c.args.disk.now);
+    }
+
+pub returns-in_err-clear-in-Clear : goal.returns-in_err-clear-in-Clear
+returns-in_err-clear-in-Clear g c =
+    let old = c.args.self.now in
+    let new = c.clear.new.self in
+    let err : c.from_residual-in_err-clear-in-Clear.result ≡ Err NoMemory = search rules in
+    let P : Result Reply StepError → Type 0 = λ r. LeavesDisk g.D.Disk c.args.event old new c.args.disk.now r in
+    let all = subst P (sym err) (lack_leaves g.D.Disk c.args.event old new c.args.disk.now c.in_err-clear-in-Clear.ensures.err) in
+    record {
+      inside = all.inside c.requires.inside;
+      works = λ fine. all.works c.requires.works;
+      disk = subst (λ (r : Result Reply StepError). KeepsDisk g.D.Disk c.args.disk.now c.args.disk.now (engine_device r)) (sym err) (keeps_none g.D.Disk c.args.disk.now tt);
+      answered = search rules;
+      core = all.core;
+      holds = λ tells. all.holds (g.met.D.Disk.only_now tells c.args.disk.now);
+    }
+
+pub returns-in_ok-link-in-Link : goal.returns-in_ok-link-in-Link
+returns-in_ok-link-in-Link g c =
+    let old = c.args.self.now in
+    let new = c.link.new.self in
+    let leaves = granted_or (link_refusal (memory old) c.in-Link.s c.in-Link.h c.in-Link.i c.in-Link.h2) Done c.link.result c.in_ok-link-in-Link.field-0 (LeavesStored old new) c.in_ok-link-in-Link.was c.link.ensures.reply
+    (λ done. let left = (c.link.ensures.done done).writes.writes.left in record { log = left.log.place; store = left.store }) (λ why refused. leaves_as old new (c.link.ensures.refused why refused)) in
+    let all = call_leaves g.D.Disk c.args.event old new c.args.disk.now c.in_ok-link-in-Link.field-0 c.requires.session (subst AsksDisk c.in-Link.is) leaves
+    (λ core is valid runs. answered c.link.result c.in_ok-link-in-Link.field-0 (λ reply. Does core c.args.event reply (memory new)) c.in_ok-link-in-Link.was
+    (links (memory old) (memory new) core is valid runs c.args.event c.in-Link.s c.in-Link.h c.in-Link.i c.in-Link.h2 c.link.result c.in-Link.is c.link.ensures.reply c.link.ensures.done c.link.ensures.refused)) in
+    record {
+      inside = all.inside c.requires.inside;
+      works = λ fine. all.works c.requires.works;
+      disk = keeps_none g.D.Disk c.args.disk.now tt;
+      answered = search rules;
+      core = all.core;
+      holds = λ tells. all.holds (g.met.D.Disk.only_now tells c.args.disk.now);
+    }
+
+pub returns-in_err-link-in-Link : goal.returns-in_err-link-in-Link
+returns-in_err-link-in-Link g c =
+    let old = c.args.self.now in
+    let new = c.link.new.self in
+    let err : c.from_residual-in_err-link-in-Link.result ≡ Err NoMemory = search rules in
+    let P : Result Reply StepError → Type 0 = λ r. LeavesDisk g.D.Disk c.args.event old new c.args.disk.now r in
+    let all = subst P (sym err) (lack_leaves g.D.Disk c.args.event old new c.args.disk.now c.in_err-link-in-Link.ensures.err) in
+    record {
+      inside = all.inside c.requires.inside;
+      works = λ fine. all.works c.requires.works;
+      disk = subst (λ (r : Result Reply StepError). KeepsDisk g.D.Disk c.args.disk.now c.args.disk.now (engine_device r)) (sym err) (keeps_none g.D.Disk c.args.disk.now tt);
+      answered = search rules;
+      core = all.core;
+      holds = λ tells. all.holds (g.met.D.Disk.only_now tells c.args.disk.now);
+    }
+
+pub returns-in_ok-get-in-Get : goal.returns-in_ok-get-in-Get
+returns-in_ok-get-in-Get g c =
+    let old = c.args.self.now in
+    let new = c.get.new.self in
+    let leaves = read_or c.in_ok-get-in-Get.field-0 (LeavesStored old new)
+    (λ granted. let left = (answered c.get.result c.in_ok-get-in-Get.field-0 _ c.in_ok-get-in-Get.was c.get.ensures.got granted).left in record { log = left.log.place; store = left.store })
+    (λ why refused. leaves_same old new (c.get.ensures.refused why (c.in_ok-get-in-Get.was ∙ ap Ok refused))) in
+    let all = call_leaves g.D.Disk c.args.event old new c.args.disk.now c.in_ok-get-in-Get.field-0 c.requires.session (subst AsksDisk c.in-Get.is) leaves
+    (λ core is valid runs. answered c.get.result c.in_ok-get-in-Get.field-0 (λ reply. Does core c.args.event reply (memory new)) c.in_ok-get-in-Get.was
+    (gets (memory old) (memory new) core is valid runs c.args.event c.in-Get.s c.in-Get.h c.in-Get.i c.in-Get.h2 c.get.result c.in-Get.is c.get.ensures.reply c.get.ensures.got (λ why refused. ap memory (c.get.ensures.refused why refused)))) in
+    record {
+      inside = all.inside c.requires.inside;
+      works = λ fine. all.works c.requires.works;
+      disk = keeps_none g.D.Disk c.args.disk.now tt;
+      answered = search rules;
+      core = all.core;
+      holds = λ tells. all.holds (g.met.D.Disk.only_now tells c.args.disk.now);
+    }
+
+pub returns-in_err-get-in-Get : goal.returns-in_err-get-in-Get
+returns-in_err-get-in-Get g c =
+    let old = c.args.self.now in
+    let new = c.get.new.self in
+    let err : c.from_residual-in_err-get-in-Get.result ≡ Err NoMemory = search rules in
+    let P : Result Reply StepError → Type 0 = λ r. LeavesDisk g.D.Disk c.args.event old new c.args.disk.now r in
+    let all = subst P (sym err) (lack_leaves g.D.Disk c.args.event old new c.args.disk.now (same_as_it_was old new c.in_err-get-in-Get.ensures.err)) in
+    record {
+      inside = all.inside c.requires.inside;
+      works = λ fine. all.works c.requires.works;
+      disk = subst (λ (r : Result Reply StepError). KeepsDisk g.D.Disk c.args.disk.now c.args.disk.now (engine_device r)) (sym err) (keeps_none g.D.Disk c.args.disk.now tt);
+      answered = search rules;
+      core = all.core;
+      holds = λ tells. all.holds (g.met.D.Disk.only_now tells c.args.disk.now);
+    }
+
+pub returns-in_ok-seal-in-Seal : goal.returns-in_ok-seal-in-Seal
+returns-in_ok-seal-in-Seal g c =
+    let old = c.args.self.now in
+    let new = c.seal.new.self in
+    let leaves = granted_or (seal_refusal (memory old) c.in-Seal.s) (Sealed (old.sealed + 1)) c.seal.result c.in_ok-seal-in-Seal.field-0 (LeavesStored old new) c.in_ok-seal-in-Seal.was c.seal.ensures.reply
+    (λ done. let left = (c.seal.ensures.sealed (old.sealed + 1) done).left in record { log = left.log.place; store = left.store }) (λ why refused. leaves_as old new (c.seal.ensures.refused why refused)) in
+    let all = call_leaves g.D.Disk c.args.event old new c.args.disk.now c.in_ok-seal-in-Seal.field-0 c.requires.session (subst AsksDisk c.in-Seal.is) leaves
+    (λ core is valid runs. answered c.seal.result c.in_ok-seal-in-Seal.field-0 (λ reply. Does core c.args.event reply (memory new)) c.in_ok-seal-in-Seal.was
+    (seals (memory old) (memory new) core is valid runs c.args.event c.in-Seal.s c.seal.result c.in-Seal.is c.seal.ensures.reply c.seal.ensures.sealed c.seal.ensures.refused)) in
+    record {
+      inside = all.inside c.requires.inside;
+      works = λ fine. all.works c.requires.works;
+      disk = keeps_none g.D.Disk c.args.disk.now tt;
+      answered = search rules;
+      core = all.core;
+      holds = λ tells. all.holds (g.met.D.Disk.only_now tells c.args.disk.now);
+    }
+
+pub returns-in_err-seal-in-Seal : goal.returns-in_err-seal-in-Seal
+returns-in_err-seal-in-Seal g c =
+    let old = c.args.self.now in
+    let new = c.seal.new.self in
+    let err : c.from_residual-in_err-seal-in-Seal.result ≡ Err NoMemory = search rules in
+    let P : Result Reply StepError → Type 0 = λ r. LeavesDisk g.D.Disk c.args.event old new c.args.disk.now r in
+    let all = subst P (sym err) (lack_leaves g.D.Disk c.args.event old new c.args.disk.now c.in_err-seal-in-Seal.ensures.err) in
+    record {
+      inside = all.inside c.requires.inside;
+      works = λ fine. all.works c.requires.works;
+      disk = subst (λ (r : Result Reply StepError). KeepsDisk g.D.Disk c.args.disk.now c.args.disk.now (engine_device r)) (sym err) (keeps_none g.D.Disk c.args.disk.now tt);
+      answered = search rules;
+      core = all.core;
+      holds = λ tells. all.holds (g.met.D.Disk.only_now tells c.args.disk.now);
+    }
+
+pub returns-in_ok-abort-in-Abort : goal.returns-in_ok-abort-in-Abort
+returns-in_ok-abort-in-Abort g c =
+    let old = c.args.self.now in
+    let new = c.abort.new.self in
+    let leaves = granted_or (end_refusal (own (memory old) c.in-Abort.s)) Aborted c.abort.result c.in_ok-abort-in-Abort.field-0 (LeavesStored old new) c.in_ok-abort-in-Abort.was c.abort.ensures.reply
+    (λ done. let left = (c.abort.ensures.aborted done).left in record { log = left.log.place; store = left.store }) (λ why refused. leaves_as old new (c.abort.ensures.refused why refused)) in
+    let all = call_leaves g.D.Disk c.args.event old new c.args.disk.now c.in_ok-abort-in-Abort.field-0 c.requires.session (subst AsksDisk c.in-Abort.is) leaves
+    (λ core is valid runs. answered c.abort.result c.in_ok-abort-in-Abort.field-0 (λ reply. Does core c.args.event reply (memory new)) c.in_ok-abort-in-Abort.was
+    (aborts (memory old) (memory new) core is valid runs c.args.event c.in-Abort.s c.abort.result c.in-Abort.is c.abort.ensures.reply c.abort.ensures.aborted c.abort.ensures.refused)) in
+    record {
+      inside = all.inside c.requires.inside;
+      works = λ fine. all.works c.requires.works;
+      disk = keeps_none g.D.Disk c.args.disk.now tt;
+      answered = search rules;
+      core = all.core;
+      holds = λ tells. all.holds (g.met.D.Disk.only_now tells c.args.disk.now);
+    }
+
+pub returns-in_err-abort-in-Abort : goal.returns-in_err-abort-in-Abort
+returns-in_err-abort-in-Abort g c =
+    let old = c.args.self.now in
+    let new = c.abort.new.self in
+    let err : c.from_residual-in_err-abort-in-Abort.result ≡ Err NoMemory = search rules in
+    let P : Result Reply StepError → Type 0 = λ r. LeavesDisk g.D.Disk c.args.event old new c.args.disk.now r in
+    let all = subst P (sym err) (lack_leaves g.D.Disk c.args.event old new c.args.disk.now c.in_err-abort-in-Abort.ensures.err) in
+    record {
+      inside = all.inside c.requires.inside;
+      works = λ fine. all.works c.requires.works;
+      disk = subst (λ (r : Result Reply StepError). KeepsDisk g.D.Disk c.args.disk.now c.args.disk.now (engine_device r)) (sym err) (keeps_none g.D.Disk c.args.disk.now tt);
+      answered = search rules;
+      core = all.core;
+      holds = λ tells. all.holds (g.met.D.Disk.only_now tells c.args.disk.now);
+    }

@@ -1,0 +1,41 @@
+use Rattle.std.proofs.Common.{◌≡◌, ℕ, ◌≤◌, List, length, Option, sym, ap, ◌∙◌, subst, arith}
+use Rattle.std.specs.Prelude.{IsSome, IsSomeAnd, IfSome}
+use Rattle.page_cache.specs.CacheState.{cached}
+use Rattle.volatile_area.specs.Area.{HasField, with_field}
+use Rattle.txn_table.specs.declared.place.Place.{Place}
+use Rattle.txn_table.specs.Table.{TransactionState, transaction_of}
+use Rattle.heap_memory.specs.Memory.{fields_at}
+use Rattle.heap_engine.proofs.Tables.{there, told, sound_area}
+use Rattle.heap_engine.proofs.ObjectFields.{placed_few, own_has}
+use Rattle.heap_engine.proofs.engine.Engine.write.Goals as goal
+
+few : (o : Option TransactionState) (words : List ℕ) (p : Place) (fields : List ℕ) → IsSome o → IfSome o (λ t. fields ≡ fields_at words t.area p) → length fields ≤ 510
+few o words p fields some is =
+    let t = there o some in
+    let same = told o t.0 (λ v. fields ≡ fields_at words v.area p) t.1 is in
+    omega (arith, ap length same, placed_few words t.0.area p)
+
+pub overflow_cast-i : goal.overflow_cast-i
+overflow_cast-i c =
+    let s = c.args.self.now in
+    omega (arith, c.if-i-fields.false, few (transaction_of s.table c.args.session) (cached s.cache).words c.args.place c.fields.result.now c.requires.active c.fields.ensures)
+
+pub overflow_cast-i-in-Volatile : goal.overflow_cast-i-in-Volatile
+overflow_cast-i-in-Volatile c =
+    let s = c.args.self.now in
+    omega (arith, c.if-i-fields.false, few (transaction_of s.table c.args.session) (cached s.cache).words c.args.place c.fields.result.now c.requires.active c.fields.ensures)
+
+pub set_field-requires-clause-there : goal.set_field-requires-clause-there
+set_field-requires-clause-there c =
+    let s = c.args.self.now in
+    let o = transaction_of s.table c.args.session in
+    let t = there o c.requires.active in
+    let is = told o t.0 (λ v. c.fields.result.now ≡ fields_at (cached s.cache).words v.area c.args.place) t.1 c.fields.ensures in
+    let long = ap length (is ∙ ap (fields_at (cached s.cache).words t.0.area) c.in-Volatile.is) in
+    let has = own_has t.0.area c.in-Volatile.at c.args.i (omega (arith, c.if-i-fields.false, long)) in
+    subst (λ (p : Option TransactionState). IsSomeAnd p (λ v. HasField v.area c.in-Volatile.at c.args.i)) (sym t.1) has
+
+pub invariant_of-self-clause-sound : goal.invariant_of-self-clause-sound
+invariant_of-self-clause-sound c =
+    let s = c.args.self.now in
+    sound_area s.table c.set_field.new.self (length (cached s.cache).words) s.reserved s.sealed c.args.session (λ area. with_field area c.in-Volatile.at c.args.i c.encode-in-Volatile.result) s.sound c.requires.active c.set_field.ensures

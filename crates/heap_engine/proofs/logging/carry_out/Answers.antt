@@ -1,0 +1,15 @@
+use Rattle.std.proofs.Common.{◌+◌, length, ap, ◌∙◌, arith}
+use Rattle.gated_log.specs.LogState.{log_count}
+use Rattle.log_machine.proofs.WordsLaws.{length-put_records}
+use Rattle.page_cache.specs.CacheState.{cached}
+use Rattle.heap_engine.proofs.Applied.{still_lacking}
+use Rattle.heap_engine.proofs.logging.carry_out.Goals as goal
+
+pub returns-clause-size : goal.returns-clause-size
+returns-clause-size c = ap length c.apply_all.ensures.words ∙ length-put_records c.args.records.now (cached c.args.cache.now).words
+
+pub returns-clause-logged : goal.returns-clause-logged
+returns-clause-logged c =
+    let log = c.args.log.now in
+    still_lacking (log_count log) (c.records-first.result + 1) (log_count c.append_each.new.log) (cached c.args.cache.now) (cached c.apply_all.new.self) c.args.records.now c.requires.new (omega (arith, c.records-first.ensures))
+    c.append_each.ensures.count c.apply_all.ensures.redone

@@ -1,0 +1,5 @@
+pub mod EngineState
+pub mod Refinement
+pub mod Reserve
+pub mod Seal
+pub mod StepResult

@@ -1,0 +1,152 @@
+//! The engine of an open heap: what it keeps in memory, and its one call, which makes an event.
+ghost use Rattle.std.specs.Prelude.{◌≡◌, ◌+◌, ◌≤◌, length, Ok, IfOk, IsTrue, IsSome, ◌↔◌};
+ghost use Rattle.disk_model.specs.Keeps.{KeepsDisk};
+ghost use Rattle.gated_log.specs.LogState.{log_count, log_room, log_used, is_waiting};
+ghost use Rattle.graph_model.specs.History.{account};
+ghost use Rattle.graph_model.specs.History.{IsOfSession};
+ghost use Rattle.log_machine.specs.Machine.{words_in};
+ghost use Rattle.page_redo.specs.Redo.{EachLacks};
+ghost use Rattle.page_cache.specs.CacheState.{cached};
+ghost use Rattle.txn_table.specs.Table.{new_table};
+ghost use Rattle.heap_memory.specs.Memory.{own};
+ghost use Rattle.heap_model.specs.Core.{Core, is_dirty};
+ghost use Rattle.memory_laws.specs.CoreMemory.{IsMemory};
+ghost use Rattle.heap_engine.specs.Reserve.{AreSound};
+ghost use Rattle.heap_engine.specs.StepResult.{engine_device, reply_device};
+
+use crate::step_error::StepError;
+use disk_model::Disk;
+use gated_log::Log;
+use graph_model::{Event, Refusal, Reply};
+use heap_spaces::Spaces;
+use object_locks::LockTable;
+use page_cache::PageCache;
+use std::alloc::Global;
+use txn_table::TxnTable;
+
+/// What an open heap keeps in memory.
+#[derive(Debug, Drop)]
+pub struct Engine {
+    pub(crate) alloc: Global,
+    /// The log, with its pending records.
+    pub(crate) log: Log,
+    /// The pages of both spaces.
+    pub(crate) cache: PageCache,
+    /// Which words of the current space are taken.
+    pub(crate) spaces: Spaces,
+    /// The transactions of the sessions that have not ended, and the next one's number.
+    pub(crate) table: TxnTable,
+    /// The locks that these hold on objects of the current space.
+    pub(crate) locks: LockTable,
+    /// The log's bytes that are kept for the ends of all these transactions.
+    pub(crate) reserved: u64,
+    /// How many transactions were sealed since the heap was opened.
+    pub(crate) sealed: u64,
+    // The log has room for what is kept.
+    ghost room: { log_used log + reserved ≤ log_room log },
+    ghost sound: { AreSound table (length (cached cache).words) reserved sealed },
+    ghost sized: { length (cached cache).words ≡ words_in spaces.pages },
+    ghost few: { length (cached cache).words ≤ 2097152 },
+    // No page has a record that the log lacks: the next record is new to each of them.
+    ghost logged: { EachLacks (log_count log + 1) (cached cache) },
+}
+
+/// The answer of an event that is refused.
+pub(crate) fn refused(why: Refusal) -> Reply
+    ensures { result ≡ Reply.Refused why }
+{
+    Reply::Refused { why }
+}
+
+impl Engine {
+    ghost use Rattle.heap_engine.specs.EngineState.{memory, opened, LiesWithin, HasNotFailed};
+    ghost use Rattle.heap_engine.specs.Refinement.{Steps, StepsOn};
+
+    /// The engine of a heap that was just opened: no session has a transaction. It takes no memory.
+    pub fn new(
+        alloc: Global,
+        log: Log,
+        cache: PageCache,
+        spaces: Spaces,
+        table: TxnTable,
+    ) -> Engine
+        requires number { 1 ≤ table.next }
+        requires idle { table ≡ new_table table.next }
+        requires sized { length (cached cache).words ≡ words_in spaces.pages }
+        requires few { spaces.pages ≤ 16384 }
+        requires new { EachLacks (log_count log + 1) (cached cache) }
+        ensures { memory result ≡ opened log cache spaces table.next }
+    {
+        Engine {
+            alloc,
+            log,
+            cache,
+            spaces,
+            table,
+            locks: LockTable::new(alloc),
+            reserved: 0,
+            sealed: 0,
+        }
+    }
+
+    /// Makes an event on the disk that the engine was opened from, and answers it. Its session, if it has one, is from 1 to 32. Where the disk
+    /// fails or stops, no other event may follow.
+    pub fn step_on<D: Disk>(&mut self, disk: &mut D, event: Event) -> Result<Reply, StepError>
+        requires session { IsOfSession event }
+        requires inside { LiesWithin self.old (D.extent disk.old) }
+        requires works { HasNotFailed self.old }
+        ensures inside { LiesWithin self.new (D.extent disk.new) }
+        ensures works { engine_device result ≡ Ok tt → HasNotFailed self.new }
+        ensures disk { KeepsDisk D.Disk disk.old disk.new (engine_device result) }
+        // An answer tells of no failure of the disk.
+        ensures answered { IfOk result (λ reply. reply_device reply ≡ Ok tt) }
+        // It is a step of the core that the engine is, and so is what a modelled disk holds.
+        ensures core { Steps D.Disk event self.old disk.old self.new disk.new result }
+        ensures holds { IsTrue D.tells → StepsOn D.Disk event self.old disk.old self.new disk.new result }
+    {
+        match event {
+            Event::Begin { s } => Ok(self.begin(s)),
+            Event::Root { s, h } => Ok(self.root(s, h)),
+            Event::New { s, h, len } => Ok(self.make(s, h, len)?),
+            Event::Put { s, h, i, v } => Ok(self.put(s, h, i, v)?),
+            Event::Clear { s, h, i } => Ok(self.clear(s, h, i)?),
+            Event::Link { s, h, i, h2 } => Ok(self.link(s, h, i, h2)?),
+            Event::Drop { s, h } => Ok(self.drop_handle(s, h)),
+            Event::Get { s, h, i, h2 } => Ok(self.get(s, h, i, h2)?),
+            Event::Same { s, h, h2 } => Ok(self.same(s, h, h2)),
+            Event::Len { s, h } => Ok(self.len(s, h)),
+            Event::Seal { s } => Ok(self.seal(s)?),
+            Event::Abort { s } => Ok(self.abort(s)?),
+            Event::Force => self.force(disk),
+            Event::Flush { p } => self.flush(disk, p),
+        }
+    }
+
+    /// Whether a session has a transaction.
+    pub fn active(&self, session: u32) -> bool
+        ensures { IsTrue result ↔ IsSome (own (memory self.now) session) }
+    {
+        self.table.active(session)
+    }
+
+    /// How many transactions were sealed since the heap was opened.
+    pub fn sealed(&self) -> u64
+        ensures { result ≡ (memory self.now).sealed }
+    {
+        self.sealed
+    }
+
+    /// Whether records are pending: appended to the log, and not forced yet.
+    pub fn pending(&self) -> bool
+        ensures { result ≡ is_waiting (memory self.now).log }
+    {
+        self.log.pending()
+    }
+
+    /// Whether there is a page `p`, which has changed since it was stored.
+    pub fn dirty(&self, p: u32) -> bool
+        ensures { (c : Core) → IsMemory (memory self.now) (account c.history) c → result ≡ is_dirty c p }
+    {
+        p < self.cache.pages() && self.cache.dirty(p)
+    }
+}

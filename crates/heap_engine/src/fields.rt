@@ -1,0 +1,246 @@
+//! The fields of objects, of those that stand in the current space and of those that a transaction has made: how they are written and read.
+ghost use Rattle.std.specs.Prelude.{◌≡◌, ◌+◌, ◌*◌, ◌<◌, ◌≤◌, ◌^◌, length, [], true, Ok, Some, None, OnErr, IfOk, IfSome, IsSome};
+ghost use Rattle.heap_words.specs.Word.{bits, meaning, IsWord};
+ghost use Rattle.graph_model.specs.Plain.{reply_of};
+ghost use Rattle.graph_model.specs.declared.reply.Reply.TheVariants.{Done};
+ghost use Rattle.object_layout.specs.Layout.{field_words};
+ghost use Rattle.page_cache.specs.CacheState.{cached};
+ghost use Rattle.heap_memory.specs.Memory.{own, own_fields, place_word, fields_at as words_at};
+ghost use Rattle.heap_engine.specs.Reserve.{can_refer};
+
+use crate::locking::{keep_write, lock_of, lock_refusal};
+use crate::log_room::{UNDO_BYTES, log_refusal, need_of};
+use crate::logging::carry_out;
+use crate::engine::{Engine, refused};
+use graph_model::{Refusal, Reply};
+use heap_words::{Header, NO_INT, Word, decode, encode, header_of};
+use log_machine::UndoEntry;
+use log_records::Record;
+use object_locks::Mode;
+use std::alloc::AllocError;
+use txn_table::Place;
+
+/// The words in front of an object's fields: its header and its birth.
+const FIELDS_AT: usize = 2;
+
+/// The words of the fields of the object that stands at an address, in order, and none where no object stands.
+fn fields_at(words: &[u64], at: u32) -> &[u64]
+    requires { length words.now < 2 ^ 32 }
+    ensures { result.now ≡ field_words words.now at }
+{
+    let from = at as usize + FIELDS_AT;
+    if at as usize >= words.len() {
+        return &[];
+    }
+    match header_of(words[at as usize]) {
+        Some(Header::Length(n)) if from + n as usize <= words.len() => {
+            &words[from..from + n as usize]
+        }
+        _ => &[],
+    }
+}
+
+impl Engine {
+    ghost use Rattle.heap_memory.specs.Refusals.{put_refusal, clear_refusal, link_refusal, get_refusal, write_refusal};
+    ghost use Rattle.heap_memory.specs.Replies.{get_reply, word_reply, IsGranted};
+    ghost use Rattle.heap_memory.specs.Leaves.{IsAsItWas, WritesHeld, Links, Gets, Writes, LeavesOwn, with_read, with_handle};
+    ghost use Rattle.heap_engine.specs.EngineState.{memory};
+
+    /// Writes a number below 2^62 into field `i` of the object that a handle of the transaction holds. An object of the current space is
+    /// locked for the transaction alone.
+    pub(crate) fn put(&mut self, session: u32, h: u64, i: u64, v: u64) -> Result<Reply, AllocError>
+        ensures reply { IfOk result (λ reply. reply ≡ reply_of (put_refusal (memory self.old) session h i v) Done) }
+        ensures done { result ≡ Ok Done → WritesHeld (memory self.old) (memory self.new) session h i (4 * v + 1) }
+        ensures refused { (why : _) → result ≡ Ok (Reply.Refused why) → IsAsItWas (memory self.old) (memory self.new) }
+        ensures err { OnErr result (IsAsItWas (memory self.old) (memory self.new)) }
+    {
+        match self.held(session, h) {
+            Err(why) => Ok(refused(why)),
+            Ok(_) if v >= NO_INT => Ok(refused(Refusal::Range)),
+            Ok(place) => self.write(session, place, i, Word::Int(v)),
+        }
+    }
+
+    /// Lets field `i` of the object that a handle of the transaction holds be null. It locks the object as `put` does.
+    pub(crate) fn clear(&mut self, session: u32, h: u64, i: u64) -> Result<Reply, AllocError>
+        ensures reply { IfOk result (λ reply. reply ≡ reply_of (clear_refusal (memory self.old) session h i) Done) }
+        ensures done { result ≡ Ok Done → WritesHeld (memory self.old) (memory self.new) session h i 0 }
+        ensures refused { (why : _) → result ≡ Ok (Reply.Refused why) → IsAsItWas (memory self.old) (memory self.new) }
+        ensures err { OnErr result (IsAsItWas (memory self.old) (memory self.new)) }
+    {
+        match self.held(session, h) {
+            Err(why) => Ok(refused(why)),
+            Ok(place) => self.write(session, place, i, Word::Null),
+        }
+    }
+
+    /// Lets field `i` of the object that handle `h` holds refer to the object that `h2` holds. It locks the first as `put` does.
+    pub(crate) fn link(&mut self, session: u32, h: u64, i: u64, h2: u64) -> Result<Reply, AllocError>
+        ensures reply { IfOk result (λ reply. reply ≡ reply_of (link_refusal (memory self.old) session h i h2) Done) }
+        ensures done { result ≡ Ok Done → Links (memory self.old) (memory self.new) session h i h2 }
+        ensures refused { (why : _) → result ≡ Ok (Reply.Refused why) → IsAsItWas (memory self.old) (memory self.new) }
+        ensures err { OnErr result (IsAsItWas (memory self.old) (memory self.new)) }
+    {
+        match (self.held(session, h), self.held(session, h2)) {
+            (Err(why), _) | (_, Err(why)) => Ok(refused(why)),
+            (Ok(place), Ok(target)) => self.write(session, place, i, word_of(target)),
+        }
+    }
+
+    /// What is in field `i` of the object that handle `h` of the transaction holds. Where it is a reference, `h2` holds what it refers
+    /// to from then on. An object of the current space is locked for those that read it.
+    pub(crate) fn get(&mut self, session: u32, h: u64, i: u64, h2: u64) -> Result<Reply, AllocError>
+        ensures reply { IfOk result (λ reply. reply ≡ reply_of (get_refusal (memory self.old) session h i h2) (get_reply (memory self.old) session h i)) }
+        ensures got { IfOk result (λ reply. IsGranted reply → Gets (memory self.old) (memory self.new) session h i h2) }
+        ensures refused { (why : _) → result ≡ Ok (Reply.Refused why) → self.new ≡ self.old }
+        ensures err { OnErr result (self.new ≡ self.old) }
+    {
+        if let Some(why) = self.handle_refusal(session, h2) {
+            return Ok(refused(why));
+        }
+        let place = match self.held(session, h) {
+            Err(why) => return Ok(refused(why)),
+            Ok(place) => place,
+        };
+        let fields = self.fields(session, place);
+        if i >= fields.len() as u64 {
+            return Ok(refused(Refusal::BadField));
+        }
+        let word = fields[i as usize];
+        if let Some(why) = self.lock_to_read(session, place)? {
+            return Ok(refused(why));
+        }
+        Ok(self.read_into(session, h2, word))
+    }
+
+    /// The words of the fields of the object at a place, in order, and none where no object stands.
+    pub(crate) fn fields(&self, session: u32, place: Place) -> &[u64]
+        requires { IsSome (own (memory self.now) session) }
+        ensures { IfSome (own (memory self.now) session) (λ t. result.now ≡ words_at (cached self.now.cache).words t.area place) }
+    {
+        match place {
+            Place::Stable(at) => fields_at(self.cache.as_slice(), at),
+            Place::Volatile(at) => self.own_fields(session, at),
+        }
+    }
+
+    /// The same of an object that the transaction has made.
+    fn own_fields(&self, session: u32, at: u32) -> &[u64]
+        requires { IsSome (own (memory self.now) session) }
+        ensures { IfSome (own (memory self.now) session) (λ t. result.now ≡ own_fields t.area at) }
+    {
+        let area = self.table.area(session);
+        if area.is_object(at) {
+            area.fields(at)
+        } else {
+            &[]
+        }
+    }
+
+    /// Puts a word into a field of the object at a place.
+    fn write(
+        &mut self,
+        session: u32,
+        place: Place,
+        i: u64,
+        word: Word,
+    ) -> Result<Reply, AllocError>
+        requires active { IsSome (own (memory self.old) session) }
+        requires meant { IsWord word }
+        ensures reply { IfOk result (λ reply. reply ≡ reply_of (write_refusal (memory self.old) session place i) Done) }
+        ensures done { result ≡ Ok Done → Writes (memory self.old) (memory self.new) session place i (bits word) }
+        ensures refused { (why : _) → result ≡ Ok (Reply.Refused why) → IsAsItWas (memory self.old) (memory self.new) }
+        ensures err { OnErr result (IsAsItWas (memory self.old) (memory self.new)) }
+    {
+        if i >= self.fields(session, place).len() as u64 {
+            return Ok(refused(Refusal::BadField));
+        }
+        match place {
+            Place::Stable(at) => self.write_stable(session, at, i as u16, encode(word)),
+            Place::Volatile(at) => {
+                self.table.set_field(session, at, i as u32, encode(word));
+                Ok(Reply::Done)
+            }
+        }
+    }
+
+    /// Puts a word into a field of an object that stands in the current space: it is locked, and the before-image goes to the log.
+    fn write_stable(
+        &mut self,
+        session: u32,
+        object: u32,
+        field: u16,
+        word: u64,
+    ) -> Result<Reply, AllocError>
+        requires active { IsSome (own (memory self.old) session) }
+        requires there { field < length (field_words (cached self.old.cache).words object) }
+        ensures reply { IfOk result (λ reply. reply ≡ reply_of (write_refusal (memory self.old) session (Place.Stable object) field) Done) }
+        ensures done { result ≡ Ok Done → Writes (memory self.old) (memory self.new) session (Place.Stable object) field word }
+        ensures refused { (why : _) → result ≡ Ok (Reply.Refused why) → IsAsItWas (memory self.old) (memory self.new) }
+        ensures err { OnErr result (IsAsItWas (memory self.old) (memory self.new)) }
+    {
+        let was = self
+            .cache
+            .word(object + FIELDS_AT as u32 + u32::from(field));
+        let t = self.table.number(session);
+        let rec = Record::Update {
+            t,
+            object,
+            field,
+            was,
+            word,
+        };
+        let lock = lock_of(t, Mode::Exclusive, object);
+        if let Some(why) = lock_refusal(&self.locks, lock) {
+            return Ok(refused(why));
+        }
+        let bytes = log_records::length(&rec);
+        let reserved = self.reserved + UNDO_BYTES;
+        if let Some(why) = log_refusal(&self.log, need_of(&self.log, bytes), reserved) {
+            return Ok(refused(why));
+        }
+        self.log.reserve(bytes as usize)?;
+        let entry = UndoEntry { object, field, was };
+        keep_write(&mut self.table, &mut self.locks, session, entry, lock)?;
+        carry_out(&mut self.log, &mut self.cache, &[rec]);
+        self.reserved = reserved;
+        Ok(Reply::Done)
+    }
+
+    /// What a field is answered that was read; a handle holds what it refers to.
+    fn read_into(&mut self, session: u32, h: u64, word: u64) -> Reply
+        requires active { IsSome (own (memory self.old) session) }
+        requires within { h < 64 }
+        ensures reply { result ≡ word_reply (meaning word) }
+        ensures left { IfSome (own (memory self.old) session) (λ t. LeavesOwn (memory self.old) (memory self.new) session [] (with_read t h (meaning word)) self.old.locks) }
+    {
+        match decode(word) {
+            Some(Word::Int(v)) => Reply::Int { v },
+            Some(Word::Stable(at)) => self.refer(session, h, Place::Stable(at)),
+            Some(Word::Volatile(at)) => self.refer(session, h, Place::Volatile(at)),
+            Some(Word::Null) => Reply::Null,
+            None => Reply::Null,
+        }
+    }
+
+    fn refer(&mut self, session: u32, h: u64, to: Place) -> Reply
+        requires active { IsSome (own (memory self.old) session) }
+        requires within { h < 64 }
+        requires meant { can_refer (Some to) ≡ true }
+        ensures reply { result ≡ Reply.Reference }
+        ensures left { IfSome (own (memory self.old) session) (λ t. LeavesOwn (memory self.old) (memory self.new) session [] (with_handle t h (Some to)) self.old.locks) }
+    {
+        self.table.set_handle(session, h as u32, Some(to));
+        Reply::Reference
+    }
+}
+
+/// What a reference to the object at a place means.
+fn word_of(place: Place) -> Word
+    ensures { result ≡ place_word place }
+{
+    match place {
+        Place::Stable(at) => Word::Stable(at),
+        Place::Volatile(at) => Word::Volatile(at),
+    }
+}

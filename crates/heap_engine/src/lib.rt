@@ -1,0 +1,25 @@
+//! The engine of an open heap: the log, the pages, the transactions and the locks in memory, and one call, which makes an event on the heap's
+//! disk.
+//!
+//! A session is a number from 1 to 32, and has one transaction at most. The transactions of the sessions are kept apart by strict two-phase
+//! locking: each locks an object of the current space before it reads or writes it, and keeps its locks until it ends. No event waits for
+//! another: where others hold a conflicting lock it is refused as busy, with the least of their numbers.
+//!
+//! A change of the current space is a list of records: all are appended to the log, and then each is put on its pages with its LSN. A page is
+//! stored only once the log is on the disk up to the page's LSN.
+#![tactic(auto)]
+
+mod committed;
+mod engine;
+mod fields;
+mod handles;
+mod locking;
+mod log_room;
+mod logging;
+mod seal;
+mod step_error;
+mod storing;
+mod transactions;
+
+pub use engine::Engine;
+pub use step_error::StepError;

@@ -1,0 +1,107 @@
+//! The locks that a transaction takes on objects of the current space. An object of its own area needs none: no other transaction
+//! reaches it.
+ghost use Rattle.std.specs.Prelude.{◌≡◌, ◌∷◌, Ok, None, Some, OnOk, OnErr, IfOk, IfSome, IsSome};
+ghost use Rattle.std.specs.FinSet as set;
+ghost use Rattle.graph_model.specs.Plain.{busy_with};
+ghost use Rattle.object_locks.specs.declared.holding.Mode.TheVariants.{Shared};
+ghost use Rattle.object_locks.specs.Holdings.{IsFree};
+ghost use Rattle.txn_table.specs.Table.{transaction_of, Changes};
+ghost use Rattle.heap_memory.specs.Memory.{own};
+ghost use Rattle.heap_memory.specs.Refusals.{holder_of, asked};
+
+use crate::engine::Engine;
+use graph_model::Refusal;
+use log_machine::UndoEntry;
+use object_locks::{Holding, Key, LockError, LockTable, Mode};
+use std::alloc::AllocError;
+use txn_table::{Place, TxnTable};
+
+/// The refusal that names who holds an object.
+fn busy(holder: u32) -> Refusal
+    ensures { result ≡ Refusal.Busy holder }
+{
+    Refusal::Busy {
+        holder: u64::from(holder),
+    }
+}
+
+/// The lock by which transaction `t` uses the object at an address in that mode.
+pub(crate) fn lock_of(t: u32, mode: Mode, at: u32) -> Holding
+    ensures { result ≡ asked t mode at }
+{
+    Holding {
+        key: Key { address: at },
+        transaction: t,
+        mode,
+    }
+}
+
+/// Why a lock can't be taken: others hold the object.
+pub(crate) fn lock_refusal(locks: &LockTable, lock: Holding) -> Option<Refusal>
+    ensures why { result ≡ busy_with (holder_of locks.now lock) }
+    ensures free { result ≡ None → IsFree locks.now lock }
+{
+    let holder = locks.conflict(lock)?;
+    Some(busy(holder))
+}
+
+/// Transaction `t` locks the object at an address to read it, or is told who stands in the way. An error changes nothing.
+fn read_lock(locks: &mut LockTable, t: u32, at: u32) -> Result<Option<Refusal>, AllocError>
+    ensures why { IfOk result (λ why. why ≡ busy_with (holder_of locks.old (asked t Shared at))) }
+    ensures locked { result ≡ Ok None → locks.new ≡ set.insert locks.old (asked t Shared at) }
+    ensures refused { (why : _) → result ≡ Ok (Some why) → locks.new ≡ locks.old }
+    ensures err { OnErr result (locks.new ≡ locks.old) }
+{
+    match locks.read_lock(Key { address: at }, t) {
+        Ok(()) => Ok(None),
+        Err(LockError::Busy { holder }) => Ok(Some(busy(holder))),
+        Err(LockError::NoMemory) => Err(AllocError),
+    }
+}
+
+/// Keeps what a write of the session's transaction replaces, and takes the lock of the object that it writes, which no other transaction
+/// holds. An error changes nothing.
+pub(crate) fn keep_write(
+    table: &mut TxnTable,
+    locks: &mut LockTable,
+    session: u32,
+    entry: UndoEntry,
+    lock: Holding,
+) -> Result<(), AllocError>
+    requires active { IsSome (transaction_of table.old session) }
+    requires free { IsFree locks.old lock }
+    ensures kept { OnOk result (Changes table.old table.new session (λ t. record t { undo = entry ∷ t.undo })) }
+    ensures locked { OnOk result (locks.new ≡ set.insert locks.old lock) }
+    ensures err { OnErr result ((table.new ≡ table.old) × (locks.new ≡ locks.old)) }
+{
+    table.push_undo(session, entry)?;
+    if let Err(e) = locks.take(lock) {
+        let _entry = table.pop_undo(session);
+        return Err(e);
+    }
+    Ok(())
+}
+
+impl Engine {
+    ghost use Rattle.heap_memory.specs.Refusals.{lock_refusal};
+    ghost use Rattle.heap_memory.specs.Leaves.{with_lock};
+    ghost use Rattle.heap_engine.specs.EngineState.{memory};
+
+    /// Locks the object at a place for the transaction, which is to read it, or tells why it can't be.
+    pub(crate) fn lock_to_read(
+        &mut self,
+        session: u32,
+        place: Place,
+    ) -> Result<Option<Refusal>, AllocError>
+        requires { IsSome (own (memory self.old) session) }
+        ensures why { IfOk result (λ why. IfSome (own (memory self.old) session) (λ t. why ≡ lock_refusal self.old.locks t Shared place)) }
+        ensures locked { result ≡ Ok None → IfSome (own (memory self.old) session) (λ t. memory self.new ≡ record (memory self.old) { locks = with_lock self.old.locks t Shared place }) }
+        ensures refused { (why : _) → result ≡ Ok (Some why) → self.new ≡ self.old }
+        ensures err { OnErr result (self.new ≡ self.old) }
+    {
+        match place {
+            Place::Stable(at) => read_lock(&mut self.locks, self.table.number(session), at),
+            Place::Volatile(_) => Ok(None),
+        }
+    }
+}

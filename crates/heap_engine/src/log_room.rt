@@ -1,0 +1,76 @@
+//! What the log has room for.
+ghost use Rattle.std.specs.Prelude.{◌≡◌, ◌+◌, ◌<◌, ◌^◌, length, IfSome, IsSome};
+ghost use Rattle.gated_log.specs.LogState.{log_need};
+ghost use Rattle.log_records.specs.Record.{spellings};
+ghost use Rattle.log_machine.specs.Machine.{end_bytes};
+ghost use Rattle.heap_memory.specs.Memory.{own};
+ghost use Rattle.heap_memory.specs.Refusals.{no_room};
+
+use crate::engine::Engine;
+use gated_log::Log;
+use graph_model::Refusal;
+use log_machine::end_bytes;
+use log_records::Record;
+
+/// The bytes that a batch takes beside its records: its length, and the gate behind it.
+const BATCH_BYTES: u64 = 5;
+
+/// The bytes that are kept to take a write back.
+pub(crate) const UNDO_BYTES: u64 = 19;
+
+/// Why the log has no room for an event, if it hasn't: by the bytes that the event needs, and those kept after it.
+pub(crate) fn log_refusal(log: &Log, need: u64, reserved: u64) -> Option<Refusal>
+    requires need { need < 2 ^ 33 }
+    requires reserved { reserved < 2 ^ 33 }
+    ensures { result ≡ no_room log.now need reserved }
+{
+    let used = log.used();
+    if used + need + reserved > log.room() {
+        Some(Refusal::LogFull {
+            used,
+            need,
+            reserved,
+        })
+    } else {
+        None
+    }
+}
+
+/// What records of so many bytes need, with the bytes of a batch where no record is pending.
+pub(crate) fn need_of(log: &Log, bytes: u64) -> u64
+    requires { bytes < 2 ^ 32 + 2 ^ 24 }
+    ensures { result ≡ log_need log.now bytes }
+{
+    if log.pending() {
+        bytes
+    } else {
+        bytes + BATCH_BYTES
+    }
+}
+
+impl Engine {
+    ghost use Rattle.heap_memory.specs.Refusals.{reserved_without};
+    ghost use Rattle.heap_engine.specs.EngineState.{memory};
+
+    /// The bytes that are kept for the ends of all transactions but that of the session, when it ends.
+    pub(crate) fn reserved_without(&self, session: u32) -> u64
+        requires { IsSome (own (memory self.now) session) }
+        ensures without { IfSome (own (memory self.now) session) (λ t. result ≡ reserved_without self.now.table t) }
+        ensures kept { IfSome (own (memory self.now) session) (λ t. result + end_bytes (length t.undo) ≡ self.now.reserved) }
+    {
+        let writes = self.table.undo(session).len() as u64;
+        self.reserved - end_bytes(writes)
+    }
+}
+
+/// The bytes of these records.
+pub(crate) fn bytes_of(records: &[Record]) -> u64
+    requires { length (spellings records.now) < 2 ^ 32 + 2 ^ 24 }
+    ensures { result ≡ length (spellings records.now) }
+{
+    let mut bytes = 0;
+    for rec in records {
+        bytes += log_records::length(rec);
+    }
+    bytes
+}

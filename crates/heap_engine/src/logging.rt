@@ -1,0 +1,49 @@
+//! Records are appended to the log, and then put on their pages: no page has a record that the log lacks.
+ghost use Rattle.std.specs.Prelude.{◌≡◌, ◌+◌, ◌++◌, ◌≤◌, List, length, fold};
+ghost use Rattle.gated_log.specs.LogState.{log_count, log_room, log_used, log_used_with, HasSpare, IsPlaced, Keeps};
+ghost use Rattle.heap_memory.specs.Leaves.{Adds};
+ghost use Rattle.log_machine.specs.Effect.{EachWritesBelow};
+ghost use Rattle.log_machine.specs.Machine.{put_record};
+ghost use Rattle.log_records.specs.declared.Record.{Record};
+ghost use Rattle.log_records.specs.Record.{spellings};
+ghost use Rattle.page_cache.specs.CacheState.{cached, cache_store};
+ghost use Rattle.page_redo.specs.Redo.{EachLacks, redo_all};
+
+use gated_log::Log;
+use log_records::Record;
+use page_cache::PageCache;
+
+/// Makes the change that these records say: all of them are appended to the log, and then each is put on its pages with its LSN. There is
+/// room in the log and memory for them.
+pub(crate) fn carry_out(log: &mut Log, cache: &mut PageCache, records: &[Record])
+    requires memory { HasSpare log.old (length (spellings records.now)) }
+    requires room { log_used_with log.old (length (spellings records.now)) ≤ log_room log.old }
+    requires inside { EachWritesBelow (length (cached cache.old).words) records.now }
+    requires new { EachLacks (log_count log.old + 1) (cached cache.old) }
+    ensures log { Adds log.old log.new records.now }
+    ensures used { log_used log.new ≡ log_used_with log.old (length (spellings records.now)) }
+    ensures words { (cached cache.new).words ≡ fold put_record (cached cache.old).words records.now }
+    ensures lsns { (cached cache.new).lsns ≡ (redo_all (log_count log.old + 1) (cached cache.old) records.now).lsns }
+    ensures store { cache_store cache.new ≡ cache_store cache.old }
+    ensures size { length (cached cache.new).words ≡ length (cached cache.old).words }
+    ensures logged { EachLacks (log_count log.new + 1) (cached cache.new) }
+{
+    let first = log.records() + 1;
+    append_each(log, records);
+    cache.apply_all(first, records);
+}
+
+/// Appends these records to the log, which has room and memory for them.
+fn append_each(log: &mut Log, records: &[Record])
+    requires memory { HasSpare log.old (length (spellings records.now)) }
+    requires room { log_used_with log.old (length (spellings records.now)) ≤ log_room log.old }
+    ensures added { (batches : List (List Record)) (pending : List Record) → Keeps log.old batches pending → Keeps log.new batches (pending ++ records.now) }
+    ensures used { log_used log.new ≡ log_used_with log.old (length (spellings records.now)) }
+    ensures count { log_count log.new ≡ log_count log.old + length records.now }
+    ensures place { IsPlaced log.old log.new }
+{
+    for rec in records {
+        let appended = log.append(rec);
+        appended.unwrap();
+    }
+}

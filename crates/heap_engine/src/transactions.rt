@@ -1,0 +1,68 @@
+//! How the transaction of a session begins, and how it is aborted.
+ghost use Rattle.std.specs.Prelude.{◌≡◌, ◌≤◌, Ok, OnErr, IfOk};
+ghost use Rattle.graph_model.specs.Plain.{reply_of};
+ghost use Rattle.graph_model.specs.declared.reply.Reply.TheVariants.{Begun, Aborted};
+ghost use Rattle.heap_memory.specs.Memory.{own};
+
+use crate::engine::{Engine, refused};
+use crate::log_room::{bytes_of, log_refusal};
+use crate::logging::carry_out;
+use graph_model::{Refusal, Reply};
+use log_machine::{LAST_NUMBER, abort_records, end_bytes};
+use std::alloc::AllocError;
+
+/// The first number that no transaction has.
+const NO_NUMBER: u32 = LAST_NUMBER + 1;
+
+impl Engine {
+    ghost use Rattle.heap_memory.specs.Refusals.{begin_refusal, end_refusal};
+    ghost use Rattle.heap_memory.specs.Leaves.{IsAsItWas, Begins, Aborts};
+    ghost use Rattle.heap_engine.specs.EngineState.{memory};
+
+    /// Begins a transaction of the session, a number from 1 to 32, and tells its number. The log keeps room for its end.
+    pub(crate) fn begin(&mut self, session: u32) -> Reply
+        requires first { 1 ≤ session }
+        requires last { session ≤ 32 }
+        ensures reply { result ≡ reply_of (begin_refusal (memory self.old) session) (Begun self.old.table.next) }
+        ensures begun { (n : _) → result ≡ Begun n → Begins (memory self.old) (memory self.new) session }
+        ensures refused { (why : _) → result ≡ Reply.Refused why → self.new ≡ self.old }
+    {
+        if self.table.active(session) {
+            return refused(Refusal::AlreadyActive);
+        }
+        if self.table.next() == NO_NUMBER {
+            return refused(Refusal::NumbersSpent);
+        }
+        let reserved = self.reserved + end_bytes(0);
+        if let Some(why) = log_refusal(&self.log, 0, reserved) {
+            return refused(why);
+        }
+        let number = self.table.begin(session);
+        self.reserved = reserved;
+        Reply::Begun {
+            n: u64::from(number),
+        }
+    }
+
+    /// Takes back what the transaction wrote, and ends it: its locks are free again.
+    pub(crate) fn abort(&mut self, session: u32) -> Result<Reply, AllocError>
+        ensures reply { IfOk result (λ reply. reply ≡ reply_of (end_refusal (own (memory self.old) session)) Aborted) }
+        ensures aborted { result ≡ Ok Aborted → Aborts (memory self.old) (memory self.new) session }
+        ensures refused { (why : _) → result ≡ Ok (Reply.Refused why) → IsAsItWas (memory self.old) (memory self.new) }
+        ensures err { OnErr result (IsAsItWas (memory self.old) (memory self.new)) }
+    {
+        if !self.table.active(session) {
+            return Ok(refused(Refusal::NotActive));
+        }
+        let others = self.reserved_without(session);
+        let number = self.table.number(session);
+        let undo = self.table.undo(session);
+        let records = abort_records(self.alloc, number, undo)?;
+        self.log.reserve(bytes_of(&records) as usize)?;
+        carry_out(&mut self.log, &mut self.cache, &records);
+        self.locks.release(number);
+        self.table.end(session);
+        self.reserved = others;
+        Ok(Reply::Aborted)
+    }
+}

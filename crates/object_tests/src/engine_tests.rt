@@ -1,0 +1,408 @@
+//! Transactions of a heap of one page: what is sealed is there afterwards, what is aborted is not, sessions that are side by side are in
+//! each other's way where both use an object and one writes it, and the log keeps room for their ends.
+ghost use Rattle.heap_engine.specs.EngineState.{LiesWithin, HasNotFailed};
+
+use disk_model::{Disk, MemoryDisk, Pick};
+use gated_log::Log;
+use graph_model::{Event, Refusal, Reply};
+use heap_engine::{Engine, StepError};
+use heap_spaces::Spaces;
+use image_plan::Plan;
+use page_cache::PageCache;
+use std::alloc::{AllocError, Global};
+use std::fmt::Debug;
+use std::process::Abort;
+use std::test::Fail;
+use txn_table::TxnTable;
+
+/// A heap of one page a space, with a log of 500 bytes.
+const PLAN: Plan = Plan {
+    pages: 1,
+    log_bytes: 500,
+};
+
+/// One with a log of 80 bytes.
+const SMALL: Plan = Plan {
+    pages: 1,
+    log_bytes: 80,
+};
+
+/// An open heap: its engine and its disk.
+#[derive(Drop)]
+struct Opened {
+    engine: Engine,
+    disk: MemoryDisk,
+    ghost inside: { LiesWithin engine (⟦<MemoryDisk as Disk>⟧.extent disk) },
+    ghost works: { HasNotFailed engine },
+}
+
+// A heap of that plan, when it is new.
+fn new_heap(rt: &impl Abort, alloc: Global, plan: Plan) -> Result<Opened, Fail> {
+    assert!(rt; plan.pages == 1 && plan.log_bytes > 0);
+    let bytes = vec![in alloc; 0u8; plan.size() as usize]?;
+    let none = Vec::new(alloc);
+    let mut disk = MemoryDisk::of(alloc, bytes, Pick::Newest, 1000, none, Vec::new(alloc))?;
+    assert!(rt; disk.size() >= plan.size());
+    let (log, _) = Log::open(alloc, &mut disk, plan.log_at(), plan.log_bytes)?;
+    assert!(rt; disk.size() >= plan.size());
+    let cache = PageCache::open(alloc, &mut disk, plan)?;
+    assert!(rt; cache.first_past(log.records()).is_none());
+    let spaces = Spaces::new(1, 0, 6, 0);
+    let table = TxnTable::new(alloc, 1)?;
+    let engine = Engine::new(alloc, log, cache, spaces, table);
+    Ok(Opened { engine, disk })
+}
+
+/// An event of a session, and what it is answered.
+type Step = (Event, Reply);
+
+/// Transaction 1 makes an object, writes into it, and is sealed.
+const MADE: [Step; 7] = [
+    (Event::Begin { s: 32 }, Reply::Begun { n: 1 }),
+    (Event::Root { s: 32, h: 0 }, Reply::Done),
+    (
+        Event::New {
+            s: 32,
+            h: 63,
+            len: 2,
+        },
+        Reply::Done,
+    ),
+    (
+        Event::Put {
+            s: 32,
+            h: 63,
+            i: 1,
+            v: 7,
+        },
+        Reply::Done,
+    ),
+    (
+        Event::Link {
+            s: 32,
+            h: 0,
+            i: 3,
+            h2: 63,
+        },
+        Reply::Done,
+    ),
+    (
+        Event::Same {
+            s: 32,
+            h: 0,
+            h2: 63,
+        },
+        Reply::No,
+    ),
+    (Event::Seal { s: 32 }, Reply::Sealed { n: 1 }),
+];
+
+/// Transaction 2 finds the object, and what it writes there is taken back.
+const WRITTEN_IN_VAIN: [Step; 9] = [
+    (Event::Begin { s: 1 }, Reply::Begun { n: 2 }),
+    (Event::Root { s: 1, h: 0 }, Reply::Done),
+    (
+        Event::Get {
+            s: 1,
+            h: 0,
+            i: 3,
+            h2: 1,
+        },
+        Reply::Reference,
+    ),
+    (Event::Len { s: 1, h: 1 }, Reply::Length { n: 2 }),
+    (
+        Event::Get {
+            s: 1,
+            h: 1,
+            i: 1,
+            h2: 2,
+        },
+        Reply::Int { v: 7 },
+    ),
+    (Event::Clear { s: 1, h: 1, i: 1 }, Reply::Done),
+    (
+        Event::Get {
+            s: 1,
+            h: 1,
+            i: 1,
+            h2: 2,
+        },
+        Reply::Null,
+    ),
+    (
+        Event::Drop { s: 1, h: 64 },
+        Reply::Refused {
+            why: Refusal::BadHandle,
+        },
+    ),
+    (Event::Abort { s: 1 }, Reply::Aborted),
+];
+
+/// Three sessions have a transaction each.
+const THREE: [Step; 6] = [
+    (Event::Begin { s: 1 }, Reply::Begun { n: 1 }),
+    (Event::Root { s: 1, h: 0 }, Reply::Done),
+    (Event::Begin { s: 2 }, Reply::Begun { n: 2 }),
+    (Event::Root { s: 2, h: 0 }, Reply::Done),
+    (Event::Begin { s: 3 }, Reply::Begun { n: 3 }),
+    (Event::Root { s: 3, h: 0 }, Reply::Done),
+];
+
+/// Those that read are together, and in the way of one that writes.
+const READERS_FIRST: [Step; 7] = [
+    (
+        Event::Get {
+            s: 2,
+            h: 0,
+            i: 0,
+            h2: 1,
+        },
+        Reply::Null,
+    ),
+    (
+        Event::Get {
+            s: 3,
+            h: 0,
+            i: 0,
+            h2: 1,
+        },
+        Reply::Null,
+    ),
+    (
+        Event::Put {
+            s: 1,
+            h: 0,
+            i: 0,
+            v: 5,
+        },
+        Reply::Refused {
+            why: Refusal::Busy { holder: 2 },
+        },
+    ),
+    (Event::Abort { s: 2 }, Reply::Aborted),
+    (
+        Event::Put {
+            s: 1,
+            h: 0,
+            i: 0,
+            v: 5,
+        },
+        Reply::Refused {
+            why: Refusal::Busy { holder: 3 },
+        },
+    ),
+    (Event::Seal { s: 3 }, Reply::Sealed { n: 1 }),
+    (
+        Event::Put {
+            s: 1,
+            h: 0,
+            i: 0,
+            v: 5,
+        },
+        Reply::Done,
+    ),
+];
+
+/// What is written nobody else sees before the seal.
+const UNSEEN: [Step; 5] = [
+    (Event::Begin { s: 3 }, Reply::Begun { n: 4 }),
+    (Event::Root { s: 3, h: 0 }, Reply::Done),
+    (
+        Event::Get {
+            s: 3,
+            h: 0,
+            i: 0,
+            h2: 1,
+        },
+        Reply::Refused {
+            why: Refusal::Busy { holder: 1 },
+        },
+    ),
+    (
+        Event::Get {
+            s: 3,
+            h: 0,
+            i: 4,
+            h2: 1,
+        },
+        Reply::Refused {
+            why: Refusal::BadField,
+        },
+    ),
+    (
+        Event::Get {
+            s: 2,
+            h: 0,
+            i: 0,
+            h2: 1,
+        },
+        Reply::Refused {
+            why: Refusal::NotActive,
+        },
+    ),
+];
+
+/// And after it they see it.
+const SEEN: [Step; 2] = [
+    (Event::Seal { s: 1 }, Reply::Sealed { n: 2 }),
+    (
+        Event::Get {
+            s: 3,
+            h: 0,
+            i: 0,
+            h2: 1,
+        },
+        Reply::Int { v: 5 },
+    ),
+];
+
+/// What is pending is forced once, as one commit, and then the one page that has changed is stored.
+const FORCED: [Step; 5] = [
+    (Event::Force, Reply::Durable { n: 1 }),
+    (Event::Force, Reply::Durable { n: 1 }),
+    (Event::Flush { p: 0 }, Reply::Flushed { page: 0 }),
+    (Event::Flush { p: 1 }, Reply::Clean { page: 1 }),
+    (
+        Event::Flush { p: 2 },
+        Reply::Refused {
+            why: Refusal::NoSuchPage,
+        },
+    ),
+];
+
+/// Ten words of 64 are taken: an object of 53 fields has no room in the rest.
+const TOO_LARGE: [Step; 5] = [
+    (Event::Begin { s: 4 }, Reply::Begun { n: 3 }),
+    (Event::Root { s: 4, h: 0 }, Reply::Done),
+    (
+        Event::New {
+            s: 4,
+            h: 1,
+            len: 53,
+        },
+        Reply::Done,
+    ),
+    (
+        Event::Link {
+            s: 4,
+            h: 0,
+            i: 0,
+            h2: 1,
+        },
+        Reply::Done,
+    ),
+    (
+        Event::Seal { s: 4 },
+        Reply::Refused {
+            why: Refusal::Exhausted {
+                need: 55,
+                free: 54,
+                owed: 0,
+            },
+        },
+    ),
+];
+
+/// Ten bytes are kept for the end of each transaction, and 19 for each of its writes. A write takes 27, an end 5, and the first record of a batch 5
+/// more.
+const ROOM: [Step; 4] = [
+    (
+        Event::Put {
+            s: 1,
+            h: 0,
+            i: 0,
+            v: 5,
+        },
+        Reply::Refused {
+            why: Refusal::LogFull {
+                used: 1,
+                need: 32,
+                reserved: 49,
+            },
+        },
+    ),
+    (Event::Abort { s: 3 }, Reply::Aborted),
+    (
+        Event::Put {
+            s: 1,
+            h: 0,
+            i: 0,
+            v: 5,
+        },
+        Reply::Done,
+    ),
+    (
+        Event::Begin { s: 4 },
+        Reply::Refused {
+            why: Refusal::LogFull {
+                used: 38,
+                need: 0,
+                reserved: 49,
+            },
+        },
+    ),
+];
+
+/// Compares what was found.
+fn same<T: PartialEq + Debug + Copy>(rt: &impl Abort, found: T, want: T) {
+    assert_eq!(rt; found, want);
+}
+
+/// Asks an event, whose session, if it has one, is from 1 to 32.
+fn ask(rt: &impl Abort, heap: &mut Opened, event: Event) -> Result<Reply, AllocError> {
+    assert!(rt; event.is_of_session());
+    match heap.engine.step_on(&mut heap.disk, event) {
+        Ok(reply) => Ok(reply),
+        Err(StepError::NoMemory) => Err(AllocError),
+        Err(StepError::Disk(_)) => panic!(rt; "the disk failed or stopped"),
+    }
+}
+
+/// Asks each event, and compares what it is answered.
+fn play(rt: &impl Abort, heap: &mut Opened, steps: &[Step]) -> Result<(), AllocError> {
+    for (event, reply) in steps {
+        let found = ask(rt, heap, *event)?;
+        same(rt, (*event, found), (*event, *reply));
+    }
+    Ok(())
+}
+
+/// A committed word.
+fn committed(alloc: Global, heap: &Opened, at: usize) -> Result<Option<u64>, AllocError> {
+    let words = heap.engine.committed_words(alloc)?;
+    Ok(words.as_slice().get(at).copied())
+}
+
+#[test]
+fn what_was_sealed_stays(rt: HostRuntime) -> Result<(), Fail> {
+    let mut heap = new_heap(&rt, rt.alloc(), PLAN)?;
+    play(&rt, &mut heap, &MADE)?;
+    play(&rt, &mut heap, &WRITTEN_IN_VAIN)?;
+    same(&rt, committed(rt.alloc(), &heap, 9)?, Some(29));
+    same(&rt, heap.engine.pending(), true);
+    play(&rt, &mut heap, &FORCED)?;
+    same(&rt, heap.engine.pending(), false);
+    play(&rt, &mut heap, &TOO_LARGE)?;
+    Ok(())
+}
+
+#[test]
+fn sessions_give_way(rt: HostRuntime) -> Result<(), Fail> {
+    let mut heap = new_heap(&rt, rt.alloc(), PLAN)?;
+    play(&rt, &mut heap, &THREE)?;
+    play(&rt, &mut heap, &READERS_FIRST)?;
+    play(&rt, &mut heap, &UNSEEN)?;
+    same(&rt, committed(rt.alloc(), &heap, 2)?, Some(0));
+    play(&rt, &mut heap, &SEEN)?;
+    same(&rt, committed(rt.alloc(), &heap, 2)?, Some(21));
+    Ok(())
+}
+
+#[test]
+fn the_log_keeps_room_for_the_ends(rt: HostRuntime) -> Result<(), Fail> {
+    let mut heap = new_heap(&rt, rt.alloc(), SMALL)?;
+    play(&rt, &mut heap, &THREE)?;
+    play(&rt, &mut heap, &ROOM)?;
+    Ok(())
+}

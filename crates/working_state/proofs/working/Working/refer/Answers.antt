@@ -1,9 +1,0 @@
-use Rattle.std.proofs.Common.{length, Some}
-use Rattle.page_cache.specs.CacheState.{cached}
-use Rattle.working_state.proofs.Tables.{sound_handle}
-use Rattle.working_state.proofs.working.Working.refer.Goals as goal
-
-pub invariant_of-self-clause-sound : goal.invariant_of-self-clause-sound
-invariant_of-self-clause-sound c =
-    let old = c.args.self.now in
-    sound_handle old.table c.set_handle.new.self (length (cached old.cache).words) old.reserved old.sealed c.args.session c.args.h (Some c.args.to) old.sound c.requires.active c.set_handle.ensures c.requires.meant

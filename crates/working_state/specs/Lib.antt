@@ -1,3 +1,0 @@
-pub mod Reserve
-pub mod Seal
-pub mod State
