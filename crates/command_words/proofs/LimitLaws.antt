@@ -21,7 +21,7 @@ use Rattle.clap.specs.declared.builder.value_parser.ValueParser.TheVariants as v
 use Rattle.clap.proofs.CallerReads.{signed_reads}
 use Rattle.clap.proofs.ValueTestLemmas.{accepts-Accepts}
 use Rattle.clap.proofs.WalkLemmas.{both}
-use Rattle.command_words.specs.Command.{command, command_of, given_in, given_of, number_in, number_of, numbers_of, play_of, stop_of, without_fault}
+use Rattle.command_words.specs.Command.{command, command_of, given_in, given_of, number_in, parsed_number, parsed_numbers, play_of, stop_of, without_fault}
 use Rattle.command_words.proofs.NumberLaws.{number_fits, parses}
 use Rattle.command_words.specs.Limits.{IsPages, IsStop, IsWithin}
 use Rattle.command_words.proofs.RowLaws.{IsPlainRule, Passes, found, level_good, neither}
@@ -40,17 +40,17 @@ number_within : (c : List Rule) (rows : List Row) (id : Text) (low high n : ℕ)
 number_within c rows id low high n a is fits all e = go (find (λ r. bytes_eq r.id id) rows) refl e
   where
     first : (how : Reading) (values : List Text) → how ≡ reading_of (vp.Signed (pos low) (pos high)) → values_pass a values ≡ true
-        → option_and_then (number_of 32) (option_map (read_as how) (slice_get values 0)) ≡ Some n → (low ≤ n) × (n ≤ high)
+        → option_and_then (parsed_number 32) (option_map (read_as how) (slice_get values 0)) ≡ Some n → (low ≤ n) × (n ≤ high)
     first how [] reads passes e = cc
     first how (v ∷ vs) reads passes e =
         let passed : accepts a.ignore_case (parser_of_value a.parser) v ≡ true = (both (value_passes a v) (values_pass a vs) passes).0 in
         let here : accepts a.ignore_case (vp.Signed (pos low) (pos high)) v ≡ true = subst (λ (p : ValueParser). accepts a.ignore_case p v ≡ true) is.1 passed in
         let in_range : IsSignedIn (pos low) (pos high) v = accepts-Accepts a.ignore_case (vp.Signed (pos low) (pos high)) v here in
-        let number : number_of 32 (without_minus v) ≡ Some n = ap (λ (r : Reading). number_of 32 (read_as r v)) (sym reads) ∙ e in
+        let number : parsed_number 32 (without_minus v) ≡ Some n = ap (λ (r : Reading). parsed_number 32 (read_as r v)) (sym reads) ∙ e in
         let got = signed_reads ℕ (λ t r. ParsesUnsigned 32 10 t r) 32 low high v (Some n) (parses 32 (without_minus v) n number) (λ u x g. g) fits in_range in
         let same : n ≡ got.0 = let some = got.1 in cc in
         (rw same got.2, rw same got.3)
-    go : (of : Option Row) → find (λ r. bytes_eq r.id id) rows ≡ of → option_and_then (number_of 32) (option_and_then row_text of) ≡ Some n → (low ≤ n) × (n ≤ high)
+    go : (of : Option Row) → find (λ r. bytes_eq r.id id) rows ≡ of → option_and_then (parsed_number 32) (option_and_then row_text of) ≡ Some n → (low ≤ n) × (n ≤ high)
     go None at e = cc
     go (Some r) at e =
         let here = found (Passes c) _ rows r all at in
@@ -79,7 +79,7 @@ format_within s pages log first name plain letters are_pages are_bytes is_first 
     all : AllByRecursion (Passes s.rules) (rows_after s.rules [] words)
     all = level_good s plain letters words none
     go : (p l f : Option ℕ) → number_in 32 (rows_after s.rules [] words) (codes "pages") ≡ p → number_in 32 (rows_after s.rules [] words) (codes "log_bytes") ≡ l
-        → number_in 32 (rows_after s.rules [] words) (codes "first") ≡ f → option_map (λ numbers. Format numbers) (numbers_of p l f) ≡ Some c → IsWithin c
+        → number_in 32 (rows_after s.rules [] words) (codes "first") ≡ f → option_map (λ numbers. Format numbers) (parsed_numbers p l f) ≡ Some c → IsWithin c
     go None l f a b d is = cc
     go (Some p) None f a b d is = cc
     go (Some p) (Some l) None a b d is = cc
@@ -103,9 +103,9 @@ given_is_in bits rows id number e = go (one_of id rows) e
     there : (read : Option ℕ) → option_map (λ n. Some n) read ≡ Some number → read ≡ number
     there None is = cc
     there (Some n) is = cc
-    go : (text : Option Text) → given_of bits text ≡ Some number → option_and_then (number_of bits) text ≡ number
+    go : (text : Option Text) → given_of bits text ≡ Some number → option_and_then (parsed_number bits) text ≡ number
     go None is = cc
-    go (Some text) is = there (number_of bits text) is
+    go (Some text) is = there (parsed_number bits text) is
 
 stop_within : (rows : List Row) (after again : Option ℕ) → number_in 64 rows (codes "stop") ≡ after → number_in 64 rows (codes "again") ≡ again → IfSome (stop_of after again) IsStop
 stop_within rows None None a b = tt

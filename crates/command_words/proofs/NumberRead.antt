@@ -8,13 +8,13 @@ use Rattle.clap.specs.Matches.{ReadsOne, TriesOne, found_of, one_text}
 use Rattle.clap.specs.Walk.{Text, rows_of}
 use Rattle.clap.specs.declared.parser.matches.ArgMatches.{ArgMatches}
 use Rattle.clap.proofs.WalkLemmas.{both, one_text-rows}
-use Rattle.command_words.specs.Command.{given_in, given_of, number_in, number_of}
+use Rattle.command_words.specs.Command.{given_in, given_of, number_in, parsed_number}
 use Rattle.command_words.proofs.NumberLaws.{digits_from, digits_pass, is_number}
 
 -- the number that `parse` gives is that of the text, if it is one
 abbrev MatchesNumber : {E : Type 0} → ℕ → Text → Result ℕ E → Type 0
-MatchesNumber bits text (Ok n) = number_of bits text ≡ Some n
-MatchesNumber bits text (Err e) = number_of bits text ≡ None
+MatchesNumber bits text (Ok n) = parsed_number bits text ≡ Some n
+MatchesNumber bits text (Err e) = parsed_number bits text ≡ None
 
 parse_is : {E : Type 0} (bits : ℕ) (text : Text) (r : Result ℕ E) → ParsesUnsigned bits 10 text r → MatchesNumber bits text r
 parse_is bits text (Ok n) h =
@@ -22,7 +22,7 @@ parse_is bits text (Ok n) h =
     rw (lt-ltb 0 (length ds) h.0.0.0, digits_pass ds h.0.0.1, lt-ltb (digits_value 10 ds) (2 ^ bits) h.0.1) (ap (λ k. Some k) (sym h.1))
 parse_is bits text (Err e) h = go (is_number bits (without_leading_plus text)) refl
   where
-    go : (b : Bool) → is_number bits (without_leading_plus text) ≡ b → number_of bits text ≡ None
+    go : (b : Bool) → is_number bits (without_leading_plus text) ≡ b → parsed_number bits text ≡ None
     go false t = rw t refl
     go true t =
         let outer = both _ _ t in
@@ -30,7 +30,7 @@ parse_is bits text (Err e) h = go (is_number bits (without_leading_plus text)) r
         absurd (h ((ltb-true _ _ inner.0, digits_from (without_leading_plus text) inner.1), ltb-true _ _ outer.1))
 
 one_is : {E : Type 0} (G : List ℕ → Result ℕ E → Type 0) (bits : ℕ) (text : Text) (o : Option ℕ) → ((x : Result ℕ E) → G text x → ParsesUnsigned bits 10 text x)
-    → ReadsOne G text o → number_of bits text ≡ o
+    → ReadsOne G text o → parsed_number bits text ≡ o
 one_is {E} G bits text (Some n) only read = parse_is {E = E} bits text (Ok n) (only (Ok n) read)
 one_is {E} G bits text None only read = parse_is {E = E} bits text (Err read.0) (only (Err read.0) read.1)
 
@@ -41,8 +41,8 @@ pub number_is : {E : Type 0} (G : List ℕ → Result ℕ E → Type 0) (bits : 
 number_is G bits m id o only none some = go (one_text (found_of m) id) refl
   where
     go : (found : Option Text) → one_text (found_of m) id ≡ found → o ≡ number_in bits (rows_of (found_of m)) id
-    go None e = none e ∙ ap (option_and_then (number_of bits)) (sym e ∙ one_text-rows (found_of m) id)
-    go (Some text) e = sym (one_is G bits text o (only text) (some text e)) ∙ ap (option_and_then (number_of bits)) (sym e ∙ one_text-rows (found_of m) id)
+    go None e = none e ∙ ap (option_and_then (parsed_number bits)) (sym e ∙ one_text-rows (found_of m) id)
+    go (Some text) e = sym (one_is G bits text o (only text) (some text e)) ∙ ap (option_and_then (parsed_number bits)) (sym e ∙ one_text-rows (found_of m) id)
 
 tried_one : {E : Type 0} (G : List ℕ → Result ℕ E → Type 0) (bits : ℕ) (text : Text) (r : Result (Option ℕ) E) → ((x : Result ℕ E) → G text x → ParsesUnsigned bits 10 text x)
     → TriesOne G text r → result_ok r ≡ given_of bits (Some text)

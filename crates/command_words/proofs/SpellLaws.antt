@@ -23,7 +23,7 @@ use Rattle.clap.specs.declared.builder.value_parser.ValueParser.TheVariants as v
 use Rattle.clap.proofs.CallerReads.{signed_reads}
 use Rattle.clap.proofs.ValueTestLemmas.{accepts-Accepts}
 use Rattle.clap.proofs.WalkLemmas.{both}
-use Rattle.command_words.specs.Command.{IsTaken, command, command_of, given_in, given_of, number_in, number_of, numbers_of, play_of, stop_of, without_fault}
+use Rattle.command_words.specs.Command.{IsTaken, command, command_of, given_in, given_of, number_in, parsed_number, parsed_numbers, play_of, stop_of, without_fault}
 use Rattle.command_words.proofs.NumberLaws.{parses, parses_not}
 use Rattle.command_words.proofs.RowLaws.{HasValue, IsPlainRule, Passes, found, level_good, neither}
 use Rattle.command_words.specs.Table.{program}
@@ -34,15 +34,15 @@ use Rattle.command_words.specs.declared.commands.Command.TheVariants.{Format, Gr
 
 -- each text that the parser lets through is a number of so many bits, as it is read
 abbrev Reads : ValueParser → ℕ → Type 0
-Reads p bits = (ignore_case : Bool) (v : Text) → accepts ignore_case p v ≡ true → (n : ℕ) × (number_of bits (read_as (reading_of p) v) ≡ Some n)
+Reads p bits = (ignore_case : Bool) (v : Text) → accepts ignore_case p v ≡ true → (n : ℕ) × (parsed_number bits (read_as (reading_of p) v) ≡ Some n)
 
-reads_one : (text : Text) (number : Option ℕ) → number_of 32 text ≡ number → ReadsOne {E = ℕ} (λ t r. ParsesUnsigned 32 10 t r) text number
+reads_one : (text : Text) (number : Option ℕ) → parsed_number 32 text ≡ number → ReadsOne {E = ℕ} (λ t r. ParsesUnsigned 32 10 t r) text number
 reads_one text None e = (0, parses_not 32 text 0 e)
 reads_one text (Some n) e = parses 32 text n e
 
 signed_number : (low high : ℕ) → high < 2 ^ 32 → Reads (vp.Signed (pos low) (pos high)) 32
 signed_number low high fits ignore_case v passes =
-    let got = signed_reads ℕ (λ t r. ParsesUnsigned 32 10 t r) 32 low high v (number_of 32 (without_minus v)) (reads_one (without_minus v) _ refl) (λ u x g. g) fits
+    let got = signed_reads ℕ (λ t r. ParsesUnsigned 32 10 t r) 32 low high v (parsed_number 32 (without_minus v)) (reads_one (without_minus v) _ refl) (λ u x g. g) fits
     (accepts-Accepts ignore_case (vp.Signed (pos low) (pos high)) v passes) in
     (got.0, got.1)
 
@@ -58,18 +58,18 @@ IsNumber c id bits a = (arg_by_id c id ≡ Some a) × Reads (parser_of_value a.p
 
 -- a row of such an argument holds a number
 row_read : (c : List Rule) (rows : List Row) (id : Text) (bits : ℕ) (a : Rule) (r : Row) → IsNumber c id bits a → AllByRecursion (Passes c) rows
-    → find (λ r. bytes_eq r.id id) rows ≡ Some r → (text : Text) × (row_text r ≡ Some text) × ((n : ℕ) × (number_of bits text ≡ Some n))
+    → find (λ r. bytes_eq r.id id) rows ≡ Some r → (text : Text) × (row_text r ≡ Some text) × ((n : ℕ) × (parsed_number bits text ≡ Some n))
 row_read c rows id bits a r is all at =
     let met = found (Passes c) _ rows r all at in
     let own = met.0 a (ap (arg_by_id c) ((bytes_eq-Decides r.id id).0 met.1) ∙ is.0) in
     first r.values own.0 own.1 own.2
   where
     first : (values : List Text) → values_pass a values ≡ true → r.reading ≡ reading_by a → HasValue values
-        → (text : Text) × (option_map (read_as r.reading) (slice_get values 0) ≡ Some text) × ((n : ℕ) × (number_of bits text ≡ Some n))
+        → (text : Text) × (option_map (read_as r.reading) (slice_get values 0) ≡ Some text) × ((n : ℕ) × (parsed_number bits text ≡ Some n))
     first [] passes reads some = absurd some
     first (v ∷ vs) passes reads some =
         let read = is.1 a.ignore_case v (both (value_passes a v) (values_pass a vs) passes).0 in
-        (read_as r.reading v, refl, (read.0, ap (λ (how : Reading). number_of bits (read_as how v)) reads ∙ read.1))
+        (read_as r.reading v, refl, (read.0, ap (λ (how : Reading). parsed_number bits (read_as how v)) reads ∙ read.1))
 
 -- what is given of such an argument is read
 number_read : (c : List Rule) (rows : List Row) (id : Text) (bits : ℕ) (a : Rule) → IsNumber c id bits a → AllByRecursion (Passes c) rows → is_given id rows ≡ true
@@ -77,11 +77,11 @@ number_read : (c : List Rule) (rows : List Row) (id : Text) (bits : ℕ) (a : Ru
 number_read c rows id bits a is all given = go (find (λ r. bytes_eq r.id id) rows) refl given
   where
     go : (of : Option Row) → find (λ r. bytes_eq r.id id) rows ≡ of → option_map_or (λ r. explicit_source r.source) of false ≡ true
-        → (n : ℕ) × (option_and_then (number_of bits) (option_and_then row_text of) ≡ Some n)
+        → (n : ℕ) × (option_and_then (parsed_number bits) (option_and_then row_text of) ≡ Some n)
     go None at none = cc
     go (Some r) at here =
         let read = row_read c rows id bits a r is all at in
-        (read.2.0, ap (option_and_then (number_of bits)) read.1 ∙ read.2.1)
+        (read.2.0, ap (option_and_then (parsed_number bits)) read.1 ∙ read.2.1)
 
 -- such an option is a number, if it is given
 given_read : (c : List Rule) (rows : List Row) (id : Text) (bits : ℕ) (a : Rule) → IsNumber c id bits a → AllByRecursion (Passes c) rows
@@ -127,7 +127,7 @@ none_missing s words negates none =
     ap (λ b. not (b && false) && list_any (λ (a : Rule). a.required && not (is_given a.id rows)) s.rules) (sym negates) ∙ wanted
 
 abbrev numbered : Option ℕ → Option ℕ → Option ℕ → Option Command
-numbered pages log first = option_map (λ numbers. Format numbers) (numbers_of pages log first)
+numbered pages log first = option_map (λ numbers. Format numbers) (parsed_numbers pages log first)
 
 format_spells : (s : Shape) (pages log first : Rule) → s.name ≡ codes "format" → s.subcommand_negates_reqs ≡ false → AllByRecursion (IsPlainRule s.rules) s.rules
     → ((x : ℕ) → arg_by_short s.rules x ≡ None) → IsNumber s.rules (codes "pages") 32 pages → IsNumber s.rules (codes "log_bytes") 32 log → IsNumber s.rules (codes "first") 32 first

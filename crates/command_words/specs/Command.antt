@@ -17,25 +17,25 @@ use Rattle.command_words.specs.declared.commands.Numbers.{Numbers}
 use Rattle.command_words.specs.declared.commands.Stop.{Stop}
 
 -- the whole number of so many bits that a text is
-abbrev pub number_of : ℕ → Text → Option ℕ
-number_of bits text =
+abbrev pub parsed_number : ℕ → Text → Option ℕ
+parsed_number bits text =
     let digits = without_leading_plus text in
     if is_numeral digits && nat_lt (digits_value 10 digits) (2 ^ bits) then Some (digits_value 10 digits) else None
 
 -- the number of an argument
 abbrev pub number_in : ℕ → List Row → Text → Option ℕ
-number_in bits rows id = option_and_then (number_of bits) (one_of id rows)
+number_in bits rows id = option_and_then (parsed_number bits) (one_of id rows)
 
-abbrev pub numbers_of : Option ℕ → Option ℕ → Option ℕ → Option Numbers
-numbers_of (Some pages) (Some log_bytes) (Some first) = Some (record { pages = pages; log_bytes = log_bytes; first = first })
-numbers_of _ _ _ = None
+abbrev pub parsed_numbers : Option ℕ → Option ℕ → Option ℕ → Option Numbers
+parsed_numbers (Some pages) (Some log_bytes) (Some first) = Some (record { pages = pages; log_bytes = log_bytes; first = first })
+parsed_numbers _ _ _ = None
 
 abbrev pub numbers_in : List Row → Option Numbers
-numbers_in rows = numbers_of (number_in 32 rows (codes "pages")) (number_in 32 rows (codes "log_bytes")) (number_in 32 rows (codes "first"))
+numbers_in rows = parsed_numbers (number_in 32 rows (codes "pages")) (number_in 32 rows (codes "log_bytes")) (number_in 32 rows (codes "first"))
 
 abbrev pub given_of : ℕ → Option Text → Option (Option ℕ)
 given_of bits None = Some None
-given_of bits (Some text) = option_map (λ n. Some n) (number_of bits text)
+given_of bits (Some text) = option_map (λ n. Some n) (parsed_number bits text)
 
 -- the number of an option, if it is given; nothing, where what is given is no such number
 abbrev pub given_in : ℕ → List Row → Text → Option (Option ℕ)

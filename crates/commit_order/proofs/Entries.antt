@@ -9,7 +9,7 @@ use Rattle.graph_model.specs.History.{Account, account, account_after, answered,
 use Rattle.graph_model.specs.Replies.{IsCallReply}
 use Rattle.graph_model.proofs.Runs.History.{account-append, account_after-call}
 use Rattle.commit_order.specs.declared.reading.Reading.{Reading}
-use Rattle.commit_order.specs.Told.{TellsOf, Keeps}
+use Rattle.commit_order.specs.Told.{TellsOf, KeepsReading}
 
 on_ok : {T E : Type 0} (r : Result T E) (P Q : Type 0) → (P → Q) → OnOk r P → OnOk r Q
 on_ok (Ok x) P Q f h = f h
@@ -20,7 +20,7 @@ recounted : (a : Account) (n : ℕ) (reading : Reading) → TellsOf a reading �
 recounted a n reading told = record { active = told.active; sealed = told.sealed; in_doubt = told.in_doubt }
 
 -- a transaction that begins
-pub begun_keeps : {T E : Type 0} (r : Result T E) (e : Entry) (s n : ℕ) (old new : Reading) → e.reply ≡ Begun n → s ≡ session_of e.event → OnOk r (Keeps (λ a. begins a s n) old new) → OnOk r (Keeps (λ a. account_after a e) old new)
+pub begun_keeps : {T E : Type 0} (r : Result T E) (e : Entry) (s n : ℕ) (old new : Reading) → e.reply ≡ Begun n → s ≡ session_of e.event → OnOk r (KeepsReading (λ a. begins a s n) old new) → OnOk r (KeepsReading (λ a. account_after a e) old new)
 begun_keeps r e s n old new is session =
     on_ok r _ _ (λ keeps a told.
     let P : Reply → Type 0 = λ reply. TellsOf (record (answered a e.event reply) { entries = a.entries + 1 }) new in
@@ -39,7 +39,7 @@ call_reply reply begun sealed aborted durable flushed clean refused = tt
 -- a call
 pub call_keeps : {T E : Type 0} (r : Result T E) (e : Entry) (s : ℕ) (old new : Reading)
     → ((n : ℕ) → e.reply ≡ Begun n → ⊥) → ((n : ℕ) → e.reply ≡ Sealed n → ⊥) → (e.reply ≡ Aborted → ⊥) → ((n : ℕ) → e.reply ≡ Durable n → ⊥) → ((page : ℕ) → e.reply ≡ Flushed page → ⊥) → ((page : ℕ) → e.reply ≡ Clean page → ⊥) → ((why : Refusal) → e.reply ≡ Refused why → ⊥)
-    → s ≡ session_of e.event → OnOk r (Keeps (λ a. makes_call a s e.event) old new) → OnOk r (Keeps (λ a. account_after a e) old new)
+    → s ≡ session_of e.event → OnOk r (KeepsReading (λ a. makes_call a s e.event) old new) → OnOk r (KeepsReading (λ a. account_after a e) old new)
 call_keeps r e s old new begun sealed aborted durable flushed clean refused session =
     on_ok r _ _ (λ keeps a told.
     let is = call_reply e.reply begun sealed aborted durable flushed clean refused in
@@ -47,7 +47,7 @@ call_keeps r e s old new begun sealed aborted durable flushed clean refused sess
     (recounted (makes_call a (session_of e.event) e.event) (a.entries + 1) new (subst (λ q. TellsOf (makes_call a q e.event) new) session (keeps a told))))
 
 -- one entry more has been read
-pub read_more : (history : List Entry) (i : ℕ) (d : Entry) (old new : Reading) → i < length history → Keeps (λ a. account_after a (get_or history i d)) old new → TellsOf (account (take i history)) old
+pub read_more : (history : List Entry) (i : ℕ) (d : Entry) (old new : Reading) → i < length history → KeepsReading (λ a. account_after a (get_or history i d)) old new → TellsOf (account (take i history)) old
     → TellsOf (account (take (i + 1) history)) new
 read_more history i d old new within keeps told =
     subst (λ h. TellsOf (account h) new) (sym (take_more history i d within))

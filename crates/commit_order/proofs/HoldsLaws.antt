@@ -16,7 +16,7 @@ use Rattle.graph_model.specs.Transaction.{Transaction, fresh_view, run, serial}
 use Rattle.graph_model.specs.History.{Account, account, session_of, with_active, with_call, makes_call}
 use Rattle.graph_model.proofs.Runs.History.{account-append, account_after-call, serial-append}
 use Rattle.graph_model.specs.Plain.{view}
-use Rattle.graph_model.specs.Locking.{Mode, Lock, lock_of, locks_of, Holds}
+use Rattle.graph_model.specs.Locking.{Mode, Lock, lock_of, locks_of, HoldsLock}
 use Rattle.commit_order.proofs.CallLaws.{Contains-Some, Contains-option}
 use Rattle.commit_order.proofs.LockingLaws.{locks_of_calls-append, runs_alike}
 use Rattle.commit_order.proofs.OrderLaws.{changed, two_phase_ordered}
@@ -24,15 +24,15 @@ use Rattle.commit_order.specs.SerialOrder.{IsCallOf, IsTwoPhase, HasPlainReplies
 
 -- in b transaction n holds what it holds in a and this lock, if there is one, and the others hold what they hold in a
 abbrev pub AddsLock : Graph → Account → Account → ℕ → Option Lock → Type 0
-AddsLock g0 a b n lock = (m : ℕ) (id : Id) (mode : Mode) → Holds g0 b m id mode ↔ (Holds g0 a m id mode ⊎ ((m ≡ n) × (lock ≡ Some (id, mode))))
+AddsLock g0 a b n lock = (m : ℕ) (id : Id) (mode : Mode) → HoldsLock g0 b m id mode ↔ (HoldsLock g0 a m id mode ⊎ ((m ≡ n) × (lock ≡ Some (id, mode))))
 
 -- in b transaction n holds nothing, and the others hold what they hold in a
 abbrev pub Releases : Graph → Account → Account → ℕ → Type 0
-Releases g0 a b n = (m : ℕ) (id : Id) (mode : Mode) → Holds g0 b m id mode ↔ ((m ≢ n) × Holds g0 a m id mode)
+Releases g0 a b n = (m : ℕ) (id : Id) (mode : Mode) → HoldsLock g0 b m id mode ↔ ((m ≢ n) × HoldsLock g0 a m id mode)
 
 -- in b all hold what they hold in a
 abbrev pub HoldAlike : Graph → Account → Account → Type 0
-HoldAlike g0 a b = (m : ℕ) (id : Id) (mode : Mode) → Holds g0 b m id mode ↔ Holds g0 a m id mode
+HoldAlike g0 a b = (m : ℕ) (id : Id) (mode : Mode) → HoldsLock g0 b m id mode ↔ HoldsLock g0 a m id mode
 
 own_session : (active : ℕ → Option Transaction) (s : ℕ) (x : Option Transaction) → with_active active s x s ≡ x
 own_session active s x = ap (λ b. if b then x else active s) (eq-eqb s s refl)

@@ -17,7 +17,7 @@ use Rattle.graph_model.specs.Transaction.{Transaction, fresh_view, serial}
 use Rattle.graph_model.specs.History.{Account, account, account_after, begins, aborts, cut_short, session_of, with_active, with_call}
 use Rattle.graph_model.proofs.Runs.History.{account-append, serial-append}
 use Rattle.graph_model.specs.Plain.{view}
-use Rattle.graph_model.specs.Locking.{Mode, lock_of, locks_of, Holds}
+use Rattle.graph_model.specs.Locking.{Mode, lock_of, locks_of, HoldsLock}
 use Rattle.commit_order.specs.Heard.{Heard, heard_in}
 use Rattle.commit_order.proofs.HoldsLaws.{call_holds}
 use Rattle.commit_order.proofs.LockingLaws.{locks_of_calls-append, runs_alike}
@@ -27,13 +27,14 @@ use Rattle.commit_order.specs.SerialOrder.{numbers_begun, StillHold, StrictTheor
 
 module _ (g0 : Graph) (numbers : List ℕ) (a : Account) (heard : Heard) (o : IsOrdered g0 numbers a heard) where
   -- what an active transaction holds is among its locks
-  own_lock : (s : ℕ) (t : Transaction) (id : Id) (mode : Mode) → a.active s ≡ Some t → Holds g0 a t.number id mode → Contains (locks_of (serial g0 a.sealed) t) (id, mode)
+  own_lock : (s : ℕ) (t : Transaction) (id : Id) (mode : Mode) → a.active s ≡ Some t → HoldsLock g0 a t.number id mode → Contains (locks_of (serial g0 a.sealed) t) (id, mode)
   own_lock s t id mode active holds = elim (cases_eq holds.session s) [
     | inl own ↦ subst (λ x. Contains (locks_of (serial g0 a.sealed) x) (id, mode)) (same_Some holds.transaction t (sym holds.active ∙ ap a.active own ∙ active)) holds.lock
     | inr other ↦ absurd ((o.beside holds.session s holds.transaction t other holds.active active).differ holds.number)
   ]
+
   -- one that made no call holds what it held, where none was sealed
-  still_one : (b : Account) (s : ℕ) (t : Transaction) (id : Id) (mode : Mode) → b.sealed ≡ a.sealed → b.active s ≡ Some t → a.active s ≡ Some t → Holds g0 a t.number id mode → Holds g0 b t.number id mode
+  still_one : (b : Account) (s : ℕ) (t : Transaction) (id : Id) (mode : Mode) → b.sealed ≡ a.sealed → b.active s ≡ Some t → a.active s ≡ Some t → HoldsLock g0 a t.number id mode → HoldsLock g0 b t.number id mode
   still_one b s t id mode sealed now was holds = record {
     session = s;
     transaction = t;
@@ -41,12 +42,15 @@ module _ (g0 : Graph) (numbers : List ℕ) (a : Account) (heard : Heard) (o : Is
     number = refl;
     lock = subst (λ ts. Contains (locks_of (serial g0 ts) t) (id, mode)) (sym sealed) (own_lock s t id mode was holds);
   }
+
   -- so do all where the same are active and sealed
   still_same : (b : Account) → b.active ≡ a.active → b.sealed ≡ a.sealed → StillHold g0 a b
   still_same b active sealed s t id mode now holds = still_one b s t id mode sealed now (sym (ap (λ (f : ℕ → Option Transaction). f s) active) ∙ now) holds
+
   still_cut : (event : Event) (entries : ℕ) → StillHold g0 a (record (cut_short a event) { entries = entries })
   still_cut (Seal s) entries = still_same (record (cut_short a (Seal s)) { entries = entries }) refl refl
   still_cut event entries = still_same (record (cut_short a event) { entries = entries }) refl refl
+
   still_begin : (s n entries : ℕ) → (Contains numbers n → ⊥) → StillHold g0 a (record (begins a s n) { entries = entries })
   still_begin s n entries anew r u id mode now holds =
       let t : Transaction = record { number = n; calls = [] } in
@@ -56,11 +60,13 @@ module _ (g0 : Graph) (numbers : List ℕ) (a : Account) (heard : Heard) (o : Is
             absurd (anew (subst (Contains numbers) same (o.begun holds.session holds.transaction holds.active)))
         | inr was ↦ still_one (record (begins a s n) { entries = entries }) r u id mode refl now was.1 holds
       ]
+
   still_end : (s entries : ℕ) → StillHold g0 a (record (aborts a s) { entries = entries })
   still_end s entries r u id mode now holds = elim (changed a.active s None r u now) [
     | inl gone ↦ cc
     | inr was ↦ still_one (record (aborts a s) { entries = entries }) r u id mode refl now was.1 holds
   ]
+
   -- a transaction that is sealed leaves the locks of the others as they are
   still_seal : (s entries : ℕ) (x : Option Transaction) → a.active s ≡ x → StillHold g0 a (record (aborts a s) { sealed = a.sealed ++ option_to_list x; entries = entries })
   still_seal s entries None is r u id mode now holds = elim (changed a.active s None r u now) [
@@ -80,6 +86,7 @@ module _ (g0 : Graph) (numbers : List ℕ) (a : Account) (heard : Heard) (o : Is
           lock = subst (λ ls. Contains ls (id, mode)) (alike.locks ∙ ap (λ h. locks_of h u) (sym (serial-append g0 a.sealed t))) (own_lock r u id mode was.1 holds);
         }
   ]
+
   -- a call takes no lock away
   still_call : (s entries : ℕ) (event : Event) (x : Option Transaction) → a.active s ≡ x → StillHold g0 a (record a { active = with_active a.active s (with_call x event); entries = entries })
   still_call s entries event None is r u id mode now holds = elim (changed a.active s None r u now) [
@@ -93,7 +100,7 @@ module _ (g0 : Graph) (numbers : List ℕ) (a : Account) (heard : Heard) (o : Is
       elim (changed a.active s (Some next) r u now) [
         | inl own ↦
             let same : next ≡ u = same_Some next u own.1 in
-            let before = own_lock s t id mode is (subst (λ n. Holds g0 a n id mode) (sym (ap (λ (y : Transaction). y.number) same)) holds) in
+            let before = own_lock s t id mode is (subst (λ n. HoldsLock g0 a n id mode) (sym (ap (λ (y : Transaction). y.number) same)) holds) in
             record {
               session = r;
               transaction = u;
@@ -104,6 +111,7 @@ module _ (g0 : Graph) (numbers : List ℕ) (a : Account) (heard : Heard) (o : Is
             }
         | inr was ↦ still_one (record a { active = with_active a.active s (Some next); entries = entries }) r u id mode refl now was.1 holds
       ]
+
   -- nor does any entry, of one that is active behind it
   still_entry : (event : Event) (reply : Reply) → ((n : ℕ) → reply ≡ Begun n → Contains numbers n → ⊥) → StillHold g0 a (account_after a (record { event = event; reply = reply }))
   still_entry event (Begun n) anew = still_begin (session_of event) n (a.entries + 1) (anew n refl)

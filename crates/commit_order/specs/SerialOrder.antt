@@ -14,7 +14,7 @@ use Rattle.graph_model.specs.History.{Account, account, commits, sealed, session
 use Rattle.graph_model.specs.Replies.{IsCallReply}
 use Rattle.graph_model.specs.Plain.{view}
 use Rattle.commit_order.specs.Heard.{heard_in, replies_of_commits}
-use Rattle.graph_model.specs.Locking.{Mode, lock_of, Holds, IsFree}
+use Rattle.graph_model.specs.Locking.{Mode, lock_of, HoldsLock, IsFree}
 
 -- each entry of a history has this property, which may speak of the entries before it
 abbrev pub EachEntry : (List Entry → Entry → Type 0) → List Entry → Type 0
@@ -32,12 +32,12 @@ pub record IsCallOf (before : List Entry) (e : Entry) (t : Transaction) : Type 0
 --
 --     lock_of registers c        the lock that call c needs: on the object that its first handle holds, shared if the call reads a field of
 --                                it, exclusive if it writes one
---     Holds g0 a n id mode       transaction n is active in a, and one of the calls that it has made has needed this lock
+--     HoldsLock g0 a n id mode       transaction n is active in a, and one of the calls that it has made has needed this lock
 --     IsFree g0 a n lock         no other transaction holds a lock in a that conflicts with this one, which transaction n needs
 --
 -- So a transaction gets a lock with the first call that needs it, and has it as long as it is active: no call gives a lock back, and all
--- of them go at once when the transaction is sealed or aborted. That is what is strict in it. It is in the word `Holds`, and `IsStrict`
--- below says that `Holds` means just this at each place of a history.
+-- of them go at once when the transaction is sealed or aborted. That is what is strict in it. It is in the word `HoldsLock`, and `IsStrict`
+-- below says that `HoldsLock` means just this at each place of a history.
 
 -- conflicts were refused: a call that was not refused needs no lock that conflicts with one of another active transaction
 abbrev pub RefusesConflicts : Graph → List Entry → Entry → Type 0
@@ -51,11 +51,11 @@ pub record IsTwoPhase (g0 : Graph) (history : List Entry) : Type 0 where
 -- behind a call that was not refused its transaction holds the lock that the call needed
 abbrev pub TakesLock : Graph → List Entry → Entry → Type 0
 TakesLock g0 before e =
-    (t : Transaction) (id : Id) (mode : Mode) → IsCallOf before e t → lock_of (view g0 (account before) t).registers e.event ≡ Some (id, mode) → Holds g0 (account (before ++ e ∷ [])) t.number id mode
+    (t : Transaction) (id : Id) (mode : Mode) → IsCallOf before e t → lock_of (view g0 (account before) t).registers e.event ≡ Some (id, mode) → HoldsLock g0 (account (before ++ e ∷ [])) t.number id mode
 
 -- each transaction that is active in b holds there all that it holds in a
 abbrev pub StillHold : Graph → Account → Account → Type 0
-StillHold g0 a b = (s : ℕ) (t : Transaction) (id : Id) (mode : Mode) → b.active s ≡ Some t → Holds g0 a t.number id mode → Holds g0 b t.number id mode
+StillHold g0 a b = (s : ℕ) (t : Transaction) (id : Id) (mode : Mode) → b.active s ≡ Some t → HoldsLock g0 a t.number id mode → HoldsLock g0 b t.number id mode
 
 -- a transaction that is active behind an entry holds there all that it held before the entry
 abbrev pub KeepsLocks : Graph → List Entry → Entry → Type 0

@@ -12,5 +12,5 @@ pub record TellsOf (a : Account) (reading : Reading) : Type 0 where
   pub in_doubt : reading.in_doubt ≡ a.in_doubt
 
 -- the next reading is that of an account one step on
-abbrev pub Keeps : (Account → Account) → Reading → Reading → Type 0
-Keeps step old new = (a : Account) → TellsOf a old → TellsOf (step a) new
+abbrev pub KeepsReading : (Account → Account) → Reading → Reading → Type 0
+KeepsReading step old new = (a : Account) → TellsOf a old → TellsOf (step a) new

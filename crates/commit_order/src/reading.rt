@@ -2,7 +2,7 @@
 ghost use Rattle.std.specs.Prelude.{◌≡◌, ◌∷◌, [], ◌++◌, OnOk, IfOk};
 ghost use Rattle.std.specs.Option.{option_to_list};
 ghost use Rattle.graph_model.specs.History.{Account, account_after, nothing_yet, begins, makes_call, seals, aborts, cut_short};
-ghost use Rattle.commit_order.specs.Told.{Keeps, TellsOf};
+ghost use Rattle.commit_order.specs.Told.{KeepsReading, TellsOf};
 
 use crate::commit_list::{Commit, CommitList};
 use graph_model::{Entry, Event, Refusal, Reply};
@@ -33,7 +33,7 @@ impl Reading {
 
     /// Reads one entry more.
     pub(crate) fn read(&mut self, entry: &Entry) -> Result<(), AllocError>
-        ensures { OnOk result (Keeps (λ a. account_after a entry.now) self.old self.new) }
+        ensures { OnOk result (KeepsReading (λ a. account_after a entry.now) self.old self.new) }
     {
         let s = entry.event.session();
         match entry.reply {
@@ -54,7 +54,7 @@ impl Reading {
 
     // Session `s` begins transaction `n`.
     fn begin(&mut self, s: u32, n: u64) -> Result<(), AllocError>
-        ensures { OnOk result (Keeps (λ a. begins a s n) self.old self.new) }
+        ensures { OnOk result (KeepsReading (λ a. begins a s n) self.old self.new) }
     {
         self.active.insert(s, Commit::begin(self.alloc, n))?;
         Ok(())
@@ -62,7 +62,7 @@ impl Reading {
 
     // The transaction of session `s` is sealed.
     fn seal(&mut self, s: u32) -> Result<(), AllocError>
-        ensures { OnOk result (Keeps (λ a. seals a s) self.old self.new) }
+        ensures { OnOk result (KeepsReading (λ a. seals a s) self.old self.new) }
     {
         if let Some(transaction) = self.active.remove(&s) {
             self.sealed.push(transaction)?;
@@ -72,7 +72,7 @@ impl Reading {
 
     // The transaction of session `s` makes a call.
     fn call(&mut self, s: u32, call: Event) -> Result<(), AllocError>
-        ensures { OnOk result (Keeps (λ a. makes_call a s call) self.old self.new) }
+        ensures { OnOk result (KeepsReading (λ a. makes_call a s call) self.old self.new) }
     {
         if let Some(mut transaction) = self.active.remove(&s) {
             transaction.push(call)?;
@@ -83,7 +83,7 @@ impl Reading {
 
     // The disk cut an event short.
     fn cut(&mut self, event: Event) -> Result<(), AllocError>
-        ensures { OnOk result (Keeps (λ a. cut_short a event) self.old self.new) }
+        ensures { OnOk result (KeepsReading (λ a. cut_short a event) self.old self.new) }
     {
         if let Event::Seal { s } = event {
             self.in_doubt = match self.active.get(&s) {

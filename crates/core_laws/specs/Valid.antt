@@ -73,7 +73,7 @@ pub record Agrees (a : Account) (c : Core) : Type 0 where
   pub behind : State
   pub told : IsTold c.pages c.lowest c.born c.places (serial c.g0 a.sealed) (c.before + length a.sealed) (all_records c) (all_words c) behind  -- all records tell all that was sealed
   pub next_known : behind.next ≤ c.first + a.begun  -- no transaction to come has written yet
-  pub losers : maps.EachEntry (λ q us. IsActive a q) behind.undo  -- only active transactions have writes that may be taken back
+  pub losers : maps.EachKeyed (λ q us. IsActive a q) behind.undo  -- only active transactions have writes that may be taken back
   pub writers : (s : ℕ) → IsWriter c.places c.g0 a (a.active s) (all_words c) behind  -- and each sees what it wrote
   pub room : used c + reserved (undo_of behind) a ≤ c.room  -- the log has room for the ends of all active transactions
 

@@ -13,7 +13,7 @@ use Rattle.disk_model.specs.declared.memory.MemoryDisk.TheInside.{Inside}
 use Rattle.disk_model.specs.Disk.{overwrite}
 use Rattle.disk_model.specs.Memory.{Memory, Change, Write, cost, changed, with_write, contents_of, now_of, is_within, after, settled_as, settled, Contents}
 use Rattle.disk_model.specs.Range.{range_of, Fits}
-use Rattle.disk_model.specs.Record.{change_of, IsInPool, view_of, pending_of, IsKept}
+use Rattle.disk_model.specs.Record.{change_of, IsInPool, view_of, pending_of, IsFaithful}
 use Rattle.disk_model.proofs.Images.{length-overwrite}
 use Rattle.disk_model.proofs.Kept.{contents_of-nil, contents_of-push, changes-write, pending-push, pending_none, in_pool_write, fit_write, tied_write}
 
@@ -31,7 +31,7 @@ pub record Writes (a b : Inside) (at : ℕ) (piece : List ℕ) : Type 0 where
   pub calls_capacity : vec_capacity a.calls ≤ vec_capacity b.calls
   pub pool_capacity : vec_capacity a.pool ≤ vec_capacity b.pool
 
-module _ (a b : Inside) (at : ℕ) (piece : List ℕ) (kept : IsKept a) (writes : Writes a b at piece) where
+module _ (a b : Inside) (at : ℕ) (piece : List ℕ) (kept : IsFaithful a) (writes : Writes a b at piece) where
   changes_written : map (change_of b.pool.items) b.calls.items ≡ map (change_of a.pool.items) a.calls.items ++ Write at piece ∷ []
   changes_written =
       ap (λ pool. map (change_of pool) b.calls.items) writes.pool
@@ -54,7 +54,7 @@ module _ (a b : Inside) (at : ℕ) (piece : List ℕ) (kept : IsKept a) (writes 
       let p = writes.pick in
       cc
 
-  pub kept_written : at + length piece ≤ length a.newest.items → cost (length piece) ≤ a.room → IsKept b
+  pub kept_written : at + length piece ≤ length a.newest.items → cost (length piece) ≤ a.room → IsFaithful b
   kept_written fits room =
       let n = now_written in
       let pending : pending_of b ≡ pending_of a ++ (at, length piece) ∷ [] =
@@ -91,7 +91,7 @@ pub record Settles (a b : Inside) (call : Call) (image : List ℕ) : Type 0 wher
   pub rest : record (view_of b) { changes = [] } ≡ record (view_of a) { changes = [] }
   pub calls_capacity : vec_capacity a.calls ≤ vec_capacity b.calls
 
-module _ (a b : Inside) (call : Call) (image : List ℕ) (kept : IsKept a) (settles : Settles a b call image) where
+module _ (a b : Inside) (call : Call) (image : List ℕ) (kept : IsFaithful a) (settles : Settles a b call image) where
   changes_settled : map (change_of b.pool.items) b.calls.items ≡ map (change_of a.pool.items) a.calls.items ++ change_of a.pool.items call ∷ []
   changes_settled =
       ap (λ (pool : Vec ℕ Global). map (change_of pool.items) b.calls.items) settles.pool
@@ -121,7 +121,7 @@ module _ (a b : Inside) (call : Call) (image : List ℕ) (kept : IsKept a) (sett
       let p = settles.pick in
       cc
 
-  pub kept_settled : a.pending_from < length a.calls.items → IsInPool (length a.pool.items) call → after a.pick (now_of (view_of a)) (change_of a.pool.items call) ≡ settled_as image → IsKept b
+  pub kept_settled : a.pending_from < length a.calls.items → IsInPool (length a.pool.items) call → after a.pick (now_of (view_of a)) (change_of a.pool.items call) ≡ settled_as image → IsFaithful b
   kept_settled lt in_ leaves =
       let n = now_settled leaves in
       let none : pending_of b ≡ [] = pending_none b.pending_from b.calls.items (omega (arith, settles.from)) in
@@ -142,7 +142,7 @@ module _ (a b : Inside) (call : Call) (image : List ℕ) (kept : IsKept a) (sett
       }
 
 -- a disk that was just made
-pub kept_made : (a : Inside) (bytes : List ℕ) → a.first.value.items ≡ bytes → a.newest.items ≡ bytes → a.synced.items ≡ bytes → a.calls.items ≡ [] → a.pool.items ≡ [] → a.pending_from ≡ 0 → a.room ≤ vec_capacity a.pool → a.room ≤ 32 * vec_capacity a.calls + 31 → IsKept a
+pub kept_made : (a : Inside) (bytes : List ℕ) → a.first.value.items ≡ bytes → a.newest.items ≡ bytes → a.synced.items ≡ bytes → a.calls.items ≡ [] → a.pool.items ≡ [] → a.pending_from ≡ 0 → a.room ≤ vec_capacity a.pool → a.room ≤ 32 * vec_capacity a.calls + 31 → IsFaithful a
 kept_made a bytes first newest synced calls pool from pool_room calls_room =
     let n : now_of (view_of a) ≡ settled_as bytes =
     ap (λ cs. contents_of a.pick a.first.value.items (map (change_of a.pool.items) cs)) calls

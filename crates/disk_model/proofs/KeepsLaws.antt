@@ -41,6 +41,7 @@ module _ {D : Type 0} (g : Ghosts D) where
     cause = record { faults_kept = omega arith; stops_kept = omega arith; failed = λ is. absurd (cc is); stopped = λ is. absurd (cc is) };
     restarts = λ told. refl;
   }
+
   -- what a call kept is kept where no error of the disk is told
   pub keeps_ok : {S T : Type 0} (old new : D) (result : Result S DiskError) (x : T) → KeepsDisk g old new result → KeepsDisk {T = T} g old new (Ok x)
   keeps_ok old new result x kept = record {
@@ -49,6 +50,7 @@ module _ {D : Type 0} (g : Ghosts D) where
     cause = no_cause (g.faults old) (g.faults new) (g.stops old) (g.stops new) result x kept.cause;
     restarts = kept.restarts;
   }
+
   -- one call more, whose answer is told
   pub keeps_on : {S T : Type 0} (old mid new : D) (first : Result S DiskError) (result : Result T DiskError) → KeepsDisk g old mid first → KeepsDisk g mid new result → KeepsDisk g old new result
   keeps_on old mid new first result before kept = record {
@@ -57,9 +59,11 @@ module _ {D : Type 0} (g : Ghosts D) where
     cause = cause_last (g.faults old) (g.faults mid) (g.faults new) (g.stops old) (g.stops mid) (g.stops new) first result before.cause kept.cause;
     restarts = λ told. kept.restarts told ∙ before.restarts told;
   }
+
   -- nothing was read
   pub same_none : (disk : D) → ((c : List ℕ) → g.left_since disk (g.moment disk) c → g.may_leave disk c) → SameContents g disk disk
   same_none disk only_now = record { bytes = refl; crash = λ c left. left; moments = begins g.moment g.left_since disk (g.may_leave disk) only_now; passed = refl }
+
   -- two that wrote nothing
   pub same_on : (old mid new : D) → SameContents g old mid → SameContents g mid new → SameContents g old new
   same_on old mid new first second = record {
@@ -68,11 +72,14 @@ module _ {D : Type 0} (g : Ghosts D) where
     moments = weaker g.moment g.left_since old new _ _ (joined g.moment g.left_since old mid new _ _ first.moments second.moments) (λ c left. elim left [ inl old ↦ old | inr mid ↦ first.crash c mid ]);
     passed = second.passed ∙ first.passed;
   }
+
   -- nothing was read, and no error of the disk is told
   pub reads_none : {T : Type 0} (disk : D) (x : T) → (IsTrue g.tells → (c : List ℕ) → g.left_since disk (g.moment disk) c → g.may_leave disk c) → OnlyReads {T = T} g disk disk (Ok x)
   reads_none disk x only_now = record { disk = keeps_none disk x; contents = λ told. same_none disk (only_now told); no_first_stop = λ none. none }
+
   pub reads_ok : {S T : Type 0} (old new : D) (result : Result S DiskError) (x : T) → OnlyReads g old new result → OnlyReads {T = T} g old new (Ok x)
   reads_ok old new result x reads = record { disk = keeps_ok old new result x reads.disk; contents = reads.contents; no_first_stop = reads.no_first_stop }
+
   -- one more that only reads, whose answer is told
   pub reads_on : {S T : Type 0} (old mid new : D) (first : Result S DiskError) (result : Result T DiskError) → OnlyReads g old mid first → OnlyReads g mid new result → OnlyReads g old new result
   reads_on old mid new first result before reads = record {

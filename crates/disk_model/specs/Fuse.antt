@@ -46,7 +46,7 @@ module _ {D : Type 0} {g : Ghosts D} where
     pub stops : fuse_stops new ≡ raised (fuse_stops old)
 
   -- A write or a sync went through to the disk inside.
-  pub record Passes (old new : FuseDisk D g) : Type 0 where
+  pub record LetsThrough (old new : FuseDisk D g) : Type 0 where
     pub passed : fuse_passed new ≡ fuse_passed old + 1
     pub stops : fuse_stops new ≡ fuse_stops old
 

@@ -21,11 +21,11 @@ pub record Contents : Type 0 where
   pub pending : List (ℕ × ℕ)
 
 -- the number of a pick
-abbrev pub number_of : Pick → ℕ
-number_of Synced = 0
-number_of Newest = 1
-number_of AllOnes = 2
-number_of AllOpen = 3
+abbrev pub pick_number : Pick → ℕ
+pick_number Synced = 0
+pick_number Newest = 1
+pick_number AllOnes = 2
+pick_number AllOpen = 3
 
 -- whether a place is in the range
 unfoldable pub is_in : ℕ × ℕ → ℕ → Bool

@@ -30,7 +30,7 @@ abbrev pub pending_of : Inside → List (ℕ × ℕ)
 pending_of a = map range_of (drop a.pending_from a.calls.items)
 
 -- The fields agree with what the record tells, and the room that was taken suffices for what is free.
-pub record IsKept (a : Inside) : Type 0 where
+pub record IsFaithful (a : Inside) : Type 0 where
   pub newest : a.newest.items ≡ (now_of (view_of a)).newest
   pub synced : a.synced.items ≡ (now_of (view_of a)).synced
   pub pending : pending_of a ≡ (now_of (view_of a)).pending

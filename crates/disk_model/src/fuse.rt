@@ -90,7 +90,7 @@ impl<D: Disk> Disk for FuseDisk<D> {
     ghost use Rattle.std.specs.Prelude.{◌≡◌, ◌≢◌, ◌+◌, ◌<◌, ◌≤◌, ◌↔◌, length, IsTrue, OnOk, Err};
     ghost use Rattle.counts.specs.Count.{raised};
     ghost use Rattle.disk_model.specs.Disk.{overwrite, part, Torn, WidensBy, Narrows, Only, Elapses, HasCause, passed_after};
-    ghost use Rattle.disk_model.specs.Fuse.{FuseOrigin, fuse_inner, fuse_origin, fuse_limit, fuse_passed, fuse_stops, IsSpent, IsBlown, Stops, Passes, Reaches};
+    ghost use Rattle.disk_model.specs.Fuse.{FuseOrigin, fuse_inner, fuse_origin, fuse_limit, fuse_passed, fuse_stops, IsSpent, IsBlown, Stops, LetsThrough, Reaches};
 
     ghost tells = { D.tells };
 
@@ -149,7 +149,7 @@ impl<D: Disk> Disk for FuseDisk<D> {
 
         ensures stopped { (result ≡ Err DiskError.Stopped) ↔ IsSpent self.old }
         ensures stops { IsSpent self.old → Stops self.old self.new }
-        ensures passes { fuse_passed self.old < fuse_limit self.old → Passes self.old self.new }
+        ensures passes { fuse_passed self.old < fuse_limit self.old → LetsThrough self.old self.new }
         ensures origin { fuse_origin self.new ≡ fuse_origin self.old }
 
         ensures written { IsTrue D.tells → OnOk result (D.bytes (fuse_inner self.new) ≡ overwrite (D.bytes (fuse_inner self.old)) at piece.now) }
@@ -172,7 +172,7 @@ impl<D: Disk> Disk for FuseDisk<D> {
     fn sync(&mut self) -> Result<(), DiskError>
         ensures stopped { (result ≡ Err DiskError.Stopped) ↔ IsSpent self.old }
         ensures stops { IsSpent self.old → Stops self.old self.new }
-        ensures passes { fuse_passed self.old < fuse_limit self.old → Passes self.old self.new }
+        ensures passes { fuse_passed self.old < fuse_limit self.old → LetsThrough self.old self.new }
         ensures origin { fuse_origin self.new ≡ fuse_origin self.old }
 
         ensures durable { IsTrue D.tells → OnOk result (Only (D.bytes (fuse_inner self.old)) (D.may_leave (fuse_inner self.new))) }

@@ -33,11 +33,11 @@ pub struct UnknownPick(pub u8);
 /// The picks are numbered from 0 to 3, in their order.
 impl TryFrom<u8> for Pick {
     ghost use Rattle.std.specs.Prelude.{◌≡◌, ◌≤◌, MatchResult};
-    ghost use Rattle.disk_model.specs.Memory.{number_of};
+    ghost use Rattle.disk_model.specs.Memory.{pick_number};
 
     type Error = UnknownPick;
 
-    ghost try_from_gives = { λ number outcome. MatchResult outcome (λ pick. number_of pick ≡ number) (λ error. (4 ≤ number) × (error.0 ≡ number)) };
+    ghost try_from_gives = { λ number outcome. MatchResult outcome (λ pick. pick_number pick ≡ number) (λ error. (4 ≤ number) × (error.0 ≡ number)) };
 
     fn try_from(number: u8) -> Result<Pick, UnknownPick> {
         match number {
@@ -89,11 +89,11 @@ impl Model for MemoryDisk {
 
     ghost Value = { Memory };
 
-    ghost use Rattle.disk_model.specs.Record.{view_of, IsKept};
+    ghost use Rattle.disk_model.specs.Record.{view_of, IsFaithful};
 
     ghost view = { view_of };
 
-    ghost invariant = { IsKept };
+    ghost invariant = { IsFaithful };
 }
 
 /// What a write takes of the record's room besides its bytes: its own entry, and that of the sync or restart after it.

@@ -8,10 +8,13 @@ use Rattle.gate_slot.proofs.ImageLaws.{torn_outside, torn_overwrite, length_over
 module _ (gate at : ℕ) (bytes image : List ℕ) (gate_inside : gate < length image) (fits : at + length bytes ≤ length image) where
   abbrev written : List ℕ
   written = overwrite image at bytes
+
   one : gate + 1 ≤ length written
   one = omega (arith, length_overwrite image bytes at fits, gate_inside)
+
   pub length_filled : length (filled gate at bytes image) ≡ length image
   length_filled = length_overwrite written (1 ∷ []) gate one ∙ length_overwrite image bytes at fits
+
   -- all else stands as it was
   pub filled_outside : (i : ℕ) → i ≢ gate → IsOutside at (length bytes) i → slice_index (filled gate at bytes image) i ≡ slice_index image i
   filled_outside i other outside = torn_outside gate 1 i written (filled gate at bytes image) (torn_overwrite written (1 ∷ []) gate one) beside ∙ torn_outside at (length bytes) i image written (torn_overwrite image bytes at fits) outside

@@ -18,11 +18,14 @@ torn_outside at n i old new torn (inr after) =
 module _ (image bytes : List ℕ) (at : ℕ) (fits : at + length bytes ≤ length image) where
   front : length (take at image) ≡ at
   front = length-take-le at image (omega arith)
+
   through : length (take at image ++ bytes) ≡ at + length bytes
   through = length-append (take at image) bytes ∙ ap (λ (k : ℕ). k + length bytes) front
+
   -- a write changes no length
   pub length_overwrite : length (overwrite image at bytes) ≡ length image
   length_overwrite = omega (arith, through, length-append (take at image ++ bytes) (drop (at + length bytes) image), length-drop (at + length bytes) image, fits)
+
   -- a whole write is one that a crash could have cut short
   pub torn_overwrite : Torn at (length bytes) image (overwrite image at bytes)
   torn_overwrite = record {
@@ -30,12 +33,14 @@ module _ (image bytes : List ℕ) (at : ℕ) (fits : at + length bytes ≤ lengt
     after = drop_at (take at image ++ bytes) (drop (at + length bytes) image) (at + length bytes) through;
     size = length_overwrite;
   }
+
   -- it puts its bytes there
   pub part_overwrite : part (overwrite image at bytes) at (length bytes) ≡ bytes
   part_overwrite =
       ap (λ (l : List ℕ). part l at (length bytes)) (append_assoc (take at image) bytes (drop (at + length bytes) image))
       ∙ ap (λ (l : List ℕ). take (length bytes) l) (drop_at (take at image) (bytes ++ drop (at + length bytes) image) at front)
       ∙ take_at bytes (drop (at + length bytes) image) (length bytes) refl
+
   -- byte by byte
   pub overwrite_inside : (i : ℕ) → at ≤ i → i < at + length bytes → slice_index (overwrite image at bytes) i ≡ slice_index bytes (i - at)
   overwrite_inside i above below =
@@ -87,6 +92,7 @@ torn_within at room k n old new torn inside = record {
   where
     front : (image : List ℕ) → take k (part image at room) ≡ drop at (take (at + k) image)
     front image = take-take k room (drop at image) (omega (arith, inside)) ∙ sym (drop-take at k image)
+
     behind : (image : List ℕ) → drop (k + n) (part image at room) ≡ take (room - (k + n)) (drop (at + k + n) image)
     behind image =
         let rest = room - (k + n) in

@@ -2,7 +2,7 @@
 use Rattle.std.proofs.Common.{◌≡◌, ◌≢◌, ℕ, ◌+◌, ◌<◌, ◌≤◌, List, length, get_or, drop, refl, sym, ◌∙◌, ap, arith}
 use Rattle.std.proofs.lemmas.List.{get_or-take, get_or-drop}
 use Rattle.disk_model.specs.Disk.{overwrite, part, Torn}
-use Rattle.gate_slot.specs.Gate.{IsOutside, IsClosed, SameButGate, IsFilling}
+use Rattle.gate_slot.specs.Gate.{IsOutside, IsGateClosed, SameButGate, IsFilling}
 use Rattle.gate_slot.proofs.ImageLaws.{torn_outside, torn_overwrite, length_overwrite, torn_byte}
 
 -- the byte that a read of the gate gave
@@ -26,11 +26,11 @@ untouched gate image = record { size = refl; others = λ i other. refl }
 
 module _ (gate at : ℕ) (bytes : List ℕ) (apart : IsOutside at (length bytes) gate) where
   -- before the bytes are written
-  pub filling_none : (seen image : List ℕ) → IsClosed gate image → IsFilling gate at bytes seen image image
+  pub filling_none : (seen image : List ℕ) → IsGateClosed gate image → IsFilling gate at bytes seen image image
   filling_none seen image shut = record { size = refl; whole = λ is_open. absurd (shut is_open); others = λ i other outside. refl }
 
   -- while they are written behind the closed gate
-  pub filling_bytes : (seen old new : List ℕ) → IsClosed gate old → Torn at (length bytes) old new → IsFilling gate at bytes seen old new
+  pub filling_bytes : (seen old new : List ℕ) → IsGateClosed gate old → Torn at (length bytes) old new → IsFilling gate at bytes seen old new
   filling_bytes seen old new shut torn = record {
     size = torn.size;
     whole = λ is_open. absurd (shut (sym (torn_outside at (length bytes) gate old new torn apart) ∙ is_open));

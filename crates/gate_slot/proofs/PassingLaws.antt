@@ -20,6 +20,7 @@ joined n m before mid now result any first second = record {
   where
     on : (k : ℕ) → now ≡ counted k mid → now ≡ counted (n + k) before
     on k is = is ∙ ap (counted k) first ∙ counted-add k n before
+
     then_ok : (r : Result (Unit {0}) DiskError) → OnOk r (now ≡ counted m mid) → OnOk r (now ≡ counted (n + m) before)
     then_ok (Ok nothing) is = on m is
     then_ok (Err e) is = tt

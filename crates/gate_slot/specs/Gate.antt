@@ -5,12 +5,12 @@ use Rattle.disk_model.specs.Disk.{overwrite}
 abbrev pub IsOpen : ℕ → List ℕ → Type 0
 IsOpen gate image = slice_index image gate ≡ 1
 
-abbrev pub IsClosed : ℕ → List ℕ → Type 0
-IsClosed gate image = slice_index image gate ≢ 1
+abbrev pub IsGateClosed : ℕ → List ℕ → Type 0
+IsGateClosed gate image = slice_index image gate ≢ 1
 
 -- closed in each image that a crash may leave
 abbrev pub IsClosedInEach : ℕ → (List ℕ → Type 0) → Type 0
-IsClosedInEach gate may_leave = (c : List ℕ) → may_leave c → IsClosed gate c
+IsClosedInEach gate may_leave = (c : List ℕ) → may_leave c → IsGateClosed gate c
 
 -- nothing is pending on the gate: each image has it as it is seen
 abbrev pub IsSettled : ℕ → List ℕ → (List ℕ → Type 0) → Type 0

@@ -5,7 +5,7 @@ ghost use Rattle.std.specs.Prelude.{◌≡◌, ℕ, ◌+◌, ◌<◌, ◌≤◌,
 ghost use Rattle.disk_model.specs.Disk.{Only};
 ghost use Rattle.disk_model.specs.Keeps.{KeepsDisk, OnlyReads};
 ghost use Rattle.disk_model.specs.Moments.{LeavesOnly};
-ghost use Rattle.gate_slot.specs.Gate.{IsClosed, IsClosedInEach, IsSettled, closed, filled, IsOutside, SameButGate, IsFilling};
+ghost use Rattle.gate_slot.specs.Gate.{IsGateClosed, IsClosedInEach, IsSettled, closed, filled, IsOutside, SameButGate, IsFilling};
 ghost use Rattle.gate_slot.specs.Passing.{Passes};
 
 use disk_model::{Disk, DiskError};
@@ -28,7 +28,7 @@ pub fn close_gate<D: Disk>(disk: &mut D, gate: u64) -> Result<(), DiskError>
     // A crash at any moment leaves all but the gate as it was.
     ensures moments { IsTrue D.tells → LeavesOnly D.moment D.left_since disk.old disk.new (λ c. (d : List ℕ) × D.may_leave disk.old d × SameButGate gate d c) }
     // A closed gate is only read.
-    ensures left_alone { IsTrue D.tells → IsClosed gate (D.bytes disk.old) → OnlyReads D.Disk disk.old disk.new result }
+    ensures left_alone { IsTrue D.tells → IsGateClosed gate (D.bytes disk.old) → OnlyReads D.Disk disk.old disk.new result }
     ensures passes { IsTrue D.tells → Passes (if slice_index (D.bytes disk.old) gate == 1 then 2 else 0) (D.passed disk.old) (D.passed disk.new) result }
 {
     let mut byte = [CLOSED];

@@ -44,7 +44,7 @@ abbrev pub locks_of : Graph → Transaction → List Lock
 locks_of g t = locks_of_calls (fresh_view g) t.number t.calls
 
 -- Transaction n is active and holds the object in this mode: it has made a call that needs this lock.
-pub record Holds (g0 : Graph) (a : Account) (n : ℕ) (id : Id) (mode : Mode) : Type 0 where
+pub record HoldsLock (g0 : Graph) (a : Account) (n : ℕ) (id : Id) (mode : Mode) : Type 0 where
   pub session : ℕ
   pub transaction : Transaction
   pub active : a.active session ≡ Some transaction
@@ -64,7 +64,7 @@ Conflict mode other = modes_conflict mode other ≡ true
 pub record IsInTheWay (g0 : Graph) (a : Account) (n : ℕ) (lock : Lock) (other : ℕ) : Type 0 where
   pub differs : other ≢ n
   pub mode : Mode
-  pub holds : Holds g0 a other lock.0 mode
+  pub holds : HoldsLock g0 a other lock.0 mode
   pub conflicts : Conflict mode lock.1
 
 -- no other active transaction holds what conflicts with the lock of transaction n, if it needs one

@@ -11,7 +11,7 @@ use Rattle.graph_model.specs.declared.id.Id.{Id}
 use Rattle.graph_model.specs.declared.val.Val.{Val}
 use Rattle.graph_model.specs.Graph.{Graph}
 use Rattle.object_layout.specs.Layout.{field_words, stand, as_ref, value, IsSeenAs}
-use Rattle.graph_print.specs.Order.{with_places, targets, IsWhole, AreWhole, IsOrder, first, next, IsDamage, no_root, no_object}
+use Rattle.graph_print.specs.Order.{with_places, targets, IsWholeField, AreWhole, IsOrder, first, next, IsDamage, no_root, no_object}
 use Rattle.graph_print.proofs.OrderLaws.{order_met, met_get}
 
 -- the order is one at each count
@@ -74,7 +74,7 @@ some_place : (name : ℕ → Id) (o : Option ℕ) (v : Val) → option_and_then 
 some_place name None v is = cc
 some_place name (Some b) v is = refl
 
-value_whole : (name : ℕ → Id) (words : List ℕ) (meant : Option Word) (v : Val) → value name words meant ≡ Some v → IsWhole words meant
+value_whole : (name : ℕ → Id) (words : List ℕ) (meant : Option Word) (v : Val) → value name words meant ≡ Some v → IsWholeField words meant
 value_whole name words None v is = cc
 value_whole name words (Some word.Null) v is = tt
 value_whole name words (Some (word.Int n)) v is = tt
@@ -86,7 +86,7 @@ values_whole name words [] vs is i w here = cc
 values_whole name words (x ∷ ws) [] is i w here = cc
 values_whole name words (x ∷ ws) (v ∷ vs) is zero w here =
     let same : value name words (meaning x) ≡ Some v = cc in
-    subst (λ (y : ℕ). IsWhole words (meaning y)) (same_Some x w here) (value_whole name words (meaning x) v same)
+    subst (λ (y : ℕ). IsWholeField words (meaning y)) (same_Some x w here) (value_whole name words (meaning x) v same)
 values_whole name words (x ∷ ws) (v ∷ vs) is (suc i) w here =
     let rest : map (λ y. value name words (meaning y)) ws ≡ map Some vs = cc in values_whole name words ws vs rest i w here
 

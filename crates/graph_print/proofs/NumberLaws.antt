@@ -11,7 +11,7 @@ use Rattle.heap_words.specs.declared.Word.TheVariants as word
 use Rattle.heap_words.specs.Word.{meaning}
 use Rattle.graph_model.specs.Canon.{Object}
 use Rattle.object_layout.specs.Layout.{field_words, stand, referred}
-use Rattle.graph_print.specs.Order.{with_place, with_places, target, targets, IsOrder, first, next, number_of, shown_place, shown_word, row}
+use Rattle.graph_print.specs.Order.{with_place, with_places, target, targets, IsOrder, first, next, place_number, shown_place, shown_word, row}
 use Rattle.graph_print.proofs.Rows0.{rows}
 
 -- the place has a number
@@ -38,11 +38,11 @@ number_value p xs ys is =
     ap (λ t. unwrap_or (cond t (Some (position_or_len p (xs ++ ys))) None) 0) (lt-ltb (position_or_len p (xs ++ ys)) (length (xs ++ ys)) within) ∙ same.0
 
 -- a number stays when more places are numbered
-pub number_stays : (places more : List ℕ) (at : ℕ) → IsNumbered places at → number_of (places ++ more) at ≡ number_of places at
+pub number_stays : (places more : List ℕ) (at : ℕ) → IsNumbered places at → place_number (places ++ more) at ≡ place_number places at
 number_stays places more at is =
     number_value (nat_eq at) places more is
     ∙ sym (number_value (nat_eq at) places [] is)
-    ∙ ap (λ ps. number_of ps at) (append-nil places)
+    ∙ ap (λ ps. place_number ps at) (append-nil places)
 
 added_grows : (t : Bool) (places : List ℕ) (at : ℕ) → (more : List ℕ) × ((if t then places else places ++ at ∷ []) ≡ places ++ more)
 added_grows true places at = ([], sym (append-nil places))

@@ -14,7 +14,7 @@ use Rattle.std.proofs.lemmas.Map.Keys.{IsDistinct-push}
 use Rattle.std.proofs.lemmas.Map.Steps.{length-le_from_distinct_below}
 use Rattle.graph_print.proofs.NumberLaws.{same_place}
 use Rattle.graph_print.specs.Numbering.{IsNumbering}
-use Rattle.graph_print.specs.Order.{with_place, number_of}
+use Rattle.graph_print.specs.Order.{with_place, place_number}
 
 absent_place : (p : ℕ → Bool) (xs : List ℕ) → list_any p xs ≡ false → position_or_len p xs ≡ length xs
 absent_place p [] is = refl
@@ -120,14 +120,14 @@ pub few_places : (places : List ℕ) (numbers : ℕ → Option ℕ) → IsNumber
 few_places places numbers numbering = length-le_from_distinct_below places 4294967296 numbering.apart numbering.small
 
 -- a place that has a number is not numbered again
-pub place_stays : (places : List ℕ) (at n : ℕ) → position (nat_eq at) places ≡ Some n → (places ≡ with_place places (Some at)) × (n ≡ number_of places at)
+pub place_stays : (places : List ℕ) (at n : ℕ) → position (nat_eq at) places ≡ Some n → (places ≡ with_place places (Some at)) × (n ≡ place_number places at)
 place_stays places at n told = (
   ap (λ t. if t then places else places ++ at ∷ []) (sym (told_any (nat_eq at) places n told)),
   sym (ap (λ o. unwrap_or o 0) told),
 )
 
 -- a place that has none gets the next
-pub place_added : (places : List ℕ) (at : ℕ) → position (nat_eq at) places ≡ None → (places ++ at ∷ [] ≡ with_place places (Some at)) × (length places ≡ number_of (places ++ at ∷ []) at)
+pub place_added : (places : List ℕ) (at : ℕ) → position (nat_eq at) places ≡ None → (places ++ at ∷ [] ≡ with_place places (Some at)) × (length places ≡ place_number (places ++ at ∷ []) at)
 place_added places at told =
     let absent = none_any (nat_eq at) places told in (
       ap (λ t. if t then places else places ++ at ∷ []) (sym absent),

@@ -14,7 +14,7 @@ use Rattle.graph_model.specs.Canon.{canon}
 use Rattle.graph_model.specs.Text.{field_text, fields_text, rows_text, canon_text}
 use Rattle.object_layout.specs.Layout.{object_at, field_words, referred, IsMet, at_start, along, IsSeenAs}
 use Rattle.object_layout.proofs.LayoutLaws.{object_stand}
-use Rattle.graph_print.specs.Order.{with_place, with_places, target, targets, IsWhole, AreWhole, IsOrder, first, next, shown_word, row}
+use Rattle.graph_print.specs.Order.{with_place, with_places, target, targets, IsWholeField, AreWhole, IsOrder, first, next, shown_word, row}
 use Rattle.graph_print.proofs.Rows0.{rows}
 use Rattle.graph_print.proofs.OrderLaws.{order_met, met_get, order_canon}
 use Rattle.graph_print.proofs.NumberLaws.{places_grow, places_push, targets_numbered, row_push, rows_push, AreNumbered}
@@ -26,8 +26,8 @@ use Rattle.graph_print.specs.declared.print_error.PrintError.TheVariants.{Damage
 use Rattle.graph_print.specs.FromRead.{print_error}
 use Rattle.graph_print.specs.Printed.{IsFieldPrinted, AreFieldsPrinted}
 
-whole_push : (words ws : List ℕ) (w : ℕ) → AreWhole words ws → IsWhole words (meaning w) → AreWhole words (ws ++ w ∷ [])
-whole_push words [] w all whole zero v is = subst (λ (x : ℕ). IsWhole words (meaning x)) (same_Some w v is) whole
+whole_push : (words ws : List ℕ) (w : ℕ) → AreWhole words ws → IsWholeField words (meaning w) → AreWhole words (ws ++ w ∷ [])
+whole_push words [] w all whole zero v is = subst (λ (x : ℕ). IsWholeField words (meaning x)) (same_Some w v is) whole
 whole_push words [] w all whole (suc i) v is = cc
 whole_push words (x ∷ ws) w all whole zero v is = all zero v is
 whole_push words (x ∷ ws) w all whole (suc i) v is = whole_push words ws w (λ k. all (suc k)) whole i v is

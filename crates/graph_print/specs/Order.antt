@@ -26,15 +26,15 @@ abbrev pub targets : List ℕ → List ℕ → List (Option ℕ)
 targets words ws = map (target words) ws
 
 -- a field that is null, a number, or names an object
-abbrev pub IsWhole : List ℕ → Option Word → Type 0
-IsWhole words (Some Null) = Unit {0}
-IsWhole words (Some (Int n)) = Unit {0}
-IsWhole words (Some (Stable b)) = IsSome (stand words b)
-IsWhole words meant = ⊥
+abbrev pub IsWholeField : List ℕ → Option Word → Type 0
+IsWholeField words (Some Null) = Unit {0}
+IsWholeField words (Some (Int n)) = Unit {0}
+IsWholeField words (Some (Stable b)) = IsSome (stand words b)
+IsWholeField words meant = ⊥
 
 -- fields that are all so
 abbrev pub AreWhole : List ℕ → List ℕ → Type 0
-AreWhole words ws = (i w : ℕ) → slice_get ws i ≡ Some w → IsWhole words (meaning w)
+AreWhole words ws = (i w : ℕ) → slice_get ws i ≡ Some w → IsWholeField words (meaning w)
 
 -- The places that are numbered when the fields of so many of them were gone over, in the order of their numbers: the first is where an
 -- address leads, and each object gives a number to those that its fields refer to and that have none.
@@ -51,12 +51,12 @@ pub data IsDamage (words : List ℕ) (start : ℕ) : ℕ → Type 0 where
       → (AreWhole words (field_words words at) → ⊥) → IsDamage words start at
 
 -- the number of a place
-abbrev pub number_of : List ℕ → ℕ → ℕ
-number_of places at = unwrap_or (position (nat_eq at) places) 0
+abbrev pub place_number : List ℕ → ℕ → ℕ
+place_number places at = unwrap_or (position (nat_eq at) places) 0
 
 -- a reference as it is shown: by the number of the place where it leads
 abbrev pub shown_place : List ℕ → Option ℕ → Shown
-shown_place places (Some at) = Object (number_of places at)
+shown_place places (Some at) = Object (place_number places at)
 shown_place places None = Nothing
 
 -- a field as it is shown

@@ -2,11 +2,11 @@
 use Rattle.std.specs.Prelude.{◌≡◌, ℕ, List, ◌++◌}
 use Rattle.heap_words.specs.Word.{meaning}
 use Rattle.graph_model.specs.Text.{field_text, fields_text}
-use Rattle.graph_print.specs.Order.{with_place, with_places, target, targets, IsWhole, AreWhole, shown_word, row}
+use Rattle.graph_print.specs.Order.{with_place, with_places, target, targets, IsWholeField, AreWhole, shown_word, row}
 
 -- A field is printed: it names an object if it is a reference, which has a number then, and its text stands behind what was there.
 pub record IsFieldPrinted (words : List ℕ) (places after text printed : List ℕ) (w : ℕ) : Type 0 where
-  pub whole : IsWhole words (meaning w)
+  pub whole : IsWholeField words (meaning w)
   pub order : after ≡ with_place places (target words w)
   pub bytes : printed ≡ text ++ field_text (shown_word words after (meaning w))
 

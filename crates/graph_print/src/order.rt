@@ -1,6 +1,6 @@
 //! The numbers that places get.
 ghost use Rattle.std.specs.Prelude.{◌≡◌, ◌<◌, [], ◌∷◌, Some, length, slice_get, IfOk, IfSome, OnOk, OnErr};
-ghost use Rattle.graph_print.specs.Order.{with_place, number_of};
+ghost use Rattle.graph_print.specs.Order.{with_place, place_number};
 
 use std::alloc::{AllocError, Global};
 use std::collections::BTreeMap;
@@ -56,7 +56,7 @@ impl Order {
     /// The number of a place, a new one if it has none. It fails only where memory is lacking, and then nothing changes.
     pub(crate) fn number(&mut self, at: u32) -> Result<usize, AllocError>
         ensures placed { OnOk result (self.new ≡ with_place self.old (Some at)) }
-        ensures number { IfOk result (λ number. number ≡ number_of self.new at) }
+        ensures number { IfOk result (λ number. number ≡ place_number self.new at) }
         ensures err { OnErr result (self.new ≡ self.old) }
     {
         if let Some(number) = self.numbers.get(&at) {

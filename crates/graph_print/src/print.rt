@@ -8,7 +8,7 @@ ghost use Rattle.graph_model.specs.Text.{canon_text as text_of};
 ghost use Rattle.object_layout.specs.Layout.{object_at, field_words, stand as standing_at, IsSeenAs};
 ghost use Rattle.object_layout.specs.Read.{IsRead};
 ghost use Rattle.object_layout.specs.ReadFailure.{read_failure};
-ghost use Rattle.graph_print.specs.Order.{IsWhole, AreWhole, IsDamage};
+ghost use Rattle.graph_print.specs.Order.{IsWholeField, AreWhole, IsDamage};
 ghost use Rattle.graph_print.specs.Printed.{IsFieldPrinted, AreFieldsPrinted};
 ghost use Rattle.graph_print.specs.PrintFailure.{print_failure};
 
@@ -96,7 +96,7 @@ fn push_field<W: Words>(
     text: &mut String,
     word: u64,
 ) -> Result<bool, ReadError>
-    ensures printed { IsTrue W.tells → IfOk result (λ whole. MatchBool whole (IsFieldPrinted (W.content words.old) order.old order.new (string_bytes text.old) (string_bytes text.new) word) (IsWhole (W.content words.old) (meaning word) → ⊥)) }
+    ensures printed { IsTrue W.tells → IfOk result (λ whole. MatchBool whole (IsFieldPrinted (W.content words.old) order.old order.new (string_bytes text.old) (string_bytes text.new) word) (IsWholeField (W.content words.old) (meaning word) → ⊥)) }
     ensures read { IsRead W.tells W.extent W.content W.keeps W.faults W.stops words.old words.new (read_failure result) }
 {
     match decode(word) {

@@ -8,7 +8,7 @@ use Rattle.disk_model.specs.declared.disk.DiskError.{DiskError}
 use Rattle.disk_model.specs.Disk.{part, Only, SameOutside}
 use Rattle.disk_model.specs.Moments.{LeavesOnly}
 use Rattle.disk_model.proofs.MomentLaws.{weaker, joined}
-use Rattle.gate_slot.specs.Gate.{filled, IsClosed, SameButGate, IsFilling}
+use Rattle.gate_slot.specs.Gate.{filled, IsGateClosed, SameButGate, IsFilling}
 use Rattle.gate_slot.proofs.ImageLaws.{part_index}
 use Rattle.gate_slot.specs.Passing.{Passes}
 use Rattle.gate_slot.proofs.PassingLaws.{counted-add, joined as then_all, cut_short}
@@ -118,7 +118,7 @@ closing s old d c was is beside = elim (cases_eq (get_or c 0 0) 1) [
 ]
 
 -- while zeros are written behind the closed gate
-pub zeroing : (s : Super) (old d c : List ℕ) (end : ℕ) → IsClosed 0 d → SameOutside 64 end d c → IsFormatting s old c
+pub zeroing : (s : Super) (old d c : List ℕ) (end : ℕ) → IsGateClosed 0 d → SameOutside 64 end d c → IsFormatting s old c
 zeroing s old d c end shut outside = inl (λ is_open. shut (sym (outside.before 0 (omega arith)) ∙ is_open))
 
 -- while the superblock is filled in
@@ -134,7 +134,7 @@ module _ {D : Type 0} (moment : D → ℕ) (left_since : D → ℕ → List ℕ 
   run_then old mid new P first second = weaker moment left_since old new (λ c. P c ⊎ P c) P (joined moment left_since old mid new P P first second) (λ c. ⊎_elim (λ p. p) (λ p. p))
 
   -- while the old gate is closed, or left alone
-  pub closing_run : (disk new : D) (s : Super) (old : List ℕ) (may_leave : List ℕ → Type 0) → Only old may_leave → LeavesOnly moment left_since disk new (λ c. (d : List ℕ) × may_leave d × SameButGate 0 d c) → (IsClosed 0 old → LeavesOnly moment left_since disk new may_leave) → LeavesOnly moment left_since disk new (IsFormatting s old)
+  pub closing_run : (disk new : D) (s : Super) (old : List ℕ) (may_leave : List ℕ → Type 0) → Only old may_leave → LeavesOnly moment left_since disk new (λ c. (d : List ℕ) × may_leave d × SameButGate 0 d c) → (IsGateClosed 0 old → LeavesOnly moment left_since disk new may_leave) → LeavesOnly moment left_since disk new (IsFormatting s old)
   closing_run disk new s old may_leave only run alone = elim (cases_eq (get_or old 0 0) 1) [
     | inl is_open ↦ weaker moment left_since disk new _ (IsFormatting s old) run (λ c left. closing s old left.0 c is_open (only left.0 left.1) left.2)
     | inr shut ↦ weaker moment left_since disk new may_leave (IsFormatting s old) (alone shut) (λ c left. inr (inl (only c left)))

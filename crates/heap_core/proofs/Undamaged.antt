@@ -11,7 +11,7 @@ use Rattle.heap_words.specs.declared.Word.{Word}
 use Rattle.heap_words.specs.declared.Word.TheVariants as word
 use Rattle.heap_words.specs.Word.{meaning}
 use Rattle.object_layout.specs.Layout.{field_words, stand, as_ref, value, IsSeenAs}
-use Rattle.graph_print.specs.Order.{IsWhole, AreWhole, IsDamage, no_root, no_object}
+use Rattle.graph_print.specs.Order.{IsWholeField, AreWhole, IsDamage, no_root, no_object}
 use Rattle.graph_print.proofs.OrderLaws.{met_get, order_met}
 
 some_of : {A B : Type 0} (f : A → Option B) (o : Option A) (v : B) → option_and_then f o ≡ Some v → IsSome o
@@ -19,7 +19,7 @@ some_of f None v e = cc e
 some_of f (Some x) v e = refl
 
 -- a field that has a value is whole
-value_whole : (name : ℕ → Id) (words : List ℕ) (meant : Option Word) (v : Val) → value name words meant ≡ Some v → IsWhole words meant
+value_whole : (name : ℕ → Id) (words : List ℕ) (meant : Option Word) (v : Val) → value name words meant ≡ Some v → IsWholeField words meant
 value_whole name words None v e = cc e
 value_whole name words (Some word.Null) v e = tt
 value_whole name words (Some (word.Int n)) v e = tt
@@ -32,7 +32,7 @@ are_whole name words (x ∷ xs) [] e i w here = cc e
 are_whole name words (x ∷ xs) (f ∷ fs) e zero w here =
     let first : value name words (meaning x) ≡ Some f = cc e in
     let same : x ≡ w = cc here in
-    subst (λ (k : ℕ). IsWhole words (meaning k)) same (value_whole name words (meaning x) f first)
+    subst (λ (k : ℕ). IsWholeField words (meaning k)) same (value_whole name words (meaning x) f first)
 are_whole name words (x ∷ xs) (f ∷ fs) e (suc i) w here =
     let rest : map (λ w. value name words (meaning w)) xs ≡ map Some fs = cc e in
     are_whole name words xs fs rest i w here

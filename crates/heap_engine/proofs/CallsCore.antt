@@ -16,7 +16,8 @@ use Rattle.heap_memory.specs.Memory.{Memory, own, root_place}
 use Rattle.heap_memory.specs.Refusals.{begin_refusal, handle_refusal, new_refusal, put_refusal, clear_refusal, link_refusal, get_refusal, same_refusal, len_refusal, seal_refusal, end_refusal}
 use Rattle.heap_memory.specs.Replies.{get_reply, same_reply, len_reply, IsGranted}
 use Rattle.heap_model.specs.Core.{Core}
-use Rattle.memory_laws.specs.CoreMemory.{IsMemory, Does}
+use Rattle.memory_laws.specs.CoreMemory.{IsMemory}
+use Rattle.memory_laws.proofs.Does.{Does}
 use Rattle.memory_laws.proofs.Refusal.Ends.{begin_refused, seal_refused, abort_refused}
 use Rattle.memory_laws.proofs.Refusal.Handles.{root_refused, drop_refused, new_refused, get_refused, same_refused, len_refused}
 use Rattle.memory_laws.proofs.Refusal.Writes.{put_refused, clear_refused, link_refused}

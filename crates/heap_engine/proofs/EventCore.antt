@@ -29,7 +29,8 @@ use Rattle.heap_model.proofs.Run.Calls.{same_step}
 use Rattle.heap_model.specs.Image.{Holds}
 use Rattle.heap_memory.specs.Leaves.{IsAsItWas}
 use Rattle.heap_memory.specs.Memory.{Memory}
-use Rattle.memory_laws.specs.CoreMemory.{IsMemory, Does}
+use Rattle.memory_laws.specs.CoreMemory.{IsMemory}
+use Rattle.memory_laws.proofs.Does.{Does}
 use Rattle.memory_laws.proofs.Step.Answered.{as_it_was}
 use Rattle.heap_engine.specs.declared.engine.Engine.{Engine}
 use Rattle.heap_engine.specs.declared.step_error.StepError.{StepError}
@@ -208,7 +209,7 @@ module _ {D : Type 0} (g : Ghosts D) where
             let later = valid_after c event valid reached.locked one in (
               done.replied,
               engine_after c event reply new disk later done
-              (λ told. let known = is.pages told in knows_after c event (memory old) (memory new) (g.bytes disk) (g.bytes disk) (quiet_flush event other) leaves.store known.frames (λ p. refl) known),
+                  (λ told. let known = is.pages told in knows_after c event (memory old) (memory new) (g.bytes disk) (g.bytes disk) (quiet_flush event other) leaves.store known.frames (λ p. refl) known),
             );
         still = λ c is reached none. refl;
         untouched = λ never. refl;

@@ -18,7 +18,8 @@ use Rattle.heap_memory.specs.Memory.{Memory}
 use Rattle.heap_model.specs.CoreCrash.{IsCommitPrefix}
 use Rattle.heap_model.specs.Core.{Core, core_refusal, answer, with_entry, is_dirty, is_ahead, page_stored, flushed, force_calls, store_calls, calls_if, calls, after_refusal, after}
 use Rattle.memory_laws.proofs.Step.Answered.{as_it_was}
-use Rattle.memory_laws.specs.CoreMemory.{IsMemory, Does}
+use Rattle.memory_laws.specs.CoreMemory.{IsMemory}
+use Rattle.memory_laws.proofs.Does.{Does}
 use Rattle.heap_engine.specs.Refinement.{OnDisk, KnowsPages, Steps, StepsOn}
 use Rattle.heap_engine.proofs.StoreCore.{ready, some_store}
 use Rattle.heap_engine.proofs.DeviceCalls.{stays, none_pass}

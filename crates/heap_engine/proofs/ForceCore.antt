@@ -34,7 +34,8 @@ use Rattle.heap_model.proofs.Opening.Held.{held_with}
 use Rattle.heap_engine.specs.Refinement.{OnDisk, KnowsPages, WasCutShort}
 use Rattle.memory_laws.proofs.Kept.Log.{keeps_same}
 use Rattle.heap_memory.specs.Memory.{Memory}
-use Rattle.memory_laws.specs.CoreMemory.{IsMemory, Does}
+use Rattle.memory_laws.specs.CoreMemory.{IsMemory}
+use Rattle.memory_laws.proofs.Does.{Does}
 use Rattle.memory_laws.proofs.Step.Answered.{does, memory_told}
 use Rattle.memory_laws.proofs.Step.Disk.{HasSameWork, forced_memory}
 use Rattle.heap_engine.specs.declared.engine.Engine.{Engine}

@@ -15,7 +15,7 @@ use Rattle.heap_memory.specs.Memory.{kept_for_end, reserved}
 use Rattle.heap_memory.specs.Refusals.{handle_refusal}
 use Rattle.heap_memory.specs.Leaves.{with_handle}
 use Rattle.volatile_area.specs.Area.{AreaState}
-use Rattle.heap_engine.specs.Reserve.{active_count, one_if, WroteBelow, can_refer, IsSound, AreSound, undo_if}
+use Rattle.heap_engine.specs.Reserve.{active_count, one_if, WroteBelow, can_refer, IsSoundTransaction, AreSound, undo_if}
 use Rattle.heap_engine.proofs.ReserveLaws.{total_none, reserved_begun, reserved_ended, reserved_more, count_begun, count_ended, count_same}
 
 -- the transaction that there is
@@ -91,7 +91,7 @@ sound_same table other size long bytes now sealed sound is as_long as_many =
     subst (λ (x : TableState). AreSound x long now sealed) (sym is) (subst (λ n. AreSound table n now sealed) (sym as_long) (subst (λ n. AreSound table size n sealed) (sym as_many) sound))
 
 -- of those where one began
-new_sound : (size next s : ℕ) → IsSession s → IsSound size (next + 1) s (new_transaction next)
+new_sound : (size next s : ℕ) → IsSession s → IsSoundTransaction size (next + 1) s (new_transaction next)
 new_sound size next s session = record {
   session = session;
   number = omega arith;
@@ -100,7 +100,7 @@ new_sound size next s session = record {
 }
 
 -- a later number is next
-still_sound : (size next s : ℕ) (t : TransactionState) → IsSound size next s t → IsSound size (next + 1) s t
+still_sound : (size next s : ℕ) (t : TransactionState) → IsSoundTransaction size next s t → IsSoundTransaction size (next + 1) s t
 still_sound size next s t sound = record { session = sound.session; number = omega (arith, sound.number); inside = sound.inside; held = sound.held }
 
 pub sound_begun : (table : TableState) (size bytes sealed s : ℕ) → AreSound table size bytes sealed → IsSession s → transaction_of table s ≡ None → table.next + 1 < 2 ^ 32
@@ -109,8 +109,8 @@ sound_begun table size bytes sealed s sound session idle small = record {
   each = λ q t has. elim (cases_eq q s) [
     | inl here ↦
         let own : Some (new_transaction table.next) ≡ Some t = sym (ap (transaction_of (with_begun table s)) here ∙ with_begun_same table s) ∙ has in
-        let new = subst (λ (u : TransactionState). IsSound size (table.next + 1) s u) (same_Some _ _ own) (new_sound size table.next s session) in
-        subst (λ (n : ℕ). IsSound size (table.next + 1) n t) (sym here) new
+        let new = subst (λ (u : TransactionState). IsSoundTransaction size (table.next + 1) s u) (same_Some _ _ own) (new_sound size table.next s session) in
+        subst (λ (n : ℕ). IsSoundTransaction size (table.next + 1) n t) (sym here) new
     | inr other ↦ still_sound size table.next q t (sound.each q t (sym (with_begun_other table s q other) ∙ has))
   ];
   kept = ap (λ n. n + end_bytes 0) sound.kept ∙ sym (reserved_begun table s session idle);
@@ -119,7 +119,7 @@ sound_begun table size bytes sealed s sound session idle small = record {
 }
 
 -- where one was changed
-pub sound_with : (table : TableState) (size bytes now sealed s more : ℕ) (t u : TransactionState) → AreSound table size bytes sealed → transaction_of table s ≡ Some t → IsSound size table.next s u
+pub sound_with : (table : TableState) (size bytes now sealed s more : ℕ) (t u : TransactionState) → AreSound table size bytes sealed → transaction_of table s ≡ Some t → IsSoundTransaction size table.next s u
     → length u.undo ≡ length t.undo + more → now ≡ bytes + 19 * more → AreSound (with_transaction table s u) size now sealed
 sound_with table size bytes now sealed s more t u sound has own long kept =
     let session = (sound.each s t has).session in
@@ -127,8 +127,8 @@ sound_with table size bytes now sealed s more t u sound has own long kept =
       each = λ q v is. elim (cases_eq q s) [
         | inl here ↦
             let is_u : Some u ≡ Some v = sym (ap (transaction_of (with_transaction table s u)) here ∙ with_transaction_same table s u) ∙ is in
-            let new = subst (λ (w : TransactionState). IsSound size table.next s w) (same_Some _ _ is_u) own in
-            subst (λ (n : ℕ). IsSound size table.next n v) (sym here) new
+            let new = subst (λ (w : TransactionState). IsSoundTransaction size table.next s w) (same_Some _ _ is_u) own in
+            subst (λ (n : ℕ). IsSoundTransaction size table.next n v) (sym here) new
         | inr other ↦ sound.each q v (sym (with_transaction_other table s u q other) ∙ is)
       ];
       kept = omega (arith, kept, sound.kept, reserved_more table s t u more session has long);
@@ -138,7 +138,7 @@ sound_with table size bytes now sealed s more t u sound has own long kept =
 
 -- by a change that leaves its number
 pub sound_changed : (old new : TableState) (size bytes now sealed s more : ℕ) (change : TransactionState → TransactionState) → AreSound old size bytes sealed → IsSome (transaction_of old s)
-    → Changes old new s change → ((t : TransactionState) → transaction_of old s ≡ Some t → IsSound size old.next s t → IsSound size old.next s (change t))
+    → Changes old new s change → ((t : TransactionState) → transaction_of old s ≡ Some t → IsSoundTransaction size old.next s t → IsSoundTransaction size old.next s (change t))
     → ((t : TransactionState) → length (change t).undo ≡ length t.undo + more) → now ≡ bytes + 19 * more → AreSound new size now sealed
 sound_changed old new size bytes now sealed s more change sound some changed own long kept =
     let d = turned old new s change some changed in

@@ -37,7 +37,7 @@ abbrev pub HoldPlaces : List (Option Place) → Type 0
 HoldPlaces handles = AllPass can_refer handles
 
 -- What is known of the transaction of a session, where there are so many words, and this is the next transaction's number.
-pub record IsSound (size next s : ℕ) (t : TransactionState) : Type 0 where
+pub record IsSoundTransaction (size next s : ℕ) (t : TransactionState) : Type 0 where
   pub session : IsSession s
   pub number : t.number < next
   pub inside : WroteBelow size t.undo  -- what it wrote lies in the words
@@ -45,7 +45,7 @@ pub record IsSound (size next s : ℕ) (t : TransactionState) : Type 0 where
 
 -- What is known of all of them, where so many bytes are kept for their ends, and so many were sealed.
 pub record AreSound (table : TableState) (size bytes sealed : ℕ) : Type 0 where
-  pub each : (s : ℕ) (t : TransactionState) → transaction_of table s ≡ Some t → IsSound size table.next s t
+  pub each : (s : ℕ) (t : TransactionState) → transaction_of table s ≡ Some t → IsSoundTransaction size table.next s t
   pub kept : bytes ≡ reserved table
   pub counted : sealed + active_count table < table.next
   pub numbered : table.next < 2 ^ 32

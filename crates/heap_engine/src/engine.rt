@@ -63,13 +63,7 @@ impl Engine {
     ghost use Rattle.heap_engine.specs.Refinement.{Steps, StepsOn};
 
     /// The engine of a heap that was just opened: no session has a transaction. It takes no memory.
-    pub fn new(
-        alloc: Global,
-        log: Log,
-        cache: PageCache,
-        spaces: Spaces,
-        table: TxnTable,
-    ) -> Engine
+    pub fn new(alloc: Global, log: Log, cache: PageCache, spaces: Spaces, table: TxnTable) -> Engine
         requires number { 1 ≤ table.next }
         requires idle { table ≡ new_table table.next }
         requires sized { length (cached cache).words ≡ words_in spaces.pages }

@@ -8,10 +8,10 @@ ghost use Rattle.page_cache.specs.CacheState.{cached};
 ghost use Rattle.heap_memory.specs.Memory.{own, own_fields, place_word, fields_at as words_at};
 ghost use Rattle.heap_engine.specs.Reserve.{can_refer};
 
+use crate::engine::{Engine, refused};
 use crate::locking::{keep_write, lock_of, lock_refusal};
 use crate::log_room::{UNDO_BYTES, log_refusal, need_of};
 use crate::logging::carry_out;
-use crate::engine::{Engine, refused};
 use graph_model::{Refusal, Reply};
 use heap_words::{Header, NO_INT, Word, decode, encode, header_of};
 use log_machine::UndoEntry;
@@ -75,7 +75,13 @@ impl Engine {
     }
 
     /// Lets field `i` of the object that handle `h` holds refer to the object that `h2` holds. It locks the first as `put` does.
-    pub(crate) fn link(&mut self, session: u32, h: u64, i: u64, h2: u64) -> Result<Reply, AllocError>
+    pub(crate) fn link(
+        &mut self,
+        session: u32,
+        h: u64,
+        i: u64,
+        h2: u64,
+    ) -> Result<Reply, AllocError>
         ensures reply { IfOk result (λ reply. reply ≡ reply_of (link_refusal (memory self.old) session h i h2) Done) }
         ensures done { result ≡ Ok Done → Links (memory self.old) (memory self.new) session h i h2 }
         ensures refused { (why : _) → result ≡ Ok (Reply.Refused why) → IsAsItWas (memory self.old) (memory self.new) }
@@ -138,13 +144,7 @@ impl Engine {
     }
 
     /// Puts a word into a field of the object at a place.
-    fn write(
-        &mut self,
-        session: u32,
-        place: Place,
-        i: u64,
-        word: Word,
-    ) -> Result<Reply, AllocError>
+    fn write(&mut self, session: u32, place: Place, i: u64, word: Word) -> Result<Reply, AllocError>
         requires active { IsSome (own (memory self.old) session) }
         requires meant { IsWord word }
         ensures reply { IfOk result (λ reply. reply ≡ reply_of (write_refusal (memory self.old) session place i) Done) }

@@ -4,7 +4,7 @@ ghost use Rattle.std.specs.Prelude.{◌≡◌, ◌∷◌, Ok, None, Some, OnOk, 
 ghost use Rattle.std.specs.FinSet as set;
 ghost use Rattle.graph_model.specs.Plain.{busy_with};
 ghost use Rattle.object_locks.specs.declared.holding.Mode.TheVariants.{Shared};
-ghost use Rattle.object_locks.specs.Holdings.{IsFree};
+ghost use Rattle.object_locks.specs.Holdings.{MayHold};
 ghost use Rattle.txn_table.specs.Table.{transaction_of, Changes};
 ghost use Rattle.heap_memory.specs.Memory.{own};
 ghost use Rattle.heap_memory.specs.Refusals.{holder_of, asked};
@@ -39,7 +39,7 @@ pub(crate) fn lock_of(t: u32, mode: Mode, at: u32) -> Holding
 /// Why a lock can't be taken: others hold the object.
 pub(crate) fn lock_refusal(locks: &LockTable, lock: Holding) -> Option<Refusal>
     ensures why { result ≡ busy_with (holder_of locks.now lock) }
-    ensures free { result ≡ None → IsFree locks.now lock }
+    ensures free { result ≡ None → MayHold locks.now lock }
 {
     let holder = locks.conflict(lock)?;
     Some(busy(holder))
@@ -69,7 +69,7 @@ pub(crate) fn keep_write(
     lock: Holding,
 ) -> Result<(), AllocError>
     requires active { IsSome (transaction_of table.old session) }
-    requires free { IsFree locks.old lock }
+    requires free { MayHold locks.old lock }
     ensures kept { OnOk result (Changes table.old table.new session (λ t. record t { undo = entry ∷ t.undo })) }
     ensures locked { OnOk result (locks.new ≡ set.insert locks.old lock) }
     ensures err { OnErr result ((table.new ≡ table.old) × (locks.new ≡ locks.old)) }

@@ -83,11 +83,7 @@ impl Engine {
     }
 
     /// The records of the seal of the transaction, which promotes this.
-    fn seal_records(
-        &self,
-        session: u32,
-        sealing: &Sealing,
-    ) -> Result<Vec<Record>, AllocError>
+    fn seal_records(&self, session: u32, sealing: &Sealing) -> Result<Vec<Record>, AllocError>
         requires active { IsSome (own (memory self.now) session) }
         requires found { IfSome (own (memory self.now) session) (λ t. IsFound (memory self.now) t sealing.now) }
         requires room { sealing.now.need ≤ open_words self.now.spaces }

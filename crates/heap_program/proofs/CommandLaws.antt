@@ -20,7 +20,7 @@ use Rattle.heap_core.specs.declared.errors.FormatError.{FormatError}
 use Rattle.heap_core.specs.declared.errors.FormatError.TheVariants as format
 use Rattle.command_words.specs.declared.commands.Numbers.{Numbers}
 use Rattle.heap_program.specs.Commands.{makes, IsEndOf, PrintsGraph}
-use Rattle.heap_program.specs.Headline.{IsEndOfPlay, IsSound, graph_text, starts_asked, restarts_asked}
+use Rattle.heap_program.specs.Headline.{IsEndOfPlay, BlamesNoImage, graph_text, starts_asked, restarts_asked}
 use Rattle.heap_program.specs.Refusals.{IsToldOfEach}
 use Rattle.heap_program.specs.StatusOf.{command_status, format_status}
 use Rattle.heap_program.proofs.Written.{none_written}
@@ -72,7 +72,7 @@ format_told_each n status.NotHeap may_leave end image may = absurd end
 format_told_each n (status.Damaged at) may_leave end image may = absurd end
 format_told_each n (status.TooSmall size need) may_leave end image may = tt
 
-pub format_sound : (n : Numbers) (s : Status) → IsEndOf (asked.Format n) s → IsSound s
+pub format_sound : (n : Numbers) (s : Status) → IsEndOf (asked.Format n) s → BlamesNoImage s
 format_sound n status.Done end = tt
 format_sound n status.NoMemory end = tt
 format_sound n status.Usage end = absurd end

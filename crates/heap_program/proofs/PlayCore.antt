@@ -24,7 +24,7 @@ use Rattle.heap_model.specs.CoreRuns.{after_events}
 use Rattle.heap_core.specs.Refinement.{IsCore}
 use Rattle.heap_program.proofs.CoreSteps.{ready_behind, ready_front}
 use Rattle.heap_program.proofs.Ready.{AreReady}
-use Rattle.heap_program.specs.Play.{IsWhole, IsCutBy, EndsAs, PlaysCore, Wrote, WroteFront, WroteLines, ended_by, lines_text}
+use Rattle.heap_program.specs.Play.{MadeAll, IsCutBy, EndsAs, PlaysCore, Wrote, WroteFront, WroteLines, ended_by, lines_text}
 use Rattle.heap_program.specs.StatusOf.{write_halt}
 use Rattle.heap_program.proofs.PlayEvent.{whole_reply}
 use Rattle.heap_program.proofs.PlayLoop.{events_next, events_parts}
@@ -36,8 +36,8 @@ ends_on c made behind more d (Err halt.DiskFault) early ends = ends
 ends_on c made behind more d (Err halt.NoMemory) early ends = ends
 ends_on c made behind more d (Err halt.WriteFault) early ends = ends
 
-module _ (c m : Core) (events : List Event) (first : IsWhole c events m) where
-  whole_then : (made : List Event) (d : Core) → IsWhole m made d → IsWhole c (events ++ made) d
+module _ (c m : Core) (events : List Event) (first : MadeAll c events m) where
+  whole_then : (made : List Event) (d : Core) → MadeAll m made d → MadeAll c (events ++ made) d
   whole_then made d second = second ∙ ap (λ (x : Core). after_events x made) first ∙ sym (after_events-append c events made)
 
   cut_then : (made : List Event) (d : Core) (reply : Reply) → IsCutBy reply m made d → IsCutBy reply c (events ++ made) d
@@ -57,12 +57,12 @@ module _ (c m : Core) (events : List Event) (first : IsWhole c events m) where
   ends_then made behind d (Err halt.DiskFault) ends = cut_then made d (Refused DiskFault) ends
   ends_then made behind d (Err halt.NoMemory) ends = either_then made d ends
     where
-      either_then : (made : List Event) (d : Core) → IsWhole m made d ⊎ ((reply : Reply) × IsCutBy reply m made d) → IsWhole c (events ++ made) d ⊎ ((reply : Reply) × IsCutBy reply c (events ++ made) d)
+      either_then : (made : List Event) (d : Core) → MadeAll m made d ⊎ ((reply : Reply) × IsCutBy reply m made d) → MadeAll c (events ++ made) d ⊎ ((reply : Reply) × IsCutBy reply c (events ++ made) d)
       either_then made d (inl whole) = inl (whole_then made d whole)
       either_then made d (inr cut) = inr (cut.0, cut_then made d cut.0 cut.1)
   ends_then made behind d (Err halt.WriteFault) ends = either_too made d ends
     where
-      either_too : (made : List Event) (d : Core) → IsWhole m made d ⊎ ((reply : Reply) × IsCutBy reply m made d) → IsWhole c (events ++ made) d ⊎ ((reply : Reply) × IsCutBy reply c (events ++ made) d)
+      either_too : (made : List Event) (d : Core) → MadeAll m made d ⊎ ((reply : Reply) × IsCutBy reply m made d) → MadeAll c (events ++ made) d ⊎ ((reply : Reply) × IsCutBy reply c (events ++ made) d)
       either_too made d (inl whole) = inl (whole_then made d whole)
       either_too made d (inr cut) = inr (cut.0, cut_then made d cut.0 cut.1)
 
@@ -88,7 +88,7 @@ module _ {D : Type 0} {g : Ghosts D} where
   core_then c events more mid new told before between after result ready first rest =
       let m = first.core in
       let same : events ≡ first.made = first.parts ∙ ap (λ (l : List Event). first.made ++ l) first.ends.0 ∙ append-nil first.made in
-      let whole : IsWhole c events m = subst (λ (l : List Event). IsWhole c l m) (sym same) first.ends.1 in
+      let whole : MadeAll c events m = subst (λ (l : List Event). MadeAll c l m) (sym same) first.ends.1 in
       let run : IsRun c events m = subst (λ (l : List Event). IsRun c l m) (sym same) first.run in
       let ready_mid = subst (λ (x : Core). AreReady x more) (sym whole) (ready_behind c events more ready) in
       let second = rest m whole first.is ready_mid in
@@ -140,7 +140,7 @@ module _ {D : Type 0} {g : Ghosts D} where
         (λ (cut : IsCutShort c event reply × (d ≡ with_entry c event reply)). told_ends reply cut.0.told (cut_one cut.0 cut.1))
         step
 
-    one_made : IsWhole c one d ⊎ ((r : Reply) × IsCutBy r c one d)
+    one_made : MadeAll c one d ⊎ ((r : Reply) × IsCutBy r c one d)
     one_made = ⊎_elim
         (λ (whole : (reply ≡ answer c event) × (d ≡ after c event)). inl whole.1)
         (λ (cut : IsCutShort c event reply × (d ≡ with_entry c event reply)). inr (reply, cut_one cut.0 cut.1))

@@ -41,7 +41,7 @@ use Rattle.command_words.specs.declared.commands.Stop.{Stop}
 use Rattle.heap_program.specs.Headline.{lasting, graph_text, end_text, stop_after, let_through, HasMade, StopsLast, IsExact, IsEndOfPlay, IsOfDisk, MakesEvents, KeepsThroughout, IsFollowed, Reopens, StartsAgain, EndsUnopened, Prints, IsPlayed}
 use Rattle.heap_program.proofs.Playable.{IsPlayable}
 use Rattle.heap_program.specs.Output.{WroteText, Recovers, WroteRecovered, WroteNothing, status_after}
-use Rattle.heap_program.specs.Play.{IsRunning, IsWhole, IsCutBy, MakesAll, MakesShort, Makes, Ends, Plays, Wrote, lines_text, WroteFront, WroteLines}
+use Rattle.heap_program.specs.Play.{IsRunning, MadeAll, IsCutBy, MakesAll, MakesShort, Makes, Ends, Plays, Wrote, lines_text, WroteFront, WroteLines}
 use Rattle.heap_program.proofs.Ready.{AreReady}
 use Rattle.heap_program.specs.StatusOf.{halt_status}
 use Rattle.heap_program.proofs.Causes.{disk_rose}
@@ -123,7 +123,7 @@ module _ {D : Type 0} {g : Ghosts D} (s : Super) (c : Core) (running : IsRunning
   pub stopped_lines : (result ≡ Ok tt) ⊎ (result ≡ Err halt.Stopped) → IsTrue told → after ≡ before ++ lines_text core.history
   stopped_lines ended t = lines.stopped_lines core.history before after result ended (lines_wrote result refl t)
 
-  pub last_made : IsWhole c made core ⊎ ((reply : Reply) × IsCutBy reply c made core)
+  pub last_made : MadeAll c made core ⊎ ((reply : Reply) × IsCutBy reply c made core)
   last_made = ⊎_elim
       (λ (all : MakesAll c made core old new). inl all.reached)
       (λ (some : (reply : Reply) × MakesShort c made core old new reply).
@@ -181,7 +181,7 @@ module _ {D : Type 0} {g : Ghosts D} (s : Super) (c : Core) (running : IsRunning
     }
 
   -- The graph of all commits was to be written.
-  pub ends_whole : {B : Type 0} (h : Ghosts B) (start final : B) (at_opening : ℕ) (keeps : KeepsThroughout h None at_opening c made core start final) (output : Result (Unit {0}) WriteError) (after' : List ℕ) → plays.behind ≡ [] → IsWhole c made core
+  pub ends_whole : {B : Type 0} (h : Ghosts B) (start final : B) (at_opening : ℕ) (keeps : KeepsThroughout h None at_opening c made core start final) (output : Result (Unit {0}) WriteError) (after' : List ℕ) → plays.behind ≡ [] → MadeAll c made core
       → (IsTrue told → after ≡ before ++ lines_text core.history) → (IsTrue told → WroteText output after (graph_text (serial core.g0 (sealed core.history))) after') → final ≡ keeps.stopped
       → h.passed keeps.stopped ≡ counted (at_opening + total_calls c made) (h.passed start) → Only (h.bytes final) (h.may_leave final) → IsPlayed h None at_opening c events start final (status_after output) told before after'
   ends_whole h start final at_opening keeps output after' nothing reached out wrote same calls last =
@@ -245,7 +245,7 @@ module _ {D : Type 0} {g : Ghosts D} (s : Super) (c : Core) (running : IsRunning
       -- it went on, so the disk had not failed
       went_on : HasMade (Some stop.after) c made plays.behind core → IsCutBy (Refused DiskFault) c made core → ⊥
       went_on has cut = ⊎_elim
-          (λ (whole : (plays.behind ≡ []) × IsWhole c made core). fault_not_whole c core made cut whole.1)
+          (λ (whole : (plays.behind ≡ []) × MadeAll c made core). fault_not_whole c core made cut whole.1)
           (λ (stopped : IsCutBy (Refused Stopped) c made core). fault_not_stopped c core made cut stopped)
           has
 
@@ -296,7 +296,7 @@ module _ {D : Type 0} {g : Ghosts D} (s : Super) (c : Core) (running : IsRunning
         (λ (is : reply ≡ Refused Stopped). disk_rose _ _ _ _ (reply_device reply) device.Stopped short.cause (ap reply_device is))
         short.cut.told
 
-    pub exact_none : IsWhole c made core
+    pub exact_none : MadeAll c made core
     exact_none = ⊎_elim
         (λ (all : MakesAll c made core old new). all.reached)
         (λ (some : (reply : Reply) × MakesShort c made core old new reply). absurd (unharmed (short_harm some.0 some.1)))

@@ -11,7 +11,7 @@ use Rattle.heap_model.specs.Core.{Core, answer, after}
 use Rattle.heap_model.proofs.Step.Calls.{after_events-append}
 use Rattle.heap_model.proofs.Run.Calls.{step_history}
 use Rattle.heap_model.specs.CoreRuns.{after_events}
-use Rattle.heap_program.specs.Play.{IsWhole, IsCutBy}
+use Rattle.heap_program.specs.Play.{MadeAll, IsCutBy}
 use Rattle.heap_program.proofs.PlayEvent.{answer_sound}
 
 -- Histories that are the same have the same last entry.
@@ -43,7 +43,7 @@ module _ (c d : Core) (made : List Event) (cut : IsCutBy (Refused DiskFault) c m
   fault_history = step_history before d cut.event (Refused DiskFault) (inr (cut.cut, cut.reached))
 
   -- then the disk did not do what it was asked in all events
-  pub fault_not_whole : IsWhole c made d → ⊥
+  pub fault_not_whole : MadeAll c made d → ⊥
   fault_not_whole whole =
       let reached : d ≡ after before cut.event = whole ∙ ap (λ (l : List Event). after_events c l) cut.parts ∙ after_events-append c cut.before (cut.event ∷ []) in
       let entry : Entry = record { event = cut.event; reply = answer before cut.event } in

@@ -30,9 +30,9 @@ use Rattle.heap_program.specs.declared.play.Halt.TheVariants as halt
 use Rattle.heap_program.specs.declared.status.Status.{Status}
 use Rattle.heap_program.specs.declared.status.Status.TheVariants as status
 use Rattle.heap_program.proofs.CoreSteps.{made_limits, all_playable}
-use Rattle.heap_program.specs.Headline.{made_super, made_core, graph_text, end_text, recovered_line, HasMade, HasFailed, IsOfDisk, PrintsRun, PrintsSome, Writes}
+use Rattle.heap_program.specs.Headline.{made_super, made_core, graph_text, end_text, recovered_line, HasMade, EndsByDisk, IsOfDisk, PrintsRun, PrintsSome, Writes}
 use Rattle.heap_program.specs.Output.{WroteText, WroteGraph, WroteAgain, status_after}
-use Rattle.heap_program.specs.Play.{EndsAs, IsCutBy, IsWhole, PlaysCore, Wrote, WroteFront, lines_text}
+use Rattle.heap_program.specs.Play.{EndsAs, IsCutBy, MadeAll, PlaysCore, Wrote, WroteFront, lines_text}
 use Rattle.heap_program.specs.Playable.{IsScript}
 use Rattle.heap_program.specs.StatusOf.{halt_status}
 use Rattle.heap_program.proofs.Lines.{halt_part, halt_lines, stopped_lines, some_writes, all_writes, lines_more}
@@ -74,7 +74,7 @@ prints_unplayed n script by before after (inr again) =
     })
 
 -- A play that the disk ended was cut short in its last event.
-halt_failed : (stop : Option ℕ) (c : Core) (made behind : List Event) (d : Core) (h : Halt) → EndsAs c made behind d (Err h) → IsOfDisk (halt_status h) → HasFailed stop (halt_status h) c made behind d
+halt_failed : (stop : Option ℕ) (c : Core) (made behind : List Event) (d : Core) (h : Halt) → EndsAs c made behind d (Err h) → IsOfDisk (halt_status h) → EndsByDisk stop (halt_status h) c made behind d
 halt_failed stop c made behind d halt.NoMemory ends is = absurd is
 halt_failed stop c made behind d halt.WriteFault ends is = absurd is
 halt_failed None c made behind d halt.DiskFault ends is = (refl, inl ends)
@@ -83,7 +83,7 @@ halt_failed (Some n) c made behind d halt.DiskFault ends is = inl (refl, ends)
 halt_failed (Some n) c made behind d halt.Stopped ends is = inr (inl (inr ends))
 
 -- Only the last event of a play may have been cut short.
-last_event : (c : Core) (made behind : List Event) (d : Core) (result : Result (Unit {0}) Halt) → EndsAs c made behind d result → IsWhole c made d ⊎ ((reply : Reply) × IsCutBy reply c made d)
+last_event : (c : Core) (made behind : List Event) (d : Core) (result : Result (Unit {0}) Halt) → EndsAs c made behind d result → MadeAll c made d ⊎ ((reply : Reply) × IsCutBy reply c made d)
 last_event c made behind d (Ok done) ends = inl ends.1
 last_event c made behind d (Err halt.NoMemory) ends = ends
 last_event c made behind d (Err halt.WriteFault) ends = ends
@@ -104,7 +104,7 @@ module _ {D : Type 0} {g : Ghosts D} {from : Super → List (List Record) → Pa
   wrote : Wrote result before core.history after
   wrote = plays.written tells before (sym (ap (λ (h : List Entry). before ++ lines_text h) new.nothing ∙ append-nil before))
 
-  prints : (by : Status) (after' : List ℕ) (k : ℕ) (graph : Graph) → (by ≡ status.Done → HasMade stop c plays.made plays.behind core) → (IsOfDisk by → HasFailed stop by c plays.made plays.behind core)
+  prints : (by : Status) (after' : List ℕ) (k : ℕ) (graph : Graph) → (by ≡ status.Done → HasMade stop c plays.made plays.behind core) → (IsOfDisk by → EndsByDisk stop by c plays.made plays.behind core)
       → (IsCutBy (Refused DiskFault) c plays.made core → (by ≢ status.Done) × WroteFront before (lines_text core.history) after') → (stop ≡ None → graph ≡ serial core.g0 (sealed core.history))
       → Writes by core.history (end_text stop k graph) before after' → PrintsSome from stop script by before after'
   prints by after' k graph done failed faulted own written = inr (record {

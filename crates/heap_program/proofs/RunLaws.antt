@@ -34,12 +34,12 @@ use Rattle.heap_core.specs.Format.{IsFormatting}
 use Rattle.heap_program.specs.declared.status.Status.{Status}
 use Rattle.heap_program.specs.declared.status.Status.TheVariants as status
 use Rattle.command_words.specs.declared.commands.Stop.{Stop}
-use Rattle.heap_program.specs.Headline.{lasting, made_super, made_core, IsEndOfPlay, IsSound, IsUnmade, IsPlayed, PlaysScript, Runs, RestartsDisk, stop_after}
+use Rattle.heap_program.specs.Headline.{lasting, made_super, made_core, IsEndOfPlay, BlamesNoImage, IsUnmade, IsPlayed, PlaysScript, Runs, RestartsDisk, stop_after}
 use Rattle.script_text.specs.declared.line.Line.{Line}
 use Rattle.heap_program.specs.Causes.{IsInputError}
 
 -- a play says nothing against the image
-pub end_sound : (result : Status) → IsEndOfPlay result → IsSound result
+pub end_sound : (result : Status) → IsEndOfPlay result → BlamesNoImage result
 end_sound status.Done h = tt
 end_sound status.NoMemory h = tt
 end_sound status.Usage h = absurd h

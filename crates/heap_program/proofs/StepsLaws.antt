@@ -125,6 +125,7 @@ module _ {D : Type 0} (g : Ghosts D) (stop : Option ℕ) (start final : D) where
   pub steps_run : (c d : Core) (old new : D) (events : List Event) → AreSteps (Step g stop start final) c old events d new → IsRun c events d
   steps_run c d old new [] steps = steps.0
   steps_run c d old new (event ∷ events) steps = (steps.2.reply, steps.0, steps.2.step, steps_run steps.0 d steps.1 new events steps.3)
+
   module _ (only_now : (disk : D) (c : List ℕ) → g.left_since disk (g.moment disk) c → g.may_leave disk c) where
     -- From the moment of the first disk on each image holds at least the commits that were acknowledged or forced by then.
     pub steps_last : (c d : Core) (old new : D) (events : List Event) → IsReached c → AllByRecursion IsOfSession events → ((image : List ℕ) → g.may_leave old image → IsCommitPrefix c image)
@@ -150,6 +151,7 @@ module _ {D : Type 0} (g : Ghosts D) (stop : Option ℕ) (start final : D) where
         (λ (kept : IsCommitPrefix c image). has_at_least_on c d (event ∷ events) least image reached.sound at_end.sound run (keeps_lasting c image kept))
         (λ (has : HasAtLeast d (lasting mid) image). has_fewer d (lasting mid) least image more has)
         either)
+
     -- So do they until a later moment, up to which a crash keeps all commits that were acknowledged or forced at the end.
     pub last_until : (c d : Core) (old new : D) (events : List Event) → IsReached c → AllByRecursion IsOfSession events → ((image : List ℕ) → g.may_leave old image → IsCommitPrefix c image)
         → AreSteps (Step g stop start final) c old events d new → LeavesOnly g.moment g.left_since new final (IsCommitPrefix d) → LeavesOnly g.moment g.left_since old final (HasAtLeast d (lasting c))
@@ -162,6 +164,7 @@ module _ {D : Type 0} (g : Ghosts D) (stop : Option ℕ) (start final : D) where
         (λ (has : HasAtLeast d least image). has)
         (λ (keeps : IsCommitPrefix d image). has_fewer d (lasting d) least image more (keeps_lasting d image keeps))
         either)
+
     -- Each step of a chain lasts: from its answer on each image holds at least the commits that were acknowledged or forced by then.
     pub lasting_steps : (c d : Core) (old new : D) (events : List Event) → IsReached c → AllByRecursion IsOfSession events
         → AreSteps (Step g stop start final) c old events d new → LeavesOnly g.moment g.left_since new final (IsCommitPrefix d) → AreSteps (LastingStep g stop d start final) c old events d new

@@ -30,8 +30,8 @@ makes (asked.Play (Some pages) stop) = Some (made_super pages)
 makes asked.Graph = None
 
 -- the numbers of a heap, as a command names them
-abbrev pub numbers_of : Super → Numbers
-numbers_of s = record { pages = s.pages; log_bytes = s.log_bytes; first = s.first }
+abbrev pub superblock_numbers : Super → Numbers
+superblock_numbers s = record { pages = s.pages; log_bytes = s.log_bytes; first = s.first }
 
 -- how often a command starts the disk again
 abbrev pub restarts_of : Command → ℕ

@@ -40,7 +40,7 @@ use Rattle.heap_program.specs.Causes.{DiskRose, Unharmed, IsInputError}
 use Rattle.command_words.specs.declared.commands.Stop.{Stop}
 use Rattle.heap_program.specs.declared.status.Status.{Status}
 use Rattle.heap_program.specs.declared.status.Status.TheVariants as status
-use Rattle.heap_program.specs.Play.{lines_text, WroteFront, WroteLines, IsWhole, IsCutBy}
+use Rattle.heap_program.specs.Play.{lines_text, WroteFront, WroteLines, MadeAll, IsCutBy}
 use Rattle.heap_program.specs.Steps.{Step, AreSteps}
 use Rattle.heap_program.specs.Stored.{IsStored, stored_core, stored_calls}
 
@@ -101,14 +101,14 @@ let_through (Some n) calls = min n calls
 
 -- A run that is done has made all events, or the disk was to stop and did.
 abbrev pub HasMade : Option ℕ → Core → List Event → List Event → Core → Type 0
-HasMade None c made behind d = (behind ≡ []) × IsWhole c made d
-HasMade (Some n) c made behind d = ((behind ≡ []) × IsWhole c made d) ⊎ IsCutBy (Refused Stopped) c made d
+HasMade None c made behind d = (behind ≡ []) × MadeAll c made d
+HasMade (Some n) c made behind d = ((behind ≡ []) × MadeAll c made d) ⊎ IsCutBy (Refused Stopped) c made d
 
 -- A run that the disk or its image ended: the disk in the last event that was made; or either, where a stop was asked, in an opening after all
 -- events, after the one that was stopped, or before the first.
-abbrev pub HasFailed : Option ℕ → Status → Core → List Event → List Event → Core → Type 0
-HasFailed None result c made behind d = (result ≡ status.DiskFault) × (IsCutBy (Refused DiskFault) c made d ⊎ IsCutBy (Refused Stopped) c made d)
-HasFailed (Some n) result c made behind d = ((result ≡ status.DiskFault) × IsCutBy (Refused DiskFault) c made d) ⊎ HasMade (Some n) c made behind d ⊎ (made ≡ [])
+abbrev pub EndsByDisk : Option ℕ → Status → Core → List Event → List Event → Core → Type 0
+EndsByDisk None result c made behind d = (result ≡ status.DiskFault) × (IsCutBy (Refused DiskFault) c made d ⊎ IsCutBy (Refused Stopped) c made d)
+EndsByDisk (Some n) result c made behind d = ((result ≡ status.DiskFault) × IsCutBy (Refused DiskFault) c made d) ⊎ HasMade (Some n) c made behind d ⊎ (made ≡ [])
 
 -- A run ended at its last event: on the disk as the event left it, with no more than lines written, and not with status 0.
 pub record EndsThere {D : Type 0} (stopped final : D) (result : Status) (only_lines : Type 0) : Type 0 where
@@ -130,9 +130,9 @@ StopsOpening (Some n) at_opening made = (n < at_opening) × (made ≡ [])
 -- Where the disk does what it is asked until it is to stop, the place at which it stops is exact: none, one of the events, or the opening, which
 -- makes so many calls itself.
 abbrev pub IsExact : Option ℕ → ℕ → Core → List Event → Core → Type 0
-IsExact None at_opening c made d = IsWhole c made d
+IsExact None at_opening c made d = MadeAll c made d
 IsExact (Some n) at_opening c made d =
-    (IsWhole c made d × (at_opening + total_calls c made ≤ n)) ⊎ ((at_opening ≤ n) × StopsLast (n - at_opening) c made d) ⊎ StopsOpening (Some n) at_opening made
+    (MadeAll c made d × (at_opening + total_calls c made ≤ n)) ⊎ ((at_opening ≤ n) × StopsLast (n - at_opening) c made d) ⊎ StopsOpening (Some n) at_opening made
 
 -- A core that is opened on a shaped log beside stored pages, in frames with so many open gates, with a graph that stands in it.
 pub record IsOpened (c : Core) : Type 0 where
@@ -169,10 +169,10 @@ pub record PrintsRun (from : Super → List (List Record) → Pages → (ℕ →
   pub core : Core
   pub run : IsRun first made core
   -- no event follows one that the disk cut short
-  pub last : IsWhole first made core ⊎ ((reply : Reply) × IsCutBy reply first made core)
+  pub last : MadeAll first made core ⊎ ((reply : Reply) × IsCutBy reply first made core)
   -- all events were made, or it stopped in one of them or in the opening
   pub done : result ≡ status.Done → HasMade stop first made behind core ⊎ ((stop ≢ None) × (made ≡ []))
-  pub failed : IsOfDisk result → HasFailed stop result first made behind core
+  pub failed : IsOfDisk result → EndsByDisk stop result first made behind core
   -- a run whose last event was answered `diskfault` ends there: it is not done, and no more than lines were written
   pub faulted : IsCutBy (Refused DiskFault) first made core → (result ≢ status.Done) × WroteFront before (lines_text core.history) after
   pub count : ℕ
@@ -198,7 +198,7 @@ pub record MakesEvents (stop : Option ℕ) (at_opening : ℕ) (c : Core) (events
   pub behind : List Event
   pub parts : events ≡ made ++ behind
   pub core : Core
-  pub last : IsWhole c made core ⊎ ((reply : Reply) × IsCutBy reply c made core)
+  pub last : MadeAll c made core ⊎ ((reply : Reply) × IsCutBy reply c made core)
   pub done : result ≡ status.Done → HasMade stop c made behind core ⊎ StopsOpening stop at_opening made
   pub exact : unharmed → IsExact stop at_opening c made core
 
@@ -392,10 +392,10 @@ IsUntouching (status.TooSmall size need) = Unit {0}
 IsUntouching s = ⊥
 
 -- The statuses that say nothing against the image.
-abbrev pub IsSound : Status → Type 0
-IsSound status.NotHeap = ⊥
-IsSound (status.Damaged at) = ⊥
-IsSound s = Unit {0}
+abbrev pub BlamesNoImage : Status → Type 0
+BlamesNoImage status.NotHeap = ⊥
+BlamesNoImage (status.Damaged at) = ⊥
+BlamesNoImage s = Unit {0}
 
 -- A run ends so unless its words are no command or its script could not be read.
 abbrev pub EndsUnread : Status → Status → Type 0

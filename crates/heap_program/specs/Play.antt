@@ -52,8 +52,8 @@ ended_by (Refused Stopped) = Err halt.Stopped
 ended_by reply = Ok tt
 
 -- The disk did what it was asked in all of these events.
-abbrev pub IsWhole : Core → List Event → Core → Type 0
-IsWhole c made d = d ≡ after_events c made
+abbrev pub MadeAll : Core → List Event → Core → Type 0
+MadeAll c made d = d ≡ after_events c made
 
 -- The disk stopped or failed in the last of these events, as the reply says.
 pub record IsCutBy (reply : Reply) (c : Core) (made : List Event) (d : Core) : Type 0 where
@@ -65,10 +65,10 @@ pub record IsCutBy (reply : Reply) (c : Core) (made : List Event) (d : Core) : T
 
 -- Of the events that a play was asked it made these, and how it ended says how the last one came out.
 abbrev pub EndsAs : Core → List Event → List Event → Core → Result (Unit {0}) Halt → Type 0
-EndsAs c made behind d (Ok done) = (behind ≡ []) × IsWhole c made d
+EndsAs c made behind d (Ok done) = (behind ≡ []) × MadeAll c made d
 EndsAs c made behind d (Err halt.Stopped) = IsCutBy (Refused Stopped) c made d
 EndsAs c made behind d (Err halt.DiskFault) = IsCutBy (Refused DiskFault) c made d
-EndsAs c made behind d (Err other) = IsWhole c made d ⊎ ((reply : Reply) × IsCutBy reply c made d)
+EndsAs c made behind d (Err other) = MadeAll c made d ⊎ ((reply : Reply) × IsCutBy reply c made d)
 
 module _ {D : Type 0} {g : Ghosts D} where
   -- On every disk: events were played from a core on, as a run of it, and their lines written to a sink, which may tell what was
@@ -82,10 +82,12 @@ module _ {D : Type 0} {g : Ghosts D} where
     pub ends : EndsAs c made behind core result
     pub is : IsCore core new
     pub written : IsTrue told → (w : List ℕ) → before ≡ w ++ lines_text c.history → Wrote result w core.history after
+
   -- All of these events were made, and the disk did what it was asked.
   pub record MakesAll (c : Core) (made : List Event) (d : Core) (old new : Heap D g) : Type 0 where
     pub reached : d ≡ after_events c made
     pub passes : g.passed new.disk ≡ counted (total_calls c made) (g.passed old.disk)
+
   -- In the last of these events the disk failed or stopped, as the reply says.
   pub record MakesShort (c : Core) (made : List Event) (d : Core) (old new : Heap D g) (reply : Reply) : Type 0 where
     pub before : List Event
@@ -98,14 +100,17 @@ module _ {D : Type 0} {g : Ghosts D} where
     pub passes : reply ≡ Refused Stopped → (k : ℕ) × (k < calls (after_events c before) event) × (g.passed new.disk ≡ counted (total_calls c before + k) (g.passed old.disk))
     -- and else no more
     pub most : (k : ℕ) × (k ≤ calls (after_events c before) event) × (g.passed new.disk ≡ counted (total_calls c before + k) (g.passed old.disk))
+
   abbrev pub Makes : Core → List Event → Core → Heap D g → Heap D g → Type 0
   Makes c made d old new = MakesAll c made d old new ⊎ ((reply : Reply) × MakesShort c made d old new reply)
+
   -- How a play ended tells what was made.
   abbrev pub Ends : Core → List Event → List Event → Core → Heap D g → Heap D g → Result (Unit {0}) Halt → Type 0
   Ends c made behind d old new (Ok done) = (behind ≡ []) × MakesAll c made d old new
   Ends c made behind d old new (Err halt.Stopped) = MakesShort c made d old new (Refused Stopped)
   Ends c made behind d old new (Err halt.DiskFault) = MakesShort c made d old new (Refused DiskFault)
   Ends c made behind d old new (Err other) = Makes c made d old new
+
   -- On a disk that tells: likewise, and each step says what it left on the disk.
   pub record Plays (s : Super) (c : Core) (events : List Event) (old new : Heap D g) (told : Bool) (before after : List ℕ) (result : Result (Unit {0}) Halt) : Type 0 where
     pub made : List Event

@@ -18,9 +18,9 @@ ghost use Rattle.page_redo.specs.Pages.{Pages};
 ghost use Rattle.heap_model.specs.Image.{IsShaped};
 ghost use Rattle.heap_model.specs.Opening.{IsFound};
 ghost use Rattle.heap_program.specs.Causes.{DiskRose, StreamCause, RunsDisk};
-ghost use Rattle.heap_program.specs.Commands.{makes, numbers_of, restarts_of, IsPlay, IsEndOf, CanRun, RunsFormat, PrintsGraph, WritesText, formatted_line};
+ghost use Rattle.heap_program.specs.Commands.{makes, superblock_numbers, restarts_of, IsPlay, IsEndOf, CanRun, RunsFormat, PrintsGraph, WritesText, formatted_line};
 ghost use Rattle.heap_program.specs.CrashSafe.{RunsSafely};
-ghost use Rattle.heap_program.specs.Headline.{OfTold, PrintsRun, IsOfOwnImage, Runs, IsUntouching, EndsUnread, EndsUnmade, IsSound, RestartsDisk, graph_text, stop_after};
+ghost use Rattle.heap_program.specs.Headline.{OfTold, PrintsRun, IsOfOwnImage, Runs, IsUntouching, EndsUnread, EndsUnmade, BlamesNoImage, RestartsDisk, graph_text, stop_after};
 ghost use Rattle.heap_program.specs.Playable.{IsReadFrom};
 ghost use Rattle.heap_program.specs.Refusals.{IsFault, IsToldOf, IsToldOfEach, EndsRefused, IsLeftAlone, LeavesAlone};
 ghost use Rattle.script_text.specs.Script.{script};
@@ -73,7 +73,7 @@ pub fn run<D: Disk, S: Source, K: Sink>(
         → Runs D.Disk fresh stop (IsReadFrom S.tells (S.left source.old)) disk result.1 result.0 K.tells (K.written sink.old) (K.written sink.new)) }
 
     // A heap was made, with these numbers, or none was.
-    ensures formats { OfTold D.tells (D.bytes disk) (D.may_leave disk) ((s : Super) → command (map string_bytes words.now) ≡ Some (asked.Format (numbers_of s))
+    ensures formats { OfTold D.tells (D.bytes disk) (D.may_leave disk) ((s : Super) → command (map string_bytes words.now) ≡ Some (asked.Format (superblock_numbers s))
         → RunsFormat D.Disk s disk result.1 result.0 K.tells (K.written sink.old) (K.written sink.new)) }
     // The graph of a shaped image was written, whatever stands in it, under whatever names.
     ensures graph { OfTold D.tells (D.bytes disk) (D.may_leave disk) (command (map string_bytes words.now) ≡ Some asked.Graph
@@ -83,11 +83,11 @@ pub fn run<D: Disk, S: Source, K: Sink>(
     // On any disk, what was written are lines of one history, a number of commits and a graph; or the size of an image; or a graph.
     ensures prints { IsTrue K.tells → (fresh : Option ℕ) (stop : Option Stop) → command (map string_bytes words.now) ≡ Some (asked.Play fresh stop)
         → ((result.0 ≢ Status.Done) × (K.written sink.new ≡ K.written sink.old)) ⊎ ((lines : List Line) × IsReadFrom S.tells (S.left source.old) lines × PrintsRun (IsOfOwnImage fresh D.tells (D.bytes disk)) (stop_after stop) lines result.0 (K.written sink.old) (K.written sink.new)) }
-    ensures prints_size { IsTrue K.tells → (s : Super) → command (map string_bytes words.now) ≡ Some (asked.Format (numbers_of s)) → WritesText result.0 (formatted_line s) (K.written sink.old) (K.written sink.new) }
+    ensures prints_size { IsTrue K.tells → (s : Super) → command (map string_bytes words.now) ≡ Some (asked.Format (superblock_numbers s)) → WritesText result.0 (formatted_line s) (K.written sink.old) (K.written sink.new) }
     ensures prints_graph { IsTrue K.tells → command (map string_bytes words.now) ≡ Some asked.Graph → ((result.0 ≢ Status.Done) × (K.written sink.new ≡ K.written sink.old)) ⊎ ((g : Graph) × WritesText result.0 (graph_text g) (K.written sink.old) (K.written sink.new)) }
 
     // On any disk, without a stop a status against the image comes before anything is written.
-    ensures unwritten { (asked : Command) → command (map string_bytes words.now) ≡ Some asked → restarts_of asked ≡ 0 → ¬ IsSound result.0 → sink.new ≡ sink.old }
+    ensures unwritten { (asked : Command) → command (map string_bytes words.now) ≡ Some asked → restarts_of asked ≡ 0 → ¬ BlamesNoImage result.0 → sink.new ≡ sink.old }
 
     // Which images are no heap or damaged, and where: such an image gives its own status, with nothing written. Each status against an image tells
     // what is so, unless the disk was started again, which only a stop asks for. A heap that the run makes is never refused.
@@ -101,7 +101,7 @@ pub fn run<D: Disk, S: Source, K: Sink>(
     ensures refused_at_end { OfTold D.tells (D.bytes disk) (D.may_leave disk) (IsToldOfEach result.0 (D.may_leave result.1)) }
     // An image that is no heap, or is damaged but not at an address, is left as it was, whatever the end: no stop that is asked for comes in its opening.
     ensures left_alone { IsTrue D.tells → (asked : Command) → command (map string_bytes words.now) ≡ Some asked → makes asked ≡ None → (expected : Status) → IsFault expected (D.bytes disk) → IsLeftAlone expected → LeavesAlone D.Disk disk result.1 }
-    ensures sound { OfTold D.tells (D.bytes disk) (D.may_leave disk) ((asked : Command) (s : Super) → command (map string_bytes words.now) ≡ Some asked → makes asked ≡ Some s → IsSound result.0) }
+    ensures sound { OfTold D.tells (D.bytes disk) (D.may_leave disk) ((asked : Command) (s : Super) → command (map string_bytes words.now) ≡ Some asked → makes asked ≡ Some s → BlamesNoImage result.0) }
 
     // Which statuses each command has.
     ensures ends { (asked : Command) → command (map string_bytes words.now) ≡ Some asked → IsEndOf asked result.0 }

@@ -8,7 +8,7 @@ ghost use Rattle.script_text.specs.declared.line.Line.{Line};
 ghost use Rattle.script_text.specs.declared.script.ScriptError.TheVariants.{Fault};
 ghost use Rattle.command_words.specs.Limits.{IsPages};
 ghost use Rattle.heap_program.specs.Causes.{StreamCause, RunsDisk, IsInputError, IsOpenedEnd, FailsByScript};
-ghost use Rattle.heap_program.specs.Headline.{OfTold, IsPlayed, IsEndOfPlay, PrintsRun, PrintsSome, IsOfImage, IsOfOwnImage, Runs, CanPlay, IsUntouching, EndsUnread, EndsUnmade, IsSound, RestartsDisk, restarts_asked, starts_asked, stop_after};
+ghost use Rattle.heap_program.specs.Headline.{OfTold, IsPlayed, IsEndOfPlay, PrintsRun, PrintsSome, IsOfImage, IsOfOwnImage, Runs, CanPlay, IsUntouching, EndsUnread, EndsUnmade, BlamesNoImage, RestartsDisk, restarts_asked, starts_asked, stop_after};
 ghost use Rattle.heap_program.specs.Playable.{IsScript, IsReadFrom};
 ghost use Rattle.heap_program.specs.Refusals.{IsFault, IsToldOf, IsToldOfEach, EndsRefused, IsLeftAlone, LeavesAlone};
 ghost use Rattle.heap_program.specs.Stored.{IsStored, stored_core, stored_calls};
@@ -60,7 +60,7 @@ pub fn run_play<D: Disk, S: Source, K: Sink>(
         (Runs D.Disk fresh stop (IsReadFrom S.tells (S.left source.old)) disk result.1 result.0 K.tells (K.written sink.old) (K.written sink.new)) }
     ensures prints { IsTrue K.tells
         → ((result.0 ≢ Status.Done) × (K.written sink.new ≡ K.written sink.old)) ⊎ ((lines : List Line) × IsReadFrom S.tells (S.left source.old) lines × PrintsRun (IsOfOwnImage fresh D.tells (D.bytes disk)) (stop_after stop) lines result.0 (K.written sink.old) (K.written sink.new)) }
-    ensures unwritten { stop ≡ None → ¬ IsSound result.0 → sink.new ≡ sink.old }
+    ensures unwritten { stop ≡ None → ¬ BlamesNoImage result.0 → sink.new ≡ sink.old }
     ensures restarts { IsTrue D.tells → RestartsDisk (restarts_asked stop) result.0 (D.restarts disk) (D.restarts result.1) }
     // Where a heap is there, or one was to be made on a disk that is large enough, and the script is good, the run ends as a play.
     ensures complete { OfTold D.tells (D.bytes disk) (D.may_leave disk) (CanPlay fresh (D.extent disk) (D.bytes disk)
@@ -71,7 +71,7 @@ pub fn run_play<D: Disk, S: Source, K: Sink>(
     ensures refuses { OfTold D.tells (D.bytes disk) (D.may_leave disk) (fresh ≡ None → (expected : Status) → IsFault expected (D.bytes disk) → EndsRefused expected result.0 × (sink.new ≡ sink.old)) }
     ensures left_alone { IsTrue D.tells → fresh ≡ None → (expected : Status) → IsFault expected (D.bytes disk) → IsLeftAlone expected → LeavesAlone D.Disk disk result.1 }
     // A heap that it made is never refused.
-    ensures sound { OfTold D.tells (D.bytes disk) (D.may_leave disk) ((pages : ℕ) → fresh ≡ Some pages → IsSound result.0) }
+    ensures sound { OfTold D.tells (D.bytes disk) (D.may_leave disk) ((pages : ℕ) → fresh ≡ Some pages → BlamesNoImage result.0) }
     ensures keeps_fault { OfTold D.tells (D.bytes disk) (D.may_leave disk) (fresh ≡ None → (expected : Status) → IsFault expected (D.bytes disk) → LeavesOnly D.moment D.left_since disk result.1 (IsFault expected)) }
 {
     let script = match read_input(alloc, source) {
@@ -101,7 +101,7 @@ fn play_script<D: Disk, K: Sink>(
     ensures disk { RunsDisk D.Disk disk result.1 (result.0 ≡ Status.DiskFault) }
     ensures sink { StreamCause (K.faults sink.old) (K.faults sink.new) (result.0 ≡ Status.WriteFault) }
     ensures restarts { IsTrue D.tells → RestartsDisk (restarts_asked stop) result.0 (D.restarts disk) (D.restarts result.1) }
-    ensures unwritten { stop ≡ None → ¬ IsSound result.0 → sink.new ≡ sink.old }
+    ensures unwritten { stop ≡ None → ¬ BlamesNoImage result.0 → sink.new ≡ sink.old }
     ensures prints { IsTrue K.tells → PrintsSome (IsOfImage D.tells (D.bytes disk)) (stop_after stop) script.now result.0 (K.written sink.old) (K.written sink.new) }
     ensures played { IsTrue D.tells → (stored : IsStored (D.bytes disk)) → Only (D.bytes disk) (D.may_leave disk)
         → IsPlayed D.Disk stop (stored_calls stored) (stored_core stored) (all_events (stop_after stop) (stored_core stored) (events script.now)) disk result.1 result.0 K.tells (K.written sink.old) (K.written sink.new) }
@@ -144,7 +144,7 @@ fn play_whole<D: Disk, K: Sink>(
     ensures disk { RunsDisk D.Disk disk result.1 (result.0 ≡ Status.DiskFault) }
     ensures sink { StreamCause (K.faults sink.old) (K.faults sink.new) (result.0 ≡ Status.WriteFault) }
     ensures restarts { IsTrue D.tells → D.restarts result.1 ≡ D.restarts disk }
-    ensures unwritten { ¬ IsSound result.0 → sink.new ≡ sink.old }
+    ensures unwritten { ¬ BlamesNoImage result.0 → sink.new ≡ sink.old }
     ensures prints { IsTrue K.tells → PrintsSome (IsOfImage D.tells (D.bytes disk)) None script.now result.0 (K.written sink.old) (K.written sink.new) }
     ensures played { IsTrue D.tells → (stored : IsStored (D.bytes disk)) → Only (D.bytes disk) (D.may_leave disk)
         → IsPlayed D.Disk None (stored_calls stored) (stored_core stored) (all_events None (stored_core stored) (events script.now)) disk result.1 result.0 K.tells (K.written sink.old) (K.written sink.new) }

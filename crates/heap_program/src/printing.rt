@@ -15,7 +15,7 @@ ghost use Rattle.command_words.specs.Limits.{AreNumbers};
 ghost use Rattle.command_words.specs.declared.commands.Command.TheVariants as asked;
 ghost use Rattle.heap_program.specs.Causes.{StreamCause, RunsDisk, IsOpenedEnd};
 ghost use Rattle.heap_program.specs.Commands.{IsEndOf, RunsFormat, PrintsGraph, WritesText, formatted_line};
-ghost use Rattle.heap_program.specs.Headline.{OfTold, IsEndOfPlay, IsSound, graph_text};
+ghost use Rattle.heap_program.specs.Headline.{OfTold, IsEndOfPlay, BlamesNoImage, graph_text};
 ghost use Rattle.heap_program.specs.Output.{WroteText};
 ghost use Rattle.heap_program.specs.Refusals.{IsFault, IsToldOf, IsToldOfEach, EndsRefused, IsLeftAlone, LeavesAlone};
 
@@ -73,7 +73,7 @@ pub fn run_graph<D: Disk, K: Sink>(alloc: Global, disk: D, sink: &mut K) -> (Sta
     ensures graph { OfTold D.tells (D.bytes disk) (D.may_leave disk) ((s : Super) (batches : List (List Record)) (stored : Pages) → (shaped : IsShaped s batches stored (D.bytes disk)) → (born : Bool) (places : Places) (g : Graph) → IsFound s batches stored shaped.log born places g
         → PrintsGraph D.Disk s batches stored g disk result.1 result.0 K.tells (K.written sink.old) (K.written sink.new)) }
     ensures prints { IsTrue K.tells → ((result.0 ≢ Status.Done) × (K.written sink.new ≡ K.written sink.old)) ⊎ ((g : Graph) × WritesText result.0 (graph_text g) (K.written sink.old) (K.written sink.new)) }
-    ensures unwritten { ¬ IsSound result.0 → sink.new ≡ sink.old }
+    ensures unwritten { ¬ BlamesNoImage result.0 → sink.new ≡ sink.old }
     ensures restarts { IsTrue D.tells → D.restarts result.1 ≡ D.restarts disk }
     // A status against the image tells what is so, and an image that can't be opened gives its own; nothing is written then.
     ensures refused { IsTrue D.tells → IsToldOf result.0 (D.bytes disk) }

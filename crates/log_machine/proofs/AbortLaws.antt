@@ -12,10 +12,10 @@ use Rattle.log_machine.specs.declared.UndoEntry.{UndoEntry}
 use Rattle.log_machine.proofs.Entries.{IsEntry}
 use Rattle.log_machine.specs.Machine.{State, Loser, undo_in, undo_of, with_entries, with_word, is_number, turned, after_all, put_record, taken_back, each_taken_back, losing, commits, abort_records, abort_each, rollback, undo_bytes, reserve}
 use Rattle.log_machine.proofs.ListLaws.{AllByRecursion-append}
-use Rattle.log_machine.specs.Entries.{EachEntry}
+use Rattle.log_machine.specs.Entries.{EachKeyed}
 use Rattle.log_machine.proofs.MapLaws.{each_remove, get_first, remove_first, remove_absent, empty_of_entries}
 use Rattle.log_machine.proofs.MachineLaws.{after_all-append2, undo_with, with_with, after-Undo, after-End, number_small, commits-append}
-use Rattle.log_machine.specs.Sound.{IsLoser, NoneEmpty, IsSound}
+use Rattle.log_machine.specs.Sound.{IsLoser, NoneEmpty, AreLosers}
 use Rattle.log_machine.proofs.Bounds.{HaveSpellings, CanRollBack}
 use Rattle.log_machine.proofs.StateLaws.{sound_after, sound_after_all}
 
@@ -30,7 +30,7 @@ pub none_standing : (undo : FinMap nat_cmp (List UndoEntry)) (t : ℕ) → NoneE
 none_standing undo t some none = no_list undo t (get undo t) refl some none
 
 -- in a sound state no list is empty
-pub none_empty : (s : State) → IsSound s → NoneEmpty s.undo
+pub none_empty : (s : State) → AreLosers s → NoneEmpty s.undo
 none_empty s sound t us is = (sound t us is).some
 
 -- of two records of one transaction the last one's writes are left
@@ -40,7 +40,7 @@ turned_turned s t first last =
     ∙ ap (λ n. record { pages = s.pages; base = s.base; used = s.used; undo = last; commits = s.commits + 0; next = n }) (omega arith)
 
 -- a transaction's writes are taken back one after another
-abort_on : (s : State) (t : ℕ) (us : List UndoEntry) → is_number t ≡ true → IsSound s → undo_of s t ≡ us → after_all s (abort_records t us) ≡ Some (turned s t (with_entries s.undo t []) 0)
+abort_on : (s : State) (t : ℕ) (us : List UndoEntry) → is_number t ≡ true → AreLosers s → undo_of s t ≡ us → after_all s (abort_records t us) ≡ Some (turned s t (with_entries s.undo t []) 0)
 abort_on s t [] number sound own =
     ap (λ (x : Option State). option_and_then (λ next. Some next) x) (after-End s t number own)
     ∙ ap (λ undo. Some (turned s t undo 0)) (sym (remove_absent s.undo t (none_standing s.undo t (none_empty s sound) own)))
@@ -52,7 +52,7 @@ abort_on s t (u ∷ us) number sound own =
     ∙ ap (λ undo. Some (turned s t undo 0)) (with_with s.undo t us [])
 
 -- the state when a transaction's writes are taken back and it has ended
-pub abort_reaches : (s : State) (t : ℕ) → is_number t ≡ true → IsSound s → after_all s (abort_records t (undo_of s t)) ≡ Some (turned s t (with_entries s.undo t []) 0)
+pub abort_reaches : (s : State) (t : ℕ) → is_number t ≡ true → AreLosers s → after_all s (abort_records t (undo_of s t)) ≡ Some (turned s t (with_entries s.undo t []) 0)
 abort_reaches s t number sound = abort_on s t (undo_of s t) number sound refl
 
 -- the words when they are taken back
@@ -89,7 +89,7 @@ known_turned s t undo known =
     ap (λ k. record { pages = s.pages; base = s.base; used = s.used; undo = empty; commits = k; next = max s.next (t + 1) }) (omega arith)
     ∙ ap (λ n. record { pages = s.pages; base = s.base; used = s.used; undo = empty; commits = s.commits; next = n }) (omega arith)
 
-rollback_on : (es : List Loser) (s : State) → IsSound s → losing s ≡ es → after_all s (abort_each es) ≡ Some (settled s)
+rollback_on : (es : List Loser) (s : State) → AreLosers s → losing s ≡ es → after_all s (abort_each es) ≡ Some (settled s)
 rollback_on [] s sound is =
     ap (λ undo. Some (record { pages = s.pages; base = s.base; used = s.used; undo = undo; commits = s.commits; next = s.next })) (empty_of_entries s.undo is)
 rollback_on (e ∷ es) s sound is =
@@ -103,7 +103,7 @@ rollback_on (e ∷ es) s sound is =
     ∙ ap Some (known_turned s e.0 (with_entries s.undo e.0 []) known)
 
 -- the state when an opening has taken them back
-pub rollback_reaches : (s : State) → IsSound s → after_all s (rollback s) ≡ Some (settled s)
+pub rollback_reaches : (s : State) → AreLosers s → after_all s (rollback s) ≡ Some (settled s)
 rollback_reaches s sound = rollback_on (losing s) s sound refl
 
 -- the words that it leaves
@@ -152,7 +152,7 @@ pub rollback_fits : (s : State) → losing s ≢ [] → length (spellings (rollb
 rollback_fits s some = let all = rollback_length s in let one = some_of (losing s) some in omega arith
 
 -- its records have spellings
-each_good : (es : List Loser) (s : State) → (undo : FinMap nat_cmp (List UndoEntry)) → EachEntry (IsLoser s) undo → HaveSpellings undo → entries undo ≡ es → AllByRecursion IsRecord (abort_each es)
+each_good : (es : List Loser) (s : State) → (undo : FinMap nat_cmp (List UndoEntry)) → EachKeyed (IsLoser s) undo → HaveSpellings undo → entries undo ≡ es → AllByRecursion IsRecord (abort_each es)
 each_good [] s undo each good is = tt
 each_good (e ∷ es) s undo each good is =
     let found = get_first undo e.0 e.1 es is in

@@ -7,16 +7,16 @@ use Rattle.log_records.specs.declared.Record.{Record}
 use Rattle.log_machine.specs.declared.UndoEntry.{UndoEntry}
 use Rattle.log_machine.proofs.Entries.{IsEntry}
 use Rattle.log_machine.specs.Machine.{State, space_words, number_of, is_number, is_commit}
-use Rattle.log_machine.specs.Entries.{EachEntry}
-use Rattle.log_machine.specs.Sound.{IsSound}
+use Rattle.log_machine.specs.Entries.{EachKeyed}
+use Rattle.log_machine.specs.Sound.{AreLosers}
 
 -- their undos have spellings
 abbrev pub HaveSpellings : FinMap nat_cmp (List UndoEntry) → Type 0
-HaveSpellings undo = EachEntry (λ t entries. AllByRecursion IsEntry entries) undo
+HaveSpellings undo = EachKeyed (λ t entries. AllByRecursion IsEntry entries) undo
 
 -- The writes that may be taken back are such that records can take them back.
 pub record CanRollBack (s : State) : Type 0 where
-  pub sound : IsSound s
+  pub sound : AreLosers s
   pub entries : HaveSpellings s.undo
 
 -- What one record does to the state, whatever it is.

@@ -11,7 +11,7 @@ use Rattle.log_machine.specs.declared.UndoEntry.{UndoEntry}
 use Rattle.log_machine.specs.UndoEntry.{LiesInside}
 use Rattle.log_machine.specs.Machine.{State, Loser, start, undo_of, with_entries, space_words, words_in, field_at, is_number, lies_inside, is_same_write, without_newest, losing, abort_records, abort_each, rollback}
 use Rattle.log_machine.proofs.ListLaws.{AllByRecursion-append, AllByRecursion-reverse}
-use Rattle.log_machine.specs.Entries.{EachEntry}
+use Rattle.log_machine.specs.Entries.{EachKeyed}
 use Rattle.log_machine.proofs.MapLaws.{each_empty, each_remove, get_first, remove_first}
 use Rattle.log_machine.proofs.MachineLaws.{inside_told, newest_told}
 use Rattle.log_machine.specs.Sound.{IsLoser, IsConsistent}
@@ -97,7 +97,7 @@ abort_below : (s : State) (t : ℕ) (us : List UndoEntry) → IsConsistent s →
 abort_below s t [] is all = (tt, tt)
 abort_below s t (u ∷ us) is all = ((below_pages s u is all.0, tt), abort_below s t us is all.1)
 
-each_below : (es : List Loser) (s : State) (undo : FinMap nat_cmp (List UndoEntry)) → IsConsistent s → EachEntry (IsLoser s) undo → entries undo ≡ es → EachWritesBelow (words_in s.pages) (abort_each es)
+each_below : (es : List Loser) (s : State) (undo : FinMap nat_cmp (List UndoEntry)) → IsConsistent s → EachKeyed (IsLoser s) undo → entries undo ≡ es → EachWritesBelow (words_in s.pages) (abort_each es)
 each_below [] s undo is each e = tt
 each_below (l ∷ ls) s undo is each e =
     let found = get_first undo l.0 l.1 ls e in

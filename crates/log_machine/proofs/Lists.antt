@@ -14,13 +14,13 @@ use Rattle.log_machine.proofs.MapLaws.{each_empty, each_insert, each_remove, ins
 use Rattle.log_machine.proofs.ReserveLaws.{bytes_for, bytes_split, bytes_with}
 use Rattle.log_machine.specs.Entries.{bytes_over}
 use Rattle.log_machine.specs.Sound.{NoneEmpty}
-use Rattle.log_machine.specs.Kept.{IsKept}
+use Rattle.log_machine.specs.Kept.{IsReserve}
 use Rattle.log_machine.specs.Seen.{seen_undo}
 use Rattle.log_machine.proofs.Seen.{seen, Changes, get_seen, undo_seen, seen_insert, seen_remove}
 
 -- nothing is kept for no lists
-pub kept_empty : (es : List (ℕ × Vec UndoEntry)) → es ≡ [] → IsKept 0 (seen_undo es)
-kept_empty es none = subst (λ l. IsKept 0 (seen_undo l)) (sym none) (record { sum = sym (ap (λ l. sum_over undo_bytes l) (entries_empty (List UndoEntry))); some = each_empty (λ t us. us ≢ []) })
+pub kept_empty : (es : List (ℕ × Vec UndoEntry)) → es ≡ [] → IsReserve 0 (seen_undo es)
+kept_empty es none = subst (λ l. IsReserve 0 (seen_undo l)) (sym none) (record { sum = sym (ap (λ l. sum_over undo_bytes l) (entries_empty (List UndoEntry))); some = each_empty (λ t us. us ≢ []) })
 
 -- a list that stands in memory
 pub stands_at : (es : List (ℕ × Vec UndoEntry)) (t : ℕ) (v : Vec UndoEntry) → Some v ≡ lookup (is_at (nat_cmp t)) es → undo_in (seen_undo es) t ≡ seen v
@@ -34,7 +34,7 @@ some_with undo t [] some = each_remove (λ q vs. vs ≢ []) undo t some
 some_with undo t (u ∷ us) some = each_insert (λ q vs. vs ≢ []) undo t (u ∷ us) (λ none. absurd (cc none)) some
 
 -- with another list
-pub kept_with : (bytes new : ℕ) (undo : FinMap nat_cmp (List UndoEntry)) (t : ℕ) (us : List UndoEntry) → IsKept bytes undo → new + bytes_for (undo_in undo t) ≡ bytes + bytes_for us → IsKept new (with_entries undo t us)
+pub kept_with : (bytes new : ℕ) (undo : FinMap nat_cmp (List UndoEntry)) (t : ℕ) (us : List UndoEntry) → IsReserve bytes undo → new + bytes_for (undo_in undo t) ≡ bytes + bytes_for us → IsReserve new (with_entries undo t us)
 kept_with bytes new undo t us kept e =
     let before = bytes_split undo t kept.some in
     let after = bytes_with undo t us in
@@ -50,10 +50,10 @@ pub put_list : (es n : List (ℕ × Vec UndoEntry)) (now : FinMap nat_cmp (List 
 put_list es n now t v us is changes same = seen_insert es n t v changes ∙ ap (λ undo. insert undo t (seen v)) is ∙ ap (λ l. insert now t l) same
 
 -- and the counter
-pub kept_put : (bytes new : ℕ) (es n : List (ℕ × Vec UndoEntry)) (t : ℕ) (v : Vec UndoEntry) (u : UndoEntry) (us : List UndoEntry) → IsKept bytes (seen_undo es) → Changes es n t (Some v) → seen v ≡ u ∷ us
-    → new + bytes_for (undo_in (seen_undo es) t) ≡ bytes + undo_bytes (u ∷ us) → IsKept new (seen_undo n)
+pub kept_put : (bytes new : ℕ) (es n : List (ℕ × Vec UndoEntry)) (t : ℕ) (v : Vec UndoEntry) (u : UndoEntry) (us : List UndoEntry) → IsReserve bytes (seen_undo es) → Changes es n t (Some v) → seen v ≡ u ∷ us
+    → new + bytes_for (undo_in (seen_undo es) t) ≡ bytes + undo_bytes (u ∷ us) → IsReserve new (seen_undo n)
 kept_put bytes new es n t v u us kept changes same e =
-    subst (λ undo. IsKept new undo) (sym (put_list es n (seen_undo es) t v (u ∷ us) refl changes same)) (kept_with bytes new (seen_undo es) t (u ∷ us) kept e)
+    subst (λ undo. IsReserve new undo) (sym (put_list es n (seen_undo es) t v (u ∷ us) refl changes same)) (kept_with bytes new (seen_undo es) t (u ∷ us) kept e)
 
 -- one write more on a list
 pub added : (old new : Vec UndoEntry) (u : UndoEntry) → new.items ≡ old.items ++ u ∷ [] → seen new ≡ u ∷ seen old
@@ -72,7 +72,7 @@ length_seen : (v : Vec UndoEntry) → length (seen v) ≡ vec_len v
 length_seen v = length-reverse v.items ∙ sym v.ok.0
 
 -- the bytes for a list and for the others
-pub bytes_taken : (bytes : ℕ) (es : List (ℕ × Vec UndoEntry)) (t : ℕ) (v : Vec UndoEntry) → IsKept bytes (seen_undo es) → Some v ≡ lookup (is_at (nat_cmp t)) es
+pub bytes_taken : (bytes : ℕ) (es : List (ℕ × Vec UndoEntry)) (t : ℕ) (v : Vec UndoEntry) → IsReserve bytes (seen_undo es) → Some v ≡ lookup (is_at (nat_cmp t)) es
     → bytes ≡ end_bytes (vec_len v) + bytes_over (remove (seen_undo es) t)
 bytes_taken bytes es t v kept found =
     let all = bytes_split (seen_undo es) t kept.some in
@@ -82,9 +82,9 @@ bytes_taken bytes es t v kept found =
     omega arith
 
 -- the counter when a list was dropped
-pub kept_drop : (bytes new : ℕ) (es n : List (ℕ × Vec UndoEntry)) (t : ℕ) → IsKept bytes (seen_undo es) → Changes es n t None → new ≡ bytes_over (remove (seen_undo es) t) → IsKept new (seen_undo n)
+pub kept_drop : (bytes new : ℕ) (es n : List (ℕ × Vec UndoEntry)) (t : ℕ) → IsReserve bytes (seen_undo es) → Changes es n t None → new ≡ bytes_over (remove (seen_undo es) t) → IsReserve new (seen_undo n)
 kept_drop bytes new es n t kept changes e =
-    subst (λ undo. IsKept new undo) (sym (seen_remove es n t changes)) (record { sum = e; some = each_remove (λ q vs. vs ≢ []) (seen_undo es) t kept.some })
+    subst (λ undo. IsReserve new undo) (sym (seen_remove es n t changes)) (record { sum = e; some = each_remove (λ q vs. vs ≢ []) (seen_undo es) t kept.some })
 
 -- a list of which the newest was taken off
 pub popped : (old new : Vec UndoEntry) (r : Option UndoEntry) → old.items ≡ new.items ++ option_to_list r → (0 < vec_len old → is_some r ≡ true) → 1 < length (seen old) → seen new ≡ drop 1 (seen old)
@@ -97,8 +97,8 @@ same_list es n t old v found changes same =
     seen_insert es n t v changes ∙ ap (λ l. insert (seen_undo es) t (reverse l)) same ∙ insert_known (seen_undo es) t (seen old) (got es t old found)
 
 -- one write less on a list
-shorter : (bytes : ℕ) (es n : List (ℕ × Vec UndoEntry)) (t : ℕ) (old v : Vec UndoEntry) (us : List UndoEntry) → us ≡ seen old → IsKept bytes (seen_undo es) → Some old ≡ lookup (is_at (nat_cmp t)) es → Changes es n t (Some v)
-    → seen v ≡ drop 1 us → 1 < length us → (19 ≤ bytes) × IsKept (bytes - 19) (seen_undo n)
+shorter : (bytes : ℕ) (es n : List (ℕ × Vec UndoEntry)) (t : ℕ) (old v : Vec UndoEntry) (us : List UndoEntry) → us ≡ seen old → IsReserve bytes (seen_undo es) → Some old ≡ lookup (is_at (nat_cmp t)) es → Changes es n t (Some v)
+    → seen v ≡ drop 1 us → 1 < length us → (19 ≤ bytes) × IsReserve (bytes - 19) (seen_undo n)
 shorter bytes es n t old v [] is kept found changes rest long = absurd (omega arith)
 shorter bytes es n t old v (u ∷ []) is kept found changes rest long = absurd (omega arith)
 shorter bytes es n t old v (u ∷ w ∷ ws) is kept found changes rest long =
@@ -108,8 +108,8 @@ shorter bytes es n t old v (u ∷ w ∷ ws) is kept found changes rest long =
     let enough : 19 ≤ bytes = omega arith in
     (enough, kept_put bytes (bytes - 19) es n t v w ws kept changes rest (omega arith))
 
-pub kept_shorter : (bytes : ℕ) (es n : List (ℕ × Vec UndoEntry)) (t : ℕ) (old v : Vec UndoEntry) → IsKept bytes (seen_undo es) → Some old ≡ lookup (is_at (nat_cmp t)) es → Changes es n t (Some v)
-    → seen v ≡ drop 1 (seen old) → 1 < length (seen old) → (19 ≤ bytes) × IsKept (bytes - 19) (seen_undo n)
+pub kept_shorter : (bytes : ℕ) (es n : List (ℕ × Vec UndoEntry)) (t : ℕ) (old v : Vec UndoEntry) → IsReserve bytes (seen_undo es) → Some old ≡ lookup (is_at (nat_cmp t)) es → Changes es n t (Some v)
+    → seen v ≡ drop 1 (seen old) → 1 < length (seen old) → (19 ≤ bytes) × IsReserve (bytes - 19) (seen_undo n)
 kept_shorter bytes es n t old v kept found changes rest long = shorter bytes es n t old v (seen old) refl kept found changes rest long
 
 -- what follows of an answer

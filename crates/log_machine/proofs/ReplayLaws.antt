@@ -7,14 +7,14 @@ use Rattle.log_machine.specs.Machine.{State, start, after, after_all, reserve}
 use Rattle.log_machine.proofs.ListLaws.{AllByRecursion-append}
 use Rattle.log_machine.proofs.MachineLaws.{after_all-append}
 use Rattle.log_machine.specs.Effect.{WritesBelow, EachWritesBelow}
-use Rattle.log_machine.specs.Sound.{IsSound}
+use Rattle.log_machine.specs.Sound.{AreLosers}
 use Rattle.log_machine.proofs.StateLaws.{sound_start, sound_after, leads_after, commits_few}
 use Rattle.log_machine.proofs.ReserveLaws.{reserve-start, reserve-after}
 use Rattle.log_machine.specs.Replay.{IsFirstUnshaped}
 
 -- What holds of the state behind i records.
 pub record Bounds (pages i : ℕ) (s : State) : Type 0 where
-  pub sound : IsSound s
+  pub sound : AreLosers s
   pub same_pages : s.pages ≡ pages
   pub few : s.commits ≤ i
   pub room : reserve s ≤ 29 * i

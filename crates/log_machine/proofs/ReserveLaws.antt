@@ -10,7 +10,7 @@ use Rattle.log_machine.specs.Machine.{State, undo_in, undo_of, with_entries, tur
 use Rattle.log_machine.specs.Entries.{sum_over, bytes_over}
 use Rattle.log_machine.proofs.MapLaws.{sum-insert, sum-remove, remove_absent, entries_empty}
 use Rattle.log_machine.proofs.MachineLaws.{standing, told_if, newest_told}
-use Rattle.log_machine.specs.Sound.{NoneEmpty, IsSound}
+use Rattle.log_machine.specs.Sound.{NoneEmpty, AreLosers}
 use Rattle.log_machine.proofs.AbortLaws.{none_standing, none_empty}
 
 -- the bytes that are kept for a transaction with these writes: none where there is none
@@ -31,7 +31,7 @@ pub bytes_with : (undo : FinMap nat_cmp (List UndoEntry)) (t : ℕ) (us : List U
 bytes_with undo t [] = omega arith
 bytes_with undo t (u ∷ us) = sum-insert undo_bytes undo t (u ∷ us)
 
-pub reserve-split : (s : State) (t : ℕ) → IsSound s → reserve s ≡ bytes_for (undo_of s t) + bytes_over (remove s.undo t)
+pub reserve-split : (s : State) (t : ℕ) → AreLosers s → reserve s ≡ bytes_for (undo_of s t) + bytes_over (remove s.undo t)
 reserve-split s t sound = bytes_split s.undo t (none_empty s sound)
 
 pub reserve-with : (s : State) (t : ℕ) (us : List UndoEntry) (more : ℕ) → reserve (turned s t (with_entries s.undo t us) more) ≡ bytes_for us + bytes_over (remove s.undo t)
@@ -50,7 +50,7 @@ bytes_less : (u : UndoEntry) (us : List UndoEntry) → bytes_for us ≤ bytes_fo
 bytes_less u [] = omega arith
 bytes_less u (w ∷ ws) = omega arith
 
-reserve_row : (s n : State) (r : Record) → IsSound s → row_after s r ≡ Some n → reserve n ≤ reserve s + 29
+reserve_row : (s n : State) (r : Record) → AreLosers s → row_after s r ≡ Some n → reserve n ≤ reserve s + 29
 reserve_row s n (Update t object field was word) sound e =
     let write : UndoEntry = record { object = object; field = field; was = was } in
     let told = cond_some _ _ _ e in
@@ -80,5 +80,5 @@ reserve_row s n (Commit t) sound e =
 reserve_row s n (End t) sound e = let told = cond_some _ _ _ e in let same = ap reserve told.1 in omega arith
 
 -- a record more keeps at most so many bytes more
-pub reserve-after : (s n : State) (r : Record) → IsSound s → after s r ≡ Some n → reserve n ≤ reserve s + 29
+pub reserve-after : (s n : State) (r : Record) → AreLosers s → after s r ≡ Some n → reserve n ≤ reserve s + 29
 reserve-after s n r sound e = let told = told_if _ _ _ e in reserve_row s n r sound told.1

@@ -14,10 +14,10 @@ use Rattle.log_machine.specs.declared.UndoEntry.{UndoEntry}
 use Rattle.log_machine.proofs.Entries.{IsEntry}
 use Rattle.log_machine.specs.UndoEntry.{LiesInside}
 use Rattle.log_machine.specs.Machine.{State, start, undo_in, undo_of, with_entries, number_of, is_number, turned, promoted, row_after, after, after_all, is_commit, commits, space_words}
-use Rattle.log_machine.specs.Entries.{EachEntry}
+use Rattle.log_machine.specs.Entries.{EachKeyed}
 use Rattle.log_machine.proofs.MapLaws.{each_empty, each_insert, each_remove}
 use Rattle.log_machine.proofs.MachineLaws.{told_if, free_told, newest_told, inside_told, number_small}
-use Rattle.log_machine.specs.Sound.{IsLoser, IsSound}
+use Rattle.log_machine.specs.Sound.{IsLoser, AreLosers}
 use Rattle.log_machine.proofs.Bounds.{HaveSpellings, CanRollBack, Turns, Leads}
 
 -- What one record does.
@@ -68,11 +68,11 @@ at_option P None t none each = none
 at_option P (Some v) t none each = each v refl
 
 -- what a transaction's writes are, where all of a map's are so
-pub each_at : (P : ℕ → List UndoEntry → Type 0) (undo : FinMap nat_cmp (List UndoEntry)) (t : ℕ) → P t [] → EachEntry P undo → P t (undo_in undo t)
+pub each_at : (P : ℕ → List UndoEntry → Type 0) (undo : FinMap nat_cmp (List UndoEntry)) (t : ℕ) → P t [] → EachKeyed P undo → P t (undo_in undo t)
 each_at P undo t none each = at_option P (get undo t) t none (λ v some. each t v some)
 
 -- the writes of each transaction lie inside
-pub all_inside : (s : State) (t : ℕ) → IsSound s → AllByRecursion (LiesInside s.base s.used) (undo_of s t)
+pub all_inside : (s : State) (t : ℕ) → AreLosers s → AllByRecursion (LiesInside s.base s.used) (undo_of s t)
 all_inside s t sound = each_at (λ q us. AllByRecursion (LiesInside s.base s.used) us) s.undo t tt (λ q us some. (sound q us some).inside)
 
 -- and have spellings
@@ -80,7 +80,7 @@ pub all_spelled : (undo : FinMap nat_cmp (List UndoEntry)) (t : ℕ) → HaveSpe
 all_spelled undo t good = each_at (λ q us. AllByRecursion IsEntry us) undo t tt good
 
 -- with other writes of one transaction
-pub sound_with : (s : State) (t : ℕ) (us : List UndoEntry) (more : ℕ) → is_number t ≡ true → AllByRecursion (LiesInside s.base s.used) us → IsSound s → IsSound (turned s t (with_entries s.undo t us) more)
+pub sound_with : (s : State) (t : ℕ) (us : List UndoEntry) (more : ℕ) → is_number t ≡ true → AllByRecursion (LiesInside s.base s.used) us → AreLosers s → AreLosers (turned s t (with_entries s.undo t us) more)
 sound_with s t [] more number inside sound =
     each_remove (IsLoser (turned s t (with_entries s.undo t []) more)) s.undo t (λ q w some. grown s t (with_entries s.undo t []) more q w (sound q w some))
 sound_with s t (u ∷ us) more number inside sound =
@@ -92,36 +92,36 @@ spelled_with undo t [] good each = each_remove (λ q us. AllByRecursion IsEntry 
 spelled_with undo t (u ∷ us) good each = each_insert (λ q us. AllByRecursion IsEntry us) undo t (u ∷ us) good each
 
 -- nothing may be taken back before the first record
-pub sound_start : (pages first : ℕ) → IsSound (start pages first)
+pub sound_start : (pages first : ℕ) → AreLosers (start pages first)
 sound_start pages first = each_empty (IsLoser (start pages first))
 
-sound_row : (s n : State) (r : Record) → is_number (number_of r) ≡ true → IsSound s → row_after s r ≡ Some n → IsSound n
+sound_row : (s n : State) (r : Record) → is_number (number_of r) ≡ true → AreLosers s → row_after s r ≡ Some n → AreLosers n
 sound_row s n (Update t object field was word) number sound e =
     let told = cond_some _ _ _ e in
     let write : UndoEntry = record { object = object; field = field; was = was } in
     let is : turned s t (with_entries s.undo t (write ∷ undo_of s t)) 0 ≡ n = told.1 in
-    subst IsSound is (sound_with s t (write ∷ undo_of s t) 0 number (inside_told s object field was told.0, all_inside s t sound) sound)
+    subst AreLosers is (sound_with s t (write ∷ undo_of s t) 0 number (inside_told s object field was told.0, all_inside s t sound) sound)
 sound_row s n (Base t address words) number sound e =
     let told = cond_some _ _ _ e in
     let is : promoted s t (length words) ≡ n = told.1 in
-    subst IsSound is (λ q w some. grown_on s t (length words) q w (sound q w some))
+    subst AreLosers is (λ q w some. grown_on s t (length words) q w (sound q w some))
 sound_row s n (Fix t object field word) number sound e =
     let told = cond_some _ _ _ e in
     let is : turned s t s.undo 0 ≡ n = told.1 in
-    subst IsSound is (λ q w some. grown s t s.undo 0 q w (sound q w some))
+    subst AreLosers is (λ q w some. grown s t s.undo 0 q w (sound q w some))
 sound_row s n (Undo t object field word) number sound e =
     let write : UndoEntry = record { object = object; field = field; was = word } in
     option_and_then_some (λ rest. Some (turned s t (with_entries s.undo t rest) 0)) _ n e (λ rest newest is.
     let same : turned s t (with_entries s.undo t rest) 0 ≡ n = cc is in
     let inside = subst (λ (l : List UndoEntry). AllByRecursion (LiesInside s.base s.used) l) (newest_told (undo_of s t) write rest newest) (all_inside s t sound) in
-    subst IsSound same (sound_with s t rest 0 number inside.1 sound))
+    subst AreLosers same (sound_with s t rest 0 number inside.1 sound))
 sound_row s n (Commit t) number sound e =
     let is : turned s t (with_entries s.undo t []) 1 ≡ n = cc e in
-    subst IsSound is (sound_with s t [] 1 number tt sound)
+    subst AreLosers is (sound_with s t [] 1 number tt sound)
 sound_row s n (End t) number sound e =
     let told = cond_some _ _ _ e in
     let is : turned s t s.undo 0 ≡ n = told.1 in
-    subst IsSound is (λ q w some. grown s t s.undo 0 q w (sound q w some))
+    subst AreLosers is (λ q w some. grown s t s.undo 0 q w (sound q w some))
 
 spelled_row : (s n : State) (r : Record) → IsRecord r → HaveSpellings s.undo → row_after s r ≡ Some n → HaveSpellings n.undo
 spelled_row s n (Update t object field was word) good each e =
@@ -153,12 +153,12 @@ spelled_row s n (End t) good each e =
     subst (λ (x : State). HaveSpellings x.undo) is each
 
 -- one record more leaves a sound state
-pub sound_after : (s n : State) (r : Record) → IsSound s → after s r ≡ Some n → IsSound n
+pub sound_after : (s n : State) (r : Record) → AreLosers s → after s r ≡ Some n → AreLosers n
 sound_after s n r sound e = let told = told_if _ _ _ e in sound_row s n r told.0 sound told.1
 
 -- so do these records
-pub sound_after_all : (s m : State) (rs : List Record) → IsSound s → after_all s rs ≡ Some m → IsSound m
-sound_after_all s m [] sound e = let same : s ≡ m = cc e in subst IsSound same sound
+pub sound_after_all : (s m : State) (rs : List Record) → AreLosers s → after_all s rs ≡ Some m → AreLosers m
+sound_after_all s m [] sound e = let same : s ≡ m = cc e in subst AreLosers same sound
 sound_after_all s m (r ∷ rs) sound e = option_and_then_some (λ next. after_all next rs) (after s r) m e (λ next first rest. sound_after_all next m rs (sound_after s next r sound first) rest)
 
 -- one record more leaves undos that have spellings

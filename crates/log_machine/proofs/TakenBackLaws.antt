@@ -11,10 +11,10 @@ use Rattle.std.proofs.lemmas.List.{set-set, set_comm, set-get_or}
 use Rattle.log_records.specs.declared.Record.TheVariants.{Update}
 use Rattle.log_machine.specs.declared.UndoEntry.{UndoEntry}
 use Rattle.log_machine.specs.Machine.{State, Loser, field_at, undo_of, with_entries, with_word, turned, put_record, taken_back, each_taken_back, all_taken_back, abort_records, rollback}
-use Rattle.log_machine.specs.Entries.{EachEntry}
+use Rattle.log_machine.specs.Entries.{EachKeyed}
 use Rattle.log_machine.proofs.MapLaws.{get_removed, insert_remove, insert_known, remove_absent, entries_empty, each_entry, each_other}
 use Rattle.log_machine.proofs.MachineLaws.{standing}
-use Rattle.log_machine.specs.Sound.{IsSound}
+use Rattle.log_machine.specs.Sound.{AreLosers}
 use Rattle.log_machine.proofs.AbortLaws.{settled, none_standing, none_empty, abort_words, rollback_words}
 use Rattle.log_machine.proofs.Fields.{written, AreApart, IsApart}
 use Rattle.log_machine.specs.Apart.{others_taken_back}
@@ -50,7 +50,7 @@ each_put t us (e ∷ es) now none other =
     put_step t us e es (put nat_cmp t us es) now (nat_cmp t e.0) none other.0 (λ gone. each_put t us es (taken_back e.1 now) gone other.1)
 
 -- the same in a map
-insert_first : (undo : FinMap nat_cmp (List UndoEntry)) (t : ℕ) (us : List UndoEntry) (now : List ℕ) → EachEntry (λ q vs. q ≢ t → AreApart us vs) undo
+insert_first : (undo : FinMap nat_cmp (List UndoEntry)) (t : ℕ) (us : List UndoEntry) (now : List ℕ) → EachKeyed (λ q vs. q ≢ t → AreApart us vs) undo
     → each_taken_back (entries (insert undo t us)) now ≡ each_taken_back (entries (remove undo t)) (taken_back us now)
 insert_first undo t us now other =
     ap (λ n. each_taken_back (entries n) now) (sym (insert_remove undo t us))
@@ -58,20 +58,20 @@ insert_first undo t us now other =
     ∙ each_put t us (entries (remove undo t)) now (sym (get-entries (remove undo t) t) ∙ get_removed undo t)
     (each_entry (λ q vs. AreApart us vs) (remove undo t) (each_other (λ q vs. AreApart us vs) undo t other))
 
-taken_first : (s : State) (t : ℕ) (us : List UndoEntry) (now : List ℕ) → IsSound s → undo_of s t ≡ us → IsApart s t us → all_taken_back s now ≡ others_taken_back s t (taken_back us now)
+taken_first : (s : State) (t : ℕ) (us : List UndoEntry) (now : List ℕ) → AreLosers s → undo_of s t ≡ us → IsApart s t us → all_taken_back s now ≡ others_taken_back s t (taken_back us now)
 taken_first s t [] now sound own other = ap (λ n. each_taken_back (entries n) now) (sym (remove_absent s.undo t (none_standing s.undo t (none_empty s sound) own)))
 taken_first s t (u ∷ us) now sound own other =
     ap (λ n. each_taken_back (entries n) now) (sym (insert_known s.undo t (u ∷ us) (standing s.undo t u us own)))
     ∙ insert_first s.undo t (u ∷ us) now other
 
 -- a transaction's writes may be taken back first
-pub all_taken_back-first : (s : State) (t : ℕ) (now : List ℕ) → IsSound s → IsApart s t (undo_of s t) → all_taken_back s now ≡ others_taken_back s t (taken_back (undo_of s t) now)
+pub all_taken_back-first : (s : State) (t : ℕ) (now : List ℕ) → AreLosers s → IsApart s t (undo_of s t) → all_taken_back s now ≡ others_taken_back s t (taken_back (undo_of s t) now)
 all_taken_back-first s t now sound other = taken_first s t (undo_of s t) now sound refl other
 
 -- Behind records.
 
 -- a write is taken back with the others
-pub taken_back-Update : (s : State) (now : List ℕ) (t object field was word : ℕ) → IsSound s → get_or now (field_at object field) 0 ≡ was → IsApart s t (record { object = object; field = field; was = was } ∷ undo_of s t)
+pub taken_back-Update : (s : State) (now : List ℕ) (t object field was word : ℕ) → AreLosers s → get_or now (field_at object field) 0 ≡ was → IsApart s t (record { object = object; field = field; was = was } ∷ undo_of s t)
     → all_taken_back (turned s t (with_entries s.undo t (record { object = object; field = field; was = was } ∷ undo_of s t)) 0) (put_record now (Update t object field was word)) ≡ all_taken_back s now
 taken_back-Update s now t object field was word sound stood other =
     let write : UndoEntry = record { object = object; field = field; was = was } in
@@ -81,7 +81,7 @@ taken_back-Update s now t object field was word sound stood other =
     ∙ sym (all_taken_back-first s t now sound (λ q vs some apart. (other q vs some apart).1))
 
 -- the records of an abort take its transaction's writes back before the others
-pub taken_back-abort : (s : State) (now : List ℕ) (t : ℕ) → IsSound s → IsApart s t (undo_of s t)
+pub taken_back-abort : (s : State) (now : List ℕ) (t : ℕ) → AreLosers s → IsApart s t (undo_of s t)
     → all_taken_back (turned s t (with_entries s.undo t []) 0) (fold put_record now (abort_records t (undo_of s t))) ≡ all_taken_back s now
 taken_back-abort s now t sound other = ap (λ x. others_taken_back s t x) (abort_words t (undo_of s t) now) ∙ sym (all_taken_back-first s t now sound other)
 

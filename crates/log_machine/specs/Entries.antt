@@ -15,8 +15,8 @@ sum_over f es = sum_by (λ e. f e.1) es
 -- What holds of each value.
 
 -- something holds of each key and its value
-abbrev pub EachEntry : {X : Type 0} → (ℕ → X → Type 0) → FinMap nat_cmp X → Type 0
-EachEntry {X} P m = (k : ℕ) (v : X) → get m k ≡ Some v → P k v
+abbrev pub EachKeyed : {X : Type 0} → (ℕ → X → Type 0) → FinMap nat_cmp X → Type 0
+EachKeyed {X} P m = (k : ℕ) (v : X) → get m k ≡ Some v → P k v
 
 -- the bytes that are kept for all of them
 abbrev pub bytes_over : FinMap nat_cmp (List UndoEntry) → ℕ

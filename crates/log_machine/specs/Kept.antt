@@ -7,6 +7,6 @@ use Rattle.log_machine.specs.Sound.{NoneEmpty}
 use Rattle.log_machine.specs.Entries.{bytes_over}
 
 -- So many bytes are kept for these lists, none of which is empty.
-pub record IsKept (bytes : ℕ) (undo : FinMap nat_cmp (List UndoEntry)) : Type 0 where
+pub record IsReserve (bytes : ℕ) (undo : FinMap nat_cmp (List UndoEntry)) : Type 0 where
   pub sum : bytes ≡ bytes_over undo
   pub some : NoneEmpty undo

@@ -6,7 +6,7 @@ use Rattle.std.specs.FinMap.{FinMap}
 use Rattle.log_machine.specs.declared.UndoEntry.{UndoEntry}
 use Rattle.log_machine.specs.UndoEntry.{LiesInside}
 use Rattle.log_machine.specs.Machine.{State, space_words, words_in, is_number}
-use Rattle.log_machine.specs.Entries.{EachEntry}
+use Rattle.log_machine.specs.Entries.{EachKeyed}
 
 -- A transaction whose writes may be taken back, and these.
 pub record IsLoser (s : State) (t : ℕ) (entries : List UndoEntry) : Type 0 where
@@ -17,15 +17,15 @@ pub record IsLoser (s : State) (t : ℕ) (entries : List UndoEntry) : Type 0 whe
 
 -- no transaction has an empty list
 abbrev pub NoneEmpty : FinMap nat_cmp (List UndoEntry) → Type 0
-NoneEmpty undo = EachEntry (λ t entries. entries ≢ []) undo
+NoneEmpty undo = EachKeyed (λ t entries. entries ≢ []) undo
 
 -- each of the transactions whose writes may be taken back is such
-abbrev pub IsSound : State → Type 0
-IsSound s = EachEntry (IsLoser s) s.undo
+abbrev pub AreLosers : State → Type 0
+AreLosers s = EachKeyed (IsLoser s) s.undo
 
 -- What holds of every state that records reach in a heap that has the root object.
 pub record IsConsistent (s : State) : Type 0 where
-  pub sound : IsSound s
+  pub sound : AreLosers s
   pub addresses : words_in s.pages ≤ 2 ^ 32  -- an address has 32 bits
   pub based : s.base ≤ space_words s.pages  -- the current space is one of the two
   pub room : s.used ≤ space_words s.pages  -- its used words are words of its pages

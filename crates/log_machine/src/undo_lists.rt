@@ -34,7 +34,7 @@ impl Model for UndoLists {
     ghost use Rattle.log_machine.specs.declared.UndoEntry.{UndoEntry};
     ghost use Rattle.log_machine.specs.StateCode.{undo_code};
     ghost use Rattle.log_machine.specs.Seen.{seen_undo};
-    ghost use Rattle.log_machine.specs.Kept.{IsKept};
+    ghost use Rattle.log_machine.specs.Kept.{IsReserve};
 
     ghost Value = { map.FinMap nat_cmp (List UndoEntry) };
 
@@ -42,7 +42,7 @@ impl Model for UndoLists {
 
     ghost view = { λ s. seen_undo s.lists.entries };
 
-    ghost invariant = { λ s. IsKept s.reserve (seen_undo s.lists.entries) };
+    ghost invariant = { λ s. IsReserve s.reserve (seen_undo s.lists.entries) };
 }
 
 impl UndoLists {

@@ -1,3 +1,4 @@
+pub mod Does
 pub mod Kept
 pub mod Refusal
 pub mod Step

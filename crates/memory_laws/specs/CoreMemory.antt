@@ -4,11 +4,9 @@ use Rattle.std.specs.FinSet as set
 use Rattle.std.specs.List.{Contains}
 use Rattle.std.specs.Option.{option_map}
 use Rattle.gated_log.specs.LogState.{Keeps, log_place, log_room}
-use Rattle.graph_model.specs.declared.event.Event.{Event}
 use Rattle.graph_model.specs.declared.id.Id.{Id}
-use Rattle.graph_model.specs.declared.reply.Reply.{Reply}
 use Rattle.graph_model.specs.Graph.{Graph}
-use Rattle.graph_model.specs.History.{Account, account}
+use Rattle.graph_model.specs.History.{Account}
 use Rattle.graph_model.specs.Locking.{Mode, Shared, Exclusive, locks_of}
 use Rattle.graph_model.specs.Plain.{view}
 use Rattle.graph_model.specs.Transaction.{View, Transaction, serial}
@@ -27,7 +25,7 @@ use Rattle.txn_table.specs.declared.place.Place.TheVariants.{Stable, Volatile}
 use Rattle.txn_table.specs.Table.{TransactionState}
 use Rattle.graph_words.specs.Places.{Places, address_of, index_of}
 use Rattle.heap_memory.specs.Memory.{Memory, own}
-use Rattle.heap_model.specs.Core.{Core, Ground, ground, all_records, all_words, state_behind, undo_with, area_in, present_lsn, answer, after}
+use Rattle.heap_model.specs.Core.{Core, Ground, ground, all_records, all_words, state_behind, undo_with, area_in, present_lsn}
 
 -- the place of an object by its address, if it has one, and by its index
 abbrev pub standing_place : Option ℕ → ℕ → Place
@@ -88,8 +86,3 @@ pub record IsMemory (m : Memory) (a : Account) (c : Core) : Type 0 where
   pub locks : AreHeld m.locks c.places c.g0 a
   pub next : m.table.next ≡ c.first + a.begun
   pub sealed : m.sealed ≡ length a.sealed
-
--- An event was answered as the core answers it, and left in memory what the core is then.
-pub record Does (c : Core) (event : Event) (reply : Reply) (new : Memory) : Type 0 where
-  pub replied : reply ≡ answer c event
-  pub memory : IsMemory new (account (after c event).history) (after c event)

@@ -10,7 +10,7 @@ use Rattle.std.proofs.lemmas.Cmp.{tied_itself}
 use Rattle.object_locks.specs.declared.holding.Holding.{Holding}
 use Rattle.object_locks.specs.Conflict.{conflicts}
 use Rattle.object_locks.specs.Holder.{lesser, least_in_conflict, holder_of}
-use Rattle.object_locks.specs.Holdings.{Holdings, holding_cmp, IsFree, IsLeastInConflict}
+use Rattle.object_locks.specs.Holdings.{Holdings, holding_cmp, MayHold, IsLeastInConflict}
 use Rattle.object_locks.proofs.HoldingOrder.{holding_total, holding_exact}
 
 -- whether one of these holdings is this
@@ -48,12 +48,15 @@ module _ (asked : Holding) where
     conflict : conflicts holding asked ≡ true
     is : holding.transaction ≡ t
     below : (h : Holding) → has hs h ≡ true → conflicts h asked ≡ true → t ≤ h.transaction
+
   -- none of them is in conflict
   abbrev AreFree : List Holding → Type 0
   AreFree hs = (h : Holding) → has hs h ≡ true → conflicts h asked ≡ false
+
   none_more : (h : Holding) (hs : List Holding) → conflicts h asked ≡ false → AreFree hs → AreFree (h ∷ hs)
   none_more h hs apart free x there =
       one_of (eq_by_cmp holding_cmp x h) (has hs x) (conflicts x asked ≡ false) there (λ tie. ap (λ (y : Holding). conflicts y asked) (same x h tie) ∙ apart) (free x)
+
   one_more : (h : Holding) (hs : List Holding) (t : ℕ) → conflicts h asked ≡ false → IsLeast hs t → IsLeast (h ∷ hs) t
   one_more h hs t apart least = record {
     holding = least.holding;
@@ -64,6 +67,7 @@ module _ (asked : Holding) where
         one_of (eq_by_cmp holding_cmp x h) (has hs x) (t ≤ x.transaction) there
         (λ tie. absurd (true≢false (sym conflict ∙ ap (λ (y : Holding). conflicts y asked) (same x h tie) ∙ apart))) (λ rest. least.below x rest conflict);
   }
+
   alone : (h : Holding) (hs : List Holding) → conflicts h asked ≡ true → AreFree hs → IsLeast (h ∷ hs) h.transaction
   alone h hs clash free = record {
     holding = h;
@@ -74,6 +78,7 @@ module _ (asked : Holding) where
         one_of (eq_by_cmp holding_cmp x h) (has hs x) (h.transaction ≤ x.transaction) there
         (λ tie. let at = ap (λ (y : Holding). y.transaction) (same x h tie) in omega arith) (λ rest. absurd (true≢false (sym conflict ∙ free x rest)));
   }
+
   lesser_of : (h : Holding) (hs : List Holding) (m t : ℕ) → conflicts h asked ≡ true → IsLeast hs m → lesser h.transaction (Some m) ≡ t → IsLeast (h ∷ hs) t
   lesser_of h hs m t clash least is =
       let below : (x : Holding) → has (h ∷ hs) x ≡ true → conflicts x asked ≡ true → t ≤ x.transaction = λ x there conflict.
@@ -83,14 +88,17 @@ module _ (asked : Holding) where
         | inl less ↦ record { holding = h; there = first h hs; conflict = clash; is = omega arith; below = below }
         | inr not_less ↦ record { holding = least.holding; there = later h hs least.holding least.there; conflict = least.conflict; is = omega (arith, least.is); below = below }
       ]
+
   -- What is found of these holdings.
   abbrev Found : List Holding → Option ℕ → Type 0
   Found hs o = MatchOption o (AreFree hs) (IsLeast hs)
+
   found_with : (h : Holding) (hs : List Holding) (o : Option ℕ) (b : Bool) → conflicts h asked ≡ b → Found hs o → Found (h ∷ hs) (cond b (Some (lesser h.transaction o)) o)
   found_with h hs None true clash free = alone h hs clash free
   found_with h hs (Some m) true clash least = lesser_of h hs m (lesser h.transaction (Some m)) clash least refl
   found_with h hs None false apart free = none_more h hs apart free
   found_with h hs (Some m) false apart least = one_more h hs m apart least
+
   found : (hs : List Holding) → Found hs (least_in_conflict asked hs)
   found [] = λ h there. cc
   found (h ∷ hs) = found_with h hs (least_in_conflict asked hs) (conflicts h asked) refl (found hs)
@@ -100,7 +108,7 @@ module _ (asked : Holding) where
 stands : (held : Holdings) (h : Holding) → set.contains held h ≡ has (set.items held) h
 stands held h = set.contains-items held h
 
-known : (held : Holdings) (asked : Holding) (o : Option ℕ) → Found asked (set.items held) o → MatchOption o (IsFree held asked) (IsLeastInConflict held asked)
+known : (held : Holdings) (asked : Holding) (o : Option ℕ) → Found asked (set.items held) o → MatchOption o (MayHold held asked) (IsLeastInConflict held asked)
 known held asked None free = λ h there. free h (sym (stands held h) ∙ there)
 known held asked (Some t) least = record {
   conflicts = (least.holding, stands held least.holding ∙ least.there, least.conflict, least.is);
@@ -110,11 +118,11 @@ known held asked (Some t) least = record {
 }
 
 -- nothing is in the way, or the least transaction that is
-pub holder_is : (held : Holdings) (asked : Holding) → MatchOption (holder_of held asked) (IsFree held asked) (IsLeastInConflict held asked)
+pub holder_is : (held : Holdings) (asked : Holding) → MatchOption (holder_of held asked) (MayHold held asked) (IsLeastInConflict held asked)
 holder_is held asked = known held asked (holder_of held asked) (found asked (set.items held))
 
 -- there is one answer alone
-only_answer : (held : Holdings) (asked : Holding) (o p : Option ℕ) → MatchOption o (IsFree held asked) (IsLeastInConflict held asked) → MatchOption p (IsFree held asked) (IsLeastInConflict held asked) → o ≡ p
+only_answer : (held : Holdings) (asked : Holding) (o p : Option ℕ) → MatchOption o (MayHold held asked) (IsLeastInConflict held asked) → MatchOption p (MayHold held asked) (IsLeastInConflict held asked) → o ≡ p
 only_answer held asked None None free also = refl
 only_answer held asked None (Some u) free least = let c = least.conflicts in absurd (true≢false (sym c.2 ∙ free c.0 c.1))
 only_answer held asked (Some t) None least free = let c = least.conflicts in absurd (true≢false (sym c.2 ∙ free c.0 c.1))
@@ -125,15 +133,15 @@ only_answer held asked (Some t) (Some u) first_is then_is =
     ap Some one
 
 -- what a test for the lock finds
-pub holder_found : (held : Holdings) (asked : Holding) (o : Option ℕ) → MatchOption o (IsFree held asked) (IsLeastInConflict held asked) → o ≡ holder_of held asked
+pub holder_found : (held : Holdings) (asked : Holding) (o : Option ℕ) → MatchOption o (MayHold held asked) (IsLeastInConflict held asked) → o ≡ holder_of held asked
 holder_found held asked o is = only_answer held asked o (holder_of held asked) is (holder_is held asked)
 
-pub find_free : (held : Holdings) (asked : Holding) → IsFree held asked → holder_of held asked ≡ None
+pub find_free : (held : Holdings) (asked : Holding) → MayHold held asked → holder_of held asked ≡ None
 find_free held asked free = sym (holder_found held asked None free)
 
 pub find_least : (held : Holdings) (asked : Holding) (t : ℕ) → IsLeastInConflict held asked t → holder_of held asked ≡ Some t
 find_least held asked t least = sym (holder_found held asked (Some t) least)
 
 -- and back
-pub free_found : (held : Holdings) (asked : Holding) → holder_of held asked ≡ None → IsFree held asked
-free_found held asked is = subst (λ (o : Option ℕ). MatchOption o (IsFree held asked) (IsLeastInConflict held asked)) is (holder_is held asked)
+pub free_found : (held : Holdings) (asked : Holding) → holder_of held asked ≡ None → MayHold held asked
+free_found held asked is = subst (λ (o : Option ℕ). MatchOption o (MayHold held asked) (IsLeastInConflict held asked)) is (holder_is held asked)

@@ -12,7 +12,7 @@ use Rattle.object_locks.specs.declared.holding.Mode.TheVariants.{Shared}
 use Rattle.object_locks.specs.declared.holding.Holding.{Holding}
 use Rattle.object_locks.specs.declared.lock_table.Owned.{Owned}
 use Rattle.object_locks.specs.contracts.lock_table.OwnedOrd.TheImpl as owned_ord
-use Rattle.object_locks.specs.Holdings.{Holdings, holding_cmp, writing, IsFree, IsLeastInConflict}
+use Rattle.object_locks.specs.Holdings.{Holdings, holding_cmp, writing, MayHold, IsLeastInConflict}
 use Rattle.object_locks.specs.Conflict.{conflicts}
 use Rattle.object_locks.specs.Table.{owned_cmp, owned, of_object, on_object, IsTable, HasNone}
 use Rattle.object_locks.proofs.Orders.{by_transaction_is, holding_total, holding_exact, first_on_object, last_on_object, least_on_object, first_of_transaction, upto_number}
@@ -118,7 +118,7 @@ seen_holding : (s : BTreeSet Holding) (held : Holdings) (h : Holding) → set.fr
 seen_holding s held h is = ap (λ g. set.contains g h) (sym is) ∙ set.contains-from_list holding_total s.keys h
 
 -- no conflict is found
-pub free : (s : BTreeSet Holding) (t : BTreeSet Owned) (held : Holdings) (asked : Holding) → set.from_list s.keys ≡ held → IsTable s t → find (λ h. conflicts h asked) (on_object s asked.key) ≡ None → IsFree held asked
+pub free : (s : BTreeSet Holding) (t : BTreeSet Owned) (held : Holdings) (asked : Holding) → set.from_list s.keys ≡ held → IsTable s t → find (λ h. conflicts h asked) (on_object s asked.key) ≡ None → MayHold held asked
 free s t held asked is table none h there =
     let stands = sym (seen_holding s held h is) ∙ there in
     not_true _ (λ e. true≢false (sym e ∙ find-none holding_total holding_exact (λ x. conflicts x asked) (of_object asked.key) s.keys none h stands (conflict_in_range h asked e (table.small h stands))))

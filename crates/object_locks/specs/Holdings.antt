@@ -36,8 +36,8 @@ abbrev pub IsInConflict : Holdings → Holding → ℕ → Type 0
 IsInConflict held asked t = (h : Holding) × (set.contains held h ≡ true) × (conflicts h asked ≡ true) × (h.transaction ≡ t)
 
 -- nothing that is held conflicts with what is asked for
-abbrev pub IsFree : Holdings → Holding → Type 0
-IsFree held asked = (h : Holding) → set.contains held h ≡ true → conflicts h asked ≡ false
+abbrev pub MayHold : Holdings → Holding → Type 0
+MayHold held asked = (h : Holding) → set.contains held h ≡ true → conflicts h asked ≡ false
 
 -- t is the least transaction in conflict with what is asked for
 pub record IsLeastInConflict (held : Holdings) (asked : Holding) (t : ℕ) : Type 0 where

@@ -6,7 +6,7 @@ ghost use Rattle.std.specs.Prelude.{◌≡◌, OnOk, OnErr, IfOk, IfErr, MatchOp
 ghost use Rattle.std.specs.BTreeMap as tree;
 ghost use Rattle.std.specs.BTreeSet.{IsOrdered};
 ghost use Rattle.std.specs.FinSet as set;
-ghost use Rattle.object_locks.specs.Holdings.{holding_cmp, reading, writing, IsFree, IsLeastInConflict, without, moved, rekeyed};
+ghost use Rattle.object_locks.specs.Holdings.{holding_cmp, reading, writing, MayHold, IsLeastInConflict, without, moved, rekeyed};
 ghost use Rattle.object_locks.specs.Table.{owned, on_object, IsOf, HasNone, key_cmp, AddsMove};
 ghost use Rattle.object_locks.specs.Conflict.{conflicts};
 ghost use Rattle.object_locks.specs.Refused.{IsCause};
@@ -63,7 +63,7 @@ impl LockTable {
     /// The transaction that stands in the way of `asked`, if one does: of those that hold what conflicts, the one with the least number. A
     /// lock that is asked for and not stood in the way of is refused only for want of memory.
     pub fn conflict(&self, asked: Holding) -> Option<u32>
-        ensures { MatchOption result (IsFree self.now asked) (IsLeastInConflict self.now asked) }
+        ensures { MatchOption result (MayHold self.now asked) (IsLeastInConflict self.now asked) }
     {
         let held = find_conflict(&self.by_object, asked)?;
         Some(held.transaction)
@@ -72,7 +72,7 @@ impl LockTable {
     /// Transaction `t` locks an object to read it. An error changes nothing.
     pub fn read_lock(&mut self, key: Key, t: u32) -> Result<(), LockError>
         ensures granted { OnOk result (self.new ≡ set.insert self.old (reading t key)) }
-        ensures free { OnOk result (IsFree self.old (reading t key)) }
+        ensures free { OnOk result (MayHold self.old (reading t key)) }
         ensures busy { IfErr result (IsCause self.old (reading t key)) }
         ensures err { OnErr result (self.new ≡ self.old) }
     {
@@ -86,7 +86,7 @@ impl LockTable {
     /// Transaction `t` locks an object to write it. Its own lock to read it is not in the way, those of others are. An error changes nothing.
     pub fn write_lock(&mut self, key: Key, t: u32) -> Result<(), LockError>
         ensures granted { OnOk result (self.new ≡ set.insert self.old (writing t key)) }
-        ensures free { OnOk result (IsFree self.old (writing t key)) }
+        ensures free { OnOk result (MayHold self.old (writing t key)) }
         ensures busy { IfErr result (IsCause self.old (writing t key)) }
         ensures err { OnErr result (self.new ≡ self.old) }
     {
@@ -99,7 +99,7 @@ impl LockTable {
 
     /// Takes a lock in whose way no other transaction stands, as `conflict` says. An error changes nothing.
     pub fn take(&mut self, lock: Holding) -> Result<(), AllocError>
-        requires { IsFree self.old lock }
+        requires { MayHold self.old lock }
         ensures taken { OnOk result (self.new ≡ set.insert self.old lock) }
         ensures err { OnErr result (self.new ≡ self.old) }
     {
@@ -109,7 +109,7 @@ impl LockTable {
     // Takes the lock that is asked for, if it is free.
     fn lock(&mut self, asked: Holding) -> Result<(), LockError>
         ensures granted { OnOk result (self.new ≡ set.insert self.old asked) }
-        ensures free { OnOk result (IsFree self.old asked) }
+        ensures free { OnOk result (MayHold self.old asked) }
         ensures busy { IfErr result (IsCause self.old asked) }
         ensures err { OnErr result (self.new ≡ self.old) }
     {

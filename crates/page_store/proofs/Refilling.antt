@@ -8,7 +8,7 @@ use Rattle.disk_model.proofs.MomentLaws.{weaker, joined}
 use Rattle.disk_model.specs.declared.disk.Disk.{Ghosts}
 use Rattle.disk_model.specs.declared.disk.DiskError.{DiskError}
 use Rattle.counts.specs.Count.{counted}
-use Rattle.gate_slot.specs.Gate.{IsClosed, closed, SameButGate, IsFilling}
+use Rattle.gate_slot.specs.Gate.{IsGateClosed, closed, SameButGate, IsFilling}
 use Rattle.gate_slot.specs.Passing.{Passes}
 use Rattle.gate_slot.proofs.PassingLaws.{joined as joined_calls, cut_short}
 use Rattle.page_store.specs.Refill.{IsRefilling}
@@ -19,7 +19,7 @@ module _ {D : Type 0} (g : Ghosts D) (gate : ℕ) (body : List ℕ) where
 
   -- while the gate is closed
   pub closing : (old mid : D) → Only (g.bytes old) (g.may_leave old) → Run old mid (λ c. (d : List ℕ) × g.may_leave old d × SameButGate gate d c)
-      → (IsClosed gate (g.bytes old) → Run old mid (g.may_leave old)) → Run old mid (IsRefilling gate body (g.bytes old))
+      → (IsGateClosed gate (g.bytes old) → Run old mid (g.may_leave old)) → Run old mid (IsRefilling gate body (g.bytes old))
   closing old mid only run alone = elim (cases_eq (get_or (g.bytes old) gate 0) 1) [
     | inl is_open ↦ weaker g.moment g.left_since old mid _ _ run (λ c from. inr (inl (is_open, subst (λ (d : List ℕ). SameButGate gate d c) (only from.0 from.1) from.2)))
     | inr shut ↦ weaker g.moment g.left_since old mid _ _ (alone shut) (λ c left. inl (only c left))

@@ -16,7 +16,7 @@ use Rattle.script_text.specs.declared.line.Line.TheVariants.{One}
 use Rattle.script_text.specs.Number.{value_from, value, number}
 use Rattle.script_text.specs.Line.{pieces, words, session, numbers, call_of, read_text}
 use Rattle.script_text.proofs.LineLaws.{line_of-session}
-use Rattle.script_text.specs.Printed.{numbers_of, AreSpellable}
+use Rattle.script_text.specs.Printed.{spelled_numbers, AreSpellable}
 
 -- digits and their value, as the laws of printed numbers name them
 model : IsNumeralModel (λ ds. list_all is_ascii_digit ds ≡ true) value
@@ -147,7 +147,7 @@ flush_read p spelled =
     let each = and_from _ _ refl (decimal_words (p ∷ []) (spelled, tt)) in rw (words-join (codes "flush") (decimal p ∷ []) each, number-decimal p spelled) refl
 
 -- A printed event is a line of a script, and is read as what it was.
-pub read_text-event_text : (event : Event) → IsOfSession event → AreSpellable (numbers_of event) → read_text (event_text event) ≡ Some (One event)
+pub read_text-event_text : (event : Event) → IsOfSession event → AreSpellable (spelled_numbers event) → read_text (event_text event) ≡ Some (One event)
 read_text-event_text (Begin s) own spelled = event_read (Begin s) s (codes "begin") [] own refl refl spelled refl
 read_text-event_text (Root s h) own spelled = event_read (Root s h) s (codes "root") (h ∷ []) own (simp append_assoc) refl spelled refl
 read_text-event_text (New s h len) own spelled = event_read (New s h len) s (codes "new") (h ∷ len ∷ []) own (simp append_assoc) refl spelled refl

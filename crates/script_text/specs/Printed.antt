@@ -6,18 +6,18 @@ use Rattle.graph_model.specs.declared.event.Event.TheVariants.{Root, New, Put, C
 use Rattle.script_text.specs.Line.{numbers}
 
 -- the numbers behind an event's verb
-abbrev pub numbers_of : Event → List ℕ
-numbers_of (Root s h) = h ∷ []
-numbers_of (New s h len) = h ∷ len ∷ []
-numbers_of (Put s h i v) = h ∷ i ∷ v ∷ []
-numbers_of (Clear s h i) = h ∷ i ∷ []
-numbers_of (Link s h i h2) = h ∷ i ∷ h2 ∷ []
-numbers_of (Drop s h) = h ∷ []
-numbers_of (Get s h i h2) = h ∷ i ∷ h2 ∷ []
-numbers_of (Same s h h2) = h ∷ h2 ∷ []
-numbers_of (Len s h) = h ∷ []
-numbers_of (Flush p) = p ∷ []
-numbers_of event = []
+abbrev pub spelled_numbers : Event → List ℕ
+spelled_numbers (Root s h) = h ∷ []
+spelled_numbers (New s h len) = h ∷ len ∷ []
+spelled_numbers (Put s h i v) = h ∷ i ∷ v ∷ []
+spelled_numbers (Clear s h i) = h ∷ i ∷ []
+spelled_numbers (Link s h i h2) = h ∷ i ∷ h2 ∷ []
+spelled_numbers (Drop s h) = h ∷ []
+spelled_numbers (Get s h i h2) = h ∷ i ∷ h2 ∷ []
+spelled_numbers (Same s h h2) = h ∷ h2 ∷ []
+spelled_numbers (Len s h) = h ∷ []
+spelled_numbers (Flush p) = p ∷ []
+spelled_numbers event = []
 
 -- A script can spell these numbers: they are below 2 ^ 64.
 abbrev pub AreSpellable : List ℕ → Type 0

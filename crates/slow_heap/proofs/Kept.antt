@@ -24,7 +24,7 @@ use Rattle.graph_model.specs.Replies.{IsCallReply}
 use Rattle.graph_model.proofs.Runs.History.{call-IsCallReply, account-append, account_after-call, serial-append}
 use Rattle.slow_heap.specs.Objects.{graph_of}
 use Rattle.graph_model.proofs.Refusals.Plain.{IsNoFault, account_after-refused}
-use Rattle.slow_heap.specs.SlowHeap.{IsKept, Leaves, seen_by}
+use Rattle.slow_heap.specs.SlowHeap.{IsSlowHeap, Leaves, seen_by}
 
 -- the objects after so many sealed transactions
 abbrev States : Type 0
@@ -32,16 +32,16 @@ States = List (List (Id × List Val))
 
 -- one entry more
 pub kept_entry : (h new : List Entry) (e : Entry) (next : ℕ) (active : BTreeMap ℕ Transaction) (states : States)
-    → new ≡ h ++ e ∷ [] → IsKept (account_after (account h) e) next active states → IsKept (account new) next active states
+    → new ≡ h ++ e ∷ [] → IsSlowHeap (account_after (account h) e) next active states → IsSlowHeap (account new) next active states
 kept_entry h new e next active states is k =
-    let P : Account → Type 0 = λ a. IsKept a next active states in
+    let P : Account → Type 0 = λ a. IsSlowHeap a next active states in
     subst P (sym (ap account is ∙ account-append h e)) k
 
 -- one refusal more
 pub kept_refused : (a : Account) (next : ℕ) (active : BTreeMap ℕ Transaction) (states : States) (event : Event) (why : Refusal)
-    → IsNoFault why → IsKept a next active states → IsKept (account_after a (record { event = event; reply = Refused why })) next active states
+    → IsNoFault why → IsSlowHeap a next active states → IsSlowHeap (account_after a (record { event = event; reply = Refused why })) next active states
 kept_refused a next active states event why h k =
-    let P : Account → Type 0 = λ b. IsKept b next active states in
+    let P : Account → Type 0 = λ b. IsSlowHeap b next active states in
     subst P (sym (account_after-refused a event why h)) (record {
       unfailed = k.unfailed;
       numbered = k.numbered;
@@ -57,11 +57,11 @@ updated active after f s w own updates q = grind (arith, common_steps, own q, up
 
 -- a call that was not refused
 pub kept_called : (a : Account) (next s : ℕ) (active after : BTreeMap ℕ Transaction) (states : States) (t : Transaction) (event : Event) (reply : Reply)
-    → IsKept a next active states → s ≡ session_of event → a.active s ≡ Some t → IsCallReply reply
+    → IsSlowHeap a next active states → s ≡ session_of event → a.active s ≡ Some t → IsCallReply reply
     → tree.Updates nat_cmp active after s (Some (record { number = t.number; calls = t.calls ++ event ∷ [] }))
-    → IsKept (account_after a (record { event = event; reply = reply })) next after states
+    → IsSlowHeap (account_after a (record { event = event; reply = reply })) next after states
 kept_called a next s active after states t event reply k session is told updates =
-    let P : Account → Type 0 = λ b. IsKept b next after states in
+    let P : Account → Type 0 = λ b. IsSlowHeap b next after states in
     let Q : ℕ → Type 0 = λ r. P (record (makes_call a r event) { entries = a.entries + 1 }) in
     subst P (sym (account_after-call a event reply told)) (subst Q session (record {
       unfailed = k.unfailed;
@@ -77,8 +77,8 @@ made_reply v n event before after reply leaves = subst IsCallReply (ap (λ (o : 
 
 -- the same, by what was read and written
 pub kept_called_by : (h room new : List Entry) (next s : ℕ) (active after : BTreeMap ℕ Transaction) (states : States) (t more : Transaction) (v : View) (n : ℕ) (event : Event) (before changed : TransactionView) (reply : Reply)
-    → IsKept (account h) next active states → s ≡ session_of event → Some t ≡ tree.get nat_cmp active s → more ≡ record { number = t.number; calls = t.calls ++ event ∷ [] }
-    → Leaves before changed reply (call v n event) → tree.Updates nat_cmp active after s (Some more) → room ≡ h → new ≡ room ++ record { event = event; reply = reply } ∷ [] → IsKept (account new) next after states
+    → IsSlowHeap (account h) next active states → s ≡ session_of event → Some t ≡ tree.get nat_cmp active s → more ≡ record { number = t.number; calls = t.calls ++ event ∷ [] }
+    → Leaves before changed reply (call v n event) → tree.Updates nat_cmp active after s (Some more) → room ≡ h → new ≡ room ++ record { event = event; reply = reply } ∷ [] → IsSlowHeap (account new) next after states
 kept_called_by h room new next s active after states t more v n event before changed reply k session found is leaves updates held added =
     let e : Entry = record { event = event; reply = reply } in
     kept_entry h new e next after states (added ∙ ap (λ es. es ++ e ∷ []) held)
@@ -110,8 +110,8 @@ more_graphs ts t states rows n old new j le =
 
 -- a transaction that ends
 pub kept_sealed : (a : Account) (next n s : ℕ) (active after : BTreeMap ℕ Transaction) (states : States) (t : Transaction) (rows : List (Id × List Val))
-    → IsKept a next active states → a.active s ≡ Some t → (run (serial new_graph a.sealed) t).graph ≡ graph_of rows → tree.Updates nat_cmp active after s None
-    → IsKept (account_after a (record { event = Seal s; reply = Sealed n })) next after (states ++ rows ∷ [])
+    → IsSlowHeap a next active states → a.active s ≡ Some t → (run (serial new_graph a.sealed) t).graph ≡ graph_of rows → tree.Updates nat_cmp active after s None
+    → IsSlowHeap (account_after a (record { event = Seal s; reply = Sealed n })) next after (states ++ rows ∷ [])
 kept_sealed a next n s active after states t rows k is sees updates =
     let ts : a.sealed ++ option_to_list (a.active s) ≡ a.sealed ++ t ∷ [] = ap (λ o. a.sealed ++ option_to_list o) is in
     let P : List Transaction → Type 0 = λ us. (j : ℕ) → j ≤ length us → serial new_graph (take j us) ≡ graph_of (get_or (states ++ rows ∷ []) j []) in
@@ -125,12 +125,12 @@ kept_sealed a next n s active after states t rows k is sees updates =
 
 -- the same, by what was read and written
 pub kept_sealed_by : (h now room new : List Entry) (next n s : ℕ) (active after : BTreeMap ℕ Transaction) (states spare more : States) (t : Transaction) (v : TransactionView) (objects rows : List (Id × List Val))
-    → IsKept (account h) next active states → Some t ≡ tree.get nat_cmp active s → h ≡ now → graph_of rows ≡ serial new_graph (sealed now) → seen_by v ≡ run (graph_of rows) t → objects ≡ v.objects → tree.Updates nat_cmp active after s None
-    → spare ≡ states → more ≡ spare ++ objects ∷ [] → room ≡ h → new ≡ room ++ record { event = Seal s; reply = Sealed n } ∷ [] → IsKept (account new) next after more
+    → IsSlowHeap (account h) next active states → Some t ≡ tree.get nat_cmp active s → h ≡ now → graph_of rows ≡ serial new_graph (sealed now) → seen_by v ≡ run (graph_of rows) t → objects ≡ v.objects → tree.Updates nat_cmp active after s None
+    → spare ≡ states → more ≡ spare ++ objects ∷ [] → room ≡ h → new ≡ room ++ record { event = Seal s; reply = Sealed n } ∷ [] → IsSlowHeap (account new) next after more
 kept_sealed_by h now room new next n s active after states spare more t v objects rows k found told left sees own updates kept grown held added =
     let e : Entry = record { event = Seal s; reply = Sealed n } in
     let graph = ap (λ es. (run (serial new_graph (sealed es)) t).graph) told ∙ ap (λ g. (run g t).graph) (sym left) ∙ ap (λ (u : View). u.graph) (sym sees) ∙ ap graph_of (sym own) in
-    let P : States → Type 0 = λ ss. IsKept (account new) next after ss in
+    let P : States → Type 0 = λ ss. IsSlowHeap (account new) next after ss in
     subst P (sym (grown ∙ ap (λ ss. ss ++ objects ∷ []) kept))
     (kept_entry h new e next after (states ++ objects ∷ []) (added ∙ ap (λ es. es ++ e ∷ []) held)
     (kept_sealed (account h) next n s active after states t objects k (sym (k.own s) ∙ sym found) graph updates))

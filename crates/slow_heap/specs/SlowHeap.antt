@@ -22,7 +22,7 @@ pub record Leaves (before after : TransactionView) (reply : Reply) (done : Outco
   pub outcome : done ≡ record { view = seen_by after; reply = reply }
 
 -- What the slow heap keeps is what its history says.
-pub record IsKept (a : Account) (next : ℕ) (active : BTreeMap ℕ Transaction) (states : List (List (Id × List Val))) : Type 0 where
+pub record IsSlowHeap (a : Account) (next : ℕ) (active : BTreeMap ℕ Transaction) (states : List (List (Id × List Val))) : Type 0 where
   pub unfailed : a.failed ≡ None
   pub numbered : next ≡ 1 + a.begun
   pub own : (s : ℕ) → tree.get nat_cmp active s ≡ a.active s

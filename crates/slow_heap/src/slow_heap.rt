@@ -44,11 +44,11 @@ impl Model for SlowHeap {
     ghost Value = { List Entry };
 
     ghost use Rattle.graph_model.specs.History.{account};
-    ghost use Rattle.slow_heap.specs.SlowHeap.{IsKept};
+    ghost use Rattle.slow_heap.specs.SlowHeap.{IsSlowHeap};
 
     ghost view = { λ heap. heap.history.items };
 
-    ghost invariant = { λ heap. IsKept (account heap.history.items) heap.next heap.active heap.states.items };
+    ghost invariant = { λ heap. IsSlowHeap (account heap.history.items) heap.next heap.active heap.states.items };
 }
 
 impl SlowHeap {

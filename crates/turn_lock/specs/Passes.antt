@@ -20,8 +20,8 @@ module _ {T E : Type 0} where
   label_of pass = pass.label
 
   -- its number, and those of the passes that were joined into it
-  abbrev pub numbers_of : Pass T E → List ℕ
-  numbers_of pass = pass.seat.me.0.numbers
+  abbrev pub pass_numbers : Pass T E → List ℕ
+  pass_numbers pass = pass.seat.me.0.numbers
 
   -- the history as far as it was seen
   abbrev pub seen_of : Pass T E → List E
@@ -58,7 +58,7 @@ module _ {T E : Type 0} where
     pub lock : new.seat.table_id ≡ old.seat.table_id
     pub first : new.seat.me.0.first ≡ old.seat.me.0.first
     pub label : label_of new ≡ label_of old
-    pub numbers : numbers_of new ≡ numbers_of old
+    pub numbers : pass_numbers new ≡ pass_numbers old
 
   -- Its history and its own turns are as they were.
   pub record HasSameTurns (old new : Pass T E) : Type 0 where
@@ -71,7 +71,7 @@ module _ {T E : Type 0} where
     pub lock : new.seat.table_id ≡ one.seat.table_id
     pub first : new.seat.me.0.first ≡ one.seat.me.0.first
     pub label : label_of new ≡ label_of one
-    pub numbers : numbers_of new ≡ numbers_of one ++ numbers_of other
+    pub numbers : pass_numbers new ≡ pass_numbers one ++ pass_numbers other
     pub seen : seen_of new ≡ longer (seen_of one) (seen_of other)
     pub mine : mine_of new ≡ mine_of one ++ mine_of other
     pub turns : turns_of new ≡ turns_of one + turns_of other
@@ -82,14 +82,14 @@ module _ {T E : Type 0} where
   pub record IsPassOf (lock : TurnLock T E) (pass : Pass T E) : Type 0 where
     pub lock_is : pass.seat.table_id ≡ lock.table.shared.table_id
     pub first_is : pass.seat.me.0.first ≡ Some (first_of lock)
-    pub number : numbers_of pass ≢ []
+    pub number : pass_numbers pass ≢ []
 
   -- It is the pass with this number and label of a lock that was just made round a value.
   pub record IsNew (lock : TurnLock T E) (number label : ℕ) (log : List E) (pass : Pass T E) : Type 0 where
     pub of_lock : IsPassOf lock pass
     pub resting : IsResting pass
     pub label_is : label_of pass ≡ label
-    pub number_is : numbers_of pass ≡ number ∷ []
+    pub number_is : pass_numbers pass ≡ number ∷ []
     pub seen : seen_of pass ≡ log
     pub mine : mine_of pass ≡ []
     pub turns : turns_of pass ≡ 0

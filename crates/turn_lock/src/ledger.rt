@@ -1,7 +1,7 @@
 //! A second use of the lock: a ledger that threads share. What it ends with follows from the public clauses of the lock alone.
 ghost use Rattle.std.specs.Prelude.{◌≡◌, ℕ, ◌+◌, ◌%◌, ◌^◌, ◌<◌, ◌≤◌, ◌++◌, [], ◌∷◌, length, take, drop, IfOk, IfErr, MatchBool, Some, slice_get, vec_len};
 ghost use Rattle.turn_lock.specs.Merging.{entries_of, Rise, IsMerge};
-ghost use Rattle.turn_lock.specs.Passes.{first_of, numbers_of, seen_of, mine_of, IsPassOf, IsResting};
+ghost use Rattle.turn_lock.specs.Passes.{first_of, pass_numbers, seen_of, mine_of, IsPassOf, IsResting};
 
 use crate::{Pass, TurnLock, Turns};
 use std::alloc::{AllocError, Global};
@@ -73,7 +73,7 @@ pub fn post_one<R: Wait>(
 ) -> bool
     requires pass { IsPassOf lock.now pass.old × IsResting pass.old }
     requires rise { Rise (first_of lock.now).before (mine_of pass.old) × ((first_of lock.now).before ≤ length (seen_of pass.old)) }
-    ensures pass { IsPassOf lock.now pass.new × IsResting pass.new × (numbers_of pass.new ≡ numbers_of pass.old) }
+    ensures pass { IsPassOf lock.now pass.new × IsResting pass.new × (pass_numbers pass.new ≡ pass_numbers pass.old) }
     ensures posted { MatchBool result (entries_of (mine_of pass.new) ≡ entries_of (mine_of pass.old) ++ number ∷ []) (entries_of (mine_of pass.new) ≡ entries_of (mine_of pass.old)) }
     ensures rise { Rise (first_of lock.now).before (mine_of pass.new) × ((first_of lock.now).before ≤ length (seen_of pass.new)) }
 {
@@ -96,7 +96,7 @@ pub fn post_all<R: Wait>(
 ) -> (Pass<Ledger>, usize)
     requires pass { IsPassOf lock.now pass × IsResting pass }
     requires new { (mine_of pass ≡ []) × ((first_of lock.now).before ≤ length (seen_of pass)) }
-    ensures pass { IsPassOf lock.now result.0 × IsResting result.0 × (numbers_of result.0 ≡ numbers_of pass) }
+    ensures pass { IsPassOf lock.now result.0 × IsResting result.0 × (pass_numbers result.0 ≡ pass_numbers pass) }
     ensures posted { entries_of (mine_of result.0) ≡ take result.1 numbers.now }
     ensures rise { Rise (first_of lock.now).before (mine_of result.0) × ((first_of lock.now).before ≤ length (seen_of result.0)) }
 {
@@ -137,16 +137,16 @@ pub fn post_two<R: Threads + Wait + Sync>(
     let ((mut one, first_posts), (two, second_posts)) = join(
         rt,
         || -> (Pass<Ledger>, usize)
-            requires pass { IsPassOf lock one × IsResting one × (numbers_of one ≡ 0 ∷ []) }
+            requires pass { IsPassOf lock one × IsResting one × (pass_numbers one ≡ 0 ∷ []) }
             requires new { (mine_of one ≡ []) × ((first_of lock).before ≤ length (seen_of one)) }
-            ensures pass { IsPassOf lock result.0 × IsResting result.0 × (numbers_of result.0 ≡ 0 ∷ []) }
+            ensures pass { IsPassOf lock result.0 × IsResting result.0 × (pass_numbers result.0 ≡ 0 ∷ []) }
             ensures posted { entries_of (mine_of result.0) ≡ take result.1 first.entry.now }
             ensures rise { Rise (first_of lock).before (mine_of result.0) × ((first_of lock).before ≤ length (seen_of result.0)) }
         { post_all(rt, &lock, one, first) },
         || -> (Pass<Ledger>, usize)
-            requires pass { IsPassOf lock two × IsResting two × (numbers_of two ≡ 1 ∷ []) }
+            requires pass { IsPassOf lock two × IsResting two × (pass_numbers two ≡ 1 ∷ []) }
             requires new { (mine_of two ≡ []) × ((first_of lock).before ≤ length (seen_of two)) }
-            ensures pass { IsPassOf lock result.0 × IsResting result.0 × (numbers_of result.0 ≡ 1 ∷ []) }
+            ensures pass { IsPassOf lock result.0 × IsResting result.0 × (pass_numbers result.0 ≡ 1 ∷ []) }
             ensures posted { entries_of (mine_of result.0) ≡ take result.1 second.entry.now }
             ensures rise { Rise (first_of lock).before (mine_of result.0) × ((first_of lock).before ≤ length (seen_of result.0)) }
         { post_all(rt, &lock, two, second) },
@@ -169,19 +169,19 @@ fn post_beside<R: Threads + Wait + Sync>(
     requires two { IsPassOf lock.now two × IsResting two }
     requires new_two { (mine_of two ≡ []) × ((first_of lock.now).before ≤ length (seen_of two)) }
     ensures pass { IsPassOf lock.now result × IsResting result }
-    ensures numbers { numbers_of result ≡ numbers_of one ++ numbers_of two }
+    ensures numbers { pass_numbers result ≡ pass_numbers one ++ pass_numbers two }
 {
     let (mut one, two) = join(
         rt,
         || -> Pass<Ledger>
             requires pass { IsPassOf lock.now one × IsResting one }
             requires new { (mine_of one ≡ []) × ((first_of lock.now).before ≤ length (seen_of one)) }
-            ensures { IsPassOf lock.entry.now result × IsResting result × (numbers_of result ≡ numbers_of one) }
+            ensures { IsPassOf lock.entry.now result × IsResting result × (pass_numbers result ≡ pass_numbers one) }
         { post_all(rt, lock, one, first).0 },
         || -> Pass<Ledger>
             requires pass { IsPassOf lock.now two × IsResting two }
             requires new { (mine_of two ≡ []) × ((first_of lock.now).before ≤ length (seen_of two)) }
-            ensures { IsPassOf lock.entry.now result × IsResting result × (numbers_of result ≡ numbers_of two) }
+            ensures { IsPassOf lock.entry.now result × IsResting result × (pass_numbers result ≡ pass_numbers two) }
         { post_all(rt, lock, two, second).0 },
     );
     lock.join(&mut one, two);
@@ -220,16 +220,16 @@ pub fn post_four<R: Threads + Wait + Sync>(
             requires new_one { (mine_of one ≡ []) × ((first_of lock).before ≤ length (seen_of one)) }
             requires two { IsPassOf lock two × IsResting two }
             requires new_two { (mine_of two ≡ []) × ((first_of lock).before ≤ length (seen_of two)) }
-            requires numbers { numbers_of one ++ numbers_of two ≡ 0 ∷ 1 ∷ [] }
-            ensures { IsPassOf lock result × IsResting result × (numbers_of result ≡ 0 ∷ 1 ∷ []) }
+            requires numbers { pass_numbers one ++ pass_numbers two ≡ 0 ∷ 1 ∷ [] }
+            ensures { IsPassOf lock result × IsResting result × (pass_numbers result ≡ 0 ∷ 1 ∷ []) }
         { post_beside(rt, &lock, one, two, a, b) },
         || -> Pass<Ledger>
             requires one { IsPassOf lock three × IsResting three }
             requires new_one { (mine_of three ≡ []) × ((first_of lock).before ≤ length (seen_of three)) }
             requires two { IsPassOf lock four × IsResting four }
             requires new_two { (mine_of four ≡ []) × ((first_of lock).before ≤ length (seen_of four)) }
-            requires numbers { numbers_of three ++ numbers_of four ≡ 2 ∷ 3 ∷ [] }
-            ensures { IsPassOf lock result × IsResting result × (numbers_of result ≡ 2 ∷ 3 ∷ []) }
+            requires numbers { pass_numbers three ++ pass_numbers four ≡ 2 ∷ 3 ∷ [] }
+            ensures { IsPassOf lock result × IsResting result × (pass_numbers result ≡ 2 ∷ 3 ∷ []) }
         { post_beside(rt, &lock, three, four, c, d) },
     );
     lock.join(&mut left, right);

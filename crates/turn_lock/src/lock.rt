@@ -46,7 +46,7 @@ impl<T: Turns> TurnLock<T> {
     ghost use Rattle.std.specs.Prelude.{◌≡◌, ◌≢◌, ℕ, ◌+◌, ◌-◌, ◌%◌, ◌^◌, ◌<◌, ◌≤◌, ◌++◌, [], ◌∷◌, length, drop, max, IfOk, IfErr, slice_get, slice_index, Some, None, vec_len, vec_capacity};
     ghost use Rattle.turn_lock.specs.declared.view.Stage.TheVariants.{Waiting, Raised};
     ghost use Rattle.turn_lock.specs.Turning.{EachOnce, IsBeginning, IsOneTurn, StandIn, added, greatest, numbers_from, places, times};
-    ghost use Rattle.turn_lock.specs.Passes.{first_of, passes_of, numbers_of, seen_of, mine_of, turns_of, front_of, empty_of, IsResting, HasTurn, IsSamePass, HasSameTurns, IsJoined, IsPassOf, IsNew};
+    ghost use Rattle.turn_lock.specs.Passes.{first_of, passes_of, pass_numbers, seen_of, mine_of, turns_of, front_of, empty_of, IsResting, HasTurn, IsSamePass, HasSameTurns, IsJoined, IsPassOf, IsNew};
     ghost use Rattle.turn_lock.specs.Rule.{newcomer};
     ghost use Rattle.turn_lock.specs.Steps.{Gets, GoesBack, passed, queued, raised};
 
@@ -257,7 +257,7 @@ impl<T: Turns> TurnLock<T> {
     /// Ends the lock, and gives the value with all its turns. It waits for nobody.
     pub fn close(self, pass: Pass<T>) -> T
         requires pass { IsPassOf self pass × IsResting pass }
-        requires all { (number : ℕ) → number < passes_of self → 0 < times number (numbers_of pass) }
+        requires all { (number : ℕ) → number < passes_of self → 0 < times number (pass_numbers pass) }
         ensures same_value { (T.stood result ≡ T.stood (first_of self)) × (T.origin result ≡ T.origin (first_of self)) }
         ensures history { IsBeginning (seen_of pass) (T.entries result) }
         ensures stand { StandIn (T.entries result) (mine_of pass) }

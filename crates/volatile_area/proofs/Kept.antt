@@ -14,11 +14,11 @@ use Rattle.heap_words.specs.Word.{IsFieldWord}
 use Rattle.heap_words.proofs.HeaderLaws.{bits-header}
 use Rattle.object_layout.specs.Layout.{object_at, field_words}
 use Rattle.object_layout.proofs.LayoutLaws.{object_header}
-use Rattle.volatile_area.specs.Area.{AreaState, starts_of, with_object, with_field, HasField, IsArea, IsKept}
+use Rattle.volatile_area.specs.Area.{AreaState, starts_of, with_object, with_field, HasField, IsArea, AreItsStarts}
 use Rattle.volatile_area.proofs.AreaLaws.{starts_of_increase, area_object, starts_of-with_object, with_object_is, starts_of-with_field, with_field_is}
 
 -- the starts do not fall
-kept_rise : (kept : List ℕ) (area : AreaState) → IsKept kept area → (i j : ℕ) → i ≤ j → j < length kept → get_or kept i 0 ≤ get_or kept j 0
+kept_rise : (kept : List ℕ) (area : AreaState) → AreItsStarts kept area → (i j : ℕ) → i ≤ j → j < length kept → get_or kept i 0 ≤ get_or kept j 0
 kept_rise kept area is i j order within =
     let Rise : List ℕ → Type 0 = λ xs. (i j : ℕ) → i ≤ j → j < length xs → get_or xs i 0 ≤ get_or xs j 0 in
     subst Rise (sym is.own) (λ i j order within. non_decreasing_from_sorted (starts_of area) (sorted_from_strictly_increasing (starts_of area) (starts_of_increase area)) i j 0 order within) i j order within
@@ -33,7 +33,7 @@ nowhere xs i x before behind (k, within, same) =
     ]
 
 -- a search of the starts finds just what is one
-pub found_start : (kept : List ℕ) (inside now : AreaState) (found : List ℕ) (at : ℕ) (r : Result ℕ ℕ) → IsKept kept inside → inside ≡ now → found ≡ kept
+pub found_start : (kept : List ℕ) (inside now : AreaState) (found : List ℕ) (at : ℕ) (r : Result ℕ ℕ) → AreItsStarts kept inside → inside ≡ now → found ≡ kept
     → IsBinarySearchResult (λ y. nat_cmp y at) found r → IsTrue (is_ok r) ↔ Contains (starts_of now) at
 found_start kept inside now found at r is same all answer = by_answer r (subst (λ xs. IsBinarySearchResult (λ y. nat_cmp y at) xs r) all answer)
   where
@@ -56,7 +56,7 @@ pub record StandsAt (inside now : AreaState) (at : ℕ) : Type 0 where
   pub small : slice_index inside.words at / 4 < 511
   pub within : at + 2 ≤ length inside.words
 
-pub stands_at : (kept : List ℕ) (inside now : AreaState) (at : ℕ) → IsKept kept inside → inside ≡ now → Contains (starts_of now) at → StandsAt inside now at
+pub stands_at : (kept : List ℕ) (inside now : AreaState) (at : ℕ) → AreItsStarts kept inside → inside ≡ now → Contains (starts_of now) at → StandsAt inside now at
 stands_at kept inside now at is same has =
     let object = area_object inside at is.sound (subst (λ (area : AreaState). Contains (starts_of area) at) (sym same) has) in
     let header = bits-header (slice_index inside.words at) (Length object.0) (object_header inside.words at object.0 object.1.object).0 in
@@ -70,21 +70,21 @@ stands_at kept inside now at is same has =
     }
 
 -- in each field of an object stands a field's word
-pub fields_meant : (kept : List ℕ) (inside now : AreaState) (at : ℕ) → IsKept kept inside → inside ≡ now → Contains (starts_of now) at → All IsFieldWord (field_words now.words at)
+pub fields_meant : (kept : List ℕ) (inside now : AreaState) (at : ℕ) → AreItsStarts kept inside → inside ≡ now → Contains (starts_of now) at → All IsFieldWord (field_words now.words at)
 fields_meant kept inside now at is same has k d within =
     (subst IsArea same is.sound).fields at k (get_or (field_words now.words at) k d) has (slice_get-get_or (field_words now.words at) k d within)
 
 -- the fields after an object was made
-pub kept_with_object : (kept : List ℕ) (area : AreaState) (n : ℕ) → IsKept kept area → n ≤ 510 → length area.words + 2 + n ≤ 4096
-    → IsKept (kept ++ length area.words ∷ []) (with_object area n)
+pub kept_with_object : (kept : List ℕ) (area : AreaState) (n : ℕ) → AreItsStarts kept area → n ≤ 510 → length area.words + 2 + n ≤ 4096
+    → AreItsStarts (kept ++ length area.words ∷ []) (with_object area n)
 kept_with_object kept area n is small few = record {
   own = ap (λ xs. xs ++ length area.words ∷ []) is.own ∙ sym (starts_of-with_object area n is.sound (omega arith));
   sound = with_object_is area n is.sound (omega arith) few;
 }
 
 -- the fields after a word was put into a field
-pub kept_with_field : (kept : List ℕ) (inside now : AreaState) (object field word : ℕ) → IsKept kept inside → inside ≡ now → HasField now object field → IsFieldWord word
-    → IsKept kept (with_field inside object field word)
+pub kept_with_field : (kept : List ℕ) (inside now : AreaState) (object field word : ℕ) → AreItsStarts kept inside → inside ≡ now → HasField now object field → IsFieldWord word
+    → AreItsStarts kept (with_field inside object field word)
 kept_with_field kept inside now object field word is same there meant =
     let has : HasField inside object field = subst (λ (area : AreaState). HasField area object field) (sym same) there in
     record {

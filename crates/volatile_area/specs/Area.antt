@@ -60,6 +60,6 @@ abbrev pub area_of : ℕ → List ℕ → List ℕ → AreaState
 area_of t starts words = record { transaction = t; made = length starts; words = words }
 
 -- The starts that are kept beside the words of an area are its own.
-pub record IsKept (starts : List ℕ) (area : AreaState) : Type 0 where
+pub record AreItsStarts (starts : List ℕ) (area : AreaState) : Type 0 where
   pub own : starts ≡ starts_of area
   pub sound : IsArea area

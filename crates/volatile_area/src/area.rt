@@ -28,13 +28,13 @@ pub struct Area {
 }
 
 impl Model for Area {
-    ghost use Rattle.volatile_area.specs.Area.{AreaState, area_of, IsKept};
+    ghost use Rattle.volatile_area.specs.Area.{AreaState, area_of, AreItsStarts};
 
     ghost Value = { AreaState };
 
     ghost view = { λ a. area_of a.transaction a.starts.items a.words.items };
 
-    ghost invariant = { λ a. IsKept a.starts.items (area_of a.transaction a.starts.items a.words.items) };
+    ghost invariant = { λ a. AreItsStarts a.starts.items (area_of a.transaction a.starts.items a.words.items) };
 }
 
 impl Area {

@@ -13,7 +13,7 @@ use Rattle.commit_order.specs.Heard.{Heard}
 use Rattle.commit_order.proofs.OrderLaws.{IsOrdered}
 use Rattle.log_records.specs.declared.Record.{Record}
 use Rattle.log_machine.specs.Machine.{put_record}
-use Rattle.log_machine.specs.Entries.{EachEntry}
+use Rattle.log_machine.specs.Entries.{EachKeyed}
 use Rattle.log_machine.proofs.MapLaws.{each_other}
 use Rattle.graph_words.specs.Places.{Places}
 use Rattle.graph_words.specs.Promotion.{promoted_places}
@@ -52,7 +52,7 @@ module _ (a : Account) (c : Core) (h : Agrees a c) {numbers : List ℕ} {heard :
       let Told : Graph → ℕ → Type 0 = λ g k. IsTold c.pages c.lowest c.born later g k all words (seal.last a c h o s t e) in
       subst (λ (k : ℕ). Told (serial c.g0 b.sealed) k) count (subst (λ (g : Graph). Told g (c.before + length a.sealed + 1)) left (seal.sealed_told a c h o s t e space))
   -- those left whose writes may be taken back are active
-  losers : EachEntry (λ q us. IsActive b q) (seal.last a c h o s t e).undo
+  losers : EachKeyed (λ q us. IsActive b q) (seal.last a c h o s t e).undo
   losers = each_other (λ q us. IsActive b q) h.behind.undo t.number (λ q us some differs. ended_actives a b s t e refl q differs (h.losers q us some))
   -- and each of the others goes on
   writers : (r : ℕ) → IsWriter later c.g0 b (b.active r) words (seal.last a c h o s t e)

@@ -18,7 +18,7 @@ use Rattle.log_machine.specs.Apart.{others_taken_back}
 use Rattle.log_machine.proofs.ListLaws.{AllByRecursion-append, AllByRecursion-map}
 use Rattle.log_machine.specs.Machine.{State, start, after_all, taken_back, all_taken_back, undo_of, put_record, field_at, is_number}
 use Rattle.log_machine.proofs.MachineLaws.{after_all-append2}
-use Rattle.log_machine.specs.Sound.{IsSound}
+use Rattle.log_machine.specs.Sound.{AreLosers}
 use Rattle.log_machine.proofs.StateLaws.{leads_after_all, room_after_all}
 use Rattle.log_machine.proofs.WordsLaws.{length-put_records}
 use Rattle.volatile_area.specs.Area.{AreaState}
@@ -100,7 +100,7 @@ module _ (a : Account) (c : Core) (h : Agrees a c) {numbers : List ℕ} {heard :
   pub places_are : promoted_places own_area (seal_moves (ground c) t.number seen) ≡ placed
   unfolding known
   places_are = ap (λ (g : Ground). promoted_places own_area (seal_moves g t.number seen)) where_known ∙ ap (promoted_places own_area) (moves_same own_area own_words now own_undo agree next_free)
-  sound : IsSound h.behind
+  sound : AreLosers h.behind
   sound = told_sound h.told
   -- the records write no word that others have written
   promotion_away : WriteAt (IsAway h.behind t.number) promotion

@@ -17,7 +17,7 @@ use Rattle.log_machine.proofs.TakenBackLaws.{taken_back-swap, all_taken_back-fir
 use Rattle.log_machine.proofs.ListLaws.{AllByRecursion-append, AllByRecursion-map}
 use Rattle.log_machine.specs.Machine.{State, Loser, effect, field_at, put_all, put_record, undo_of, taken_back, each_taken_back, all_taken_back}
 use Rattle.log_machine.proofs.MapLaws.{each_entry, each_other}
-use Rattle.log_machine.specs.Sound.{IsSound}
+use Rattle.log_machine.specs.Sound.{AreLosers}
 use Rattle.log_machine.specs.UndoEntry.{LiesInside}
 use Rattle.stability_tracker.specs.Promotion.{promoted, need}
 use Rattle.volatile_area.specs.Area.{AreaState}
@@ -133,12 +133,12 @@ each_then us [] now apart = refl
 each_then us (e ∷ es) now apart = each_then us es (taken_back e.1 now) apart.1 ∙ ap (λ x. each_taken_back es x) (taken_back-swap us e.1 now apart.0)
 
 -- all writes are taken back where those of all others are, and then a transaction's own
-pub own_taken_back : (s : State) (t : ℕ) (now : List ℕ) → IsSound s → IsApart s t (undo_of s t) → taken_back (undo_of s t) (others_taken_back s t now) ≡ all_taken_back s now
+pub own_taken_back : (s : State) (t : ℕ) (now : List ℕ) → AreLosers s → IsApart s t (undo_of s t) → taken_back (undo_of s t) (others_taken_back s t now) ≡ all_taken_back s now
 own_taken_back s t now sound apart =
     let Apart : ℕ → List UndoEntry → Type 0 = λ q vs. AreApart (undo_of s t) vs in
     each_then (undo_of s t) (entries (remove s.undo t)) now (each_entry Apart (remove s.undo t) (each_other Apart s.undo t apart)) ∙ sym (all_taken_back-first s t now sound apart)
 
 -- no transaction has written a word behind those that are used
-pub free_away : (s : State) (t x : ℕ) → IsSound s → s.base + s.used ≤ x → IsAway s t x
+pub free_away : (s : State) (t x : ℕ) → AreLosers s → s.base + s.used ≤ x → IsAway s t x
 free_away s t x sound above q vs some other =
     AllByRecursion-map (LiesInside s.base s.used) (λ v. x ≢ written v) vs (λ v inside same. let below = inside.below in omega arith) (sound q vs some).inside

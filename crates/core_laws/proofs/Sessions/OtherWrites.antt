@@ -12,18 +12,18 @@ use Rattle.log_machine.specs.declared.UndoEntry.{UndoEntry}
 use Rattle.log_machine.specs.Machine.{State, Loser, field_at, effect, put_all, put_record, with_word, with_entries, undo_in, undo_of, turned, taken_back, each_taken_back, all_taken_back}
 use Rattle.log_machine.proofs.Fields.{written, AreApart, IsApart}
 use Rattle.log_machine.specs.Apart.{others_taken_back}
-use Rattle.log_machine.specs.Entries.{EachEntry}
+use Rattle.log_machine.specs.Entries.{EachKeyed}
 use Rattle.log_machine.proofs.MapLaws.{tied, get_removed, insert_remove, insert_known, remove_absent, each_entry, each_remove, each_other}
 use Rattle.log_machine.proofs.MachineLaws.{undo_beside, with_with}
 use Rattle.log_machine.proofs.TakenBackLaws.{taken_back-swap}
-use Rattle.log_machine.specs.Sound.{IsSound}
+use Rattle.log_machine.specs.Sound.{AreLosers}
 use Rattle.log_machine.proofs.WordsLaws.{length-each_taken_back}
 
 -- Addresses that the others have not written.
 
 -- no other transaction's writes that may be taken back are to this address
 abbrev pub IsAway : State → ℕ → ℕ → Type 0
-IsAway s t at = EachEntry (λ q vs. q ≢ t → AllByRecursion (λ v. at ≢ written v) vs) s.undo
+IsAway s t at = EachKeyed (λ q vs. q ≢ t → AllByRecursion (λ v. at ≢ written v) vs) s.undo
 
 -- the same of the entries of a list
 abbrev AreAway : ℕ → List Loser → Type 0
@@ -104,7 +104,7 @@ each_put t us (e ∷ es) now none apart =
 
 -- these writes are to other fields than those of the other keys
 abbrev AreApartIn : FinMap nat_cmp (List UndoEntry) → ℕ → List UndoEntry → Type 0
-AreApartIn undo t us = EachEntry (λ q vs. q ≢ t → AreApart us vs) undo
+AreApartIn undo t us = EachKeyed (λ q vs. q ≢ t → AreApart us vs) undo
 
 insert_first : (undo : FinMap nat_cmp (List UndoEntry)) (t : ℕ) (us : List UndoEntry) (now : List ℕ) → AreApartIn undo t us
     → each_taken_back (entries (insert undo t us)) now ≡ each_taken_back (entries (remove undo t)) (taken_back us now)
@@ -177,7 +177,7 @@ others_write s t u now entry word other stood apart =
     ∙ sym (without_other s t u now other (λ q vs some far. (apart q vs some far).1))
 
 -- nor do its writes that are taken back when it is aborted
-pub others_abort : (s : State) (t u : ℕ) (now : List ℕ) → u ≢ t → IsSound s → IsApart s t (undo_of s t)
+pub others_abort : (s : State) (t u : ℕ) (now : List ℕ) → u ≢ t → AreLosers s → IsApart s t (undo_of s t)
     → others_taken_back (turned s t (with_entries s.undo t []) 0) u (taken_back (undo_of s t) now) ≡ others_taken_back s u now
 others_abort s t u now other sound apart =
     ap (λ m. each_taken_back (entries m) (taken_back (undo_of s t) now)) (remove_remove_other s.undo t u) ∙ sym (without_other s t u now other apart)

@@ -6,7 +6,7 @@ use Rattle.log_machine.specs.declared.UndoEntry.{UndoEntry}
 use Rattle.log_machine.specs.Machine.{State, field_at, with_word, with_entries, undo_of, turned, taken_back}
 use Rattle.log_machine.proofs.Fields.{IsApart}
 use Rattle.log_machine.specs.Apart.{others_taken_back}
-use Rattle.log_machine.specs.Sound.{IsSound}
+use Rattle.log_machine.specs.Sound.{AreLosers}
 use Rattle.graph_words.specs.Places.{Places}
 use Rattle.graph_words.specs.Stands.{Stands, AreWritten, AreOfFields}
 use Rattle.core_laws.specs.Valid.{AreLocked, IsWriting}
@@ -46,7 +46,7 @@ stays_write {u = u} {words = words} {state = state} w t other entry word stood a
 
 -- and so does its abort
 pub stays_abort : {places : Places} {v : View} {u : ℕ} {locks : List Lock} {words : List ℕ} {state : State} → IsWriting places v u locks words state
-    → (t : ℕ) → u ≢ t → IsSound state → IsApart state t (undo_of state t)
+    → (t : ℕ) → u ≢ t → AreLosers state → IsApart state t (undo_of state t)
     → IsWriting places v u locks (taken_back (undo_of state t) words) (turned state t (with_entries state.undo t []) 0)
 stays_abort {u = u} {words = words} {state = state} w t other sound apart = stays_same w (record {
   base = refl;

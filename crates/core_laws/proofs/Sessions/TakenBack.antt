@@ -13,7 +13,7 @@ use Rattle.log_machine.specs.declared.UndoEntry.{UndoEntry}
 use Rattle.log_machine.proofs.Fields.{IsApart, AreApart}
 use Rattle.log_machine.proofs.TakenBackLaws.{all_taken_back-first}
 use Rattle.log_machine.specs.Machine.{State, Loser, taken_back, each_taken_back, all_taken_back, undo_in, undo_of}
-use Rattle.log_machine.specs.Entries.{EachEntry}
+use Rattle.log_machine.specs.Entries.{EachKeyed}
 use Rattle.log_machine.proofs.MapLaws.{each_remove, get_first, get_removed, get_kept}
 use Rattle.log_machine.specs.Sound.{IsLoser}
 use Rattle.heap_model.specs.Core.{Core, all_words}
@@ -45,12 +45,12 @@ record IsFrom (a : Account) (from n q : ℕ) : Type 0 where
 
 -- What is left when the sessions below one have been taken back: the writes of those from it on, as they were.
 record IsLeft (a : Account) (s : State) (from n : ℕ) (undo : FinMap nat_cmp (List UndoEntry)) : Type 0 where
-  losers : EachEntry (λ q us. IsFrom a from n q) undo
-  sound : EachEntry (IsLoser s) undo
+  losers : EachKeyed (λ q us. IsFrom a from n q) undo
+  sound : EachKeyed (IsLoser s) undo
   same : (r : ℕ) (t : Transaction) → from ≤ r → a.active r ≡ Some t → undo_in undo t.number ≡ undo_of s t.number
-  apart : (r : ℕ) (t : Transaction) → from ≤ r → a.active r ≡ Some t → EachEntry (λ q vs. q ≢ t.number → AreApart (undo_of s t.number) vs) undo
+  apart : (r : ℕ) (t : Transaction) → from ≤ r → a.active r ≡ Some t → EachKeyed (λ q vs. q ≢ t.number → AreApart (undo_of s t.number) vs) undo
 
-no_losers : (es : List Loser) (undo : FinMap nat_cmp (List UndoEntry)) (now : List ℕ) → entries undo ≡ es → EachEntry (λ q us. ⊥) undo → each_taken_back (entries undo) now ≡ now
+no_losers : (es : List Loser) (undo : FinMap nat_cmp (List UndoEntry)) (now : List ℕ) → entries undo ≡ es → EachKeyed (λ q us. ⊥) undo → each_taken_back (entries undo) now ≡ now
 no_losers [] undo now is none = ap (λ es. each_taken_back es now) is
 no_losers (e ∷ es) undo now is none = absurd (none e.0 e.1 (get_first undo e.0 e.1 es is))
 

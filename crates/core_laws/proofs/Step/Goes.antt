@@ -13,7 +13,7 @@ use Rattle.graph_model.specs.Plain.{view, no_number}
 use Rattle.log_records.specs.declared.Record.{Record}
 use Rattle.log_machine.specs.Machine.{State, start, after_all, put_record, is_number, undo_of}
 use Rattle.log_machine.proofs.MachineLaws.{number_in_range, after_all-append2}
-use Rattle.log_machine.specs.Entries.{EachEntry}
+use Rattle.log_machine.specs.Entries.{EachKeyed}
 use Rattle.log_machine.proofs.StateLaws.{leads_after_all}
 use Rattle.gated_log.specs.Log.{records_of}
 use Rattle.graph_words.specs.Places.{Places}
@@ -95,7 +95,7 @@ pub record Goes (a : Account) (c : Core) (b : Account) (more : List Record) (pla
   pub behind : State
   pub told : IsTold c.pages c.lowest c.born (c.places ++ placed) (serial c.g0 b.sealed) (c.before + length b.sealed) (all_records c ++ more) (words_with c more) behind
   pub next_known : behind.next ≤ c.first + b.begun
-  pub losers : EachEntry (λ q us. IsActive b q) behind.undo
+  pub losers : EachKeyed (λ q us. IsActive b q) behind.undo
   pub writers : (s : ℕ) → IsWriter (c.places ++ placed) c.g0 b (b.active s) (words_with c more) behind
   pub room : used c + need c.pending more + reserved (undo_of behind) b ≤ c.room
 

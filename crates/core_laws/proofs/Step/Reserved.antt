@@ -12,10 +12,10 @@ use Rattle.graph_model.specs.Transaction.{Transaction}
 use Rattle.graph_model.specs.History.{Account, IsSession, AreInSessions, sessions, with_active}
 use Rattle.log_machine.specs.declared.UndoEntry.{UndoEntry}
 use Rattle.log_machine.specs.Machine.{State, Loser, undo_in, undo_of, undo_bytes, reserve}
-use Rattle.log_machine.specs.Entries.{EachEntry, sum_over, bytes_over}
+use Rattle.log_machine.specs.Entries.{EachKeyed, sum_over, bytes_over}
 use Rattle.log_machine.proofs.MapLaws.{get_first, get_removed, get_kept, each_remove}
 use Rattle.log_machine.proofs.ReserveLaws.{bytes_for, bytes_split}
-use Rattle.log_machine.specs.Sound.{NoneEmpty, IsSound}
+use Rattle.log_machine.specs.Sound.{NoneEmpty, AreLosers}
 use Rattle.log_machine.proofs.AbortLaws.{none_empty}
 use Rattle.heap_model.specs.Core.{kept_for, reserved}
 use Rattle.core_laws.specs.Valid.{IsActive}
@@ -108,7 +108,7 @@ record IsActiveFrom (a : Account) (from n q : ℕ) : Type 0 where
   low : from ≤ session
   high : session < from + n
 
-no_entries : (es : List Loser) (undo : FinMap nat_cmp (List UndoEntry)) → entries undo ≡ es → EachEntry (λ q us. ⊥) undo → bytes_over undo ≡ 0
+no_entries : (es : List Loser) (undo : FinMap nat_cmp (List UndoEntry)) → entries undo ≡ es → EachKeyed (λ q us. ⊥) undo → bytes_over undo ≡ 0
 no_entries [] undo is none = ap (λ es. sum_over undo_bytes es) is
 no_entries (e ∷ es) undo is none = absurd (none e.0 e.1 (get_first undo e.0 e.1 es is))
 
@@ -148,7 +148,7 @@ later_session a from n q first one =
 -- what is kept for so many sessions is enough for writes that active transactions of these have made
 abbrev IsEnough : Account → ℕ → ℕ → Type 0
 IsEnough a from n =
-    (undo : FinMap nat_cmp (List UndoEntry)) → NoneEmpty undo → EachEntry (λ q us. IsActiveFrom a from n q) undo
+    (undo : FinMap nat_cmp (List UndoEntry)) → NoneEmpty undo → EachKeyed (λ q us. IsActiveFrom a from n q) undo
     → bytes_over undo ≤ sum_by (kept_in a undo) (range_with_len from n)
 
 enough_more : (a : Account) (from n : ℕ) (o : Option Transaction) → a.active from ≡ o → IsEnough a (from + 1) n → IsEnough a from (suc n)
@@ -178,7 +178,7 @@ enough a from zero undo some each =
 enough a from (suc n) undo some each = enough_more a from n (a.active from) refl (enough a (from + 1) n) undo some each
 
 -- what is kept is enough to take all writes back that may be taken back, where active transactions wrote them
-pub reserve_reserved : (a : Account) (s : State) → AreInSessions a → IsSound s → EachEntry (λ q us. IsActive a q) s.undo → reserve s ≤ reserved (undo_of s) a
+pub reserve_reserved : (a : Account) (s : State) → AreInSessions a → AreLosers s → EachKeyed (λ q us. IsActive a q) s.undo → reserve s ≤ reserved (undo_of s) a
 unfolding sessions
 reserve_reserved a s in_sessions sound losers = enough a 1 32 s.undo (none_empty s sound) (λ q us is.
     let one = losers q us is in

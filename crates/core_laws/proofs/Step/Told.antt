@@ -17,7 +17,7 @@ use Rattle.log_machine.specs.Machine.{State, start, after_all, put_record, all_t
 use Rattle.log_machine.proofs.MachineLaws.{after_all-append, after_all-append2, number_small, inside_from, after-Update}
 use Rattle.log_machine.proofs.WordsLaws.{length-put_records}
 use Rattle.log_machine.proofs.MapLaws.{remove_absent}
-use Rattle.log_machine.specs.Sound.{IsSound}
+use Rattle.log_machine.specs.Sound.{AreLosers}
 use Rattle.log_machine.proofs.StateLaws.{can_roll_back, all_spelled}
 use Rattle.log_machine.specs.declared.UndoEntry.{UndoEntry}
 use Rattle.graph_words.specs.Area.{HasMade}
@@ -32,7 +32,7 @@ use Rattle.heap_model.proofs.ListLaws.{AllByRecursion-at}
 -- Losers.
 
 -- a transaction that no record tells of has no writes that may be taken back
-pub none_yet : (s : State) (t : ℕ) → IsSound s → s.next ≤ t → get s.undo t ≡ None
+pub none_yet : (s : State) (t : ℕ) → AreLosers s → s.next ≤ t → get s.undo t ≡ None
 none_yet s t sound above =
     none (get s.undo t) refl
   where

@@ -3,7 +3,7 @@ use Rattle.std.proofs.Common.{◌≡◌, ℕ, ◌+◌, Bool, List, [], ◌∷◌
 use Rattle.graph_model.specs.Graph.{Graph}
 use Rattle.log_records.specs.declared.Record.{Record}
 use Rattle.log_machine.specs.Machine.{State, start}
-use Rattle.log_machine.specs.Sound.{IsSound}
+use Rattle.log_machine.specs.Sound.{AreLosers}
 use Rattle.log_machine.proofs.StateLaws.{sound_start, sound_after_all}
 use Rattle.graph_words.specs.Places.{Places}
 use Rattle.heap_model.specs.Core.{Core, used, need}
@@ -13,7 +13,7 @@ use Rattle.heap_model.specs.CoreTold.{IsTold}
 -- What the active transaction wrote and what is kept for it.
 
 -- a state that records reach is sound
-pub told_sound : {pages lowest : ℕ} {born : Bool} {places : Places} {g : Graph} {k : ℕ} {records : List Record} {words : List ℕ} {state : State} → IsTold pages lowest born places g k records words state → IsSound state
+pub told_sound : {pages lowest : ℕ} {born : Bool} {places : Places} {g : Graph} {k : ℕ} {records : List Record} {words : List ℕ} {state : State} → IsTold pages lowest born places g k records words state → AreLosers state
 told_sound {pages} {lowest} {records = records} {state = state} told = sound_after_all (start pages lowest) state records (sound_start pages lowest) told.reached
 
 -- Another history, or more records that wait.

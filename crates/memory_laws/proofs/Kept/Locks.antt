@@ -17,7 +17,7 @@ use Rattle.graph_model.specs.declared.reply.Reply.{Reply}
 use Rattle.graph_model.specs.Graph.{Graph}
 use Rattle.graph_model.specs.History.{Account, makes_call, account, account_after}
 use Rattle.graph_model.proofs.Runs.History.{account-append}
-use Rattle.graph_model.specs.Locking.{Holds, Lock, Mode, lock_of, in_mode}
+use Rattle.graph_model.specs.Locking.{HoldsLock, Lock, Mode, lock_of, in_mode}
 use Rattle.graph_model.specs.Plain.{view}
 use Rattle.graph_model.specs.Transaction.{serial, Transaction}
 use Rattle.commit_order.proofs.HoldsLaws.{AddsLock, Releases, HoldAlike, same_holds, adds_lock, begin_holds, abort_holds, seal_holds}
@@ -52,11 +52,11 @@ or_right true b e = refl
 or_right false b e = e
 
 -- what is held so in the model
-pub of_held : (places : Places) (g0 : Graph) (a : Account) (h : Holding) → (x : IsHeld places g0 a h) → Holds g0 a h.transaction x.id (mode_of h.mode)
+pub of_held : (places : Places) (g0 : Graph) (a : Account) (h : Holding) → (x : IsHeld places g0 a h) → HoldsLock g0 a h.transaction x.id (mode_of h.mode)
 of_held places g0 a h x = record { session = x.session; transaction = x.transaction; active = x.active; number = x.number; lock = x.lock }
 
 -- is so in the table where it has the address
-pub as_held : (places : Places) (g0 : Graph) (a : Account) (h : Holding) (id : Id) → address_of places id ≡ Some h.key.address → Holds g0 a h.transaction id (mode_of h.mode) → IsHeld places g0 a h
+pub as_held : (places : Places) (g0 : Graph) (a : Account) (h : Holding) (id : Id) → address_of places id ≡ Some h.key.address → HoldsLock g0 a h.transaction id (mode_of h.mode) → IsHeld places g0 a h
 as_held places g0 a h id place holds = record {
   session = holds.session;
   transaction = holds.transaction;
@@ -142,7 +142,7 @@ held_without locks n h = contains-retain locks (λ x. not (x.transaction == n)) 
 
 -- a transaction has let go of what it held, and what the others hold has the addresses that it had
 held_released : (locks : Holdings) (places later : Places) (g0 : Graph) (a b : Account) (n : ℕ) → Releases g0 a b n
-    → ((m : ℕ) (id : Id) (mode : Mode) → m ≢ n → Holds g0 a m id mode → address_of later id ≡ address_of places id) → AreHeld locks places g0 a → AreHeld (without locks n) later g0 b
+    → ((m : ℕ) (id : Id) (mode : Mode) → m ≢ n → HoldsLock g0 a m id mode → address_of later id ≡ address_of places id) → AreHeld locks places g0 a → AreHeld (without locks n) later g0 b
 held_released locks places later g0 a b n releases same all h =
     let tells = held_without locks n h in (
       λ there.
@@ -198,7 +198,7 @@ module _ (g0 : Graph) (history : List Entry) where
       let P : Account → Type 0 = λ b. HoldAlike g0 a b in
       held_as locks places g0 a (next (Begin s) (Begun n)) (subst P (account-append history (record { event = Begin s; reply = Begun n })) (begin_holds g0 history (Begin s) n none))
   -- no object that another transaction holds was made by an active one
-  others_made : HasPlainReplies g0 history → IsTwoPhase g0 history → (s : ℕ) (t : Transaction) → a.active s ≡ Some t → (m : ℕ) (id : Id) (mode : Mode) → m ≢ t.number → Holds g0 a m id mode → id.t ≢ t.number
+  others_made : HasPlainReplies g0 history → IsTwoPhase g0 history → (s : ℕ) (t : Transaction) → a.active s ≡ Some t → (m : ℕ) (id : Id) (mode : Mode) → m ≢ t.number → HoldsLock g0 a m id mode → id.t ≢ t.number
   others_made plain two_phase s t active m id mode other holds =
       let o = two_phase_ordered g0 history plain two_phase in
       locks_of-other (serial g0 a.sealed) holds.transaction t.number id mode o.closed (λ same. other (sym holds.number ∙ same)) (o.unused s t active) holds.lock

@@ -6,7 +6,7 @@ use Rattle.graph_model.specs.declared.id.Id.{Id}
 use Rattle.graph_model.proofs.Refusals.Busy.{free_law, busy_law, free_found}
 use Rattle.graph_model.specs.Graph.{Graph}
 use Rattle.graph_model.specs.History.{Account, AreInSessions, account}
-use Rattle.graph_model.specs.Locking.{Mode, Shared, Exclusive, modes_conflict, Holds, IsFree, IsInTheWay, IsBusy, busy_holder}
+use Rattle.graph_model.specs.Locking.{Mode, Shared, Exclusive, modes_conflict, HoldsLock, IsFree, IsInTheWay, IsBusy, busy_holder}
 use Rattle.graph_model.specs.Plain.{busy_with, view}
 use Rattle.graph_model.specs.Transaction.{Transaction, View}
 use Rattle.commit_order.proofs.PlaceLaws.{made_is_free}
@@ -59,7 +59,7 @@ module _ (locks : Holdings) (places : Places) (g0 : Graph) (a : Account) (all : 
   told_busy : (other : ℕ) → IsInTheWay g0 a n (lock_in mode id) other → IsInConflict locks (asked n mode at) other
   told_busy other way =
       let h = asked other (mode_in way.mode) at in
-      let holds = subst (Holds g0 a other id) (sym (mode_back way.mode)) way.holds in
+      let holds = subst (HoldsLock g0 a other id) (sym (mode_back way.mode)) way.holds in
       let clash = conflict_same (mode_in way.mode) mode ∙ ap (λ (x : Mode). modes_conflict x (mode_of mode)) (mode_back way.mode) ∙ way.conflicts in (
         h,
         (all.held h).1 (as_held places g0 a h id place holds),
@@ -80,11 +80,11 @@ module _ (locks : Holdings) (places : Places) (g0 : Graph) (a : Account) (all : 
       record {
         differs = λ is. eqb-false h.transaction n (not-true (h.transaction == n) both.1) (way.3 ∙ is);
         mode = mode_of h.mode;
-        holds = subst (λ k. Holds g0 a k id (mode_of h.mode)) way.3 (subst (λ q. Holds g0 a h.transaction q (mode_of h.mode)) same (of_held places g0 a h x));
+        holds = subst (λ k. HoldsLock g0 a k id (mode_of h.mode)) way.3 (subst (λ q. HoldsLock g0 a h.transaction q (mode_of h.mode)) same (of_held places g0 a h x));
         conflicts = sym (conflict_same h.mode mode) ∙ parts.1;
       }
   -- where the model finds none in the way, the table has none
-  free_told : IsFree g0 a n (Some (lock_in mode id)) → holdings.IsFree locks (asked n mode at)
+  free_told : IsFree g0 a n (Some (lock_in mode id)) → holdings.MayHold locks (asked n mode at)
   free_told free h there = none (conflicts h (asked n mode at)) refl where
     none : (b : Bool) → conflicts h (asked n mode at) ≡ b → b ≡ false
     none false is = refl

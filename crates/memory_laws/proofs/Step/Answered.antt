@@ -16,7 +16,8 @@ use Rattle.page_store.specs.declared.store.PageStore.{PageStore}
 use Rattle.page_store.specs.StoreState.{store_plan, stored_lsn, has_failed}
 use Rattle.heap_memory.specs.Leaves.{IsAsItWas}
 use Rattle.heap_memory.specs.Memory.{Memory}
-use Rattle.memory_laws.specs.CoreMemory.{AreHeld, IsMemory, Does}
+use Rattle.memory_laws.specs.CoreMemory.{AreHeld, IsMemory}
+use Rattle.memory_laws.proofs.Does.{Does}
 use Rattle.memory_laws.proofs.Kept.Locks.{held_alike}
 use Rattle.memory_laws.proofs.Kept.Log.{keeps_same}
 use Rattle.object_locks.specs.Holdings.{Holdings}

@@ -31,7 +31,8 @@ use Rattle.core_laws.specs.Valid.{IsValid, RunsLocked}
 use Rattle.heap_memory.specs.Memory.{Memory, own}
 use Rattle.heap_memory.specs.Refusals.{begin_refusal, end_refusal}
 use Rattle.heap_memory.specs.Leaves.{Leaves, IsAsItWas, Begins, Aborts}
-use Rattle.memory_laws.specs.CoreMemory.{place_in, kept, kept_of, IsMemory, Does}
+use Rattle.memory_laws.specs.CoreMemory.{place_in, kept, kept_of, IsMemory}
+use Rattle.memory_laws.proofs.Does.{Does}
 use Rattle.memory_laws.proofs.Kept.Locks.{held_aborted, held_begun}
 use Rattle.core_laws.proofs.Step.Events.{abort_is}
 use Rattle.memory_laws.proofs.Step.Answered.{as_it_was, Goes, does}

@@ -11,7 +11,8 @@ use Rattle.core_laws.proofs.Step.Flush.{flush_granted, flush_refused}
 use Rattle.core_laws.specs.Valid.{IsValid}
 use Rattle.heap_memory.specs.Memory.{Memory}
 use Rattle.memory_laws.proofs.Step.Answered.{Goes, memory_told, does}
-use Rattle.memory_laws.specs.CoreMemory.{IsMemory, Does}
+use Rattle.memory_laws.specs.CoreMemory.{IsMemory}
+use Rattle.memory_laws.proofs.Does.{Does}
 
 -- an entry of a flush says nothing of transactions, whether its page was dirty or not
 flush_adds : (a : Account) (p : ℕ) (dirty : Bool) → account_after a (record { event = Flush p; reply = cond dirty (Flushed p) (Clean p) }) ≡ record a { entries = a.entries + 1 }

@@ -26,7 +26,8 @@ use Rattle.core_laws.proofs.Step.Forms.{is_write, quiet_records}
 use Rattle.heap_memory.specs.Memory.{Memory, own, root_place}
 use Rattle.heap_memory.specs.Refusals.{handle_refusal}
 use Rattle.heap_memory.specs.Leaves.{SetsHandle, with_handle}
-use Rattle.memory_laws.specs.CoreMemory.{place_in, kept, IsMemory, Does}
+use Rattle.memory_laws.specs.CoreMemory.{place_in, kept, IsMemory}
+use Rattle.memory_laws.proofs.Does.{Does}
 use Rattle.memory_laws.proofs.Kept.Held.{place_in-placed}
 use Rattle.memory_laws.proofs.Step.Answered.{Goes, does}
 use Rattle.memory_laws.proofs.Step.Appended.{mine, no_lock, quiet_goes, stays}

@@ -33,7 +33,8 @@ use Rattle.core_laws.proofs.Step.Forms.{quiet_records}
 use Rattle.heap_memory.specs.Memory.{Memory, own, place_word}
 use Rattle.heap_memory.specs.Refusals.{new_refusal}
 use Rattle.heap_memory.specs.Leaves.{Makes, with_made}
-use Rattle.memory_laws.specs.CoreMemory.{place_in, kept, IsMemory, Does}
+use Rattle.memory_laws.specs.CoreMemory.{place_in, kept, IsMemory}
+use Rattle.memory_laws.proofs.Does.{Does}
 use Rattle.memory_laws.proofs.Kept.Beside.{handles_same}
 use Rattle.memory_laws.proofs.Kept.Held.{place_in_word, place_in-apart}
 use Rattle.memory_laws.proofs.Step.Answered.{Goes, does}

@@ -28,7 +28,8 @@ use Rattle.heap_memory.specs.Memory.{Memory, own, fields_at, held_place, fields_
 use Rattle.heap_memory.specs.Refusals.{handle_refusal, and_then, field_refusal, lock_refusal, read_refusal_of, get_refusal}
 use Rattle.heap_memory.specs.Replies.{word_reply, meant_held, get_reply, IsGranted}
 use Rattle.heap_memory.specs.Leaves.{Gets, with_handle, with_read, with_lock}
-use Rattle.memory_laws.specs.CoreMemory.{standing_place, place_in, kept, AreHeld, IsMemory, Does}
+use Rattle.memory_laws.specs.CoreMemory.{standing_place, place_in, kept, AreHeld, IsMemory}
+use Rattle.memory_laws.proofs.Does.{Does}
 use Rattle.std.specs.Option.{option_map}
 use Rattle.memory_laws.proofs.Kept.Locks.{held_used}
 use Rattle.memory_laws.proofs.Step.Answered.{Goes, does}

@@ -26,7 +26,8 @@ use Rattle.core_laws.proofs.Step.Forms.{is_write, quiet_records}
 use Rattle.heap_memory.specs.Memory.{Memory, own, place_word, is_same_place, held_place}
 use Rattle.heap_memory.specs.Refusals.{and_then, same_refusal, len_refusal}
 use Rattle.heap_memory.specs.Replies.{same_reply_of, same_reply, len_reply}
-use Rattle.memory_laws.specs.CoreMemory.{place_in, kept, IsMemory, Does}
+use Rattle.memory_laws.specs.CoreMemory.{place_in, kept, IsMemory}
+use Rattle.memory_laws.proofs.Does.{Does}
 use Rattle.memory_laws.proofs.Kept.Held.{place_in_word}
 use Rattle.memory_laws.proofs.Step.Answered.{Goes, does}
 use Rattle.memory_laws.proofs.Step.Appended.{call_leaves, no_lock, nothing_left, reached_still}

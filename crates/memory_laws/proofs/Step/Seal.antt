@@ -41,7 +41,8 @@ use Rattle.core_laws.specs.Valid.{IsValid, RunsLocked}
 use Rattle.heap_memory.specs.Memory.{Memory}
 use Rattle.heap_memory.specs.Refusals.{sealing_records, sealing_need, seal_refusal}
 use Rattle.heap_memory.specs.Leaves.{Leaves, IsAsItWas, Seals}
-use Rattle.memory_laws.specs.CoreMemory.{kept, kept_of, spaces_of, AreHeld, IsMemory, Does}
+use Rattle.memory_laws.specs.CoreMemory.{kept, kept_of, spaces_of, AreHeld, IsMemory}
+use Rattle.memory_laws.proofs.Does.{Does}
 use Rattle.memory_laws.proofs.Kept.Locks.{held_sealed}
 use Rattle.core_laws.proofs.Step.Events.{may_go}
 use Rattle.graph_words.proofs.Places.Addresses.{none_or_some}

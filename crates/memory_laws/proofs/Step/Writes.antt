@@ -44,7 +44,8 @@ use Rattle.heap_memory.specs.Memory.{Memory, own, fields_at, place_word, held_pl
 use Rattle.heap_memory.specs.Refusals.{and_then, field_refusal, lock_refusal, range_refusal, write_room, write_refusal_of, write_refusal, put_refusal, clear_refusal, link_refusal}
 use Rattle.heap_memory.specs.Leaves as memory
 use Rattle.heap_memory.specs.Leaves.{LeavesOwn, IsAsItWas, Writes, WritesHeld, Links, with_lock, with_written}
-use Rattle.memory_laws.specs.CoreMemory.{place_in, kept, AreHeld, IsMemory, Does}
+use Rattle.memory_laws.specs.CoreMemory.{place_in, kept, AreHeld, IsMemory}
+use Rattle.memory_laws.proofs.Does.{Does}
 use Rattle.memory_laws.proofs.Kept.Held.{place_in_word, place_in-placed, place_in-apart}
 use Rattle.std.specs.Option.{option_map}
 use Rattle.memory_laws.proofs.Kept.Locks.{held_used}

@@ -3,7 +3,7 @@ use Rattle.std.proofs.Common.{◌≡◌, ℕ, List, None, Some, cond, [], ◌∷
 use Rattle.std.specs.Ordering.{nat_cmp, eq_by_cmp}
 use Rattle.std.specs.BTreeMap as tree
 use Rattle.graph_print.specs.Numbering.{IsNumbering}
-use Rattle.graph_print.specs.Order.{with_place, number_of}
+use Rattle.graph_print.specs.Order.{with_place, place_number}
 use Rattle.graph_print.proofs.Numbers.{numbering_push, place_stays, place_added}
 use Rattle.graph_print.proofs.order.Order.number.Goals as goal
 
@@ -42,4 +42,4 @@ returns-clause-number c =
     let is : c.push_reserved.new.self.items ≡ places ++ at ∷ [] = c.push_reserved.ensures.items ∙ ap (λ (xs : List ℕ). xs ++ at ∷ []) c.in_ok-reserve.ensures.items in
     let none = sym (c.self.invariant.told at) ∙ sym c.in_default.ensures.value in
     let next : c.len-number.result ≡ length places = c.len-number.ensures ∙ c.self.inside.places.ok.0 in
-    next ∙ (place_added places at none).1 ∙ ap (λ ps. number_of ps at) (sym is)
+    next ∙ (place_added places at none).1 ∙ ap (λ ps. place_number ps at) (sym is)

@@ -191,10 +191,10 @@ returns-in-Err-Disk-clause-holds g c tells s core heap reached =
           memory = steps.memory;
           engine = steps.engine;
         };
-        disk = 
-        let run = (c.step_on.ensures.holds tells).moments s core engine reached (heap.disk.unfailed engine.unfailed) in
-        cut_on s core c.args.event c.cut_short.result _ _ (c.len-entry.result + 1) heap.disk.born cut.some c.cut_short.ensures.told steps.memory.failure
-        (λ image left. run.each image (g.met.D.Disk.counts_now tells c.step_on.new.disk _ image run.later left));
+        disk =
+            let run = (c.step_on.ensures.holds tells).moments s core engine reached (heap.disk.unfailed engine.unfailed) in
+            cut_on s core c.args.event c.cut_short.result _ _ (c.len-entry.result + 1) heap.disk.born cut.some c.cut_short.ensures.told steps.memory.failure
+            (λ image left. run.each image (g.met.D.Disk.counts_now tells c.step_on.new.disk _ image run.later left));
       },
     )
 

@@ -78,7 +78,7 @@ returns-clause-core g c =
           let does = flush_done _ core p (Flushed p) valid lt dirty (c.in_ok-store.ensures.memory core again) refl in (
             does.replied,
             engine_after d core (Flush p) (Flushed p) _ c.store.new.disk (valid_after core (Flush p) valid reached.locked tt) does
-            (λ told. knows_left core _ p (left_flushed core p valid lt) _ _ (c.in_ok-store.ensures.pages told core again (knows_as core (memory e) _ _ refl (is.pages told)))),
+                (λ told. knows_left core _ p (left_flushed core p valid lt) _ _ (c.in_ok-store.ensures.pages told core again (knows_as core (memory e) _ _ refl (is.pages told)))),
           );
       still = λ core is reached no_calls.
           let valid = engine_valid d core e c.args.disk.now is reached in
@@ -118,9 +118,9 @@ returns-in_err-store-clause-core g c =
     let err : c.from_residual-in_err-store.result ≡ Err (Disk e) = search rules in
     let page = is_there old p c.from.result (c.from.ensures ∙ c.pages.ensures.value) c.if-p-from.false in
     let some = λ (core : Core) (is : IsEngine d core old c.args.disk.now) (reached : IsReached core).
-        let valid = engine_valid d core old c.args.disk.now is reached in
-        let dirty = sym (dirty_is core old p is.memory page) ∙ sym c.dirty.ensures ∙ c.if-not-dirty.false in
-        dirty_calls core p valid (within core old p is.memory page) dirty in
+    let valid = engine_valid d core old c.args.disk.now is reached in
+    let dirty = sym (dirty_is core old p is.memory page) ∙ sym c.dirty.ensures ∙ c.if-not-dirty.false in
+    dirty_calls core p valid (within core old p is.memory page) dirty in
     rw err (record {
       core = λ core is reached. cut_short core (Flush p) old _ is.memory (some core is reached) c.store.ensures.sealed c.store.ensures.table;
       still = λ core is reached no_calls. absurd (omega (arith, no_calls, some core is reached));

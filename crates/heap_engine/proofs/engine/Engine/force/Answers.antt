@@ -34,7 +34,7 @@ returns-clause-core g c =
           (record { words = refl; lsns = refl; table = refl; locks = refl; spaces = refl; sealed = refl }) refl refl in (
             does.replied,
             engine_after g.D.Disk core Force (Durable old.sealed) _ c.force.new.disk (valid_after core Force valid reached.locked tt) does
-            (λ told. knows_forced core old log is.memory c.reserve.ensures.same (record (memory old) { log = c.force.new.self }) _ _ refl (c.in_ok-force.ensures.outside told) (is.pages told)),
+                (λ told. knows_forced core old log is.memory c.reserve.ensures.same (record (memory old) { log = c.force.new.self }) _ _ refl (c.in_ok-force.ensures.outside told) (is.pages told)),
           );
       still = λ core is reached no_calls.
           let valid = engine_valid g.D.Disk core old c.args.disk.now is reached in

@@ -6,7 +6,7 @@ use Rattle.graph_model.specs.declared.reply.Reply.TheVariants.{Begun, Done, Seal
 use Rattle.heap_memory.specs.Memory.{own}
 use Rattle.heap_memory.specs.Refusals.{begin_refusal, handle_refusal, new_refusal, put_refusal, clear_refusal, link_refusal, get_refusal, seal_refusal, end_refusal}
 use Rattle.heap_model.specs.Core.{AsksDisk}
-use Rattle.memory_laws.specs.CoreMemory.{Does}
+use Rattle.memory_laws.proofs.Does.{Does}
 use Rattle.heap_engine.specs.declared.step_error.StepError.{StepError}
 use Rattle.heap_engine.specs.declared.step_error.StepError.TheVariants.{NoMemory}
 use Rattle.heap_engine.specs.EngineState.{memory}

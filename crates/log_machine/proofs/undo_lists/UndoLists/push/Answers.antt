@@ -1,7 +1,7 @@
 use Rattle.std.proofs.Common.{◌≡◌, [], ◌∷◌, ap, sym, ◌∙◌, subst, arith}
 use Rattle.std.specs.FinMap.{insert}
 use Rattle.log_machine.specs.Machine.{undo_in}
-use Rattle.log_machine.specs.Kept.{IsKept}
+use Rattle.log_machine.specs.Kept.{IsReserve}
 use Rattle.log_machine.specs.Seen.{seen_undo}
 use Rattle.log_machine.proofs.Lists.{is_found, put_list, kept_put, added, got, stands_at, stands_not, bytes_standing, same_list, on_ok, on_err}
 use Rattle.log_machine.proofs.Seen.{seen}
@@ -11,7 +11,7 @@ pub invariant_of-self : goal.invariant_of-self
 invariant_of-self c =
     let old = c.in-Some.list.now in
     let changes = (c.get_mut.follows.holds c.push.new.self).3 (is_found _ old c.in-Some.ensures.value) in
-    subst (λ undo. IsKept c.self.inside.reserve undo) (sym (same_list c.self.inside.lists.entries _ c.args.t old c.push.new.self c.in-Some.ensures.value changes.0 c.in_err-push-in-Some.ensures.items)) c.self.invariant
+    subst (λ undo. IsReserve c.self.inside.reserve undo) (sym (same_list c.self.inside.lists.entries _ c.args.t old c.push.new.self c.in-Some.ensures.value changes.0 c.in_err-push-in-Some.ensures.items)) c.self.invariant
 
 pub returns-in_err-push-in-Some-clause-err : goal.returns-in_err-push-in-Some-clause-err
 returns-in_err-push-in-Some-clause-err c =

@@ -3,7 +3,7 @@ use Rattle.std.proofs.Common.{◌≡◌, ◌+◌, ◌*◌, ◌++◌, ◌∷◌, 
 use Rattle.std.specs.Prelude.{replicate}
 use Rattle.std.proofs.lemmas.List.{length_push}
 use Rattle.heap_words.specs.Header.{birth_bits}
-use Rattle.volatile_area.specs.Area.{AreaState, area_of, new_words, with_object, IsKept}
+use Rattle.volatile_area.specs.Area.{AreaState, area_of, new_words, with_object, AreItsStarts}
 use Rattle.volatile_area.proofs.AreaLaws.{made_few}
 use Rattle.volatile_area.proofs.Kept.{kept_with_object}
 use Rattle.volatile_area.proofs.area.Area.new_object.Goals as goal
@@ -28,5 +28,5 @@ invariant_of-self-2 c =
     c.in_ok-add_object.ensures.ok ∙ ap (λ b. kept.words.items ++ (4 * c.args.fields + 1) ∷ b ∷ replicate c.args.fields 0) birth in
     let more : length c.push_reserved.new.self.items ≡ length kept.starts.items + 1 = ap length starts ∙ length_push kept.starts.items (length kept.words.items) in
     let same : with_object area c.args.fields ≡ area_of kept.transaction c.push_reserved.new.self.items c.add_object.new.words.items = cc in
-    let Area : AreaState → Type 0 = λ a. IsKept c.push_reserved.new.self.items a in
-    subst Area same (subst (λ xs. IsKept xs (with_object area c.args.fields)) (sym starts) (kept_with_object kept.starts.items area c.args.fields c.self.invariant c.requires (omega (arith, c.used-used.ensures))))
+    let Area : AreaState → Type 0 = λ a. AreItsStarts c.push_reserved.new.self.items a in
+    subst Area same (subst (λ xs. AreItsStarts xs (with_object area c.args.fields)) (sym starts) (kept_with_object kept.starts.items area c.args.fields c.self.invariant c.requires (omega (arith, c.used-used.ensures))))
