@@ -50,6 +50,7 @@ number_within c rows id low high n a is fits all e = go (find (λ r. bytes_eq r.
         let got = signed_reads ℕ (λ t r. ParsesUnsigned 32 10 t r) 32 low high v (Some n) (parses 32 (without_minus v) n number) (λ u x g. g) fits in_range in
         let same : n ≡ got.0 = let some = got.1 in cc in
         (rw same got.2, rw same got.3)
+
     go : (of : Option Row) → find (λ r. bytes_eq r.id id) rows ≡ of → option_and_then (parsed_number 32) (option_and_then row_text of) ≡ Some n → (low ≤ n) × (n ≤ high)
     go None at e = cc
     go (Some r) at e =
@@ -76,8 +77,10 @@ format_within s pages log first name plain letters are_pages are_bytes is_first 
   where
     rows : List Row
     rows = rows_after s.rules [] words
+
     all : AllByRecursion (Passes s.rules) (rows_after s.rules [] words)
     all = level_good s plain letters words none
+
     go : (p l f : Option ℕ) → number_in 32 (rows_after s.rules [] words) (codes "pages") ≡ p → number_in 32 (rows_after s.rules [] words) (codes "log_bytes") ≡ l
         → number_in 32 (rows_after s.rules [] words) (codes "first") ≡ f → option_map (λ numbers. Format numbers) (parsed_numbers p l f) ≡ Some c → IsWithin c
     go None l f a b d is = cc
@@ -103,6 +106,7 @@ given_is_in bits rows id number e = go (one_of id rows) e
     there : (read : Option ℕ) → option_map (λ n. Some n) read ≡ Some number → read ≡ number
     there None is = cc
     there (Some n) is = cc
+
     go : (text : Option Text) → given_of bits text ≡ Some number → option_and_then (parsed_number bits) text ≡ number
     go None is = cc
     go (Some text) is = there (parsed_number bits text) is
@@ -121,6 +125,7 @@ play_within s fresh name plain letters are_pages words none c e =
   where
     rows : List Row
     rows = rows_after s.rules [] words
+
     go : (p n m : Option (Option ℕ)) → given_in 32 (rows_after s.rules [] words) (codes "fresh") ≡ p → given_in 64 (rows_after s.rules [] words) (codes "stop") ≡ n
         → given_in 64 (rows_after s.rules [] words) (codes "again") ≡ m → play_of p n m ≡ Some c → IsWithin c
     go None n m a b d is = cc

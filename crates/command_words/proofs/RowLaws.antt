@@ -99,8 +99,10 @@ set_good c a plain values rows passes some all =
   where
     own : (b : Rule) → arg_by_id c a.id ≡ Some b → a ≡ b
     own b e = let mine = plain.own in cc
+
     new : (b : Rule) → arg_by_id c a.id ≡ Some b → (values_pass b values ≡ true) × (reading_by a ≡ reading_by b) × HasValue values
     new b e = (subst (λ (x : Rule). values_pass x values ≡ true) (own b e) passes, ap reading_by (own b e), some)
+
     changed : (r : Row) → bytes_eq r.id a.id ≡ true → Passes c r → AllByRecursion (Passes c) (more_values CommandLine values r)
     changed r same p = (
       (λ b e.
@@ -116,6 +118,7 @@ defaults_none c (a ∷ xs) rows plain = ap (λ (rs : List Row). fold with_defaul
     go : (b : Bool) (defaults : List Text) → defaults ≡ [] → (if b then rows else walk.default_rows a.id (reading_by a) defaults rows) ≡ rows
     go true defaults none = refl
     go false defaults none = ap (λ (ds : List Text). walk.default_rows a.id (reading_by a) ds rows) none
+
     here : with_default rows a ≡ rows
     here = go (has_row a.id rows) a.defaults plain.0.no_default
 
@@ -123,8 +126,10 @@ defaults_none c (a ∷ xs) rows plain = ap (λ (rs : List Row). fold with_defaul
 module _ (s : Shape) (plain : AllByRecursion (IsPlainRule s.rules) s.rules) (no_letters : (x : ℕ) → arg_by_short s.rules x ≡ None) where
   abbrev again : Bool
   again = s.args_override_self
+
   abbrev Good : List Row → Type 0
   Good rows = AllByRecursion (Passes s.rules) rows
+
   use_good : (a : Rule) (values : List Text) (rows : List Row) → IsPlainRule s.rules a → use_fault again a values rows ≡ [] → Good rows → Good (used a values rows)
   use_good a values rows is none good =
       let parts = neither (range_kinds (unwrap_or_range a.range).start_inclusive (most_values a) (length values)) (action_fault (action_of a) again a (values_or_missing a values) rows) none in
@@ -132,26 +137,32 @@ module _ (s : Shape) (plain : AllByRecursion (IsPlainRule s.rules) s.rules) (no_
       let passes = values_are a (values_or_missing a values) (neither _ (values_fault a (values_or_missing a values)) set).1 in
       subst Good (ap (λ x. used_as x a.id (reading_by a) (values_or_missing a values) rows) (sym is.set))
       (set_good s.rules a is (values_or_missing a values) rows passes (has_value a values is.some_value parts.0) good)
+
   by_id_good : (id : Text) (values : List Text) (rows : List Row) (of : Option Rule) → arg_by_id s.rules id ≡ of
       → option_map_or (λ a. use_fault again a values rows) of [] ≡ [] → Good rows → Good (used_by_id of values rows)
   by_id_good id values rows None e none good = good
   by_id_good id values rows (Some a) e none good = use_good a values rows (found (IsPlainRule s.rules) _ s.rules a plain e).0 none good
+
   settled_good : (h : Held) (pending : Option (Text × List Text)) → settle_fault s.rules again (record h { pending = pending }) ≡ [] → Good h.rows
       → Good (settled_rows s.rules pending h.rows)
   settled_good h None none good = good
   settled_good h (Some p) none good = by_id_good p.0 p.1 h.rows (arg_by_id s.rules p.0) refl none good
+
   reacted_good : (a : Rule) (values : List Text) (h : Held) → IsPlainRule s.rules a → react_fault s.rules again a values h ≡ [] → Good h.rows
       → Good (reacted s.rules a values h).rows
   reacted_good a values h is none good =
       let parts = neither (settle_fault s.rules again h) _ none in
       use_good a values (settled s.rules h).rows is parts.1 (settled_good h h.pending parts.0 good)
+
   option_good : (a : Rule) (v : Option Text) (h : Held) → IsPlainRule s.rules a → option_fault s.rules again a v h ≡ [] → Good h.rows → Good (option_met s.rules a v h).0.rows
   option_good a (Some v) h is none good = reacted_good a (v ∷ []) h is none good
   option_good a None h is none good = settled_good h h.pending none good
+
   flag_good : (a : Rule) (v : Option Text) (h : Held) → IsPlainRule s.rules a
       → (if is_some v then kind.TooManyValues ∷ [] else react_fault s.rules again a [] h) ≡ [] → Good h.rows → Good (flag_met s.rules a v h).0.rows
   flag_good a (Some v) h is none good = good
   flag_good a None h is none good = reacted_good a [] h is none good
+
   long_good : (of : Option Rule) (v : Option Text) (h : Held) → ((a : Rule) → of ≡ Some a → IsPlainRule s.rules a) → long_fault s.rules again of v h ≡ [] → Good h.rows
       → Good (long_met s.rules of v h).0.rows
   long_good None v h is none good = good
@@ -161,6 +172,7 @@ module _ (s : Shape) (plain : AllByRecursion (IsPlainRule s.rules) s.rules) (no_
           → Good (if b then option_met s.rules a v h else flag_met s.rules a v h).0.rows
       go true n = option_good a v h (is a refl) n good
       go false n = flag_good a v h (is a refl) n good
+
   flags_good : (k : ℕ) (flags : Text) (skip : ℕ) (so_far : Outcome) (h : Held) → flags_fault s.rules again k flags skip h ≡ [] → Good h.rows
       → Good (bundle_met s.rules k flags skip so_far h).0.rows
   unfolding flags_fault bundle_met
@@ -175,6 +187,7 @@ module _ (s : Shape) (plain : AllByRecursion (IsPlainRule s.rules) s.rules) (no_
           let left = drop (length (encode_utf8 x)) flags in
           subst (λ (o : Option Rule). Good (walk.short_met s.rules o left h (bundle_met s.rules k left 0 walk.done)).0.rows) (sym (no_letters x)) good
       go (Some x) (suc skip) n rest = rest (drop (length (encode_utf8 x)) flags) skip n
+
   plain_rows : (waiting : Waiting) (word : Text) (h : Held) → (plain_word s.rules waiting word h).0.rows ≡ h.rows
   plain_rows walk.idle word h = refl
   plain_rows walk.positional word h = refl
@@ -183,17 +196,20 @@ module _ (s : Shape) (plain : AllByRecursion (IsPlainRule s.rules) s.rules) (no_
       go : (of : Option Rule) → (walk.option_word of id word h).0.rows ≡ h.rows
       go None = refl
       go (Some a) = refl
+
   after_flag_rows : (waiting : Waiting) (word : Text) (h : Held) (o : Outcome) → (after_flag s.rules waiting word h o).0.rows ≡ h.rows
   after_flag_rows waiting word h walk.done = refl
   after_flag_rows waiting word h (walk.waits id) = refl
   after_flag_rows waiting word h walk.plain = plain_rows waiting word h
   after_flag_rows waiting word h walk.refused = plain_rows waiting word h
+
   short_good : (waiting : Waiting) (word : Text) (h : Held) (flags : Option Text) → option_map_or (λ fs. bundle_fault s.rules again fs h) flags [] ≡ [] → Good h.rows
       → Good (short_or_plain s.rules waiting word flags h).0.rows
   short_good waiting word h None none good = subst Good (sym (plain_rows waiting word h)) good
   short_good waiting word h (Some flags) none good =
       subst Good (sym (after_flag_rows waiting word (walk.bundle s.rules flags h).0 (walk.bundle s.rules flags h).1))
       (flags_good (length flags) flags h.skip walk.plain (record h { skip = 0 }) none good)
+
   flag_word_good : (waiting : Waiting) (word : Text) (h : Held) (long : Option (Text × Option Text)) → flag_word_fault s.rules again long word h ≡ [] → Good h.rows
       → Good (long_or_other s.rules waiting word long h).0.rows
   flag_word_good waiting word h (Some p) none good =
@@ -201,6 +217,7 @@ module _ (s : Shape) (plain : AllByRecursion (IsPlainRule s.rules) s.rules) (no_
       subst Good (sym (after_flag_rows waiting word (long_met s.rules of p.1 h).0 (long_met s.rules of p.1 h).1))
       (long_good of p.1 h (λ a e. (found (IsPlainRule s.rules) _ s.rules a plain e).0) none good)
   flag_word_good waiting word h None none good = short_good waiting word h (short_of word) none good
+
   other_good : (waiting : Waiting) (position : ℕ) (word : Text) (h : Held) → other_fault s None word h ≡ [] → Good h.rows
       → Good (subcommand_or_other s.rules None waiting position word h).0.rows
   other_good waiting position word h none good = go (bytes_eq word (45 ∷ 45 ∷ [])) none
@@ -209,18 +226,21 @@ module _ (s : Shape) (plain : AllByRecursion (IsPlainRule s.rules) s.rules) (no_
           → Good (if b then (h, walk.trailing position) else long_or_other s.rules waiting word (long_of word) h).0.rows
       go true n = good
       go false n = flag_word_good waiting word h (long_of word) n good
+
   word_good : (is_trailing : Bool) (waiting : Waiting) (position : ℕ) (word : Text) (h : Held) → word_fault s [] is_trailing waiting word h ≡ [] → Good h.rows
       → Good (word_met s.rules [] is_trailing waiting position word h).0.rows
   word_good true waiting position word h none good = good
   word_good false walk.idle position word h none good = other_good walk.idle position word h none good
   word_good false walk.positional position word h none good = other_good walk.positional position word h none good
   word_good false (walk.option id) position word h none good = other_good (walk.option id) position word h none good
+
   placed_good : (a : Rule) (word : Text) (h : Held) → positional_fault s.rules again a h ≡ [] → Good h.rows → Good (positional_held s.rules a word h).rows
   placed_good a word h none good = go (is_pending a h.pending && takes_several a) none
     where
       go : (b : Bool) → (if b then [] else settle_fault s.rules again h) ≡ [] → Good (if b then h else settled s.rules h).rows
       go true n = good
       go false n = settled_good h h.pending n good
+
   step_good : (word : Text) (w : Walk) (h : Held) (step : Step) → step_fault s w.position h step ≡ [] → Good h.rows → Good (after_step s.rules word w h step).held.rows
   step_good word w h (walk.next waiting) none good = good
   step_good word w h (walk.trailing position) none good = good
@@ -230,12 +250,14 @@ module _ (s : Shape) (plain : AllByRecursion (IsPlainRule s.rules) s.rules) (no_
       go : (of : Option Rule) → option_map_or (λ a. positional_fault s.rules again a h) of (stray_fault s) ≡ [] → Good (to_positional s.rules of word w h).held.rows
       go None n = good
       go (Some a) n = placed_good a word h n good
+
   walked_good : (w : Walk) (word : Text) → turn_fault s [] w word ≡ [] → Good w.held.rows → Good (walked s.rules [] w word).held.rows
   unfolding walked
   walked_good w word none good = go w.stopped none
     where
       met : Held × Step
       met = word_met s.rules [] w.is_trailing w.waiting w.position word w.held
+
       go : (stopped : Option (Text × List Text))
           → (if is_some stopped then [] else or_else (word_fault s [] w.is_trailing w.waiting word w.held) (step_fault s w.position met.0 met.1)) ≡ []
           → Good (walked_from s.rules [] stopped w word).held.rows
@@ -243,12 +265,14 @@ module _ (s : Shape) (plain : AllByRecursion (IsPlainRule s.rules) s.rules) (no_
       go None n =
           let parts = neither _ (step_fault s w.position met.0 met.1) n in
           step_good word w met.0 met.1 parts.1 (word_good w.is_trailing w.waiting w.position word w.held parts.0 good)
+
   walk_good : (words : List Text) (w : Walk) → walk_fault s [] w words ≡ [] → Good w.held.rows → Good (fold (walked s.rules []) w words).held.rows
   unfolding walk_fault
   walk_good [] w none good = good
   walk_good (word ∷ words) w none good =
       let parts = neither (turn_fault s [] w word) (walk_fault s [] (walked s.rules [] w word) words) none in
       walk_good words (walked s.rules [] w word) parts.1 (walked_good w word parts.0 good)
+
   -- the rows of words that have no fault hold what their arguments take
   pub level_good : (words : List Text) → level_fault s [] nothing_held words false [] ≡ [] → AllByRecursion (Passes s.rules) (rows_after s.rules [] words)
   level_good words none =

@@ -78,15 +78,18 @@ module _ (log : List ℕ) (short : length log < 2 ^ 32) where
   pub holds_once : (first second : List (List Record)) → AllByRecursion IsRecord (records_of first) → AllByRecursion IsRecord (records_of second) → HoldsBatches log first → HoldsBatches log second → first ≡ second
   holds_once first second good good' holds holds' =
       (one_front first second log (holds.gate ∷ holds.rest) (holds'.gate ∷ holds'.rest) short holds.bytes holds'.bytes good good' (omega arith) (omega arith) (closed_none log first holds) (closed_none log second holds')).0
+
   -- a gate that is open is there
   pub some_open : (rest : List ℕ) → get_or rest 0 0 ≡ 1 → 0 < length rest
   some_open [] is_open = absurd (omega (arith, is_open))
   some_open (gate ∷ rest) is_open = omega arith
+
   -- where they hold batches they break off nowhere
   pub holds_or_breaks : (batches : List (List Record)) (offset : ℕ) → AllByRecursion IsRecord (records_of batches) → HoldsBatches log batches → ¬ BreaksAt log offset
   holds_or_breaks batches offset good holds breaks =
       let one = one_front batches breaks.batches log (holds.gate ∷ holds.rest) breaks.rest short holds.bytes breaks.bytes good breaks.good (omega arith) (some_open breaks.rest breaks.is_open) (closed_none log batches holds) breaks.none in
       holds.shut (ap (λ (l : List ℕ). get_or l 0 0) one.1 ∙ breaks.is_open)
+
   -- they break off at one offset
   pub breaks_once : (first second : ℕ) → BreaksAt log first → BreaksAt log second → first ≡ second
   breaks_once first second breaks breaks' =

@@ -102,6 +102,7 @@ module _ (s : Super) (image : List ℕ) where
       let P : Super → Type 0 = λ x. after_all (start x.pages x.first) (records_of cs) ≡ Some state in
       let Q : List (List Record) → Type 0 = λ l. after_all (start s.pages s.first) (records_of l) ≡ Some state in
       subst Q (sym (one_batches s bs cs image log (log_on s r cs image log.super replayed.log))) (subst P there replayed.reached)
+
   -- an image's log leaves one state
   pub one_state : (bs cs : List (List Record)) (m n : State) → IsReplayed s bs m image → IsReplayed s cs n image → m ≡ n
   one_state bs cs m n one other = let both : Some m ≡ Some n = sym one.reached ∙ reached_on s bs cs n one.log other in cc both
@@ -276,22 +277,31 @@ told_damaged (Disk e) image at told fault = inr tt
 module _ (s : Super) (batches : List (List Record)) (state : State) (image : List ℕ) (is : IsReadable s batches state image) where
   abbrev rs : List Record
   rs = records_of batches
+
   abbrev from : State
   from = start s.pages s.first
+
   abbrev stored : Pages
   stored = stored_in s image
+
   abbrev log : HoldsLog s batches image
   log = is.roomy.replayed.log
+
   reached : after_all from rs ≡ Some state
   reached = is.roomy.replayed.reached
+
   can : CanRollBack state
   can = can_roll_back s.pages s.first state rs log.good reached
+
   taken : rollback_of s batches ≡ rollback state
   taken = ap rollback_in reached
+
   rolled_records : records_of (rolled_back s batches) ≡ rs ++ rollback state
   rolled_records = records_of-with_batch batches (rollback_of s batches) ∙ ap (λ (l : List Record). rs ++ l) taken
+
   rolled_reached : after_all from (records_of (rolled_back s batches)) ≡ Some (settled state)
   rolled_reached = ap (λ (l : List Record). after_all from l) rolled_records ∙ after_all-append2 from state rs (rollback state) reached ∙ rollback_reaches state can.sound
+
   -- it leaves the words as they are
   rolled_words : words_of s (rolled_back s batches) stored ≡ words_of s batches stored
   rolled_words =
@@ -300,9 +310,11 @@ module _ (s : Super) (batches : List (List Record)) (state : State) (image : Lis
       ∙ ap (all_taken_back (settled state)) (redone_words-append stored rs (rollback state) is.behind)
       ∙ taken_back-rollback state (redone_words batches stored)
       ∙ sym (ap (λ (o : Option State). each_taken_back (losing_in o) (redone_words batches stored)) reached)
+
   -- its records have spellings
   pub rolled_spelled : AllByRecursion IsRecord (records_of (rolled_back s batches))
   rolled_spelled = subst (λ (l : List Record). AllByRecursion IsRecord l) (sym rolled_records) (AllByRecursion-append IsRecord rs (rollback state) log.good (rollback_good state can))
+
   rolled_room : length (batches_bytes (rolled_back s batches)) + 1 ≤ s.log_bytes
   rolled_room =
       let few = rollback_need state in
@@ -311,11 +323,13 @@ module _ (s : Super) (batches : List (List Record)) (state : State) (image : Lis
       let whole = length-with_batch batches (rollback_of s batches) in
       let more = length-pending_batch-append [] (rollback_of s batches) in
       omega arith
+
   -- no page is ahead of them
   rolled_behind : EachLacks (length (records_of (rolled_back s batches)) + 1) stored
   rolled_behind =
       let more : length (records_of (rolled_back s batches)) ≡ length rs + length (rollback state) = ap length rolled_records ∙ length-append rs (rollback state) in
       EachLacks-later (length rs + 1) (length (records_of (rolled_back s batches)) + 1) stored (omega (arith, more)) is.behind
+
   -- An image in which the same pages are stored.
   module _ (new : List ℕ) (same : stored_in s new ≡ stored) where
     -- can be read if it holds the log rolled back
@@ -327,23 +341,27 @@ module _ (s : Super) (batches : List (List Record)) (state : State) (image : Lis
           roomy = record { replayed = record { log = holds; reached = rolled_reached }; room = omega arith };
           behind = subst (EachLacks (length (records_of (rolled_back s batches)) + 1)) (sym same) rolled_behind;
         }
+
     -- or the same log
     kept_readable : HoldsLog s batches new → IsReadable s batches state new
     kept_readable holds = record {
       roomy = record { replayed = record { log = holds; reached = reached }; room = is.roomy.room };
       behind = subst (EachLacks (length rs + 1)) (sym same) is.behind;
     }
+
     -- and has a fault at an address where the image has it
     pub rolled_fault : (address : ℕ) → HoldsLog s (rolled_back s batches) new → IsFaultAt (Address address) image → IsFaultAt (Address address) new
     rolled_fault address holds fault =
         let walk = readable_walk s batches state image address is fault in
         let words : words_of s batches stored ≡ words_of s (rolled_back s batches) (stored_in s new) = sym rolled_words ∙ ap (words_of s (rolled_back s batches)) (sym same) in
         (s, rolled_back s batches, settled state, rolled_readable holds, subst (λ (ws : List ℕ). IsWalkFault ws state.base state.used address) words walk)
+
     -- likewise one that holds the same log
     kept_fault : (address : ℕ) → HoldsLog s batches new → IsFaultAt (Address address) image → IsFaultAt (Address address) new
     kept_fault address holds fault =
         let walk = readable_walk s batches state image address is fault in
         (s, batches, state, kept_readable holds, subst (λ (pages : Pages). IsWalkFault (words_of s batches pages) state.base state.used address) (sym same) walk)
+
   -- What an opening leaves of an image whose log can be read has the fault that the image has.
   pub left_fault : (at : At) → IsFaultAt at image → (new : List ℕ) → IsLogLeft s batches stored new → IsFaultAt at new
   left_fault at fault new left =

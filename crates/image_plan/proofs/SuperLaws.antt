@@ -11,12 +11,16 @@ module _ (s : Super) (good : IsSuper s) where
   -- what stands behind each number
   abbrev behind_log : List ℕ
   behind_log = to_le_bytes w32 s.first ++ replicate 40 0
+
   abbrev behind_pages : List ℕ
   behind_pages = to_le_bytes w32 s.log_bytes ++ behind_log
+
   pages_stand : little_number 4 (drop 12 (superblock s)) ≡ s.pages
   pages_stand = little_number-reads_back 4 s.pages behind_pages (omega (arith, good.few_pages))
+
   log_stands : little_number 4 (drop 16 (superblock s)) ≡ s.log_bytes
   log_stands = little_number-reads_back 4 s.log_bytes behind_log (omega (arith, good.small_log))
+
   first_stands : little_number 4 (drop 20 (superblock s)) ≡ s.first
   first_stands = little_number-reads_back 4 s.first (replicate 40 0) good.small_first
 

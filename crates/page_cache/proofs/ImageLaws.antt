@@ -54,20 +54,24 @@ module _ (pages log_bytes : ℕ) where
       let same_words = alike_pages pages (image_words log_bytes (pages_in pages) image) at.words long size (λ p lt. stored_pages-page pages log_bytes image p lt ∙ (each p lt).words_are) in
       let same_lsns : at.lsns ≡ found = fill_by_all (λ p. page_lsn log_bytes p image) at.lsns (pages_in pages) 0 lsns_size (λ p lt. sym (each p lt).lsn_is) in
       ap (λ (l : List ℕ). made_of l found) same_words ∙ ap (made_of at.words) (sym same_lsns)
+
   -- two images that have the same pages have the same pages stored
   pub same_stored : (old new : List ℕ) → ((p : ℕ) → p < pages_in pages → SamePage log_bytes p old new) → stored_pages pages log_bytes new ≡ stored_pages pages log_bytes old
   same_stored old new same =
       are_stored new (stored_pages pages log_bytes old) (length-image_words log_bytes old (pages_in pages) ∙ omega arith) (length-map-range_with_len (λ p. page_lsn log_bytes p old) 0 (pages_in pages))
       (λ p lt. record { lsn_is = (same p lt).lsn_is ∙ sym (stored_pages-lsn pages log_bytes old p lt); words_are = (same p lt).words_are ∙ sym (stored_pages-page pages log_bytes old p lt) })
+
   -- so a write into the log leaves them as they were
   pub stored_behind_log : (old new : List ℕ) → SameOutside log_offset (log_offset + log_bytes) old new → stored_pages pages log_bytes new ≡ stored_pages pages log_bytes old
   stored_behind_log old new behind = same_stored old new (λ p lt. pages_behind_log log_bytes old new behind p)
+
   module _ (image : List ℕ) (shut : (p : ℕ) → p < pages_in pages → (frame : Frame) → is_frame_open (frame_of log_bytes p image frame) ≡ false) where
     -- where the gates of all frames are closed, no page was stored
     pub none_stored : stored_pages pages log_bytes image ≡ first_pages pages
     none_stored = are_stored image (first_pages pages) (length-first_contents pages) (length-replicate (pages_in pages) 0) (λ p lt.
         let never = never_stored log_bytes p image (shut p lt First) (shut p lt Second) in
         record { lsn_is = never.lsn_is ∙ sym (get_or-replicate (pages_in pages) p 0 0 lt); words_are = never.words_are ∙ sym (first_contents-page pages p lt) })
+
     -- so the pages of a new heap may stand beside any records
     pub none_stored-prefixes : (records : List Record) → EachHoldsPrefix pages records (stored_pages pages log_bytes image)
     none_stored-prefixes records = subst (EachHoldsPrefix pages records) (sym none_stored) (first_pages-prefixes pages records)

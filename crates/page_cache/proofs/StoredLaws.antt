@@ -34,6 +34,7 @@ module _ (pages log_bytes : ℕ) (records : List Record) where
   -- what each page of an image holds
   abbrev HoldsIn : ℕ → List ℕ → Type 0
   HoldsIn q image = HoldsPrefix pages records q (page_lsn log_bytes q image) (store.page_words log_bytes q image)
+
   -- is what the stored pages hold
   pub prefixes-image : (image : List ℕ) → ((q : ℕ) → q < pages_in pages → HoldsIn q image) → EachHoldsPrefix pages records (stored_pages pages log_bytes image)
   prefixes-image image each = record {
@@ -43,15 +44,18 @@ module _ (pages log_bytes : ℕ) (records : List Record) where
         subst (λ (l : List ℕ). HoldsPrefix pages records q (lsn_of (stored_pages pages log_bytes image) q) l) (sym (stored_pages-page pages log_bytes image q lt))
         (subst (λ (k : ℕ). HoldsPrefix pages records q k (store.page_words log_bytes q image)) (sym (stored_pages-lsn pages log_bytes image q lt)) (each q lt));
   }
+
   image-prefixes : (image : List ℕ) → EachHoldsPrefix pages records (stored_pages pages log_bytes image) → (q : ℕ) → q < pages_in pages → HoldsIn q image
   image-prefixes image is q lt =
       subst (λ (k : ℕ). HoldsPrefix pages records q k (store.page_words log_bytes q image)) (stored_pages-lsn pages log_bytes image q lt)
       (subst (λ (l : List ℕ). HoldsPrefix pages records q (lsn_of (stored_pages pages log_bytes image) q) l) (stored_pages-page pages log_bytes image q lt) (is.each q lt))
+
   -- a page that an image has holds what it held elsewhere
   has_held : (q lsn : ℕ) (page image : List ℕ) → HasPage log_bytes q lsn page image → HoldsPrefix pages records q lsn page → HoldsIn q image
   has_held q lsn page image has holds =
       subst (λ (l : List ℕ). HoldsPrefix pages records q (page_lsn log_bytes q image) l) (sym has.words_are)
       (subst (λ (k : ℕ). HoldsPrefix pages records q k page) (sym has.lsn_is) holds)
+
   -- while a page is stored that holds as many records as its LSN says, a crash leaves pages that each hold as many
   pub EachHoldsPrefix-storing : (p lsn : ℕ) (page old new : List ℕ) → EachHoldsPrefix pages records (stored_pages pages log_bytes old) → HoldsPrefix pages records p lsn page
       → IsStoring log_bytes p lsn page old new → EachHoldsPrefix pages records (stored_pages pages log_bytes new)

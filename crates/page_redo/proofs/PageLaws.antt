@@ -28,9 +28,11 @@ set_both xs ys at word a size same = elim (cases_eq a at) [
 module _ (keep : ℕ → Bool) (p a : ℕ) (there : page_of a ≡ p) where
   abbrev kept : List (ℕ × ℕ) → List (ℕ × ℕ)
   kept writes = filter (λ w. keep (page_of w.0)) writes
+
   -- a write on another page leaves the word as it was
   other_page : (xs : List ℕ) (w : ℕ × ℕ) → (page_of w.0 ≡ p → ⊥) → get_or (set xs w.0 w.1) a 0 ≡ get_or xs a 0
   other_page xs w apart = get_or-set_other xs w.0 a w.1 0 (λ same. apart (ap page_of (sym same) ∙ there))
+
   -- a page that is kept has all that is written on it
   pub put_kept : keep p ≡ true → (writes : List (ℕ × ℕ)) (xs ys : List ℕ) → length xs ≡ length ys → get_or xs a 0 ≡ get_or ys a 0 → get_or (put_all xs (filter (λ w. keep (page_of w.0)) writes)) a 0 ≡ get_or (put_all ys writes) a 0
   put_kept keeps [] xs ys size same = same
@@ -43,6 +45,7 @@ module _ (keep : ℕ → Bool) (p a : ℕ) (there : page_of a ≡ p) where
         | inr left ↦ ap (λ (l : List (ℕ × ℕ)). get_or (put_all xs l) a 0) (cond-false (keep (page_of w.0)) (w ∷ kept ws) (kept ws) left)
             ∙ put_kept keeps ws xs (set ys w.0 w.1) size'' (same ∙ sym (other_page ys w (λ (here : page_of w.0 ≡ p). both_ways (keep p) (ap keep (sym here) ∙ left) keeps)))
       ]
+
   -- one that is not kept stays as it was
   pub put_left : keep p ≡ false → (writes : List (ℕ × ℕ)) (xs : List ℕ) → get_or (put_all xs (filter (λ w. keep (page_of w.0)) writes)) a 0 ≡ get_or xs a 0
   put_left leaves [] xs = refl
@@ -133,30 +136,37 @@ alike_pages pages xs ys size size' same = ext_get_or 0 xs ys (size ∙ sym size'
 module _ (p : ℕ) (page xs : List ℕ) (size : length page ≡ 64) (fits : 64 * p + 64 ≤ length xs) where
   abbrev new : List ℕ
   new = take (64 * p) xs ++ page ++ drop (64 * p + 64) xs
+
   front : length (take (64 * p) xs) ≡ 64 * p
   front = length-take-le (64 * p) xs (omega arith)
+
   -- those in front of it and those of it
   both : length (take (64 * p) xs ++ page) ≡ 64 * p + 64
   both = omega (arith, length-append (take (64 * p) xs) page, front)
+
   pub length-with_words : length new ≡ length xs
   length-with_words = omega (arith, length-append (take (64 * p) xs ++ page) (drop (64 * p + 64) xs), both, length-drop (64 * p + 64) xs)
+
   -- are the words of that page
   pub with_words-same : page_words new p ≡ page
   with_words-same =
       ap (λ (l : List ℕ). page_words l p) (append_assoc (take (64 * p) xs) page (drop (64 * p + 64) xs))
       ∙ ap (take 64) (drop_at (take (64 * p) xs) (page ++ drop (64 * p + 64) xs) (64 * p) front)
       ∙ take_at page (drop (64 * p + 64) xs) 64 size
+
   word_before : (a : ℕ) → a < 64 * p → get_or new a 0 ≡ get_or xs a 0
   word_before a lt =
       get_or_append_left (take (64 * p) xs ++ page) (drop (64 * p + 64) xs) 0 a (omega (arith, both))
       ∙ get_or_append_left (take (64 * p) xs) page 0 a (omega (arith, front))
       ∙ get_or-take (64 * p) xs a 0 lt
+
   word_behind : (a : ℕ) → 64 * p + 64 ≤ a → get_or new a 0 ≡ get_or xs a 0
   word_behind a le =
       let there : 64 * p + 64 + (a - (64 * p + 64)) ≡ a = omega arith in
       get_or-append_right (take (64 * p) xs ++ page) (drop (64 * p + 64) xs) (64 * p + 64) a 0 both le
       ∙ get_or-drop (64 * p + 64) xs (a - (64 * p + 64)) 0
       ∙ ap (λ (i : ℕ). get_or xs i 0) there
+
   -- and leave the other pages as they were
   pub with_words-other : (q : ℕ) → (q ≡ p → ⊥) → page_words new q ≡ page_words xs q
   with_words-other q apart = alike_page q new xs length-with_words (λ a there. elim (cases_lt a (64 * p)) [

@@ -32,13 +32,17 @@ module _ (pages : ℕ) (records : List Record) where
   -- the words after the first so many records
   abbrev words_after : ℕ → List ℕ
   words_after n = words pages (take n records)
+
   abbrev word_at : ℕ → ℕ → ℕ
   word_at a n = get_or (words_after n) a 0
+
   module _ (n : ℕ) (r : Record) (at : Pages) (next : words_after (n + 1) ≡ put_record (words_after n) r) (more : n + 1 ≤ length records) (is : IsRedoneTo pages records n at) where
     abbrev new : Pages
     new = redo_record (n + 1) at r
+
     step_lsn : (p : ℕ) → p < pages_in pages → (lsn_of new p ≡ max (lsn_of at p) (n + 1)) ⊎ ((lsn_of new p ≡ lsn_of at p) × (touches r p ≡ false))
     step_lsn p lt = lsn_after (n + 1) at r p (omega (arith, is.lsns_size))
+
     -- the words of a page that lacks the record
     step_low : (p a : ℕ) → p < pages_in pages → page_of a ≡ p → lsn_of at p < n + 1 → get_or new.words a 0 ≡ word_at a (n + 1)
     step_low p a lt there low =
@@ -47,9 +51,11 @@ module _ (pages : ℕ) (records : List Record) where
         (is.size ∙ sym (length-words pages (take n records)))
         (is.same p a lt there ∙ ap (word_at a) now)
         ∙ ap (λ (l : List ℕ). get_or l a 0) (sym next)
+
     -- those of one that has it
     step_high : (p a : ℕ) → p < pages_in pages → page_of a ≡ p → n + 1 ≤ lsn_of at p → get_or new.words a 0 ≡ word_at a (max n (lsn_of at p))
     step_high p a lt there high = put_left (lacks at (n + 1)) p a there (le-ltb (lsn_of at p) (n + 1) high) (effect r) at.words ∙ is.same p a lt there
+
     step_same : (p a : ℕ) → p < pages_in pages → page_of a ≡ p → get_or new.words a 0 ≡ word_at a (max (n + 1) (lsn_of new p))
     step_same p a lt there = elim (cases_lt (lsn_of at p) (n + 1)) [
       | inl low ↦
@@ -59,6 +65,7 @@ module _ (pages : ℕ) (records : List Record) where
           let so : max n (lsn_of at p) ≡ max (n + 1) (lsn_of new p) = ⊎_elim (λ e. omega (arith, e)) (λ e. omega (arith, e.0)) (step_lsn p lt) in
           step_high p a lt there high ∙ ap (word_at a) so
     ]
+
     step_own : (p a : ℕ) → p < pages_in pages → lsn_of new p ≤ n + 1 → page_of a ≡ p → word_at a (n + 1) ≡ word_at a (lsn_of new p)
     step_own p a lt le there = ⊎_elim
         (λ raised. let so : n + 1 ≡ lsn_of new p = omega (arith, raised) in ap (word_at a) so)
@@ -71,6 +78,7 @@ module _ (pages : ℕ) (records : List Record) where
               ∙ ap (word_at a) (sym kept.0)
         ])
         (step_lsn p lt)
+
     -- one record more
     pub step : IsRedoneTo pages records (n + 1) new
     step = record {

@@ -67,12 +67,14 @@ module _ (log_bytes p : ℕ) where
       let lsn : Frame → ℕ = λ frame. frame_lsn (frame_of log_bytes p image frame) in
       ap (λ (byte : ℕ). calls_if (byte == 1)) (sym (gate_byte log_bytes p (spare (page_frame log_bytes p image)) image))
       ∙ spare_calls (is_gate_open log_bytes p image First) (is_gate_open log_bytes p image Second) (lsn First) (lsn Second) (is_gate_open log_bytes p image) refl refl
+
   -- where only bytes of page p differ, the gates of each other page are as they were
   pub other_gates : (old new : List ℕ) → SameButPage log_bytes p old new → (q : ℕ) → q ≢ p → open_gates log_bytes new q ≡ open_gates log_bytes old q
   other_gates old new but q apart =
       let same = other_frames log_bytes p old new but q apart in
       ap (λ (l : List ℕ). one_if (is_frame_open l) + one_if (is_gate_open log_bytes q new Second)) (same First)
       ∙ ap (λ (l : List ℕ). one_if (is_gate_open log_bytes q old First) + one_if (is_frame_open l)) (same Second)
+
   -- where the spare frame is opened and the other one stands, one gate more is open than before, of two at most
   pub gates_stored : (frame : Frame) (old new : List ℕ) → frame ≡ spare (page_frame log_bytes p old) → frame_of log_bytes p new (other frame) ≡ frame_of log_bytes p old (other frame)
       → is_frame_open (frame_of log_bytes p new frame) ≡ true → open_gates log_bytes new p ≡ min 2 (open_gates log_bytes old p + 1)

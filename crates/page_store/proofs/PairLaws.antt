@@ -63,10 +63,13 @@ counts_now stood first second frame is = record { counts = is; lsn_is = rw is re
 module _ (stood first second : List ℕ) where
   same_first : (second' : List ℕ) → counting first second ≡ Some First → counting first second' ≡ Some First → SamePair stood first second first second'
   same_first second' was is = record { counts = is ∙ sym was; lsns = rw (was, is) refl; words_are = rw (was, is) refl }
+
   same_second : (first' : List ℕ) → counting first second ≡ Some Second → counting first' second ≡ Some Second → SamePair stood first second first' second
   same_second first' was is = record { counts = is ∙ sym was; lsns = rw (was, is) refl; words_are = rw (was, is) refl }
+
   same_none : (first' : List ℕ) → counting first second ≡ None → counting first' second ≡ None → SamePair stood first second first' second
   same_none first' was is = record { counts = is ∙ sym was; lsns = rw (was, is) refl; words_are = rw (was, is) refl }
+
   -- closed, whatever else it holds, the spare frame changes nothing
   pub closed_spare : (first' second' : List ℕ) (frame : Frame) → frame ≡ spare (counting first second) → bytes_of first' second' (other frame) ≡ bytes_of first second (other frame)
       → is_frame_open (bytes_of first' second' frame) ≡ false → SamePair stood first second first' second'
@@ -78,6 +81,7 @@ module _ (stood first second : List ℕ) where
   closed_spare first' second' Second spare_is same shut =
       let was = second_spare (is_frame_open first) (is_frame_open second) (frame_lsn first) (frame_lsn second) (sym spare_is) in
       rw same (same_first second' was.0 (rw (shut, was.1) refl))
+
   -- open, with a greater LSN than the page's, it counts
   pub opened_spare : (first' second' : List ℕ) (frame : Frame) → frame ≡ spare (counting first second) → bytes_of first' second' (other frame) ≡ bytes_of first second (other frame)
       → is_frame_open (bytes_of first' second' frame) ≡ true → lsn_in first second < frame_lsn (bytes_of first' second' frame) → CountsNow stood first' second' frame

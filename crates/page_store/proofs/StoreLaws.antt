@@ -33,12 +33,14 @@ length_words stood first second (Some frame) size = length-words_in 64 _
 module _ (log_bytes : ℕ) (image : List ℕ) where
   pub length-page_words : (p : ℕ) → length (page_words log_bytes p image) ≡ 64
   length-page_words p = length_words (first_words p) _ _ _ (length-first_words p)
+
   pub length-image_words : (n : ℕ) → length (image_words log_bytes n image) ≡ 64 * n
   unfolding image_words
   length-image_words zero = refl
   length-image_words (suc n) =
       let so_far = length-image_words n in
       omega (arith, so_far, length-append (image_words log_bytes n image) (page_words log_bytes n image), length-page_words n)
+
   -- page p stands in its place among the words of all
   pub image_words-page : (n p : ℕ) → p < n → part (image_words log_bytes n image) (64 * p) 64 ≡ page_words log_bytes p image
   unfolding image_words

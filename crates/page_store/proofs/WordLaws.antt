@@ -56,9 +56,11 @@ module _ (lsn : ℕ) (words : List ℕ) where
   -- what is written behind a frame's gate
   pub length-frame_body : length words ≡ 64 → length (frame_body lsn words) ≡ 527
   length-frame_body size = omega (arith, size, length-written words, length-append (replicate 7 0 ++ to_le_bytes w64 lsn) (flat_map (to_le_bytes w64) words))
+
   -- a frame has the LSN that was written into it
   pub frame_lsn-written : lsn < 2 ^ 64 → frame_lsn (frame_bytes lsn words) ≡ lsn
   frame_lsn-written small = little_number-reads_back 8 lsn (flat_map (to_le_bytes w64) words) small
+
   -- and the words
   pub frame_words-written : length words ≡ 64 → ((k : ℕ) → get_or words k 0 < 2 ^ 64) → frame_words (frame_bytes lsn words) ≡ words
   frame_words-written size small =

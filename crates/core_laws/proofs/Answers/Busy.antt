@@ -131,6 +131,7 @@ module _ (g0 : Graph) (a : Account) (event : Event) (holder : ℕ) (within : Are
   on_lock : (t : Transaction) (o : Option Lock) → a.active (session_of event) ≡ Some t → lock_of (view g0 a t).registers event ≡ o → busy_holder g0 a t.number o ≡ Some holder → GivesWay g0 a event holder
   on_lock t None active needs is = cc
   on_lock t (Some lock) active needs is = record { transaction = t; active = active; lock = lock; needs = needs; busy = busy_law g0 a t.number lock holder within is }
+
   of_call : (o : Option Transaction) → a.active (session_of event) ≡ o → call_conflict g0 a o event ≡ Some (Busy holder) → GivesWay g0 a event holder
   of_call None active is = cc
   of_call (Some t) active is =

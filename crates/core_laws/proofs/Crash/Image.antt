@@ -111,20 +111,26 @@ tell_first c batches h logged (inr is) =
 module _ (c : Core) (s : Super) (batches : List (List Record)) (stored : Pages) (h : IsSound c) (logged : HasLogWords c) (beside : EachHoldsPrefix c.pages (records_of batches) stored) (on : IsOnDisk c batches) (of : IsSuperOf s c) where
   first : (k : ℕ) × TellFirst c k batches
   first = tell_first c batches h logged on
+
   told : IsTold s.pages s.first c.born first.1.places (serial c.g0 (take first.0 (commits c.history))) (c.before + first.0) (records_of batches) first.1.words first.1.state
   told =
       let P : ℕ → ℕ → Type 0 = λ pages lowest. IsTold pages lowest c.born first.1.places (serial c.g0 (take first.0 (commits c.history))) (c.before + first.0) (records_of batches) first.1.words first.1.state in
       subst (λ pages. P pages s.first) (sym of.pages) (subst (λ lowest. P c.pages lowest) (sym of.first) first.1.told)
+
   fits : length (batches_bytes batches) + 1 + reserve first.1.state ≤ s.log_bytes
   fits = let room = first.1.room in let same = of.room in omega arith
+
   -- the pages on the disk may stand beside the log there
   prefixes : EachHoldsPrefix s.pages (records_of batches) stored
   prefixes = subst (λ (pages : ℕ). EachHoldsPrefix pages (records_of batches) stored) (sym of.pages) beside
+
   words_are : first.1.words ≡ machine.words s.pages (records_of batches)
   words_are = first.1.logged ∙ ap (λ (pages : ℕ). machine.words pages (records_of batches)) (sym of.pages)
+
   -- its next transaction number is not below the first of this opening
   disk_next : c.first ≤ next_of s batches
   disk_next = let same : next_of s batches ≡ first.1.state.next = ap next_in told.reached in let next = first.1.next in omega arith
+
   -- where births give the names it is legal, and says the first commits since the opening, with all that was acknowledged or forced
   pub disk_says : IsTrue c.born → (k : ℕ) × Says (serial c.g0 (take k (commits c.history))) (c.before + k) s batches stored × (c.first ≤ next_of s batches) × (acknowledged c.history ≤ k) × (machine.commits (records_of c.batches) ≤ c.before + k) × (k ≤ length (commits c.history))
   disk_says by_birth = (

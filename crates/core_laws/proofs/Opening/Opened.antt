@@ -52,6 +52,7 @@ none_kept undo (s ∷ ss) =
 module _ (s : Super) (batches : List (List Record)) (stored : Pages) (shaped : IsShapedLog s batches stored) (gates : ℕ → ℕ) (born : Bool) (places : Places) (g : Graph) (found : IsFound s batches stored shaped born places g) where
   abbrev now : List ℕ
   now = rolled_words s batches stored
+
   opened_told : IsTold s.pages s.first born places g (commits (records_of batches) + 0) (records_of (rolled_back s batches)) now (settled shaped.state)
   opened_told =
       let count = commits-start s.pages s.first shaped.state (records_of batches) shaped.reached in
@@ -67,6 +68,7 @@ module _ (s : Super) (batches : List (List Record)) (stored : Pages) (shaped : I
         old = found.old;
         births = λ by_birth. subst (AreNamedByBirth places) same (found.births by_birth);
       }
+
   -- the core is valid
   pub opened_valid : IsValid (opened s batches stored gates born places g)
   opened_valid =
@@ -103,6 +105,7 @@ module _ (s : Super) (batches : List (List Record)) (stored : Pages) (shaped : I
         writers = λ session. tt;
         room = omega arith;
       }
+
   -- no transaction to come can give a name that an object has
   opened_unused : (n : ℕ) → next_of s batches ≤ n → IsUnused g n
   opened_unused n more =
@@ -110,6 +113,7 @@ module _ (s : Super) (batches : List (List Record)) (stored : Pages) (shaped : I
       let grows = (leads_after_all (start s.pages s.first) shaped.state (records_of batches) shaped.reached).grows in
       let some_first = shaped.limits.some_first in
       below_unused g shaped.state.next n (placed_below places g shaped.state.next found.placed found.old (omega arith)) (omega arith)
+
   opened_locked : RunsLocked g (next_of s batches) []
   opened_locked = record {
     plain = nothing_plain g (stands_closed found.stands found.placed);
@@ -118,6 +122,7 @@ module _ (s : Super) (batches : List (List Record)) (stored : Pages) (shaped : I
     begun_below = λ n there. absurd (omega (arith, there.1));
     unused = opened_unused;
   }
+
   -- A core that was opened on a shaped log is reached.
   pub opened_reached : IsReached (opened s batches stored gates born places g)
   opened_reached = record { sound = inl opened_valid; locked = opened_locked }

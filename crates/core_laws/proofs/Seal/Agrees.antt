@@ -31,29 +31,37 @@ module _ (a : Account) (c : Core) (h : Agrees a c) {numbers : List ℕ} {heard :
   -- what the history says then
   abbrev b : Account
   b = account_after a (record { event = Seal s; reply = Sealed n })
+
   -- the objects that stand in the space then
   abbrev later : Places
   later = c.places ++ seal.placed a c h o s t e
+
   -- and all records
   abbrev all : List Record
   all = all_records c ++ seal.records a c h o s t e
+
   -- and the words behind them
   abbrev words : List ℕ
   words = words_with c (seal.records a c h o s t e)
+
   left : (view c.g0 a t).graph ≡ serial c.g0 b.sealed
   left = sym (ap (λ x. serial c.g0 (a.sealed ++ option_to_list x)) e ∙ serial-append c.g0 a.sealed t)
+
   count : c.before + length a.sealed + 1 ≡ c.before + length b.sealed
   count =
       let longer = length-append a.sealed (t ∷ []) in
       let same = ap (λ x. length (a.sealed ++ option_to_list x)) e in
       omega arith
+
   told : IsTold c.pages c.lowest c.born later (serial c.g0 b.sealed) (c.before + length b.sealed) all words (seal.last a c h o s t e)
   told =
       let Told : Graph → ℕ → Type 0 = λ g k. IsTold c.pages c.lowest c.born later g k all words (seal.last a c h o s t e) in
       subst (λ (k : ℕ). Told (serial c.g0 b.sealed) k) count (subst (λ (g : Graph). Told g (c.before + length a.sealed + 1)) left (seal.sealed_told a c h o s t e space))
+
   -- those left whose writes may be taken back are active
   losers : EachKeyed (λ q us. IsActive b q) (seal.last a c h o s t e).undo
   losers = each_other (λ q us. IsActive b q) h.behind.undo t.number (λ q us some differs. ended_actives a b s t e refl q differs (h.losers q us some))
+
   -- and each of the others goes on
   writers : (r : ℕ) → IsWriter later c.g0 b (b.active r) words (seal.last a c h o s t e)
   writers r =
@@ -63,6 +71,7 @@ module _ (a : Account) (c : Core) (h : Agrees a c) {numbers : List ℕ} {heard :
       let stays = stays_beside a c h o s t e space q u (λ same. other (sym same)) also in
       subst (λ (ws : List ℕ). IsWriting later (view c.g0 b u) u.number (locks_of (serial c.g0 b.sealed) u) ws last) (sym (seal.words_behind a c h o s t e space))
       (subst (λ (g : Graph). IsWriting later (run g u) u.number (locks_of g u) (fold put_record (seal.now a c h o s t e) (seal.promotion a c h o s t e)) last) left stays))) r
+
   goes : HasRoom c (seal.records a c h o s t e) b → Agrees b (record c { pending = c.pending ++ seal.records a c h o s t e; places = later })
   goes room =
       let below = (number_below a c s t e h).1 in

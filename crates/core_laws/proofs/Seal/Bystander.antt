@@ -114,6 +114,7 @@ module _ (c : Bystander) (is : IsBystander c) where
   -- each is of a field of the graph that the seal left
   sealed_field : (v : UndoEntry) (one : Wrote c v) → v.field < length (fields c.sealed one.id)
   sealed_field v one = let field = one.field in omega (arith, is.lengths one.id v.object one.object)
+
   no_header : (id : Id) (at : ℕ) → address_of c.later_places id ≡ Some at → (v : UndoEntry) → Wrote c v → at ≢ written v
   no_header id at there v one same =
       let object = is.grown one.id v.object one.object in
@@ -122,6 +123,7 @@ module _ (c : Bystander) (is : IsBystander c) where
         | inr (inl before) ↦ omega arith
         | inr (inr behind) ↦ omega arith
       ]
+
   no_birth : (id : Id) (at : ℕ) → address_of c.later_places id ≡ Some at → (v : UndoEntry) → Wrote c v → at + 1 ≢ written v
   no_birth id at there v one same =
       let object = is.grown one.id v.object one.object in
@@ -130,18 +132,22 @@ module _ (c : Bystander) (is : IsBystander c) where
         | inr (inl before) ↦ omega arith
         | inr (inr behind) ↦ omega arith
       ]
+
   no_field : (id : Id) (at i : ℕ) → address_of c.later_places id ≡ Some at → i < length (fields c.sealed id) → (HoldsAlone c id → ⊥) → (v : UndoEntry) → Wrote c v → field_at at i ≢ written v
   no_field id at i there within free v one same =
       let object = is.grown one.id v.object one.object in
       let both = stands_field_one is.settled one.id id v.object at v.field i object there (sealed_field v one) within (sym same) in
       free (subst (HoldsAlone c) both.0 one.holds)
+
   -- a word that it did not write is the committed one
   word_left : (x : ℕ) → ((v : UndoEntry) → Wrote c v → x ≢ written v) → get_or c.later_words x 0 ≡ get_or c.committed x 0
   word_left x other =
       sym (beside_taken_back c.undo c.later_words x (AllByRecursion-map (Wrote c) (λ v. x ≢ written v) c.undo other (each_held c is)))
       ∙ ap (λ ws. get_or ws x 0) is.back
+
   long : length c.later_words ≡ length c.committed
   long = sym (length-taken_back c.undo c.later_words) ∙ ap length is.back
+
   -- each object stands in its words where it stands in the committed ones
   later_object : (id : Id) (at : ℕ) → address_of c.later_places id ≡ Some at → object_at c.later_words at ≡ Some (length (fields c.sealed id))
   later_object id at there =
@@ -149,6 +155,7 @@ module _ (c : Bystander) (is : IsBystander c) where
       let object = stands_object is.settled id at there in
       let within = (object_header c.committed at n object).1 in
       object_same c.committed c.later_words at n object (word_left at (no_header id at there)) (omega (arith, long))
+
   -- with the same fields, where it does not hold it
   later_fields : (id : Id) (at : ℕ) → address_of c.later_places id ≡ Some at → (HoldsAlone c id → ⊥) → field_words c.later_words at ≡ field_words c.committed at
   later_fields id at there free =
@@ -159,12 +166,14 @@ module _ (c : Bystander) (is : IsBystander c) where
         fields_changed = λ i within. word_left (field_at at i) (no_field id at i there within free);
       })
       ∙ map-id (field_words c.committed at)
+
   later_ends : AreEndToEnd (used_words c.later_words c.base c.later_used) c.base (addresses c.later_places) (c.base + c.later_used)
   later_ends = ends_on (used_words c.committed c.base c.later_used) (used_words c.later_words c.base c.later_used) c.base (addresses c.later_places) (c.base + c.later_used) is.settled.ends (λ at n has object.
       let there = stands_placed is.settled at has in
       let same : length (fields c.sealed there.0) ≡ n =
       same_Some (length (fields c.sealed there.0)) n (sym (stands_object is.settled there.0 at there.1) ∙ object_take c.committed (c.base + c.later_used) at n object) in
       object_in_take c.later_words (c.base + c.later_used) at n (later_object there.0 at there.1 ∙ ap Some same) (object_take_end c.committed (c.base + c.later_used) at n object))
+
   later_root : IsRootAt (used_words c.later_words c.base c.later_used) c.base
   later_root =
       let root_object = is.settled.root_object in
@@ -176,16 +185,20 @@ module _ (c : Bystander) (is : IsBystander c) where
         birth = get_or-take (c.base + c.later_used) c.later_words (c.base + 1) 0 (omega arith) ∙ word_left (c.base + 1) (no_birth root c.base place)
             ∙ sym (get_or-take (c.base + c.later_used) c.committed (c.base + 1) 0 (omega arith)) ∙ root_object.birth;
       }
+
   -- Where objects stand.
   own_length : (k : ℕ) → 1 ≤ k → k ≤ c.made → length (fields c.h (made_by c.u k)) ≡ length (fields c.g (made_by c.u k))
   own_length k first last = ap (λ o. length (unwrap_or o [])) (is.own k first last)
+
   own_index : (id : Id) → IsOwn c.u c.made id → index_of c.h id ≡ index_of c.g id
   own_index id own =
       let last = own.last in
       index_of-same c.g c.h id (λ k first less.
       subst (λ (t : ℕ). length (fields c.h (made_by t k)) ≡ length (fields c.g (made_by t k))) (sym own.maker) (own_length k first (omega arith)))
+
   own_later : (id : Id) → id.t ≡ c.u → address_of c.later_places id ≡ None
   own_later id maker = ap (λ t. address_of c.later_places (made_by t id.k)) maker ∙ is.apart id.k
+
   -- what was at hand stands where it did
   as_before : StandsAsBefore c.places c.u c.made (place_of c.places c.g) (place_of c.later_places c.h)
   as_before id (inl there) =
@@ -193,15 +206,18 @@ module _ (c : Bystander) (is : IsBystander c) where
       place_of-placed c.later_places c.h id at.0 (is.grown id at.0 at.1) ∙ sym (place_of-placed c.places c.g id at.0 at.1)
   as_before id (inr own) =
       place_of-apart c.later_places c.h id (own_later id own.maker) ∙ ap word.Volatile (own_index id own) ∙ sym (place_of-apart c.places c.g id (own_apart is.has own))
+
   -- and is at hand
   hand_on : (id : Id) → IsAtHand c.places c.u c.made id → IsAtHand c.later_places c.u c.made id
   hand_on id (inl there) = let at = some_address (address_of c.places id) there in inl (ap is_some (is.grown id at.0 at.1))
   hand_on id (inr own) = inr own
+
   -- what is committed stands where the seal left it
   as_sealed : StandsAsBefore c.later_places 0 0 (place_of c.later_places c.sealed) (place_of c.later_places c.h)
   as_sealed id at_hand =
       let at = committed_address c.later_places id at_hand in
       place_of-placed c.later_places c.h id at.0 at.1 ∙ sym (place_of-placed c.later_places c.sealed id at.0 at.1)
+
   held_each : (id : Id) (at : ℕ) → address_of c.later_places id ≡ Some at → HoldsAlone c id → StandsAt (place_of c.later_places c.h) c.h c.later_words id at
   held_each id at there holds =
       let old = is.held_placed id at there holds in
@@ -212,6 +228,7 @@ module _ (c : Bystander) (is : IsBystander c) where
         fields = is.held_words id at old holds ∙ stands_words is.stands id at old
             ∙ sym (map_bits_of-same c.places c.u c.made (place_of c.places c.g) (place_of c.later_places c.h) as_before (fields c.g id) (is.stands.visible id at old));
       }
+
   free_each : (id : Id) (at : ℕ) → address_of c.later_places id ≡ Some at → (HoldsAlone c id → ⊥) → StandsAt (place_of c.later_places c.h) c.h c.later_words id at
   free_each id at there free = record {
     values = fields c.sealed id;
@@ -220,15 +237,19 @@ module _ (c : Bystander) (is : IsBystander c) where
     fields = later_fields id at there free ∙ stands_words is.settled id at there
         ∙ sym (map_bits_of-same c.later_places 0 0 (place_of c.later_places c.sealed) (place_of c.later_places c.h) as_sealed (fields c.sealed id) (is.settled.visible id at there));
   }
+
   later_each : (id : Id) (at : ℕ) → address_of c.later_places id ≡ Some at → StandsAt (place_of c.later_places c.h) c.h c.later_words id at
   later_each id at there = elim (exclusive_or_not c.locks id) [ inl holds ↦ held_each id at there holds | inr free ↦ free_each id at there free ]
+
   value_on : (v : Val) → IsVisible c.places c.u c.made v → IsVisible c.later_places c.u c.made v
   value_on Null seen = tt
   value_on (Int n) seen = seen
   value_on (Ref id) seen = hand_on id seen
+
   -- so what it saw is seen
   values_on : (vs : List Val) → AllByRecursion (IsVisible c.places c.u c.made) vs → AllByRecursion (IsVisible c.later_places c.u c.made) vs
   values_on vs seen = AllByRecursion-map (IsVisible c.places c.u c.made) (IsVisible c.later_places c.u c.made) vs value_on seen
+
   later_visible : (id : Id) (at : ℕ) → address_of c.later_places id ≡ Some at → AllByRecursion (IsVisible c.later_places c.u c.made) (fields c.h id)
   later_visible id at there =
       let Seen : Option (List Val) → Type 0 = λ o. AllByRecursion (IsVisible c.later_places c.u c.made) (unwrap_or o []) in

@@ -54,27 +54,35 @@ module _ (a : Account) (c : Core) (h : Agrees a c) {numbers : List ℕ} {heard :
   -- the graph that the sealed transactions left before
   abbrev left : Graph
   left = serial c.g0 a.sealed
+
   -- and the one that the seal leaves
   abbrev after : Graph
   after = (view c.g0 a t).graph
+
   -- what the other transaction sees before
   abbrev before : View
   before = view c.g0 a u
+
   -- and behind the seal
   abbrev behind : View
   behind = run after u
+
   -- the objects that stand in the space then
   abbrev later : Places
   later = c.places ++ seal.placed a c h o s t e
+
   -- all words then
   abbrev then : List ℕ
   then = fold put_record (seal.now a c h o s t e) (seal.promotion a c h o s t e)
+
   -- the words as it sees them before
   abbrev its_words : List ℕ
   its_words = others_taken_back h.behind u.number (seal.now a c h o s t e)
+
   -- and then
   abbrev its_later_words : List ℕ
   its_later_words = others_taken_back (seal.last a c h o s t e) u.number then
+
   bystander : Bystander
   bystander = record {
     u = u.number;
@@ -93,18 +101,24 @@ module _ (a : Account) (c : Core) (h : Agrees a c) {numbers : List ℕ} {heard :
     sealed = after;
     committed = seal.settled a c h o s t e;
   }
+
   w : IsWriting c.places before u.number (locks_of left u) (seal.now a c h o s t e) h.behind
   w = writing_of a c r u also h
+
   differ : t.number ≢ u.number
   differ = (o.beside s r t u apart e also).differ
+
   -- The graphs.
   -- it runs alike on both
   alike : RunAlike t.number (IsExclusive left t) (fresh_view left) (fresh_view after) u.number u.calls
   alike = runs_alike left t u o.closed (λ same. differ (sym same)) (o.unused s t e) (o.beside s r t u apart e also).apart
+
   there_left : (id : Id) (at : ℕ) → address_of c.places id ≡ Some at → IsThere left id
   there_left id at there = (fields left id, stands_get h.told.stands id at there)
+
   there_after : (id : Id) (at : ℕ) → address_of later id ≡ Some at → IsThere after id
   there_after id at there = (fields after id, stands_get (seal_stands (seal.can a c h o s t e space)) id at there)
+
   -- it sees what it made as before
   its_own : (k : ℕ) → 1 ≤ k → k ≤ before.made → get behind.graph (made_by u.number k) ≡ get before.graph (made_by u.number k)
   its_own k first last =
@@ -114,6 +128,7 @@ module _ (a : Account) (c : Core) (h : Agrees a c) {numbers : List ℕ} {heard :
       let there = made_there after u q (record { maker = refl; from = first; to = omega arith }) in
       let free = λ (holds : IsExclusive left t q). locks_of-other left t u.number q Exclusive o.closed differ (o.unused r u also) holds refl in
       sym (get_same before.graph behind.graph q here there (alike.views.objects q (λ same. differ (sym same)) free))
+
   -- and what it holds
   its_held : (id : Id) (at : ℕ) → address_of c.places id ≡ Some at → Contains (locks_of left u) (id, Exclusive) → get behind.graph id ≡ get before.graph id
   its_held id at there holds =
@@ -121,6 +136,7 @@ module _ (a : Account) (c : Core) (h : Agrees a c) {numbers : List ℕ} {heard :
       let free = λ (holds' : IsExclusive left t id). (o.beside s r t u apart e also).apart id Exclusive Exclusive holds' holds refl in
       sym (get_same before.graph behind.graph id (IsThere-run left u id was) (IsThere-run after u id (IsThere-run left t id was))
       (alike.views.objects id (there_other left t.number id (o.unused s t e) was) free))
+
   -- and all else as the seal left it
   its_others : (id : Id) (at : ℕ) → address_of later id ≡ Some at → (Contains (locks_of left u) (id, Exclusive) → ⊥) → get behind.graph id ≡ get after id
   its_others id at there free =
@@ -128,18 +144,21 @@ module _ (a : Account) (c : Core) (h : Agrees a c) {numbers : List ℕ} {heard :
       let unused = run-IsUnused left t u.number o.closed (λ same. differ (sym same)) (o.unused r u also) in
       get_same behind.graph after id (IsThere-run after u id is) is
       (fields-run after u id (there_other after u.number id unused is) (λ holds. free (subst (λ (ls : List Lock). Contains ls (id, Exclusive)) (sym alike.locks) holds)))
+
   -- The places.
   -- what stands in the space then stood there before, or the sealed transaction made it
   old_or_new : (id : Id) (at : ℕ) → address_of later id ≡ Some at → (address_of c.places id ≡ Some at) ⊎ (id.t ≡ t.number)
   old_or_new id at there =
       let it = sealing c.places after t.number (view c.g0 a t).made (seal.own_undo a c h o s t e) (seal.own_words a c h o s t e) h.behind.base h.behind.used in
       elim (later_cases it (is_sealing (seal.can a c h o s t e space)) id at there) [ inl old ↦ inl old | inr to ↦ inr to.own.maker ]
+
   -- what it holds stood there before
   its_placed : (id : Id) (at : ℕ) → address_of later id ≡ Some at → Contains (locks_of left u) (id, Exclusive) → address_of c.places id ≡ Some at
   its_placed id at there holds = elim (old_or_new id at there) [
     | inl old ↦ old
     | inr maker ↦ absurd (locks_of-other left u t.number id Exclusive o.closed (λ same. differ (sym same)) (o.unused s t e) holds maker)
   ]
+
   -- nothing that it made stands in the space
   its_apart : (k : ℕ) → address_of later (made_by u.number k) ≡ None
   its_apart k = elim (none_or_some (address_of later (made_by u.number k))) [
@@ -149,6 +168,7 @@ module _ (a : Account) (c : Core) (h : Agrees a c) {numbers : List ℕ} {heard :
       | inr maker ↦ absurd (differ (sym maker))
     ]
   ]
+
   -- The words.
   -- a used word that no other transaction wrote stays behind the promotion
   promotion_beside : (x : ℕ) → x < h.behind.base + h.behind.used → IsAway h.behind u.number x → get_or then x 0 ≡ get_or (seal.now a c h o s t e) x 0
@@ -157,6 +177,7 @@ module _ (a : Account) (c : Core) (h : Agrees a c) {numbers : List ℕ} {heard :
       let none : AllByRecursion (λ v. x ≢ written v) (undo_of h.behind t.number) = each_at Away h.behind.undo t.number (λ other. tt) away differ in
       untouched (seal.promotion a c h o s t e) (seal.now a c h o s t e) x
       (promotion_writes (λ y. x ≢ y) (seal.own_area a c h o s t e) (seal.own_words a c h o s t e) (seal.own_undo a c h o s t e) (seal.next_free a c h o s t e) (λ y above same. omega arith) none)
+
   -- so it is the same as it sees it
   word_same : (x : ℕ) → x < h.behind.base + h.behind.used → IsAway h.behind u.number x → get_or its_later_words x 0 ≡ get_or its_words x 0
   word_same x below away =
@@ -164,10 +185,12 @@ module _ (a : Account) (c : Core) (h : Agrees a c) {numbers : List ℕ} {heard :
       let now = seal.now a c h o s t e in
       let Away : ℕ → List UndoEntry → Type 0 = λ q vs. q ≢ u.number → AllByRecursion (λ v. x ≢ written v) vs in
       others_get last u.number then x (each_remove Away h.behind.undo t.number away) ∙ promotion_beside x below away ∙ sym (others_get h.behind u.number now x away)
+
   its_length : length its_later_words ≡ length its_words
   its_length =
       let now = seal.now a c h o s t e in
       length-others (seal.last a c h o s t e) u.number then ∙ length-records (seal.promotion a c h o s t e) now ∙ sym (length-others h.behind u.number now)
+
   -- what it holds has the same field words
   its_fields : (id : Id) (at : ℕ) → address_of c.places id ≡ Some at → Contains (locks_of left u) (id, Exclusive) → field_words its_later_words at ≡ field_words its_words at
   its_fields id at there holds =
@@ -182,12 +205,15 @@ module _ (a : Account) (c : Core) (h : Agrees a c) {numbers : List ℕ} {heard :
         fields_changed = λ i within. word_same (field_at at i) (omega arith) (away_field a c h o r u also id at i there within free);
       })
       ∙ map-id (field_words its_words at)
+
   same_undo : undo_of (seal.last a c h o s t e) u.number ≡ undo_of h.behind u.number
   same_undo = undo_other h.behind t.number u.number [] 0 differ
+
   apart_behind : IsApart (seal.last a c h o s t e) u.number (undo_of (seal.last a c h o s t e) u.number)
   apart_behind =
       let Apart : List UndoEntry → ℕ → List UndoEntry → Type 0 = λ us q vs. q ≢ u.number → AreApart us vs in
       subst (λ us. IsApart (seal.last a c h o s t e) u.number us) (sym same_undo) (each_remove (Apart (undo_of h.behind u.number)) h.behind.undo t.number (own_apart a c h o r u also))
+
   -- its writes are all that is to be taken back of what it sees
   its_back : taken_back (undo_of h.behind u.number) its_later_words ≡ seal.settled a c h o s t e
   its_back =
@@ -195,6 +221,7 @@ module _ (a : Account) (c : Core) (h : Agrees a c) {numbers : List ℕ} {heard :
       ap (λ us. taken_back us its_later_words) (sym same_undo)
       ∙ own_taken_back last u.number then (told_sound (seal.sealed_told a c h o s t e space)) apart_behind
       ∙ seal.settled_words a c h o s t e space
+
   -- so it goes on beside the seal
   is_bystander : IsBystander bystander
   unfolding bystander
@@ -215,6 +242,7 @@ module _ (a : Account) (c : Core) (h : Agrees a c) {numbers : List ℕ} {heard :
     others = its_others;
     held_words = its_fields;
   }
+
   -- What it sees stands behind the seal.
   pub stays_beside : IsWriting later behind u.number (locks_of after u) then (seal.last a c h o s t e)
   unfolding bystander

@@ -48,67 +48,87 @@ module _ (a : Account) (c : Core) (h : Agrees a c) {numbers : List ℕ} {heard :
   -- what the transaction sees
   abbrev pub seen : View
   seen = view c.g0 a t
+
   -- its area
   abbrev pub own_area : AreaState
   own_area = area_in c.places seen t.number
+
   -- its writes that may be taken back
   abbrev pub own_undo : List UndoEntry
   own_undo = undo_of h.behind t.number
+
   -- all words
   abbrev pub now : List ℕ
   now = all_words c
+
   -- the words as it sees them
   abbrev pub own_words : List ℕ
   own_words = others_taken_back h.behind t.number now
+
   -- the address of the next free word
   abbrev pub next_free : ℕ
   next_free = h.behind.base + h.behind.used
+
   -- as many words as the promotion needs
   abbrev pub asked : ℕ
   asked = promoted_need own_area own_words own_undo
+
   -- the records of the promotion
   abbrev pub promotion : List Record
   promotion = promotion_records own_area own_words own_undo next_free
+
   -- those of the seal
   abbrev pub records : List Record
   records = seal_records own_area own_words own_undo next_free
+
   -- the places of what it promotes
   abbrev pub placed : Places
   placed = promoted_places own_area (moves_of own_area own_words own_undo next_free)
+
   -- the state behind the seal
   abbrev pub last : State
   last = sealed_state h.behind t.number asked
+
   -- the words as they are committed behind the seal
   abbrev pub settled : List ℕ
   settled = fold put_record own_words promotion
+
   known : Ground
   known = record { places = c.places; words = now; state = Some h.behind }
+
   where_known : ground c ≡ known
   unfolding known
   where_known = ap (λ (x : Option State). record { places = c.places; words = now; state = x }) h.told.reached
+
   -- all words are those that it sees in the fields that it wrote
   agree : AgreeIn own_words now (written_fields own_undo)
   agree =
       let Away : Field → Type 0 = λ f. IsAway h.behind t.number (field_at f.0 f.1) in
       AllByRecursion-map Away (λ f. _) (written_fields own_undo) (λ f away. sym (others_at h.behind t.number now (field_at f.0 f.1) away))
       (fields_written (IsAway h.behind t.number) own_undo (own_away a c h o s t e))
+
   -- so the core's records of a seal are these
   pub seal_is : seal_of (ground c) t.number seen ≡ records
   unfolding known
   seal_is = ap (λ (g : Ground). seal_of g t.number seen) where_known ∙ records_same own_area own_words now own_undo agree next_free
+
   -- and its places
   pub places_are : promoted_places own_area (seal_moves (ground c) t.number seen) ≡ placed
   unfolding known
   places_are = ap (λ (g : Ground). promoted_places own_area (seal_moves g t.number seen)) where_known ∙ ap (promoted_places own_area) (moves_same own_area own_words now own_undo agree next_free)
+
   sound : AreLosers h.behind
   sound = told_sound h.told
+
   -- the records write no word that others have written
   promotion_away : WriteAt (IsAway h.behind t.number) promotion
   promotion_away = promotion_writes (IsAway h.behind t.number) own_area own_words own_undo next_free (λ x above. free_away h.behind t.number x sound above) (own_away a c h o s t e)
+
   -- The seal.
   -- the seal has room
   abbrev pub HasSpace : Type 0
   HasSpace = space_refusal (ground c).state (seal_need (ground c) t.number seen) ≡ None
+
   module _ (space : HasSpace) where
     fits : asked ≤ 64 * h.behind.pages - h.behind.used
     unfolding known
@@ -116,11 +136,14 @@ module _ (a : Account) (c : Core) (h : Agrees a c) {numbers : List ℕ} {heard :
         let here = subst (λ (g : Ground). space_refusal g.state (seal_need g t.number seen) ≡ None) where_known space in
         let few = space_fits h.behind (promoted_need own_area now own_undo) here in
         omega (arith, need_same own_area own_words now own_undo agree)
+
     same_pages : h.behind.pages ≡ c.pages
     same_pages = (leads_after_all (start c.pages c.lowest) h.behind (all_records c) h.told.reached).pages
+
     -- the used words are words of the space
     inside : h.behind.used ≤ 64 * h.behind.pages
     inside = let room = room_after_all c.pages c.lowest h.behind (all_records c) h.some_pages h.told.reached in let used = room.3 in omega (arith, same_pages)
+
     -- it finds what its transaction sees
     pub can : CanSeal c.places seen.graph t.number seen.made own_undo own_words h.behind.base h.behind.used
     can =
@@ -136,25 +159,32 @@ module _ (a : Account) (c : Core) (h : Agrees a c) {numbers : List ℕ} {heard :
           room = omega (arith, fits, inside, same_pages, size, long, base);
           top = omega (arith, fits, inside, same_pages, h.few_pages, base);
         }
+
     number : is_number t.number ≡ true
     number = numbered_as a c s t e h
+
     -- all records lead to the state behind it
     pub reached : after_all (start c.pages c.lowest) (all_records c ++ records) ≡ Some last
     reached = after_all-append2 (start c.pages c.lowest) h.behind (all_records c) records h.told.reached ∙ seal_follows h.behind can number (omega (arith, fits, inside))
+
     -- all words are those with the promotion
     pub words_behind : words_with c records ≡ fold put_record now promotion
     words_behind = fold-append put_record now promotion (Commit t.number ∷ [])
+
     -- the committed words behind the seal are those that its transaction sees, with the promotion
     pub settled_words : all_taken_back last (fold put_record now promotion) ≡ settled
     settled_words = all_ended h.behind last t.number (fold put_record now promotion) refl ∙ others_records h.behind t.number now promotion promotion_away
+
     committed : all_taken_back last (words_with c records) ≡ settled
     committed = ap (all_taken_back last) words_behind ∙ settled_words
+
     -- where births give the names in the committed words they do so in those that the transaction sees
     births_seen : AreNamedByBirth c.places (all_taken_back h.behind now) → AreNamedByBirth c.places own_words
     births_seen born =
         let w = writing_of a c s t e h in
         let back = sym (own_taken_back h.behind t.number now sound (own_apart a c h o s t e)) in
         renamed c.places (taken_back own_undo own_words) own_words (λ at has. sym (taken_back_birth w.stands own_undo w.fields at has)) (subst (AreNamedByBirth c.places) back born)
+
     -- all records tell the graph that it leaves
     pub sealed_told : IsTold c.pages c.lowest c.born (c.places ++ placed) seen.graph (c.before + length a.sealed + 1) (all_records c ++ records) (words_with c records) last
     sealed_told = record {

@@ -48,18 +48,22 @@ module _ (area : AreaState) (words others : List ℕ) (undo : List UndoEntry) (s
   -- they tell the same objects that a seal promotes
   pub promoted_same : promoted_by area others undo ≡ promoted_by area words undo
   promoted_same = ap (promoted area) (in_fields words others (written_fields undo) same)
+
   -- as many words that these take
   pub need_same : promoted_need area others undo ≡ promoted_need area words undo
   need_same = ap (need area) promoted_same
+
   -- where they move
   pub moves_same : (address : ℕ) → moves_of area others undo address ≡ moves_of area words undo address
   moves_same address = ap (λ starts. moves_to area starts address) promoted_same
+
   -- the same records of the promotion
   pub promotion_same : (address : ℕ) → promotion_records area others undo address ≡ promotion_records area words undo address
   promotion_same address =
       let moves = moves_of area words undo address in
       ap (λ ms. map (base_of area ms) ms ++ fixes area.transaction others ms (written_fields undo)) (moves_same address)
       ∙ ap (λ rs. map (base_of area moves) moves ++ rs) (fixes_same area.transaction words others moves (written_fields undo) same)
+
   -- and of the seal
   pub records_same : (address : ℕ) → seal_records area others undo address ≡ seal_records area words undo address
   records_same address = ap (λ rs. rs ++ Commit area.transaction ∷ []) (promotion_same address)

@@ -72,6 +72,7 @@ module _ (a : Account) (c : Core) (h : Agrees a c) {numbers : List ℕ} {heard :
   -- a write of a field of an object that a transaction holds exclusively
   abbrev IsHeldBy : Transaction → UndoEntry → Type 0
   IsHeldBy t v = IsHeldField c.places (serial c.g0 a.sealed) (locks_of (serial c.g0 a.sealed) t) v
+
   -- a transaction whose writes may be taken back is active, and what it sees stands in the words without the writes of all others
   pub of_another : (q : ℕ) (vs : List UndoEntry) → get h.behind.undo q ≡ Some vs → IsWrittenBy a c h.behind q vs
   of_another q vs some =
@@ -84,15 +85,18 @@ module _ (a : Account) (c : Core) (h : Agrees a c) {numbers : List ℕ} {heard :
         own = sym (ap (λ x. unwrap_or x []) some);
         writing = writing_of a c one.session one.transaction one.active h;
       }
+
   not_made : (s : ℕ) (t : Transaction) → a.active s ≡ Some t → (id : Id) (at : ℕ) → address_of c.places id ≡ Some at → id.t ≢ t.number
   not_made s t e id at is maker =
       let none = (writing_of a c s t e h).made.apart id.k in
       let made : address_of c.places id ≡ None = ap (λ n. address_of c.places (record { t = n; k = id.k })) maker ∙ none in
       cc
+
   -- an object that stands in the space has as many fields as any active transaction sees
   pub same_length : (s : ℕ) (t : Transaction) → a.active s ≡ Some t → (id : Id) (at : ℕ) → address_of c.places id ≡ Some at
       → length (fields (view c.g0 a t).graph id) ≡ length (fields (serial c.g0 a.sealed) id)
   same_length s t e id at is = length-fields-run (serial c.g0 a.sealed) t id (not_made s t e id at is)
+
   held_field : (s : ℕ) (t : Transaction) → a.active s ≡ Some t → (v : UndoEntry) → IsOfField c.places (view c.g0 a t).graph v → IsLocked c.places (locks_of (serial c.g0 a.sealed) t) v
       → IsHeldBy t v
   held_field s t e v field locked =
@@ -103,14 +107,17 @@ module _ (a : Account) (c : Core) (h : Agrees a c) {numbers : List ℕ} {heard :
         within = subst (λ n. v.field < n) (same_length s t e field.id v.object field.object) field.field;
         lock = subst (λ (x : Id). Contains (locks_of (serial c.g0 a.sealed) t) (x, Exclusive)) same locked.lock;
       }
+
   held_fields : (s : ℕ) (t : Transaction) → a.active s ≡ Some t → AllByRecursion (IsHeldBy t) (undo_of h.behind t.number)
   held_fields s t e =
       let w = writing_of a c s t e h in
       both_hold (IsOfField c.places (view c.g0 a t).graph) (IsLocked c.places (locks_of (serial c.g0 a.sealed) t)) (IsHeldBy t) (undo_of h.behind t.number)
       (held_field s t e) w.fields w.locked
+
   others_held : (q : ℕ) (vs : List UndoEntry) → get h.behind.undo q ≡ Some vs → (w : IsWrittenBy a c h.behind q vs) → AllByRecursion (IsHeldBy w.transaction) vs
   others_held q vs some w =
       subst (AllByRecursion (IsHeldBy w.transaction)) (ap (undo_of h.behind) w.number ∙ sym w.own) (held_fields w.session w.transaction w.active)
+
   field_free : (t u : Transaction) (r : ℕ) → a.active r ≡ Some u → u.number ≢ t.number → (id : Id) (at i : ℕ) → address_of c.places id ≡ Some at → i < length (fields (serial c.g0 a.sealed) id)
       → IsFree c.g0 a t.number (Some (id, Shared)) → (v : UndoEntry) → IsHeldBy u v → field_at at i ≢ written v
   field_free t u r also differ id at i is within free v held same =
@@ -127,6 +134,7 @@ module _ (a : Account) (c : Core) (h : Agrees a c) {numbers : List ℕ} {heard :
         };
         conflicts = refl;
       })
+
   -- no other transaction has written a field that no other holds exclusively
   pub away_field : (s : ℕ) (t : Transaction) → a.active s ≡ Some t → (id : Id) (at i : ℕ) → address_of c.places id ≡ Some at → i < length (fields (view c.g0 a t).graph id)
       → IsFree c.g0 a t.number (Some (id, Shared)) → IsAway h.behind t.number (field_at at i)
@@ -135,6 +143,7 @@ module _ (a : Account) (c : Core) (h : Agrees a c) {numbers : List ℕ} {heard :
       let long = same_length s t e id at is in
       AllByRecursion-map (IsHeldBy w.transaction) (λ v. field_at at i ≢ written v) vs
       (field_free t w.transaction w.session w.active (λ same. other (sym w.number ∙ same)) id at i is (omega arith) free) (others_held q vs some w)
+
   head_free : (id : Id) (at : ℕ) → address_of c.places id ≡ Some at → (u : Transaction) (v : UndoEntry) → IsHeldBy u v → (at ≢ written v) × (at + 1 ≢ written v)
   head_free id at is u v held = elim (stands_field_apart h.told.stands held.id id v.object at v.field held.object is held.within) [
     | inl same ↦
@@ -143,16 +152,19 @@ module _ (a : Account) (c : Core) (h : Agrees a c) {numbers : List ℕ} {heard :
     | inr (inl before) ↦ (λ here. omega arith, λ here. omega arith)
     | inr (inr later) ↦ (λ here. omega arith, λ here. omega arith)
   ]
+
   -- no transaction has written the header of an object
   pub away_header : (n : ℕ) (id : Id) (at : ℕ) → address_of c.places id ≡ Some at → IsAway h.behind n at
   away_header n id at is q vs some other =
       let w = of_another q vs some in
       AllByRecursion-map (IsHeldBy w.transaction) (λ v. at ≢ written v) vs (λ v held. (head_free id at is w.transaction v held).0) (others_held q vs some w)
+
   -- or its birth
   pub away_birth : (n : ℕ) (id : Id) (at : ℕ) → address_of c.places id ≡ Some at → IsAway h.behind n (at + 1)
   away_birth n id at is q vs some other =
       let w = of_another q vs some in
       AllByRecursion-map (IsHeldBy w.transaction) (λ v. at + 1 ≢ written v) vs (λ v held. (head_free id at is w.transaction v held).1) (others_held q vs some w)
+
   -- what a transaction holds exclusively no other one holds
   pub own_free : (s : ℕ) (t : Transaction) → a.active s ≡ Some t → (id : Id) → Contains (locks_of (serial c.g0 a.sealed) t) (id, Exclusive) → IsFree c.g0 a t.number (Some (id, Exclusive))
   own_free s t e id lock other way =
@@ -161,6 +173,7 @@ module _ (a : Account) (c : Core) (h : Agrees a c) {numbers : List ℕ} {heard :
       let also = way.holds.active in
       let apart : s ≢ r = λ same. way.differs (sym way.holds.number ∙ sym (ap (λ (x : Transaction). x.number) (same_Some t u (sym e ∙ ap a.active same ∙ also)))) in
       (o.beside s r t u apart e also).apart id Exclusive way.mode lock way.holds.lock refl
+
   -- so no other transaction has written the fields that a transaction has written
   pub own_away : (s : ℕ) (t : Transaction) → a.active s ≡ Some t → AllByRecursion (λ u. IsAway h.behind t.number (written u)) (undo_of h.behind t.number)
   own_away s t e =
@@ -170,9 +183,11 @@ module _ (a : Account) (c : Core) (h : Agrees a c) {numbers : List ℕ} {heard :
       let within = held.within in
       away_field s t e held.id u.object u.field held.object (omega arith) (free_shared c.g0 a t.number held.id (own_free s t e held.id held.lock)))
       (held_fields s t e)
+
   -- its writes are apart from those of the others
   pub own_apart : (s : ℕ) (t : Transaction) → a.active s ≡ Some t → IsApart h.behind t.number (undo_of h.behind t.number)
   own_apart s t e = apart_of h.behind t.number (undo_of h.behind t.number) (own_away s t e)
+
   -- with one more, of a field that it may hold exclusively
   pub apart_with : (s : ℕ) (t : Transaction) → a.active s ≡ Some t → (id : Id) (at i : ℕ) → address_of c.places id ≡ Some at → i < length (fields (view c.g0 a t).graph id)
       → IsFree c.g0 a t.number (Some (id, Exclusive)) → (entry : UndoEntry) → entry.object ≡ at → entry.field ≡ i → IsApart h.behind t.number (entry ∷ undo_of h.behind t.number)
@@ -180,6 +195,7 @@ module _ (a : Account) (c : Core) (h : Agrees a c) {numbers : List ℕ} {heard :
       let here : field_at at i ≡ written entry = ap (λ n. field_at n i) (sym object) ∙ ap (field_at entry.object) (sym field) in
       apart_of h.behind t.number (entry ∷ undo_of h.behind t.number)
       (subst (IsAway h.behind t.number) here (away_field s t e id at i is within (free_shared c.g0 a t.number id free)), own_away s t e)
+
   -- What a transaction sees stands in the words.
   -- an object's header
   pub object_now : (s : ℕ) (t : Transaction) → a.active s ≡ Some t → (id : Id) (at : ℕ) → address_of c.places id ≡ Some at
@@ -192,10 +208,12 @@ module _ (a : Account) (c : Core) (h : Agrees a c) {numbers : List ℕ} {heard :
       let fits = (object_header seen at n object).1 in
       let long = length-others h.behind t.number now in
       object_same seen now at n object (sym (others_at h.behind t.number now at (away_header t.number id at is))) (omega arith)
+
   -- as many fields stand there as the transaction sees
   pub length_now : (s : ℕ) (t : Transaction) → a.active s ≡ Some t → (id : Id) (at : ℕ) → address_of c.places id ≡ Some at
       → length (field_words (all_words c) at) ≡ length (fields (view c.g0 a t).graph id)
   length_now s t e id at is = length-field_words (all_words c) at (length (fields (view c.g0 a t).graph id)) (object_now s t e id at is)
+
   -- the word of a field of an object that no other transaction holds exclusively
   pub word_now : (s : ℕ) (t : Transaction) → a.active s ≡ Some t → (id : Id) (at i : ℕ) → address_of c.places id ≡ Some at → i < length (fields (view c.g0 a t).graph id)
       → IsFree c.g0 a t.number (Some (id, Shared))
@@ -203,6 +221,7 @@ module _ (a : Account) (c : Core) (h : Agrees a c) {numbers : List ℕ} {heard :
   word_now s t e id at i is within free =
       sym (others_at h.behind t.number (all_words c) (field_at at i) (away_field s t e id at i is within free))
       ∙ stands_field (writing_of a c s t e h).stands id at i is within
+
   -- all of its fields
   pub fields_now : (s : ℕ) (t : Transaction) → a.active s ≡ Some t → (id : Id) (at : ℕ) → address_of c.places id ≡ Some at → IsFree c.g0 a t.number (Some (id, Shared))
       → field_words (all_words c) at ≡ map (bits_of (place_of c.places (view c.g0 a t).graph)) (fields (view c.g0 a t).graph id)

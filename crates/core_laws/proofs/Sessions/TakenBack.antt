@@ -80,6 +80,7 @@ module _ (a : Account) (s : State) (differ : (q r : ℕ) (t u : Transaction) →
     same = λ r t low active. h.same r t (omega arith) active;
     apart = λ r t low active. h.apart r t (omega arith) active;
   }
+
   -- the writes of one that has a transaction are taken back
   take_one : (from n : ℕ) (undo : FinMap nat_cmp (List UndoEntry)) (t : Transaction) → a.active from ≡ Some t → IsLeft a s from (suc n) undo → IsLeft a s (from + 1) n (remove undo t.number)
   take_one from n undo t is h = record {
@@ -92,6 +93,7 @@ module _ (a : Account) (s : State) (differ : (q r : ℕ) (t u : Transaction) →
         ap (λ (o : Option (List UndoEntry)). unwrap_or o []) (get_kept undo t.number u.number (λ same. differ r from u t (omega arith) active is same)) ∙ h.same r u (omega arith) active;
     apart = λ r u low active. each_remove (λ q vs. q ≢ u.number → AreApart (undo_of s u.number) vs) undo t.number (h.apart r u (omega arith) active);
   }
+
   -- taken back first
   first_taken : (from n : ℕ) (undo : FinMap nat_cmp (List UndoEntry)) (t : Transaction) (now : List ℕ) → a.active from ≡ Some t → IsLeft a s from (suc n) undo
       → each_taken_back (entries undo) now ≡ each_taken_back (entries (remove undo t.number)) (taken_back (undo_of s t.number) now)
@@ -100,9 +102,11 @@ module _ (a : Account) (s : State) (differ : (q r : ℕ) (t u : Transaction) →
       all_taken_back-first (left s undo) t.number now (λ q us there. let one = h.sound q us there in record { some = one.some; number = one.number; known = one.known; inside = one.inside })
       (subst (λ us. IsApart (left s undo) t.number us) (sym own) (h.apart from t (omega arith) is))
       ∙ ap (λ us. each_taken_back (entries (remove undo t.number)) (taken_back us now)) own
+
   -- what is still to be taken back when the sessions below one are done
   abbrev Rest : ℕ → ℕ → Type 0
   Rest from n = (undo : FinMap nat_cmp (List UndoEntry)) (now : List ℕ) → IsLeft a s from n undo → each_taken_back (entries undo) now ≡ taken_by (undo_of s) a (range_with_len from n) now
+
   taken_more : (from n : ℕ) (o : Option Transaction) → a.active from ≡ o → Rest (from + 1) n → Rest from (suc n)
   taken_more from n None is rest undo now h =
       rest undo now (skip from n undo is h) ∙ ap (λ o. taken_by (undo_of s) a (range_with_len (from + 1) n) (taken_back (session_undo (undo_of s) o) now)) (sym is)
@@ -110,6 +114,7 @@ module _ (a : Account) (s : State) (differ : (q r : ℕ) (t u : Transaction) →
       first_taken from n undo t now is h
       ∙ rest (remove undo t.number) (taken_back (undo_of s t.number) now) (take_one from n undo t is h)
       ∙ ap (λ o. taken_by (undo_of s) a (range_with_len (from + 1) n) (taken_back (session_undo (undo_of s) o) now)) (sym is)
+
   taken_on : (from n : ℕ) → Rest from n
   taken_on from zero = λ undo now h. no_losers (entries undo) undo now refl (λ q us there. let one = h.losers q us there in let low = one.low in let high = one.high in absurd (omega arith))
   taken_on from (suc n) = taken_more from n (a.active from) refl (taken_on (from + 1) n)

@@ -35,16 +35,21 @@ module _ (a : Account) (c : Core) (h : Agrees a c) {numbers : List ℕ} {heard :
   -- the records that take the writes of the transaction back
   abbrev ends : List Record
   ends = abort_records t.number (undo_of h.behind t.number)
+
   -- the state behind them
   abbrev last : State
   last = turned h.behind t.number (with_entries h.behind.undo t.number []) 0
+
   -- what the history says then
   abbrev aborted : Account
   aborted = account_after a (record { event = Abort s; reply = Aborted })
+
   end_told : IsTold c.pages c.lowest c.born c.places (serial c.g0 a.sealed) (c.before + length a.sealed) (all_records c ++ ends) (words_with c ends) last
   end_told = abort_told c.pages c.lowest c.born c.places (serial c.g0 a.sealed) (c.before + length a.sealed) t.number (all_records c) (all_words c) h.behind h.told (numbered_as a c s t e h) (own_apart a c h o s t e)
+
   end_words : words_with c ends ≡ taken_back (undo_of h.behind t.number) (all_words c)
   end_words = abort_words t.number (undo_of h.behind t.number) (all_words c)
+
   -- the others see what they saw
   end_others : (r : ℕ) → r ≢ s → IsWriter c.places c.g0 a (a.active r) (words_with c ends) last
   end_others r other =
@@ -52,6 +57,7 @@ module _ (a : Account) (c : Core) (h : Agrees a c) {numbers : List ℕ} {heard :
       (writer_by c.places c.g0 a (a.active r) _ _ (λ u also.
       let beside = o.beside r s u t other also e in
       stays_abort (writing_of a c r u also h) t.number beside.differ (told_sound h.told) (own_apart a c h o s t e)))
+
   -- what takes the transaction back has room in what is kept for it
   end_room : HasRoom c ends aborted
   end_room =
@@ -62,6 +68,7 @@ module _ (a : Account) (c : Core) (h : Agrees a c) {numbers : List ℕ} {heard :
       let fits = need-abort_records c.pending t.number (undo_of h.behind t.number) in
       let room = h.room in
       omega arith
+
   end_agrees : Agrees aborted (record c { pending = c.pending ++ ends; places = c.places ++ [] })
   end_agrees =
       let base = serial c.g0 a.sealed in

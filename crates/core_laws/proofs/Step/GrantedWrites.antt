@@ -130,21 +130,27 @@ module _ (a : Account) (c : Core) {numbers : List ℕ} {heard : Heard} (o : IsOr
   -- what the sealed transactions left
   abbrev base : Graph
   base = serial c.g0 a.sealed
+
   -- what the transaction sees
   abbrev seen : View
   seen = view c.g0 a t
+
   -- the record of the write
   abbrev records : List Record
   records = update_of c.places seen.graph t.number id at i v ∷ []
+
   -- what it replaces
   abbrev entry : UndoEntry
   entry = entry_of c.places seen.graph id at i
+
   -- the state behind it
   abbrev later : State
   later = written w.agrees.behind t.number entry
+
   -- no other transaction has written the field
   field_away : IsAway w.agrees.behind t.number (field_at at i)
   field_away = away_field a c w.agrees o s t w.active id at i place within (free_shared c.g0 a t.number id (w.free id holds))
+
   stable_at : IsWriteAt c.pages c.lowest c.born c.places base seen.graph (c.before + length a.sealed) t.number seen.made (all_records c) (all_words c) w.agrees.behind id at i v
   stable_at =
       let free = w.free id holds in
@@ -160,8 +166,10 @@ module _ (a : Account) (c : Core) {numbers : List ℕ} {heard : Heard} (o : IsOr
         seen = w.seen;
         was = word_now a c w.agrees o s t w.active id at i place within (free_shared c.g0 a t.number id free);
       }
+
   stable_told : IsTold c.pages c.lowest c.born c.places base (c.before + length a.sealed) (all_records c ++ records) (words_with c records) later
   stable_told = write_told c.pages c.lowest c.born c.places base seen.graph (c.before + length a.sealed) t.number seen.made (all_records c) (all_words c) w.agrees.behind id at i v stable_at
+
   -- the transaction sees what it wrote
   stable_own : IsWriter c.places c.g0 (called a s event) (with_call (a.active s) event) (words_with c records) later
   stable_own =
@@ -170,12 +178,14 @@ module _ (a : Account) (c : Core) {numbers : List ℕ} {heard : Heard} (o : IsOr
       (writing_of a c s t w.active w.agrees) stable_at field_away graph w.made (lock_after base t event hd id w.lock holds) in
       subst (λ x. IsWriter c.places c.g0 (called a s event) (with_call x event) (words_with c records) later) (sym w.active)
       (subst (λ x. IsWriting c.places x t.number (locks_of base (after_call t event)) (words_with c records) later) (sym (run-append base t event)) now)
+
   -- the others see what they saw
   stable_others : (r : ℕ) → r ≢ s → IsWriter c.places c.g0 a (a.active r) (words_with c records) later
   stable_others r other =
       writer_by c.places c.g0 a (a.active r) (words_with c records) later (λ u also.
       let beside = o.beside r s u t other also w.active in
       stays_write (writing_of a c r u also w.agrees) t.number beside.differ entry (word_in c.places seen.graph v) stable_at.was stable_at.apart)
+
   stable_goes : HasRoom c records (called a s event) → Agrees (called a s event) (record c { pending = c.pending ++ records; places = c.places ++ [] })
   stable_goes room =
       let h = w.agrees in

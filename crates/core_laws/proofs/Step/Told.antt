@@ -64,6 +64,7 @@ module _ (pages lowest : ℕ) (born : Bool) (places : Places) (base g : Graph) (
   -- the words with it
   abbrev pub written_words : List ℕ
   written_words = put_record now (update_of places g t id at i v)
+
   reached : after_all (start pages lowest) (records ++ update_of places g t id at i v ∷ []) ≡ Some (written state t (entry_of places g id at i))
   reached =
       let lies = stands_within w.stands id at w.place in
@@ -72,8 +73,10 @@ module _ (pages lowest : ℕ) (born : Bool) (places : Places) (base g : Graph) (
       let inside = inside_from state (entry_of places g id at i) (record { above = omega arith; below = omega arith }) in
       after_all-append (start pages lowest) state records (update_of places g t id at i v) w.told.reached
       ∙ after-Update state t at i (word_in places g (slice_index_or (fields g id) i Null)) (word_in places g v) w.number inside
+
   committed : all_taken_back (written state t (entry_of places g id at i)) written_words ≡ all_taken_back state now
   committed = taken_back-Update state now t at i (word_in places g (slice_index_or (fields g id) i Null)) (word_in places g v) (told_sound w.told) w.was w.apart
+
   spelled : IsRecord (update_of places g t id at i v)
   spelled =
       let small = number_small t w.number in
@@ -89,6 +92,7 @@ module _ (pages lowest : ℕ) (born : Bool) (places : Places) (base g : Graph) (
         was_word = visible_field_word w.stands w.has (slice_index_or (fields g id) i Null) old;
         new_word = visible_field_word w.stands w.has v w.seen;
       }
+
   -- the records tell the same graph with it
   pub write_told : IsTold pages lowest born places base k (records ++ update_of places g t id at i v ∷ []) written_words (written state t (entry_of places g id at i))
   write_told = record {

@@ -122,6 +122,7 @@ module _ (g : Graph) (n : ℕ) (lock : Lock) where
     mode : Mode
     there : Contains (locks_of g t) (lock.0, mode)
     conflicts : modes_conflict mode lock.1 ≡ true
+
   conflict_of : (t : Transaction) → stands_in_the_way g n lock t ≡ true → HoldsConflict t
   conflict_of t is =
       let parts = and_parts (not (t.number == n)) (list_any (locks_conflict lock) (locks_of g t)) is in
@@ -134,6 +135,7 @@ module _ (g : Graph) (n : ℕ) (lock : Lock) where
         there = subst (λ (id : Id). Contains (locks_of g t) (id, own.1)) (same_id own.0 lock.0 both.0) (any.0, any.2, any.3);
         conflicts = both.1;
       }
+
   stands : (t : Transaction) → HoldsConflict t → stands_in_the_way g n lock t ≡ true
   stands t h =
       let held : Lock = (lock.0, h.mode) in
@@ -141,17 +143,20 @@ module _ (g : Graph) (n : ℕ) (lock : Lock) where
       (not_from_false (t.number == n) (ne_eqb t.number n h.differs))
       (list_any-from_Any (locks_conflict lock) (locks_of g t)
       (h.there.0, held, h.there.1, h.there.2, and_from (is_same_id lock.0 lock.0) (modes_conflict h.mode lock.1) (itself lock.0) h.conflicts))
+
   -- The one that is named is active and stands in the way.
   record Names (o : Option Transaction) (holder : ℕ) : Type 0 where
     transaction : Transaction
     active : o ≡ Some transaction
     number : transaction.number ≡ holder
     conflict : HoldsConflict transaction
+
   named : (o : Option Transaction) (holder : ℕ) → holder_in_the_way g n lock o ≡ Some holder → Names o holder
   named None holder is = cc
   named (Some t) holder is =
       let parts = cond_some (stands_in_the_way g n lock t) t.number holder is in
       record { transaction = t; active = refl; number = parts.1; conflict = conflict_of t parts.0 }
+
   names : (o : Option Transaction) (t : Transaction) → o ≡ Some t → HoldsConflict t → holder_in_the_way g n lock o ≡ Some t.number
   names o t is h = ap (holder_in_the_way g n lock) is ∙ cond-true (stands_in_the_way g n lock t) (Some t.number) None (stands t h)
 
@@ -167,6 +172,7 @@ module _ (g0 : Graph) (a : Account) (n : ℕ) (lock : Lock) where
         holds = record { session = from.of; transaction = one.transaction; active = one.active; number = one.number; lock = one.conflict.there };
         conflicts = one.conflict.conflicts;
       }
+
   is_counted : AreInSessions a → (holder : ℕ) → IsInTheWay g0 a n lock holder → Contains (holders_in_the_way g0 a n lock) holder
   is_counted within holder way =
       let g = serial g0 a.sealed in

@@ -157,8 +157,10 @@ module _ (R : Id → Id → Type 0) (t : ℕ) (one : IsOneToOne R) (apart : IsAp
   -- views that are alike, by the relation and what transaction t has made
   abbrev Alike : View → View → Type 0
   Alike v w = AreAlike (WithMade R t v.made) v w
+
   same_next : (v w : View) → v.made ≡ w.made → next_id v t ≡ next_id w t
   same_next v w made = ap (λ n. record { t = t; k = n + 1 }) made
+
   made_rows : (v w : View) (len : ℕ) (a b : Id) → Alike v w → WithMade R t (v.made + 1) a b
       → MatchRows (WithMade R t (v.made + 1)) (fields (insert v.graph (next_id v t) (replicate len Null)) a) (fields (insert w.graph (next_id w t) (replicate len Null)) b)
   made_rows v w len a b alike (inl ab) =
@@ -178,6 +180,7 @@ module _ (R : Id → Id → Type 0) (t : ℕ) (one : IsOneToOne R) (apart : IsAp
             (λ e. let last : a.k ≡ w.made + 1 = ap (λ (i : Id). i.k) (same ∙ e) in omega arith)
             (rows_wider (WithMade R t v.made) (WithMade R t (v.made + 1)) (fields v.graph a) (fields w.graph b) (made_wider R t v.made) (alike.same_fields a b (inr (same, old))))
       ]
+
   make_alike : (v w : View) (h len : ℕ) → Alike v w → Alike (make v t h len).view (make w t h len).view
   make_alike v w h len alike =
       let S = WithMade R t (v.made + 1) in
@@ -189,6 +192,7 @@ module _ (R : Id → Id → Type 0) (t : ℕ) (one : IsOneToOne R) (apart : IsAp
         same_fields = λ a b. made_rows v w len a b alike;
         made = ap (λ n. n + 1) alike.made;
       }
+
   -- a call is answered alike, and leaves views that are alike
   pub call_alike : (v w : View) (c : Event) → Alike v w → ((call v t c).reply ≡ (call w t c).reply) × Alike (call v t c).view (call w t c).view
   call_alike v w (Begin s) alike = (refl, alike)
@@ -228,6 +232,7 @@ module _ (R : Id → Id → Type 0) (t : ℕ) (one : IsOneToOne R) (apart : IsAp
   call_alike v w (Abort s) alike = (refl, alike)
   call_alike v w Force alike = (refl, alike)
   call_alike v w (Flush p) alike = (refl, alike)
+
   -- so are calls
   pub calls_alike : (v w : View) (cs : List Event) → Alike v w → (call_replies v t cs ≡ call_replies w t cs) × Alike (after_calls v t cs) (after_calls w t cs)
   calls_alike v w [] alike = (refl, alike)

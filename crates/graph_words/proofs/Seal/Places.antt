@@ -71,6 +71,7 @@ module _ (area : AreaState) (g : Graph) (t made : ℕ) where
             ∙ address_of-promoted rest (address + words_taken area at) id (λ a has. each a (Contains-rest at rest a has)) own
             ∙ sym (moved-rest (at, address) ms (index_of g id) (λ same. other (there.name ∙ index_of-one g t made there.id id there.own own (there.index ∙ same))))
       ]
+
   -- each object that is promoted is the transaction's own
   pub promoted_own : (starts : List ℕ) (address : ℕ) (id : Id) (at : ℕ) → ((at : ℕ) → Contains starts at → IsOwnAt area g t made at)
       → address_of (promoted_places area (moves_to area starts address)) id ≡ Some at → IsOwn t made id

@@ -28,14 +28,18 @@ module _ (s : Super) (batches : List (List Record)) (stored : Pages) (born : Boo
   -- redone on these pages they leave the same words
   told_redone : redone_words batches stored ≡ now
   told_redone = redone-words s.pages (records_of batches) stored prefixes ∙ sym logged
+
   told_words : words_of s batches stored ≡ all_taken_back state now
   told_words = ap (λ (o : Option State). each_taken_back (losing_in o) (redone_words batches stored)) told.reached ∙ ap (all_taken_back state) told_redone
+
   -- so the graph stands there
   pub told_stands : StandsCommitted places g (words_of s batches stored) state.base state.used
   told_stands = subst (λ (ws : List ℕ). StandsCommitted places g ws state.base state.used) (sym told_words) told.stands
+
   -- under the names of births where it did so before
   pub told_births : IsTrue born → AreNamedByBirth places (words_of s batches stored)
   told_births by_birth = subst (AreNamedByBirth places) (sym told_words) (told.births by_birth)
+
   -- the records are a shaped log
   abbrev pub told_shaped : IsShapedLog s batches stored
   told_shaped = record {
@@ -49,6 +53,7 @@ module _ (s : Super) (batches : List (List Record)) (stored : Pages) (born : Boo
     behind = EachLacks-prefixes s.pages (records_of batches) stored prefixes;
     walked = stands_walked told_stands;
   }
+
   -- a legal one where births give the names
   abbrev pub told_legal : IsTrue born → IsLegalLog s batches stored
   told_legal by_birth = record {
@@ -57,9 +62,11 @@ module _ (s : Super) (batches : List (List Record)) (stored : Pages) (born : Boo
     own_births = stands_own_births told_stands (told_births by_birth);
     born_before = stands_born_before told_stands (told_births by_birth) state.next told.old;
   }
+
   -- so many are commits
   pub told_commits : commits (records_of batches) ≡ k
   told_commits = let all = commits-start s.pages s.first state (records_of batches) told.reached in let count = told.count in omega arith
+
   -- and the log says the graph
   pub told_says : IsTrue born → Says g k s batches stored
   told_says by_birth = record { legal = told_legal by_birth; seen = g; shows = stands_seen told_stands (told_births by_birth); graph = refl; count = told_commits }

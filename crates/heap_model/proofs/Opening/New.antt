@@ -91,12 +91,15 @@ module _ (s : Super) (limits : IsSuper s) where
   new_words =
       let some = limits.some_pages in
       taken_back-settled (start s.pages s.first) (first_contents s.pages) refl ∙ some_zeros (words_in s.pages) (words_in s.pages - 6) (omega arith)
+
   -- the root stands alone in the words of an empty log
   pub new_stand : StandsCommitted root_place new_graph (words_of s [] (first_pages s.pages)) 0 6
   new_stand = subst (λ ws. StandsCommitted root_place new_graph ws 0 6) (sym new_words) (new_stands (replicate (words_in s.pages - 6) 0))
+
   -- where its birth gives its name
   pub new_births : AreNamedByBirth root_place (words_of s [] (first_pages s.pages))
   new_births = subst (AreNamedByBirth root_place) (sym new_words) (refl, tt)
+
   -- an empty log is legal beside pages that were never stored
   abbrev pub new_legal : IsLegalLog s [] (first_pages s.pages)
   new_legal =
@@ -119,6 +122,7 @@ module _ (s : Super) (limits : IsSuper s) where
         own_births = stands_own_births new_stand new_births;
         born_before = stands_born_before new_stand new_births s.first (inl refl, tt);
       }
+
   -- the root is found in it
   pub new_found : IsFound s [] (first_pages s.pages) new_legal.shaped true root_place new_graph
   new_found = record { stands = new_stand; placed = root_placed; old = (inl refl, tt); births = λ by_birth. new_births }

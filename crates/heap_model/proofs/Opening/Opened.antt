@@ -40,6 +40,7 @@ module _ (s : Super) (batches : List (List Record)) (stored : Pages) (legal : Is
   -- the log that was found says the graph
   pub found_says : Says g (commits (records_of batches)) s batches stored
   found_says = record { legal = legal; seen = g; shows = shows; graph = refl; count = refl }
+
   -- so does the one behind the opening
   pub left_says : Says g (commits (records_of batches)) s (rolled_back s batches) stored
   left_says = rolled_says g (commits (records_of batches)) s batches stored found_says
@@ -96,9 +97,11 @@ saying_law s batches stored legal g shows =
 module _ (s : Super) (batches : List (List Record)) (stored : Pages) (legal : IsLegalLog s batches stored) (places : Places) (g : Graph) (found : IsFound s batches stored legal.shaped true places g) where
   none_since : (log : List (List Record)) → Says g (commits (records_of batches)) s log stored → Says g (commits (records_of batches) + 0) s log stored
   none_since log says = record { legal = says.legal; seen = says.seen; shows = says.shows; graph = says.graph; count = omega (arith, says.count) }
+
   -- an opening rolls transactions back, and commits none
   same_commits : commits (records_of (rolled_back s batches)) ≡ commits (records_of batches)
   same_commits = (says_found s batches stored legal places g found).left.count
+
   -- an image of the log that was found or of the one behind the opening keeps all commits, wherever the opening was stopped
   pub opened_keeps : (gates : ℕ → ℕ) (image : List ℕ) → Holds s batches stored image ⊎ Holds s (rolled_back s batches) stored image → IsCommitPrefix (opened s batches stored gates true places g) image
   opened_keeps gates image (inl held) = (

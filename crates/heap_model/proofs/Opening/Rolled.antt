@@ -53,39 +53,50 @@ settled_reserve s = ap (λ (es : List Loser). sum_by (λ e. undo_bytes e.1) es) 
 module _ (s : Super) (batches : List (List Record)) (stored : Pages) (shaped : IsShapedLog s batches stored) where
   abbrev rs : List Record
   rs = records_of batches
+
   abbrev taken : List Record
   taken = rollback shaped.state
+
   can : CanRollBack shaped.state
   can = can_roll_back s.pages s.first shaped.state rs shaped.good shaped.reached
+
   -- the records that an opening appends, where the state is known
   pub rollback_is : rollback_of s batches ≡ rollback shaped.state
   rollback_is = ap rollback_in shaped.reached
+
   -- the number of the next transaction
   pub next_is : next_of s batches ≡ shaped.state.next
   next_is = ap next_in shaped.reached
+
   rolled_records : records_of (rolled_back s batches) ≡ rs ++ taken
   rolled_records = records_of-with_batch batches (rollback_of s batches) ∙ ap (λ (l : List Record). rs ++ l) rollback_is
+
   -- behind it no write may be taken back
   pub rolled_reached : after_all (start s.pages s.first) (records_of (rolled_back s batches)) ≡ Some (settled shaped.state)
   rolled_reached =
       ap (λ (l : List Record). after_all (start s.pages s.first) l) rolled_records
       ∙ after_all-append2 (start s.pages s.first) shaped.state rs taken shaped.reached
       ∙ rollback_reaches shaped.state can.sound
+
   -- the words as the log leaves them of the pages
   abbrev now : List ℕ
   now = redone_words batches stored
+
   -- the words without the writes of transactions that have not ended, where the state is known
   pub words_of-is : words_of s batches stored ≡ all_taken_back shaped.state now
   words_of-is = ap (λ (o : Option State). each_taken_back (losing_in o) now) shaped.reached
+
   -- the words behind the opening are these
   pub rolled_words-is : rolled_words s batches stored ≡ words_of s batches stored
   rolled_words-is = ap (fold put_record now) rollback_is ∙ rollback_words shaped.state now ∙ sym words_of-is
+
   -- redone on the pages, the log behind the opening gives them too
   pub redone_words-rolled_back : redone_words (rolled_back s batches) stored ≡ rolled_words s batches stored
   redone_words-rolled_back =
       ap (λ (l : List Record). (redone stored l).words) rolled_records
       ∙ redone_words-append stored rs taken shaped.behind
       ∙ ap (fold put_record now) (sym rollback_is)
+
   -- and no writes are to be taken back from it any more
   pub words_of-rolled_back : words_of s (rolled_back s batches) stored ≡ words_of s batches stored
   words_of-rolled_back =
@@ -93,23 +104,28 @@ module _ (s : Super) (batches : List (List Record)) (stored : Pages) (shaped : I
       ∙ ap (all_taken_back (settled shaped.state)) (redone_words-rolled_back ∙ ap (fold put_record now) rollback_is)
       ∙ taken_back-rollback shaped.state now
       ∙ sym words_of-is
+
   -- there are as many as both spaces have
   pub length-rolled_words : length (rolled_words s batches stored) ≡ words_in s.pages
   length-rolled_words = ap length (sym redone_words-rolled_back) ∙ length-redone stored (records_of (rolled_back s batches)) ∙ shaped.size
+
   -- no page is ahead of the log behind the opening
   pub rolled_behind : EachLacks (length (records_of (rolled_back s batches)) + 1) stored
   rolled_behind =
       let more : length (records_of (rolled_back s batches)) ≡ length rs + length taken = ap length rolled_records ∙ length-append rs taken in
       EachLacks-later (length rs + 1) (length (records_of (rolled_back s batches)) + 1) stored (omega (arith, more)) shaped.behind
+
   -- the commits stay
   pub rolled_commits : commits (records_of (rolled_back s batches)) ≡ commits (records_of batches)
   rolled_commits =
       let all = ap commits rolled_records ∙ commits-append rs taken in
       let none = rollback_commits shaped.state in
       omega arith
+
   -- each record has a spelling
   pub rolled_good : AllByRecursion IsRecord (records_of (rolled_back s batches))
   rolled_good = subst (λ (l : List Record). AllByRecursion IsRecord l) (sym rolled_records) (AllByRecursion-append IsRecord rs taken shaped.good (rollback_good shaped.state can))
+
   -- the log has room for the records that it appends
   pub rolled_fits : length (batches_bytes batches) + 1 + need [] (rollback_of s batches) ≤ s.log_bytes
   rolled_fits =
@@ -117,6 +133,7 @@ module _ (s : Super) (batches : List (List Record)) (stored : Pages) (shaped : I
       let same = ap (need []) rollback_is in
       let room = shaped.room in
       omega arith
+
   -- and for the batch that they make
   pub rolled_room : length (batches_bytes (rolled_back s batches)) + 1 ≤ s.log_bytes
   rolled_room =
@@ -124,8 +141,10 @@ module _ (s : Super) (batches : List (List Record)) (stored : Pages) (shaped : I
       let more = length-pending_batch-append [] (rollback_of s batches) in
       let fits = rolled_fits in
       omega arith
+
   pub rolled_walked : IsWalked (words_of s (rolled_back s batches) stored) shaped.state.base shaped.state.used
   rolled_walked = subst (λ ws. IsWalked ws shaped.state.base shaped.state.used) (sym words_of-rolled_back) shaped.walked
+
   -- so they are a shaped log
   abbrev pub rolled_shaped : IsShapedLog s (rolled_back s batches) stored
   rolled_shaped =
@@ -150,11 +169,13 @@ Walks state words = (walked : IsWalked words state.base state.used) × HaveOwnBi
 module _ (s : Super) (batches : List (List Record)) (stored : Pages) (legal : IsLegalLog s batches stored) where
   pub rolled_walks : Walks (settled legal.shaped.state) (words_of s (rolled_back s batches) stored)
   rolled_walks = subst (Walks (settled legal.shaped.state)) (sym (words_of-rolled_back s batches stored legal.shaped)) (legal.shaped.walked, legal.own_births, legal.born_before)
+
   -- each page holds as many of its records as its LSN says
   pub rolled_prefixes : EachHoldsPrefix s.pages (records_of (rolled_back s batches)) stored
   rolled_prefixes =
       subst (λ (l : List Record). EachHoldsPrefix s.pages l stored) (sym (rolled_records s batches stored legal.shaped))
       (EachHoldsPrefix-append s.pages (records_of batches) (rollback legal.shaped.state) stored legal.prefixes)
+
   -- the batches behind an opening of a legal log are a legal log
   abbrev pub rolled_legal : IsLegalLog s (rolled_back s batches) stored
   rolled_legal =
@@ -175,6 +196,7 @@ module _ (s : Super) (batches : List (List Record)) (stored : Pages) (legal : Is
         own_births = rolled_walks.1;
         born_before = rolled_walks.2;
       }
+
   -- in which the same graphs are seen
   pub rolled_shows : (g : Graph) → Shows s batches stored legal g → Shows s (rolled_back s batches) stored rolled_legal g
   rolled_shows g shows = subst (λ ws. IsSeen ws legal.shaped.state.base g) (sym (words_of-rolled_back s batches stored legal.shaped)) shows

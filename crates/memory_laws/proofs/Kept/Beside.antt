@@ -55,9 +55,11 @@ module _ (places later : Places) (v w : View) (u : ℕ) (is : GoesOn places late
       let last = own.last in
       index_of-same v.graph w.graph id (λ k first less.
       subst (λ (t : ℕ). length (fields w.graph (made_by t k)) ≡ length (fields v.graph (made_by t k))) (sym own.maker) (ap (λ (vs : List Val). length vs) (is.own k first (omega arith))))
+
   -- and does not stand in the space
   own_later : (id : Id) → id.t ≡ u → address_of later id ≡ None
   own_later id maker = ap (λ (t : ℕ). address_of later (made_by t id.k)) maker ∙ is.apart id.k
+
   -- what was at hand stands where it did
   same_place : (id : Id) → IsAtHand places u v.made id → place_in later w.graph id ≡ place_in places v.graph id
   same_place id (inl there) =
@@ -65,9 +67,11 @@ module _ (places later : Places) (v w : View) (u : ℕ) (is : GoesOn places late
       place_in-placed later w.graph id at.0 (is.grown id at.0 at.1) ∙ sym (place_in-placed places v.graph id at.0 at.1)
   same_place id (inr own) =
       place_in-apart later w.graph id (own_later id own.maker) ∙ ap Volatile (own_index id own) ∙ sym (place_in-apart places v.graph id (own_apart is.has own))
+
   -- so the words of references to it are as before
   as_before : StandsAsBefore places u v.made (place_of places v.graph) (place_of later w.graph)
   as_before id at_hand = sym (place_in_word later w.graph id) ∙ ap place_word (same_place id at_hand) ∙ place_in_word places v.graph id
+
   -- and the words of what it made
   same_object : (k : ℕ) → 1 ≤ k → k ≤ v.made → object_words (place_of later w.graph) w.graph (made_by u k) ≡ object_words (place_of places v.graph) v.graph (made_by u k)
   same_object k first last =
@@ -75,12 +79,14 @@ module _ (places later : Places) (v w : View) (u : ℕ) (is : GoesOn places late
       ap (λ (ws : List Val). header_bits (Length (length ws)) ∷ birth_bits u k ∷ map (bits_of (place_of later w.graph)) ws) (is.own k first last)
       ∙ ap (λ (ws : List ℕ). header_bits (Length (length vs)) ∷ birth_bits u k ∷ ws)
       (map_bits_of-same places u v.made (place_of places v.graph) (place_of later w.graph) as_before vs (made_visible is.has k first last))
+
   -- so its area is as before
   same_area : area_in later w u ≡ area_in places v u
   same_area =
       ap (λ (n : ℕ). let area : AreaState = record { transaction = u; made = n; words = area_words (place_of later w.graph) w.graph u n } in area) is.made
       ∙ ap (λ (ws : List ℕ). let area : AreaState = record { transaction = u; made = v.made; words = ws } in area)
       (area_words-same (place_of places v.graph) (place_of later w.graph) v.graph w.graph u v.made same_object)
+
   -- and all that is kept of it
   pub kept_on : (undo : List UndoEntry) → kept later w u undo ≡ kept places v u undo
   kept_on undo =

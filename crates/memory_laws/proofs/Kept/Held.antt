@@ -96,15 +96,19 @@ module _ (m : Memory) (c : Core) (valid : IsValid c) (runs : RunsLocked c.g0 c.f
   -- what the history says
   abbrev a : Account
   a = account c.history
+
   -- what the transaction sees
   abbrev v : View
   v = view c.g0 a t
+
   -- its area
   abbrev area : AreaState
   area = area_in c.places v t.number
+
   -- the object as the words of memory have it
   stored_at : (id : Id) (at : ℕ) → address_of c.places id ≡ Some at → fields_at m.words area (place_in c.places v.graph id) ≡ field_words (all_words c) at
   stored_at id at place = ap (fields_at m.words area) (place_in-placed c.places v.graph id at place) ∙ ap (λ (ws : List ℕ). field_words ws at) is.words
+
   -- an object at hand has as many fields in memory as the transaction sees
   pub length-fields_at_hand : (id : Id) → IsAtHand c.places t.number v.made id → length (fields_at m.words area (place_in c.places v.graph id)) ≡ length (fields v.graph id)
   length-fields_at_hand id (inl there) =
@@ -113,6 +117,7 @@ module _ (m : Memory) (c : Core) (valid : IsValid c) (runs : RunsLocked c.g0 c.f
       ∙ length_now a c valid (two_phase_ordered c.g0 c.history runs.plain runs.two_phase) s t active id place.0 place.1
   length-fields_at_hand id (inr own) =
       ap (λ (ws : List ℕ). length ws) (own_fields_at (writing_of a c s t active valid).made m.words id own) ∙ length-map (fields v.graph id) (bits_of (place_of c.places v.graph))
+
   -- where no other transaction holds it exclusively, the fields have the words of its values
   pub fields_at_hand : (id : Id) → IsAtHand c.places t.number v.made id → IsFree c.g0 a t.number (Some (id, Shared))
       → fields_at m.words area (place_in c.places v.graph id) ≡ map (bits_of (place_of c.places v.graph)) (fields v.graph id)

@@ -179,6 +179,7 @@ pub held_used : (locks : Holdings) (places : Places) (g0 : Graph) (a : Account) 
 held_used locks places g0 a s t event id mode undo active needs all = by_place (address_of places id) refl where
   x : TransactionState
   x = kept places (view g0 a t) t.number undo
+
   by_place : (o : Option ℕ) → address_of places id ≡ o → AreHeld (with_lock locks x mode (standing_place o (index_of (view g0 a t).graph id))) places g0 (called a s event)
   by_place (Some at) place = held_with locks places g0 a s t event id at mode active needs place all
   by_place None none =
@@ -189,23 +190,28 @@ module _ (g0 : Graph) (history : List Entry) where
   -- what the history says
   abbrev a : Account
   a = account history
+
   -- what a history says with one entry more
   abbrev next : Event → Reply → Account
   next event reply = account_after a (record { event = event; reply = reply })
+
   -- a transaction begins
   pub held_begun : (locks : Holdings) (places : Places) (s n : ℕ) → a.active s ≡ None → AreHeld locks places g0 a → AreHeld locks places g0 (next (Begin s) (Begun n))
   held_begun locks places s n none =
       let P : Account → Type 0 = λ b. HoldAlike g0 a b in
       held_as locks places g0 a (next (Begin s) (Begun n)) (subst P (account-append history (record { event = Begin s; reply = Begun n })) (begin_holds g0 history (Begin s) n none))
+
   -- no object that another transaction holds was made by an active one
   others_made : HasPlainReplies g0 history → IsTwoPhase g0 history → (s : ℕ) (t : Transaction) → a.active s ≡ Some t → (m : ℕ) (id : Id) (mode : Mode) → m ≢ t.number → HoldsLock g0 a m id mode → id.t ≢ t.number
   others_made plain two_phase s t active m id mode other holds =
       let o = two_phase_ordered g0 history plain two_phase in
       locks_of-other (serial g0 a.sealed) holds.transaction t.number id mode o.closed (λ same. other (sym holds.number ∙ same)) (o.unused s t active) holds.lock
+
   held_ended : (locks : Holdings) (places later : Places) (s : ℕ) (t : Transaction) (b : Account) → HasPlainReplies g0 history → IsTwoPhase g0 history → a.active s ≡ Some t
       → ((id : Id) → id.t ≢ t.number → address_of later id ≡ address_of places id) → Releases g0 a b t.number → AreHeld locks places g0 a → AreHeld (without locks t.number) later g0 b
   held_ended locks places later s t b plain two_phase active same releases =
       held_released locks places later g0 a b t.number releases (λ m id mode other holds. same id (others_made plain two_phase s t active m id mode other holds))
+
   -- a transaction is aborted; only objects that it made may come to have another address
   pub held_aborted : (locks : Holdings) (places later : Places) (s : ℕ) (t : Transaction) → HasPlainReplies g0 history → IsTwoPhase g0 history → a.active s ≡ Some t → ((id : Id) → id.t ≢ t.number → address_of later id ≡ address_of places id)
       → AreHeld locks places g0 a → AreHeld (without locks t.number) later g0 (next (Abort s) Aborted)
@@ -213,6 +219,7 @@ module _ (g0 : Graph) (history : List Entry) where
       let P : Account → Type 0 = λ b. Releases g0 a b t.number in
       held_ended locks places later s t (next (Abort s) Aborted) plain two_phase active same
       (subst P (account-append history (record { event = Abort s; reply = Aborted })) (abort_holds g0 history (Abort s) t plain two_phase active))
+
   -- or sealed
   pub held_sealed : (locks : Holdings) (places later : Places) (s k : ℕ) (t : Transaction) → HasPlainReplies g0 history → IsTwoPhase g0 history → a.active s ≡ Some t → ((id : Id) → id.t ≢ t.number → address_of later id ≡ address_of places id)
       → AreHeld locks places g0 a → AreHeld (without locks t.number) later g0 (next (Seal s) (Sealed k))

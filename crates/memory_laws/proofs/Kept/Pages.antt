@@ -26,6 +26,7 @@ module _ (m n : Memory) {a : Account} (c : Core) (is : IsMemory m a c) where
   -- as many records are in the log as the core has
   count : log_count m.log ≡ length (all_records c)
   count = is.log.count ∙ sym (length-append (records_of c.batches) c.pending)
+
   -- a page has the LSN of the last record that touches it, with more records too
   pub lsn_appended : (more : List Record) → n.lsns ≡ (redo_all (log_count m.log + 1) (pages_of m) more).lsns → (p : ℕ) → p < pages_in c.pages
       → get_or n.lsns p 0 ≡ max (c.stored_lsns p) (last_lsn p 1 (records_of c.batches ++ (c.pending ++ more)))

@@ -56,6 +56,7 @@ module _ (m : Memory) (c : Core) (valid : IsValid c) (runs : RunsLocked c.g0 c.f
   -- what the history says
   abbrev a : Account
   a = account c.history
+
   -- A begin.
   -- the bytes of one transaction more are kept behind it
   begin_kept : IsSession s → a.active s ≡ None → reserved_after c (Begin s) ≡ memory.reserved m.table + end_bytes 0
@@ -68,6 +69,7 @@ module _ (m : Memory) (c : Core) (valid : IsValid c) (runs : RunsLocked c.g0 c.f
       ∙ reserved_with undo a s (record { number = n; calls = [] }) session none
       ∙ ap (λ (us : List UndoEntry). reserved undo a + undo_bytes us) empty
       ∙ ap (λ (k : ℕ). k + end_bytes 0) (sym (reserved_now m c valid is))
+
   begin_room : IsSession s → (spent : Bool) (o : Option Transaction) → a.active s ≡ o
       → cond (is_some o) (Some AlreadyActive) (cond spent (Some NumbersSpent) (log_refusal c (Begin s)))
       ≡ cond (is_some o) (Some AlreadyActive) (cond spent (Some NumbersSpent) (no_room m.log 0 (memory.reserved m.table + end_bytes 0)))
@@ -77,13 +79,16 @@ module _ (m : Memory) (c : Core) (valid : IsValid c) (runs : RunsLocked c.g0 c.f
       full_same c.room (log_room m.log) (used c) (log_used m.log) (need c.pending []) 0 (reserved_after c (Begin s)) (memory.reserved m.table + end_bytes 0)
       (sym is.room) (sym (used_same m.log c.batches c.pending is.log)) (need_nothing c.pending) (begin_kept session e) in
       ap (λ (o : Option Refusal). cond spent (Some NumbersSpent) o) room
+
   -- it needs no lock, and no words
   begin_free : (o : Option Transaction) → call_conflict c.g0 a o (Begin s) ≡ None
   begin_free None = refl
   begin_free (Some t) = refl
+
   begin_words : (o : Option Transaction) → room_refusal (ground c) c.g0 a o (Begin s) ≡ None
   begin_words None = refl
   begin_words (Some t) = refl
+
   -- memory refuses a begin as the core does
   pub begin_refused : IsSession s → core_refusal c (Begin s) ≡ begin_refusal m s
   begin_refused session =
@@ -100,25 +105,32 @@ module _ (m : Memory) (c : Core) (valid : IsValid c) (runs : RunsLocked c.g0 c.f
       ∙ ap (λ (b : Bool). cond b (Some AlreadyActive) (cond spent (Some NumbersSpent) full)) (is_some_kept c a (a.active s))
       ∙ ap (λ (o : Option TransactionState). cond (is_some o) (Some AlreadyActive) (cond spent (Some NumbersSpent) full)) (sym (is.transactions s))
       ∙ ap (λ (n : ℕ). cond (is_some (own m s)) (Some AlreadyActive) (cond (n == no_number) (Some NumbersSpent) full)) (sym is.next)
+
   -- why the end of a transaction is refused, for what it asks, for its words or for the log
   abbrev end_asked : Option Transaction → Event → Option Refusal → Option Refusal
   end_asked o event log = first_of_two (first_of_two (call_refusal c.g0 a o event) (call_conflict c.g0 a o event)) (first_of_two (room_refusal (ground c) c.g0 a o event) log)
+
   -- An abort.
   abort_cases : (o : Option Transaction) → a.active s ≡ o → end_asked o (Abort s) (log_refusal c (Abort s)) ≡ end_refusal (kept_of (ground c) c.g0 a o)
   abort_cases None e = refl
   abort_cases (Some t) e = log_abort c s t valid runs e
+
   -- memory refuses an abort as the core does
   pub abort_refused : core_refusal c (Abort s) ≡ end_refusal (own m s)
   abort_refused = unfailed_refusal c (Abort s) valid.unfailed ∙ abort_cases (a.active s) refl ∙ ap end_refusal (sym (is.transactions s))
+
   -- A seal.
   -- what is kept of a transaction
   abbrev transaction : Transaction → TransactionState
   transaction t = kept c.places (view c.g0 a t) t.number (undo_with (ground c).state t.number)
+
   -- the records of its seal, as memory tells them
   abbrev sealing : Transaction → List Record
   sealing t = sealing_records m (transaction t)
+
   next_free : next_word (ground c).state ≡ m.spaces.base + m.spaces.used
   next_free = ap next_word is.reached ∙ ap (λ (x : SpacesState). x.base + x.used) (sym is.spaces)
+
   -- its records are those that memory tells
   seal_records_same : (t : Transaction) → a.active s ≡ Some t → event_records c (Seal s) ≡ sealing t
   seal_records_same t e =
@@ -127,11 +139,13 @@ module _ (m : Memory) (c : Core) (valid : IsValid c) (runs : RunsLocked c.g0 c.f
       ap (λ (o : Option Transaction). call_records (ground c) c.g0 a o (Seal s)) e
       ∙ ap (λ (ws : List ℕ). seal_records area ws undo (next_word (ground c).state)) (sym is.words)
       ∙ ap (seal_records area m.words undo) next_free
+
   -- so is the log's need of them
   seal_need_same : (t : Transaction) → a.active s ≡ Some t → need c.pending (event_records c (Seal s)) ≡ log_need m.log (length (spellings (sealing t)))
   seal_need_same t e =
       ap (need c.pending) (seal_records_same t e)
       ∙ sym (need_records m c a (promotion_records (transaction t).area m.words (transaction t).undo (m.spaces.base + m.spaces.used)) (Commit (transaction t).area.transaction) is)
+
   -- where the space has room for it, what was kept for the transaction is kept no more
   seal_kept : (t : Transaction) → a.active s ≡ Some t → space_refusal (ground c).state (seal_need (ground c) t.number (view c.g0 a t)) ≡ None
       → reserved_after c (Seal s) ≡ reserved_without m.table (transaction t)
@@ -149,17 +163,20 @@ module _ (m : Memory) (c : Core) (valid : IsValid c) (runs : RunsLocked c.g0 c.f
       let count : length (undo_with (ground c).state t.number) ≡ length (undo_of valid.behind t.number) = ap (λ (x : Option State). length (undo_with x t.number)) valid.told.reached in
       let kept = reserved_now m c valid is in
       omega arith
+
   seal_log : (t : Transaction) → a.active s ≡ Some t → space_refusal (ground c).state (seal_need (ground c) t.number (view c.g0 a t)) ≡ None
       → log_refusal c (Seal s) ≡ no_room m.log (log_need m.log (length (spellings (sealing t)))) (reserved_without m.table (transaction t))
   seal_log t e space =
       full_same c.room (log_room m.log) (used c) (log_used m.log) (need c.pending (event_records c (Seal s))) (log_need m.log (length (spellings (sealing t))))
       (reserved_after c (Seal s)) (reserved_without m.table (transaction t))
       (sym is.room) (sym (used_same m.log c.batches c.pending is.log)) (seal_need_same t e) (seal_kept t e space)
+
   space_open : (x : State) (n : ℕ) → space_refusal (Some x) n ≡ memory_refusals.space_refusal (spaces_of x) n
   space_open x n =
       let free = 64 * x.pages - x.used in
       let open_all : free ≡ free - 0 = omega arith in
       ap (λ (k : ℕ). cond (nat_lt k n) (Some (Exhausted n free 0)) None) open_all
+
   -- and the current space has a core's room
   seal_space : (t : Transaction) → space_refusal (ground c).state (seal_need (ground c) t.number (view c.g0 a t)) ≡ memory_refusals.space_refusal m.spaces (sealing_need m (transaction t))
   seal_space t =
@@ -169,12 +186,14 @@ module _ (m : Memory) (c : Core) (valid : IsValid c) (runs : RunsLocked c.g0 c.f
       ∙ ap (λ (o : Option State). space_refusal o (sealing_need m (transaction t))) is.reached
       ∙ space_open is.state (sealing_need m (transaction t))
       ∙ ap (λ (x : SpacesState). memory_refusals.space_refusal x (sealing_need m (transaction t))) (sym is.spaces)
+
   seal_cases : (o : Option Transaction) → a.active s ≡ o → end_asked o (Seal s) (log_refusal c (Seal s)) ≡ seal_refusal_of m (kept_of (ground c) c.g0 a o)
   seal_cases None e = refl
   seal_cases (Some t) e =
       let space = space_refusal (ground c).state (seal_need (ground c) t.number (view c.g0 a t)) in
       let room = no_room m.log (log_need m.log (length (spellings (sealing t)))) (reserved_without m.table (transaction t)) in
       second_same space (log_refusal c (Seal s)) room (seal_log t e) ∙ ap (λ (o : Option Refusal). first_of_two o room) (seal_space t)
+
   -- memory refuses a seal as the core does
   pub seal_refused : core_refusal c (Seal s) ≡ seal_refusal m s
   seal_refused = unfailed_refusal c (Seal s) valid.unfailed ∙ seal_cases (a.active s) refl ∙ ap (seal_refusal_of m) (sym (is.transactions s))

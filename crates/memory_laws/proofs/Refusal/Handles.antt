@@ -49,39 +49,50 @@ module _ (m : Memory) (c : Core) (valid : IsValid c) (runs : RunsLocked c.g0 c.f
   -- what the history says
   abbrev a : Account
   a = account c.history
+
   -- what is kept of a transaction
   abbrev mine : Option Transaction → Option TransactionState
   mine o = kept_of (ground c) c.g0 a o
+
   -- why a call of a transaction is refused, for what it sees or for what others hold
   abbrev asked : Option Transaction → Event → Option Refusal
   asked o event = first_of_two (call_refusal c.g0 a o event) (call_conflict c.g0 a o event)
+
   -- the place of what a core's handle holds
   abbrev place_held : Transaction → ℕ → Option Place
   place_held t h = option_map (place_in c.places (view c.g0 a t).graph) (held (view c.g0 a t).registers h)
+
   -- is the place that memory's handle holds
   pub is_held : (t : Transaction) (h : ℕ) → held_or (place_held t h) ≡ held_place (mine (Some t)) h
   is_held t h = sym (held_place-kept c.places (serial c.g0 a.sealed) t (undo_with (ground c).state t.number) h)
+
   root_cases : (o : Option Transaction) (h : ℕ) → asked o (Root s h) ≡ handle_refusal (mine o) h
   root_cases None h = refl
   root_cases (Some t) h = first_none (plain.handle_refusal h)
+
   -- memory refuses to let a handle hold the root as the core does
   pub root_refused : (h : ℕ) → core_refusal c (Root s h) ≡ handle_refusal (own m s) h
   root_refused h = quiet_refused c (Root s h) valid tt refl refl ∙ root_cases (a.active s) h ∙ ap (λ (o : Option TransactionState). handle_refusal o h) (sym (is.transactions s))
+
   drop_cases : (o : Option Transaction) (h : ℕ) → asked o (Drop s h) ≡ handle_refusal (mine o) h
   drop_cases None h = refl
   drop_cases (Some t) h = first_none (plain.handle_refusal h)
+
   -- to let it hold nothing
   pub drop_refused : (h : ℕ) → core_refusal c (Drop s h) ≡ handle_refusal (own m s) h
   drop_refused h = quiet_refused c (Drop s h) valid tt refl refl ∙ drop_cases (a.active s) h ∙ ap (λ (o : Option TransactionState). handle_refusal o h) (sym (is.transactions s))
+
   len_cases : (o : Option Transaction) (h : ℕ) → asked o (Len s h) ≡ and_then (held_place (mine o) h) (λ p. None)
   len_cases None h = refl
   len_cases (Some t) h =
       first_none (plain.len_refusal (held (view c.g0 a t).registers h))
       ∙ one_held (place_in c.places (view c.g0 a t).graph) (held (view c.g0 a t).registers h)
       ∙ ap (λ (r : Result Place Refusal). and_then r (λ p. None)) (is_held t h)
+
   -- to tell an object's length
   pub len_refused : (h : ℕ) → core_refusal c (Len s h) ≡ len_refusal m s h
   len_refused h = quiet_refused c (Len s h) valid tt refl refl ∙ len_cases (a.active s) h ∙ ap (λ (o : Option TransactionState). and_then (held_place o h) (λ p. None)) (sym (is.transactions s))
+
   same_cases : (o : Option Transaction) (h h2 : ℕ) → asked o (Same s h h2) ≡ and_then (held_place (mine o) h) (λ p. and_then (held_place (mine o) h2) (λ q. None))
   same_cases None h h2 = refl
   same_cases (Some t) h h2 =
@@ -89,20 +100,24 @@ module _ (m : Memory) (c : Core) (valid : IsValid c) (runs : RunsLocked c.g0 c.f
       ∙ two_held (place_in c.places (view c.g0 a t).graph) (held (view c.g0 a t).registers h) (held (view c.g0 a t).registers h2)
       ∙ ap (λ (r : Result Place Refusal). and_then r (λ p. and_then (held_or (place_held t h2)) (λ q. None))) (is_held t h)
       ∙ ap (λ (r : Result Place Refusal). and_then (held_place (mine (Some t)) h) (λ p. and_then r (λ q. None))) (is_held t h2)
+
   -- to compare what two handles hold
   pub same_refused : (h h2 : ℕ) → core_refusal c (Same s h h2) ≡ same_refusal m s h h2
   same_refused h h2 =
       quiet_refused c (Same s h h2) valid tt refl refl ∙ same_cases (a.active s) h h2
       ∙ ap (λ (o : Option TransactionState). and_then (held_place o h) (λ p. and_then (held_place o h2) (λ q. None))) (sym (is.transactions s))
+
   -- what a handle holds is at hand
   pub held_there : (t : Transaction) (h : ℕ) (id : Id) → a.active s ≡ Some t → held (view c.g0 a t).registers h ≡ Some id → IsAtHand c.places t.number (view c.g0 a t).made id
   held_there t h id e holds =
       let v = view c.g0 a t in
       held_at_hand c.places t.number v.made v.registers h id (writing_of a c s t e valid).handles holds
+
   -- An object that a handle holds has as many fields in memory as in the graph, so that memory refuses a field as a core does.
   pub field_held : (t : Transaction) (h i : ℕ) (id : Id) → a.active s ≡ Some t → held (view c.g0 a t).registers h ≡ Some id
       → plain.field_refusal (view c.g0 a t).graph (Some id) i ≡ field_refusal (length (fields_at m.words (area_in c.places (view c.g0 a t) t.number) (place_in c.places (view c.g0 a t).graph id))) i
   field_held t h i id e holds = ap (λ (n : ℕ). field_refusal n i) (sym (length-fields_at_hand m c valid runs is s t e id (held_there t h id e holds)))
+
   -- a lock on what a handle holds is refused as a core refuses it
   pub lock_held : (t : Transaction) (h : ℕ) (id : Id) (mode : table.Mode) → a.active s ≡ Some t → held (view c.g0 a t).registers h ≡ Some id
       → busy_with (busy_holder c.g0 a t.number (lock_on (view c.g0 a t).registers h (mode_of mode)))
@@ -110,6 +125,7 @@ module _ (m : Memory) (c : Core) (valid : IsValid c) (runs : RunsLocked c.g0 c.f
   lock_held t h id mode e holds =
       ap (λ (o : Option Id). busy_with (busy_holder c.g0 a t.number (option_map (in_mode (mode_of mode)) o))) holds
       ∙ sym (lock_same m c valid runs is s t e id mode (undo_with (ground c).state t.number) (held_there t h id e holds))
+
   read_held : (t : Transaction) (h i h2 : ℕ) (o : Option Id) → a.active s ≡ Some t → held (view c.g0 a t).registers h ≡ o
       → first_of_two (plain.field_refusal (view c.g0 a t).graph o i) (call_conflict c.g0 a (Some t) (Get s h i h2))
       ≡ and_then (held_or (option_map (place_in c.places (view c.g0 a t).graph) o)) (λ p. read_refusal_of m (mine (Some t)) p i)
@@ -117,6 +133,7 @@ module _ (m : Memory) (c : Core) (valid : IsValid c) (runs : RunsLocked c.g0 c.f
   read_held t h i h2 (Some id) e holds =
       ap (λ (o : Option Refusal). first_of_two o (call_conflict c.g0 a (Some t) (Get s h i h2))) (field_held t h i id e holds)
       ∙ ap (first_of_two (field_refusal (length (fields_at m.words (area_in c.places (view c.g0 a t) t.number) (place_in c.places (view c.g0 a t).graph id))) i)) (lock_held t h id locked.Shared e holds)
+
   get_cases : (o : Option Transaction) (h i h2 : ℕ) → a.active s ≡ o
       → asked o (Get s h i h2) ≡ first_of_two (handle_refusal (mine o) h2) (and_then (held_place (mine o) h) (λ p. read_refusal_of m (mine o) p i))
   get_cases None h i h2 e = refl
@@ -128,11 +145,13 @@ module _ (m : Memory) (c : Core) (valid : IsValid c) (runs : RunsLocked c.g0 c.f
       ap (λ (o : Option Refusal). first_of_two o busy) (first_if (nat_lt 63 h2) BadHandle field)
       ∙ first_assoc (handle_refusal (mine (Some t)) h2) field busy
       ∙ ap (first_of_two (handle_refusal (mine (Some t)) h2)) (read_held t h i h2 (held v.registers h) e refl ∙ ap (λ (r : Result Place Refusal). and_then r read) (is_held t h))
+
   -- to read a field
   pub get_refused : (h i h2 : ℕ) → core_refusal c (Get s h i h2) ≡ get_refusal m s h i h2
   get_refused h i h2 =
       quiet_refused c (Get s h i h2) valid tt refl refl ∙ get_cases (a.active s) h i h2 refl
       ∙ ap (λ (o : Option TransactionState). first_of_two (handle_refusal o h2) (and_then (held_place o h) (λ p. read_refusal_of m o p i))) (sym (is.transactions s))
+
   new_cases : (o : Option Transaction) (h len : ℕ) → first_of_two (asked o (New s h len)) (room_refusal (ground c) c.g0 a o (New s h len)) ≡ new_refusal (mine o) h len
   new_cases None h len = refl
   new_cases (Some t) h len =
@@ -142,6 +161,7 @@ module _ (m : Memory) (c : Core) (valid : IsValid c) (runs : RunsLocked c.g0 c.f
       ap (λ (o : Option Refusal). first_of_two o words) (first_none (plain.new_refusal h len))
       ∙ new_parts (nat_lt 63 h) (nat_lt most_fields len) BadHandle Range words
       ∙ ap (λ (n : ℕ). first (cond (nat_lt 4096 (n + 2 + len)) (Some (VolatileFull n)) None)) (sym (length-area_words (place_of c.places v.graph) v.graph t.number v.made))
+
   -- and to make an object
   pub new_refused : (h len : ℕ) → core_refusal c (New s h len) ≡ new_refusal (own m s) h len
   new_refused h len =

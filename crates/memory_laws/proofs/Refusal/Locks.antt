@@ -67,6 +67,7 @@ module _ (locks : Holdings) (places : Places) (g0 : Graph) (a : Account) (all : 
             (and_from (at == at) (not (other == n)) (eq-eqb at at refl) (not_from_false (other == n) (ne_eqb other n way.differs))) clash,
         refl,
       )
+
   -- and the other way round
   busy_told : (other : ℕ) → IsInConflict locks (asked n mode at) other → IsInTheWay g0 a n (lock_in mode id) other
   busy_told other way =
@@ -83,18 +84,21 @@ module _ (locks : Holdings) (places : Places) (g0 : Graph) (a : Account) (all : 
         holds = subst (λ k. HoldsLock g0 a k id (mode_of h.mode)) way.3 (subst (λ q. HoldsLock g0 a h.transaction q (mode_of h.mode)) same (of_held places g0 a h x));
         conflicts = sym (conflict_same h.mode mode) ∙ parts.1;
       }
+
   -- where the model finds none in the way, the table has none
   free_told : IsFree g0 a n (Some (lock_in mode id)) → holdings.MayHold locks (asked n mode at)
   free_told free h there = none (conflicts h (asked n mode at)) refl where
     none : (b : Bool) → conflicts h (asked n mode at) ≡ b → b ≡ false
     none false is = refl
     none true is = absurd (free h.transaction (busy_told h.transaction (h, there, is, refl)))
+
   -- the least that the model finds is the least in the table
   least_told : (holder : ℕ) → IsBusy g0 a n (lock_in mode id) holder → IsLeastInConflict locks (asked n mode at) holder
   least_told holder busy = record {
     conflicts = told_busy holder busy.in_the_way;
     least = λ other way. busy.least other (busy_told other way);
   }
+
   -- the holder that is told is the same
   holder_same : holder_of locks (asked n mode at) ≡ busy_holder g0 a n (Some (lock_in mode id))
   holder_same = by_holder (busy_holder g0 a n (Some (lock_in mode id))) refl where
@@ -111,14 +115,18 @@ module _ (m : Memory) (c : Core) (valid : IsValid c) (runs : RunsLocked c.g0 c.f
   -- what the history says
   abbrev a : Account
   a = account c.history
+
   -- what the transaction sees
   abbrev v : View
   v = view c.g0 a t
+
   table_of : IsLockTable m.locks c.places c.g0 a
   table_of = record { held = is.locks; one = λ id q at here there. stands_one valid.told.stands id q at here there; within = valid.in_sessions }
+
   -- memory finds the holder that the model finds
   pub same_holder : (id : Id) (at : ℕ) (mode : table.Mode) → address_of c.places id ≡ Some at → holder_of m.locks (asked t.number mode at) ≡ busy_holder c.g0 a t.number (Some (lock_in mode id))
   same_holder id at mode place = holder_same m.locks c.places c.g0 a table_of t.number id at mode place
+
   -- so memory refuses a lock on an object at hand as the model does
   pub lock_same : (id : Id) (mode : table.Mode) (undo : List UndoEntry) → IsAtHand c.places t.number v.made id
       → lock_refusal m.locks (kept c.places v t.number undo) mode (place_in c.places v.graph id) ≡ busy_with (busy_holder c.g0 a t.number (Some (lock_in mode id)))
@@ -131,6 +139,7 @@ module _ (m : Memory) (c : Core) (valid : IsValid c) (runs : RunsLocked c.g0 c.f
       let lock = lock_in mode id in
       ap (lock_refusal m.locks x mode) (place_in-apart c.places v.graph id (own_apart (writing_of a c s t active valid).made own))
       ∙ ap busy_with (sym (free_found c.g0 a t.number (Some lock) (made_is_free c.g0 c.history runs.plain runs.two_phase s t lock active own.maker)))
+
   -- where memory refuses none, no other transaction is in the way
   pub lock_free : (id : Id) (mode : table.Mode) (undo : List UndoEntry) → IsAtHand c.places t.number v.made id
       → lock_refusal m.locks (kept c.places v t.number undo) mode (place_in c.places v.graph id) ≡ None → IsFree c.g0 a t.number (Some (lock_in mode id))

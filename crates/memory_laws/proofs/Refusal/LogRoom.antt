@@ -67,24 +67,30 @@ module _ (m : Memory) (c : Core) (valid : IsValid c) (runs : RunsLocked c.g0 c.f
   -- what the history says
   abbrev a : Account
   a = account c.history
+
   -- what the transaction sees
   abbrev v : View
   v = view c.g0 a t
+
   -- The transaction writes a value into field i of an object that no other holds, and that stands in the current space.
   record IsWritten (id : Id) (at i : ℕ) (x : Val) : Type 0 where
     place : address_of c.places id ≡ Some at
     within : i < length (fields v.graph id)
     seen : IsVisible c.places t.number v.made x
     free : IsFree c.g0 a t.number (Some (id, Exclusive))
+
   -- the record of the write
   abbrev record_at : Id → ℕ → ℕ → Val → Record
   record_at id at i x = update_of c.places v.graph t.number id at i x
+
   -- what it replaces
   abbrev entry_at : Id → ℕ → ℕ → UndoEntry
   entry_at id at i = entry_of c.places v.graph id at i
+
   -- the state behind it
   abbrev behind : Id → ℕ → ℕ → State
   behind id at i = written valid.behind t.number (entry_at id at i)
+
   written_told : (id : Id) (at i : ℕ) (x : Val) → IsWritten id at i x
       → IsTold c.pages c.lowest c.born c.places (serial c.g0 a.sealed) (c.before + length a.sealed) (all_records c ++ record_at id at i x ∷ []) (words_with c (record_at id at i x ∷ [])) (behind id at i)
   written_told id at i x w =
@@ -101,6 +107,7 @@ module _ (m : Memory) (c : Core) (valid : IsValid c) (runs : RunsLocked c.g0 c.f
         seen = w.seen;
         was = word_now a c valid o s t active id at i w.place w.within (free_shared c.g0 a t.number id w.free);
       })
+
   -- the bytes of one write more are kept
   written_more : (id : Id) (at i : ℕ) → reserved (undo_of valid.behind) a + 19 ≡ reserved (undo_of (behind id at i)) a
   written_more id at i =
@@ -113,6 +120,7 @@ module _ (m : Memory) (c : Core) (valid : IsValid c) (runs : RunsLocked c.g0 c.f
       reserved_but (undo_of valid.behind) (undo_of (behind id at i)) a a s 19 (valid.in_sessions s t active) (omega arith)
       (λ r other. kept_beside (undo_of valid.behind) (undo_of (behind id at i)) (a.active r)
       (λ u also. undo_other valid.behind t.number u.number (entry ∷ undo) 0 (o.beside s r t u (λ same. other (sym same)) active also).differ))
+
   -- and that is what is kept after the write
   write_kept : (event : Event) (id : Id) (at i : ℕ) (x : Val) → IsCall event → session_of event ≡ s → IsWritten id at i x → event_records c event ≡ record_at id at i x ∷ []
       → reserved_after c event ≡ memory.reserved m.table + 19
@@ -124,6 +132,7 @@ module _ (m : Memory) (c : Core) (valid : IsValid c) (runs : RunsLocked c.g0 c.f
       ∙ reserved_told c (record_at id at i x ∷ []) a (written_told id at i x w)
       ∙ sym (written_more id at i)
       ∙ ap (λ (n : ℕ). n + 19) (sym (reserved_now m c valid is))
+
   -- the log has a core's room for it
   stable_room : (event : Event) (id : Id) (at i : ℕ) (x : Val) → IsCall event → session_of event ≡ s → IsWritten id at i x → event_records c event ≡ record_at id at i x ∷ []
       → log_refusal c event ≡ no_room m.log (log_need m.log 27) (memory.reserved m.table + 19)
@@ -131,6 +140,7 @@ module _ (m : Memory) (c : Core) (valid : IsValid c) (runs : RunsLocked c.g0 c.f
       let size : log_need m.log 27 ≡ need c.pending (record_at id at i x ∷ []) = need_same m.log c.batches c.pending (record_at id at i x) is.log in
       full_same c.room (log_room m.log) (used c) (log_used m.log) (need c.pending (event_records c event)) (log_need m.log 27) (reserved_after c event) (memory.reserved m.table + 19)
       (sym is.room) (sym (used_same m.log c.batches c.pending is.log)) (ap (need c.pending) records ∙ sym size) (write_kept event id at i x call one w records)
+
   -- and room for one into the transaction's area
   own_room : (event : Event) → IsCall event → event_records c event ≡ [] → log_refusal c event ≡ None
   own_room event call none =
@@ -143,6 +153,7 @@ module _ (m : Memory) (c : Core) (valid : IsValid c) (runs : RunsLocked c.g0 c.f
       let nothing : need c.pending more ≡ 0 = ap (need c.pending) none ∙ need_nothing c.pending in
       let room = valid.room in
       full_log-none c.room (used c) (need c.pending more) (reserved_after c event) (omega arith)
+
   -- The log has a core's room for a write into an object that a handle holds, and that no other transaction holds.
   pub room_same : (event : Event) (h i : ℕ) (x : Val) (id : Id) → IsCall event → session_of event ≡ s → event_records c event ≡ view_records c.places t.number v h i x → held v.registers h ≡ Some id
       → i < length (fields v.graph id) → IsVisible c.places t.number v.made x → IsFree c.g0 a t.number (Some (id, Exclusive)) → log_refusal c event ≡ write_room m (place_in c.places v.graph id)

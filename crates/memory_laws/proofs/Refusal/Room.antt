@@ -60,12 +60,15 @@ module _ (c : Core) (event : Event) (valid : IsValid c) (call : IsCall event) wh
   -- what the history says
   abbrev a : Account
   a = account c.history
+
   -- the transaction of the event's session
   abbrev own : Option Transaction
   own = a.active (session_of event)
+
   -- for what its transaction sees, or for what others hold
   abbrev asked : Option Refusal
   asked = first_of_two (call_refusal c.g0 a own event) (call_conflict c.g0 a own event)
+
   -- a call of a session is refused so, for its words or for the log
   pub call_refused : core_refusal c event ≡ first_of_two asked (first_of_two (room_refusal (ground c) c.g0 a own event) (log_refusal c event))
   call_refused =
@@ -73,9 +76,11 @@ module _ (c : Core) (event : Event) (valid : IsValid c) (call : IsCall event) wh
       ∙ ap (λ (o : Option Refusal). first_of_two (first_of_two o (call_conflict c.g0 a own event)) (first_of_two (words_refusal c event) (log_refusal c event)))
       (event_refusal-call (next_number c) c.g0 a event call)
       ∙ ap (λ (o : Option Refusal). first_of_two asked (first_of_two (first_of_two o (room_refusal (ground c) c.g0 a own event)) (log_refusal c event))) (call_no_page c.pages event call)
+
   -- one that makes no object is refused so, or for the log
   pub old_refused : is_new event ≡ false → core_refusal c event ≡ first_of_two asked (log_refusal c event)
   old_refused old = call_refused ∙ ap (λ (o : Option Refusal). first_of_two asked (first_of_two o (log_refusal c event))) (words_quiet (ground c) c.g0 a own event call old)
+
   -- and one that writes nothing either is refused so
   pub quiet_refused : is_write event ≡ false → is_new event ≡ false → core_refusal c event ≡ asked
   quiet_refused quiet old = old_refused old ∙ ap (first_of_two asked) (log_quiet c event valid call quiet) ∙ first_none asked

@@ -40,18 +40,23 @@ module _ (m : Memory) (c : Core) (valid : IsValid c) (runs : RunsLocked c.g0 c.f
   -- what the history says
   abbrev a : Account
   a = account c.history
+
   -- what is kept of a transaction
   abbrev transaction : Transaction → TransactionState
   transaction t = kept c.places (view c.g0 a t) t.number (undo_with (ground c).state t.number)
+
   -- the place of an object as a transaction sees it
   abbrev place : Transaction → Id → Place
   place t id = place_in c.places (view c.g0 a t).graph id
+
   -- what memory says of a write into the object at a place
   abbrev writes : Option Transaction → Place → ℕ → Option Refusal
   writes o p i = write_refusal_of m (kept_of (ground c) c.g0 a o) p i
+
   -- why a core refuses a write of a transaction, for what it asks, for what others hold, or for the log
   abbrev refused : Option Transaction → Event → Option Refusal
   refused o event = first_of_two (first_of_two (call_refusal c.g0 a o event) (call_conflict c.g0 a o event)) (log_refusal c event)
+
   -- the log has a core's room for a write that no other transaction stands in the way of
   room_held : (t : Transaction) (event : Event) (h i : ℕ) (x : Val) (id : Id) → a.active s ≡ Some t → IsCall event → session_of event ≡ s
       → event_records c event ≡ view_records c.places t.number (view c.g0 a t) h i x → held (view c.g0 a t).registers h ≡ Some id → IsVisible c.places t.number (view c.g0 a t).made x
@@ -60,6 +65,7 @@ module _ (m : Memory) (c : Core) (valid : IsValid c) (runs : RunsLocked c.g0 c.f
       let n = length (fields (view c.g0 a t).graph id) in
       room_same m c valid runs is s t e event h i x id call one records holds (leb-false n i (passed (nat_le n i) BadField granted)) seen
       (lock_free m c valid runs is s t e id locked.Exclusive (undo_with (ground c).state t.number) (held_there m c valid runs is s t h id e holds) free)
+
   -- a write into an object that a handle holds
   write_held : (t : Transaction) (event : Event) (h i : ℕ) (x : Val) (id : Id) → a.active s ≡ Some t → IsCall event → session_of event ≡ s
       → event_records c event ≡ view_records c.places t.number (view c.g0 a t) h i x → held (view c.g0 a t).registers h ≡ Some id → IsVisible c.places t.number (view c.g0 a t).made x
@@ -76,6 +82,7 @@ module _ (m : Memory) (c : Core) (valid : IsValid c) (runs : RunsLocked c.g0 c.f
       ∙ second_same field (first_of_two busy log) (first_of_two others room) (λ granted.
       ap (λ (o : Option Refusal). first_of_two o log) same ∙ second_same others log room (room_held t event h i x id e call one records holds seen granted))
       ∙ ap (λ (o : Option Refusal). first_of_two o (first_of_two others room)) (field_held m c valid runs is s t h i id e holds)
+
   -- A number.
   put_held : (t : Transaction) (h i n : ℕ) (o : Option Id) → a.active s ≡ Some t → held (view c.g0 a t).registers h ≡ o
       → first_of_two (first_of_two (plain.put_refusal (view c.g0 a t).graph o i n) (call_conflict c.g0 a (Some t) (Put s h i n))) (log_refusal c (Put s h i n))
@@ -91,17 +98,20 @@ module _ (m : Memory) (c : Core) (valid : IsValid c) (runs : RunsLocked c.g0 c.f
       ∙ first_assoc (range_refusal n) (first_of_two field busy) log
       ∙ second_same (range_refusal n) (first_of_two (first_of_two field busy) log) (writes (Some t) (place t id) i)
       (λ none. write_held t event h i (Int n) id e tt refl (ap (λ (o : Option Transaction). call_records (ground c) c.g0 a o event) e) holds (leb-false no_int n (passed (nat_le no_int n) Range none)) refl)
+
   put_cases : (o : Option Transaction) (h i n : ℕ) → a.active s ≡ o → refused o (Put s h i n) ≡ and_then (held_place (kept_of (ground c) c.g0 a o) h) (λ p. first_of_two (range_refusal n) (writes o p i))
   put_cases None h i n e = refl
   put_cases (Some t) h i n e =
       put_held t h i n (held (view c.g0 a t).registers h) e refl
       ∙ ap (λ (r : Result Place Refusal). and_then r (λ p. first_of_two (range_refusal n) (writes (Some t) p i))) (is_held m c valid runs is s t h)
+
   -- memory refuses to write a number as the core does
   pub put_refused : (h i v : ℕ) → core_refusal c (Put s h i v) ≡ put_refusal m s h i v
   put_refused h i v =
       old_refused c (Put s h i v) valid tt refl
       ∙ put_cases (a.active s) h i v refl
       ∙ ap (λ (o : Option TransactionState). and_then (held_place o h) (λ p. first_of_two (range_refusal v) (write_refusal_of m o p i))) (sym (is.transactions s))
+
   -- Null.
   clear_held : (t : Transaction) (h i : ℕ) (o : Option Id) → a.active s ≡ Some t → held (view c.g0 a t).registers h ≡ o
       → first_of_two (first_of_two (plain.field_refusal (view c.g0 a t).graph o i) (call_conflict c.g0 a (Some t) (Clear s h i))) (log_refusal c (Clear s h i))
@@ -110,16 +120,19 @@ module _ (m : Memory) (c : Core) (valid : IsValid c) (runs : RunsLocked c.g0 c.f
   clear_held t h i (Some id) e holds =
       let event : Event = Clear s h i in
       write_held t event h i Null id e tt refl (ap (λ (o : Option Transaction). call_records (ground c) c.g0 a o event) e) holds tt refl
+
   clear_cases : (o : Option Transaction) (h i : ℕ) → a.active s ≡ o → refused o (Clear s h i) ≡ and_then (held_place (kept_of (ground c) c.g0 a o) h) (λ p. writes o p i)
   clear_cases None h i e = refl
   clear_cases (Some t) h i e =
       clear_held t h i (held (view c.g0 a t).registers h) e refl ∙ ap (λ (r : Result Place Refusal). and_then r (λ p. writes (Some t) p i)) (is_held m c valid runs is s t h)
+
   -- to write null
   pub clear_refused : (h i : ℕ) → core_refusal c (Clear s h i) ≡ clear_refusal m s h i
   clear_refused h i =
       old_refused c (Clear s h i) valid tt refl
       ∙ clear_cases (a.active s) h i refl
       ∙ ap (λ (o : Option TransactionState). and_then (held_place o h) (λ p. write_refusal_of m o p i)) (sym (is.transactions s))
+
   -- A reference.
   link_held : (t : Transaction) (h i h2 : ℕ) (o p : Option Id) → a.active s ≡ Some t → held (view c.g0 a t).registers h ≡ o
       → first_of_two (first_of_two (plain.link_refusal (view c.g0 a t).graph o i p) (call_conflict c.g0 a (Some t) (Link s h i h2))) (log_refusal c (Link s h i h2))
@@ -132,6 +145,7 @@ module _ (m : Memory) (c : Core) (valid : IsValid c) (runs : RunsLocked c.g0 c.f
       let v = view c.g0 a t in
       write_held t event h i (reference_to (held v.registers h2)) id e tt refl (ap (λ (o : Option Transaction). call_records (ground c) c.g0 a o event) e) holds
       (reference_visible c.places t.number v.made v.registers h2 (held v.registers h2) (writing_of a c s t e valid).handles refl) refl
+
   link_cases : (o : Option Transaction) (h i h2 : ℕ) → a.active s ≡ o
       → refused o (Link s h i h2) ≡ and_then (held_place (kept_of (ground c) c.g0 a o) h) (λ x. and_then (held_place (kept_of (ground c) c.g0 a o) h2) (λ y. writes o x i))
   link_cases None h i h2 e = refl
@@ -140,6 +154,7 @@ module _ (m : Memory) (c : Core) (valid : IsValid c) (runs : RunsLocked c.g0 c.f
       link_held t h i h2 (held v.registers h) (held v.registers h2) e refl
       ∙ ap (λ (r : Result Place Refusal). and_then r (λ x. and_then (held_or (option_map (place t) (held v.registers h2))) (λ y. writes (Some t) x i))) (is_held m c valid runs is s t h)
       ∙ ap (λ (r : Result Place Refusal). and_then (held_place (Some (transaction t)) h) (λ x. and_then r (λ y. writes (Some t) x i))) (is_held m c valid runs is s t h2)
+
   -- and to write a reference
   pub link_refused : (h i h2 : ℕ) → core_refusal c (Link s h i h2) ≡ link_refusal m s h i h2
   link_refused h i h2 =

@@ -66,25 +66,32 @@ module _ (m n : Memory) (c : Core) (valid : IsValid c) (is : IsMemory m (account
   -- what the history says
   abbrev a : Account
   a = account c.history
+
   -- the state behind all records
   abbrev behind : State
   behind = valid.behind
+
   -- it is the one that memory follows
   same_state : is.state ≡ behind
   same_state = some_one is.state behind (sym is.reached ∙ valid.told.reached)
+
   -- the spaces in memory are the state's
   pub spaces_are : m.spaces ≡ spaces_of behind
   spaces_are = is.spaces ∙ ap spaces_of same_state
+
   -- each session's transaction is in memory what the core keeps of it
   pub own_kept : (s : ℕ) → own m s ≡ kept_of (ground_in c c.places behind) c.g0 a (a.active s)
   own_kept s =
       is.transactions s ∙ ap (λ (o : Option State). kept_of (record { places = c.places; words = all_words c; state = o }) c.g0 a (a.active s)) valid.told.reached
+
   -- the transaction of a session in memory is the core's
   pub mine : (s : ℕ) (x : TransactionState) → own m s ≡ Some x → (t : Transaction) × (a.active s ≡ Some t) × (x ≡ kept c.places (view c.g0 a t) t.number (undo_of behind t.number))
   mine s x e = has_kept (ground_in c c.places behind) c.g0 a (a.active s) x (sym (own_kept s) ∙ e)
+
   -- memory that is the same follows the same core
   pub stays : n ≡ m → IsMemory n a c
   stays same = let P : Memory → Type 0 = λ x. IsMemory x a c in subst P (sym same) is
+
   -- records more wait, and objects more stand in the current space
   pub appended : (b : Account) (more : List Record) (placed : Places) (table : TableState) (locks : Holdings) (current : SpacesState) (count : ℕ) (later : State)
       → Leaves m n more table locks current count → state_behind c (all_records c ++ more) ≡ Some later → current ≡ spaces_of later
@@ -112,6 +119,7 @@ module _ (m n : Memory) (c : Core) (valid : IsValid c) (is : IsMemory m (account
         next = ap (λ (t : TableState). t.next) left.table ∙ next;
         sealed = left.sealed ∙ sealed;
       }
+
   -- records more wait, and the same objects stand there
   pub appended_here : (b : Account) (more : List Record) (table : TableState) (locks : Holdings) (count : ℕ) (later : State) → Leaves m n more table locks m.spaces count
       → state_behind c (all_records c ++ more) ≡ Some later → spaces_of behind ≡ spaces_of later
@@ -121,21 +129,26 @@ module _ (m n : Memory) (c : Core) (valid : IsValid c) (is : IsMemory m (account
       let here = sym (append-nil c.places) in
       appended b more [] table locks m.spaces count later left reached (spaces_are ∙ same)
       (λ r. there r ∙ ap (λ (places : Places). kept_of (ground_in c places later) c.g0 b (b.active r)) here) (subst (λ (places : Places). AreHeld locks places c.g0 b) here held) next sealed
+
   -- In a later state the transactions of all other sessions have the same writes that may be taken back.
   abbrev pub LeavesOthers : ℕ → State → Type 0
   LeavesOthers s later = (r : ℕ) (u : Transaction) → r ≢ s → a.active r ≡ Some u → undo_of later u.number ≡ undo_of behind u.number
+
   -- what is kept of a transaction whose writes are as before
   kept_beside : (later : State) (o : Option Transaction) → ((u : Transaction) → o ≡ Some u → undo_of later u.number ≡ undo_of behind u.number)
       → kept_of (ground_in c c.places behind) c.g0 a o ≡ kept_of (ground_in c c.places later) c.g0 a o
   kept_beside later None same = refl
   kept_beside later (Some u) same = ap (λ (us : List UndoEntry). Some (kept c.places (view c.g0 a u) u.number us)) (sym (same u refl))
+
   -- what is kept of the transaction of each other session, in a table that is the same there
   pub others_kept : (s : ℕ) (table : TableState) (later : State) → ((r : ℕ) → r ≢ s → transaction_of table r ≡ own m r) → LeavesOthers s later
       → (r : ℕ) → r ≢ s → transaction_of table r ≡ kept_of (ground_in c c.places later) c.g0 a (a.active r)
   others_kept s table later beside same r other = beside r other ∙ own_kept r ∙ kept_beside later (a.active r) (λ u also. same r u other also)
+
   -- no record more waits
   pub reached_still : state_behind c (all_records c ++ []) ≡ Some behind
   reached_still = ap (state_behind c) (append-nil (all_records c)) ∙ valid.told.reached
+
   -- a call of the transaction of a session
   pub call_leaves : (s : ℕ) (t : Transaction) (event : Event) (more : List Record) (later : State) (table : TableState) (locks : Holdings) (x : TransactionState) → a.active s ≡ Some t → IsCall event
       → session_of event ≡ s → event_records c event ≡ more → Leaves m n more table locks m.spaces m.sealed → transaction_of table s ≡ Some x → ((r : ℕ) → r ≢ s → transaction_of table r ≡ own m r)
@@ -149,6 +162,7 @@ module _ (m n : Memory) (c : Core) (valid : IsValid c) (is : IsMemory m (account
       let now = appended_here (called a s event) more table locks m.sealed later left reached same each held (next ∙ is.next) is.sealed in
       subst (λ (b : Account). IsMemory n b (done c event)) (sym (reply_adds c event ∙ call_account (next_number c) c.g0 a event called_it ∙ ap (λ (q : ℕ). called a q event) one))
       (subst (λ (d : Core). IsMemory n (called a s event) d) (sym (call_done c event more called_it records)) now)
+
   -- the same, where the transaction alone is changed in the table
   pub call_goes : (s : ℕ) (t : Transaction) (event : Event) (more : List Record) (later : State) (locks : Holdings) (x : TransactionState) → a.active s ≡ Some t → IsCall event → session_of event ≡ s
       → event_records c event ≡ more → Leaves m n more (with_transaction m.table s x) locks m.spaces m.sealed → state_behind c (all_records c ++ more) ≡ Some later
@@ -157,12 +171,14 @@ module _ (m n : Memory) (c : Core) (valid : IsValid c) (is : IsMemory m (account
   call_goes s t event more later locks x e called_it one records left reached same others kept_so held =
       call_leaves s t event more later (with_transaction m.table s x) locks x e called_it one records left (with_transaction_same m.table s x) (with_transaction_other m.table s x) refl reached same
       others kept_so held
+
   -- and no record is appended
   pub quiet_goes : (s : ℕ) (t : Transaction) (event : Event) (locks : Holdings) (x : TransactionState) → a.active s ≡ Some t → IsCall event → session_of event ≡ s → event_records c event ≡ []
       → Leaves m n [] (with_transaction m.table s x) locks m.spaces m.sealed → x ≡ kept c.places (call (view c.g0 a t) t.number event).view t.number (undo_of behind t.number)
       → AreHeld locks c.places c.g0 (called a s event) → Goes n c event
   quiet_goes s t event locks x e called_it one records left kept_so held =
       call_goes s t event [] behind locks x e called_it one records left reached_still refl (λ r u other also. refl) kept_so held
+
   -- a call that needs no lock leaves the locks
   pub no_lock : (s : ℕ) (t : Transaction) (event : Event) → a.active s ≡ Some t → lock_of (view c.g0 a t).registers event ≡ None → AreHeld m.locks c.places c.g0 (called a s event)
   no_lock s t event e none = held_same m.locks c.places c.g0 a s t event e (λ id mode some. let never = sym none ∙ some in cc) is.locks

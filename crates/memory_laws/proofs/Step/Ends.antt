@@ -53,19 +53,24 @@ module _ (m n : Memory) (c : Core) (valid : IsValid c) (runs : RunsLocked c.g0 c
   -- what the history says
   abbrev a : Account
   a = account c.history
+
   -- the state behind all records
   abbrev behind : State
   behind = valid.behind
+
   -- A begin.
   -- what the history says then
   abbrev begun : Account
   begun = account_after a (record { event = Begin s; reply = Begun (next_number c) })
+
   -- where memory has no transaction the core has none
   none_active : begin_refusal m s ≡ None → a.active s ≡ None
   none_active e = none_kept (ground c) c.g0 a (a.active s) (own m s) (is.transactions s) (test_none (is_some (own m s)) AlreadyActive _ e).0
+
   -- the transaction that begins has no writes that may be taken back
   nothing_written : undo_of behind (next_number c) ≡ []
   nothing_written = ap (λ o. unwrap_or o []) (none_yet behind (next_number c) (told_sound valid.told) valid.next_known)
+
   -- what is kept of it
   begun_kept : new_transaction m.table.next ≡ kept c.places (view c.g0 a (record { number = next_number c; calls = [] })) (next_number c) (undo_of behind (next_number c))
   begun_kept =
@@ -74,6 +79,7 @@ module _ (m n : Memory) (c : Core) (valid : IsValid c) (runs : RunsLocked c.g0 c
       ap new_transaction is.next
       ∙ ap (λ (hs : List (Option Place)). record (new_transaction t) { handles = hs }) (none_mapped (place_in c.places v.graph) 64)
       ∙ ap (kept c.places v t) (sym nothing_written)
+
   -- a begin leaves memory as the core is then
   begun_goes : a.active s ≡ None → Begins m n s → Goes n c (Begin s)
   begun_goes none begins =
@@ -84,6 +90,7 @@ module _ (m n : Memory) (c : Core) (valid : IsValid c) (runs : RunsLocked c.g0 c
       let others = others_kept m n c valid is s table behind (with_begun_other m.table s) (λ r u other also. refl) in
       appended_here m n c valid is begun [] table m.locks m.sealed behind begins (reached_still m n c valid is) refl (each_session P a.active s x there others)
       (held_begun c.g0 c.history m.locks c.places s (next_number c) none is.locks) (omega (arith, is.next)) is.sealed
+
   -- a begin is answered as the core answers it, and the session has the next transaction then
   pub begin_does : core_refusal c (Begin s) ≡ begin_refusal m s → (reply : Reply) → reply ≡ reply_of (begin_refusal m s) (Begun m.table.next) → ((k : ℕ) → reply ≡ Begun k → Begins m n s)
       → ((why : Refusal) → reply ≡ Refused why → n ≡ m) → Does c (Begin s) reply n
@@ -91,18 +98,22 @@ module _ (m n : Memory) (c : Core) (valid : IsValid c) (runs : RunsLocked c.g0 c
       does c (Begin s) (begin_refusal m s) (Begun m.table.next) reply n same replied (λ e. ap Begun (sym is.next))
       (λ e begun_it. begun_goes (none_active e) (begins m.table.next begun_it))
       (λ why e. stays m n c valid is (stayed why e))
+
   -- An abort.
   -- what the history says then
   abbrev aborted : Account
   aborted = account_after a (record { event = Abort s; reply = Aborted })
+
   -- the state behind the records that take a transaction back
   abbrev ended : ℕ → State
   ended t = turned behind t (with_entries behind.undo t []) 0
+
   -- the others keep their writes
   ended_others : (t : Transaction) → a.active s ≡ Some t → LeavesOthers m n c valid is s (ended t.number)
   ended_others t e r u other also =
       let beside = (two_phase_ordered c.g0 c.history runs.plain runs.two_phase).beside s r t u (λ same. other (sym same)) e also in
       undo_other behind t.number u.number [] 0 beside.differ
+
   -- the writes of the transaction that ends are taken back
   aborted_goes : (t : Transaction) → a.active s ≡ Some t → (aborts : Aborts m n s) → aborts.transaction ≡ kept c.places (view c.g0 a t) t.number (undo_of behind t.number) → Goes n c (Abort s)
   aborted_goes t e aborts x =
@@ -117,6 +128,7 @@ module _ (m n : Memory) (c : Core) (valid : IsValid c) (runs : RunsLocked c.g0 c
       subst (λ (rs : List Record). IsMemory n aborted (record c { pending = c.pending ++ rs; places = c.places ++ [] })) (sym (abort_is c s t valid e))
       (appended_here m n c valid is aborted more table (without m.locks t.number) m.sealed (ended t.number) left told.reached refl
       (each_session P a.active s None (with_ended_same m.table s) others) (held_aborted c.g0 c.history m.locks c.places c.places s t runs.plain runs.two_phase e (λ id other. refl) is.locks) is.next is.sealed)
+
   -- an abort is answered as the core answers it, and the session has no transaction then
   pub abort_does : core_refusal c (Abort s) ≡ end_refusal (own m s) → (result : Result Reply AllocError) → IfOk result (λ reply. reply ≡ reply_of (end_refusal (own m s)) Aborted)
       → (result ≡ Ok Aborted → Aborts m n s) → ((why : Refusal) → result ≡ Ok (Refused why) → IsAsItWas m n) → IfOk result (λ reply. Does c (Abort s) reply n)

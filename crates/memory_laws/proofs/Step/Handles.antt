@@ -43,9 +43,11 @@ module _ (m n : Memory) (c : Core) (valid : IsValid c) (is : IsMemory m (account
   -- what the history says
   abbrev a : Account
   a = account c.history
+
   -- the state behind all records
   abbrev behind : State
   behind = valid.behind
+
   -- a call that writes nothing, after which a handle holds this
   set_goes : (event : Event) (h : ℕ) (o : Option Id) (p : Option Place) → IsCall event → session_of event ≡ s → is_write event ≡ false
       → ((v : View) (t : ℕ) → (call v t event).view ≡ record v { registers = slice_set v.registers h o })
@@ -58,11 +60,13 @@ module _ (m n : Memory) (c : Core) (valid : IsValid c) (is : IsMemory m (account
       quiet_goes m n c valid is s t.0 event m.locks (with_handle sets.transaction h p) t.1 called_it one (quiet_records c event called_it silent) sets.left
       (ap (λ y. with_handle y h p) t.2 ∙ kept_set c.places v t.0.number undo h o p (place t.0 t.1) ∙ ap (λ (w : View). kept c.places w t.0.number undo) (sym (sees v t.0.number)))
       (no_lock m n c valid is s t.0 event t.1 (free v.registers))
+
   -- the root stands at the first word
   root_stands : (t : Transaction) → a.active s ≡ Some t → Some root_place ≡ option_map (place_in c.places (view c.g0 a t).graph) (Some root)
   root_stands t e =
       let w = writing_of a c s t e valid in
       ap (λ (p : Place). Some p) (sym (place_in-placed c.places (view c.g0 a t).graph root 0 (w.stands.root_place ∙ ap (λ (at : ℕ). Some at) valid.told.base)))
+
   -- a root is answered as the core answers it, and a handle holds the root then
   pub root_does : (h : ℕ) → core_refusal c (Root s h) ≡ handle_refusal (own m s) h → (reply : Reply) → reply ≡ reply_of (handle_refusal (own m s) h) answer.Done
       → (reply ≡ answer.Done → SetsHandle m n s h (Some root_place)) → ((why : Refusal) → reply ≡ answer.Refused why → n ≡ m) → Does c (Root s h) reply n
@@ -70,6 +74,7 @@ module _ (m n : Memory) (c : Core) (valid : IsValid c) (is : IsMemory m (account
       does c (Root s h) (handle_refusal (own m s) h) answer.Done reply n same replied (λ e. call_reply-done c.g0 a (a.active s) (Root s h) tt)
       (λ e done_it. set_goes (Root s h) h (Some root) (Some root_place) tt refl refl (λ v t. refl) root_stands (λ rs. refl) (set done_it))
       (λ why e. stays m n c valid is (stayed why e))
+
   -- a drop is answered as the core answers it, and a handle holds nothing then
   pub drop_does : (h : ℕ) → core_refusal c (Drop s h) ≡ handle_refusal (own m s) h → (reply : Reply) → reply ≡ reply_of (handle_refusal (own m s) h) answer.Done
       → (reply ≡ answer.Done → SetsHandle m n s h None) → ((why : Refusal) → reply ≡ answer.Refused why → n ≡ m) → Does c (Drop s h) reply n

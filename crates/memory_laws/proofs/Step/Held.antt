@@ -79,18 +79,22 @@ module _ (m : Memory) (c : Core) (valid : IsValid c) (runs : RunsLocked c.g0 c.f
   -- what the history says
   abbrev a : Account
   a = account c.history
+
   -- the state behind all records
   abbrev behind : State
   behind = valid.behind
+
   -- the core's transaction is in memory
   pub own_is : (t : Transaction) → a.active s ≡ Some t → own m s ≡ Some (kept c.places (view c.g0 a t) t.number (undo_of behind t.number))
   own_is t e = own_kept m m c valid is s ∙ ap (λ (o : Option Transaction). kept_of (ground_in c c.places behind) c.g0 a o) e
+
   -- where a handle holds a place the core has an active transaction
   pub held_active : (h : ℕ) (p : Place) → held_place (own m s) h ≡ Ok p → (t : Transaction) × (a.active s ≡ Some t)
   held_active h p there =
       let x = held_some (own m s) h p there in
       let t = mine m m c valid is s x.0 x.1 in
       (t.0, t.1)
+
   -- and it is that of an object at hand
   pub is_held : (t : Transaction) → a.active s ≡ Some t → (h : ℕ) (p : Place) → held_place (own m s) h ≡ Ok p → IsHeld c.places (view c.g0 a t) t.number h p
   is_held t e h p there =
@@ -100,6 +104,7 @@ module _ (m : Memory) (c : Core) (valid : IsValid c) (runs : RunsLocked c.g0 c.f
       let long = length-registers-run (serial c.g0 a.sealed) t in
       let got = mapped (place_in c.places v.graph) (held v.registers h) p (sym (held_in-kept c.places v t.number undo h long) ∙ or_ok (held_in (kept c.places v t.number undo) h) p known) in
       record { id = got.0; holds = got.1; place = got.2; at_hand = held_at_hand c.places t.number v.made v.registers h got.0 (writing_of a c s t e valid).handles got.1 }
+
   -- its fields are read at its place
   fields_there : (t : Transaction) → a.active s ≡ Some t → (h : ℕ) (p : Place) → held_place (own m s) h ≡ Ok p → (one : IsHeld c.places (view c.g0 a t) t.number h p)
       → fields_held m (own m s) (held_place (own m s) h) ≡ fields_at m.words (area_in c.places (view c.g0 a t) t.number) (place_in c.places (view c.g0 a t).graph one.id)
@@ -107,21 +112,25 @@ module _ (m : Memory) (c : Core) (valid : IsValid c) (runs : RunsLocked c.g0 c.f
       ap (λ (r : Result Place Refusal). fields_held m (own m s) r) there
       ∙ ap (λ (o : Option TransactionState). fields_held m o (Ok p)) (own_is t e)
       ∙ ap (fields_at m.words (area_in c.places (view c.g0 a t) t.number)) (sym one.place)
+
   -- there are as many as the transaction sees
   pub length-held_fields : (t : Transaction) → a.active s ≡ Some t → (h : ℕ) (p : Place) → held_place (own m s) h ≡ Ok p → (one : IsHeld c.places (view c.g0 a t) t.number h p)
       → length (fields_held m (own m s) (held_place (own m s) h)) ≡ length (fields (view c.g0 a t).graph one.id)
   length-held_fields t e h p there one =
       ap (λ (ws : List ℕ). length ws) (fields_there t e h p there one) ∙ length-fields_at_hand m c valid runs is s t e one.id one.at_hand
+
   -- where no other transaction holds the object exclusively, their words are those of the values
   pub held_fields : (t : Transaction) → a.active s ≡ Some t → (h : ℕ) (p : Place) → held_place (own m s) h ≡ Ok p → (one : IsHeld c.places (view c.g0 a t) t.number h p)
       → IsFree c.g0 a t.number (Some (one.id, Shared))
       → fields_held m (own m s) (held_place (own m s) h) ≡ map (bits_of (place_of c.places (view c.g0 a t).graph)) (fields (view c.g0 a t).graph one.id)
   held_fields t e h p there one free = fields_there t e h p there one ∙ fields_at_hand m c valid runs is s t e one.id one.at_hand free
+
   -- a field of it that isn't refused is one of the object
   pub held_within : (t : Transaction) → a.active s ≡ Some t → (h i : ℕ) (p : Place) → held_place (own m s) h ≡ Ok p → (one : IsHeld c.places (view c.g0 a t) t.number h p)
       → field_refusal (length (fields_held m (own m s) (held_place (own m s) h))) i ≡ None → i < length (fields (view c.g0 a t).graph one.id)
   held_within t e h i p there one granted =
       below_count (length (fields (view c.g0 a t).graph one.id)) i (ap (λ (n : ℕ). field_refusal n i) (sym (length-held_fields t e h p there one)) ∙ granted)
+
   -- what its word means is where the value refers to, if no other transaction holds the object exclusively
   pub held_meaning : (t : Transaction) → a.active s ≡ Some t → (h i : ℕ) (p : Place) → held_place (own m s) h ≡ Ok p → (one : IsHeld c.places (view c.g0 a t) t.number h p)
       → i < length (fields (view c.g0 a t).graph one.id) → IsFree c.g0 a t.number (Some (one.id, Shared))
@@ -132,10 +141,12 @@ module _ (m : Memory) (c : Core) (valid : IsValid c) (runs : RunsLocked c.g0 c.f
       ap (λ (ws : List ℕ). meaning (slice_index ws i)) (held_fields t e h p there one free)
       ∙ ap meaning (get_or-map (bits_of (place_of c.places v.graph)) (fields v.graph one.id) i Null 0 within)
       ∙ visible_meaning w.stands w.made (slice_index_or (fields v.graph one.id) i Null) (read_visible w.stands w.made one.id i one.at_hand)
+
   -- a call that isn't refused finds free what it needs
   pub call_free : (t : Transaction) → a.active s ≡ Some t → (event : Event) → session_of event ≡ s → core_refusal c event ≡ None → IsFree c.g0 a t.number (lock_of (view c.g0 a t).registers event)
   call_free t e event one granted =
       free_call c.g0 a t event valid.in_sessions (ap (λ (o : Option Transaction). call_conflict c.g0 a o event) (sym (ap a.active one ∙ e)) ∙ (model_granted c event granted).1)
+
   -- so the object that its handle holds is free, if that is what it needs
   pub held_free : (t : Transaction) → a.active s ≡ Some t → (event : Event) → session_of event ≡ s → core_refusal c event ≡ None → (h : ℕ) (mode : Mode)
       → lock_of (view c.g0 a t).registers event ≡ lock_on (view c.g0 a t).registers h mode → (id : Id) → held (view c.g0 a t).registers h ≡ Some id → IsFree c.g0 a t.number (Some (id, mode))

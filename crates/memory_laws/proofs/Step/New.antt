@@ -84,9 +84,11 @@ module _ (m n : Memory) (c : Core) (valid : IsValid c) (is : IsMemory m (account
   -- what the history says
   abbrev a : Account
   a = account c.history
+
   -- the state behind all records
   abbrev behind : State
   behind = valid.behind
+
   -- what it leaves is the memory of the core then
   made_goes : (h len : ℕ) → Makes m n s h len → Goes n c (New s h len)
   made_goes h len makes =
@@ -96,6 +98,7 @@ module _ (m n : Memory) (c : Core) (valid : IsValid c) (is : IsMemory m (account
       let undo = undo_of behind t.0.number in
       quiet_goes m n c valid is s t.0 (New s h len) m.locks (with_made makes.transaction h len) t.1 tt refl (quiet_records c (New s h len) tt refl) makes.left
       (ap (λ y. with_made y h len) t.2 ∙ sym (kept_made c.places v t.0.number undo h len w.made w.handles)) (no_lock m n c valid is s t.0 (New s h len) t.1 refl)
+
   -- a call that makes an object is answered as the core answers it, and the object is in the area then
   pub new_does : (h len : ℕ) → core_refusal c (New s h len) ≡ new_refusal (own m s) h len → (result : Result Reply AllocError) → IfOk result (λ reply. reply ≡ reply_of (new_refusal (own m s) h len) Done)
       → (result ≡ Ok Done → Makes m n s h len) → ((why : Refusal) → result ≡ Ok (Refused why) → n ≡ m)

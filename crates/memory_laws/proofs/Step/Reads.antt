@@ -72,9 +72,11 @@ module _ (m n : Memory) (c : Core) (valid : IsValid c) (runs : RunsLocked c.g0 c
   -- what the history says
   abbrev a : Account
   a = account c.history
+
   -- the state behind all records
   abbrev behind : State
   behind = valid.behind
+
   -- What a get finds that isn't refused: the object, the field, and that no other transaction holds the object exclusively.
   record IsRead (h i : ℕ) : Type 0 where
     t : Transaction
@@ -84,10 +86,12 @@ module _ (m n : Memory) (c : Core) (valid : IsValid c) (runs : RunsLocked c.g0 c
     one : IsHeld c.places (view c.g0 a t) t.number h p
     within : i < length (fields (view c.g0 a t).graph one.id)
     free : IsFree c.g0 a t.number (Some (one.id, Shared))
+
   -- a read that is not refused is of a field
   read_field : (o : Option TransactionState) (p : Place) (i : ℕ) → read_refusal_of m o p i ≡ None → field_refusal (length (fields_held m o (Ok p))) i ≡ None
   read_field None p i e = cc e
   read_field (Some x) p i e = (both_none (field_refusal (length (fields_at m.words x.area p)) i) (lock_refusal m.locks x locked.Shared p) e).0
+
   -- a get that is not refused finds these
   is_read : (h i h2 : ℕ) → core_refusal c (Get s h i h2) ≡ get_refusal m s h i h2 → get_refusal m s h i h2 ≡ None → IsRead h i
   is_read h i h2 same e =
@@ -105,12 +109,15 @@ module _ (m n : Memory) (c : Core) (valid : IsValid c) (runs : RunsLocked c.g0 c
             (ap (λ r. field_refusal (length (fields_held m (own m s) r)) i) got.1 ∙ read_field (own m s) got.0 i got.2);
         free = held_free m c valid runs is s t.0 t.1 (Get s h i h2) refl (same ∙ e) h Shared refl one.id one.holds;
       }
+
   -- the value that is read
   abbrev value_read : (h i : ℕ) → IsRead h i → Val
   value_read h i read = slice_index_or (fields (view c.g0 a read.t).graph read.one.id) i Null
+
   -- its word means it
   meant : (h i : ℕ) (read : IsRead h i) → meant_held m s h i ≡ Some (word_of (place_of c.places (view c.g0 a read.t).graph) (value_read h i read))
   meant h i read = held_meaning m c valid runs is s read.t read.active h i read.p read.there read.one read.within read.free
+
   -- it is answered as the core answers it
   got_reply : (h i h2 : ℕ) (read : IsRead h i) → call_reply c.g0 a (a.active s) (Get s h i h2) ≡ get_reply m s h i
   got_reply h i h2 read =
@@ -118,11 +125,13 @@ module _ (m n : Memory) (c : Core) (valid : IsValid c) (runs : RunsLocked c.g0 c
       ap (λ (o : Option Transaction). call_reply c.g0 a o (Get s h i h2)) read.active
       ∙ ap (λ (o : Option Id). value_reply (slice_index_or (fields_of g o) i Null)) read.one.holds
       ∙ sym (value_word_reply c.places g (value_read h i read)) ∙ ap word_reply (sym (meant h i read))
+
   -- so it is not refused
   got_granted : (h i : ℕ) → IsRead h i → IsGranted (get_reply m s h i)
   got_granted h i read =
       let g = (view c.g0 a read.t).graph in
       subst IsGranted (sym (ap word_reply (meant h i read) ∙ value_word_reply c.places g (value_read h i read))) (value_granted (value_read h i read))
+
   -- and leaves memory as the core is then
   got_goes : (h i h2 : ℕ) → IsRead h i → Gets m n s h i h2 → Goes n c (Get s h i h2)
   got_goes h i h2 read gets =
@@ -139,6 +148,7 @@ module _ (m n : Memory) (c : Core) (valid : IsValid c) (runs : RunsLocked c.g0 c
       (ap (λ y. with_read y h2 (meant_held m s h i)) same ∙ ap (with_read (kept c.places v t.number undo) h2) (meant h i read)
       ∙ kept_read c.places v t.number undo h2 (value_read h i read)
       ∙ ap (λ (o : Option Id). kept c.places (record v { registers = with_referred v.registers h2 (slice_index_or (fields_of v.graph o) i Null) }) t.number undo) (sym read.one.holds)) held
+
   -- a get is answered as the core answers it, and a handle holds what was read then
   pub get_does : (h i h2 : ℕ) → core_refusal c (Get s h i h2) ≡ get_refusal m s h i h2 → (reply : Reply) → reply ≡ reply_of (get_refusal m s h i h2) (get_reply m s h i)
       → (IsGranted reply → Gets m n s h i h2) → ((why : Refusal) → reply ≡ answer.Refused why → n ≡ m) → Does c (Get s h i h2) reply n

@@ -70,6 +70,7 @@ module _ (m : Memory) (c : Core) (valid : IsValid c) (runs : RunsLocked c.g0 c.f
   -- what the history says
   abbrev b : Account
   b = account c.history
+
   -- a call that changes nothing leaves memory as the core is then
   tells : (event : Event) (t : Transaction) → b.active s ≡ Some t → IsCall event → session_of event ≡ s → is_write event ≡ false → ((v : View) (u : ℕ) → (call v u event).view ≡ v)
       → ((rs : Registers) → lock_of rs event ≡ None) → Goes m c event
@@ -79,6 +80,7 @@ module _ (m : Memory) (c : Core) (valid : IsValid c) (runs : RunsLocked c.g0 c.f
       call_leaves m m c valid is s t event [] valid.behind m.table m.locks (kept c.places v t.number undo) e called_it one (quiet_records c event called_it silent) (nothing_left m)
       (own_is m c valid runs is s t e) (λ r other. refl) refl (reached_still m m c valid is) refl (λ r u other also. refl) (ap (λ (w : View). kept c.places w t.number undo) (sym (sees v t.number)))
       (no_lock m m c valid is s t event e (free v.registers))
+
   -- What a comparison finds that isn't refused.
   record AreCompared (h h2 : ℕ) : Type 0 where
     t : Transaction
@@ -89,6 +91,7 @@ module _ (m : Memory) (c : Core) (valid : IsValid c) (runs : RunsLocked c.g0 c.f
     there : held_place (own m s) h2 ≡ Ok q
     one : IsHeld c.places (view c.g0 b t) t.number h p
     other : IsHeld c.places (view c.g0 b t) t.number h2 q
+
   -- a comparison that is not refused finds these
   are_compared : (h h2 : ℕ) → same_refusal m s h h2 ≡ None → AreCompared h h2
   are_compared h h2 e =
@@ -105,6 +108,7 @@ module _ (m : Memory) (c : Core) (valid : IsValid c) (runs : RunsLocked c.g0 c.f
         one = is_held m c valid runs is s t.0 t.1 h first.0 first.1;
         other = is_held m c valid runs is s t.0 t.1 h2 second.0 second.1;
       }
+
   -- it is answered as the core answers it
   compared : (h h2 : ℕ) → AreCompared h h2 → call_reply c.g0 b (b.active s) (Same s h h2) ≡ same_reply m s h h2
   compared h h2 both =
@@ -120,6 +124,7 @@ module _ (m : Memory) (c : Core) (valid : IsValid c) (runs : RunsLocked c.g0 c.f
       ∙ ap (λ (q : Place). same_reply_of (Ok both.p) (Ok q)) other.place
       ∙ ap (λ r. same_reply_of r (Ok both.q)) (sym both.here)
       ∙ ap (same_reply_of (held_place (own m s) h)) (sym both.there)
+
   -- a comparison is answered as the core answers it, and changes nothing
   pub same_does : (h h2 : ℕ) → core_refusal c (Same s h h2) ≡ same_refusal m s h h2 → (reply : Reply) → reply ≡ reply_of (same_refusal m s h h2) (same_reply m s h h2)
       → Does c (Same s h h2) reply m
@@ -127,6 +132,7 @@ module _ (m : Memory) (c : Core) (valid : IsValid c) (runs : RunsLocked c.g0 c.f
       does c (Same s h h2) (same_refusal m s h h2) (same_reply m s h h2) reply m same replied (λ e. compared h h2 (are_compared h h2 e))
       (λ e done_it. let both = are_compared h h2 e in tells (Same s h h2) both.t both.active tt refl refl (λ v t. refl) (λ rs. refl))
       (λ why e. is)
+
   -- a length is answered as the core answers it, and changes nothing
   pub len_does : (h : ℕ) → core_refusal c (Len s h) ≡ len_refusal m s h → (reply : Reply) → reply ≡ reply_of (len_refusal m s h) (len_reply m s h) → Does c (Len s h) reply m
   len_does h same reply replied =

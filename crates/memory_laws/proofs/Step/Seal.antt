@@ -59,62 +59,80 @@ module _ (c : Core) (valid : IsValid c) (runs : RunsLocked c.g0 c.first c.histor
   -- what the history says
   abbrev a : Account
   a = account c.history
+
   -- the state behind all records
   abbrev behind : State
   behind = valid.behind
+
   -- the order of the transactions
   abbrev order : IsOrdered c.g0 (numbers_begun c.history) a (heard_in c.history)
   order = two_phase_ordered c.g0 c.history runs.plain runs.two_phase
+
   -- what the transaction sees
   abbrev v : View
   v = view c.g0 a t
+
   -- all words
   abbrev now : List ℕ
   now = all_words c
+
   -- its writes that may be taken back
   abbrev undo : List UndoEntry
   undo = undo_of behind t.number
+
   -- its area
   abbrev area : AreaState
   area = area_in c.places v t.number
+
   -- the state behind the seal
   abbrev last : State
   last = seal.last a c valid order s t e
+
   -- the objects that stand in the space then
   abbrev later : Places
   later = c.places ++ seal.placed a c valid order s t e
+
   -- what the history says then
   abbrev sealed : Account
   sealed = account_after a (record { event = Seal s; reply = Sealed (length a.sealed + 1) })
+
   -- all words are those that the transaction sees in the fields that it wrote
   agree : AgreeIn (seal.own_words a c valid order s t e) now (written_fields undo)
   agree =
       let Away : Field → Type 0 = λ f. IsAway behind t.number (field_at f.0 f.1) in
       AllByRecursion-map Away (λ f. _) (written_fields undo) (λ f away. sym (others_at behind t.number now (field_at f.0 f.1) away))
       (fields_written (IsAway behind t.number) undo (own_away a c valid order s t e))
+
   -- so the promotion takes as many words
   asked_same : promoted_need area now undo ≡ seal.asked a c valid order s t e
   asked_same = need_same area (seal.own_words a c valid order s t e) now undo agree
+
   -- the core's records are those of the seal
   appends : event_records c (Seal s) ≡ seal_of (ground c) t.number v
   appends = ap (λ (o : Option Transaction). call_records (ground c) c.g0 a o (Seal s)) e
+
   -- all records lead to the state behind it
   seal_reaches : state_behind c (all_records c ++ event_records c (Seal s)) ≡ Some last
   seal_reaches = ap (λ (rs : List Record). state_behind c (all_records c ++ rs)) (appends ∙ seal.seal_is a c valid order s t e) ∙ seal.reached a c valid order s t e space
+
   -- and so are its places
   places_then : event_places c (Seal s) ≡ seal.placed a c valid order s t e
   places_then = ap (sealed_places (ground c) c.g0 a) e ∙ seal.places_are a c valid order s t e
+
   -- the graph that the seal leaves
   left_then : serial c.g0 sealed.sealed ≡ v.graph
   left_then = ap (λ (o : Option Transaction). serial c.g0 (a.sealed ++ option_to_list o)) e ∙ serial-append c.g0 a.sealed t
+
   -- What another session's transaction sees then.
   module _ (r : ℕ) (u : Transaction) (apart : s ≢ r) (also : a.active r ≡ Some u) where
     -- it has another number
     differ : t.number ≢ u.number
     differ = (order.beside s r t u apart e also).differ
+
     -- it runs alike on what the seal leaves
     alike : RunAlike t.number (IsExclusive (serial c.g0 a.sealed) t) (fresh_view (serial c.g0 a.sealed)) (fresh_view v.graph) u.number u.calls
     alike = runs_alike (serial c.g0 a.sealed) t u order.closed (λ same. differ (sym same)) (order.unused s t e) (order.beside s r t u apart e also).apart
+
     -- and sees there what it saw
     goes_on : GoesOn c.places later (view c.g0 a u) (run v.graph u) u.number
     goes_on =
@@ -130,18 +148,21 @@ module _ (c : Core) (valid : IsValid c) (runs : RunsLocked c.g0 c.first c.histor
           own = λ k first few. sym (alike.views.objects (made_by u.number k) (λ same. differ (sym same))
               (λ holds. locks_of-other (serial c.g0 a.sealed) t u.number (made_by u.number k) Exclusive order.closed differ (order.unused r u also) holds refl));
         }
+
     -- all that is kept of it stays
     kept_beside : kept later (view c.g0 sealed u) u.number (undo_of last u.number) ≡ kept c.places (view c.g0 a u) u.number (undo_of behind u.number)
     kept_beside =
         ap (λ (g : Graph). kept later (run g u) u.number (undo_of last u.number)) left_then
         ∙ ap (kept later (run v.graph u) u.number) (undo_other behind t.number u.number [] 0 differ)
         ∙ kept_on c.places later (view c.g0 a u) (run v.graph u) u.number goes_on (undo_of behind u.number)
+
   -- what does not stand in the space then did not before
   none_before : (id : Id) → address_of later id ≡ None → address_of c.places id ≡ None
   none_before id none = elim (none_or_some (address_of c.places id)) [
     | inl before ↦ before
     | inr old ↦ let clash = sym none ∙ address_of-append_left c.places (seal.placed a c valid order s t e) id old.0 old.1 in cc
   ]
+
   -- only objects that the transaction made come to stand in the space
   others_stand : (id : Id) → id.t ≢ t.number → address_of later id ≡ address_of c.places id
   others_stand id other =
@@ -153,10 +174,12 @@ module _ (c : Core) (valid : IsValid c) (runs : RunsLocked c.g0 c.first c.histor
           | inr to ↦ absurd (other to.own.maker)
         ]
       ]
+
   -- what is kept of each other session's transaction stays
   kept_then : (r : ℕ) → r ≢ s → (o : Option Transaction) → a.active r ≡ o → kept_of (ground_in c c.places behind) c.g0 a o ≡ kept_of (ground_in c later last) c.g0 sealed o
   kept_then r other None also = refl
   kept_then r other (Some u) also = ap (λ (y : TransactionState). Some y) (sym (kept_beside r u (λ same. other (sym same)) also))
+
   module _ (m n : Memory) (is : IsMemory m a c) where
     -- the records in memory are the core's
     sealing_same : (x : TransactionState) → x ≡ kept c.places v t.number undo → sealing_records m x ≡ event_records c (Seal s)
@@ -165,12 +188,14 @@ module _ (c : Core) (valid : IsValid c) (runs : RunsLocked c.g0 c.first c.histor
         ∙ ap (λ (spaces : SpacesState). seal_records area now undo (spaces.base + spaces.used)) (spaces_are m n c valid is)
         ∙ sym (ap (λ (o : Option State). seal_of (record { places = c.places; words = now; state = o }) t.number v) valid.told.reached)
         ∙ sym appends
+
     -- and what it takes of the space
     taking_same : (x : TransactionState) → x ≡ kept c.places v t.number undo → with_taken m.spaces (sealing_need m x) ≡ spaces_of last
     taking_same x same =
         ap (λ (y : TransactionState). with_taken m.spaces (sealing_need m y)) same ∙ ap (λ (ws : List ℕ). with_taken m.spaces (promoted_need area ws undo)) is.words
         ∙ ap (λ (spaces : SpacesState). with_taken spaces (promoted_need area now undo)) (spaces_are m n c valid is)
         ∙ ap (with_taken (spaces_of behind)) asked_same
+
     -- a seal leaves memory as the core is then
     sealed_goes : (seals : Seals m n s) → seals.transaction ≡ kept c.places v t.number undo → Goes n c (Seal s)
     sealed_goes seals same =

@@ -66,16 +66,20 @@ module _ (m n : Memory) (c : Core) (valid : IsValid c) (runs : RunsLocked c.g0 c
   -- what the history says
   abbrev a : Account
   a = account c.history
+
   -- the state behind all records
   abbrev behind : State
   behind = valid.behind
+
   -- all words
   abbrev now : List ℕ
   now = all_words c
+
   -- a write that is not refused is of a field
   written_field : (o : Option TransactionState) (p : Place) (i : ℕ) → write_refusal_of m o p i ≡ None → field_refusal (length (fields_held m o (Ok p))) i ≡ None
   written_field None p i e = cc e
   written_field (Some x) p i e = (both_none (field_refusal (length (fields_at m.words x.area p)) i) (first_of_two (lock_refusal m.locks x locked.Exclusive p) (write_room m p)) e).0
+
   -- A write of a value into field i of the object that handle h holds, by the session's transaction: no other transaction holds that object.
   record IsWrite (event : Event) (h i : ℕ) (x : Val) : Type 0 where
     t : Transaction
@@ -91,27 +95,34 @@ module _ (m n : Memory) (c : Core) (valid : IsValid c) (runs : RunsLocked c.g0 c
     free : IsFree c.g0 a t.number (Some (one.id, Exclusive))
     writes : Writes m n s p i (bits_of (place_of c.places (view c.g0 a t).graph) x)
     needs : lock_of (view c.g0 a t).registers event ≡ Some (one.id, Exclusive)
+
   module _ (event : Event) (h i : ℕ) (x : Val) (write : IsWrite event h i x) where
     -- the transaction that writes
     abbrev t : Transaction
     t = write.t
+
     -- what it sees
     abbrev v : View
     v = view c.g0 a t
+
     -- its writes that may be taken back
     abbrev undo : List UndoEntry
     undo = undo_of behind t.number
+
     -- the object that it writes into
     abbrev id : Id
     id = write.one.id
+
     -- the word that it writes
     abbrev w : ℕ
     w = bits_of (place_of c.places v.graph) x
+
     -- what the locks are then, where the object stands there
     locks_at : (q : Place) → place_in c.places v.graph id ≡ q → AreHeld (with_lock m.locks (kept c.places v t.number undo) locked.Exclusive q) c.places c.g0 (called a s event)
     locks_at q stands =
         subst (λ (r : Place). AreHeld (with_lock m.locks (kept c.places v t.number undo) locked.Exclusive r) c.places c.g0 (called a s event)) stands
         (held_used m.locks c.places c.g0 a s t event id locked.Exclusive undo write.active write.needs is.locks)
+
     -- and what the write leaves
     left_at : (q : Place) → place_in c.places v.graph id ≡ q
         → LeavesOwn m n s (memory.write_records now (kept c.places v t.number undo) q i w) (with_written now (kept c.places v t.number undo) q i w) (with_lock m.locks (kept c.places v t.number undo) locked.Exclusive q)
@@ -121,9 +132,11 @@ module _ (m n : Memory) (c : Core) (valid : IsValid c) (runs : RunsLocked c.g0 c
         let L : List ℕ → TransactionState → Place → Type 0 = λ ws z r. LeavesOwn m n s (memory.write_records ws z r i w) (with_written ws z r i w) (with_lock m.locks z locked.Exclusive r) in
         subst (λ (r : Place). L now (kept c.places v t.number undo) r) (sym write.one.place ∙ stands)
         (subst (λ (z : TransactionState). L now z write.p) same (subst (λ (ws : List ℕ). L ws y write.p) is.words write.writes.left))
+
     -- it sees the value in the field then
     sees_field : (call v t.number event).view ≡ record v { graph = with_field v.graph id i x }
     sees_field = write.sees ∙ ap (λ (o : Option Id). record v { graph = put_value v.graph o i x }) write.one.holds
+
     -- a write into an object that the transaction made leaves memory as the core is then
     own_wrote : IsOwn t.number v.made id → Goes n c event
     own_wrote own =
@@ -133,12 +146,15 @@ module _ (m n : Memory) (c : Core) (valid : IsValid c) (runs : RunsLocked c.g0 c
         quiet_goes m n c valid is s t event m.locks (with_written now (kept c.places v t.number undo) q i w) write.active write.called_it write.session
         (write.appends ∙ own_records c.places t.number v.made v h i x id write.one.holds has own) (left_at q there)
         (sym (kept_own_write c.places v t.number undo id i x own write.within now) ∙ ap (λ (u : View). kept c.places u t.number undo) (sym sees_field)) (locks_at q there)
+
     -- what the write of a field replaces
     abbrev entry : ℕ → UndoEntry
     entry at = entry_of c.places v.graph id at i
+
     -- the state behind it
     abbrev later : ℕ → State
     later at = written behind t.number (entry at)
+
     -- it is one that the records can tell
     write_at : (at : ℕ) → address_of c.places id ≡ Some at
         → IsWriteAt c.pages c.lowest c.born c.places (serial c.g0 a.sealed) v.graph (c.before + length a.sealed) t.number v.made (all_records c) now behind id at i x
@@ -156,11 +172,13 @@ module _ (m n : Memory) (c : Core) (valid : IsValid c) (runs : RunsLocked c.g0 c
           seen = write.seen;
           was = word_now a c valid order s t write.active id at i place write.within (free_shared c.g0 a t.number id write.free);
         }
+
     -- it is no write of another session's transaction
     leaves_others : (at : ℕ) → LeavesOthers m n c valid is s (later at)
     leaves_others at r u other also =
         let beside = (two_phase_ordered c.g0 c.history runs.plain runs.two_phase).beside s r t u (λ same. other (sym same)) write.active also in
         undo_other behind t.number u.number (entry at ∷ undo) 0 beside.differ
+
     -- so does one into an object that stands in the space
     stable_wrote : (at : ℕ) → address_of c.places id ≡ Some at → Goes n c event
     stable_wrote at place =
@@ -175,12 +193,14 @@ module _ (m n : Memory) (c : Core) (valid : IsValid c) (runs : RunsLocked c.g0 c
         (write.appends ∙ stable_records c.places t.number v h i x id at write.one.holds place) left told.reached refl (leaves_others at)
         (ap (kept c.places v t.number) (sym again) ∙ sym (kept_write c.places v t.number (undo_of (later at) t.number) id at i x one.has place)
         ∙ ap (λ (u : View). kept c.places u t.number (undo_of (later at) t.number)) (sym sees_field)) (locks_at (Stable at) there)
+
     -- so does each
     wrote : Goes n c event
     wrote = elim (write.one.at_hand) [
       | inl there ↦ let place = some_address (address_of c.places id) there in stable_wrote place.0 place.1
       | inr own ↦ own_wrote own
     ]
+
   -- a write into a field of the object that a handle holds
   wrote_held : (t : Transaction) (event : Event) (h i : ℕ) (x : Val) (k : ℕ) → a.active s ≡ Some t → IsCall event → session_of event ≡ s → core_refusal c event ≡ None
       → (call (view c.g0 a t) t.number event).view ≡ record (view c.g0 a t) { graph = put_value (view c.g0 a t).graph (held (view c.g0 a t).registers h) i x }
@@ -206,6 +226,7 @@ module _ (m n : Memory) (c : Core) (valid : IsValid c) (runs : RunsLocked c.g0 c
         writes = subst (Writes m n s p i) word held_it.writes;
         needs = needs ∙ ap (option_map (in_mode Exclusive)) one.holds;
       })
+
   -- a put is answered as the core answers it, and the number is in the field then
   pub put_does : (h i v : ℕ) → core_refusal c (Put s h i v) ≡ put_refusal m s h i v → (result : Result Reply AllocError) → IfOk result (λ reply. reply ≡ reply_of (put_refusal m s h i v) Done)
       → (result ≡ Ok Done → WritesHeld m n s h i (4 * v + 1)) → ((why : Refusal) → result ≡ Ok (Refused why) → IsAsItWas m n) → IfOk result (λ reply. Does c (Put s h i v) reply n)
@@ -221,6 +242,7 @@ module _ (m n : Memory) (c : Core) (valid : IsValid c) (runs : RunsLocked c.g0 c
       wrote_held t.0 event h i (Int v) (4 * v + 1) t.1 tt refl (same ∙ e) refl refl (ap (λ (o : Option Transaction). call_records (ground c) c.g0 a o event) t.1)
       (small_int v granted.0) refl held_it granted.1)
       (λ why e. as_it_was m n c is (stayed why (ap Ok e)))
+
   -- a clear is answered as the core answers it, and the field is null then
   pub clear_does : (h i : ℕ) → core_refusal c (Clear s h i) ≡ clear_refusal m s h i → (result : Result Reply AllocError) → IfOk result (λ reply. reply ≡ reply_of (clear_refusal m s h i) Done)
       → (result ≡ Ok Done → WritesHeld m n s h i 0) → ((why : Refusal) → result ≡ Ok (Refused why) → IsAsItWas m n) → IfOk result (λ reply. Does c (Clear s h i) reply n)
@@ -234,6 +256,7 @@ module _ (m n : Memory) (c : Core) (valid : IsValid c) (runs : RunsLocked c.g0 c
       let granted = at_place (held_place (own m s) h) (λ p. write_refusal m s p i) held_it.place held_it.held e in
       wrote_held t.0 event h i Null 0 t.1 tt refl (same ∙ e) refl refl (ap (λ (o : Option Transaction). call_records (ground c) c.g0 a o event) t.1) tt refl held_it granted)
       (λ why e. as_it_was m n c is (stayed why (ap Ok e)))
+
   -- a link leaves memory as the core is then
   linked : (h i h2 : ℕ) → core_refusal c (Link s h i h2) ≡ None → link_refusal m s h i h2 ≡ None → Links m n s h i h2 → Goes n c (Link s h i h2)
   linked h i h2 goes e links =
@@ -249,6 +272,7 @@ module _ (m n : Memory) (c : Core) (valid : IsValid c) (runs : RunsLocked c.g0 c
       ∙ ap (λ (o : Option Id). bits_of (place_of c.places v.graph) (reference_to o)) (sym other.holds) in
       wrote_held t.0 event h i (reference_to (held v.registers h2)) (bits (place_word links.target)) t.1 tt refl goes refl refl (ap (λ (o : Option Transaction). call_records (ground c) c.g0 a o event) t.1)
       (subst (λ (o : Option Id). IsVisible c.places t.0.number v.made (reference_to o)) (sym other.holds) other.at_hand) word held_it granted
+
   -- a link is answered as the core answers it, and the field refers to what the other handle holds then
   pub link_does : (h i h2 : ℕ) → core_refusal c (Link s h i h2) ≡ link_refusal m s h i h2 → (result : Result Reply AllocError) → IfOk result (λ reply. reply ≡ reply_of (link_refusal m s h i h2) Done)
       → (result ≡ Ok Done → Links m n s h i h2) → ((why : Refusal) → result ≡ Ok (Refused why) → IsAsItWas m n) → IfOk result (λ reply. Does c (Link s h i h2) reply n)
