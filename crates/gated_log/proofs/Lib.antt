@@ -1,5 +1,4 @@
 mod LogBytes
 mod LogForce
-pub mod LogLaws
-mod LogPieces
 mod LogReading
+mod Reader

@@ -1,5 +1,6 @@
 pub mod Log
 pub mod LogCause
-pub mod LogPieces
+pub mod LogLaws
 pub mod LogRoom
 pub mod LogState
+pub mod Reader

@@ -2,7 +2,7 @@
 use Rattle.std.proofs.Common.{◌≡◌, ℕ, ◌+◌, ◌<◌, ◌≤◌, List, [], ◌∷◌, ◌++◌, length, take, drop, get_or, refl, sym, ap, ◌∙◌, subst, arith, append_assoc, length-append, vec_len}
 use Rattle.std.proofs.lemmas.Bool.Decides.{nat_tests}
 use Rattle.std.proofs.lemmas.List.{append-nil, take_more, drop_more}
-use Rattle.gated_log.specs.declared.Log.{Log}
+use Rattle.gated_log.specs.declared.log.Log.{Log}
 use Rattle.gated_log.specs.LogRoom.{used_bytes, need_bytes}
 use Rattle.gated_log.specs.LogState.{log_buffer, buffer_size, log_memory, log_room, log_tail, log_count, log_used, log_used_with, log_need, HasSpare, IsPlaced, Keeps}
 use Rattle.log_records.specs.declared.Record.{Record}

@@ -1,7 +1,7 @@
 -- A flush is a step of the core that an engine is.
 use Rattle.std.proofs.Common.{◌≡◌, ℕ, ◌+◌, ◌*◌, ◌<◌, ◌≤◌, Bool, true, false, cond, List, Option, Ok, refl, sym, ap, ◌∙◌, subst, arith}
 use Rattle.disk_model.specs.declared.disk.Disk.{Ghosts}
-use Rattle.gated_log.specs.declared.Log.{Log}
+use Rattle.gated_log.specs.declared.log.Log.{Log}
 use Rattle.gated_log.specs.LogState.{IsSameLog}
 use Rattle.graph_model.specs.declared.event.Event.TheVariants.{Flush}
 use Rattle.graph_model.specs.declared.reply.Refusal.{Refusal}

@@ -3,7 +3,7 @@ use Rattle.std.proofs.Common.{lit<, ◌<◌, ◌≡◌, ◌≢◌, ◌⊎◌, in
 use Rattle.std.specs.Prelude.{IsTrue, ◌↔◌}
 use Rattle.disk_model.specs.Disk.{part, Only, SameOutside}
 use Rattle.disk_model.specs.declared.disk.DiskError.{DiskError}
-use Rattle.gated_log.specs.declared.Log.{Log}
+use Rattle.gated_log.specs.declared.log.Log.{Log}
 use Rattle.gated_log.specs.Log.{with_batch, HoldsBatches}
 use Rattle.gated_log.proofs.LogLaws.{buffer_size-Keeps}
 use Rattle.gated_log.specs.LogState.{log_place, log_room, IsBufferEmpty, Keeps, IsSameLog}

@@ -1,7 +1,7 @@
 -- What holds of a log holds once more memory was taken for it.
 use Rattle.std.proofs.Common.{◌≡◌, ℕ, ◌+◌, ◌<◌, ◌≤◌, ◌^◌, List, ◌++◌, length, sym, ap, ◌∙◌, subst, arith}
 use Rattle.std.proofs.lemmas.Bool.Decides.{nat_tests}
-use Rattle.gated_log.specs.declared.Log.{Log}
+use Rattle.gated_log.specs.declared.log.Log.{Log}
 use Rattle.gated_log.specs.LogRoom.{used_bytes}
 use Rattle.gated_log.specs.LogState.{log_room, log_tail, buffer_size, log_count, log_used_with, IsSameLog}
 use Rattle.heap_memory.specs.Leaves.{Adds}

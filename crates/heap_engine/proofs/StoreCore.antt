@@ -7,7 +7,7 @@ use Rattle.disk_model.specs.Disk.{part, Only, SameOutside}
 use Rattle.disk_model.specs.declared.disk.DiskError.{DiskError}
 use Rattle.gate_slot.specs.Passing.{Passes}
 use Rattle.gate_slot.proofs.PassingLaws.{joined, cut_short}
-use Rattle.gated_log.specs.declared.Log.{Log}
+use Rattle.gated_log.specs.declared.log.Log.{Log}
 use Rattle.gated_log.specs.Log.{records_of, HoldsBatches}
 use Rattle.gated_log.proofs.LogLaws.{buffer_size-Keeps}
 use Rattle.gated_log.specs.LogState.{buffer_size, log_place, log_room, log_forced, is_waiting, Keeps, IsSameLog}

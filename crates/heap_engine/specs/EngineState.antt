@@ -1,7 +1,7 @@
 -- An engine, as contracts see it.
 use Rattle.std.specs.Prelude.{List, ℕ, ◌+◌, ◌≤◌, IsFalse, fold}
 use Rattle.std.specs.FinSet as set
-use Rattle.gated_log.specs.declared.Log.{Log}
+use Rattle.gated_log.specs.declared.log.Log.{Log}
 use Rattle.gated_log.specs.LogState.{log_place, log_room}
 use Rattle.graph_model.specs.History.{sessions}
 use Rattle.log_machine.specs.Machine.{taken_back}

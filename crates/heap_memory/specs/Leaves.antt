@@ -1,7 +1,7 @@
 -- What an event of a session leaves in memory.
 use Rattle.std.specs.Prelude.{◌≡◌, ℕ, ◌+◌, List, [], ◌∷◌, ◌++◌, length, Option, Some, Ok, slice_set, slice_index, fold}
 use Rattle.std.specs.FinSet as set
-use Rattle.gated_log.specs.declared.Log.{Log}
+use Rattle.gated_log.specs.declared.log.Log.{Log}
 use Rattle.gated_log.specs.LogState.{IsPlaced, IsSameLog, Keeps, log_count}
 use Rattle.heap_words.specs.declared.Word.{Word}
 use Rattle.heap_words.specs.declared.Word.TheVariants as word

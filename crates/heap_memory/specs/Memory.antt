@@ -1,7 +1,7 @@
 -- What an open heap keeps in memory.
 use Rattle.std.specs.Prelude.{ℕ, ◌==◌, nat_eq, nat_lt, List, [], Bool, false, Option, None, Some, Result, Ok, Err, length, slice_get, sum_by, option_and_then, if◌then◌else◌}
 use Rattle.std.specs.List.{list_any}
-use Rattle.gated_log.specs.declared.Log.{Log}
+use Rattle.gated_log.specs.declared.log.Log.{Log}
 use Rattle.graph_model.specs.History.{sessions}
 use Rattle.graph_model.specs.declared.reply.Refusal.{Refusal}
 use Rattle.graph_model.specs.declared.reply.Refusal.TheVariants.{NotActive, BadHandle}

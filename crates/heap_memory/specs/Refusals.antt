@@ -1,6 +1,6 @@
 -- Why an event of a session is refused, by what is kept in memory.
 use Rattle.std.specs.Prelude.{ℕ, ◌+◌, ◌-◌, ◌==◌, nat_lt, nat_le, List, length, Option, None, Some, Result, Ok, Err, is_some, if◌then◌else◌}
-use Rattle.gated_log.specs.declared.Log.{Log}
+use Rattle.gated_log.specs.declared.log.Log.{Log}
 use Rattle.gated_log.specs.LogState.{log_room, log_used, log_need}
 use Rattle.graph_model.specs.declared.reply.Refusal.{Refusal}
 use Rattle.graph_model.specs.declared.reply.Refusal.TheVariants.{AlreadyActive, NotActive, NumbersSpent, BadHandle, Range, BadField, VolatileFull, Exhausted}

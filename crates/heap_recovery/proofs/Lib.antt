@@ -1,3 +1,3 @@
-pub mod FaultLaws
 pub mod Opening
 pub mod Refusals
+pub mod LogReplay

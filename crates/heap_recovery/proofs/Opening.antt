@@ -1,7 +1,6 @@
 -- What an opening reads of a log, and what it leaves.
-use Rattle.std.proofs.Common.{inl, inr, ◌≡◌, ◌⊎◌, ⊎_elim, ℕ, ◌+◌, ◌<◌, ◌≤◌, cond, List, [], ◌∷◌, ◌++◌, length, length-append, take, drop, take-append-drop, Option, None, Some, Result, Ok, Err, refl, sym, ap, ◌∙◌, subst, arith}
-use Rattle.std.specs.Prelude.{option_and_then, nat_lt, if◌then◌else◌, IsFalse, IfOk, IfErr, IsOk}
-use Rattle.std.proofs.lemmas.Option.{option_and_then_some}
+use Rattle.std.proofs.Common.{inl, inr, ◌≡◌, ◌⊎◌, ⊎_elim, ℕ, ◌+◌, ◌<◌, ◌≤◌, cond, List, [], ◌∷◌, ◌++◌, length, length-append, Option, None, Some, Result, Ok, Err, refl, sym, ap, ◌∙◌, subst, arith}
+use Rattle.std.specs.Prelude.{nat_lt, if◌then◌else◌, IsFalse, IfOk, IfErr, IsOk}
 use Rattle.std.proofs.lemmas.Bool.{lt-ltb}
 use Rattle.std.proofs.lemmas.Bool.Decides.{nat_tests}
 use Rattle.disk_model.specs.declared.disk.DiskError.{DiskError}
@@ -9,26 +8,23 @@ use Rattle.disk_model.specs.Disk.{part, Only, Narrows, SameOutside}
 use Rattle.disk_model.specs.Moments.{LeavesOnly}
 use Rattle.disk_model.proofs.MomentLaws.{joined, weaker}
 use Rattle.gate_slot.specs.Passing.{Passes}
-use Rattle.gated_log.specs.declared.Log.{Log}
+use Rattle.gated_log.specs.declared.log.Log.{Log}
 use Rattle.gated_log.specs.Log.{records_of, with_batch, HoldsBatches, batches_bytes}
-use Rattle.gated_log.proofs.LogLaws.{buffer_size-Keeps}
+use Rattle.gated_log.specs.LogLaws.{buffer_size-Keeps}
 use Rattle.gated_log.specs.LogRoom.{used_bytes}
-use Rattle.gated_log.specs.LogState.{log_place, log_room, log_tail, buffer_size, log_used, log_used_with, log_count, is_waiting, IsBufferEmpty, Keeps}
+use Rattle.gated_log.specs.LogState.{log_place, log_room, log_tail, buffer_size, log_used, log_used_with, log_count, is_waiting, IsBufferEmpty, IsSameLog, Keeps}
 use Rattle.image_plan.specs.declared.plan.Plan.{Plan}
 use Rattle.image_plan.specs.declared.superblock.Super.{Super}
 use Rattle.image_plan.specs.Plan.{log_offset}
 use Rattle.log_records.specs.declared.Record.{Record}
 use Rattle.log_records.specs.Record.{spelling, spellings}
 use Rattle.log_records.proofs.RecordLaws.{some_spelling}
-use Rattle.log_machine.specs.declared.replaying.ReplayError.{ReplayError}
-use Rattle.log_machine.specs.declared.replaying.ReplayError.TheVariants as replaying
-use Rattle.log_machine.specs.Replay.{IsFirstUnshaped}
-use Rattle.log_machine.specs.Machine.{State, Loser, after, after_all, losing, losing_in, words_in, all_taken_back, each_taken_back, rollback, abort_each, reserve}
+use Rattle.log_machine.specs.Machine.{State, Loser, losing, losing_in, all_taken_back, each_taken_back, rollback, abort_each, reserve}
 use Rattle.log_machine.proofs.StateLaws.{commits-start}
 use Rattle.log_machine.proofs.AbortLaws.{rollback_fits}
 use Rattle.page_redo.specs.Pages.{Pages}
-use Rattle.page_redo.specs.Redo.{EachLacks, redo_all, redone}
-use Rattle.page_redo.proofs.RedoLaws.{redo_all-append, EachLacks-redone, length-redone}
+use Rattle.page_redo.specs.Redo.{redo_all, redone}
+use Rattle.page_redo.proofs.RedoLaws.{redo_all-append}
 use Rattle.page_store.specs.declared.store.PageStore.{PageStore}
 use Rattle.page_store.specs.StoreState.{store_plan, store_log, stored_lsn, has_failed, Knows}
 use Rattle.page_store.proofs.StoreLaws.{knows_behind_log}
@@ -45,21 +41,7 @@ use Rattle.heap_recovery.specs.declared.error.RecoverError.{RecoverError}
 use Rattle.heap_recovery.specs.declared.error.RecoverError.TheVariants.{NoMemory, NotHeap, Damaged, Disk}
 use Rattle.heap_recovery.specs.declared.reading.Reading.{Reading}
 use Rattle.heap_recovery.specs.declared.recovery.Recovered.{Recovered}
-use Rattle.heap_recovery.specs.Recovered.{IsRedone, IsRead, IsRecovered, IsFromOutside, ErrorPasses, OpenPasses, replay_error}
-
--- so do records of which all follow one another
-some_front : (s m : State) (rs more : List Record) → after_all s (rs ++ more) ≡ Some m → (n : State) × (after_all s rs ≡ Some n)
-some_front s m [] more e = (s, refl)
-some_front s m (r ∷ rs) more e = option_and_then_some (λ next. after_all next (rs ++ more)) (after s r) m e (λ next is rest.
-    let front = some_front next m rs more rest in
-    (front.0, ap (λ (o : Option State). option_and_then (λ (x : State). after_all x rs) o) is ∙ front.1))
-
-pub shaped_outside : (s m : State) (rs : List Record) (e : ReplayError) → after_all s rs ≡ Some m → ((lsn : ℕ) → e ≡ replaying.Unshaped lsn → IsFirstUnshaped s rs lsn) → IsFromOutside (replay_error e)
-shaped_outside s m rs replaying.NoMemory reached fault = tt
-shaped_outside s m rs (replaying.Unshaped lsn) reached fault =
-    let front = some_front s m (take lsn rs) (drop lsn rs) (ap (λ (l : List Record). after_all s l) (take-append-drop lsn rs) ∙ reached) in
-    let never : None ≡ Some front.0 = sym (fault lsn refl).stuck ∙ front.1 in
-    cc never
+use Rattle.heap_recovery.specs.Recovered.{IsRead, IsRecovered, IsFromOutside, ErrorPasses, OpenPasses}
 
 -- a log in which no record waits is known to be so
 pub none_waits : (log : Log) (batches : List (List Record)) → Keeps log batches [] → IsBufferEmpty log
@@ -110,16 +92,6 @@ error_passes n before now (Disk e) same outside = record {
 no_fault : (words : List ℕ) (base used : ℕ) (fault : Option ℕ) → IsWalked words base used → ((at : ℕ) → fault ≡ Some at → IsWalkFault words base used at) → fault ≡ None
 no_fault words base used None walked faults = refl
 no_fault words base used (Some at) walked faults = absurd (walked_fault words base used at walked (faults at refl))
-
--- the words in memory are those of both spaces
-pub redone_size : (of : Plan) (records : List Record) (stored : Pages) (cache : PageCache) → IsRedone of records stored cache → length (cached cache).words ≡ words_in of.pages
-redone_size of records stored cache is = ap (λ (pages : Pages). length pages.words) is.pages ∙ length-redone stored records ∙ is.size
-
--- each page in memory lacks the next record
-pub next_lacks : (of : Plan) (records : List Record) (stored : Pages) (cache : PageCache) (count : ℕ) → IsRedone of records stored cache → count ≡ length records → EachLacks (count + 1) (cached cache)
-next_lacks of records stored cache count is same =
-    subst (λ (n : ℕ). EachLacks (n + 1) (cached cache)) (sym same)
-    (subst (EachLacks (length records + 1)) (sym is.pages) (EachLacks-redone records stored is.behind))
 
 module _ (s : Super) (batches : List (List Record)) (stored : Pages) (read : Reading) (is : IsRead s batches stored read) where
   -- the records that roll back are those of what was read
@@ -265,6 +237,17 @@ module _ (s : Super) (batches : List (List Record)) (stored : Pages) (read : Rea
   -- and no record waits where nothing is rolled back
   pub nothing_waits : rollback_of s batches ≡ [] → IsBufferEmpty log
   nothing_waits none = none_waits log batches (subst (λ (rs : List Record). Keeps log batches rs) (sym (same_rollback s batches stored read is) ∙ none) keeps)
+
+-- a log that only took memory keeps what it did
+pub keeps_same : (old new : Log) (batches : List (List Record)) (pending : List Record) → IsSameLog old new → Keeps old batches pending → Keeps new batches pending
+keeps_same old new batches pending same keeps = record {
+  tail = same.place.tail ∙ keeps.tail;
+  head = keeps.head;
+  four = keeps.four;
+  items = same.buffer ∙ keeps.items;
+  forced = same.place.forced ∙ keeps.forced;
+  count = same.count ∙ keeps.count;
+}
 
 -- A crash at any moment of an opening leaves the image as it was, or with its log rolled back.
 pub opening_moments : {D : Type 0} (moment : D → ℕ) (left_since : D → ℕ → List ℕ → Type 0) (old mid new : D) (may_leave : List ℕ → Type 0) (now image : List ℕ) (s : Super) (batches : List (List Record)) (stored : Pages) → Holds s batches stored image → (read : Reading)

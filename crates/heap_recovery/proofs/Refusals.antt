@@ -1,24 +1,21 @@
 -- What an opening tells of an image that it refuses, and what it leaves of it.
-use Rattle.std.proofs.Common.{inl, inr, ◌≡◌, ◌≢◌, ◌⊎◌, ⊎_elim, ℕ, ◌+◌, ◌≤◌, List, length, Option, None, Some, Result, Ok, Err, refl, sym, ap, ◌∙◌, subst, arith}
+use Rattle.std.proofs.Common.{inl, inr, ◌≡◌, ◌≢◌, ◌⊎◌, ⊎_elim, ℕ, ◌+◌, ◌≤◌, List, Option, None, Some, Result, Ok, Err, refl, sym, ap, ◌∙◌, subst, arith}
 use Rattle.std.specs.Prelude.{IfOk, IfErr, IsOk, IsErrAnd}
 use Rattle.std.specs.List.{AllByRecursion}
 use Rattle.disk_model.specs.Disk.{part, Only, Narrows, SameOutside}
 use Rattle.disk_model.specs.Moments.{LeavesOnly}
 use Rattle.disk_model.proofs.MomentLaws.{joined, weaker}
 use Rattle.gate_slot.proofs.ImageLaws.{same_part}
-use Rattle.gated_log.specs.declared.Log.{Log}
-use Rattle.gated_log.specs.declared.LogError.{LogError}
-use Rattle.gated_log.specs.declared.LogError.TheVariants as logging
-use Rattle.gated_log.specs.Log.{records_of, with_batch, HoldsBatches, BreaksAt}
+use Rattle.gated_log.specs.declared.log.Log.{Log}
+use Rattle.gated_log.specs.Log.{records_of, with_batch, HoldsBatches}
 use Rattle.gated_log.specs.LogState.{log_place, log_room, log_used, Keeps}
 use Rattle.image_plan.specs.declared.superblock.Super.{Super}
 use Rattle.image_plan.specs.Plan.{log_offset}
 use Rattle.log_records.specs.declared.Record.{Record}
 use Rattle.log_records.specs.Record.{IsRecord}
-use Rattle.log_machine.specs.Machine.{State, start, after_all, all_taken_back, rollback, reserve}
+use Rattle.log_machine.specs.Machine.{State, all_taken_back, rollback, reserve}
 use Rattle.object_layout.specs.Walk.{IsWalked, IsWalkFault}
 use Rattle.page_redo.specs.Pages.{Pages}
-use Rattle.page_cache.specs.CacheState.{IsFirstPast}
 use Rattle.page_cache.proofs.ImageLaws.{stored_behind_log}
 use Rattle.page_cache.specs.CacheState.{cached}
 use Rattle.heap_model.specs.Image.{Holds, IsShaped}
@@ -29,9 +26,9 @@ use Rattle.heap_recovery.specs.declared.error.RecoverError.{RecoverError}
 use Rattle.heap_recovery.specs.declared.error.RecoverError.TheVariants.{NoMemory, NotHeap, Damaged, Disk}
 use Rattle.heap_recovery.specs.declared.reading.Reading.{Reading}
 use Rattle.heap_recovery.specs.declared.recovery.Recovered.{Recovered}
-use Rattle.heap_recovery.specs.Faults.{stored_in, HasSuper, IsNoHeap, HoldsLog, IsReplayed, HasRoom, IsReadable, IsFaultAt, IsToldOf, IsToldOfPages, IsErrorOrOutside, IsLogLeft}
-use Rattle.heap_recovery.proofs.FaultLaws.{one_numbers, one_batches, shaped_log, shaped_whole, told_not_heap, told_damaged, left_fault, rolled_spelled}
-use Rattle.heap_recovery.specs.Recovered.{IsRead, IsRecovered, IsFromOutside, log_error}
+use Rattle.heap_recovery.specs.Faults.{stored_in, HasSuper, IsNoHeap, HoldsLog, IsReadable, IsFaultAt, IsToldOf, IsToldOfLog, IsErrorOrOutside, ComesBeforeWrites, IsLogLeft}
+use Rattle.heap_recovery.specs.FaultLaws.{one_numbers, one_batches, shaped_log, shaped_whole, told_not_heap, told_damaged, left_fault, rolled_spelled}
+use Rattle.heap_recovery.specs.Recovered.{IsRead, IsRecovered, IsFromOutside}
 use Rattle.heap_recovery.proofs.Opening.{committed, only_still, in_log, held_there, outside_log, rolled_held, placed_there, read_shaped}
 
 -- no numbers are those of an image of which an opening tells no damage, if none lets it end so but the outside
@@ -41,36 +38,40 @@ numbers_told NotHeap image never outside = outside
 numbers_told (Damaged at) image never outside = absurd (never at refl)
 numbers_told (Disk e) image never outside = tt
 
+-- What is told of an image that is shaped is nothing of it.
+pub told_outside : (s : Super) (batches : List (List Record)) (stored : Pages) (image : List ℕ) (e : RecoverError) → IsShaped s batches stored image → IsToldOf e image → IsFromOutside e
+told_outside s batches stored image NoMemory shaped told = tt
+told_outside s batches stored image NotHeap shaped told = absurd (told s (shaped_log s batches stored image shaped).super)
+told_outside s batches stored image (Damaged at) shaped told = absurd (shaped_whole s batches stored image at shaped told)
+told_outside s batches stored image (Disk e) shaped told = tt
+
+pub err_outside : {T : Type 0} (s : Super) (batches : List (List Record)) (stored : Pages) (image : List ℕ) (r : Result T RecoverError) → IsShaped s batches stored image → IfErr r (λ e. IsToldOf e image) → IfErr r IsFromOutside
+err_outside s batches stored image (Ok x) shaped told = tt
+err_outside s batches stored image (Err e) shaped told = told_outside s batches stored image e shaped told
+
+-- what was read of it is its own
+pub read_own : (s : Super) (batches : List (List Record)) (stored : Pages) (image : List ℕ) (r : Result Reading RecoverError) → IsShaped s batches stored image
+    → IfOk r (λ read. (bs : List (List Record)) × IsRead read.of bs (stored_in read.of image) read × IsReadable read.of bs read.state image) → IfOk r (IsRead s batches stored)
+read_own s batches stored image (Err e) shaped sound = tt
+read_own s batches stored image (Ok read) shaped (bs, is, readable) =
+    let mine = shaped_log s batches stored image shaped in
+    let there = readable.roomy.replayed.log in
+    let numbers : read.of ≡ s = one_numbers read.of s image there.super mine.super in
+    let P : Super → Type 0 = λ x. HoldsLog x bs image × IsRead x bs (stored_in x image) read in
+    let own = subst P numbers (there, is) in
+    let Q : List (List Record) → Type 0 = λ l. IsRead s l (stored_in s image) read in
+    subst (λ (pages : Pages). IsRead s batches pages read) shaped.held.pages (subst Q (one_batches s bs batches image own.0 mine) own.1)
+
 -- a batch that is told breaks the log
-pub log_told : (s : Super) (image : List ℕ) (at : ℕ) (e : LogError) → HasSuper s image → at ≡ log_offset → ((offset : ℕ) → e ≡ logging.BadBatch offset → BreaksAt (part image at s.log_bytes) offset) → IsToldOf (log_error e) image
-log_told s image at logging.NoMemory has same bad = tt
-log_told s image at (logging.BadBatch offset) has same bad = (s, has, (let P : ℕ → Type 0 = λ n. BreaksAt (part image n s.log_bytes) offset in subst P same (bad offset refl)))
-log_told s image at (logging.Disk e) has same bad = tt
-
--- the log that was opened is the image's
-pub log_held : (s : Super) (image : List ℕ) (at : ℕ) (records : List Record) (batches : List (List Record)) → HasSuper s image → at ≡ log_offset → HoldsBatches (part image at s.log_bytes) batches → records ≡ records_of batches
-    → AllByRecursion IsRecord records → HoldsLog s batches image
-log_held s image at records batches has same holds are good = record {
-  super = has;
-  held = (let P : ℕ → Type 0 = λ n. HoldsBatches (part image n s.log_bytes) batches in subst P same holds);
-  good = subst (λ (rs : List Record). AllByRecursion IsRecord rs) are good;
-}
-
--- where they all follow
-pub replayed : (s : Super) (batches : List (List Record)) (image : List ℕ) (records : List Record) (state : State) → HoldsLog s batches image → records ≡ records_of batches
-    → after_all (start s.pages s.first) records ≡ Some state → IsReplayed s batches state image
-replayed s batches image records state log are reached = record { log = log; reached = ap (λ (rs : List Record). after_all (start s.pages s.first) rs) (sym are) ∙ reached }
-
--- a page that is told is the first ahead of the log, which has room for the rollback
-pub pages_told : (s : Super) (batches : List (List Record)) (state : State) (image : List ℕ) (count : ℕ) (e : RecoverError) → HasRoom s batches state image → count ≡ length (records_of batches) → IsToldOfPages count (stored_in s image) e → IsToldOf e image
-pages_told s batches state image count NoMemory roomy same told = tt
-pages_told s batches state image count NotHeap roomy same told = absurd told
-pages_told s batches state image count (Damaged (Batch offset)) roomy same told = absurd told
-pages_told s batches state image count (Damaged (Rec lsn)) roomy same told = absurd told
-pages_told s batches state image count (Damaged Reserve) roomy same told = absurd told
-pages_told s batches state image count (Damaged (Page page)) roomy same told = (s, batches, state, roomy, subst (λ (n : ℕ). IsFirstPast n page (stored_in s image)) same told)
-pages_told s batches state image count (Damaged (Address address)) roomy same told = absurd told
-pages_told s batches state image count (Disk e) roomy same told = tt
+pub log_told : (s : Super) (image : List ℕ) (e : RecoverError) → HasSuper s image → IsToldOfLog (part image log_offset s.log_bytes) e → IsToldOf e image
+log_told s image NoMemory has told = tt
+log_told s image NotHeap has told = absurd told
+log_told s image (Damaged (Batch offset)) has told = (s, has, told)
+log_told s image (Damaged (Rec lsn)) has told = absurd told
+log_told s image (Damaged Reserve) has told = absurd told
+log_told s image (Damaged (Page page)) has told = absurd told
+log_told s image (Damaged (Address address)) has told = absurd told
+log_told s image (Disk e) has told = tt
 
 -- What is opened is a shaped log with its pages, and the image's.
 abbrev pub IsFoundOn : List ℕ → Recovered → Type 0
@@ -99,6 +100,10 @@ module _ (r : Result Recovered RecoverError) (fault : Option ℕ) (damaged : (at
   -- an error tells that fault
   pub finish_told : (image : List ℕ) → ((at : ℕ) → fault ≡ Some at → IsFaultAt (Address at) image) → IfErr r (λ e. IsToldOf e image)
   finish_told image told = ended fault (λ e. IsToldOf e image) refl told
+
+  -- and does not come before the writes
+  pub finish_late : (P : Type 0) → IfErr r (λ e. ComesBeforeWrites e → P)
+  finish_late P = ended fault (λ e. ComesBeforeWrites e → P) refl (λ at is early. absurd early)
 
 module _ (s : Super) (batches : List (List Record)) (image : List ℕ) (read : Reading) (is : IsRead s batches (stored_in s image) read) (readable : IsReadable s batches read.state image) where
   -- a fault of the walk is the image's

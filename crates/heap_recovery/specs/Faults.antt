@@ -77,10 +77,10 @@ IsToldOf NotHeap image = IsNoHeap image
 IsToldOf (Damaged at) image = IsFaultAt at image
 IsToldOf (Disk e) image = Unit {0}
 
--- what an error tells of pages that were stored beside so many records: which is the first that is ahead of them
-abbrev pub IsToldOfPages : ℕ → Pages → RecoverError → Type 0
-IsToldOfPages count stored (Damaged (Page page)) = IsFirstPast count page stored
-IsToldOfPages count stored e = IsFromOutside e
+-- what an error tells of a log's bytes: where they break off
+abbrev pub IsToldOfLog : List ℕ → RecoverError → Type 0
+IsToldOfLog log (Damaged (Batch offset)) = BreaksAt log offset
+IsToldOfLog log e = IsFromOutside e
 
 -- the error is this one, or tells nothing of the image
 abbrev pub IsErrorOrOutside : RecoverError → RecoverError → Type 0

@@ -1,4 +1,6 @@
 pub mod At
 pub mod Causes
+pub mod FaultLaws
 pub mod Faults
 pub mod Recovered
+pub mod Replayed

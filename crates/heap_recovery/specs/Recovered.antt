@@ -2,8 +2,8 @@
 use Rattle.std.specs.Prelude.{◌≡◌, ℕ, ◌+◌, ◌<◌, List, [], length, Result, Ok, Err, Some, IsFalse}
 use Rattle.std.specs.List.{AllByRecursion}
 use Rattle.gate_slot.specs.Passing.{Passes}
-use Rattle.gated_log.specs.declared.LogError.{LogError}
-use Rattle.gated_log.specs.declared.LogError.TheVariants as logging
+use Rattle.gated_log.specs.declared.reading.LogError.{LogError}
+use Rattle.gated_log.specs.declared.reading.LogError.TheVariants as logging
 use Rattle.gated_log.specs.Log.{records_of}
 use Rattle.gated_log.specs.LogState.{Keeps, log_place, log_room}
 use Rattle.image_plan.specs.declared.plan.Plan.{Plan}
@@ -12,8 +12,6 @@ use Rattle.image_plan.specs.Plan.{log_offset}
 use Rattle.image_plan.specs.Super.{IsSuper}
 use Rattle.log_records.specs.declared.Record.{Record}
 use Rattle.log_records.specs.Record.{IsRecord}
-use Rattle.log_machine.specs.declared.replaying.ReplayError.{ReplayError}
-use Rattle.log_machine.specs.declared.replaying.ReplayError.TheVariants as replaying
 use Rattle.log_machine.specs.Machine.{words_in, commits}
 use Rattle.page_redo.specs.Pages.{Pages, pages_in, lsn_of}
 use Rattle.page_redo.specs.Redo.{EachLacks, redone}
@@ -24,7 +22,7 @@ use Rattle.page_cache.specs.declared.cache.PageCache.{PageCache}
 use Rattle.page_cache.specs.CacheState.{cached, cache_store, cache_failed, flushed_lsn}
 use Rattle.heap_model.specs.Opening.{state_of, rolled_back, used_of, next_of}
 use Rattle.heap_recovery.specs.Causes.{error_device}
-use Rattle.heap_recovery.specs.declared.at.At.TheVariants.{Batch, Rec}
+use Rattle.heap_recovery.specs.declared.at.At.TheVariants.{Batch}
 use Rattle.heap_recovery.specs.declared.error.RecoverError.{RecoverError}
 use Rattle.heap_recovery.specs.declared.error.RecoverError.TheVariants.{NoMemory, NotHeap, Damaged, Disk}
 use Rattle.heap_recovery.specs.declared.reading.Reading.{Reading}
@@ -91,11 +89,6 @@ abbrev pub log_error : LogError → RecoverError
 log_error logging.NoMemory = NoMemory
 log_error (logging.BadBatch at) = Damaged (Batch at)
 log_error (logging.Disk e) = Disk e
-
--- what a replay's error is of an opening
-abbrev pub replay_error : ReplayError → RecoverError
-replay_error replaying.NoMemory = NoMemory
-replay_error (replaying.Unshaped lsn) = Damaged (Rec lsn)
 
 -- what an error of the pages' opening is of an opening
 abbrev pub pages_error : OpenError → RecoverError

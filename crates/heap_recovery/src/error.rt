@@ -2,7 +2,6 @@
 use crate::at::At;
 use disk_model::DiskError;
 use gated_log::LogError;
-use log_machine::ReplayError;
 use page_store::OpenError;
 use std::alloc::AllocError;
 
@@ -52,20 +51,6 @@ impl From<LogError> for RecoverError {
             LogError::NoMemory => RecoverError::NoMemory,
             LogError::BadBatch { at } => RecoverError::Damaged { at: At::Batch(at) },
             LogError::Disk(e) => RecoverError::Disk(e),
-        }
-    }
-}
-
-impl From<ReplayError> for RecoverError {
-    ghost use Rattle.std.specs.Prelude.{◌≡◌};
-    ghost use Rattle.heap_recovery.specs.Recovered.{replay_error};
-
-    ghost from_gives = { λ e error. error ≡ replay_error e };
-
-    fn from(e: ReplayError) -> Self {
-        match e {
-            ReplayError::NoMemory => RecoverError::NoMemory,
-            ReplayError::Unshaped { lsn } => RecoverError::Damaged { at: At::Rec(lsn) },
         }
     }
 }

@@ -6,6 +6,7 @@ mod error;
 mod read_image;
 mod reading;
 mod recovery;
+mod replaying;
 
 pub use at::At;
 pub use error::RecoverError;

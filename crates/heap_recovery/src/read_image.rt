@@ -1,5 +1,5 @@
-//! What an image says before anything is rolled back: its superblock, its log, and the pages on which the log's records are redone.
-ghost use Rattle.std.specs.Prelude.{◌≡◌, ◌≢◌, ℕ, ◌+◌, ◌^◌, ◌<◌, ◌≤◌, List, length, take, Err, IsTrue, IfOk, IfErr};
+//! What an image says before anything is rolled back: its superblock, its pages, and its log, whose records are redone on them.
+ghost use Rattle.std.specs.Prelude.{◌≡◌, ◌≢◌, ℕ, ◌+◌, ◌^◌, ◌<◌, ◌≤◌, List, [], take, Ok, Err, IsTrue, IfOk, IfErr};
 ghost use Rattle.disk_model.specs.Disk.{part};
 ghost use Rattle.disk_model.specs.Keeps.{OnlyReads};
 ghost use Rattle.gated_log.specs.Log.{HoldsBatches};
@@ -8,28 +8,25 @@ ghost use Rattle.image_plan.specs.declared.superblock.Super.{Super};
 ghost use Rattle.image_plan.specs.Plan.{log_offset, image_size};
 ghost use Rattle.image_plan.specs.Super.{IsSuper, superblock};
 ghost use Rattle.log_records.specs.declared.Record.{Record};
-ghost use Rattle.log_machine.specs.Effect.{EachWritesBelow};
-ghost use Rattle.log_machine.specs.Machine.{words_in, reserve};
+ghost use Rattle.log_machine.specs.Machine.{reserve};
 ghost use Rattle.page_redo.specs.Pages.{Pages};
 ghost use Rattle.page_redo.specs.Redo.{EachLacks};
 ghost use Rattle.page_store.specs.StoreState.{Knows};
 ghost use Rattle.page_cache.specs.CacheState.{cached, cache_store, cache_size};
-ghost use Rattle.page_cache.specs.Stored.{stored_pages};
-ghost use Rattle.heap_model.specs.Image.{IsShapedLog, IsShaped};
+ghost use Rattle.heap_model.specs.Image.{IsShaped};
 ghost use Rattle.heap_recovery.specs.declared.at.At.{At};
 ghost use Rattle.heap_recovery.specs.declared.error.RecoverError.TheVariants.{Damaged};
 ghost use Rattle.heap_recovery.specs.Causes.{open_device};
-ghost use Rattle.heap_recovery.specs.Faults.{stored_in, HasSuper, IsReadable, IsToldOf, IsToldOfPages};
-ghost use Rattle.heap_recovery.specs.Recovered.{IsRedone, IsRead, IsFromOutside};
+ghost use Rattle.heap_recovery.specs.Faults.{stored_in, HasSuper, IsReadable, IsToldOf, IsToldOfLog};
+ghost use Rattle.heap_recovery.specs.Recovered.{IsRead, IsFromOutside};
+ghost use Rattle.heap_recovery.specs.Replayed.{HasReplayed, HasReplayedLog};
 
-use crate::at::At;
 use crate::error::RecoverError;
 use crate::reading::Reading;
+use crate::replaying::Replay;
 use disk_model::Disk;
-use gated_log::Log;
-use image_plan::{Plan, SUPER_BYTES, Super, read_super};
-use log_machine::replay;
-use log_records::Record;
+use gated_log::{Log, LogReader};
+use image_plan::{SUPER_BYTES, Super, read_super};
 use page_cache::PageCache;
 use std::alloc::Global;
 
@@ -79,7 +76,7 @@ fn read_numbers<D: Disk>(disk: &mut D) -> Result<Super, RecoverError>
     Ok(found)
 }
 
-/// Reads the log of a heap with these numbers, and the pages, on which it redoes the log's records.
+/// Reads the pages of a heap with these numbers, and then its log once, whose records it redoes on them.
 fn read_log<D: Disk>(alloc: Global, disk: &mut D, of: Super) -> Result<Reading, RecoverError>
     requires good { IsSuper of }
     requires fits { image_size of.pages of.log_bytes ≤ D.extent disk.old }
@@ -93,48 +90,35 @@ fn read_log<D: Disk>(alloc: Global, disk: &mut D, of: Super) -> Result<Reading, 
     ensures sound { IsTrue D.tells → HasSuper of (D.bytes disk.old) → IfOk result (λ read. (batches : List (List Record)) × IsRead read.of batches (stored_in read.of (D.bytes disk.old)) read × IsReadable read.of batches read.state (D.bytes disk.old)) }
     ensures refused { IsTrue D.tells → HasSuper of (D.bytes disk.old) → IfErr result (λ e. IsToldOf e (D.bytes disk.old)) }
     ensures known { IsTrue D.tells → IfOk result (λ read. Knows (cache_store read.cache) (D.bytes disk.old)) }
-    ensures found { IsTrue D.tells → (batches : List (List Record)) → HoldsBatches (part (D.bytes disk.old) log_offset of.log_bytes) batches → IsShapedLog of batches (stored_in of (D.bytes disk.old)) → IfOk result (IsRead of batches (stored_in of (D.bytes disk.old))) }
-    ensures shaped { IsTrue D.tells → (batches : List (List Record)) → HoldsBatches (part (D.bytes disk.old) log_offset of.log_bytes) batches → IsShapedLog of batches (stored_in of (D.bytes disk.old)) → IfErr result IsFromOutside }
     ensures disk { OnlyReads D.Disk disk.old disk.new (open_device result) }
 {
-    let (log, records) = Log::open(alloc, disk, of.plan().log_at(), of.log_bytes)?;
-    let state = replay(alloc, of.pages, of.first, &records)?;
-    if log.used() + state.reserve() > log.room() {
-        return Err(RecoverError::Damaged { at: At::Reserve });
-    }
-    let cache = read_pages(alloc, disk, of.plan(), &records)?;
-    Ok(Reading {
-        of,
-        log,
-        cache,
-        state,
-    })
+    let cache = PageCache::open(alloc, disk, of.plan())?;
+    let mut replay = Replay::start(alloc, of, cache);
+    let log = replay_log(alloc, disk, of, &mut replay)?;
+    replay.finish(of, log)
 }
 
-/// Reads the pages of an image with that plan, none of which may be ahead of these records, and redoes on each page those that
-/// it lacks.
-fn read_pages<D: Disk>(
+/// Reads the log of a heap with these numbers to its end, and replays its records. A batch that is bad is told before a record that
+/// can't follow, wherever they stand.
+fn replay_log<D: Disk>(
     alloc: Global,
     disk: &mut D,
-    plan: Plan,
-    records: &[Record],
-) -> Result<PageCache, RecoverError>
-    requires few_pages { plan.pages ≤ 16384 }
-    requires fits { image_size plan.pages plan.log_bytes ≤ D.extent disk.old }
-    requires inside { EachWritesBelow (words_in plan.pages) records.now }
-    requires few { length records.now < 2 ^ 32 }
-
-    ensures read { IfOk result (λ cache. (stored : Pages) × IsRedone plan records.now stored cache) }
-    ensures pages_inside { IfOk result (λ cache. cache_size cache ≤ D.extent disk.new) }
-    ensures own { IsTrue D.tells → IfOk result (IsRedone plan records.now (stored_pages plan.pages plan.log_bytes (D.bytes disk.old))) }
-    ensures known { IsTrue D.tells → IfOk result (λ cache. Knows (cache_store cache) (D.bytes disk.old)) }
-    ensures refused { IsTrue D.tells → IfErr result (IsToldOfPages (length records.now) (stored_pages plan.pages plan.log_bytes (D.bytes disk.old))) }
+    of: Super,
+    replay: &mut Replay,
+) -> Result<Log, RecoverError>
+    requires good { IsSuper of }
+    requires fits { image_size of.pages of.log_bytes ≤ D.extent disk.old }
+    requires none { (stored : Pages) × HasReplayed of stored [] replay.old }
+    ensures found { (stored : Pages) → HasReplayed of stored [] replay.old → IfOk result (λ log. (batches : List (List Record)) × HasReplayedLog of batches stored log replay.new × (IsTrue D.tells → HoldsBatches (part (D.bytes disk.old) log_offset of.log_bytes) batches)) }
+    ensures refused { IsTrue D.tells → IfErr result (IsToldOfLog (part (D.bytes disk.old) log_offset of.log_bytes)) }
+    ensures inside { IfOk result (λ log. log_place log + log_room log ≤ D.extent disk.new) }
+    ensures few { IfOk result (λ log. log_count log < 2 ^ 32) }
+    ensures store { cache_store replay.new.cache ≡ cache_store replay.old.cache }
     ensures disk { OnlyReads D.Disk disk.old disk.new (open_device result) }
 {
-    let mut cache = PageCache::open(alloc, disk, plan)?;
-    if let Some(page) = cache.first_past(records.len() as u64) {
-        return Err(RecoverError::Damaged { at: At::Page(page) });
+    let mut reader = LogReader::open(alloc, of.plan().log_at(), of.log_bytes)?;
+    while let Some(record) = reader.next(alloc, disk)? {
+        replay.take(reader.lsn(), &record)?;
     }
-    cache.redo_all(1, records);
-    Ok(cache)
+    Ok(reader.into_log())
 }

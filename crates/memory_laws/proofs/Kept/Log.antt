@@ -2,7 +2,7 @@
 use Rattle.std.proofs.Common.{◌≡◌, ◌≢◌, ℕ, ◌+◌, ◌<◌, cond, List, [], ◌∷◌, length, refl, ap, ◌∙◌, arith, length-append}
 use Rattle.std.specs.Prelude.{◌↔◌, IsTrue, nat_lt}
 use Rattle.std.proofs.lemmas.Bool.{lt-ltb, ltb-true}
-use Rattle.gated_log.specs.declared.Log.{Log}
+use Rattle.gated_log.specs.declared.log.Log.{Log}
 use Rattle.gated_log.specs.Log.{batches_bytes, pending_batch}
 use Rattle.gated_log.specs.LogRoom.{used_bytes, need_bytes}
 use Rattle.gated_log.proofs.LogLaws.{buffer_size-Keeps}

@@ -1,0 +1,318 @@
+//! A log is read record by record, through a window of fixed size.
+ghost use Rattle.std.specs.Prelude.{◌≡◌, ◌≢◌, ℕ, ◌+◌, ◌-◌, ◌^◌, ◌<◌, ◌≤◌, ◌++◌, Bool, List, [], ◌∷◌, length, take, drop, slice_index, vec_len, IsTrue, IsFalse, ◌↔◌, OnOk, IfOk, IfSome, Some, None, Ok, Err};
+ghost use Rattle.std.specs.Int.{w32, to_le_bytes};
+ghost use Rattle.disk_model.specs.Disk.{part};
+ghost use Rattle.disk_model.specs.Keeps.{OnlyReads};
+ghost use Rattle.log_records.specs.declared.Record.{Record};
+ghost use Rattle.log_records.specs.Record.{IsRecord};
+ghost use Rattle.gated_log.specs.Log.{BreaksAt, HasBatch, HoldsBatches};
+ghost use Rattle.gated_log.specs.declared.reading.LogError.TheVariants.{NoMemory, BadBatch};
+ghost use Rattle.gated_log.specs.LogCause.{log_device_result};
+
+use crate::batch::{BATCH_HEAD, NO_LENGTH, told_length};
+use crate::log::Log;
+use disk_model::{Disk, DiskError};
+use gate_slot::OPEN;
+use log_records::{BASE_HEAD_BYTES, Record, WORD_BYTES};
+use std::alloc::{AllocError, AllocFailed, Global};
+
+/// How many bytes of a log are read at once: no more are read behind what is needed, and memory is taken for no more before
+/// they are read.
+const PIECE: usize = 65_536;
+
+/// The bytes of the longest record, a `Base` of an object with 510 fields.
+const LONGEST_RECORD: usize = BASE_HEAD_BYTES + WORD_BYTES * 512;
+
+/// Why a log could not be read.
+#[derive(Clone, Copy, Debug, PartialEq, Eq)]
+pub enum LogError {
+    /// Memory was refused.
+    NoMemory,
+    /// The batch at that offset in the log doesn't lie within it, or doesn't hold whole records.
+    BadBatch { at: u64 },
+    /// The disk failed or stopped.
+    Disk(DiskError),
+}
+
+impl From<AllocError> for LogError {
+    ghost from_gives = { λ _ e. e ≡ NoMemory };
+
+    fn from(_: AllocError) -> Self {
+        LogError::NoMemory
+    }
+}
+
+impl<T: Drop> From<AllocFailed<T>> for LogError {
+    ghost from_gives = { λ _ e. e ≡ NoMemory };
+
+    fn from(_: AllocFailed<T>) -> Self {
+        LogError::NoMemory
+    }
+}
+
+/// What has come of reading a log: which of its records were given, and a window of the bytes behind them.
+#[derive(Debug, Drop)]
+pub struct LogReader {
+    // Where the log begins on the disk.
+    at: u64,
+    // Its bytes.
+    room: u32,
+    // The offset in it of the next byte.
+    next: u32,
+    // The offset of the gate of the batch that was begun, or of the next gate at a border.
+    tail: u32,
+    // How many bytes of the batch's records are left: none at a border.
+    left: u32,
+    // The LSN of the batch's first record.
+    first: u64,
+    // How many records were given.
+    given: u64,
+    // Bytes that were read, of which the first so many were taken.
+    window: Vec<u8>,
+    taken: usize,
+    // Room for the length of a batch in the log that is opened at the end.
+    buffer: Vec<u8>,
+    ghost small: { room < 2 ^ 32 },
+    ghost inside: { at + room < 2 ^ 64 },
+    ghost held: { taken ≤ vec_len window },
+    ghost read: { next + (vec_len window - taken) ≤ room },
+    ghost gate: { next + left < room },
+    ghost border: { left ≡ 0 → tail ≡ next },
+    // A record takes a byte at least.
+    ghost few: { given ≤ next },
+    ghost head: { vec_len buffer ≡ 4 },
+}
+
+impl LogReader {
+    ghost use Rattle.gated_log.specs.LogState.{log_place, log_room, IsBufferEmpty, Keeps};
+    ghost use Rattle.gated_log.specs.Reader.{reader_place, reader_room, reader_lsn, reader_batch, reader_left, reader_rest, held, held_size, untaken, HasRead, HasGiven, HasGivenAll, IsGiven, IsBegun, IsSameReader};
+
+    /// A reader of the log of `room` bytes from byte `at` of a disk on. It has given nothing.
+    pub fn open(alloc: Global, at: u64, room: u32) -> Result<LogReader, AllocError>
+        requires small { at + room < 2 ^ 64 }
+        requires some { 0 < room }
+        ensures place { IfOk result (λ reader. reader_place reader ≡ at) }
+        ensures same_room { IfOk result (λ reader. reader_room reader ≡ room) }
+        ensures none { (tells : Bool) (log : List ℕ) → IfOk result (λ reader. HasRead tells log reader [] []) }
+        ensures given { (tells : Bool) (log : List ℕ) → IfOk result (λ reader. HasGiven tells log reader []) }
+    {
+        Ok(LogReader {
+            at,
+            room,
+            next: 0,
+            tail: 0,
+            left: 0,
+            first: 1,
+            given: 0,
+            window: Vec::new(alloc),
+            taken: 0,
+            buffer: Vec::from_array(alloc, NO_LENGTH)?,
+        })
+    }
+
+    /// How many records were given: the LSN of the last one.
+    pub fn lsn(&self) -> u64
+        ensures { result ≡ reader_lsn self.now }
+    {
+        self.given
+    }
+
+    /// The LSN of the first record of the batch in which the record stands that was given last.
+    pub fn batch(&self) -> u64
+        ensures { result ≡ reader_batch self.now }
+    {
+        self.first
+    }
+
+    /// Whether the record that was given last is the last one of its batch.
+    pub fn at_border(&self) -> bool
+        ensures { IsTrue result ↔ (reader_left self.now ≡ 0) }
+    {
+        self.left == 0
+    }
+
+    /// The next record, or none behind the last batch. After an error the reader is of no use.
+    pub fn next<D: Disk>(&mut self, alloc: Global, disk: &mut D) -> Result<Option<Record>, LogError>
+        requires inside { reader_place self.old + reader_room self.old ≤ D.extent disk.old }
+
+        ensures place { reader_place self.new ≡ reader_place self.old }
+        ensures same_room { reader_room self.new ≡ reader_room self.old }
+        ensures good { IfOk result (λ found. IfSome found IsRecord) }
+        ensures lsn { IfOk result (λ found. IfSome found (λ rec. reader_lsn self.new ≡ reader_lsn self.old + 1)) }
+        ensures few { OnOk result (reader_lsn self.new < reader_room self.old) }
+        ensures on { IfOk result (λ found. IfSome found (λ rec. reader_rest self.new < reader_rest self.old)) }
+
+        // The records that are given are those of the log's batches, in order, and at the end all of them.
+        ensures given { (log : List ℕ) (given : List Record) → (IsTrue D.tells → log ≡ part (D.bytes disk.old) (reader_place self.old) (reader_room self.old)) → HasGiven D.tells log self.old given → IfOk result (λ found. IfSome found (λ rec. HasGiven D.tells log self.new (given ++ rec ∷ []))) }
+        ensures all { (log : List ℕ) (given : List Record) → (IsTrue D.tells → log ≡ part (D.bytes disk.old) (reader_place self.old) (reader_room self.old)) → HasGiven D.tells log self.old given → result ≡ Ok None → HasGivenAll D.tells log self.new given }
+        // Each stands in its batch.
+        ensures batch { (log : List ℕ) (batches : List (List Record)) (begun : List Record) → (IsTrue D.tells → log ≡ part (D.bytes disk.old) (reader_place self.old) (reader_room self.old)) → HasRead D.tells log self.old batches begun → IfOk result (λ found. IfSome found (IsGiven D.tells log self.new batches begun)) }
+
+        // A bad batch is told exactly where the batch rule fails.
+        ensures bad { IsTrue D.tells → (log : List ℕ) (given : List Record) → log ≡ part (D.bytes disk.old) (reader_place self.old) (reader_room self.old) → HasGiven D.tells log self.old given → (offset : ℕ) → result ≡ Err (BadBatch offset) → BreaksAt log offset }
+        ensures disk { OnlyReads D.Disk disk.old disk.new (log_device_result result) }
+    {
+        while self.left == 0 {
+            if !self.begin_batch(disk)? {
+                return Ok(None);
+            }
+        }
+        Ok(Some(self.take_record(alloc, disk)?))
+    }
+
+    /// The log that was read, once all its records were given.
+    pub fn into_log(self) -> Log
+        requires { reader_left self ≡ 0 }
+        ensures place { log_place result ≡ reader_place self }
+        ensures same_room { log_room result ≡ reader_room self }
+        ensures empty { IsBufferEmpty result }
+        ensures keeps { (tells : Bool) (log : List ℕ) (batches : List (List Record)) → HasRead tells log self batches [] → Keeps result batches [] }
+    {
+        Log::of(self.at, self.room, self.next, self.given, self.buffer)
+    }
+
+    /// Begins the batch at the next gate, if that is open.
+    fn begin_batch<D: Disk>(&mut self, disk: &mut D) -> Result<bool, LogError>
+        requires inside { reader_place self.old + reader_room self.old ≤ D.extent disk.old }
+        requires border { reader_left self.old ≡ 0 }
+
+        ensures place { reader_place self.new ≡ reader_place self.old }
+        ensures same_room { reader_room self.new ≡ reader_room self.old }
+        ensures lsn { reader_lsn self.new ≡ reader_lsn self.old }
+        ensures on { IfOk result (λ begun. IsTrue begun → reader_rest self.new < reader_rest self.old) }
+        ensures border { IfOk result (λ begun. IsFalse begun → reader_left self.new ≡ 0) }
+        ensures begun { (log : List ℕ) (batches : List (List Record)) → (IsTrue D.tells → log ≡ part (D.bytes disk.old) (reader_place self.old) (reader_room self.old)) → HasRead D.tells log self.old batches [] → IfOk result (λ begun. IsTrue begun → IsBegun D.tells log self.new batches) }
+        ensures ended { (log : List ℕ) (batches : List (List Record)) → (IsTrue D.tells → log ≡ part (D.bytes disk.old) (reader_place self.old) (reader_room self.old)) → HasRead D.tells log self.old batches [] → IfOk result (λ begun. IsFalse begun → HasRead D.tells log self.new batches [] × (IsTrue D.tells → HoldsBatches log batches)) }
+        ensures bad { IsTrue D.tells → (log : List ℕ) (batches : List (List Record)) → log ≡ part (D.bytes disk.old) (reader_place self.old) (reader_room self.old) → HasRead D.tells log self.old batches [] → (offset : ℕ) → result ≡ Err (BadBatch offset) → BreaksAt log offset }
+        ensures disk { OnlyReads D.Disk disk.old disk.new (log_device_result result) }
+    {
+        self.fill(disk, 1)?;
+        if self.window[self.taken] != OPEN {
+            return Ok(false);
+        }
+        let Some(length) = self.next_length(disk)? else {
+            return Err(LogError::BadBatch {
+                at: u64::from(self.tail),
+            });
+        };
+        self.first = self.given + 1;
+        self.pass(BATCH_HEAD, 0, length);
+        Ok(true)
+    }
+
+    /// How many bytes of records the batch at the next gate tells, if these lie in the log with a gate behind them.
+    fn next_length<D: Disk>(&mut self, disk: &mut D) -> Result<Option<u32>, LogError>
+        requires inside { reader_place self.old + reader_room self.old ≤ D.extent disk.old }
+
+        ensures same { IsSameReader self.old self.new }
+        ensures untaken { (log : List ℕ) → (IsTrue D.tells → log ≡ part (D.bytes disk.old) (reader_place self.old) (reader_room self.old)) → IsTrue D.tells → OnOk result (untaken self.new log ≡ untaken self.old log) }
+        ensures length { IfOk result (λ found. IfSome found (λ n. (5 ≤ held_size self.new) × (5 + n < reader_rest self.new) × (take 4 (drop 1 (held self.new)) ≡ to_le_bytes w32 n))) }
+        ensures none { (log : List ℕ) → IsTrue D.tells → log ≡ part (D.bytes disk.old) (reader_place self.old) (reader_room self.old) → result ≡ Ok None → ¬ HasBatch (untaken self.new log) }
+        ensures no_batch { (offset : ℕ) → result ≢ Err (BadBatch offset) }
+        ensures disk { OnlyReads D.Disk disk.old disk.new (log_device_result result) }
+    {
+        let rest = (self.room - self.next) as usize;
+        if rest <= BATCH_HEAD {
+            return Ok(None);
+        }
+        self.fill(disk, BATCH_HEAD)?;
+        match told_length(&self.window[self.taken..]) {
+            Some(length) if BATCH_HEAD + (length as usize) < rest => Ok(Some(length)),
+            _ => Ok(None),
+        }
+    }
+
+    /// The next record of the batch, of which some bytes are left.
+    fn take_record<D: Disk>(&mut self, alloc: Global, disk: &mut D) -> Result<Record, LogError>
+        requires inside { reader_place self.old + reader_room self.old ≤ D.extent disk.old }
+        requires some { 0 < reader_left self.old }
+
+        ensures place { reader_place self.new ≡ reader_place self.old }
+        ensures same_room { reader_room self.new ≡ reader_room self.old }
+        ensures good { IfOk result IsRecord }
+        ensures lsn { OnOk result (reader_lsn self.new ≡ reader_lsn self.old + 1) }
+        ensures on { OnOk result (reader_rest self.new < reader_rest self.old) }
+        ensures given { (log : List ℕ) (batches : List (List Record)) (begun : List Record) → (IsTrue D.tells → log ≡ part (D.bytes disk.old) (reader_place self.old) (reader_room self.old)) → HasRead D.tells log self.old batches begun → IfOk result (IsGiven D.tells log self.new batches begun) }
+        ensures bad { IsTrue D.tells → (log : List ℕ) (batches : List (List Record)) (begun : List Record) → log ≡ part (D.bytes disk.old) (reader_place self.old) (reader_room self.old) → HasRead D.tells log self.old batches begun → (offset : ℕ) → result ≡ Err (BadBatch offset) → BreaksAt log offset }
+        ensures disk { OnlyReads D.Disk disk.old disk.new (log_device_result result) }
+    {
+        let most = LONGEST_RECORD.min(self.left as usize);
+        self.fill(disk, most)?;
+        let bytes = &self.window[self.taken..][..most];
+        let Some((record, size)) = log_records::decode(alloc, bytes)? else {
+            return Err(LogError::BadBatch {
+                at: u64::from(self.tail),
+            });
+        };
+        self.pass(size, 1, self.left - size as u32);
+        Ok(record)
+    }
+
+    /// Takes so many bytes that are in the window and spell so many records, behind which so many bytes of the batch's are left.
+    fn pass(&mut self, size: usize, records: u32, left: u32)
+        requires here { size ≤ held_size self.old }
+        requires some { records ≤ size }
+        requires gate { self.old.next + size + left < self.old.room }
+        ensures at { self.new.at ≡ self.old.at }
+        ensures same_room { self.new.room ≡ self.old.room }
+        ensures next { self.new.next ≡ self.old.next + size }
+        ensures left { self.new.left ≡ left }
+        ensures inside { 0 < left → self.new.tail ≡ self.old.tail }
+        ensures border { left ≡ 0 → self.new.tail ≡ self.new.next }
+        ensures first { self.new.first ≡ self.old.first }
+        ensures given { self.new.given ≡ self.old.given + records }
+        ensures window { self.new.window ≡ self.old.window }
+        ensures taken { self.new.taken ≡ self.old.taken + size }
+    {
+        self.taken += size;
+        self.next += size as u32;
+        self.given += u64::from(records);
+        self.left = left;
+        if left == 0 {
+            self.tail = self.next;
+        }
+    }
+
+    /// Reads on until so many bytes of the log that were not taken are in the window.
+    fn fill<D: Disk>(&mut self, disk: &mut D, wanted: usize) -> Result<(), LogError>
+        requires inside { reader_place self.old + reader_room self.old ≤ D.extent disk.old }
+        requires few { wanted ≤ 65536 }
+        requires rest { wanted ≤ reader_rest self.old }
+
+        ensures enough { OnOk result (wanted ≤ held_size self.new) }
+        ensures same { IsSameReader self.old self.new }
+        ensures untaken { (log : List ℕ) → (IsTrue D.tells → log ≡ part (D.bytes disk.old) (reader_place self.old) (reader_room self.old)) → IsTrue D.tells → OnOk result (untaken self.new log ≡ untaken self.old log) }
+        ensures no_batch { (offset : ℕ) → result ≢ Err (BadBatch offset) }
+        ensures disk { OnlyReads D.Disk disk.old disk.new (log_device_result result) }
+    {
+        if self.window.len() - self.taken >= wanted {
+            return Ok(());
+        }
+        self.window.drain(..self.taken);
+        self.taken = 0;
+        let read = self.next as usize + self.window.len();
+        let size = PIECE.min(self.room as usize - read);
+        read_behind(disk, self.at + read as u64, size, &mut self.window)
+    }
+}
+
+/// Reads the `size` bytes of the disk from byte `at` on behind those in the buffer.
+fn read_behind<D: Disk>(
+    disk: &mut D,
+    at: u64,
+    size: usize,
+    buffer: &mut Vec<u8>,
+) -> Result<(), LogError>
+    requires inside { at + size ≤ D.extent disk.old }
+    requires fits { vec_len buffer.old + size < 2 ^ 64 }
+    ensures bytes { IsTrue D.tells → OnOk result (buffer.new.items ≡ buffer.old.items ++ part (D.bytes disk.old) at size) }
+    ensures len { OnOk result (vec_len buffer.new ≡ vec_len buffer.old + size) }
+    ensures most { vec_len buffer.new ≤ vec_len buffer.old + size }
+    ensures no_batch { (offset : ℕ) → result ≢ Err (BadBatch offset) }
+    ensures disk { OnlyReads D.Disk disk.old disk.new (log_device_result result) }
+{
+    let from = buffer.len();
+    buffer.resize(from + size, 0)?;
+    disk.read(at, &mut buffer[from..]).map_err(LogError::Disk)?;
+    Ok(())
+}

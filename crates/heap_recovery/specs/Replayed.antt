@@ -1,0 +1,50 @@
+-- What the records of a log leave that were replayed on pages as they were read.
+use Rattle.std.specs.Prelude.{◌≡◌, ℕ, ◌<◌, ◌≤◌, List, [], length, None, Some, IsFalse}
+use Rattle.std.specs.List.{AllByRecursion}
+use Rattle.gated_log.specs.declared.log.Log.{Log}
+use Rattle.gated_log.specs.Log.{records_of}
+use Rattle.gated_log.specs.LogState.{Keeps, log_place, log_room}
+use Rattle.image_plan.specs.declared.superblock.Super.{Super}
+use Rattle.image_plan.specs.Plan.{log_offset}
+use Rattle.image_plan.specs.Super.{IsSuper}
+use Rattle.log_records.specs.declared.Record.{Record}
+use Rattle.log_records.specs.Record.{IsRecord}
+use Rattle.log_machine.specs.Machine.{start, after_all, words_in}
+use Rattle.log_machine.specs.Replay.{IsFirstUnshaped}
+use Rattle.log_machine.proofs.ReplayLaws.{Bounds}
+use Rattle.page_redo.specs.Pages.{Pages, pages_in, lsn_of}
+use Rattle.page_redo.specs.Redo.{redone}
+use Rattle.page_store.specs.StoreState.{store_plan}
+use Rattle.page_cache.specs.CacheState.{cached, cache_store, cache_failed, flushed_lsn}
+use Rattle.heap_recovery.specs.declared.replaying.Replay.{Replay}
+use Rattle.heap_recovery.specs.Recovered.{plan_of}
+
+-- All these records follow one another, and were redone.
+pub record AllFollow (s : Super) (stored : Pages) (records : List Record) (replay : Replay) : Type 0 where
+  pub reached : after_all (start s.pages s.first) records ≡ Some replay.state
+  pub pages : cached replay.cache ≡ redone stored records
+
+-- The record of this LSN is the first of them that can't follow.
+pub record OneStuck (s : Super) (records : List Record) (lsn : ℕ) : Type 0 where
+  pub reached : lsn ≤ length records
+  pub first : IsFirstUnshaped (start s.pages s.first) records lsn
+
+-- These records were replayed, of a heap with these numbers, on pages that were stored so.
+pub record HasReplayed (s : Super) (stored : Pages) (records : List Record) (replay : Replay) : Type 0 where
+  pub plan : store_plan (cache_store replay.cache) ≡ plan_of s
+  pub unfailed : IsFalse (cache_failed replay.cache)
+  pub size : length stored.words ≡ words_in s.pages
+  pub lsns_size : length stored.lsns ≡ pages_in s.pages
+  pub flushed : (p : ℕ) → p < pages_in s.pages → flushed_lsn replay.cache p ≡ lsn_of stored p
+  pub bounds : Bounds s.pages (length records) replay.state
+  pub all : replay.unshaped ≡ None → AllFollow s stored records replay
+  pub stuck : (lsn : ℕ) → replay.unshaped ≡ Some lsn → OneStuck s records lsn
+
+-- These are the records of a log that was read to its end.
+pub record HasReplayedLog (s : Super) (batches : List (List Record)) (stored : Pages) (log : Log) (replay : Replay) : Type 0 where
+  pub limits : IsSuper s
+  pub good : AllByRecursion IsRecord (records_of batches)
+  pub keeps : Keeps log batches []
+  pub place : log_place log ≡ log_offset
+  pub room : log_room log ≡ s.log_bytes
+  pub replayed : HasReplayed s stored (records_of batches) replay
