@@ -1,4 +1,6 @@
+pub mod Batches
 mod LogBytes
 mod LogForce
+pub mod LogLaws
 mod LogReading
 mod Reader

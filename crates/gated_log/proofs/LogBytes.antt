@@ -5,7 +5,7 @@ use Rattle.std.proofs.lemmas.Grind.{flat_map-append}
 use Rattle.std.proofs.lemmas.List.{append-nil, take-append-drop, take-take, take_at, get_or_at}
 use Rattle.disk_model.specs.Disk.{overwrite, part}
 use Rattle.disk_model.specs.Disk.{SameOutside}
-use Rattle.gate_slot.specs.Gate.{IsOutside, IsClosed, IsFilling, filled}
+use Rattle.gate_slot.specs.Gate.{IsOutside, IsGateClosed, IsFilling, filled}
 use Rattle.gate_slot.proofs.GateLaws.{length_filled, filled_outside, filled_next}
 use Rattle.gate_slot.proofs.ImageLaws.{length_part, part_index, same_part, overwrite_within, overwrite-append}
 use Rattle.log_records.specs.declared.Record.{Record}
@@ -64,7 +64,7 @@ module _ (at room tail : ℕ) (image : List ℕ) (batches : List (List Record)) 
   abbrev closed_batch : List ℕ
   closed_batch = framed records ++ 0 ∷ []
 
-  pub closed_gate : IsClosed (at + tail) image
+  pub closed_gate : IsGateClosed (at + tail) image
   closed_gate is_open =
       let here : get_or image (at + tail) 0 ≡ holds.gate = sym (part_index image at room tail (omega (arith, fits))) ∙ ap (λ (l : List ℕ). get_or l tail 0) holds.bytes ∙ get_or_at (batches_bytes batches) holds.gate holds.rest 0 tail (sym size) in
       holds.shut (sym here ∙ is_open)

@@ -9,13 +9,13 @@ use Rattle.disk_model.specs.Disk.{part, Only}
 use Rattle.disk_model.specs.Moments.{LeavesOnly}
 use Rattle.disk_model.proofs.MomentLaws.{weaker}
 use Rattle.disk_model.specs.Disk.{SameOutside}
-use Rattle.gate_slot.specs.Gate.{IsClosed, IsClosedInEach, IsFilling, filled}
+use Rattle.gate_slot.specs.Gate.{IsGateClosed, IsClosedInEach, IsFilling, filled}
 use Rattle.log_records.specs.declared.Record.{Record}
 use Rattle.log_records.specs.Record.{spellings}
 use Rattle.gated_log.specs.declared.log.Log.{Log}
 use Rattle.gated_log.specs.Log.{framed, batch, batches_bytes, records_of, with_batch, HoldsBatches}
 use Rattle.gated_log.specs.LogRoom.{used_bytes}
-use Rattle.gated_log.specs.LogLaws.{buffer_size-Keeps}
+use Rattle.gated_log.proofs.LogLaws.{buffer_size-Keeps}
 use Rattle.gated_log.specs.LogState.{Keeps}
 use Rattle.gated_log.proofs.LogBytes.{batches_bytes-push, closed_gate, holds_forced, holds_in_force}
 
@@ -101,7 +101,7 @@ module _ (log : Log) (image buffer : List ℕ) (batches : List (List Record)) (p
     room_left : tail + 1 + length (framed pending ++ 0 ∷ []) ≤ log.room
     room_left = omega (arith, fits, same)
 
-    closed : IsClosed gate image
+    closed : IsGateClosed gate image
     closed = closed_gate log.at log.room tail image batches pending end inside room_left holds
 
     pub forced : HoldsBatches (part (filled gate (gate + 1) buffer image) log.at log.room) (with_batch batches pending)
@@ -116,5 +116,5 @@ module _ (log : Log) (image buffer : List ℕ) (batches : List (List Record)) (p
         → (IsClosedInEach gate may_leave → LeavesOnly moment left_since old new (λ c. (d : List ℕ) × may_leave d × IsFilling gate (gate + 1) buffer image d c))
         → LeavesOnly moment left_since old new (λ c. SameOutside log.at (log.at + log.room) image c × (HoldsBatches (part c log.at log.room) batches ⊎ HoldsBatches (part c log.at log.room) (with_batch batches pending)))
     moments moment left_since may_leave old new only run =
-        weaker moment left_since old new _ _ (run (λ c left. subst (λ (d : List ℕ). IsClosed gate d) (sym (only c left)) closed))
+        weaker moment left_since old new _ _ (run (λ c left. subst (λ (d : List ℕ). IsGateClosed gate d) (sym (only c left)) closed))
         (λ c from. in_force c (subst (λ (d : List ℕ). IsFilling gate (gate + 1) buffer image d c) (only from.0 from.1) from.2))

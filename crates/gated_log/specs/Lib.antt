@@ -1,6 +1,5 @@
 pub mod Log
 pub mod LogCause
-pub mod LogLaws
 pub mod LogRoom
 pub mod LogState
 pub mod Reader

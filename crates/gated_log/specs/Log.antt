@@ -46,12 +46,6 @@ pub record BreaksAt (log : List ℕ) (offset : ℕ) : Type 0 where
   pub is_open : slice_index rest 0 ≡ 1
   pub none : ¬ HasBatch rest
 
--- The batch at the front of the bytes was read: it takes so many of them, and its records were added.
-pub record IsBatchRead (bytes : List ℕ) (size : ℕ) (before after : List Record) : Type 0 where
-  pub read : HasBatch bytes
-  pub takes : size ≡ 5 + length (spellings read.records)
-  pub added : after ≡ before ++ read.records
-
 -- the records that wait, as they will be written behind the closed gate, with the next closed gate behind them
 abbrev pub pending_batch : List Record → List ℕ
 pending_batch [] = []

@@ -1,3 +1,4 @@
+pub mod FaultLaws
+pub mod LogReplay
 pub mod Opening
 pub mod Refusals
-pub mod LogReplay

@@ -1,6 +1,5 @@
 pub mod At
 pub mod Causes
-pub mod FaultLaws
 pub mod Faults
 pub mod Recovered
 pub mod Replayed

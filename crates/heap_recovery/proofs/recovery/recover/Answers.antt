@@ -10,7 +10,7 @@ use Rattle.heap_recovery.proofs.Opening.{error_passes, only_still, held, outside
 use Rattle.page_cache.specs.CacheState.{cached}
 use Rattle.heap_recovery.specs.declared.error.RecoverError.TheVariants.{Disk}
 use Rattle.heap_recovery.specs.Faults.{stored_in, IsNoHeap, IsLogLeft}
-use Rattle.heap_recovery.specs.FaultLaws.{readable_heap, readable_late, told_not_heap, told_damaged}
+use Rattle.heap_recovery.proofs.FaultLaws.{readable_heap, readable_late, told_not_heap, told_damaged}
 use Rattle.heap_recovery.proofs.Refusals.{not_heap_told, damaged_told, finish_told, walk_told, found_on, still_moments, forced_run, left_readable, left_no_heap, left_damaged}
 use Rattle.heap_recovery.proofs.recovery.recover.Goals as goal
 

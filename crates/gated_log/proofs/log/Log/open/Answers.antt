@@ -7,7 +7,7 @@ use Rattle.log_records.specs.declared.Record.{Record}
 use Rattle.log_records.specs.Record.{IsRecord}
 use Rattle.gated_log.specs.declared.reading.LogError.TheVariants.{BadBatch}
 use Rattle.gated_log.specs.Log.{records_of}
-use Rattle.gated_log.specs.LogLaws.{holds_once, holds_or_breaks}
+use Rattle.gated_log.proofs.LogLaws.{holds_once, holds_or_breaks}
 use Rattle.gated_log.specs.LogState.{Keeps}
 use Rattle.gated_log.specs.Reader.{HasGiven}
 use Rattle.gated_log.proofs.LogReading.{good_push}

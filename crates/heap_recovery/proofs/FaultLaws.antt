@@ -6,7 +6,7 @@ use Rattle.std.specs.Prelude.{Option}
 use Rattle.disk_model.specs.Disk.{part}
 use Rattle.gate_slot.proofs.ImageLaws.{length_part}
 use Rattle.gated_log.specs.Log.{BreaksAt, batches_bytes, records_of}
-use Rattle.gated_log.specs.LogLaws.{holds_once, holds_or_breaks, breaks_once}
+use Rattle.gated_log.proofs.LogLaws.{holds_once, holds_or_breaks, breaks_once}
 use Rattle.image_plan.specs.declared.superblock.Super.{Super}
 use Rattle.image_plan.specs.Plan.{log_offset}
 use Rattle.image_plan.proofs.SuperLaws.{one_super}
