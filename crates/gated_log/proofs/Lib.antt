@@ -1,4 +1,3 @@
-pub mod Batches
 mod LogBytes
 mod LogForce
 pub mod LogLaws
