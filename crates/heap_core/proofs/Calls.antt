@@ -1,5 +1,5 @@
 -- How many device calls of a format passed.
-use Rattle.std.proofs.Common.{◌≡◌, ℕ, suc, ◌+◌, ◌<◌, Result, Ok, Err, refl, ◌∙◌, ap, arith}
+use Rattle.std.proofs.Common.{◌≡◌, ℕ, suc, ◌+◌, ◌<◌, Result, Err, ◌∙◌, ap, arith}
 use Rattle.counts.specs.Count.{raised, counted}
 use Rattle.disk_model.specs.Disk.{passed_after}
 use Rattle.disk_model.specs.declared.disk.DiskError.{DiskError}
@@ -13,18 +13,8 @@ pub record SoFar (n left before now : ℕ) : Type 0 where
   pub all : done + left ≡ n
   pub passed : now ≡ counted done before
 
-pub no_call : (n before : ℕ) → SoFar n n before before
-no_call n before = record { done = 0; all = omega arith; passed = refl }
-
 pub one_more : (n left rest before mid now : ℕ) → 1 + rest ≡ left → SoFar n left before mid → now ≡ raised mid → SoFar n rest before now
 one_more n left rest before mid now one so_far is = record { done = suc so_far.done; all = omega (arith, so_far.all); passed = is ∙ ap raised so_far.passed }
-
--- all of them have passed
-pub all_done : (n left before now : ℕ) → left ≡ 0 → SoFar n left before now → Passes n before now (Ok tt)
-all_done n left before now none so_far =
-    let whole : so_far.done ≡ n = omega (arith, so_far.all) in
-    let is = so_far.passed ∙ ap (λ (k : ℕ). counted k before) whole in
-    record { ok = is; some = (n, omega arith, is); stopped = λ never. absurd (cc never) }
 
 -- the next one was not done
 pub ended : (n left before mid now : ℕ) (result : Result (Unit {0}) DiskError) (e : DiskError) → result ≡ Err e → 0 < left → SoFar n left before mid → now ≡ passed_after mid (Err e) → Passes n before now result

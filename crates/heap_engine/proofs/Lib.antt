@@ -2,7 +2,6 @@ pub mod Appending
 pub mod Applied
 pub mod CallsCore
 pub mod DeviceCalls
-pub mod EngineStateLaws
 pub mod EventCore
 pub mod FlushCore
 pub mod FlushDisk

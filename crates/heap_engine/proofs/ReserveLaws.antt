@@ -1,12 +1,11 @@
 -- How what is kept for the ends of the transactions changes with them, and how many are active.
-use Rattle.std.proofs.Common.{◌≡◌, ◌≢◌, ℕ, zero, suc, ◌+◌, ◌*◌, ◌<◌, ◌≤◌, inl, inr, ◌∷◌, length, nat_cmp, Option, None, Some, refl, ap, ◌∙◌, arith}
+use Rattle.std.proofs.Common.{◌≡◌, ◌≢◌, ℕ, zero, suc, ◌+◌, ◌*◌, ◌<◌, ◌≤◌, inl, inr, length, nat_cmp, Option, None, Some, refl, ap, ◌∙◌, arith}
 use Rattle.std.specs.Prelude.{sum_by}
 use Rattle.std.specs.FinMap.{get-empty}
 use Rattle.std.specs.List.{range_with_len}
 use Rattle.std.proofs.lemmas.Bool.{cases_eq}
 use Rattle.std.proofs.lemmas.List.Sums.{sum_by-cons}
 use Rattle.graph_model.specs.History.{sessions, IsSession}
-use Rattle.log_machine.specs.declared.UndoEntry.{UndoEntry}
 use Rattle.log_machine.specs.Machine.{end_bytes}
 use Rattle.txn_table.specs.Table.{TransactionState, TableState, new_table, transaction_of, with_transaction, with_begun, with_ended}
 use Rattle.txn_table.proofs.TableLaws.{with_transaction_same, with_transaction_other, with_begun_same, with_begun_other, with_ended_same, with_ended_other}
@@ -79,15 +78,6 @@ pub reserved_more : (table : TableState) (s : ℕ) (t u : TransactionState) (mor
 reserved_more table s t u more is has long =
     let turned = total_turned kept_for_end table (with_transaction table s u) s is (with_transaction_other table s u) in
     omega (arith, turned, long, ap kept_for_end has, ap kept_for_end (with_transaction_same table s u))
-
--- where it has the same
-pub reserved_same : (table : TableState) (s : ℕ) (t u : TransactionState) → IsSession s → transaction_of table s ≡ Some t → u.undo ≡ t.undo → reserved (with_transaction table s u) ≡ reserved table
-reserved_same table s t u is has same = let long = ap length same in omega (arith, reserved_more table s t u 0 is has (omega arith))
-
--- where it has one more
-pub reserved_written : (table : TableState) (s : ℕ) (t u : TransactionState) (entry : UndoEntry) → IsSession s → transaction_of table s ≡ Some t → u.undo ≡ entry ∷ t.undo
-    → reserved (with_transaction table s u) ≡ reserved table + 19
-reserved_written table s t u entry is has same = let long = ap length same in omega (arith, reserved_more table s t u 1 is has (omega arith))
 
 -- How many are active.
 

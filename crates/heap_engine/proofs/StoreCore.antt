@@ -6,7 +6,7 @@ use Rattle.counts.specs.Count.{counted}
 use Rattle.disk_model.specs.Disk.{part, Only, SameOutside}
 use Rattle.disk_model.specs.declared.disk.DiskError.{DiskError}
 use Rattle.gate_slot.specs.Passing.{Passes}
-use Rattle.gate_slot.proofs.PassingLaws.{joined, cut_short}
+use Rattle.gate_slot.proofs.PassingLaws.{joined}
 use Rattle.gated_log.specs.declared.log.Log.{Log}
 use Rattle.gated_log.specs.Log.{records_of, HoldsBatches}
 use Rattle.gated_log.proofs.LogLaws.{buffer_size-Keeps}
@@ -16,7 +16,7 @@ use Rattle.image_plan.specs.declared.plan.Plan.{Plan}
 use Rattle.image_plan.specs.declared.superblock.Super.{Super}
 use Rattle.image_plan.specs.Plan.{log_offset}
 use Rattle.page_cache.specs.CacheState as cache
-use Rattle.page_cache.specs.CacheState.{cached, cache_store, cache_pages, cache_log, cached_lsn, cached_page, flushed_lsn, cache_failed}
+use Rattle.page_cache.specs.CacheState.{cache_store, cache_pages, cache_log, cached_lsn, cached_page, flushed_lsn}
 use Rattle.page_cache.specs.Stored.{stored_pages}
 use Rattle.page_redo.specs.Pages.{pages_in, page_words}
 use Rattle.page_redo.specs.Prefix.{EachHoldsPrefix}
@@ -235,14 +235,6 @@ module _ (c : Core) (w : Engine) (p : ℕ) (works : IsMemory (memory w) (account
   force_part n is =
       ap (λ (b : Bool). cond b (cond (is_waiting w.log) 4 0) 0) (ahead_is n is)
       ∙ ap (λ (k : ℕ). cond (is_ahead c p) k 0) (hand_calls (buffer_size w.log) c.pending (buffer_size-Keeps w.log c.batches c.pending works.log))
-
-  -- those of the force, where that ended in an error
-  pub force_cut : (n before now : ℕ) (e : DiskError) → n ≡ cached_lsn w.cache p → IsTrue (cache.is_dirty w.cache p)
-      → Passes (if nat_lt (log_forced w.log) n then (if is_waiting w.log then 4 else 0) else 0) before now (Err e) → Passes (flush_calls c p) before now (Err e)
-  force_cut n before now e is dirty passes =
-      subst (λ (k : ℕ). Passes k before now (Err e)) (sym (calls_are dirty))
-      (cut_short first_calls (first_calls + store_calls (c.gates p)) before now e (omega (arith, some_store (c.gates p)))
-      (subst (λ (k : ℕ). Passes k before now (Err e)) (force_part n is) passes))
 
   -- and those of both
   pub flush_passes : (n before mid now : ℕ) (old image : List ℕ) (result : Result (Unit {0}) DiskError) → n ≡ cached_lsn w.cache p → IsTrue (cache.is_dirty w.cache p) → KnowsPages c (memory w) old

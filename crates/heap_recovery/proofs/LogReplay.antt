@@ -22,7 +22,7 @@ use Rattle.page_redo.proofs.RedoLaws.{redo_all-append, lsn-redo_all, last_lsn-re
 use Rattle.page_store.specs.declared.store.PageStore.{PageStore}
 use Rattle.page_store.specs.StoreState.{store_plan, stored_lsn, has_failed}
 use Rattle.page_cache.specs.CacheState.{cached, cache_store, cache_failed, flushed_lsn, IsFirstPast}
-use Rattle.heap_recovery.specs.declared.at.At.TheVariants.{Rec, Reserve, Page}
+use Rattle.heap_recovery.specs.declared.at.At.TheVariants.{Reserve, Page}
 use Rattle.heap_recovery.specs.declared.reading.Reading.{Reading}
 use Rattle.heap_recovery.specs.declared.replaying.Replay.{Replay}
 use Rattle.heap_recovery.specs.Faults.{stored_in, HoldsLog, IsReplayed, HasRoom, IsReadable, IsFaultAt, IsToldOfLog}
@@ -205,9 +205,6 @@ module _ (s : Super) (batches : List (List Record)) (stored : Pages) (log : Log)
   }
 
 module _ (s : Super) (batches : List (List Record)) (image : List ℕ) (log : Log) (replay : Replay) (holds : HoldsLog s batches image) (is : HasReplayedLog s batches (stored_in s image) log replay) where
-  -- the first record that can't follow
-  pub record_told : (lsn : ℕ) → replay.unshaped ≡ Some lsn → IsFaultAt (Rec lsn) image
-  record_told lsn stuck = (s, batches, holds, (is.replayed.stuck lsn stuck).first)
 
   all_replayed : replay.unshaped ≡ None → IsReplayed s batches replay.state image
   all_replayed none = record { log = holds; reached = (is.replayed.all none).reached }

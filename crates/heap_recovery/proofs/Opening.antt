@@ -12,7 +12,7 @@ use Rattle.gated_log.specs.declared.log.Log.{Log}
 use Rattle.gated_log.specs.Log.{records_of, with_batch, HoldsBatches, batches_bytes}
 use Rattle.gated_log.proofs.LogLaws.{buffer_size-Keeps}
 use Rattle.gated_log.specs.LogRoom.{used_bytes}
-use Rattle.gated_log.specs.LogState.{log_place, log_room, log_tail, buffer_size, log_used, log_used_with, log_count, is_waiting, IsBufferEmpty, IsSameLog, Keeps}
+use Rattle.gated_log.specs.LogState.{log_place, log_room, log_tail, buffer_size, log_used, log_used_with, log_count, is_waiting, IsBufferEmpty, Keeps}
 use Rattle.image_plan.specs.declared.plan.Plan.{Plan}
 use Rattle.image_plan.specs.declared.superblock.Super.{Super}
 use Rattle.image_plan.specs.Plan.{log_offset}
@@ -237,17 +237,6 @@ module _ (s : Super) (batches : List (List Record)) (stored : Pages) (read : Rea
   -- and no record waits where nothing is rolled back
   pub nothing_waits : rollback_of s batches ≡ [] → IsBufferEmpty log
   nothing_waits none = none_waits log batches (subst (λ (rs : List Record). Keeps log batches rs) (sym (same_rollback s batches stored read is) ∙ none) keeps)
-
--- a log that only took memory keeps what it did
-pub keeps_same : (old new : Log) (batches : List (List Record)) (pending : List Record) → IsSameLog old new → Keeps old batches pending → Keeps new batches pending
-keeps_same old new batches pending same keeps = record {
-  tail = same.place.tail ∙ keeps.tail;
-  head = keeps.head;
-  four = keeps.four;
-  items = same.buffer ∙ keeps.items;
-  forced = same.place.forced ∙ keeps.forced;
-  count = same.count ∙ keeps.count;
-}
 
 -- A crash at any moment of an opening leaves the image as it was, or with its log rolled back.
 pub opening_moments : {D : Type 0} (moment : D → ℕ) (left_since : D → ℕ → List ℕ → Type 0) (old mid new : D) (may_leave : List ℕ → Type 0) (now image : List ℕ) (s : Super) (batches : List (List Record)) (stored : Pages) → Holds s batches stored image → (read : Reading)

@@ -21,12 +21,12 @@ use Rattle.page_cache.specs.CacheState.{cached}
 use Rattle.heap_model.specs.Image.{Holds, IsShaped}
 use Rattle.heap_model.specs.Opening.{rolled_back}
 use Rattle.heap_recovery.specs.declared.at.At.{At}
-use Rattle.heap_recovery.specs.declared.at.At.TheVariants.{Batch, Rec, Reserve, Page, Address}
+use Rattle.heap_recovery.specs.declared.at.At.TheVariants.{Address}
 use Rattle.heap_recovery.specs.declared.error.RecoverError.{RecoverError}
 use Rattle.heap_recovery.specs.declared.error.RecoverError.TheVariants.{NoMemory, NotHeap, Damaged, Disk}
 use Rattle.heap_recovery.specs.declared.reading.Reading.{Reading}
 use Rattle.heap_recovery.specs.declared.recovery.Recovered.{Recovered}
-use Rattle.heap_recovery.specs.Faults.{stored_in, HasSuper, IsNoHeap, HoldsLog, IsReadable, IsFaultAt, IsToldOf, IsToldOfLog, IsErrorOrOutside, ComesBeforeWrites, IsLogLeft}
+use Rattle.heap_recovery.specs.Faults.{stored_in, HasSuper, IsNoHeap, HoldsLog, IsReadable, IsFaultAt, IsToldOf, IsErrorOrOutside, IsLogLeft}
 use Rattle.heap_recovery.proofs.FaultLaws.{one_numbers, one_batches, shaped_log, shaped_whole, told_not_heap, told_damaged, left_fault, rolled_spelled}
 use Rattle.heap_recovery.specs.Recovered.{IsRead, IsRecovered, IsFromOutside}
 use Rattle.heap_recovery.proofs.Opening.{committed, only_still, in_log, held_there, outside_log, rolled_held, placed_there, read_shaped}
@@ -62,17 +62,6 @@ read_own s batches stored image (Ok read) shaped (bs, is, readable) =
     let Q : List (List Record) → Type 0 = λ l. IsRead s l (stored_in s image) read in
     subst (λ (pages : Pages). IsRead s batches pages read) shaped.held.pages (subst Q (one_batches s bs batches image own.0 mine) own.1)
 
--- a batch that is told breaks the log
-pub log_told : (s : Super) (image : List ℕ) (e : RecoverError) → HasSuper s image → IsToldOfLog (part image log_offset s.log_bytes) e → IsToldOf e image
-log_told s image NoMemory has told = tt
-log_told s image NotHeap has told = absurd told
-log_told s image (Damaged (Batch offset)) has told = (s, has, told)
-log_told s image (Damaged (Rec lsn)) has told = absurd told
-log_told s image (Damaged Reserve) has told = absurd told
-log_told s image (Damaged (Page page)) has told = absurd told
-log_told s image (Damaged (Address address)) has told = absurd told
-log_told s image (Disk e) has told = tt
-
 -- What is opened is a shaped log with its pages, and the image's.
 abbrev pub IsFoundOn : List ℕ → Recovered → Type 0
 IsFoundOn image found = (s : Super) × (batches : List (List Record)) × (stored : Pages) × IsShaped s batches stored image × IsRecovered s batches stored found
@@ -100,10 +89,6 @@ module _ (r : Result Recovered RecoverError) (fault : Option ℕ) (damaged : (at
   -- an error tells that fault
   pub finish_told : (image : List ℕ) → ((at : ℕ) → fault ≡ Some at → IsFaultAt (Address at) image) → IfErr r (λ e. IsToldOf e image)
   finish_told image told = ended fault (λ e. IsToldOf e image) refl told
-
-  -- and does not come before the writes
-  pub finish_late : (P : Type 0) → IfErr r (λ e. ComesBeforeWrites e → P)
-  finish_late P = ended fault (λ e. ComesBeforeWrites e → P) refl (λ at is early. absurd early)
 
 module _ (s : Super) (batches : List (List Record)) (image : List ℕ) (read : Reading) (is : IsRead s batches (stored_in s image) read) (readable : IsReadable s batches read.state image) where
   -- a fault of the walk is the image's
