@@ -1,0 +1,101 @@
+#!/usr/bin/env python3
+"""Measures openings: the memory and the time that a long log takes, and the time that many pages take.
+
+    bench/openings.py [--quick] [RUNS]
+
+A log of 64 MiB and one of 128 MiB are full of commits of one write each, on a heap of one page a space; another heap has 16,384 pages a space, all of
+them stored. The images are written here, byte by byte as docs/FORMATS.md has them, and each is opened by `graph`. Memory is what a run had at most,
+without that of a run whose words are no command. Times are of the processor, the least of RUNS, 5 if it is left out. It needs gcc. With --quick the
+program is that which is compiled with nothing proved; it has checks at each step, and is many times slower where it computes.
+"""
+import os
+import struct
+import subprocess
+import sys
+import tempfile
+
+TOP = os.path.dirname(os.path.dirname(os.path.realpath(__file__)))
+QUICK = sys.argv[1:2] == ["--quick"]
+PROGRAM = os.path.join(TOP, ".build", *["quick"] * QUICK, "heap_shell")
+MIB = 1 << 20
+MANY = 16_384
+
+
+def superblock(pages, log_bytes):
+    return b"\1stbheap" + struct.pack("<IIII", 1, pages, log_bytes, 1) + bytes(40)
+
+
+def commit(t):
+    """The batch of transaction t, which writes the number t into field 0 of the root and is committed."""
+    was = 4 * (t - 1) + 1 if t > 1 else 0
+    return struct.pack("<BIBIIHQQBI", 1, 32, 1, t, 0, 0, was, 4 * t + 1, 5, t)
+
+
+def write_log_image(log_bytes):
+    """A heap of one page a space that was never stored, whose log is full of commits."""
+    commits = (log_bytes - 1) // len(commit(1))
+    with open("heap.img", "wb") as image:
+        image.write(superblock(1, log_bytes))
+        for first in range(1, commits + 1, 10_000):
+            image.write(b"".join(map(commit, range(first, min(first + 10_000, commits + 1)))))
+        image.truncate(64 + log_bytes + 2_112)
+    return commits
+
+
+def frame(lsn, words):
+    return struct.pack("<B7xQ64Q", 1, lsn, *words)
+
+
+def write_pages_image():
+    """A heap with one commit, of which every page is stored behind it."""
+    root = [17, 0, 5] + [0] * 61
+    with open("heap.img", "wb") as image:
+        image.write(superblock(MANY, 65_536) + commit(1).ljust(65_536, b"\0"))
+        image.write(frame(1, root) + bytes(528))
+        image.write((frame(1, [0] * 64) + bytes(528)) * (2 * MANY - 1))
+
+
+def measured(tool, words):
+    """The seconds and the KiB of a run of the program, and its status."""
+    ran = subprocess.run([tool, "run", PROGRAM, *words], stdin=subprocess.DEVNULL, stdout=subprocess.PIPE, check=True)
+    seconds, peak, status = ran.stdout.split()
+    return float(seconds), int(peak), int(status)
+
+
+def opening(tool, runs):
+    """The least seconds and the most KiB of some openings."""
+    all_runs = [measured(tool, ["graph"]) for _ in range(runs)]
+    if any(status for _, _, status in all_runs):
+        sys.exit("openings: the image was not opened")
+    return min(seconds for seconds, _, _ in all_runs), max(peak for _, peak, _ in all_runs)
+
+
+def reading(tool):
+    ran = subprocess.run([tool, "read", "heap.img", str(MANY)], stdout=subprocess.PIPE, check=True)
+    return float(ran.stdout.split()[0])
+
+
+def main(tool):
+    words = sys.argv[1 + QUICK:]
+    runs = int(words[0]) if words else 5
+    subprocess.run([os.path.join(TOP, "heap"), *["--quick"] * QUICK, "play", "--fresh", "1"], stdin=subprocess.DEVNULL, stdout=subprocess.PIPE, check=True)
+    _, empty, _ = measured(tool, ["none"])
+    times = []
+    for size in (64, 128):
+        commits = write_log_image(size * MIB)
+        seconds, peak = opening(tool, runs)
+        times.append(seconds)
+        print(f"a log of {size} MiB, {commits} commits: {(peak - empty) / 1024:.1f} MiB above the empty program's {empty / 1024:.1f}, {seconds:.2f} s")
+    print(f"128 MiB against 64: {times[1] / times[0]:.2f} times as long")
+    write_pages_image()
+    seconds, peak = opening(tool, runs)
+    read = min(reading(tool) for _ in range(runs))
+    print(f"{MANY} pages a space against C: {seconds / read:.2f} times as long, {seconds:.3f} s; {(peak - empty) / 1024:.1f} MiB above the empty program")
+
+
+if __name__ == "__main__":
+    with tempfile.TemporaryDirectory() as room:
+        os.chdir(room)
+        built = os.path.join(room, "openings")
+        subprocess.run(["gcc", "-O2", "-Wall", "-Wextra", "-o", built, os.path.join(TOP, "bench", "openings.c")], check=True)
+        main(built)
