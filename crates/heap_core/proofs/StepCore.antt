@@ -66,7 +66,7 @@ module _ {D : Type 0} (g : Ghosts D) where
   }
 
   -- an event that the disk did not cut short
-  pub whole_steps : (c : Core) (event : Event) (reply : Reply) (e : Engine) (disk : D) (failed : Option Failure) → failed ≡ None → reply ≡ answer c event → IsEngine g (after c event) e disk → StepsTo c event reply e disk failed
+  abbrev pub whole_steps : (c : Core) (event : Event) (reply : Reply) (e : Engine) (disk : D) (failed : Option Failure) → failed ≡ None → reply ≡ answer c event → IsEngine g (after c event) e disk → StepsTo c event reply e disk failed
   whole_steps c event reply e disk failed none replied is = record {
     next = after c event;
     step = inl (replied, refl);
@@ -74,12 +74,12 @@ module _ {D : Type 0} (g : Ghosts D) where
     engine = λ still. is;
   }
 
-  told_entry : (a : Account) (event : Event) (reply : Reply) → AsksDisk event → a.failed ≡ None → (reply ≡ Refused DiskFault) ⊎ (reply ≡ Refused Stopped)
+  pub told_entry : (a : Account) (event : Event) (reply : Reply) → AsksDisk event → a.failed ≡ None → (reply ≡ Refused DiskFault) ⊎ (reply ≡ Refused Stopped)
       → Some (a.entries + 1) ≡ (account_after a (record { event = event; reply = reply })).failed
   told_entry a event reply asks none told = sym (ap (λ (b : Account). b.failed) (cut_account a event reply asks told) ∙ ap (λ (o : Option ℕ). first_failure o (a.entries + 1)) none)
 
   -- one that it cut short
-  pub cut_steps : (c : Core) (event : Event) (reply : Reply) (e : Engine) (disk : D) (entries : ℕ) (pending : Bool) (failed : Option Failure) → (account c.history).failed ≡ None → WasCutShort c event e
+  abbrev pub cut_steps : (c : Core) (event : Event) (reply : Reply) (e : Engine) (disk : D) (entries : ℕ) (pending : Bool) (failed : Option Failure) → (account c.history).failed ≡ None → WasCutShort c event e
       → (reply ≡ Refused DiskFault) ⊎ (reply ≡ Refused Stopped) → entries ≡ length c.history → failed ≡ Some (record { entry = entries + 1; pending = pending }) → (IsTrue pending ↔ (c.pending ≢ []))
       → StepsTo c event reply e disk failed
   cut_steps c event reply e disk entries pending failed none cut told count is known =

@@ -206,7 +206,7 @@ impl<D: Disk> Heap<D> {
             Ok(reply) => Ok(entered(&mut self.history, event, reply)),
             Err(StepError::NoMemory) => Err(AllocError),
             Err(StepError::Disk(e)) => {
-                let entry = self.history.len() as u64 + 1;
+                let entry = self.history.entries().len() as u64 + 1;
                 self.failed = Some(Failure { entry, pending });
                 Ok(entered(&mut self.history, event, cut_short(e)))
             }

@@ -25,5 +25,3 @@ none_appended old rest spare room = record {
   room = room;
   added = λ batches pending keeps. subst (λ (rs : List Record). Keeps old batches rs) (sym (append-nil pending)) keeps;
 }
-
-module _ (old now new : Log) (done rest : List Record) (r : Record) where
