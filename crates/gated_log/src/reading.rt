@@ -117,14 +117,14 @@ impl LogReader {
         self.given
     }
 
-    /// The LSN of the first record of the batch in which the record stands that was given last.
+    /// The LSN of the first record of the batch that was begun last, 1 before any was.
     pub fn batch(&self) -> u64
         ensures { result ≡ reader_batch self.now }
     {
         self.first
     }
 
-    /// Whether the record that was given last is the last one of its batch.
+    /// Whether no record of the batch that was begun last is left to be given.
     pub fn at_border(&self) -> bool
         ensures { IsTrue result ↔ (reader_left self.now ≡ 0) }
     {
@@ -160,7 +160,7 @@ impl LogReader {
         Ok(Some(self.take_record(alloc, disk)?))
     }
 
-    /// The log that was read, once all its records were given.
+    /// The log that was read, once `next` has given none: what a reader that stopped earlier gives would overwrite the batches that it has not read.
     pub fn into_log(self) -> Log
         requires { reader_left self ≡ 0 }
         ensures place { log_place result ≡ reader_place self }

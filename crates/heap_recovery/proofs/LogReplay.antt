@@ -15,7 +15,8 @@ use Rattle.image_plan.specs.declared.superblock.Super.{Super}
 use Rattle.log_records.specs.declared.Record.{Record}
 use Rattle.log_machine.specs.Machine.{State, start, after, after_all, reserve}
 use Rattle.log_machine.proofs.MachineLaws.{after_all-append}
-use Rattle.log_machine.proofs.ReplayLaws.{Bounds, bounds_on}
+use Rattle.log_machine.specs.Replay.{Bounds}
+use Rattle.log_machine.proofs.ReplayLaws.{bounds_on}
 use Rattle.page_redo.specs.Pages.{Pages, pages_in, lsn_of}
 use Rattle.page_redo.specs.Redo.{EachLacks, redo_record, redone}
 use Rattle.page_redo.proofs.RedoLaws.{redo_all-append, lsn-redo_all, last_lsn-reached, lsns-redo_all}
@@ -205,7 +206,6 @@ module _ (s : Super) (batches : List (List Record)) (stored : Pages) (log : Log)
   }
 
 module _ (s : Super) (batches : List (List Record)) (image : List ℕ) (log : Log) (replay : Replay) (holds : HoldsLog s batches image) (is : HasReplayedLog s batches (stored_in s image) log replay) where
-
   all_replayed : replay.unshaped ≡ None → IsReplayed s batches replay.state image
   all_replayed none = record { log = holds; reached = (is.replayed.all none).reached }
 

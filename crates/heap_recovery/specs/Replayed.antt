@@ -10,8 +10,7 @@ use Rattle.image_plan.specs.Super.{IsSuper}
 use Rattle.log_records.specs.declared.Record.{Record}
 use Rattle.log_records.specs.Record.{IsRecord}
 use Rattle.log_machine.specs.Machine.{start, after_all, words_in}
-use Rattle.log_machine.specs.Replay.{IsFirstUnshaped}
-use Rattle.log_machine.proofs.ReplayLaws.{Bounds}
+use Rattle.log_machine.specs.Replay.{IsFirstUnshaped, Bounds}
 use Rattle.page_redo.specs.Pages.{Pages, pages_in, lsn_of}
 use Rattle.page_redo.specs.Redo.{redone}
 use Rattle.page_store.specs.StoreState.{store_plan}

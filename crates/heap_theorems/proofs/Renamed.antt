@@ -1,11 +1,11 @@
 -- What is said of isomorphic graphs, said of renamed ones: the two are the same of whole graphs.
 use Rattle.std.proofs.Common.{◌≡◌, ℕ, ◌^◌, ◌<◌, List, length}
-use Rattle.std.specs.Prelude.{◌↔◌}
+use Rattle.std.specs.Prelude.{◌↔◌, Bool, IsTrue}
 use Rattle.graph_model.specs.declared.id.Id.{Id}
 use Rattle.graph_model.specs.Canon.{canon}
 use Rattle.graph_model.specs.ClosedGraph.{IsWhole}
 use Rattle.graph_model.specs.Graph.{Graph}
-use Rattle.graph_model.specs.Isomorphism.{AreRenamed}
+use Rattle.graph_model.specs.Isomorphism.{AreRenamed, IsIsomorphism}
 use Rattle.graph_model.specs.NewNumbers.{HaveNewNumbers, HaveOwnNumbers}
 use Rattle.graph_model.specs.Printable.{IsPrintable}
 use Rattle.graph_model.specs.Text.{canon_text}
@@ -24,6 +24,10 @@ renamed g h whole whole' iso = (canon_tells_renaming g h whole whole').0 ((canon
 
 isomorphic : (g h : Graph) → IsWhole g → IsWhole h → AreRenamed g h → AreIsomorphic g h
 isomorphic g h whole whole' are = (canon_tells_isomorphism g h whole whole').0 ((canon_tells_renaming g h whole whole').1 are)
+
+-- a match of ids that is given as a test, and is an isomorphism, leaves one canon
+pub isomorphic_canon : (g h : Graph) (R : Id → Id → Bool) → IsWhole g → IsWhole h → IsIsomorphism (λ a b. IsTrue (R a b)) g h → canon g ≡ canon h
+isomorphic_canon g h R whole whole' iso = (canon_tells_isomorphism g h whole whole').1 ((λ a b. IsTrue (R a b)), iso)
 
 -- the text tells whole graphs apart that are not one up to renaming objects, where numbers are short
 pub text_tells_renaming : (g h : Graph) → IsWhole g → IsWhole h → IsPrintable g → IsPrintable h → (canon_text (canon g) ≡ canon_text (canon h)) ↔ AreRenamed g h

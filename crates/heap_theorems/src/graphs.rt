@@ -1,9 +1,9 @@
 //! Graphs up to renaming objects, and the words in which they are seen.
-ghost use Rattle.std.specs.Prelude.{◌≡◌, ◌↔◌, List, ℕ, length, ◌^◌, ◌<◌};
+ghost use Rattle.std.specs.Prelude.{Bool, IsTrue, ◌≡◌, ◌↔◌, List, ℕ, length, ◌^◌, ◌<◌};
 ghost use Rattle.graph_model.specs.Canon.{canon, numbered};
 ghost use Rattle.graph_model.specs.ClosedGraph.{IsWhole};
 ghost use Rattle.graph_model.specs.Graph.{Graph};
-ghost use Rattle.graph_model.specs.Isomorphism.{AreRenamed};
+ghost use Rattle.graph_model.specs.Isomorphism.{AreRenamed, IsIsomorphism};
 ghost use Rattle.graph_model.specs.NewNumbers.{HaveNewNumbers, HaveOwnNumbers};
 ghost use Rattle.graph_model.specs.Numbering.{IsNumbering};
 ghost use Rattle.graph_model.specs.Printable.{IsPrintable};
@@ -16,6 +16,11 @@ ghost use Rattle.object_layout.specs.Walk.{HaveOwnBirths, IsWalked};
 /// Two whole graphs have one canon exactly where they are the same up to renaming objects.
 pub fn canon_tells_renaming()
     ensures { (g h : Graph) → IsWhole g → IsWhole h → (canon g ≡ canon h) ↔ AreRenamed g h }
+{}
+
+/// Two whole graphs have one canon where some match of their ids is an isomorphism.
+pub fn isomorphic_graphs_have_one_canon()
+    ensures { (g h : Graph) (R : Id → Id → Bool) → IsWhole g → IsWhole h → IsIsomorphism (λ a b. IsTrue (R a b)) g h → canon g ≡ canon h }
 {}
 
 /// Where numbers are below 2^64, two whole graphs have one text exactly where they are the same up to renaming objects.

@@ -1,5 +1,5 @@
 -- Laws of how the state follows records, and of the first that can't follow.
-use Rattle.std.proofs.Common.{◌≡◌, ℕ, ◌+◌, ◌-◌, ◌*◌, ◌<◌, ◌≤◌, List, [], ◌∷◌, ◌++◌, length, get_or, take, drop, Option, None, Some, is_some, refl, sym, ◌∙◌, ap, subst, arith, take-append-drop}
+use Rattle.std.proofs.Common.{◌≡◌, ℕ, ◌+◌, ◌-◌, ◌<◌, List, [], ◌∷◌, ◌++◌, length, get_or, take, drop, Option, None, Some, is_some, refl, sym, ◌∙◌, ap, subst, arith, take-append-drop}
 use Rattle.std.specs.Prelude.{option_and_then}
 use Rattle.std.proofs.lemmas.List.{take_more}
 use Rattle.log_records.specs.declared.Record.{Record}
@@ -7,17 +7,9 @@ use Rattle.log_machine.specs.Machine.{State, start, after, after_all, reserve}
 use Rattle.log_machine.proofs.ListLaws.{AllByRecursion-append}
 use Rattle.log_machine.proofs.MachineLaws.{after_all-append}
 use Rattle.log_machine.specs.Effect.{WritesBelow, EachWritesBelow}
-use Rattle.log_machine.specs.Sound.{AreLosers}
 use Rattle.log_machine.proofs.StateLaws.{sound_start, sound_after, leads_after, commits_few}
 use Rattle.log_machine.proofs.ReserveLaws.{reserve-start, reserve-after}
-use Rattle.log_machine.specs.Replay.{IsFirstUnshaped}
-
--- What holds of the state behind i records.
-pub record Bounds (pages i : ℕ) (s : State) : Type 0 where
-  pub sound : AreLosers s
-  pub same_pages : s.pages ≡ pages
-  pub few : s.commits ≤ i
-  pub room : reserve s ≤ 29 * i
+use Rattle.log_machine.specs.Replay.{Bounds, IsFirstUnshaped}
 
 -- before the first record
 pub bounds_start : (pages first : ℕ) → Bounds pages 0 (start pages first)

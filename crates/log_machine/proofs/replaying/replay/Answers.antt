@@ -1,8 +1,8 @@
 use Rattle.std.proofs.Common.{◌≡◌, ◌+◌, Err, Some, ap, sym, ◌∙◌, subst}
 use Rattle.log_machine.specs.Machine.{start, words_in}
 use Rattle.log_machine.specs.Effect.{WritesBelow}
-use Rattle.log_machine.specs.Replay.{IsFirstUnshaped}
-use Rattle.log_machine.proofs.ReplayLaws.{Bounds, bounds_start, bounds_on, state_on, below_on, unshaped_at}
+use Rattle.log_machine.specs.Replay.{IsFirstUnshaped, Bounds}
+use Rattle.log_machine.proofs.ReplayLaws.{bounds_start, bounds_on, state_on, below_on, unshaped_at}
 use Rattle.log_machine.proofs.replaying.replay.Goals as goal
 
 pub loop-i-init : goal.loop-i-init

@@ -1,7 +1,7 @@
 use Rattle.std.proofs.Common.{◌≡◌, take, Some}
 use Rattle.log_machine.specs.Machine.{start, after_all, words_in}
 use Rattle.log_machine.specs.Effect.{EachWritesBelow}
-use Rattle.log_machine.proofs.ReplayLaws.{Bounds}
+use Rattle.log_machine.specs.Replay.{Bounds}
 use Rattle.log_machine.proofs.replaying.replay.Given as goal
 
 -- the state is that of the records so far, and these write below the words of its pages

@@ -1,5 +1,6 @@
 use Rattle.std.proofs.Common.{Some, refl, ap, sym, subst}
-use Rattle.log_machine.proofs.ReplayLaws.{Bounds, bounds_start}
+use Rattle.log_machine.specs.Replay.{Bounds}
+use Rattle.log_machine.proofs.ReplayLaws.{bounds_start}
 use Rattle.heap_recovery.proofs.replaying.Replay.start.Goals as goal
 
 pub returns-clause-none : goal.returns-clause-none
