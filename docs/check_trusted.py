@@ -3,14 +3,16 @@
 
     docs/check_trusted.py [--list CLAUSE]
 
-A clause of `run` rests on the definitions that it cites, on those that these cite, and so on. Their numbers stand in a table of
-docs/GUARANTEE.md, which has to be right, so that what has to be read can't grow unseen. Each definition of specs/ has to be one
-that some contract rests on, and has to be free of proofs. It prints what is wrong, and nothing where all is well. With --list it
-prints the definitions behind one clause, or behind all with --list run, by file.
+A clause of `run` rests on the definitions that it cites, on those that these cite, and so on; and on what the traits promise that
+`run` is generic in, as the disk's. Their numbers stand in a table of docs/GUARANTEE.md, with a digest of their texts and of the
+clauses', so that what has to be believed changes only where the page does. Each definition of specs/ has to be one that some contract
+rests on, free of proofs, and no contract may rest on one of proofs/. It prints what is wrong, and nothing where all is well. With
+--list it prints the definitions behind one clause, or behind all with --list run, by file.
 """
 import collections
 import functools
 import glob
+import hashlib
 import os
 import re
 import sys
@@ -86,6 +88,12 @@ def blocks(lines, indent):
 
 
 @functools.lru_cache(maxsize=None)
+def source(crate):
+    """The text of a crate's source files."""
+    return "\n".join(text_of(it) for it in sorted(glob.glob(f"{TOP}/crates/{crate}/src/**/*.rt", recursive=True)))
+
+
+@functools.lru_cache(maxsize=None)
 def modules():
     found = {}
     for path in sorted(glob.glob(f"{TOP}/crates/*/specs/**/*.antt", recursive=True)):
@@ -107,11 +115,26 @@ def cited(module, word):
     return None
 
 
+@functools.lru_cache(maxsize=None)
+def ghosts(crate, name):
+    """What a type's ghost fields and its view cite: contracts see its values through them."""
+    text, found = source(crate), set()
+    for head in (rf"(?:struct|enum) {name}\b", rf"impl\b[^{{;]*\bModel for {name}\b"):
+        for it in re.finditer(rf"^(?:pub(?:\(crate\))? )?{head}[^\n]*\{{\n.*?^\}}", text, re.M | re.S):
+            lines = "\n".join(re.findall(r"^\s*(?:pub(?:\(crate\))? )?ghost .*?[};],?$", it[0], re.M))
+            found |= cited_in(lines, *imports_of(text))
+    return found
+
+
 def closure(seeds):
     """The definitions that these rest on, each as (module, name)."""
-    seen, left = set(), list(seeds)
+    seen, types, left = set(), set(), list(seeds)
     while left:
         where, name = left.pop()
+        declared = re.match(r"Rattle\.(\w+)\.specs\.declared\.", where)
+        if declared and (declared[1], name) not in types and os.path.isdir(f"{TOP}/crates/{declared[1]}"):
+            types.add((declared[1], name))
+            left.extend(ghosts(declared[1], name))
         module = modules().get(where)
         if module is None:
             continue
@@ -158,12 +181,29 @@ def cited_in(text, names, aliases):
     return found
 
 
+def traits(text):
+    """The traits that the call is generic in, by its bounds: their texts, and what they cite."""
+    texts, found = [], set()
+    for name in sorted(set(re.findall(r"\b[A-Z]\w*: (\w+)", re.search(r"fn run<(.*?)>\(", text, re.S)[1]))):
+        for path in glob.glob(f"{TOP}/crates/*/src/**/*.rt", recursive=True):
+            whole = text_of(path)
+            it = re.search(rf"^pub trait {name}\b.*?^\}}", whole, re.M | re.S)
+            if it:
+                texts.append(it[0])
+                found |= cited_in(it[0], *imports_of(whole))
+    return texts, found
+
+
 def clauses():
-    """What each clause of `run` cites."""
+    """Each clause of `run`, and each premise: its text, and what it cites, with what the traits promise."""
     text = text_of(f"{TOP}/{PROGRAM}")
     names, aliases = imports_of(text)
-    found = re.findall(r"ensures (\w+) \{((?:[^{}]|\{[^{}]*\})*)\}", text)
-    return {name: cited_in(clause, names, aliases) for name, clause in found}
+    contract = re.search(r"pub fn run<.*?^\{", text, re.M | re.S)[0]
+    found = re.findall(r"(ensures|requires)\*?(?: (\w+))? (\{.*?\})(?=\s*(?://[^\n]*\s*)*(?:ensures|requires|\{$))", contract, re.S)
+    if len(found) != len(re.findall(r"\b(?:ensures|requires)\b", contract)):
+        sys.exit(f"{PROGRAM}: a clause can't be read")
+    texts, promised = traits(text)
+    return {name or kind: ([body, *texts], cited_in(body, names, aliases) | promised) for kind, name, body in found}
 
 
 def size(definitions):
@@ -173,22 +213,38 @@ def size(definitions):
     return len(definitions), lines, len(files), len({it.split(".")[1] for it in files})
 
 
+def digest(texts, definitions):
+    """A digest of clauses and of definitions, comments and spaces left out."""
+    texts = sorted(texts) + sorted(modules()[where].items[name].text for where, name in definitions)
+    return hashlib.sha256("\n".join(" ".join(it.split()) for it in texts).encode()).hexdigest()[:12]
+
+
 def rows():
-    """The table of the page: the numbers by clause."""
+    """The table of the page: the numbers and the digest by clause."""
     found = {}
     with open(f"{TOP}/{PAGE}", encoding="utf-8") as file:
         for line in file:
             cells = [it.strip() for it in line.strip().strip("|").split("|")]
-            if len(cells) == 5 and all(it.replace(",", "").isdigit() for it in cells[1:]):
-                found[cells[0].strip("`")] = tuple(int(it.replace(",", "")) for it in cells[1:])
+            if len(cells) == 6 and all(it.isdigit() for it in cells[1:5]):
+                found[cells[0].strip("`")] = (*map(int, cells[1:5]), cells[5].strip("`"))
     return found
 
 
 def check_table(behind):
     said = rows()
-    for name, definitions in behind.items():
-        if said.get(name) != size(definitions):
-            yield f"{PAGE}: `{name}` rests on {' definitions, '.join(map(str, size(definitions)[:2]))} lines of {size(definitions)[2]} files in {size(definitions)[3]} crates, and the page has {said.get(name)}"
+    for name, (texts, definitions) in behind.items():
+        now = (*size(definitions), digest(texts, definitions))
+        if said.get(name) != now:
+            yield f"{PAGE}: the row of `{name}` is | {' | '.join(map(str, now))} |, and the page has {said.get(name)}"
+
+
+def check_imports():
+    """Definitions of proofs/ that a contract or a definition of specs/ names."""
+    own = set(os.listdir(f"{TOP}/crates"))
+    for path in sorted(glob.glob(f"{TOP}/crates/*/specs/**/*.antt", recursive=True) + glob.glob(f"{TOP}/crates/*/src/**/*.rt", recursive=True)):
+        for crate in re.findall(r"^\s*(?:pub )?(?:ghost )?use Rattle\.(\w+)\.proofs\.", text_of(path), re.M):
+            if crate in own:
+                yield f"{os.path.relpath(path, TOP)}: it names a definition of {crate}'s proofs/"
 
 
 def check_specs():
@@ -217,15 +273,16 @@ def show(definitions):
 
 
 def main():
-    cited_by = clauses()
-    behind = {name: closure(cited_by[name]) for name in ("crash_safe", "headline")}
-    behind["run"] = closure(set().union(*cited_by.values()))
+    found = clauses()
+    behind = {name: (found[name][0], closure(found[name][1])) for name in ("crash_safe", "headline")}
+    behind["run"] = [it for texts, _ in found.values() for it in texts], closure(set().union(*(cited for _, cited in found.values())))
     if sys.argv[1:2] == ["--list"]:
         name = sys.argv[2]
-        show(behind[name] if name in behind else closure(cited_by[name]))
-        print(*size(behind[name] if name in behind else closure(cited_by[name])))
+        definitions = behind[name][1] if name in behind else closure(found[name][1])
+        show(definitions)
+        print(*size(definitions))
         return 0
-    wrong = [*check_table(behind), *check_specs()]
+    wrong = [*check_table(behind), *check_specs(), *check_imports()]
     print(*wrong, sep="\n", end="\n" * bool(wrong))
     return bool(wrong)
 
