@@ -91,9 +91,9 @@ def contracts(crate, function):
 
 
 def clauses_of(contract):
-    """A contract's clauses by their names, 'result' for one that has none."""
-    parts = re.split(r"\b(?:ensures|requires)(?: (\w+))? \{", contract)
-    return {name or "result": text for name, text in zip(parts[1::2], parts[2::2])}
+    """What a contract promises, by the names of its clauses, 'result' for one that has none."""
+    parts = re.split(r"\b(ensures|requires)(?: (\w+))? \{", contract)
+    return {name or "result": text for kind, name, text in zip(parts[1::3], parts[2::3], parts[3::3]) if kind == "ensures"}
 
 
 def type_clauses(crate, name):
