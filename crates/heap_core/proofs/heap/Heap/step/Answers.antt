@@ -8,10 +8,10 @@ use Rattle.graph_model.specs.declared.reply.Refusal.TheVariants.{Failed}
 use Rattle.graph_model.specs.declared.reply.Reply.{Reply}
 use Rattle.graph_model.specs.declared.reply.Reply.TheVariants.{Refused}
 use Rattle.heap_model.specs.Core.{Core, calls}
-use Rattle.heap_model.specs.CoreLawsRun.{same_step}
+use Rattle.heap_model.proofs.Run.Calls.{same_step}
 use Rattle.heap_model.specs.CoreCrash.{IsCommitPrefix}
-use Rattle.memory_laws.specs.LogLaws.{some_waits}
-use Rattle.heap_core.specs.CrashLaws.{heap_keeps}
+use Rattle.memory_laws.proofs.Kept.Log.{some_waits}
+use Rattle.heap_core.proofs.CrashLaws.{heap_keeps}
 use Rattle.heap_core.specs.HeapState.{entry_of}
 use Rattle.heap_core.proofs.StepCore.{remembers, whole_steps, cut_steps, failed_steps, with_history, whole_on, cut_on, failed_on, failed_passes}
 use Rattle.heap_engine.specs.declared.step_error.StepError.{StepError}
