@@ -1,5 +1,6 @@
 //! Transactions of a heap of one page: what is sealed is there afterwards, what is aborted is not, sessions that are side by side are in
 //! each other's way where both use an object and one writes it, and the log keeps room for their ends.
+ghost use Rattle.std.specs.Prelude.{IsTrue};
 ghost use Rattle.heap_engine.specs.EngineState.{LiesWithin, HasNotFailed};
 
 use disk_model::{Disk, MemoryDisk, Pick};
@@ -32,8 +33,10 @@ const SMALL: Plan = Plan {
 struct Opened {
     engine: Engine,
     disk: MemoryDisk,
+    // Whether the disk has done all that it was asked.
+    works: bool,
     ghost inside: { LiesWithin engine (⟦<MemoryDisk as Disk>⟧.extent disk) },
-    ghost works: { HasNotFailed engine },
+    ghost unfailed: { IsTrue works → HasNotFailed engine },
 }
 
 // A heap of that plan, when it is new.
@@ -50,7 +53,11 @@ fn new_heap(rt: &impl Abort, alloc: Global, plan: Plan) -> Result<Opened, Fail> 
     let spaces = Spaces::new(1, 0, 6, 0);
     let table = TxnTable::new(alloc, 1)?;
     let engine = Engine::new(alloc, log, cache, spaces, table);
-    Ok(Opened { engine, disk })
+    Ok(Opened {
+        engine,
+        disk,
+        works: true,
+    })
 }
 
 /// An event of a session, and what it is answered.
@@ -351,9 +358,13 @@ fn same<T: PartialEq + Debug + Copy>(rt: &impl Abort, found: T, want: T) {
 
 /// Asks an event, whose session, if it has one, is from 1 to 32.
 fn ask(rt: &impl Abort, heap: &mut Opened, event: Event) -> Result<Reply, AllocError> {
-    assert!(rt; event.is_of_session());
+    assert!(rt; heap.works && event.is_of_session());
+    heap.works = false;
     match heap.engine.step_on(&mut heap.disk, event) {
-        Ok(reply) => Ok(reply),
+        Ok(reply) => {
+            heap.works = true;
+            Ok(reply)
+        }
         Err(StepError::NoMemory) => Err(AllocError),
         Err(StepError::Disk(_)) => panic!(rt; "the disk failed or stopped"),
     }
