@@ -36,8 +36,8 @@ none_empty s sound t us is = (sound t us is).some
 -- of two records of one transaction the last one's writes are left
 turned_turned : (s : State) (t : ℕ) (first last : FinMap nat_cmp (List UndoEntry)) → turned (turned s t first 0) t last 0 ≡ turned s t last 0
 turned_turned s t first last =
-    ap (λ k. record { pages = s.pages; base = s.base; used = s.used; undo = last; commits = k; next = max (max s.next (t + 1)) (t + 1) }) (omega arith)
-    ∙ ap (λ n. record { pages = s.pages; base = s.base; used = s.used; undo = last; commits = s.commits + 0; next = n }) (omega arith)
+    ap (λ k. record s { undo = last; commits = k; next = max (max s.next (t + 1)) (t + 1) }) (omega arith)
+    ∙ ap (λ n. record s { undo = last; commits = s.commits + 0; next = n }) (omega arith)
 
 -- a transaction's writes are taken back one after another
 abort_on : (s : State) (t : ℕ) (us : List UndoEntry) → is_number t ≡ true → AreLosers s → undo_of s t ≡ us → after_all s (abort_records t us) ≡ Some (turned s t (with_entries s.undo t []) 0)
@@ -81,17 +81,17 @@ abort_good t (u ∷ us) fits good = (record { t_fits = fits; object_fits = good.
 
 -- the state when nothing may be taken back any more
 abbrev pub settled : State → State
-settled s = record { pages = s.pages; base = s.base; used = s.used; undo = empty; commits = s.commits; next = s.next }
+settled s = record s { undo = empty }
 
 -- the records of a transaction that has begun change nothing but its writes
 known_turned : (s : State) (t : ℕ) (undo : FinMap nat_cmp (List UndoEntry)) → t < s.next → settled (turned s t undo 0) ≡ settled s
 known_turned s t undo known =
-    ap (λ k. record { pages = s.pages; base = s.base; used = s.used; undo = empty; commits = k; next = max s.next (t + 1) }) (omega arith)
-    ∙ ap (λ n. record { pages = s.pages; base = s.base; used = s.used; undo = empty; commits = s.commits; next = n }) (omega arith)
+    ap (λ k. record s { undo = empty; commits = k; next = max s.next (t + 1) }) (omega arith)
+    ∙ ap (λ n. record s { undo = empty; next = n }) (omega arith)
 
 rollback_on : (es : List Loser) (s : State) → AreLosers s → losing s ≡ es → after_all s (abort_each es) ≡ Some (settled s)
 rollback_on [] s sound is =
-    ap (λ undo. Some (record { pages = s.pages; base = s.base; used = s.used; undo = undo; commits = s.commits; next = s.next })) (empty_of_entries s.undo is)
+    ap (λ undo. Some (record s { undo = undo })) (empty_of_entries s.undo is)
 rollback_on (e ∷ es) s sound is =
     let found = get_first s.undo e.0 e.1 es is in
     let loser = sound e.0 e.1 found in

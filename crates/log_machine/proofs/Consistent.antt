@@ -1,5 +1,5 @@
 -- The state in memory stays consistent, and its records write within the pages.
-use Rattle.std.proofs.Common.{◌≡◌, ℕ, ◌+◌, ◌^◌, ◌<◌, ◌≤◌, max, Bool, true, false, cond, List, [], ◌∷◌, reverse, drop, None, Some, is_some, refl, sym, ap, ◌∙◌, subst, arith, Result, Ok, Err}
+use Rattle.std.proofs.Common.{◌≡◌, ℕ, ◌+◌, ◌^◌, ◌<◌, ◌≤◌, max, Bool, true, false, cond, List, [], ◌∷◌, reverse, drop, None, Some, is_some, refl, sym, ap, ◌∙◌, subst, arith, Result, Ok, Err, inl, inr}
 use Rattle.std.specs.Prelude.{IfOk}
 use Rattle.std.specs.List.{AllByRecursion}
 use Rattle.std.specs.Ordering.{nat_cmp}
@@ -9,49 +9,52 @@ use Rattle.std.proofs.lemmas.List.{reverse-reverse}
 use Rattle.log_records.specs.declared.Record.{Record}
 use Rattle.log_machine.specs.declared.UndoEntry.{UndoEntry}
 use Rattle.log_machine.specs.UndoEntry.{LiesInside}
-use Rattle.log_machine.specs.Machine.{State, Loser, start, undo_of, with_entries, space_words, words_in, field_at, is_number, lies_inside, is_same_write, without_newest, losing, abort_records, abort_each, rollback}
+use Rattle.log_machine.specs.Machine.{State, Loser, start, undo_of, with_entries, space_words, words_in, owed, field_at, is_number, lies_inside, is_same_write, without_newest, losing, abort_records, abort_each, rollback}
 use Rattle.log_machine.proofs.ListLaws.{AllByRecursion-append, AllByRecursion-reverse}
 use Rattle.log_machine.specs.Entries.{EachKeyed}
 use Rattle.log_machine.proofs.MapLaws.{each_empty, each_remove, get_first, remove_first}
 use Rattle.log_machine.proofs.MachineLaws.{inside_told, newest_told}
-use Rattle.log_machine.specs.Sound.{IsLoser, IsConsistent}
-use Rattle.log_machine.proofs.StateLaws.{all_inside, inside_on, sound_with}
+use Rattle.log_machine.specs.Sound.{IsLoser, IsSpaced, IsConsistent}
+use Rattle.log_machine.proofs.StateLaws.{all_inside, inside_on, sound_with, spaced_start}
 use Rattle.log_machine.specs.Effect.{WritesBelow, EachWritesBelow}
 
 -- the used words are words of the pages
 fits_in : (s : State) → IsConsistent s → s.base + s.used ≤ words_in s.pages
-fits_in s is = omega (arith, is.based, is.room)
+fits_in s is = elim is.spaced.first [ inl low ↦ let room = is.spaced.room in omega arith | inr high ↦ let room = is.spaced.room in omega arith ]
 
 -- before the first record
-pub consistent_start : (pages first : ℕ) (undo : FinMap nat_cmp (List UndoEntry)) → 1 ≤ pages → words_in pages ≤ 2 ^ 32 → undo ≡ empty → IsConsistent (record { pages = pages; base = 0; used = 6; undo = undo; commits = 0; next = first })
+pub consistent_start : (pages first : ℕ) (undo : FinMap nat_cmp (List UndoEntry)) → 1 ≤ pages → words_in pages ≤ 2097152 → undo ≡ empty → IsConsistent (record { pages = pages; base = 0; used = 6; collection = None; undo = undo; commits = 0; next = first })
 consistent_start pages first undo some addresses none =
-    subst (λ u. IsConsistent (record { pages = pages; base = 0; used = 6; undo = u; commits = 0; next = first })) (sym none)
-    (record { sound = each_empty (IsLoser (start pages first)); addresses = addresses; based = omega arith; room = omega arith })
+    subst (λ u. IsConsistent (record { pages = pages; base = 0; used = 6; collection = None; undo = u; commits = 0; next = first })) (sym none)
+    (record { sound = each_empty (IsLoser (start pages first)); addresses = addresses; spaced = spaced_start pages first some })
+
+-- the spaces are the same whatever may be taken back
+spaced_as : (s : State) (undo : FinMap nat_cmp (List UndoEntry)) (commits next : ℕ) → IsSpaced s → IsSpaced (record s { undo = undo; commits = commits; next = next })
+spaced_as s undo commits next spaced = record { first = spaced.first; room = spaced.room; within = spaced.within }
 
 -- with other writes of one transaction
 pub consistent_with : (s : State) (t : ℕ) (us : List UndoEntry) (undo : FinMap nat_cmp (List UndoEntry)) (commits next : ℕ) → is_number t ≡ true → AllByRecursion (LiesInside s.base s.used) us → IsConsistent s
-    → undo ≡ with_entries s.undo t us → next ≡ max s.next (t + 1) → IsConsistent (record { pages = s.pages; base = s.base; used = s.used; undo = undo; commits = commits; next = next })
+    → undo ≡ with_entries s.undo t us → next ≡ max s.next (t + 1) → IsConsistent (record s { undo = undo; commits = commits; next = next })
 consistent_with s t us undo commits next number inside is with_them later =
     let sound = sound_with s t us 0 number inside is.sound in
-    let whole : IsConsistent (record { pages = s.pages; base = s.base; used = s.used; undo = with_entries s.undo t us; commits = commits; next = max s.next (t + 1) }) =
-    record { sound = λ q w some. let loser = sound q w some in record { some = loser.some; number = loser.number; known = loser.known; inside = loser.inside }; addresses = is.addresses; based = is.based; room = is.room } in
-    subst (λ u. IsConsistent (record { pages = s.pages; base = s.base; used = s.used; undo = u; commits = commits; next = next })) (sym with_them)
-    (subst (λ n. IsConsistent (record { pages = s.pages; base = s.base; used = s.used; undo = with_entries s.undo t us; commits = commits; next = n })) (sym later) whole)
+    let whole : IsConsistent (record s { undo = with_entries s.undo t us; commits = commits; next = max s.next (t + 1) }) =
+    record { sound = λ q w some. let loser = sound q w some in record { some = loser.some; number = loser.number; known = loser.known; inside = loser.inside }; addresses = is.addresses; spaced = spaced_as s _ commits _ is.spaced } in
+    subst (λ u. IsConsistent (record s { undo = u; commits = commits; next = next })) (sym with_them)
+    (subst (λ n. IsConsistent (record s { undo = with_entries s.undo t us; commits = commits; next = n })) (sym later) whole)
 
 -- at the end of one
-pub consistent_end : (s : State) (t next : ℕ) → IsConsistent s → next ≡ max s.next (t + 1) → IsConsistent (record { pages = s.pages; base = s.base; used = s.used; undo = s.undo; commits = s.commits; next = next })
+pub consistent_end : (s : State) (t next : ℕ) → IsConsistent s → next ≡ max s.next (t + 1) → IsConsistent (record s { next = next })
 consistent_end s t next is later =
-    record { sound = λ q w some. let loser = is.sound q w some in record { some = loser.some; number = loser.number; known = omega (arith, loser.known); inside = loser.inside }; addresses = is.addresses; based = is.based; room = is.room }
+    record { sound = λ q w some. let loser = is.sound q w some in record { some = loser.some; number = loser.number; known = omega (arith, loser.known); inside = loser.inside }; addresses = is.addresses; spaced = spaced_as s s.undo s.commits next is.spaced }
 
 -- where an object has become stable
-pub consistent_on : (s : State) (t size used next : ℕ) → IsConsistent s → s.used + size ≤ space_words s.pages → used ≡ s.used + size → next ≡ max s.next (t + 1) → IsConsistent (record { pages = s.pages; base = s.base; used = used; undo = s.undo; commits = s.commits; next = next })
+pub consistent_on : (s : State) (t size used next : ℕ) → IsConsistent s → s.used + size + owed s ≤ space_words s.pages → used ≡ s.used + size → next ≡ max s.next (t + 1) → IsConsistent (record s { used = used; next = next })
 consistent_on s t size used next is room more later = record {
   sound = λ q w some.
       let loser = is.sound q w some in
       record { some = loser.some; number = loser.number; known = omega (arith, loser.known, later); inside = inside_on s.base s.used used w (omega (arith, more)) loser.inside };
   addresses = is.addresses;
-  based = is.based;
-  room = omega (arith, room, more);
+  spaced = record { first = is.spaced.first; room = omega (arith, room, more); within = is.spaced.within };
 }
 
 -- one write more
@@ -129,7 +132,7 @@ pub fits_now : (s now : State) → IsConsistent s → s ≡ now → now.base + n
 fits_now s now is same = subst (λ (x : State). x.base + x.used ≤ words_in x.pages) same (fits_in s is)
 
 -- what has room in the space has a size of 32 bits
-pub short_now : (s now : State) (size : ℕ) → IsConsistent s → s ≡ now → now.used + size ≤ space_words now.pages → size < 2 ^ 32
+pub short_now : (s now : State) (size : ℕ) → IsConsistent s → s ≡ now → now.used + size + owed now ≤ space_words now.pages → size < 2 ^ 32
 short_now s now size is same room =
-    let here = subst (λ (x : State). x.used + size ≤ space_words x.pages) (sym same) room in
+    let here = subst (λ (x : State). x.used + size + owed x ≤ space_words x.pages) (sym same) room in
     omega (arith, here, is.addresses)

@@ -1,4 +1,5 @@
 pub mod AbortLaws
+pub mod Addresses
 pub mod Bounds
 pub mod Consistent
 pub mod Entries

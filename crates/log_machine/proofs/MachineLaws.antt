@@ -12,7 +12,7 @@ use Rattle.log_records.specs.declared.Record.TheVariants.{Update, Base, Fix, Und
 use Rattle.heap_words.specs.Word.{is_stable}
 use Rattle.log_machine.specs.declared.UndoEntry.{UndoEntry}
 use Rattle.log_machine.specs.UndoEntry.{LiesInside}
-use Rattle.log_machine.specs.Machine.{State, undo_in, undo_of, with_entries, number_of, is_number, lies_inside, is_same_write, without_newest, has_none, space_words, is_next_free, is_promoted_by, turned, promoted, row_after, after, after_all, put_record, words, first_contents, is_commit, commits}
+use Rattle.log_machine.specs.Machine.{State, undo_in, undo_of, with_entries, number_of, is_number, is_number_or_none, owed, lies_inside, is_same_write, without_newest, has_none, space_words, is_next_free, is_promoted_by, turned, promoted, row_after, after, after_all, put_record, words, first_contents, is_commit, commits}
 use Rattle.log_machine.proofs.MapLaws.{get_inserted, get_removed, get_beside, get_kept, insert_insert, remove_insert, insert_remove, remove_remove}
 
 -- Records behind records.
@@ -97,7 +97,7 @@ inside_told s object field was e = let parts = and_parts _ _ e in record { above
 -- What it says that so many words from an address on are the next ones that are not used.
 pub record IsNextFree (s : State) (address size : ℕ) : Type 0 where
   pub at : address ≡ s.base + s.used
-  pub room : s.used + size ≤ space_words s.pages
+  pub room : s.used + size + owed s ≤ space_words s.pages
 
 pub free_told : (s : State) (address size : ℕ) → is_next_free s address size ≡ true → IsNextFree s address size
 free_told s address size e = let parts = and_parts _ _ e in record { at = eqb-true _ _ parts.0; room = leb-true _ _ parts.1 }
@@ -129,7 +129,7 @@ newest_taken : (entries : List UndoEntry) (u : UndoEntry) (us : List UndoEntry) 
 newest_taken entries u us e = ap (λ l. without_newest l u) e ∙ ap (λ b. cond b (Some us) None) (same_write u)
 
 -- the state behind a record of a transaction with a number
-of_number : (s : State) (r : Record) → is_number (number_of r) ≡ true → after s r ≡ row_after s r
+of_number : (s : State) (r : Record) → is_number_or_none (number_of r) ≡ true → after s r ≡ row_after s r
 of_number s r number = ap (λ b. cond b (row_after s r) None) number
 
 -- the state behind a write that can follow

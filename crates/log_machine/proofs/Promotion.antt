@@ -38,4 +38,4 @@ CanFix s f = (lies_inside s f.0 f.1 ≡ true) × (is_stable f.2 ≡ true)
 
 -- the state where so many words more are used
 abbrev pub with_used : State → ℕ → State
-with_used s size = record { pages = s.pages; base = s.base; used = s.used + size; undo = s.undo; commits = s.commits; next = s.next }
+with_used s size = record s { used = s.used + size }

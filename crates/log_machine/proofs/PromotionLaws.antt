@@ -5,7 +5,7 @@ use Rattle.std.specs.List.{AllByRecursion}
 use Rattle.std.proofs.lemmas.Option.{option_and_then_some, cond_some}
 use Rattle.log_records.specs.declared.Record.{Record}
 use Rattle.log_records.specs.declared.Record.TheVariants.{Update, Base, Fix, Undo, Commit, End}
-use Rattle.log_machine.specs.Machine.{State, space_words, is_number, is_promoted_by, turned, promoted, row_after, after, after_all, commits, reserve}
+use Rattle.log_machine.specs.Machine.{State, space_words, owed, is_number, is_promoted_by, turned, promoted, row_after, after, after_all, commits, reserve}
 use Rattle.log_machine.proofs.MachineLaws.{after-Base, after-Fix, after_all-append2, told_if}
 use Rattle.log_machine.proofs.Promotion.{IsPromotion, end_to_end, base_records, FieldWord, fix_records, CanFix, with_used}
 
@@ -45,7 +45,7 @@ keeps_after_all t s m (p ∷ ps) all e = option_and_then_some (λ next. after_al
 
 -- the log's bytes that are kept are as many
 pub reserve-promotion : (t : ℕ) (s n : State) → KeepsWrites t s n → reserve n ≡ reserve s
-reserve-promotion t s n keeps = ap (λ undo. reserve (record { pages = s.pages; base = s.base; used = s.used; undo = undo; commits = s.commits; next = s.next })) keeps.undo
+reserve-promotion t s n keeps = ap (λ undo. reserve (record s { undo = undo })) keeps.undo
 
 -- no commit is among them
 pub commits-promotion : (t : ℕ) (ps : List Record) → AllByRecursion (IsPromotion t) ps → commits ps ≡ 0
@@ -63,21 +63,21 @@ commits-promotion t (End q ∷ ps) all = absurd all.0
 
 -- where the transaction is known, an object that becomes stable changes only the number of used words
 promoted_known : (s : State) (t size : ℕ) → t < s.next → promoted s t size ≡ with_used s size
-promoted_known s t size known = ap (λ n. record { pages = s.pages; base = s.base; used = s.used + size; undo = s.undo; commits = s.commits; next = n }) (omega arith)
+promoted_known s t size known = ap (λ n. record s { used = s.used + size; next = n }) (omega arith)
 
 turned_known : (s : State) (t : ℕ) → t < s.next → turned s t s.undo 0 ≡ s
 turned_known s t known =
-    ap (λ k. record { pages = s.pages; base = s.base; used = s.used; undo = s.undo; commits = k; next = max s.next (t + 1) }) (omega arith)
-    ∙ ap (λ n. record { pages = s.pages; base = s.base; used = s.used; undo = s.undo; commits = s.commits; next = n }) (omega arith)
+    ap (λ k. record s { commits = k; next = max s.next (t + 1) }) (omega arith)
+    ∙ ap (λ n. record s { next = n }) (omega arith)
 
 used_twice : (s : State) (a b : ℕ) → with_used (with_used s a) b ≡ with_used s (a + b)
-used_twice s a b = ap (λ n. record { pages = s.pages; base = s.base; used = n; undo = s.undo; commits = s.commits; next = s.next }) (omega arith)
+used_twice s a b = ap (λ n. record s { used = n }) (omega arith)
 
 used_none : (s : State) → s ≡ with_used s 0
-used_none s = ap (λ n. record { pages = s.pages; base = s.base; used = n; undo = s.undo; commits = s.commits; next = s.next }) (omega arith)
+used_none s = ap (λ n. record s { used = n }) (omega arith)
 
 -- the state behind objects that become stable, the first at the first word that is not used
-pub bases_reach : (s : State) (t address : ℕ) (os : List (List ℕ)) → is_number t ≡ true → t < s.next → address ≡ s.base + s.used → s.used + length (end_to_end os) ≤ space_words s.pages
+pub bases_reach : (s : State) (t address : ℕ) (os : List (List ℕ)) → is_number t ≡ true → t < s.next → address ≡ s.base + s.used → s.used + length (end_to_end os) + owed s ≤ space_words s.pages
     → AllByRecursion (λ o. is_promoted_by t o ≡ true) os → after_all s (base_records t address os) ≡ Some (with_used s (length (end_to_end os)))
 bases_reach s t address [] number known at room own = ap Some (used_none s)
 bases_reach s t address (o ∷ os) number known at room own =
@@ -95,7 +95,7 @@ fixes_reach s t (f ∷ fs) number known can =
     ap (λ x. option_and_then (λ next. after_all next (fix_records t fs)) x) first ∙ fixes_reach s t fs number known can.1
 
 -- the state behind both
-pub promotion_reaches : (s : State) (t address : ℕ) (os : List (List ℕ)) (fs : List FieldWord) → is_number t ≡ true → t < s.next → address ≡ s.base + s.used → s.used + length (end_to_end os) ≤ space_words s.pages
+pub promotion_reaches : (s : State) (t address : ℕ) (os : List (List ℕ)) (fs : List FieldWord) → is_number t ≡ true → t < s.next → address ≡ s.base + s.used → s.used + length (end_to_end os) + owed s ≤ space_words s.pages
     → AllByRecursion (λ o. is_promoted_by t o ≡ true) os → AllByRecursion (CanFix (with_used s (length (end_to_end os)))) fs
     → after_all s (base_records t address os ++ fix_records t fs) ≡ Some (with_used s (length (end_to_end os)))
 promotion_reaches s t address os fs number known at room own can =

@@ -1,5 +1,5 @@
 -- Every state that records reach is sound, and what its fields are.
-use Rattle.std.proofs.Common.{◌≡◌, ℕ, ◌+◌, true, cond, List, [], ◌∷◌, length, Option, None, Some, refl, ◌∙◌, subst, arith, Bool, false, ◌≤◌}
+use Rattle.std.proofs.Common.{◌≡◌, ℕ, ◌+◌, true, cond, List, [], ◌∷◌, length, Option, None, Some, refl, sym, ap, inl, ◌∙◌, subst, arith, Bool, false, ◌≤◌}
 use Rattle.std.specs.Prelude.{unwrap_or}
 use Rattle.std.specs.List.{AllByRecursion}
 use Rattle.std.specs.Ordering.{nat_cmp}
@@ -13,35 +13,40 @@ use Rattle.log_records.specs.Record.{IsRecord}
 use Rattle.log_machine.specs.declared.UndoEntry.{UndoEntry}
 use Rattle.log_machine.proofs.Entries.{IsEntry}
 use Rattle.log_machine.specs.UndoEntry.{LiesInside}
-use Rattle.log_machine.specs.Machine.{State, start, undo_in, undo_of, with_entries, number_of, is_number, turned, promoted, row_after, after, after_all, is_commit, commits, space_words}
+use Rattle.log_machine.specs.Machine.{State, start, undo_in, undo_of, with_entries, number_of, is_number, is_number_or_none, next_with, owed, turned, promoted, row_after, after, after_all, is_commit, commits, space_words}
 use Rattle.log_machine.specs.Entries.{EachKeyed}
 use Rattle.log_machine.proofs.MapLaws.{each_empty, each_insert, each_remove}
 use Rattle.log_machine.proofs.MachineLaws.{told_if, free_told, newest_told, inside_told, number_small}
-use Rattle.log_machine.specs.Sound.{IsLoser, AreLosers}
+use Rattle.log_machine.specs.Sound.{IsLoser, AreLosers, IsSpaced}
 use Rattle.log_machine.proofs.Bounds.{HaveSpellings, CanRollBack, Turns, Leads}
 
 -- What one record does.
 
 -- a record that uses no words more
-turned_turns : (s n : State) (r : Record) (undo : FinMap nat_cmp (List UndoEntry)) → is_number (number_of r) ≡ true → turned s (number_of r) undo (cond (is_commit r) 1 0) ≡ n → Turns s r n
-turned_turns s n r undo number is =
-    subst (Turns s r) is (record { number = number; pages = refl; base = refl; used = omega arith; room = λ fits. fits; commits = refl; next = refl })
+turned_turns : (s n : State) (r : Record) (t : ℕ) (undo : FinMap nat_cmp (List UndoEntry)) → number_of r ≡ Some t → is_number t ≡ true → turned s t undo (cond (is_commit r) 1 0) ≡ n → Turns s r n
+turned_turns s n r t undo own number is =
+    subst (Turns s r) is
+    (record { number = ap is_number_or_none own ∙ number; pages = refl; spaced = λ spaced. record { first = spaced.first; room = spaced.room; within = spaced.within }; commits = refl; next = sym (ap (next_with s.next) own) })
+
+-- where an object has become stable, which took none of the words that are owed
+spaced_on : (s : State) (t size : ℕ) → IsSpaced s → s.used + size + owed s ≤ space_words s.pages → IsSpaced (promoted s t size)
+spaced_on s t size spaced room = record { first = spaced.first; room = room; within = spaced.within }
 
 -- what one row does
-row_turns : (s n : State) (r : Record) → is_number (number_of r) ≡ true → row_after s r ≡ Some n → Turns s r n
+row_turns : (s n : State) (r : Record) → is_number_or_none (number_of r) ≡ true → row_after s r ≡ Some n → Turns s r n
 row_turns s n (Update t object field was word) number e =
     let told = cond_some _ _ _ e in
-    turned_turns s n (Update t object field was word) (with_entries s.undo t (record { object = object; field = field; was = was } ∷ undo_of s t)) number told.1
+    turned_turns s n (Update t object field was word) t (with_entries s.undo t (record { object = object; field = field; was = was } ∷ undo_of s t)) refl number told.1
 row_turns s n (Base t address words) number e =
     let told = cond_some _ _ _ e in
     let free = free_told s address (length words) (and_parts _ _ told.0).0 in
     subst (Turns s (Base t address words)) told.1
-    (record { number = number; pages = refl; base = refl; used = omega arith; room = λ fits. free.room; commits = omega arith; next = refl })
-row_turns s n (Fix t object field word) number e = let told = cond_some _ _ _ e in turned_turns s n (Fix t object field word) s.undo number told.1
+    (record { number = number; pages = refl; spaced = λ spaced. spaced_on s t (length words) spaced free.room; commits = omega arith; next = refl })
+row_turns s n (Fix t object field word) number e = let told = cond_some _ _ _ e in turned_turns s n (Fix t object field word) t s.undo refl number told.1
 row_turns s n (Undo t object field word) number e =
-    option_and_then_some (λ rest. Some (turned s t (with_entries s.undo t rest) 0)) _ n e (λ rest newest is. turned_turns s n (Undo t object field word) (with_entries s.undo t rest) number (cc is))
-row_turns s n (Commit t) number e = turned_turns s n (Commit t) (with_entries s.undo t []) number (cc e)
-row_turns s n (End t) number e = let told = cond_some _ _ _ e in turned_turns s n (End t) s.undo number told.1
+    option_and_then_some (λ rest. Some (turned s t (with_entries s.undo t rest) 0)) _ n e (λ rest newest is. turned_turns s n (Undo t object field word) t (with_entries s.undo t rest) refl number (cc is))
+row_turns s n (Commit t) number e = turned_turns s n (Commit t) t (with_entries s.undo t []) refl number (cc e)
+row_turns s n (End t) number e = let told = cond_some _ _ _ e in turned_turns s n (End t) t s.undo refl number told.1
 
 -- what one record does
 pub turns : (s n : State) (r : Record) → after s r ≡ Some n → Turns s r n
@@ -95,7 +100,7 @@ spelled_with undo t (u ∷ us) good each = each_insert (λ q us. AllByRecursion 
 pub sound_start : (pages first : ℕ) → AreLosers (start pages first)
 sound_start pages first = each_empty (IsLoser (start pages first))
 
-sound_row : (s n : State) (r : Record) → is_number (number_of r) ≡ true → AreLosers s → row_after s r ≡ Some n → AreLosers n
+sound_row : (s n : State) (r : Record) → is_number_or_none (number_of r) ≡ true → AreLosers s → row_after s r ≡ Some n → AreLosers n
 sound_row s n (Update t object field was word) number sound e =
     let told = cond_some _ _ _ e in
     let write : UndoEntry = record { object = object; field = field; was = was } in
@@ -182,11 +187,16 @@ can_roll_back pages first s rs good e = can_after_all (start pages first) s rs g
 
 -- The other fields.
 
+-- the next number behind a record grows, and stays in range
+next_later : (next : ℕ) (number : Option ℕ) → is_number_or_none number ≡ true → (next ≤ next_with next number) × (next ≤ 4294967295 → next_with next number ≤ 4294967295)
+next_later next None is = (omega arith, λ fits. fits)
+next_later next (Some t) is = let small = number_small t is in (omega arith, λ fits. omega arith)
+
 -- where one record more leads
 leads_turned : (s n : State) (r : Record) → Turns s r n → Leads s n
 leads_turned s n r is =
-    let small = number_small (number_of r) is.number in
-    record { pages = is.pages; base = is.base; used = is.used; room = is.room; grows = omega (arith, is.next); next_in_range = λ fits. omega (arith, is.next) }
+    let later = next_later s.next (number_of r) is.number in
+    record { pages = is.pages; spaced = is.spaced; grows = omega (arith, is.next, later.0); next_in_range = λ fits. omega (arith, is.next, later.1 fits) }
 
 pub leads_after : (s n : State) (r : Record) → after s r ≡ Some n → Leads s n
 leads_after s n r e = leads_turned s n r (turns s n r e)
@@ -194,9 +204,7 @@ leads_after s n r e = leads_turned s n r (turns s n r e)
 leads_on : (s n m : State) → Leads s n → Leads n m → Leads s m
 leads_on s n m first rest = record {
   pages = rest.pages ∙ first.pages;
-  base = rest.base ∙ first.base;
-  used = omega (arith, first.used, rest.used);
-  room = λ fits. rest.room (first.room fits);
+  spaced = λ spaced. rest.spaced (first.spaced spaced);
   grows = omega (arith, first.grows, rest.grows);
   next_in_range = λ fits. rest.next_in_range (first.next_in_range fits);
 }
@@ -205,14 +213,18 @@ leads_on s n m first rest = record {
 pub leads_after_all : (s m : State) (rs : List Record) → after_all s rs ≡ Some m → Leads s m
 leads_after_all s m [] e =
     let same : s ≡ m = cc e in
-    subst (Leads s) same (record { pages = refl; base = refl; used = omega arith; room = λ fits. fits; grows = omega arith; next_in_range = λ fits. fits })
+    subst (Leads s) same (record { pages = refl; spaced = λ spaced. spaced; grows = omega arith; next_in_range = λ fits. fits })
 leads_after_all s m (r ∷ rs) e = option_and_then_some (λ next. after_all next rs) (after s r) m e (λ next first rest. leads_on s next m (leads_after s next r first) (leads_after_all next m rs rest))
 
--- they leave the used words within the pages of the space
-pub room_after_all : (pages first : ℕ) (s : State) (rs : List Record) → 1 ≤ pages → after_all (start pages first) rs ≡ Some s → (s.pages ≡ pages) × (s.base ≡ 0) × (6 ≤ s.used) × (s.used ≤ space_words pages)
-room_after_all pages first s rs some e =
+-- before the first record the root object stands in the first space
+pub spaced_start : (pages first : ℕ) → 1 ≤ pages → IsSpaced (start pages first)
+spaced_start pages first some = record { first = inl refl; room = omega arith; within = tt }
+
+-- records leave the spaces so
+pub spaced_after_all : (pages first : ℕ) (s : State) (rs : List Record) → 1 ≤ pages → after_all (start pages first) rs ≡ Some s → (s.pages ≡ pages) × IsSpaced s
+spaced_after_all pages first s rs some e =
     let leads = leads_after_all (start pages first) s rs e in
-    (leads.pages, leads.base, leads.used, subst (λ p. s.used ≤ space_words p) leads.pages (leads.room (omega arith)))
+    (leads.pages, leads.spaced (spaced_start pages first some))
 
 -- one record is a commit or none
 pub commits_after : (s n : State) (r : Record) → after s r ≡ Some n → n.commits ≡ cond (is_commit r) 1 0 + s.commits

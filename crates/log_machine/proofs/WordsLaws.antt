@@ -11,7 +11,7 @@ length-put_all [] now = refl
 length-put_all (w ∷ ws) now = length-put_all ws (set now w.0 w.1) ∙ length-set now w.0 w.1
 
 pub length-put_record : (now : List ℕ) (rec : Record) → length (put_record now rec) ≡ length now
-length-put_record now rec = length-put_all (effect rec) now
+length-put_record now rec = length-put_all (effect now rec) now
 
 pub length-put_records : (records : List Record) (now : List ℕ) → length (fold put_record now records) ≡ length now
 length-put_records [] now = refl

@@ -3,11 +3,11 @@ use Rattle.std.specs.Prelude.{ℕ, ◌<◌, List}
 use Rattle.std.specs.List.{AllByRecursion}
 use Rattle.log_records.specs.declared.Record.{Record}
 use Rattle.log_records.specs.declared.Record.TheVariants.{Update, Base, Fix, Undo, Commit, End}
-use Rattle.log_machine.specs.Machine.{effect}
+use Rattle.log_machine.specs.Machine.{addresses}
 
 -- a record writes only words below an address
 abbrev pub WritesBelow : ℕ → Record → Type 0
-WritesBelow end rec = AllByRecursion (λ w. w.0 < end) (effect rec)
+WritesBelow end rec = AllByRecursion (λ a. a < end) (addresses rec)
 
 -- so do these
 abbrev pub EachWritesBelow : ℕ → List Record → Type 0

@@ -1,11 +1,12 @@
 -- What a list of records says: the words that they leave, which writes may still be taken back, and which records can follow.
-use Rattle.std.specs.Prelude.{ℕ, ◌+◌, ◌*◌, ◌==◌, nat_lt, nat_le, List, [], ◌∷◌, length, replicate, Bool, true, false, not, ◌&&◌, Option, None, Some, fold, max, slice_set, count_by, sum_by, unwrap_or, option_and_then, if◌then◌else◌}
+use Rattle.std.specs.Prelude.{ℕ, ◌+◌, ◌*◌, ◌==◌, nat_lt, nat_le, List, [], ◌∷◌, length, replicate, Bool, true, false, not, ◌&&◌, Option, None, Some, fold, map, max, slice_set, count_by, sum_by, unwrap_or, option_and_then, if◌then◌else◌}
 use Rattle.std.specs.List.{flat_map, enumerate_from, list_all}
 use Rattle.std.specs.Ordering.{nat_cmp}
 use Rattle.std.specs.FinMap.{FinMap}
-use Rattle.std.specs.FinMap as map
+use Rattle.std.specs.FinMap as finmap
 use Rattle.log_records.specs.declared.Record.{Record}
 use Rattle.log_records.specs.declared.Record.TheVariants.{Update, Base, Fix, Undo, Commit, End}
+use Rattle.heap_spaces.specs.Collection.{Collection, owed_by}
 use Rattle.heap_words.specs.Header.{born_in, born_as}
 use Rattle.heap_words.specs.Word.{is_stable, is_volatile}
 use Rattle.log_machine.specs.declared.UndoEntry.{UndoEntry}
@@ -28,14 +29,23 @@ first_contents pages = slice_set (replicate (words_in pages) 0) 0 17
 abbrev pub field_at : ℕ → ℕ → ℕ
 field_at object field = object + 2 + field
 
--- a record's effect: the addresses that it writes, each with its word
-abbrev pub effect : Record → List (ℕ × ℕ)
-effect (Update t object field was word) = (field_at object field, word) ∷ []
-effect (Base t address words) = enumerate_from address words
-effect (Fix t object field word) = (field_at object field, word) ∷ []
-effect (Undo t object field word) = (field_at object field, word) ∷ []
-effect (Commit t) = []
-effect (End t) = []
+-- a record's effect on the words before it: the addresses that it writes, each with its word
+abbrev pub effect : List ℕ → Record → List (ℕ × ℕ)
+effect before (Update t object field was word) = (field_at object field, word) ∷ []
+effect before (Base t address words) = enumerate_from address words
+effect before (Fix t object field word) = (field_at object field, word) ∷ []
+effect before (Undo t object field word) = (field_at object field, word) ∷ []
+effect before (Commit t) = []
+effect before (End t) = []
+
+-- the addresses that it writes, which the record alone tells
+abbrev pub addresses : Record → List ℕ
+addresses (Update t object field was word) = field_at object field ∷ []
+addresses (Base t address words) = map (λ w. w.0) (enumerate_from address words)
+addresses (Fix t object field word) = field_at object field ∷ []
+addresses (Undo t object field word) = field_at object field ∷ []
+addresses (Commit t) = []
+addresses (End t) = []
 
 -- the words with these written at their addresses
 abbrev pub put_all : List ℕ → List (ℕ × ℕ) → List ℕ
@@ -47,7 +57,7 @@ with_word words object field word = slice_set words (field_at object field) word
 
 -- the words with a record's effect
 abbrev pub put_record : List ℕ → Record → List ℕ
-put_record words rec = put_all words (effect rec)
+put_record words rec = put_all words (effect words rec)
 
 -- the words of a heap of so many pages after these records
 abbrev pub words : ℕ → List Record → List ℕ
@@ -65,52 +75,67 @@ pub record State : Type 0 where
   pub pages : ℕ  -- how many pages each of the two spaces has
   pub base : ℕ  -- the address of the current space's first word
   pub used : ℕ  -- how many words of the current space its objects take
+  pub collection : Option Collection  -- the collection that runs, where one does
   pub undo : FinMap nat_cmp (List UndoEntry)  -- of each transaction whose writes may be taken back, what they replaced, the newest first
   pub commits : ℕ  -- how many transactions are committed
   pub next : ℕ  -- the number of the next transaction
 
 -- before the first record, in a heap whose first transaction has this number
 abbrev pub start : ℕ → ℕ → State
-start pages first = record { pages = pages; base = 0; used = 6; undo = map.empty; commits = 0; next = first }
+start pages first = record { pages = pages; base = 0; used = 6; collection = None; undo = finmap.empty; commits = 0; next = first }
+
+-- how many words of the current space are kept for what a collection has still to copy
+abbrev pub owed : State → ℕ
+owed s = owed_by s.collection
 
 -- the writes of a transaction that may be taken back, the newest first
 abbrev pub undo_in : FinMap nat_cmp (List UndoEntry) → ℕ → List UndoEntry
-undo_in undo t = unwrap_or (map.get undo t) []
+undo_in undo t = unwrap_or (finmap.get undo t) []
 
 abbrev pub undo_of : State → ℕ → List UndoEntry
 undo_of s t = undo_in s.undo t
 
 -- the transactions whose writes may be taken back, ascending
 abbrev pub losers : State → List ℕ
-losers s = map.keys s.undo
+losers s = finmap.keys s.undo
 
 -- with these as the writes of a transaction that may be taken back
 abbrev pub with_entries : FinMap nat_cmp (List UndoEntry) → ℕ → List UndoEntry → FinMap nat_cmp (List UndoEntry)
-with_entries undo t [] = map.remove undo t
-with_entries undo t (u ∷ us) = map.insert undo t (u ∷ us)
+with_entries undo t [] = finmap.remove undo t
+with_entries undo t (u ∷ us) = finmap.insert undo t (u ∷ us)
 
 -- The records.
 
--- the transaction of a record
-abbrev pub number_of : Record → ℕ
-number_of (Update t object field was word) = t
-number_of (Base t address words) = t
-number_of (Fix t object field word) = t
-number_of (Undo t object field word) = t
-number_of (Commit t) = t
-number_of (End t) = t
+-- the number of a record's transaction, where it is a transaction's
+abbrev pub number_of : Record → Option ℕ
+number_of (Update t object field was word) = Some t
+number_of (Base t address words) = Some t
+number_of (Fix t object field word) = Some t
+number_of (Undo t object field word) = Some t
+number_of (Commit t) = Some t
+number_of (End t) = Some t
 
 -- a number that a transaction can have
 abbrev pub is_number : ℕ → Bool
 is_number t = nat_le 1 t && nat_le t 4294967294
 
+-- such a number, or none
+abbrev pub is_number_or_none : Option ℕ → Bool
+is_number_or_none None = true
+is_number_or_none (Some t) = is_number t
+
+-- the next transaction's number behind a record of this one, or of none
+abbrev pub next_with : ℕ → Option ℕ → ℕ
+next_with next None = next
+next_with next (Some t) = max next (t + 1)
+
 -- the field lies in the used words of the current space
 abbrev pub lies_inside : State → ℕ → ℕ → Bool
 lies_inside s object field = nat_le s.base object && nat_lt (field_at object field) (s.base + s.used)
 
--- so many words from the address on are the next words of the current space that are not used
+-- so many words from the address on are the next words of the current space that are not used, and none of them is owed to a collection
 abbrev pub is_next_free : State → ℕ → ℕ → Bool
-is_next_free s address size = address == s.base + s.used && nat_le (s.used + size) (space_words s.pages)
+is_next_free s address size = address == s.base + s.used && nat_le (s.used + size + owed s) (space_words s.pages)
 
 -- the birth is that of an object that the transaction made
 abbrev pub is_born_in : ℕ → ℕ → Bool
@@ -148,17 +173,17 @@ commits records = count_by is_commit records
 
 -- the state after a record of a transaction that leaves these writes to be taken back
 abbrev pub turned : State → ℕ → FinMap nat_cmp (List UndoEntry) → ℕ → State
-turned s t undo more = record { pages = s.pages; base = s.base; used = s.used; undo = undo; commits = s.commits + more; next = max s.next (t + 1) }
+turned s t undo more = record s { undo = undo; commits = s.commits + more; next = max s.next (t + 1) }
 
 -- the state after a transaction's object has become stable, which has so many words
 abbrev pub promoted : State → ℕ → ℕ → State
-promoted s t size = record { pages = s.pages; base = s.base; used = s.used + size; undo = s.undo; commits = s.commits; next = max s.next (t + 1) }
+promoted s t size = record s { used = s.used + size; next = max s.next (t + 1) }
 
 -- the state after one record more of a transaction whose number is one, if the record can follow
 abbrev pub row_after : State → Record → Option State
 row_after s (Update t object field was word) =
     if lies_inside s object field
-    then Some (turned s t (map.insert s.undo t (record { object = object; field = field; was = was } ∷ undo_of s t)) 0) else None
+    then Some (turned s t (finmap.insert s.undo t (record { object = object; field = field; was = was } ∷ undo_of s t)) 0) else None
 row_after s (Base t address words) =
     if is_next_free s address (length words) && is_promoted_by t words then Some (promoted s t (length words)) else None
 row_after s (Fix t object field word) =
@@ -166,12 +191,12 @@ row_after s (Fix t object field word) =
 row_after s (Undo t object field word) =
     option_and_then (λ rest. Some (turned s t (with_entries s.undo t rest) 0))
     (without_newest (undo_of s t) (record { object = object; field = field; was = word }))
-row_after s (Commit t) = Some (turned s t (map.remove s.undo t) 1)
+row_after s (Commit t) = Some (turned s t (finmap.remove s.undo t) 1)
 row_after s (End t) = if has_none (undo_of s t) then Some (turned s t s.undo 0) else None
 
 -- the state after one record more, if it can follow
 abbrev pub after : State → Record → Option State
-after s rec = if is_number (number_of rec) then row_after s rec else None
+after s rec = if is_number_or_none (number_of rec) then row_after s rec else None
 
 -- the state after these records, if each of them can follow
 abbrev pub after_all : State → List Record → Option State
@@ -186,7 +211,7 @@ Loser = ℕ × List UndoEntry
 
 -- the transactions whose writes may be taken back, ascending, each with these
 abbrev pub losing : State → List Loser
-losing s = map.entries s.undo
+losing s = finmap.entries s.undo
 
 -- the words when all these writes are taken back, of one transaction after another
 abbrev pub each_taken_back : List Loser → List ℕ → List ℕ

@@ -1,11 +1,12 @@
 -- What holds of every state that records reach.
-use Rattle.std.specs.Prelude.{◌≡◌, ◌≢◌, ℕ, ◌^◌, ◌<◌, ◌≤◌, List, [], true}
+use Rattle.std.specs.Prelude.{◌≡◌, ◌≢◌, ◌⊎◌, ℕ, ◌+◌, ◌<◌, ◌≤◌, List, [], true, MatchOption}
 use Rattle.std.specs.List.{AllByRecursion}
 use Rattle.std.specs.Ordering.{nat_cmp}
 use Rattle.std.specs.FinMap.{FinMap}
+use Rattle.heap_spaces.specs.Collection.{Collection}
 use Rattle.log_machine.specs.declared.UndoEntry.{UndoEntry}
 use Rattle.log_machine.specs.UndoEntry.{LiesInside}
-use Rattle.log_machine.specs.Machine.{State, space_words, words_in, is_number}
+use Rattle.log_machine.specs.Machine.{State, space_words, words_in, owed, is_number}
 use Rattle.log_machine.specs.Entries.{EachKeyed}
 
 -- A transaction whose writes may be taken back, and these.
@@ -23,9 +24,19 @@ NoneEmpty undo = EachKeyed (λ t entries. entries ≢ []) undo
 abbrev pub AreLosers : State → Type 0
 AreLosers s = EachKeyed (IsLoser s) s.undo
 
--- What holds of every state that records reach in a heap that has the root object.
+-- What a collection has copied are words of the from-space, which is a space.
+pub record IsWithin (pages : ℕ) (k : Collection) : Type 0 where
+  pub copied : k.copied ≤ k.used
+  pub used : k.used ≤ space_words pages
+
+-- How the spaces of every state are: the current one is one of the two, and it has room for what a collection has still to copy.
+pub record IsSpaced (s : State) : Type 0 where
+  pub first : (s.base ≡ 0) ⊎ (s.base ≡ space_words s.pages)
+  pub room : s.used + owed s ≤ space_words s.pages
+  pub within : MatchOption s.collection (Unit {0}) (IsWithin s.pages)
+
+-- What holds of every state that records reach.
 pub record IsConsistent (s : State) : Type 0 where
   pub sound : AreLosers s
-  pub addresses : words_in s.pages ≤ 2 ^ 32  -- an address has 32 bits
-  pub based : s.base ≤ space_words s.pages  -- the current space is one of the two
-  pub room : s.used ≤ space_words s.pages  -- its used words are words of its pages
+  pub addresses : words_in s.pages ≤ 2097152  -- a reference has room for each address
+  pub spaced : IsSpaced s

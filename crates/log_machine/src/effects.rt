@@ -1,5 +1,5 @@
 //! What a record writes.
-ghost use Rattle.std.specs.Prelude.{◌≡◌, ◌^◌, ◌<◌, ◌++◌, OnOk, OnErr};
+ghost use Rattle.std.specs.Prelude.{ℕ, List, ◌≡◌, ◌^◌, ◌<◌, ◌++◌, OnOk, OnErr};
 ghost use Rattle.std.specs.List.{AllByRecursion, enumerate_from};
 ghost use Rattle.log_machine.specs.Machine.{effect};
 ghost use Rattle.log_machine.specs.Effect.{WritesBelow};
@@ -8,10 +8,10 @@ use crate::page_words::field_at;
 use log_records::Record;
 use std::alloc::AllocError;
 
-/// Adds the record's effect: the addresses that it writes, each with its word. An `Err` changes nothing.
+/// Adds the record's effect: the addresses that it writes, each with its word, whatever words stood there before. An `Err` changes nothing.
 pub fn effect(rec: &Record, into: &mut Vec<(u32, u64)>) -> Result<(), AllocError>
     requires { WritesBelow 2097152 rec.now }
-    ensures ok { OnOk result (into.new.items ≡ into.old.items ++ effect rec.now) }
+    ensures ok { (before : List ℕ) → OnOk result (into.new.items ≡ into.old.items ++ effect before rec.now) }
     ensures err { OnErr result (into.new.items ≡ into.old.items) }
 {
     match rec {

@@ -3,7 +3,7 @@ ghost use Rattle.std.specs.Prelude.{◌≡◌, ◌+◌, ◌<◌, ◌≤◌, ◌^
 ghost use Rattle.std.specs.List.{AllByRecursion};
 ghost use Rattle.std.specs.FinMap as map;
 ghost use Rattle.log_records.specs.declared.Record.TheVariants.{Update, Base, Fix, Undo, Commit, End};
-ghost use Rattle.log_machine.specs.Machine.{start, undo_of, losers, with_entries, space_words, words_in, field_at, number_of, is_number, lies_inside, is_next_free, is_promoted_by, is_born_in, none_volatile, without_newest, has_none, turned, promoted, row_after, after, reserve, rollback};
+ghost use Rattle.log_machine.specs.Machine.{start, undo_of, losers, with_entries, space_words, words_in, field_at, number_of, is_number, is_number_or_none, owed, lies_inside, is_next_free, is_promoted_by, is_born_in, none_volatile, without_newest, has_none, turned, promoted, row_after, after, reserve, rollback};
 ghost use Rattle.log_machine.specs.Effect.{WritesBelow, EachWritesBelow, AddsEntry};
 ghost use Rattle.log_machine.specs.declared.UndoEntry.{UndoEntry};
 ghost use Rattle.log_machine.specs.UndoEntry.{LiesInside};
@@ -54,15 +54,16 @@ pub struct LogState {
 impl Model for LogState {
     ghost use Rattle.log_machine.specs.Machine.{State};
     ghost use Rattle.log_machine.specs.Sound.{IsConsistent};
+    ghost use Rattle.std.specs.Prelude.{None};
     ghost use Rattle.log_machine.specs.StateCode.{state_code};
 
     ghost Value = { State };
 
     ghost coded = { state_code };
 
-    ghost view = { λ s. record { pages = s.pages; base = s.base; used = s.used; undo = s.undo; commits = s.commits; next = s.next } };
+    ghost view = { λ s. record { pages = s.pages; base = s.base; used = s.used; collection = None; undo = s.undo; commits = s.commits; next = s.next } };
 
-    ghost invariant = { λ s. IsConsistent (record { pages = s.pages; base = s.base; used = s.used; undo = s.undo; commits = s.commits; next = s.next }) };
+    ghost invariant = { λ s. IsConsistent (record { pages = s.pages; base = s.base; used = s.used; collection = None; undo = s.undo; commits = s.commits; next = s.next }) };
 }
 
 impl LogState {
@@ -70,7 +71,7 @@ impl LogState {
     /// has an address of 32 bits. It takes no memory.
     pub fn start(alloc: Global, pages: u32, first: u32) -> LogState
         requires some { 1 ≤ pages }
-        requires addresses { words_in pages ≤ 2 ^ 32 }
+        requires addresses { words_in pages ≤ 2097152 }
         ensures { result ≡ start pages first }
     {
         LogState {
@@ -102,7 +103,7 @@ impl LogState {
     /// How many pages each of the two spaces has.
     pub fn pages(&self) -> u32
         ensures pages { result ≡ self.now.pages }
-        ensures addresses { words_in self.now.pages ≤ 2 ^ 32 }
+        ensures addresses { words_in self.now.pages ≤ 2097152 }
     {
         self.pages
     }
@@ -198,7 +199,7 @@ impl LogState {
     // An object of transaction `t` has become stable, which has these words.
     fn promote(&mut self, t: u32, words: &[u64])
         requires number { is_number t ≡ true }
-        requires room { self.old.used + length words.now ≤ space_words self.old.pages }
+        requires room { self.old.used + length words.now + owed self.old ≤ space_words self.old.pages }
         ensures { self.new ≡ promoted self.old t (length words.now) }
     {
         self.next = self.next.max(t + 1);
@@ -238,10 +239,10 @@ impl LogState {
         ensures follows { result ≡ is_some (after self.now rec.now) }
         ensures inside { result ≡ true → WritesBelow (words_in self.now.pages) rec.now }
     {
-        is_number(number(rec)) && self.passes(rec)
+        has_number(rec) && self.passes(rec)
     }
 
-    // The record of a transaction whose number is one can follow those before it.
+    // The record, whose number is that of a transaction, can follow those before it.
     fn passes(&self, rec: &Record) -> bool
         ensures follows { result ≡ is_some (row_after self.now rec.now) }
         ensures inside { result ≡ true → WritesBelow (words_in self.now.pages) rec.now }
@@ -345,9 +346,9 @@ fn is_number(t: u32) -> bool
     1 <= t && t <= LAST_NUMBER
 }
 
-// The number of the record's transaction.
-fn number(rec: &Record) -> u32
-    ensures { result ≡ number_of rec.now }
+// The record's transaction, if it is one's, can have its number.
+fn has_number(rec: &Record) -> bool
+    ensures { result ≡ is_number_or_none (number_of rec.now) }
 {
     match rec {
         Record::Update { t, .. }
@@ -355,6 +356,6 @@ fn number(rec: &Record) -> u32
         | Record::Fix { t, .. }
         | Record::Undo { t, .. }
         | Record::Commit { t }
-        | Record::End { t } => *t,
+        | Record::End { t } => is_number(*t),
     }
 }

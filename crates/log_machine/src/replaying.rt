@@ -37,7 +37,7 @@ pub fn replay(
     records: &[Record],
 ) -> Result<LogState, ReplayError>
     requires some { 1 ≤ pages }
-    requires addresses { words_in pages ≤ 2 ^ 32 }
+    requires addresses { words_in pages ≤ 2097152 }
     requires few { length records.now < 2 ^ 32 }
     ensures state { IfOk result (λ state. after_all (start pages first) records.now ≡ Some state) }
     ensures pages { IfOk result (λ state. state.pages ≡ pages) }

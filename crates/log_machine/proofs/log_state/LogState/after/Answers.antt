@@ -1,6 +1,6 @@
 use Rattle.std.proofs.Common.{◌≡◌, ◌+◌, ◌≤◌, ℕ, List, length, is_some, true, sym, subst}
 use Rattle.log_records.specs.declared.Record.{Record}
-use Rattle.log_machine.specs.Machine.{space_words, after}
+use Rattle.log_machine.specs.Machine.{space_words, owed, after}
 use Rattle.log_machine.proofs.MachineLaws.{follows_Base}
 use Rattle.log_machine.proofs.log_state.LogState.after.Goals as goal
 
@@ -9,4 +9,4 @@ promote-requires-clause-room c =
     let s = c.args.self.now in
     let follows = subst (λ (r : Record). is_some (after s r) ≡ true) c.in-Base.is (sym c.if-not-can_follow.ensures.follows) in
     let free = follows_Base s c.in-Base.t c.in-Base.address c.in-Base.words follows in
-    subst (λ (l : List ℕ). s.used + length l ≤ space_words s.pages) (sym c.as_slice.ensures) free.1.room
+    subst (λ (l : List ℕ). s.used + length l + owed s ≤ space_words s.pages) (sym c.as_slice.ensures) free.1.room

@@ -1,5 +1,5 @@
 use Rattle.std.proofs.Common.{◌+◌, ◌≤◌, length, refl, sym, subst, arith}
-use Rattle.log_machine.specs.Machine.{State, space_words}
+use Rattle.log_machine.specs.Machine.{State, space_words, owed}
 use Rattle.log_machine.proofs.Consistent.{consistent_on, short_now}
 use Rattle.log_machine.proofs.log_state.LogState.promote.Goals as goal
 
@@ -8,5 +8,5 @@ overflow_cast-self c = omega (arith, short_now _ c.args.self.now (length c.args.
 
 pub invariant_of-self : goal.invariant_of-self
 invariant_of-self c =
-    let room = subst (λ (x : State). x.used + length c.args.words.now ≤ space_words x.pages) (sym c.self.view_is) c.requires.room in
+    let room = subst (λ (x : State). x.used + length c.args.words.now + owed x ≤ space_words x.pages) (sym c.self.view_is) c.requires.room in
     consistent_on _ c.args.t (length c.args.words.now) _ c.max-self-inside.result c.self.invariant room refl c.max-self-inside.ensures
