@@ -18,7 +18,7 @@ use Rattle.gated_log.specs.Log.{records_of, batches_bytes}
 use Rattle.graph_words.specs.Places.{Places, address_of}
 use Rattle.graph_words.specs.Area.{HasMade}
 use Rattle.graph_words.specs.Stands.{Stands, AreWritten, AreOfFields}
-use Rattle.heap_model.specs.Core.{Core, all_records, all_words, used, reserved}
+use Rattle.heap_model.specs.Core.{Core, log_start, all_records, all_words, used, reserved}
 use Rattle.heap_model.specs.CoreTold.{IsTold, HoldsAtHand, IsNumbered}
 
 -- A write of a field of an object that is locked exclusively.
@@ -67,11 +67,11 @@ pub record Agrees (a : Account) (c : Core) : Type 0 where
   pub acknowledged_last : a.acknowledged ≤ durable  -- what was answered `durable` is
   pub on_disk : State
   pub disk_places : Places
-  pub disk_told : IsTold c.pages c.lowest c.born disk_places (serial c.g0 (take durable a.sealed)) (c.before + durable) (records_of c.batches) c.words on_disk  -- the disk tells those commits
+  pub disk_told : IsTold (log_start c) c.born disk_places (serial c.g0 (take durable a.sealed)) (c.before + durable) (records_of c.batches) c.words on_disk  -- the disk tells those commits
   pub first_known : c.first ≤ on_disk.next  -- an opening of it goes on with no number below the first of this one
   pub disk_room : length (batches_bytes c.batches) + 1 + reserve on_disk ≤ c.room  -- and has room to take back what else it holds
   pub behind : State
-  pub told : IsTold c.pages c.lowest c.born c.places (serial c.g0 a.sealed) (c.before + length a.sealed) (all_records c) (all_words c) behind  -- all records tell all that was sealed
+  pub told : IsTold (log_start c) c.born c.places (serial c.g0 a.sealed) (c.before + length a.sealed) (all_records c) (all_words c) behind  -- all records tell all that was sealed
   pub next_known : behind.next ≤ c.first + a.begun  -- no transaction to come has written yet
   pub losers : maps.EachKeyed (λ q us. IsActive a q) behind.undo  -- only active transactions have writes that may be taken back
   pub writers : (s : ℕ) → IsWriter c.places c.g0 a (a.active s) (all_words c) behind  -- and each sees what it wrote

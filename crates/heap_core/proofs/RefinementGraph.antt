@@ -13,7 +13,9 @@ use Rattle.object_layout.specs.Layout.{IsSeenAs}
 use Rattle.graph_words.proofs.Places.Names.{name_at}
 use Rattle.graph_words.proofs.Stands.Seen.{stands_seen_at}
 use Rattle.heap_model.specs.Core.{Core, Ground, ground, all_words, undo_with}
+use Rattle.heap_spaces.specs.Spaces.{SpacesState}
 use Rattle.memory_laws.specs.CoreMemory.{IsMemory, kept_of}
+use Rattle.memory_laws.proofs.Step.Appended.{spaces_are}
 use Rattle.txn_table.specs.Table.{TableState, transaction_of}
 use Rattle.heap_engine.specs.declared.engine.Engine.{Engine}
 use Rattle.heap_engine.specs.Reserve.{undo_if}
@@ -42,12 +44,13 @@ memory_committed c w valid runs is =
 
 -- the graph of the sealed transactions is seen in it
 pub memory_seen : (c : Core) (w : Engine) → IsValid c → RunsLocked c.g0 c.first c.history → IsMemory (memory w) (account c.history) c
-    → IsSeenAs (name_at c.places) (committed w) 0 (serial c.g0 (sealed c.history))
+    → IsSeenAs (name_at c.places) (committed w) (memory w).spaces.base (serial c.g0 (sealed c.history))
 memory_seen c w valid runs is =
     let now = all_taken_back valid.behind (all_words c) in
     let g = serial c.g0 (sealed c.history) in
-    let there : IsSeenAs (name_at c.places) now 0 g = subst (λ (base : ℕ). IsSeenAs (name_at c.places) now base g) valid.told.base (stands_seen_at valid.told.stands) in
-    subst (λ (ws : List ℕ). IsSeenAs (name_at c.places) ws 0 g) (sym (memory_committed c w valid runs is)) there
+    let here : valid.behind.base ≡ (memory w).spaces.base = ap (λ (x : SpacesState). x.base) (sym (spaces_are (memory w) (memory w) c valid is)) in
+    let there : IsSeenAs (name_at c.places) now (memory w).spaces.base g = subst (λ (base : ℕ). IsSeenAs (name_at c.places) now base g) here (stands_seen_at valid.told.stands) in
+    subst (λ (ws : List ℕ). IsSeenAs (name_at c.places) ws (memory w).spaces.base g) (sym (memory_committed c w valid runs is)) there
 
 -- taking back changes words where they are
 pub length-without_writes : (table : TableState) (ss now : List ℕ) → length (without_writes table now ss) ≡ length now

@@ -11,12 +11,11 @@ use Rattle.gated_log.specs.Log.{records_of}
 use Rattle.gated_log.specs.LogState.{log_count}
 use Rattle.graph_model.specs.Graph.{Graph}
 use Rattle.graph_model.specs.History.{account, nothing_yet}
-use Rattle.heap_spaces.specs.Spaces.{SpacesState, IsSpaces}
+use Rattle.heap_spaces.specs.Spaces.{SpacesState}
 use Rattle.image_plan.specs.declared.superblock.Super.{Super}
 use Rattle.log_records.specs.declared.Record.{Record}
-use Rattle.log_machine.proofs.AbortLaws.{settled}
-use Rattle.log_machine.specs.Machine.{start, words_in}
-use Rattle.log_machine.proofs.StateLaws.{leads_after_all, room_after_all}
+use Rattle.log_machine.specs.Machine.{State, settled, spaces_of, start, words_in, commits}
+use Rattle.log_machine.proofs.StateLaws.{leads_after_all, commits-start}
 use Rattle.page_redo.specs.Pages.{Pages, pages_in, lsn_of}
 use Rattle.page_redo.proofs.PrefixLaws.{redone-words}
 use Rattle.page_redo.specs.Redo.{EachLacks, last_lsn}
@@ -30,7 +29,7 @@ use Rattle.heap_model.specs.CoreCrash.{IsLogged}
 use Rattle.heap_model.proofs.Opening.Rolled.{next_is, rolled_reached, redone_words-rolled_back, length-rolled_words, rolled_behind, rolled_prefixes}
 use Rattle.heap_model.specs.Core.{state_behind}
 use Rattle.heap_model.specs.Image.{IsShapedLog, IsLegalLog, Holds}
-use Rattle.heap_model.specs.Opening.{rolled_back, rolled_words, opened, used_in}
+use Rattle.heap_model.specs.Opening.{rolled_back, rolled_words, opened}
 use Rattle.heap_recovery.specs.declared.recovery.Recovered.{Recovered}
 use Rattle.heap_recovery.specs.Recovered.{IsRecovered}
 use Rattle.heap_memory.specs.Memory.{Memory}
@@ -44,9 +43,14 @@ use Rattle.disk_model.specs.declared.disk.Disk.{Ghosts}
 use Rattle.heap_engine.specs.Refinement.{KnowsPages, IsEngine}
 use Rattle.heap_core.specs.Refinement.{DiskHolds}
 
--- as many words are used as the log says
-used_found : (s : Super) (batches : List (List Record)) (stored : Pages) (found : Recovered) (shaped : IsShapedLog s batches stored) → IsRecovered s batches stored found → found.used ≡ shaped.state.used
-used_found s batches stored found shaped recovered = sym recovered.used ∙ ap used_in shaped.reached
+-- what was handed on is what the log says once it is rolled back
+state_found : (s : Super) (batches : List (List Record)) (stored : Pages) (found : Recovered) (shaped : IsShapedLog s batches stored) → IsRecovered s batches stored found → found.state ≡ settled shaped.state
+state_found s batches stored found shaped recovered = some_one _ _ (sym recovered.state ∙ rolled_reached s batches stored shaped)
+
+-- as many transactions are committed as the log has commits
+pub commits_found : (s : Super) (batches : List (List Record)) (stored : Pages) (found : Recovered) (shaped : IsShapedLog s batches stored) → IsRecovered s batches stored found → found.state.commits ≡ commits (records_of batches)
+commits_found s batches stored found shaped recovered =
+    ap (λ (x : State). x.commits) (state_found s batches stored found shaped recovered) ∙ commits-start s.pages s.first shaped.state (records_of batches) shaped.reached
 
 -- the words in memory are those behind the opening
 words_found : (s : Super) (batches : List (List Record)) (stored : Pages) (found : Recovered) → IsShapedLog s batches stored → IsRecovered s batches stored found
@@ -91,13 +95,13 @@ pub record IsFresh (found : Recovered) (m : Memory) : Type 0 where
   pub words : m.words ≡ (cached found.cache).words
   pub lsns : m.lsns ≡ (cached found.cache).lsns
   pub store : m.store ≡ cache_store found.cache
-  pub spaces : m.spaces ≡ record { pages = found.pages; base = 0; used = found.used; owed = 0 }
-  pub table : m.table ≡ new_table found.next
+  pub spaces : m.spaces ≡ spaces_of found.state
+  pub table : m.table ≡ new_table found.state.next
   pub locks : m.locks ≡ set.empty
   pub sealed : m.sealed ≡ 0
 
 pub is_fresh : (found : Recovered) (spaces : SpacesState) (table first : TableState) (m : Memory) → m ≡ state.opened found.log found.cache spaces table.next
-    → spaces ≡ record { pages = found.pages; base = 0; used = found.used; owed = 0 } → table ≡ record { next = found.next; active = first.active } → IsFresh found m
+    → spaces ≡ spaces_of found.state → table ≡ record { next = found.state.next; active = first.active } → IsFresh found m
 is_fresh found spaces table first m is space transactions = record {
   log = ap (λ x. x.log) is;
   words = ap (λ x. x.words) is;
@@ -114,7 +118,7 @@ fresh_memory : (s : Super) (batches : List (List Record)) (stored : Pages) (gate
     → IsRecovered s batches stored found → IsFresh found m → IsMemory m (account (opened s batches stored gates born places g).history) (opened s batches stored gates born places g)
 fresh_memory s batches stored gates born places g found m shaped recovered fresh =
     let c = opened s batches stored gates born places g in
-    let to = leads_after_all (start s.pages s.first) shaped.state (records_of batches) shaped.reached in
+    let same_next = ap (λ (x : State). x.next) (state_found s batches stored found shaped recovered) ∙ sym (next_is s batches stored shaped) in
     let none = append-nil (records_of (rolled_back s batches)) in
     record {
       log = rw fresh.log recovered.log;
@@ -128,12 +132,10 @@ fresh_memory s batches stored gates born places g found m shaped recovered fresh
       unfailed = subst (λ (x : PageStore). IsFalse (has_failed x)) (sym fresh.store) recovered.unfailed;
       state = settled shaped.state;
       reached = ap (state_behind c) none ∙ rolled_reached s batches stored shaped;
-      spaces = fresh.spaces ∙ ap (λ n. record { pages = n; base = 0; used = found.used; owed = 0 }) (recovered.pages ∙ sym to.pages)
-          ∙ ap (λ n. record { pages = shaped.state.pages; base = n; used = found.used; owed = 0 }) (sym to.base)
-          ∙ ap (λ n. record { pages = shaped.state.pages; base = shaped.state.base; used = n; owed = 0 }) (used_found s batches stored found shaped recovered);
-      transactions = none_begun m.table found.next fresh.table;
+      spaces = fresh.spaces ∙ ap spaces_of (state_found s batches stored found shaped recovered);
+      transactions = none_begun m.table found.state.next fresh.table;
       locks = none_held m.locks places g fresh.locks;
-      next = ap (λ t. t.next) fresh.table ∙ omega (arith, recovered.next);
+      next = ap (λ t. t.next) fresh.table ∙ omega (arith, same_next);
       sealed = fresh.sealed;
     }
 
@@ -184,27 +186,24 @@ opened_disk_holds s batches stored gates places g new may_leave legal held only 
 -- Numbers of every heap that was opened: there is a next transaction, the words are those of both spaces, the objects' words are in the first,
 -- and the log's next record is new to each page.
 pub record IsBounded (found : Recovered) : Type 0 where
-  pub next : 1 ≤ found.next
-  pub size : length (cached found.cache).words ≡ words_in found.pages
+  pub next : 1 ≤ found.state.next
+  pub size : length (cached found.cache).words ≡ words_in found.state.pages
   pub new : EachLacks (log_count found.log + 1) (cached found.cache)
-  pub spaces : IsSpaces (record { pages = found.pages; base = 0; used = found.used; owed = 0 })
+  pub few : found.state.pages ≤ 16384
 
 pub opened_bounds : (s : Super) (batches : List (List Record)) (stored : Pages) (found : Recovered) → IsShapedLog s batches stored → IsRecovered s batches stored found → IsBounded found
 opened_bounds s batches stored found shaped recovered =
     let to = leads_after_all (start s.pages s.first) shaped.state (records_of batches) shaped.reached in
-    let room = room_after_all s.pages s.first shaped.state (records_of batches) shaped.limits.some_pages shaped.reached in
-    let used = used_found s batches stored found shaped recovered in
+    let state = state_found s batches stored found shaped recovered in
     let first = shaped.limits.some_first in
     let grows = to.grows in
-    let next = recovered.next in
-    let known = next_is s batches stored shaped in
-    let pages = recovered.pages in
+    let next = ap (λ (x : State). x.next) state in
+    let pages = ap (λ (x : State). x.pages) state ∙ to.pages in
     let few = shaped.limits.few_pages in
-    let within = room.3 in
     let size = ap length (words_found s batches stored found shaped recovered) ∙ length-rolled_words s batches stored shaped ∙ ap words_in (sym pages) in
     record {
       next = omega arith;
       size = size;
       new = next_is_new s batches stored found shaped recovered;
-      spaces = record { few = omega arith; first = inl refl; room = omega arith };
+      few = omega arith;
     }

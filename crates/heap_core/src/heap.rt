@@ -35,14 +35,10 @@ use disk_model::{Disk, DiskError};
 use graph_model::{Event, Refusal, Reply};
 use heap_engine::{Engine, StepError};
 use heap_recovery::{Recovered, recover};
-use heap_spaces::Spaces;
 use log_machine::PageWords;
 use object_layout::WordSlice;
 use std::alloc::{AllocError, Global};
 use txn_table::TxnTable;
-
-/// The word address of the root object.
-const ROOT_AT: u32 = 0;
 
 /// A heap on a disk, for sessions 1 to 32 side by side.
 #[derive(Debug, Drop)]
@@ -89,14 +85,14 @@ fn entered(history: &mut History, event: Event, reply: Reply) -> Reply
     reply
 }
 
-/// The text of the graph that is seen from the root on.
-fn print(alloc: Global, words: &PageWords) -> Result<Vec<u8>, GraphError>
+/// The text of the graph that is seen from the root object on, which stands at this word address.
+fn print(alloc: Global, words: &PageWords, root: u32) -> Result<Vec<u8>, GraphError>
     requires { length words.now < 2 ^ 32 }
-    ensures text { (name : ℕ → Id) (g : Graph) → IsSeenAs name words.now 0 g → IfOk result (λ text. text.items ≡ canon_text (canon g)) }
-    ensures error { (name : ℕ → Id) (g : Graph) → IsSeenAs name words.now 0 g → IfErr result (λ e. e ≡ GraphError.NoMemory) }
+    ensures text { (name : ℕ → Id) (g : Graph) → IsSeenAs name words.now root g → IfOk result (λ text. text.items ≡ canon_text (canon g)) }
+    ensures error { (name : ℕ → Id) (g : Graph) → IsSeenAs name words.now root g → IfErr result (λ e. e ≡ GraphError.NoMemory) }
 {
     let mut words = WordSlice::of(words.as_slice());
-    Ok(graph_print::canon_text(alloc, &mut words, ROOT_AT)?)
+    Ok(graph_print::canon_text(alloc, &mut words, root)?)
 }
 
 impl<D: Disk> Heap<D> {
@@ -153,17 +149,10 @@ impl<D: Disk> Heap<D> {
         };
         match recover(alloc, &mut disk) {
             Ok(found) => {
-                let Recovered {
-                    log,
-                    cache,
-                    pages,
-                    used,
-                    commits,
-                    next,
-                } = found;
-                table.set_next(next);
-                let spaces = Spaces::new(pages, 0, used, 0);
-                let engine = Engine::new(alloc, log, cache, spaces, table);
+                let Recovered { log, cache, state } = found;
+                table.set_next(state.next());
+                let commits = state.commits();
+                let engine = Engine::new(alloc, log, cache, state.spaces(), table);
                 Ok(Heap {
                     disk,
                     engine,
@@ -278,7 +267,7 @@ impl<D: Disk> Heap<D> {
         ensures error { (c : Core) → IsCore c self.now → IsReached c → IfErr result (λ e. e ≡ GraphError.NoMemory) }
     {
         let words = self.engine.committed_words(alloc)?;
-        print(alloc, &words)
+        print(alloc, &words, self.engine.root_address())
     }
 
     /// Gives the disk back.

@@ -48,7 +48,7 @@ module _ (m n : Memory) (c : Core) (is : IsMemory m (account c.history) c) (vali
       subst (DoesIt reply) (sym form) (begin_does m n c valid runs is s (begin_refused m c valid runs is s (subst IsOfSession form one)) reply replied done stays)
 
   pub roots : (h : ℕ) (reply : Reply) → event ≡ Root s h → reply ≡ reply_of (handle_refusal (own m s) h) answer.Done
-      → (reply ≡ answer.Done → SetsHandle m n s h (Some root_place)) → ((why : Refusal) → reply ≡ answer.Refused why → n ≡ m) → DoesIt reply event
+      → (reply ≡ answer.Done → SetsHandle m n s h (Some (root_place m))) → ((why : Refusal) → reply ≡ answer.Refused why → n ≡ m) → DoesIt reply event
   roots h reply form replied done stays = subst (DoesIt reply) (sym form) (root_does m n c valid is s h (root_refused m c valid runs is s h) reply replied done stays)
 
   pub drops : (h : ℕ) (reply : Reply) → event ≡ Drop s h → reply ≡ reply_of (handle_refusal (own m s) h) answer.Done

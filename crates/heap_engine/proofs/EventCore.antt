@@ -42,22 +42,22 @@ use Rattle.heap_engine.proofs.DeviceCalls.{stays, quiet_passes}
 use Rattle.heap_engine.proofs.SessionsCore.{is_some_own}
 
 -- another history, and other records, are of a heap with the same numbers
-pub of_same : (s : Super) (c d : Core) → IsSuperOf s c → d.pages ≡ c.pages → d.room ≡ c.room → d.lowest ≡ c.lowest → IsSuperOf s d
-of_same s c d of pages room lowest = record { limits = of.limits; pages = of.pages ∙ sym pages; room = of.room ∙ sym room; first = of.first ∙ sym lowest }
+pub of_same : (s : Super) (c d : Core) → IsSuperOf s c → d.pages ≡ c.pages → d.room ≡ c.room → d.first_number ≡ c.first_number → IsSuperOf s d
+of_same s c d of pages room first_number = record { limits = of.limits; pages = of.pages ∙ sym pages; room = of.room ∙ sym room; first = of.first ∙ sym first_number }
 
 record SameDisk (c d : Core) : Type 0 where
   batches : d.batches ≡ c.batches
   pages : d.pages ≡ c.pages
   room : d.room ≡ c.room
-  lowest : d.lowest ≡ c.lowest
+  first_number : d.first_number ≡ c.first_number
   born : d.born ≡ c.born
 
 all_same : (c : Core) → SameDisk c c
-all_same c = record { batches = refl; pages = refl; room = refl; lowest = refl; born = refl }
+all_same c = record { batches = refl; pages = refl; room = refl; first_number = refl; born = refl }
 
 same_disk : (o : Option Refusal) (c : Core) (event : Event) → (AsksDisk event → ⊥) → SameDisk c (after_refusal o c event)
 same_disk (Some why) c event other = all_same c
-same_disk None c event other = let P : Core → Type 0 = λ d. SameDisk c d in subst P (sym (done_records c event other)) (record { batches = refl; pages = refl; room = refl; lowest = refl; born = refl })
+same_disk None c event other = let P : Core → Type 0 = λ d. SameDisk c d in subst P (sym (done_records c event other)) (record { batches = refl; pages = refl; room = refl; first_number = refl; born = refl })
 
 -- the names of objects are their births behind an event, if they were before
 pub born_after : (c : Core) (event : Event) → IsTrue c.born → IsTrue (after c event).born
@@ -76,7 +76,7 @@ pub disk_stays : (s : Super) (c : Core) (event : Event) (image : List ℕ) (may_
 disk_stays s c event image may_leave other disk =
     let same = same_disk (core_refusal c event) c event other in
     record {
-      of = of_same s c (after c event) disk.of same.pages same.room same.lowest;
+      of = of_same s c (after c event) disk.of same.pages same.room same.first_number;
       born = born_after c event disk.born;
       stored = disk.stored;
       logged = logged_after c event disk.stored (quiet_flush event other) disk.logged;

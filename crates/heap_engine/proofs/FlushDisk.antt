@@ -31,7 +31,7 @@ on_ok (Err e) goes holds = tt
 pub record IsForced (c d : Core) : Type 0 where
   pub pages : d.pages ≡ c.pages
   pub room : d.room ≡ c.room
-  pub lowest : d.lowest ≡ c.lowest
+  pub first_number : d.first_number ≡ c.first_number
   pub stored_lsns : d.stored_lsns ≡ c.stored_lsns
   pub gates : d.gates ≡ c.gates
   pub born : d.born ≡ c.born
@@ -44,7 +44,7 @@ pub is_forced : (ahead : Bool) (c : Core) → IsForced c (forced_if ahead c)
 is_forced true c = subst (IsForced c) (sym (forced-with_batch c)) (record {
   pages = refl;
   room = refl;
-  lowest = refl;
+  first_number = refl;
   stored_lsns = refl;
   gates = refl;
   born = refl;
@@ -52,7 +52,7 @@ is_forced true c = subst (IsForced c) (sym (forced-with_batch c)) (record {
   records = append-nil _ ∙ records_of-with_batch c.batches c.pending;
   on = inr refl;
 })
-is_forced false c = record { pages = refl; room = refl; lowest = refl; stored_lsns = refl; gates = refl; born = refl; words = refl; records = refl; on = inl refl }
+is_forced false c = record { pages = refl; room = refl; first_number = refl; stored_lsns = refl; gates = refl; born = refl; words = refl; records = refl; on = inl refl }
 
 -- each page has the LSN that it had
 pub present_forced : (c d : Core) (p : ℕ) → IsForced c d → present_lsn d p ≡ present_lsn c p
@@ -61,7 +61,7 @@ present_forced c d p same =
 
 -- and the superblock is that of its heap
 pub super_forced : (s : Super) (c d : Core) → IsForced c d → IsSuperOf s c → IsSuperOf s d
-super_forced s c d same of = record { limits = of.limits; pages = of.pages ∙ sym same.pages; room = of.room ∙ sym same.room; first = of.first ∙ sym same.lowest }
+super_forced s c d same of = record { limits = of.limits; pages = of.pages ∙ sym same.pages; room = of.room ∙ sym same.room; first = of.first ∙ sym same.first_number }
 
 -- the stored pages may stay beside the log
 pub logged_if : (ahead : Bool) (c : Core) (stored : Pages) → IsLogged c stored → IsLogged (forced_if ahead c) stored

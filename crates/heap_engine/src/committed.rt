@@ -7,7 +7,14 @@ use std::alloc::{AllocError, Global};
 use txn_table::SESSIONS;
 
 impl Engine {
-    ghost use Rattle.heap_engine.specs.EngineState.{committed};
+    ghost use Rattle.heap_engine.specs.EngineState.{memory, committed};
+
+    /// The word address of the root object.
+    pub fn root_address(&self) -> u32
+        ensures { result ≡ (memory self.now).spaces.base }
+    {
+        self.spaces.base()
+    }
 
     /// The words of both spaces without what active transactions wrote: the writes of each are taken back, session after session.
     pub fn committed_words(&self, alloc: Global) -> Result<PageWords, AllocError>

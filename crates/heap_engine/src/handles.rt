@@ -12,9 +12,6 @@ use std::alloc::AllocError;
 use txn_table::{HANDLES, Place};
 use volatile_area::AreaError;
 
-/// Where the root object stands.
-const ROOT: Place = Place::Stable(0);
-
 /// The most fields of an object.
 const MOST_FIELDS: u64 = 510;
 
@@ -27,10 +24,11 @@ impl Engine {
     /// Lets a handle of the transaction, one of 0 to 63, hold the root object.
     pub(crate) fn root(&mut self, session: u32, h: u64) -> Reply
         ensures reply { result ≡ reply_of (handle_refusal (own (memory self.old) session) h) Done }
-        ensures done { result ≡ Done → SetsHandle (memory self.old) (memory self.new) session h (Some root_place) }
+        ensures done { result ≡ Done → SetsHandle (memory self.old) (memory self.new) session h (Some (root_place (memory self.old))) }
         ensures refused { (why : _) → result ≡ Reply.Refused why → self.new ≡ self.old }
     {
-        self.set_handle(session, h, Some(ROOT))
+        let root = Place::Stable(self.spaces.base());
+        self.set_handle(session, h, Some(root))
     }
 
     /// Lets a handle of the transaction, one of 0 to 63, hold nothing.

@@ -41,9 +41,9 @@ kept_for_end (Some t) = end_bytes (length t.undo)
 abbrev pub reserved : TableState → ℕ
 reserved table = sum_by (λ s. kept_for_end (transaction_of table s)) sessions
 
--- where the root object stands
-abbrev pub root_place : Place
-root_place = Stable 0
+-- where the root object stands: it is the first object of the current space
+abbrev pub root_place : Memory → Place
+root_place m = Stable m.spaces.base
 
 -- what the word of a reference to the object at a place means
 abbrev pub place_word : Place → Word

@@ -18,7 +18,7 @@ use Rattle.log_records.specs.declared.Record.{Record}
 use Rattle.log_records.specs.declared.Record.TheVariants.{Update}
 use Rattle.log_records.specs.Record.{spellings}
 use Rattle.log_machine.specs.declared.UndoEntry.{UndoEntry}
-use Rattle.log_machine.specs.Machine.{State, start, after_all, put_record, undo_of, undo_bytes, abort_records}
+use Rattle.log_machine.specs.Machine.{State, start, owed, after_all, put_record, undo_of, undo_bytes, abort_records}
 use Rattle.page_redo.specs.Pages.{pages_in}
 use Rattle.page_redo.specs.Redo.{last_lsn}
 use Rattle.gated_log.specs.Log.{records_of, batches_bytes, pending_batch}
@@ -33,7 +33,7 @@ use Rattle.graph_words.specs.Promotion.{Move, moves_of, promoted_need, seal_reco
 pub record Core : Type 0 where
   pub pages : ℕ  -- how many pages each of the two spaces has
   pub room : ℕ  -- the bytes of the log
-  pub lowest : ℕ  -- the number of the heap's first transaction
+  pub first_number : ℕ  -- the number of the heap's first transaction
   pub first : ℕ  -- the next transaction's number at the opening
   pub g0 : Graph  -- the graph at the opening
   pub born : Bool  -- whether its objects are named by their births
@@ -66,9 +66,13 @@ present_lsn c p = max (c.stored_lsns p) (last_lsn p 1 (all_records c))
 abbrev pub is_dirty : Core → ℕ → Bool
 is_dirty c p = nat_lt p (pages_in c.pages) && not (present_lsn c p == c.stored_lsns p)
 
+-- the state with which the log begins
+abbrev pub log_start : Core → State
+log_start c = start c.pages c.first_number
+
 -- what records say of a core's heap, if they follow one another
 abbrev pub state_behind : Core → List Record → Option State
-state_behind c records = after_all (start c.pages c.lowest) records
+state_behind c records = after_all (log_start c) records
 
 abbrev pub undo_with : Option State → ℕ → List UndoEntry
 undo_with None t = []
@@ -195,12 +199,12 @@ area_refusal view t len =
 abbrev pub seal_need : Ground → ℕ → View → ℕ
 seal_need ground t view = promoted_need (area_in ground.places view t) ground.words (undo_with ground.state t)
 
--- why the current space has no room for so many words; none is owed to a collection
+-- why the current space has no room for so many words: fewer are free and not owed to a collection
 abbrev pub space_refusal : Option State → ℕ → Option Refusal
 space_refusal None need = None
 space_refusal (Some s) need =
     let free = 64 * s.pages - s.used in
-    if nat_lt free need then Some (Exhausted need free 0) else None
+    if nat_lt (free - owed s) need then Some (Exhausted need free (owed s)) else None
 
 -- why there is no room for what a transaction asks: for a new object, or for those that its seal promotes
 abbrev pub room_refusal : Ground → Graph → Account → Option Transaction → Event → Option Refusal

@@ -33,7 +33,7 @@ pub record IsSuperOf (s : Super) (c : Core) : Type 0 where
   pub limits : IsSuper s
   pub pages : s.pages ≡ c.pages
   pub room : s.log_bytes ≡ c.room
-  pub first : s.first ≡ c.lowest
+  pub first : s.first ≡ c.first_number
 
 -- An image stands for the first k commits of a core since its opening. All that was acknowledged is among them, and so is what was forced of
 -- which no reply has told. It has the core's superblock, and its next transaction number is not below the core's first.

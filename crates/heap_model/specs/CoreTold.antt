@@ -6,18 +6,19 @@ use Rattle.graph_model.specs.Graph.{Graph}
 use Rattle.graph_model.specs.Transaction.{Transaction}
 use Rattle.log_records.specs.declared.Record.{Record}
 use Rattle.log_records.specs.Record.{IsRecord}
-use Rattle.log_machine.specs.Machine.{State, words_in, all_taken_back, start, after_all}
+use Rattle.log_machine.specs.Machine.{State, words_in, all_taken_back, after_all}
+use Rattle.log_machine.specs.Sound.{IsSpaced}
 use Rattle.graph_words.specs.Places.{Places, IsAtHand, AreOld}
 use Rattle.graph_words.specs.Stands.{StandsCommitted, AreNamedByBirth}
 
--- Records and the words behind them tell a graph: k transactions are committed and have left it, and it stands at these places in the words
+-- Records of a log that begins with the state `from`, and the words behind them, tell a graph: k transactions are committed and have left it, and it stands at these places in the words
 -- without the writes of transactions that have not ended.
-pub record IsTold (pages lowest : ℕ) (born : Bool) (places : Places) (g : Graph) (k : ℕ) (records : List Record) (words : List ℕ) (state : State) : Type 0 where
+pub record IsTold (from : State) (born : Bool) (places : Places) (g : Graph) (k : ℕ) (records : List Record) (words : List ℕ) (state : State) : Type 0 where
   pub good : AllByRecursion IsRecord records  -- each of them has a spelling
-  pub reached : after_all (start pages lowest) records ≡ Some state  -- each of them follows those before it
-  pub size : length words ≡ words_in pages  -- there are as many as both spaces have
+  pub reached : after_all from records ≡ Some state  -- each of them follows those before it
+  pub size : length words ≡ words_in from.pages  -- there are as many as both spaces have
   pub count : state.commits ≡ k
-  pub base : state.base ≡ 0
+  pub spaced : IsSpaced state
   pub stands : StandsCommitted places g (all_taken_back state words) state.base state.used
   pub old : AreOld state.next places
   pub births : IsTrue born → AreNamedByBirth places (all_taken_back state words)

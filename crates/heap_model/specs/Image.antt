@@ -18,13 +18,17 @@ use Rattle.object_layout.specs.Layout.{IsSeen}
 use Rattle.object_layout.specs.Walk.{IsWalked, HaveOwnBirths, AreBornBefore}
 use Rattle.gated_log.specs.Log.{HoldsBatches, batches_bytes, records_of}
 
+-- the state with which the log of a heap with these numbers begins
+abbrev pub first_state : Super → State
+first_state s = start s.pages s.first
+
 -- the words when each record of these batches is redone on the stored pages that lack it
 abbrev pub redone_words : List (List Record) → Pages → List ℕ
 redone_words batches stored = (redone stored (records_of batches)).words
 
 -- and then the writes of transactions that have not ended are taken back
 abbrev pub words_of : Super → List (List Record) → Pages → List ℕ
-words_of s batches stored = each_taken_back (losing_in (after_all (start s.pages s.first) (records_of batches))) (redone_words batches stored)
+words_of s batches stored = each_taken_back (losing_in (after_all (first_state s) (records_of batches))) (redone_words batches stored)
 
 -- What a shaped log of a heap with these numbers says beside stored pages: its records follow one another; it has room for those that
 -- take back what transactions wrote that have not ended; no page is ahead of it; and when it is redone on the pages, and these writes are
@@ -33,7 +37,7 @@ pub record IsShapedLog (s : Super) (batches : List (List Record)) (stored : Page
   pub limits : IsSuper s
   pub good : AllByRecursion IsRecord (records_of batches)
   pub state : State
-  pub reached : after_all (start s.pages s.first) (records_of batches) ≡ Some state
+  pub reached : after_all (first_state s) (records_of batches) ≡ Some state
   pub room : length (batches_bytes batches) + 1 + reserve state ≤ s.log_bytes
   pub size : length stored.words ≡ words_in s.pages
   pub lsns_size : length stored.lsns ≡ pages_in s.pages

@@ -1,19 +1,19 @@
 -- What an opening of a legal image does: it takes back the writes of transactions that have not ended, in one batch more.
-use Rattle.std.specs.Prelude.{◌⊎◌, ℕ, ◌+◌, Bool, IsTrue, List, [], Option, None, Some, fold, max}
+use Rattle.std.specs.Prelude.{◌⊎◌, ℕ, ◌+◌, Bool, IsTrue, List, [], Option, None, Some, fold}
 use Rattle.graph_model.specs.Graph.{Graph}
 use Rattle.image_plan.specs.declared.superblock.Super.{Super}
 use Rattle.log_records.specs.declared.Record.{Record}
 use Rattle.gated_log.specs.Log.{records_of, with_batch}
-use Rattle.log_machine.specs.Machine.{State, start, after_all, put_record, number_of, commits, rollback}
+use Rattle.log_machine.specs.Machine.{State, after_all, put_record, number_of, next_with, commits, rollback}
 use Rattle.page_redo.specs.Pages.{Pages, lsn_of}
 use Rattle.graph_words.specs.Places.{Places, AreOld}
 use Rattle.graph_words.specs.Stands.{StandsCommitted, ArePlaced, AreNamedByBirth}
 use Rattle.heap_model.specs.Core.{Core, force_calls}
-use Rattle.heap_model.specs.Image.{redone_words, words_of, IsShapedLog, Holds}
+use Rattle.heap_model.specs.Image.{first_state, redone_words, words_of, IsShapedLog, Holds}
 
 -- what the records of these batches say
 abbrev pub state_of : Super → List (List Record) → Option State
-state_of s batches = after_all (start s.pages s.first) (records_of batches)
+state_of s batches = after_all (first_state s) (records_of batches)
 
 abbrev pub rollback_in : Option State → List Record
 rollback_in None = []
@@ -35,14 +35,6 @@ rolled_words s batches stored = fold put_record (redone_words batches stored) (r
 abbrev pub opening_calls : Super → List (List Record) → ℕ
 opening_calls s batches = force_calls (rollback_of s batches)
 
-abbrev pub used_in : Option State → ℕ
-used_in None = 0
-used_in (Some state) = state.used
-
--- the words of the current space that objects take behind an opening
-abbrev pub used_of : Super → List (List Record) → ℕ
-used_of s batches = used_in (state_of s batches)
-
 abbrev pub next_in : Option State → ℕ
 next_in None = 0
 next_in (Some state) = state.next
@@ -53,7 +45,7 @@ next_of s batches = next_in (state_of s batches)
 
 -- the greater of a heap's first number and one more than the greatest among these records
 abbrev pub next_behind : ℕ → List Record → ℕ
-next_behind first records = fold (λ n rec. max n (number_of rec + 1)) first records
+next_behind first records = fold (λ n rec. next_with n (number_of rec)) first records
 
 -- The core of a heap just opened, where the log held these batches, its pages were stored so in frames with so many open gates, and this
 -- graph stands in the words at these places.
@@ -62,7 +54,7 @@ opened s batches stored gates born places g =
     record {
       pages = s.pages;
       room = s.log_bytes;
-      lowest = s.first;
+      first_number = s.first;
       first = next_of s batches;
       g0 = g;
       born = born;

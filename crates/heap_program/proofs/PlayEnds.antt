@@ -90,7 +90,7 @@ module _ {D : Type 0} {g : Ghosts D} (s : Super) (c : Core) (running : IsRunning
   least : lasting core ≤ all
   least =
       let agrees = reached_agrees core run_reached.1 in
-      let commits = commits-start core.pages core.lowest agrees.on_disk (records_of core.batches) agrees.disk_told.reached in
+      let commits = commits-start core.pages core.first_number agrees.on_disk (records_of core.batches) agrees.disk_told.reached in
       omega (arith, agrees.acknowledged_last, agrees.sealed_first, agrees.disk_told.count, commits)
 
   most : all ≤ length (commits core.history)

@@ -12,11 +12,11 @@ use Rattle.image_plan.specs.Plan.{log_offset}
 use Rattle.image_plan.proofs.SuperLaws.{one_super}
 use Rattle.log_records.specs.declared.Record.{Record}
 use Rattle.log_records.specs.Record.{IsRecord}
-use Rattle.log_machine.specs.Machine.{State, start, after_all, losing_in, all_taken_back, each_taken_back, rollback, reserve}
+use Rattle.log_machine.specs.Machine.{settled, State, start, after_all, losing_in, all_taken_back, each_taken_back, rollback, reserve}
 use Rattle.log_machine.proofs.MachineLaws.{after_all-append2}
 use Rattle.log_machine.specs.Replay.{IsFirstUnshaped}
 use Rattle.log_machine.proofs.ReplayLaws.{none_follow}
-use Rattle.log_machine.proofs.AbortLaws.{settled, rollback_reaches, rollback_good}
+use Rattle.log_machine.proofs.AbortLaws.{rollback_reaches, rollback_good}
 use Rattle.log_machine.proofs.TakenBackLaws.{taken_back-rollback}
 use Rattle.log_machine.proofs.ListLaws.{AllByRecursion-append}
 use Rattle.log_machine.proofs.Bounds.{CanRollBack}

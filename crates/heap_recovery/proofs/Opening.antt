@@ -19,9 +19,10 @@ use Rattle.image_plan.specs.Plan.{log_offset}
 use Rattle.log_records.specs.declared.Record.{Record}
 use Rattle.log_records.specs.Record.{spelling, spellings}
 use Rattle.log_records.proofs.RecordLaws.{some_spelling}
-use Rattle.log_machine.specs.Machine.{State, Loser, losing, losing_in, all_taken_back, each_taken_back, rollback, abort_each, reserve}
-use Rattle.log_machine.proofs.StateLaws.{commits-start}
-use Rattle.log_machine.proofs.AbortLaws.{rollback_fits}
+use Rattle.log_machine.specs.Machine.{State, Loser, settled, after_all, losing, losing_in, all_taken_back, each_taken_back, rollback, abort_each, reserve}
+use Rattle.log_machine.proofs.MachineLaws.{after_all-append2}
+use Rattle.log_machine.proofs.StateLaws.{can_roll_back}
+use Rattle.log_machine.proofs.AbortLaws.{rollback_fits, rollback_reaches}
 use Rattle.page_redo.specs.Pages.{Pages}
 use Rattle.page_redo.specs.Redo.{redo_all, redone}
 use Rattle.page_redo.proofs.RedoLaws.{redo_all-append}
@@ -34,9 +35,9 @@ use Rattle.object_layout.specs.Walk.{IsWalked, IsWalkFault}
 use Rattle.object_layout.proofs.WalkLaws.{walked_fault}
 use Rattle.heap_model.proofs.Step.Room.{records_of-with_batch}
 use Rattle.heap_model.proofs.Opening.Held.{held_with}
-use Rattle.heap_model.specs.Image.{redone_words, words_of, IsShapedLog, Holds}
+use Rattle.heap_model.specs.Image.{first_state, redone_words, words_of, IsShapedLog, Holds}
 use Rattle.heap_model.specs.Core.{force_calls}
-use Rattle.heap_model.specs.Opening.{IsLeftByOpening, opening_calls, rollback_in, rollback_of, rolled_back, used_in, next_in}
+use Rattle.heap_model.specs.Opening.{state_of, IsLeftByOpening, opening_calls, rollback_in, rollback_of, rolled_back}
 use Rattle.heap_recovery.specs.declared.error.RecoverError.{RecoverError}
 use Rattle.heap_recovery.specs.declared.error.RecoverError.TheVariants.{NoMemory, NotHeap, Damaged, Disk}
 use Rattle.heap_recovery.specs.declared.reading.Reading.{Reading}
@@ -168,13 +169,20 @@ module _ (s : Super) (batches : List (List Record)) (stored : Pages) (read : Rea
       → (fault : Option ℕ) → ((at : ℕ) → fault ≡ Some at → IsWalkFault now state.base state.used at) → fault ≡ None
   shaped_fault shaped state same now rolled fault faults = no_fault now state.base state.used fault (shaped_walk shaped state same now rolled) faults
 
+  -- what the log says once it is rolled back
+  rolled_state : state_of s (rolled_back s batches) ≡ Some (settled read.state)
+  rolled_state =
+      ap (λ (rs : List Record). after_all (first_state s) rs) (records_of-with_batch batches (rollback_of s batches) ∙ ap (λ (rs : List Record). records_of batches ++ rs) same_rollback)
+      ∙ after_all-append2 (first_state s) read.state (records_of batches) (rollback read.state) is.state
+      ∙ rollback_reaches read.state (can_roll_back s.pages s.first read.state (records_of batches) is.good is.state).sound
+
   -- what is opened
-  pub recovered : (r : Result Recovered RecoverError) (log : Log) (cache : PageCache) (of : Super) (state : State) → state ≡ read.state → of ≡ read.of → log_place log ≡ log_place read.log → log_room log ≡ log_room read.log
+  pub recovered : (r : Result Recovered RecoverError) (log : Log) (cache : PageCache) (state : State) → state ≡ read.state → log_place log ≡ log_place read.log → log_room log ≡ log_room read.log
       → cached cache ≡ redo_all (log_count read.log + 1) (cached read.cache) (rollback read.state) → cache_store cache ≡ cache_store read.cache → Keeps log (with_batch batches (rollback read.state)) []
-      → IfOk r (λ found. found.log ≡ log) → IfOk r (λ found. found.cache ≡ cache) → IfOk r (λ found. found.pages ≡ of.pages)
-      → IfOk r (λ found. found.used ≡ state.used) → IfOk r (λ found. found.commits ≡ state.commits) → IfOk r (λ found. found.next ≡ state.next) → IfOk r (IsRecovered s batches stored)
-  recovered (Err e) log cache of state same_state same_of at room pages store keeps same_log same_cache same_pages same_used same_commits next = tt
-  recovered (Ok found) log cache of state same_state same_of at room pages store keeps same_log same_cache same_pages same_used same_commits next = record {
+      → IfOk r (λ found. found.log ≡ log) → IfOk r (λ found. found.cache ≡ cache)
+      → IfOk r (λ found. found.state ≡ settled state) → IfOk r (IsRecovered s batches stored)
+  recovered (Err e) log cache state same_state at room pages store keeps same_log same_cache same_end = tt
+  recovered (Ok found) log cache state same_state at room pages store keeps same_log same_cache same_end = record {
     log = subst (λ (x : Log). Keeps x (rolled_back s batches) []) (sym same_log) (subst (λ (l : List Record). Keeps log (with_batch batches l) []) (sym same_rollback) keeps);
     place = ap log_place same_log ∙ at ∙ is.place;
     room = ap log_room same_log ∙ room ∙ is.room;
@@ -182,10 +190,7 @@ module _ (s : Super) (batches : List (List Record)) (stored : Pages) (read : Rea
     plan = ap (λ (x : PageCache). store_plan (cache_store x)) same_cache ∙ ap store_plan store ∙ is.cache.plan;
     unfailed = subst (λ (x : PageStore). IsFalse (has_failed x)) (sym (ap cache_store same_cache ∙ store)) is.cache.unfailed;
     flushed = λ p lt. ap (λ (x : PageStore). stored_lsn x p) (ap cache_store same_cache ∙ store) ∙ is.cache.flushed p lt;
-    pages = same_pages ∙ ap (λ (x : Super). x.pages) (same_of ∙ is.of);
-    used = ap (λ (o : Option State). used_in o) is.state ∙ ap (λ (x : State). x.used) (sym same_state) ∙ sym same_used;
-    commits = same_commits ∙ ap (λ (x : State). x.commits) same_state ∙ commits-start s.pages s.first read.state (records_of batches) is.state;
-    next = next ∙ ap (λ (x : State). x.next) same_state ∙ sym (ap next_in is.state);
+    state = rolled_state ∙ ap Some (ap settled (sym same_state) ∙ sym same_end);
   }
 
 -- what is opened is a shaped log

@@ -12,7 +12,7 @@ use Rattle.image_plan.specs.Plan.{log_offset}
 use Rattle.image_plan.specs.Super.{IsSuper}
 use Rattle.log_records.specs.declared.Record.{Record}
 use Rattle.log_records.specs.Record.{IsRecord}
-use Rattle.log_machine.specs.Machine.{words_in, commits}
+use Rattle.log_machine.specs.Machine.{words_in}
 use Rattle.page_redo.specs.Pages.{Pages, pages_in, lsn_of}
 use Rattle.page_redo.specs.Redo.{EachLacks, redone}
 use Rattle.page_store.specs.declared.store.OpenError.{OpenError}
@@ -20,7 +20,7 @@ use Rattle.page_store.specs.declared.store.OpenError.TheVariants as storing
 use Rattle.page_store.specs.StoreState.{store_plan}
 use Rattle.page_cache.specs.declared.cache.PageCache.{PageCache}
 use Rattle.page_cache.specs.CacheState.{cached, cache_store, cache_failed, flushed_lsn}
-use Rattle.heap_model.specs.Opening.{state_of, rolled_back, used_of, next_of}
+use Rattle.heap_model.specs.Opening.{state_of, rolled_back}
 use Rattle.heap_recovery.specs.Causes.{error_device}
 use Rattle.heap_recovery.specs.declared.at.At.TheVariants.{Batch}
 use Rattle.heap_recovery.specs.declared.error.RecoverError.{RecoverError}
@@ -62,10 +62,7 @@ pub record IsRecovered (s : Super) (batches : List (List Record)) (stored : Page
   pub plan : store_plan (cache_store found.cache) ≡ plan_of s
   pub unfailed : IsFalse (cache_failed found.cache)
   pub flushed : (p : ℕ) → p < pages_in s.pages → flushed_lsn found.cache p ≡ lsn_of stored p
-  pub pages : found.pages ≡ s.pages
-  pub used : used_of s batches ≡ found.used
-  pub commits : found.commits ≡ commits (records_of batches)
-  pub next : found.next ≡ next_of s batches
+  pub state : state_of s (rolled_back s batches) ≡ Some found.state
 
 -- Memory was refused or the disk failed: nothing is told of the image.
 abbrev pub IsFromOutside : RecoverError → Type 0

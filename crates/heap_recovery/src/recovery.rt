@@ -6,7 +6,7 @@ ghost use Rattle.disk_model.specs.Moments.{LeavesOnly};
 ghost use Rattle.gated_log.specs.LogState.{log_place, log_room, log_used, log_count, IsReady, Keeps};
 ghost use Rattle.image_plan.specs.declared.superblock.Super.{Super};
 ghost use Rattle.log_records.specs.declared.Record.{Record};
-ghost use Rattle.log_machine.specs.Machine.{State, rollback, all_taken_back, reserve};
+ghost use Rattle.log_machine.specs.Machine.{State, settled, rollback, all_taken_back, reserve};
 ghost use Rattle.page_redo.specs.Pages.{Pages};
 ghost use Rattle.page_redo.specs.Redo.{EachLacks, redo_all};
 ghost use Rattle.page_store.specs.Gates.{open_gates};
@@ -28,6 +28,7 @@ use crate::read_image::read_image;
 use crate::reading::Reading;
 use disk_model::Disk;
 use gated_log::Log;
+use log_machine::LogState;
 use object_layout::{WalkError, WordSlice, walk};
 use page_cache::PageCache;
 use std::alloc::Global;
@@ -39,14 +40,8 @@ pub struct Recovered {
     pub log: Log,
     /// The pages of both spaces in memory, as they are after the log's records.
     pub cache: PageCache,
-    /// How many pages each space has.
-    pub pages: u32,
-    /// How many words of the current space its objects take.
-    pub used: u32,
-    /// How many transactions the records commit.
-    pub commits: u64,
-    /// The number of the next transaction: the heap's first, or one more than the greatest in the log.
-    pub next: u32,
+    /// What the log's records say, those of the rollback too.
+    pub state: LogState,
 }
 
 /// Opens the image on the disk. The writes of unfinished transactions are rolled back, ascending by number and each newest
@@ -95,7 +90,7 @@ pub fn recover<D: Disk>(alloc: Global, disk: &mut D) -> Result<Recovered, Recove
     // The walk takes its memory before the disk is written; what it finds is told afterwards.
     let fault = read.walk_fault(alloc)?;
     read.log.force(disk)?;
-    read.finish(fault)
+    read.finish(alloc, fault)
 }
 
 impl Reading {
@@ -141,16 +136,13 @@ impl Reading {
     }
 
     /// What was opened, if the walk of its words passed.
-    fn finish(self, fault: Option<u32>) -> Result<Recovered, RecoverError>
+    fn finish(self, alloc: Global, fault: Option<u32>) -> Result<Recovered, RecoverError>
         ensures damaged { (at : ℕ) → fault ≡ Some at → result ≡ Err (Damaged (Address at)) }
         ensures whole { fault ≡ None → IsOk result }
         ensures walked { IfOk result (λ found. fault ≡ None) }
         ensures log { IfOk result (λ found. found.log ≡ self.log) }
         ensures cache { IfOk result (λ found. found.cache ≡ self.cache) }
-        ensures pages { IfOk result (λ found. found.pages ≡ self.of.pages) }
-        ensures used { IfOk result (λ found. found.used ≡ self.state.used) }
-        ensures commits { IfOk result (λ found. found.commits ≡ self.state.commits) }
-        ensures next { IfOk result (λ found. found.next ≡ self.state.next) }
+        ensures state { IfOk result (λ found. found.state ≡ settled self.state) }
         ensures no_disk { open_device result ≡ Ok tt }
     {
         if let Some(address) = fault {
@@ -158,13 +150,14 @@ impl Reading {
                 at: At::Address(address),
             });
         }
-        Ok(Recovered {
-            pages: self.of.pages,
-            used: self.state.used(),
-            commits: self.state.commits(),
-            next: self.state.next(),
-            log: self.log,
-            cache: self.cache,
-        })
+        let Reading {
+            of: _,
+            log,
+            cache,
+            mut state,
+        } = self;
+        // The rollback's records have ended each transaction that had not.
+        state.settle(alloc);
+        Ok(Recovered { log, cache, state })
     }
 }

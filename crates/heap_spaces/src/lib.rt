@@ -55,6 +55,13 @@ impl Spaces {
         }
     }
 
+    /// The address of the current space's first word, where the root object stands.
+    pub fn base(&self) -> u32
+        ensures { result ≡ self.now.base }
+    {
+        self.base
+    }
+
     /// How many words of the current space are taken.
     pub fn used(&self) -> u32
         ensures used { result ≡ self.now.used }

@@ -10,7 +10,7 @@ use Rattle.log_records.specs.declared.Record.TheVariants.{Undo}
 use Rattle.log_records.specs.Record.{spelling, spellings, IsRecord}
 use Rattle.log_machine.specs.declared.UndoEntry.{UndoEntry}
 use Rattle.log_machine.proofs.Entries.{IsEntry}
-use Rattle.log_machine.specs.Machine.{State, Loser, undo_in, undo_of, with_entries, with_word, is_number, turned, after_all, put_record, taken_back, each_taken_back, losing, commits, abort_records, abort_each, rollback, undo_bytes, reserve}
+use Rattle.log_machine.specs.Machine.{State, Loser, undo_in, undo_of, with_entries, with_word, is_number, turned, after_all, put_record, taken_back, each_taken_back, settled, losing, commits, abort_records, abort_each, rollback, undo_bytes, reserve}
 use Rattle.log_machine.proofs.ListLaws.{AllByRecursion-append}
 use Rattle.log_machine.specs.Entries.{EachKeyed}
 use Rattle.log_machine.proofs.MapLaws.{each_remove, get_first, remove_first, remove_absent, empty_of_entries}
@@ -78,10 +78,6 @@ abort_good t [] fits good = (fits, tt)
 abort_good t (u ∷ us) fits good = (record { t_fits = fits; object_fits = good.0.object_fits; field_fits = good.0.field_fits; put_word = good.0.was_word }, abort_good t us fits good.1)
 
 -- Every transaction that has not ended.
-
--- the state when nothing may be taken back any more
-abbrev pub settled : State → State
-settled s = record s { undo = empty }
 
 -- the records of a transaction that has begun change nothing but its writes
 known_turned : (s : State) (t : ℕ) (undo : FinMap nat_cmp (List UndoEntry)) → t < s.next → settled (turned s t undo 0) ≡ settled s

@@ -1,5 +1,5 @@
 -- The state in memory stays consistent, and its records write within the pages.
-use Rattle.std.proofs.Common.{◌≡◌, ℕ, ◌+◌, ◌^◌, ◌<◌, ◌≤◌, max, Bool, true, false, cond, List, [], ◌∷◌, reverse, drop, None, Some, is_some, refl, sym, ap, ◌∙◌, subst, arith, Result, Ok, Err, inl, inr}
+use Rattle.std.proofs.Common.{◌≡◌, ℕ, ◌+◌, ◌^◌, ◌<◌, ◌≤◌, max, Bool, true, false, cond, List, [], ◌∷◌, reverse, drop, None, Some, is_some, refl, sym, ap, ◌∙◌, subst, arith, Result, Ok, Err}
 use Rattle.std.specs.Prelude.{IfOk}
 use Rattle.std.specs.List.{AllByRecursion}
 use Rattle.std.specs.Ordering.{nat_cmp}
@@ -15,12 +15,12 @@ use Rattle.log_machine.specs.Entries.{EachKeyed}
 use Rattle.log_machine.proofs.MapLaws.{each_empty, each_remove, get_first, remove_first}
 use Rattle.log_machine.proofs.MachineLaws.{inside_told, newest_told}
 use Rattle.log_machine.specs.Sound.{IsLoser, IsSpaced, IsConsistent}
-use Rattle.log_machine.proofs.StateLaws.{all_inside, inside_on, sound_with, spaced_start}
+use Rattle.log_machine.proofs.StateLaws.{all_inside, inside_on, sound_with, spaced_start, spaced_ends}
 use Rattle.log_machine.specs.Effect.{WritesBelow, EachWritesBelow}
 
 -- the used words are words of the pages
 fits_in : (s : State) → IsConsistent s → s.base + s.used ≤ words_in s.pages
-fits_in s is = elim is.spaced.first [ inl low ↦ let room = is.spaced.room in omega arith | inr high ↦ let room = is.spaced.room in omega arith ]
+fits_in s is = spaced_ends s is.spaced
 
 -- before the first record
 pub consistent_start : (pages first : ℕ) (undo : FinMap nat_cmp (List UndoEntry)) → 1 ≤ pages → words_in pages ≤ 2097152 → undo ≡ empty → IsConsistent (record { pages = pages; base = 0; used = 6; collection = None; undo = undo; commits = 0; next = first })
@@ -46,6 +46,12 @@ consistent_with s t us undo commits next number inside is with_them later =
 pub consistent_end : (s : State) (t next : ℕ) → IsConsistent s → next ≡ max s.next (t + 1) → IsConsistent (record s { next = next })
 consistent_end s t next is later =
     record { sound = λ q w some. let loser = is.sound q w some in record { some = loser.some; number = loser.number; known = omega (arith, loser.known); inside = loser.inside }; addresses = is.addresses; spaced = spaced_as s s.undo s.commits next is.spaced }
+
+-- where nothing may be taken back any more
+pub consistent_settled : (s : State) (undo : FinMap nat_cmp (List UndoEntry)) → IsConsistent s → undo ≡ empty → IsConsistent (record s { undo = undo })
+consistent_settled s undo is none =
+    subst (λ u. IsConsistent (record s { undo = u })) (sym none)
+    (record { sound = each_empty (IsLoser (record s { undo = empty })); addresses = is.addresses; spaced = spaced_as s empty s.commits s.next is.spaced })
 
 -- where an object has become stable
 pub consistent_on : (s : State) (t size used next : ℕ) → IsConsistent s → s.used + size + owed s ≤ space_words s.pages → used ≡ s.used + size → next ≡ max s.next (t + 1) → IsConsistent (record s { used = used; next = next })

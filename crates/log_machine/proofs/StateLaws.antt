@@ -1,5 +1,5 @@
 -- Every state that records reach is sound, and what its fields are.
-use Rattle.std.proofs.Common.{◌≡◌, ℕ, ◌+◌, true, cond, List, [], ◌∷◌, length, Option, None, Some, refl, sym, ap, inl, ◌∙◌, subst, arith, Bool, false, ◌≤◌}
+use Rattle.std.proofs.Common.{◌≡◌, ℕ, ◌+◌, true, cond, List, [], ◌∷◌, length, Option, None, Some, refl, sym, ap, inl, inr, ◌∙◌, subst, arith, Bool, false, ◌≤◌}
 use Rattle.std.specs.Prelude.{unwrap_or}
 use Rattle.std.specs.List.{AllByRecursion}
 use Rattle.std.specs.Ordering.{nat_cmp}
@@ -13,7 +13,7 @@ use Rattle.log_records.specs.Record.{IsRecord}
 use Rattle.log_machine.specs.declared.UndoEntry.{UndoEntry}
 use Rattle.log_machine.proofs.Entries.{IsEntry}
 use Rattle.log_machine.specs.UndoEntry.{LiesInside}
-use Rattle.log_machine.specs.Machine.{State, start, undo_in, undo_of, with_entries, number_of, is_number, is_number_or_none, next_with, owed, turned, promoted, row_after, after, after_all, is_commit, commits, space_words}
+use Rattle.log_machine.specs.Machine.{State, start, undo_in, undo_of, with_entries, number_of, is_number, is_number_or_none, next_with, owed, turned, promoted, row_after, after, after_all, is_commit, commits, space_words, words_in}
 use Rattle.log_machine.specs.Entries.{EachKeyed}
 use Rattle.log_machine.proofs.MapLaws.{each_empty, each_insert, each_remove}
 use Rattle.log_machine.proofs.MachineLaws.{told_if, free_told, newest_told, inside_told, number_small}
@@ -219,6 +219,14 @@ leads_after_all s m (r ∷ rs) e = option_and_then_some (λ next. after_all next
 -- before the first record the root object stands in the first space
 pub spaced_start : (pages first : ℕ) → 1 ≤ pages → IsSpaced (start pages first)
 spaced_start pages first some = record { first = inl refl; room = omega arith; within = tt }
+
+-- the used words are words of the pages
+pub spaced_ends : (s : State) → IsSpaced s → s.base + s.used ≤ words_in s.pages
+spaced_ends s is = elim is.first [ inl low ↦ let room = is.room in omega arith | inr high ↦ let room = is.room in omega arith ]
+
+-- so are as many more as the space has room for
+pub spaced_more : (s : State) (n : ℕ) → IsSpaced s → s.used + n ≤ space_words s.pages → s.base + s.used + n ≤ words_in s.pages
+spaced_more s n is room = elim is.first [ inl low ↦ omega arith | inr high ↦ omega arith ]
 
 -- records leave the spaces so
 pub spaced_after_all : (pages first : ℕ) (s : State) (rs : List Record) → 1 ≤ pages → after_all (start pages first) rs ≡ Some s → (s.pages ≡ pages) × IsSpaced s

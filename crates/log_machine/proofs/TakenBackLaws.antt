@@ -10,12 +10,12 @@ use Rattle.std.specs.FinMap.Entries.{by_order}
 use Rattle.std.proofs.lemmas.List.{set-set, set_comm, set-get_or}
 use Rattle.log_records.specs.declared.Record.TheVariants.{Update}
 use Rattle.log_machine.specs.declared.UndoEntry.{UndoEntry}
-use Rattle.log_machine.specs.Machine.{State, Loser, field_at, undo_of, with_entries, with_word, turned, put_record, taken_back, each_taken_back, all_taken_back, abort_records, rollback}
+use Rattle.log_machine.specs.Machine.{settled, State, Loser, field_at, undo_of, with_entries, with_word, turned, put_record, taken_back, each_taken_back, all_taken_back, abort_records, rollback}
 use Rattle.log_machine.specs.Entries.{EachKeyed}
 use Rattle.log_machine.proofs.MapLaws.{get_removed, insert_remove, insert_known, remove_absent, entries_empty, each_entry, each_other}
 use Rattle.log_machine.proofs.MachineLaws.{standing}
 use Rattle.log_machine.specs.Sound.{AreLosers}
-use Rattle.log_machine.proofs.AbortLaws.{settled, none_standing, none_empty, abort_words, rollback_words}
+use Rattle.log_machine.proofs.AbortLaws.{none_standing, none_empty, abort_words, rollback_words}
 use Rattle.log_machine.proofs.Fields.{written, AreApart, IsApart}
 use Rattle.log_machine.specs.Apart.{others_taken_back}
 

@@ -7,6 +7,7 @@ use Rattle.std.specs.FinMap as finmap
 use Rattle.log_records.specs.declared.Record.{Record}
 use Rattle.log_records.specs.declared.Record.TheVariants.{Update, Base, Fix, Undo, Commit, End}
 use Rattle.heap_spaces.specs.Collection.{Collection, owed_by}
+use Rattle.heap_spaces.specs.Spaces.{SpacesState}
 use Rattle.heap_words.specs.Header.{born_in, born_as}
 use Rattle.heap_words.specs.Word.{is_stable, is_volatile}
 use Rattle.log_machine.specs.declared.UndoEntry.{UndoEntry}
@@ -87,6 +88,14 @@ start pages first = record { pages = pages; base = 0; used = 6; collection = Non
 -- how many words of the current space are kept for what a collection has still to copy
 abbrev pub owed : State → ℕ
 owed s = owed_by s.collection
+
+-- its spaces
+abbrev pub spaces_of : State → SpacesState
+spaces_of s = record { pages = s.pages; base = s.base; used = s.used; owed = owed s }
+
+-- the state when nothing may be taken back any more
+abbrev pub settled : State → State
+settled s = record s { undo = finmap.empty }
 
 -- the writes of a transaction that may be taken back, the newest first
 abbrev pub undo_in : FinMap nat_cmp (List UndoEntry) → ℕ → List UndoEntry

@@ -3,7 +3,7 @@ ghost use Rattle.std.specs.Prelude.{◌≡◌, ◌+◌, ◌<◌, ◌≤◌, ◌^
 ghost use Rattle.std.specs.List.{AllByRecursion};
 ghost use Rattle.std.specs.FinMap as map;
 ghost use Rattle.log_records.specs.declared.Record.TheVariants.{Update, Base, Fix, Undo, Commit, End};
-ghost use Rattle.log_machine.specs.Machine.{start, undo_of, losers, with_entries, space_words, words_in, field_at, number_of, is_number, is_number_or_none, owed, lies_inside, is_next_free, is_promoted_by, is_born_in, none_volatile, without_newest, has_none, turned, promoted, row_after, after, reserve, rollback};
+ghost use Rattle.log_machine.specs.Machine.{start, undo_of, losers, spaces_of, settled, with_entries, space_words, words_in, field_at, number_of, is_number, is_number_or_none, owed, lies_inside, is_next_free, is_promoted_by, is_born_in, none_volatile, without_newest, has_none, turned, promoted, row_after, after, reserve, rollback};
 ghost use Rattle.log_machine.specs.Effect.{WritesBelow, EachWritesBelow, AddsEntry};
 ghost use Rattle.log_machine.specs.declared.UndoEntry.{UndoEntry};
 ghost use Rattle.log_machine.specs.UndoEntry.{LiesInside};
@@ -11,6 +11,7 @@ ghost use Rattle.log_machine.specs.UndoEntry.{LiesInside};
 use crate::UndoEntry;
 use crate::page_words::{FIELDS_AT, PAGE_WORDS, ROOT_WORDS};
 use crate::undo_lists::UndoLists;
+use heap_spaces::Spaces;
 use heap_words::{is_stable, is_volatile};
 use log_records::Record;
 use std::alloc::{AllocError, Global};
@@ -122,6 +123,20 @@ impl LogState {
         ensures fits { self.now.base + self.now.used ≤ words_in self.now.pages }
     {
         self.used
+    }
+
+    /// Its spaces.
+    pub fn spaces(&self) -> Spaces
+        ensures { result ≡ spaces_of self.now }
+    {
+        Spaces::new(self.pages, self.base, self.used, 0)
+    }
+
+    /// Nothing may be taken back any more: each transaction has ended.
+    pub fn settle(&mut self, alloc: Global)
+        ensures { self.new ≡ settled self.old }
+    {
+        self.undo = UndoLists::new(alloc);
     }
 
     /// How many transactions are committed.

@@ -10,10 +10,9 @@ use Rattle.graph_model.specs.History.{Account}
 use Rattle.graph_model.specs.Locking.{Mode, Shared, Exclusive, locks_of}
 use Rattle.graph_model.specs.Plain.{view}
 use Rattle.graph_model.specs.Transaction.{View, Transaction, serial}
-use Rattle.heap_spaces.specs.Spaces.{SpacesState}
 use Rattle.image_plan.specs.Plan.{log_offset}
 use Rattle.log_machine.specs.declared.UndoEntry.{UndoEntry}
-use Rattle.log_machine.specs.Machine.{State}
+use Rattle.log_machine.specs.Machine.{State, spaces_of}
 use Rattle.page_redo.specs.Pages.{pages_in}
 use Rattle.page_store.specs.StoreState.{store_plan, stored_lsn, has_failed}
 use Rattle.object_locks.specs.declared.holding.Holding.{Holding}
@@ -49,10 +48,6 @@ kept_of ground g0 a (Some t) = Some (kept ground.places (view g0 a t) t.number (
 abbrev pub mode_of : table.Mode → Mode
 mode_of locked.Shared = Shared
 mode_of locked.Exclusive = Exclusive
-
--- the spaces of a heap in that state; nothing is owed to a collection
-abbrev pub spaces_of : State → SpacesState
-spaces_of s = record { pages = s.pages; base = s.base; used = s.used; owed = 0 }
 
 -- A lock of the table is one that the model knows: an active transaction of that number needs it for the object at that address.
 pub record IsHeld (places : Places) (g0 : Graph) (a : Account) (h : Holding) : Type 0 where

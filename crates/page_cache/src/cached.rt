@@ -140,7 +140,7 @@ impl CachedPages {
 
     // Puts words from an address on, where the page lacks the record of that LSN, and raises the LSN of each page.
     fn put(&mut self, lsn: u64, address: usize, words: &[u64])
-        requires { AllByRecursion (λ w. w.0 < length self.old.words) (enumerate_from address words.now) }
+        requires { AllByRecursion (λ a. a < length self.old.words) (map (λ w. w.0) (enumerate_from address words.now)) }
         ensures words { self.new.words ≡ put_all self.old.words (filter (λ w. nat_lt (lsn_of self.old (page_of w.0)) lsn) (enumerate_from address words.now)) }
         ensures lsns { self.new.lsns ≡ raised_to lsn self.old.lsns (map page_of (map (λ w. w.0) (enumerate_from address words.now))) }
     {

@@ -29,7 +29,7 @@ redo_all-more lsn at rs i r lt is =
 
 -- the words keep their number
 pub words-redo_record : (lsn : ℕ) (at : Pages) (rec : Record) → length (redo_record lsn at rec).words ≡ length at.words
-words-redo_record lsn at rec = length-put_all (filter (λ (w : ℕ × ℕ). lacks at lsn (page_of w.0)) (effect rec)) at.words
+words-redo_record lsn at rec = length-put_all (filter (λ (w : ℕ × ℕ). lacks at lsn (page_of w.0)) (effect at.words rec)) at.words
 
 words-redo_all : (lsn : ℕ) (at : Pages) (rs : List Record) → length (redo_all lsn at rs).words ≡ length at.words
 words-redo_all lsn at [] = refl
@@ -45,7 +45,7 @@ filter_all test (w ∷ ws) each = cond-true (test w) (w ∷ filter test ws) (fil
 
 -- where each page lacks a record, the words are those with its effect
 pub redo_record-words : (lsn : ℕ) (at : Pages) (rec : Record) → EachLacks lsn at → (redo_record lsn at rec).words ≡ put_record at.words rec
-redo_record-words lsn at rec lacking = ap (put_all at.words) (filter_all (λ w. lacks at lsn (page_of w.0)) (effect rec) (λ w. lt-ltb (lsn_of at (page_of w.0)) lsn (lacking (page_of w.0))))
+redo_record-words lsn at rec lacking = ap (put_all at.words) (filter_all (λ w. lacks at lsn (page_of w.0)) (effect at.words rec) (λ w. lt-ltb (lsn_of at (page_of w.0)) lsn (lacking (page_of w.0))))
 
 -- The LSNs.
 

@@ -1,12 +1,13 @@
 -- Redo goes on: what the pages are when the first so many records of a log have been redone.
 use Rattle.std.proofs.Common.{◌≡◌, ℕ, ◌+◌, ◌<◌, ◌≤◌, false, List, [], ◌∷◌, ◌++◌, length, get_or, take, refl, sym, ap, subst, ◌∙◌, arith, inl, inr, ⊎_elim, append_assoc, length-append, ◌⊎◌}
-use Rattle.std.specs.Prelude.{max}
-use Rattle.std.specs.List.{filter}
+use Rattle.std.specs.Prelude.{map, max, ◌==◌}
+use Rattle.std.specs.List.{filter, list_any}
 use Rattle.std.proofs.lemmas.Bool.{cases_Bool, cases_lt, lt-ltb, le-ltb}
 use Rattle.std.proofs.lemmas.List.{take_at}
 use Rattle.std.proofs.lemmas.List.Sums.{fold-append}
 use Rattle.log_records.specs.declared.Record.{Record}
-use Rattle.log_machine.specs.Machine.{effect, put_record, first_contents, words, words_in}
+use Rattle.log_machine.specs.Machine.{effect, put_all, put_record, first_contents, words, words_in}
+use Rattle.log_machine.proofs.Addresses.{effect-addresses, effect_any}
 use Rattle.log_machine.proofs.WordsLaws.{length-put_all, length-words}
 use Rattle.page_redo.specs.Pages.{Pages, pages_in, page_of, lsn_of, touched, touches}
 use Rattle.page_redo.specs.Redo.{lacks, redo_record, redo_all}
@@ -47,14 +48,15 @@ module _ (pages : ℕ) (records : List Record) where
     step_low : (p a : ℕ) → p < pages_in pages → page_of a ≡ p → lsn_of at p < n + 1 → get_or new.words a 0 ≡ word_at a (n + 1)
     step_low p a lt there low =
         let now : max n (lsn_of at p) ≡ n = omega arith in
-        put_kept (lacks at (n + 1)) p a there (lt-ltb (lsn_of at p) (n + 1) low) (effect r) at.words (words_after n)
+        put_kept (lacks at (n + 1)) p a there (lt-ltb (lsn_of at p) (n + 1) low) (effect at.words r) at.words (words_after n)
         (is.size ∙ sym (length-words pages (take n records)))
         (is.same p a lt there ∙ ap (word_at a) now)
+        ∙ ap (λ (ws : List (ℕ × ℕ)). get_or (put_all (words_after n) ws) a 0) (effect_any at.words (words_after n) r)
         ∙ ap (λ (l : List ℕ). get_or l a 0) (sym next)
 
     -- those of one that has it
     step_high : (p a : ℕ) → p < pages_in pages → page_of a ≡ p → n + 1 ≤ lsn_of at p → get_or new.words a 0 ≡ word_at a (max n (lsn_of at p))
-    step_high p a lt there high = put_left (lacks at (n + 1)) p a there (le-ltb (lsn_of at p) (n + 1) high) (effect r) at.words ∙ is.same p a lt there
+    step_high p a lt there high = put_left (lacks at (n + 1)) p a there (le-ltb (lsn_of at p) (n + 1) high) (effect at.words r) at.words ∙ is.same p a lt there
 
     step_same : (p a : ℕ) → p < pages_in pages → page_of a ≡ p → get_or new.words a 0 ≡ word_at a (max (n + 1) (lsn_of new p))
     step_same p a lt there = elim (cases_lt (lsn_of at p) (n + 1)) [
@@ -73,7 +75,7 @@ module _ (pages : ℕ) (records : List Record) where
           | inl last ↦ let so : n + 1 ≡ lsn_of new p = omega (arith, kept.0) in ap (word_at a) so
           | inr before ↦
               ap (λ (l : List ℕ). get_or l a 0) next
-              ∙ put_elsewhere p a there (effect r) (words_after n) kept.1
+              ∙ put_elsewhere p a there (effect (words_after n) r) (words_after n) (ap (λ (l : List ℕ). list_any (λ q. q == p) (map page_of l)) (effect-addresses (words_after n) r) ∙ kept.1)
               ∙ is.own p a lt before there
               ∙ ap (word_at a) (sym kept.0)
         ])
@@ -82,7 +84,7 @@ module _ (pages : ℕ) (records : List Record) where
     -- one record more
     pub step : IsRedoneTo pages records (n + 1) new
     step = record {
-      size = length-put_all (filter (λ (w : ℕ × ℕ). lacks at (n + 1) (page_of w.0)) (effect r)) at.words ∙ is.size;
+      size = length-put_all (filter (λ (w : ℕ × ℕ). lacks at (n + 1) (page_of w.0)) (effect at.words r)) at.words ∙ is.size;
       lsns_size = length-raised_to (n + 1) (touched r) at.lsns ∙ is.lsns_size;
       reached = λ p lt. ⊎_elim (λ e. omega (arith, e, is.reached p lt)) (λ e. omega (arith, e.0, is.reached p lt)) (step_lsn p lt);
       same = step_same;

@@ -2,7 +2,7 @@
 use Rattle.std.specs.Prelude.{ℕ, ◌*◌, ◌/◌, ◌==◌, Bool, List, map, take, drop, replicate, slice_index}
 use Rattle.std.specs.List.{list_any}
 use Rattle.log_records.specs.declared.Record.{Record}
-use Rattle.log_machine.specs.Machine.{effect, first_contents}
+use Rattle.log_machine.specs.Machine.{addresses, first_contents}
 
 -- The pages of both spaces, each with its LSN: all words by address, and the LSNs by page.
 pub record Pages : Type 0 where
@@ -29,11 +29,7 @@ lsn_of at p = slice_index at.lsns p
 abbrev pub first_pages : ℕ → Pages
 first_pages pages = record { words = first_contents pages; lsns = replicate (pages_in pages) 0 }
 
--- the addresses that a record writes
-abbrev pub addresses : Record → List ℕ
-addresses rec = map (λ w. w.0) (effect rec)
-
--- the pages that it touches: those in which these addresses lie
+-- the pages that a record touches: those in which the addresses lie that it writes
 abbrev pub touched : Record → List ℕ
 touched rec = map page_of (addresses rec)
 

@@ -19,7 +19,7 @@ raised_to lsn lsns touched = fold (λ now p. slice_set now p (max (slice_index n
 -- the pages after the record of an LSN is redone: its words are put where the page lacks it, and each page that it touches has it
 abbrev pub redo_record : ℕ → Pages → Record → Pages
 redo_record lsn at rec = record {
-  words = put_all at.words (filter (λ w. lacks at lsn (page_of w.0)) (effect rec));
+  words = put_all at.words (filter (λ w. lacks at lsn (page_of w.0)) (effect at.words rec));
   lsns = raised_to lsn at.lsns (touched rec);
 }
 

@@ -15,14 +15,14 @@ use Rattle.page_redo.specs.Pages.{Pages}
 use Rattle.page_redo.specs.Prefix.{EachHoldsPrefix}
 use Rattle.page_redo.proofs.PrefixLaws.{EachHoldsPrefix-append}
 use Rattle.graph_words.specs.Places.{Places}
-use Rattle.heap_model.specs.Core.{Core, all_words}
+use Rattle.heap_model.specs.Core.{Core, log_start, all_words}
 use Rattle.heap_model.specs.CoreCrash.{HasLogWords, IsLogged, IsOnDisk, IsSuperOf}
 use Rattle.heap_model.specs.CoreTold.{IsTold}
 use Rattle.heap_model.proofs.Step.Goes.{told_sound}
 use Rattle.heap_model.proofs.Opening.Legal.{told_says}
 use Rattle.heap_model.proofs.Step.Logged.{all_logged}
 use Rattle.heap_model.proofs.Step.Room.{records_of-with_batch, length-with_batch}
-use Rattle.heap_model.specs.Image.{Says}
+use Rattle.heap_model.specs.Image.{first_state, Says}
 use Rattle.heap_model.specs.Opening.{next_of, next_in}
 use Rattle.core_laws.proofs.Step.Goes.{known_on}
 use Rattle.core_laws.proofs.Step.GrantedEnds.{all_on_disk}
@@ -37,7 +37,7 @@ pub record TellFirst (c : Core) (k : ℕ) (batches : List (List Record)) : Type 
   pub state : State
   pub places : Places
   pub words : List ℕ
-  pub told : IsTold c.pages c.lowest c.born places (serial c.g0 (take k (commits c.history))) (c.before + k) (records_of batches) words state
+  pub told : IsTold (log_start c) c.born places (serial c.g0 (take k (commits c.history))) (c.before + k) (records_of batches) words state
   pub logged : words ≡ machine.words c.pages (records_of batches)
   pub room : length (batches_bytes batches) + 1 + reserve state ≤ c.room
   pub next : c.first ≤ state.next
@@ -52,7 +52,7 @@ commits-sealed c h =
     ap (λ (o : Option Transaction). sealed c.history ++ option_to_list o) b.certain ∙ append-nil (sealed c.history)
 
 tell_sealed : (c : Core) (k : ℕ) (batches : List (List Record)) (places : Places) (now : List ℕ) (state : State) → IsSound c
-    → IsTold c.pages c.lowest c.born places (serial c.g0 (take k (sealed c.history))) (c.before + k) (records_of batches) now state → now ≡ machine.words c.pages (records_of batches)
+    → IsTold (log_start c) c.born places (serial c.g0 (take k (sealed c.history))) (c.before + k) (records_of batches) now state → now ≡ machine.words c.pages (records_of batches)
     → length (batches_bytes batches) + 1 + reserve state ≤ c.room → c.first ≤ state.next → acknowledged c.history ≤ k → machine.commits (records_of c.batches) ≤ c.before + k
     → k ≤ length (sealed c.history) → TellFirst c k batches
 tell_sealed c k batches places now state h told logged room next kept forced some =
@@ -61,7 +61,7 @@ tell_sealed c k batches places now state h told logged room next kept forced som
       state = state;
       places = places;
       words = now;
-      told = subst (λ (ts : List Transaction). IsTold c.pages c.lowest c.born places (serial c.g0 (take k ts)) (c.before + k) (records_of batches) now state) (sym same) told;
+      told = subst (λ (ts : List Transaction). IsTold (log_start c) c.born places (serial c.g0 (take k ts)) (c.before + k) (records_of batches) now state) (sym same) told;
       logged = logged;
       room = room;
       next = next;
@@ -73,7 +73,7 @@ tell_sealed c k batches places now state h told logged room next kept forced som
 -- so many commits of the log on the disk came before the opening, and so many since then
 forced_commits : (a : Account) (c : Core) → (b : Agrees a c) → machine.commits (records_of c.batches) ≡ c.before + b.durable
 forced_commits a c b =
-    let all = commits-start c.pages c.lowest b.on_disk (records_of c.batches) b.disk_told.reached in
+    let all = commits-start c.pages c.first_number b.on_disk (records_of c.batches) b.disk_told.reached in
     let count = b.disk_told.count in
     omega arith
 
@@ -112,10 +112,10 @@ module _ (c : Core) (s : Super) (batches : List (List Record)) (stored : Pages) 
   first : (k : ℕ) × TellFirst c k batches
   first = tell_first c batches h logged on
 
-  told : IsTold s.pages s.first c.born first.1.places (serial c.g0 (take first.0 (commits c.history))) (c.before + first.0) (records_of batches) first.1.words first.1.state
+  told : IsTold (first_state s) c.born first.1.places (serial c.g0 (take first.0 (commits c.history))) (c.before + first.0) (records_of batches) first.1.words first.1.state
   told =
-      let P : ℕ → ℕ → Type 0 = λ pages lowest. IsTold pages lowest c.born first.1.places (serial c.g0 (take first.0 (commits c.history))) (c.before + first.0) (records_of batches) first.1.words first.1.state in
-      subst (λ pages. P pages s.first) (sym of.pages) (subst (λ lowest. P c.pages lowest) (sym of.first) first.1.told)
+      let P : ℕ → ℕ → Type 0 = λ pages first_number. IsTold (start pages first_number) c.born first.1.places (serial c.g0 (take first.0 (commits c.history))) (c.before + first.0) (records_of batches) first.1.words first.1.state in
+      subst (λ pages. P pages s.first) (sym of.pages) (subst (λ first_number. P c.pages first_number) (sym of.first) first.1.told)
 
   fits : length (batches_bytes batches) + 1 + reserve first.1.state ≤ s.log_bytes
   fits = let room = first.1.room in let same = of.room in omega arith

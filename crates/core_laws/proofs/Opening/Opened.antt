@@ -11,10 +11,9 @@ use Rattle.graph_model.specs.ClosedGraph.{IsUnused}
 use Rattle.graph_model.specs.History.{nothing_yet, sessions}
 use Rattle.image_plan.specs.declared.superblock.Super.{Super}
 use Rattle.log_records.specs.declared.Record.{Record}
-use Rattle.log_machine.proofs.AbortLaws.{settled}
-use Rattle.log_machine.specs.Machine.{start, all_taken_back, commits, undo_of}
+use Rattle.log_machine.specs.Machine.{settled, start, all_taken_back, commits, undo_of}
 use Rattle.log_machine.proofs.MapLaws.{each_empty}
-use Rattle.log_machine.proofs.StateLaws.{leads_after_all, commits-start}
+use Rattle.log_machine.proofs.StateLaws.{leads_after_all, spaced_after_all, commits-start}
 use Rattle.log_machine.proofs.TakenBackLaws.{taken_back-settled}
 use Rattle.page_redo.specs.Pages.{Pages}
 use Rattle.log_machine.specs.declared.UndoEntry.{UndoEntry}
@@ -26,7 +25,7 @@ use Rattle.graph_words.proofs.Stands.Closed.{stands_closed, placed_below}
 use Rattle.heap_model.proofs.Opening.Rolled.{next_is, rolled_reached, rolled_good, rolled_room, rolled_words-is, length-rolled_words, settled_reserve}
 use Rattle.heap_model.specs.CoreTold.{IsTold}
 use Rattle.heap_model.specs.Core.{kept_for}
-use Rattle.heap_model.specs.Image.{words_of, IsShapedLog}
+use Rattle.heap_model.specs.Image.{first_state, words_of, IsShapedLog}
 use Rattle.heap_model.specs.Opening.{rolled_back, rolled_words, next_of, opened, IsFound}
 use Rattle.core_laws.specs.Valid.{IsActive, RunsLocked, IsValid, IsReached}
 
@@ -53,7 +52,7 @@ module _ (s : Super) (batches : List (List Record)) (stored : Pages) (shaped : I
   abbrev now : List ℕ
   now = rolled_words s batches stored
 
-  opened_told : IsTold s.pages s.first born places g (commits (records_of batches) + 0) (records_of (rolled_back s batches)) now (settled shaped.state)
+  opened_told : IsTold (first_state s) born places g (commits (records_of batches) + 0) (records_of (rolled_back s batches)) now (settled shaped.state)
   opened_told =
       let count = commits-start s.pages s.first shaped.state (records_of batches) shaped.reached in
       let settled_now = taken_back-settled (settled shaped.state) now refl in
@@ -63,7 +62,7 @@ module _ (s : Super) (batches : List (List Record)) (stored : Pages) (shaped : I
         reached = rolled_reached s batches stored shaped;
         size = length-rolled_words s batches stored shaped;
         count = omega arith;
-        base = (leads_after_all (start s.pages s.first) shaped.state (records_of batches) shaped.reached).base;
+        spaced = let spaced = (spaced_after_all s.pages s.first shaped.state (records_of batches) shaped.limits.some_pages shaped.reached).1 in record { first = spaced.first; room = spaced.room; within = spaced.within };
         stands = subst (λ ws. StandsCommitted places g ws shaped.state.base shaped.state.used) same found.stands;
         old = found.old;
         births = λ by_birth. subst (AreNamedByBirth places) same (found.births by_birth);
@@ -99,7 +98,7 @@ module _ (s : Super) (batches : List (List Record)) (stored : Pages) (shaped : I
         first_known = omega arith;
         disk_room = omega arith;
         behind = settled shaped.state;
-        told = subst (λ rs. IsTold s.pages s.first born places g (commits (records_of batches) + 0) rs now (settled shaped.state)) (sym (append-nil (records_of (rolled_back s batches)))) opened_told;
+        told = subst (λ rs. IsTold (first_state s) born places g (commits (records_of batches) + 0) rs now (settled shaped.state)) (sym (append-nil (records_of (rolled_back s batches)))) opened_told;
         next_known = omega arith;
         losers = each_empty (λ q us. IsActive nothing_yet q);
         writers = λ session. tt;

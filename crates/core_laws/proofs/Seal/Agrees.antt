@@ -17,7 +17,7 @@ use Rattle.log_machine.specs.Entries.{EachKeyed}
 use Rattle.log_machine.proofs.MapLaws.{each_other}
 use Rattle.graph_words.specs.Places.{Places}
 use Rattle.graph_words.specs.Promotion.{promoted_places}
-use Rattle.heap_model.specs.Core.{Core, all_records, area_in, ground, seal_moves, seal_need, seal_of, space_refusal}
+use Rattle.heap_model.specs.Core.{Core, log_start, all_records, area_in, ground, seal_moves, seal_need, seal_of, space_refusal}
 use Rattle.heap_model.specs.CoreTold.{IsTold, IsNumbered}
 use Rattle.core_laws.proofs.Step.Goes.{words_with, goes_on, number_below}
 use Rattle.core_laws.proofs.Step.Granted.{HasRoom, reserved_told}
@@ -53,9 +53,9 @@ module _ (a : Account) (c : Core) (h : Agrees a c) {numbers : List ℕ} {heard :
       let same = ap (λ x. length (a.sealed ++ option_to_list x)) e in
       omega arith
 
-  told : IsTold c.pages c.lowest c.born later (serial c.g0 b.sealed) (c.before + length b.sealed) all words (seal.last a c h o s t e)
+  told : IsTold (log_start c) c.born later (serial c.g0 b.sealed) (c.before + length b.sealed) all words (seal.last a c h o s t e)
   told =
-      let Told : Graph → ℕ → Type 0 = λ g k. IsTold c.pages c.lowest c.born later g k all words (seal.last a c h o s t e) in
+      let Told : Graph → ℕ → Type 0 = λ g k. IsTold (log_start c) c.born later g k all words (seal.last a c h o s t e) in
       subst (λ (k : ℕ). Told (serial c.g0 b.sealed) k) count (subst (λ (g : Graph). Told g (c.before + length a.sealed + 1)) left (seal.sealed_told a c h o s t e space))
 
   -- those left whose writes may be taken back are active

@@ -16,10 +16,10 @@ use Rattle.log_records.specs.Record.{IsRecord}
 use Rattle.log_machine.specs.declared.UndoEntry.{UndoEntry}
 use Rattle.log_machine.specs.Apart.{others_taken_back}
 use Rattle.log_machine.proofs.ListLaws.{AllByRecursion-append, AllByRecursion-map}
-use Rattle.log_machine.specs.Machine.{State, start, after_all, taken_back, all_taken_back, undo_of, put_record, field_at, is_number}
+use Rattle.log_machine.specs.Machine.{State, start, owed, words_in, after_all, taken_back, all_taken_back, undo_of, put_record, field_at, is_number}
 use Rattle.log_machine.proofs.MachineLaws.{after_all-append2}
 use Rattle.log_machine.specs.Sound.{AreLosers}
-use Rattle.log_machine.proofs.StateLaws.{leads_after_all, room_after_all}
+use Rattle.log_machine.proofs.StateLaws.{leads_after_all, spaced_more}
 use Rattle.log_machine.proofs.WordsLaws.{length-put_records}
 use Rattle.volatile_area.specs.Area.{AreaState}
 use Rattle.graph_words.specs.Places.{Places}
@@ -28,7 +28,7 @@ use Rattle.graph_words.proofs.Stands.TakenBack.{renamed, taken_back_birth}
 use Rattle.graph_words.specs.Promotion.{Field, promoted_need, moves_of, seal_records, promotion_records, promoted_places, written_fields}
 use Rattle.graph_words.proofs.Promotion.Sealed.{sealed_state}
 use Rattle.graph_words.proofs.Promotion.Seal.{CanSeal, seal_stands, seal_births, seal_old, seal_spelled, seal_follows}
-use Rattle.heap_model.specs.Core.{Core, Ground, ground, all_records, all_words, area_in, seal_moves, seal_of, seal_need, space_refusal}
+use Rattle.heap_model.specs.Core.{Core, log_start, Ground, ground, all_records, all_words, area_in, seal_moves, seal_of, seal_need, space_refusal}
 use Rattle.heap_model.proofs.Step.Goes.{told_sound}
 use Rattle.heap_model.specs.CoreTold.{IsTold}
 use Rattle.core_laws.proofs.Sessions.Apart.{own_away, own_apart}
@@ -41,8 +41,8 @@ refused_or_not : (b : Bool) (why : Refusal) → cond b (Some why) None ≡ None 
 refused_or_not true why e = cc
 refused_or_not false why e = refl
 
-space_fits : (s : State) (n : ℕ) → space_refusal (Some s) n ≡ None → n ≤ 64 * s.pages - s.used
-space_fits s n e = let room = ltb-false (64 * s.pages - s.used) n (refused_or_not _ (Exhausted n (64 * s.pages - s.used) 0) e) in omega arith
+space_fits : (s : State) (n : ℕ) → space_refusal (Some s) n ≡ None → n ≤ 64 * s.pages - s.used - owed s
+space_fits s n e = let room = ltb-false (64 * s.pages - s.used - owed s) n (refused_or_not _ (Exhausted n (64 * s.pages - s.used) (owed s)) e) in omega arith
 
 module _ (a : Account) (c : Core) (h : Agrees a c) {numbers : List ℕ} {heard : Heard} (o : IsOrdered c.g0 numbers a heard) (s : ℕ) (t : Transaction) (e : a.active s ≡ Some t) where
   -- what the transaction sees
@@ -130,7 +130,7 @@ module _ (a : Account) (c : Core) (h : Agrees a c) {numbers : List ℕ} {heard :
   HasSpace = space_refusal (ground c).state (seal_need (ground c) t.number seen) ≡ None
 
   module _ (space : HasSpace) where
-    fits : asked ≤ 64 * h.behind.pages - h.behind.used
+    fits : asked ≤ 64 * h.behind.pages - h.behind.used - owed h.behind
     unfolding known
     fits =
         let here = subst (λ (g : Ground). space_refusal g.state (seal_need g t.number seen) ≡ None) where_known space in
@@ -138,11 +138,15 @@ module _ (a : Account) (c : Core) (h : Agrees a c) {numbers : List ℕ} {heard :
         omega (arith, need_same own_area own_words now own_undo agree)
 
     same_pages : h.behind.pages ≡ c.pages
-    same_pages = (leads_after_all (start c.pages c.lowest) h.behind (all_records c) h.told.reached).pages
+    same_pages = (leads_after_all (start c.pages c.first_number) h.behind (all_records c) h.told.reached).pages
 
-    -- the used words are words of the space
-    inside : h.behind.used ≤ 64 * h.behind.pages
-    inside = let room = room_after_all c.pages c.lowest h.behind (all_records c) h.some_pages h.told.reached in let used = room.3 in omega (arith, same_pages)
+    -- the used words, and those that are owed, are words of the space
+    inside : h.behind.used + owed h.behind ≤ 64 * h.behind.pages
+    inside = h.told.spaced.room
+
+    -- so is what it promotes
+    ends : h.behind.base + h.behind.used + asked ≤ words_in h.behind.pages
+    ends = spaced_more h.behind asked h.told.spaced (omega (arith, fits, inside))
 
     -- it finds what its transaction sees
     pub can : CanSeal c.places seen.graph t.number seen.made own_undo own_words h.behind.base h.behind.used
@@ -150,22 +154,21 @@ module _ (a : Account) (c : Core) (h : Agrees a c) {numbers : List ℕ} {heard :
         let w = writing_of a c s t e h in
         let size = h.told.size in
         let long = length-others h.behind t.number now in
-        let base = h.told.base in
         record {
           stands = w.stands;
           has = w.made;
           written = w.written;
           of_fields = w.fields;
-          room = omega (arith, fits, inside, same_pages, size, long, base);
-          top = omega (arith, fits, inside, same_pages, h.few_pages, base);
+          room = omega (arith, ends, same_pages, size, long);
+          top = omega (arith, ends, same_pages, h.few_pages);
         }
 
     number : is_number t.number ≡ true
     number = numbered_as a c s t e h
 
     -- all records lead to the state behind it
-    pub reached : after_all (start c.pages c.lowest) (all_records c ++ records) ≡ Some last
-    reached = after_all-append2 (start c.pages c.lowest) h.behind (all_records c) records h.told.reached ∙ seal_follows h.behind can number (omega (arith, fits, inside))
+    pub reached : after_all (start c.pages c.first_number) (all_records c ++ records) ≡ Some last
+    reached = after_all-append2 (start c.pages c.first_number) h.behind (all_records c) records h.told.reached ∙ seal_follows h.behind can number (omega (arith, fits, inside))
 
     -- all words are those with the promotion
     pub words_behind : words_with c records ≡ fold put_record now promotion
@@ -186,13 +189,13 @@ module _ (a : Account) (c : Core) (h : Agrees a c) {numbers : List ℕ} {heard :
         renamed c.places (taken_back own_undo own_words) own_words (λ at has. sym (taken_back_birth w.stands own_undo w.fields at has)) (subst (AreNamedByBirth c.places) back born)
 
     -- all records tell the graph that it leaves
-    pub sealed_told : IsTold c.pages c.lowest c.born (c.places ++ placed) seen.graph (c.before + length a.sealed + 1) (all_records c ++ records) (words_with c records) last
+    pub sealed_told : IsTold (log_start c) c.born (c.places ++ placed) seen.graph (c.before + length a.sealed + 1) (all_records c ++ records) (words_with c records) last
     sealed_told = record {
       good = AllByRecursion-append IsRecord (all_records c) records h.told.good (seal_spelled can number);
       reached = reached;
       size = length-put_records records now ∙ h.told.size;
       count = let count = h.told.count in omega arith;
-      base = h.told.base;
+      spaced = record { first = h.told.spaced.first; room = omega (arith, fits, inside); within = h.told.spaced.within };
       stands = subst (λ ws. StandsCommitted (c.places ++ placed) seen.graph ws h.behind.base (h.behind.used + asked)) (sym committed) (seal_stands can);
       old = seal_old can h.behind.next (max h.behind.next (t.number + 1)) h.told.old (omega arith) (omega arith);
       births = λ by_birth. subst (AreNamedByBirth (c.places ++ placed)) (sym committed) (seal_births can (births_seen (h.told.births by_birth)));

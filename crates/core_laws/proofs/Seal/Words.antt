@@ -15,7 +15,7 @@ use Rattle.log_machine.proofs.Fields.{written, AreApart, IsApart}
 use Rattle.log_machine.specs.Apart.{others_taken_back}
 use Rattle.log_machine.proofs.TakenBackLaws.{taken_back-swap, all_taken_back-first}
 use Rattle.log_machine.proofs.ListLaws.{AllByRecursion-append, AllByRecursion-map}
-use Rattle.log_machine.specs.Machine.{State, Loser, effect, field_at, put_all, put_record, undo_of, taken_back, each_taken_back, all_taken_back}
+use Rattle.log_machine.specs.Machine.{State, Loser, effect, addresses, field_at, put_all, put_record, undo_of, taken_back, each_taken_back, all_taken_back}
 use Rattle.log_machine.proofs.MapLaws.{each_entry, each_other}
 use Rattle.log_machine.specs.Sound.{AreLosers}
 use Rattle.log_machine.specs.UndoEntry.{LiesInside}
@@ -72,7 +72,7 @@ module _ (area : AreaState) (words others : List ℕ) (undo : List UndoEntry) (s
 
 -- each word that these records write stands at such an address
 abbrev pub WriteAt : (ℕ → Type 0) → List Record → Type 0
-WriteAt P rs = AllByRecursion (λ r. AllByRecursion (λ w. P w.0) (effect r)) rs
+WriteAt P rs = AllByRecursion (λ r. AllByRecursion P (addresses r)) rs
 
 untouched_all : (writes : List (ℕ × ℕ)) (now : List ℕ) (x : ℕ) → AllByRecursion (λ w. x ≢ w.0) writes → get_or (put_all now writes) x 0 ≡ get_or now x 0
 untouched_all [] now x other = refl
@@ -81,9 +81,9 @@ untouched_all (w ∷ ws) now x other = untouched_all ws (put_all now (w ∷ []))
 -- a word that records do not write stays
 pub untouched : (rs : List Record) (now : List ℕ) (x : ℕ) → WriteAt (λ y. x ≢ y) rs → get_or (fold put_record now rs) x 0 ≡ get_or now x 0
 untouched [] now x other = refl
-untouched (r ∷ rs) now x other = untouched rs (put_record now r) x other.1 ∙ untouched_all (effect r) now x other.0
+untouched (r ∷ rs) now x other = untouched rs (put_record now r) x other.1 ∙ untouched_all (effect now r) now x (effect_writes (λ y. x ≢ y) now r other.0)
 
-run_writes : (P : ℕ → Type 0) (from at : ℕ) (ws : List ℕ) → from ≤ at → ((x : ℕ) → from ≤ x → P x) → AllByRecursion (λ w. P w.0) (enumerate_from at ws)
+run_writes : (P : ℕ → Type 0) (from at : ℕ) (ws : List ℕ) → from ≤ at → ((x : ℕ) → from ≤ x → P x) → AllByRecursion P (map (λ w. w.0) (enumerate_from at ws))
 run_writes P from at [] above free = tt
 run_writes P from at (w ∷ ws) above free = (free at above, run_writes P from (at + 1) ws (omega arith) free)
 
@@ -106,7 +106,7 @@ fixes_write : (P : ℕ → Type 0) (t : ℕ) (words : List ℕ) (moves : List Mo
 fixes_write P t words moves [] all = tt
 fixes_write P t words moves (f ∷ fs) all =
     let w = slice_index words (field_at f.0 f.1) in
-    AllByRecursion-append (λ r. AllByRecursion (λ x. P x.0) (effect r)) (fix_of t words moves f) (fixes t words moves fs)
+    AllByRecursion-append (λ r. AllByRecursion P (addresses r)) (fix_of t words moves f) (fixes t words moves fs)
     (fix_writes P t moves f w (meaning w) all.0) (fixes_write P t words moves fs all.1)
 
 at_written : (P : ℕ → Type 0) (undo : List UndoEntry) (at i : ℕ) → AllByRecursion (λ v. P (written v)) undo → IsWritten undo at i → P (field_at at i)
@@ -126,7 +126,7 @@ pub promotion_writes : (P : ℕ → Type 0) (area : AreaState) (words : List ℕ
     → WriteAt P (promotion_records area words undo address)
 promotion_writes P area words undo address free all =
     let moves = moves_of area words undo address in
-    AllByRecursion-append (λ r. AllByRecursion (λ x. P x.0) (effect r)) (map (base_of area moves) moves) (fixes area.transaction words moves (written_fields undo))
+    AllByRecursion-append (λ r. AllByRecursion P (addresses r)) (map (base_of area moves) moves) (fixes area.transaction words moves (written_fields undo))
     (bases_write P area moves address (promoted_by area words undo) address (omega arith) free)
     (fixes_write P area.transaction words moves (written_fields undo) (fields_written P undo all))
 

@@ -9,7 +9,7 @@ use Rattle.std.specs.FinMap.Entries.{by_order}
 use Rattle.std.proofs.lemmas.List.{get_or-set_other, set-set, set_comm, set-get_or}
 use Rattle.log_records.specs.declared.Record.{Record}
 use Rattle.log_machine.specs.declared.UndoEntry.{UndoEntry}
-use Rattle.log_machine.specs.Machine.{State, Loser, field_at, effect, put_all, put_record, with_word, with_entries, undo_in, undo_of, turned, taken_back, each_taken_back, all_taken_back}
+use Rattle.log_machine.specs.Machine.{State, Loser, field_at, effect, addresses, put_all, put_record, with_word, with_entries, undo_in, undo_of, turned, taken_back, each_taken_back, all_taken_back}
 use Rattle.log_machine.proofs.Fields.{written, AreApart, IsApart}
 use Rattle.log_machine.specs.Apart.{others_taken_back}
 use Rattle.log_machine.specs.Entries.{EachKeyed}
@@ -74,10 +74,10 @@ others_put_all s t now [] away = refl
 others_put_all s t now (w ∷ ws) away = others_put_all s t (set now w.0 w.1) ws away.1 ∙ ap (λ (x : List ℕ). put_all x ws) (others_set s t now w.0 w.1 away.0)
 
 -- and those of records
-pub others_records : (s : State) (t : ℕ) (now : List ℕ) (rs : List Record) → AllByRecursion (λ r. AllByRecursion (λ w. IsAway s t w.0) (effect r)) rs
+pub others_records : (s : State) (t : ℕ) (now : List ℕ) (rs : List Record) → AllByRecursion (λ r. AllByRecursion (IsAway s t) (addresses r)) rs
     → others_taken_back s t (fold put_record now rs) ≡ fold put_record (others_taken_back s t now) rs
 others_records s t now [] away = refl
-others_records s t now (r ∷ rs) away = others_records s t (put_record now r) rs away.1 ∙ ap (λ (x : List ℕ). fold put_record x rs) (others_put_all s t now (effect r) away.0)
+others_records s t now (r ∷ rs) away = others_records s t (put_record now r) rs away.1 ∙ ap (λ (x : List ℕ). fold put_record x rs) (others_put_all s t now (effect now r) (effect_writes (IsAway s t) now r away.0) ∙ ap (put_all (others_taken_back s t now)) (effect_any now (others_taken_back s t now) r))
 
 -- The transaction's own writes.
 

@@ -17,7 +17,7 @@ use Rattle.log_machine.specs.Entries.{EachKeyed}
 use Rattle.log_machine.proofs.StateLaws.{leads_after_all}
 use Rattle.gated_log.specs.Log.{records_of}
 use Rattle.graph_words.specs.Places.{Places}
-use Rattle.heap_model.specs.Core.{Core, all_records, all_words, used, need, reserved}
+use Rattle.heap_model.specs.Core.{Core, log_start, all_records, all_words, used, need, reserved}
 use Rattle.heap_model.proofs.Step.Goes.{used-append}
 use Rattle.heap_model.specs.CoreTold.{IsTold, IsNumbered}
 use Rattle.core_laws.specs.Valid.{IsWriting, IsWriter, IsActive, Agrees}
@@ -47,7 +47,7 @@ numbered_as a c s t e h =
 -- all records know the numbers that were given before the opening
 pub known_on : (a : Account) (c : Core) → (h : Agrees a c) → c.first ≤ h.behind.next
 known_on a c h =
-    let pending : after_all h.on_disk c.pending ≡ Some h.behind = sym (after_all-append2 (start c.pages c.lowest) h.on_disk (records_of c.batches) c.pending h.disk_told.reached) ∙ h.told.reached in
+    let pending : after_all h.on_disk c.pending ≡ Some h.behind = sym (after_all-append2 (start c.pages c.first_number) h.on_disk (records_of c.batches) c.pending h.disk_told.reached) ∙ h.told.reached in
     let grows = (leads_after_all h.on_disk h.behind c.pending pending).grows in
     let known = h.first_known in
     omega arith
@@ -93,7 +93,7 @@ pub record Goes (a : Account) (c : Core) (b : Account) (more : List Record) (pla
   pub later : List Transaction
   pub sealed : b.sealed ≡ a.sealed ++ later
   pub behind : State
-  pub told : IsTold c.pages c.lowest c.born (c.places ++ placed) (serial c.g0 b.sealed) (c.before + length b.sealed) (all_records c ++ more) (words_with c more) behind
+  pub told : IsTold (log_start c) c.born (c.places ++ placed) (serial c.g0 b.sealed) (c.before + length b.sealed) (all_records c ++ more) (words_with c more) behind
   pub next_known : behind.next ≤ c.first + b.begun
   pub losers : EachKeyed (λ q us. IsActive b q) behind.undo
   pub writers : (s : ℕ) → IsWriter (c.places ++ placed) c.g0 b (b.active s) (words_with c more) behind
@@ -127,13 +127,13 @@ goes_on a c b more placed h go =
       acknowledged_last = omega arith;
       on_disk = h.on_disk;
       disk_places = h.disk_places;
-      disk_told = subst (λ (g : Graph). IsTold c.pages c.lowest c.born h.disk_places g (c.before + h.durable) (records_of c.batches) c.words h.on_disk) (sym graph) h.disk_told;
+      disk_told = subst (λ (g : Graph). IsTold (log_start c) c.born h.disk_places g (c.before + h.durable) (records_of c.batches) c.words h.on_disk) (sym graph) h.disk_told;
       first_known = h.first_known;
       disk_room = h.disk_room;
       behind = go.behind;
       told =
-          let told = subst (λ (rs : List Record). IsTold c.pages c.lowest c.born (c.places ++ placed) (serial c.g0 b.sealed) (c.before + length b.sealed) rs (words_with c more) go.behind) records go.told in
-          subst (λ (ws : List ℕ). IsTold c.pages c.lowest c.born (c.places ++ placed) (serial c.g0 b.sealed) (c.before + length b.sealed) (records_of c.batches ++ (c.pending ++ more)) ws go.behind) words told;
+          let told = subst (λ (rs : List Record). IsTold (log_start c) c.born (c.places ++ placed) (serial c.g0 b.sealed) (c.before + length b.sealed) rs (words_with c more) go.behind) records go.told in
+          subst (λ (ws : List ℕ). IsTold (log_start c) c.born (c.places ++ placed) (serial c.g0 b.sealed) (c.before + length b.sealed) (records_of c.batches ++ (c.pending ++ more)) ws go.behind) words told;
       next_known = go.next_known;
       losers = go.losers;
       writers = λ s. subst (λ (ws : List ℕ). IsWriter (c.places ++ placed) c.g0 b (b.active s) ws go.behind) words (go.writers s);
@@ -142,10 +142,10 @@ goes_on a c b more placed h go =
 
 -- no more records, and no more places
 pub as_told : (a : Account) (c : Core) → (h : Agrees a c)
-    → IsTold c.pages c.lowest c.born (c.places ++ []) (serial c.g0 a.sealed) (c.before + length a.sealed) (all_records c ++ []) (words_with c []) h.behind
+    → IsTold (log_start c) c.born (c.places ++ []) (serial c.g0 a.sealed) (c.before + length a.sealed) (all_records c ++ []) (words_with c []) h.behind
 as_told a c h =
-    subst (λ (ps : Places). IsTold c.pages c.lowest c.born ps (serial c.g0 a.sealed) (c.before + length a.sealed) (all_records c ++ []) (words_with c []) h.behind) (sym (append-nil c.places))
-    (subst (λ (rs : List Record). IsTold c.pages c.lowest c.born c.places (serial c.g0 a.sealed) (c.before + length a.sealed) rs (all_words c) h.behind) (sym (append-nil (all_records c))) h.told)
+    subst (λ (ps : Places). IsTold (log_start c) c.born ps (serial c.g0 a.sealed) (c.before + length a.sealed) (all_records c ++ []) (words_with c []) h.behind) (sym (append-nil c.places))
+    (subst (λ (rs : List Record). IsTold (log_start c) c.born c.places (serial c.g0 a.sealed) (c.before + length a.sealed) rs (all_words c) h.behind) (sym (append-nil (all_records c))) h.told)
 
 -- a writer of the same words and places
 pub as_writer : (c : Core) (b : Account) (o : Option Transaction) (state : State) → IsWriter c.places c.g0 b o (all_words c) state

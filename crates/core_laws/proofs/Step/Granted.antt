@@ -24,7 +24,7 @@ use Rattle.graph_words.specs.Places.{Places, area_used}
 use Rattle.graph_words.specs.Stands.{Stands, StandsCommitted, AreWritten, AreOfFields}
 use Rattle.graph_words.proofs.Stands.Own.{new_stands, new_made, new_written, new_kept}
 use Rattle.graph_words.proofs.Stands.Write.{committed_stands, begin_made_next, begin_written}
-use Rattle.heap_model.specs.Core.{Core, all_records, all_words, undo_with, undo_behind, used, need, reserved}
+use Rattle.heap_model.specs.Core.{Core, log_start, all_records, all_words, undo_with, undo_behind, used, need, reserved}
 use Rattle.heap_model.proofs.Step.Goes.{told_sound, need_nothing}
 use Rattle.heap_model.proofs.Step.Granted.{IsQuiet}
 use Rattle.heap_model.proofs.Step.Handles.{call_at_hand, none_at_hand, more_handles}
@@ -43,7 +43,7 @@ abbrev pub HasRoom : Core → List Record → Account → Type 0
 HasRoom c more b = used c + need c.pending more + reserved (undo_behind c (all_records c ++ more)) b ≤ c.room
 
 -- what is kept, where the state behind them is known
-pub reserved_told : (c : Core) (more : List Record) (b : Account) {places : Places} {g : Graph} {k : ℕ} {state : State} → IsTold c.pages c.lowest c.born places g k (all_records c ++ more) (words_with c more) state
+pub reserved_told : (c : Core) (more : List Record) (b : Account) {places : Places} {g : Graph} {k : ℕ} {state : State} → IsTold (log_start c) c.born places g k (all_records c ++ more) (words_with c more) state
     → reserved (undo_behind c (all_records c ++ more)) b ≡ reserved (undo_of state) b
 reserved_told c more b told = ap (λ o. reserved (undo_with o) b) told.reached
 

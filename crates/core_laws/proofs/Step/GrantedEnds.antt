@@ -15,7 +15,7 @@ use Rattle.log_machine.specs.Machine.{State, undo_of, with_entries, turned, take
 use Rattle.log_machine.proofs.MachineLaws.{undo_beside}
 use Rattle.log_machine.proofs.MapLaws.{each_other}
 use Rattle.gated_log.specs.Log.{records_of, batches_bytes, pending_batch, with_batch}
-use Rattle.heap_model.specs.Core.{Core, all_records, all_words, used, is_dirty, is_ahead, forced, forced_if, page_stored, flushed}
+use Rattle.heap_model.specs.Core.{Core, log_start, all_records, all_words, used, is_dirty, is_ahead, forced, forced_if, page_stored, flushed}
 use Rattle.heap_model.proofs.Step.Goes.{told_sound}
 use Rattle.heap_model.proofs.Step.Room.{need-abort_records, forced-with_batch, records_of-with_batch, length-with_batch}
 use Rattle.heap_model.specs.CoreTold.{IsTold, IsNumbered}
@@ -44,8 +44,8 @@ module _ (a : Account) (c : Core) (h : Agrees a c) {numbers : List ℕ} {heard :
   abbrev aborted : Account
   aborted = account_after a (record { event = Abort s; reply = Aborted })
 
-  end_told : IsTold c.pages c.lowest c.born c.places (serial c.g0 a.sealed) (c.before + length a.sealed) (all_records c ++ ends) (words_with c ends) last
-  end_told = abort_told c.pages c.lowest c.born c.places (serial c.g0 a.sealed) (c.before + length a.sealed) t.number (all_records c) (all_words c) h.behind h.told (numbered_as a c s t e h) (own_apart a c h o s t e)
+  end_told : IsTold (log_start c) c.born c.places (serial c.g0 a.sealed) (c.before + length a.sealed) (all_records c ++ ends) (words_with c ends) last
+  end_told = abort_told c.pages c.first_number c.born c.places (serial c.g0 a.sealed) (c.before + length a.sealed) t.number (all_records c) (all_words c) h.behind h.told (numbered_as a c s t e h) (own_apart a c h o s t e)
 
   end_words : words_with c ends ≡ taken_back (undo_of h.behind t.number) (all_words c)
   end_words = abort_words t.number (undo_of h.behind t.number) (all_words c)
@@ -88,7 +88,7 @@ module _ (a : Account) (c : Core) (h : Agrees a c) {numbers : List ℕ} {heard :
         later = [];
         sealed = sym (append-nil a.sealed);
         behind = last;
-        told = subst (λ ps. IsTold c.pages c.lowest c.born ps base k (all_records c ++ ends) (words_with c ends) last) (sym (append-nil c.places)) end_told;
+        told = subst (λ ps. IsTold (log_start c) c.born ps base k (all_records c ++ ends) (words_with c ends) last) (sym (append-nil c.places)) end_told;
         next_known = omega arith;
         losers = each_other (λ q us. IsActive aborted q) h.behind.undo t.number (λ q us is other. ended_actives a aborted s t e refl q other (h.losers q us is));
         writers = λ r. subst (λ ps. IsWriter ps c.g0 aborted (aborted.active r) (words_with c ends) last) (sym (append-nil c.places))
@@ -113,10 +113,10 @@ abort_agrees a c o s t more h e is =
 
 -- batches with all records tell all that was sealed
 pub all_on_disk : (a : Account) (c : Core) (bs : List (List Record)) → (h : Agrees a c) → records_of bs ≡ all_records c
-    → IsTold c.pages c.lowest c.born c.places (serial c.g0 (take (length a.sealed) a.sealed)) (c.before + length a.sealed) (records_of bs) (all_words c) h.behind
+    → IsTold (log_start c) c.born c.places (serial c.g0 (take (length a.sealed) a.sealed)) (c.before + length a.sealed) (records_of bs) (all_words c) h.behind
 all_on_disk a c bs h same =
-    let now = subst (λ (rs : List Record). IsTold c.pages c.lowest c.born c.places (serial c.g0 a.sealed) (c.before + length a.sealed) rs (all_words c) h.behind) (sym same) h.told in
-    subst (λ (ts : List Transaction). IsTold c.pages c.lowest c.born c.places (serial c.g0 ts) (c.before + length a.sealed) (records_of bs) (all_words c) h.behind) (sym (take-length a.sealed)) now
+    let now = subst (λ (rs : List Record). IsTold (log_start c) c.born c.places (serial c.g0 a.sealed) (c.before + length a.sealed) rs (all_words c) h.behind) (sym same) h.told in
+    subst (λ (ts : List Transaction). IsTold (log_start c) c.born c.places (serial c.g0 ts) (c.before + length a.sealed) (records_of bs) (all_words c) h.behind) (sym (take-length a.sealed)) now
 
 -- batches with all records agree with what was sealed, however much of that is acknowledged
 force_all : (a : Account) (c : Core) (bs : List (List Record)) (acknowledged entries : ℕ) → Agrees a c → records_of bs ≡ all_records c
@@ -145,7 +145,7 @@ force_all a c bs acknowledged entries h same size last =
       first_known = known_on a c h;
       disk_room = omega arith;
       behind = h.behind;
-      told = subst (λ (rs : List Record). IsTold c.pages c.lowest c.born c.places (serial c.g0 a.sealed) (c.before + length a.sealed) rs (all_words c) h.behind) (sym records) h.told;
+      told = subst (λ (rs : List Record). IsTold (log_start c) c.born c.places (serial c.g0 a.sealed) (c.before + length a.sealed) rs (all_words c) h.behind) (sym records) h.told;
       next_known = h.next_known;
       losers = λ q us is. same_actives a b refl q (h.losers q us is);
       writers = h.writers;

@@ -30,7 +30,7 @@ use Rattle.graph_words.specs.Stands.{Stands, AreWritten, AreOfFields}
 use Rattle.graph_words.proofs.Stands.Own.{own_write_stands, own_write_made, own_write_written}
 use Rattle.graph_words.proofs.Stands.Write.{write_stands, write_made, write_written}
 use Rattle.graph_words.proofs.Stands.Visible.{length-with_field}
-use Rattle.heap_model.specs.Core.{Core, all_records, all_words, view_records}
+use Rattle.heap_model.specs.Core.{Core, log_start, all_records, all_words, view_records}
 use Rattle.heap_model.proofs.Step.Granted.{stable_records, own_records}
 use Rattle.heap_model.proofs.Step.Handles.{held_at_hand, call_at_hand}
 use Rattle.heap_model.proofs.Opening.Told.{of_fields_kept, word_in, entry_of, update_of, written}
@@ -68,14 +68,14 @@ own_write_writing places g t event now state id i x w own seen graph made =
     }
 
 -- a write into an object that stands in the current space
-stable_write_writing : (pages lowest : ℕ) (born : Bool) (places : Places) (g : Graph) (k : ℕ) (records : List Record) (now : List ℕ) (t : Transaction) (event : Event) (state : State) (id : Id) (at i : ℕ) (x : Val)
+stable_write_writing : (pages first_number : ℕ) (born : Bool) (places : Places) (g : Graph) (k : ℕ) (records : List Record) (now : List ℕ) (t : Transaction) (event : Event) (state : State) (id : Id) (at i : ℕ) (x : Val)
     → IsWriting places (run g t) t.number (locks_of g t) now state
-    → IsWriteAt pages lowest born places g (run g t).graph k t.number (run g t).made records now state id at i x → IsAway state t.number (field_at at i)
+    → IsWriteAt pages first_number born places g (run g t).graph k t.number (run g t).made records now state id at i x → IsAway state t.number (field_at at i)
     → (call (run g t) t.number event).view.graph ≡ with_field (run g t).graph id i x → (call (run g t) t.number event).view.made ≡ (run g t).made
     → Contains (locks_of g (after_call t event)) (id, Exclusive)
     → IsWriting places (call (run g t) t.number event).view t.number (locks_of g (after_call t event)) (put_record now (update_of places (run g t).graph t.number id at i x))
     (written state t.number (entry_of places (run g t).graph id at i))
-stable_write_writing pages lowest born places g k records now t event state id at i x w one away graph made lock =
+stable_write_writing pages first_number born places g k records now t event state id at i x w one away graph made lock =
     let v = run g t in
     let n = t.number in
     let back = sym graph in
@@ -151,7 +151,7 @@ module _ (a : Account) (c : Core) {numbers : List ℕ} {heard : Heard} (o : IsOr
   field_away : IsAway w.agrees.behind t.number (field_at at i)
   field_away = away_field a c w.agrees o s t w.active id at i place within (free_shared c.g0 a t.number id (w.free id holds))
 
-  stable_at : IsWriteAt c.pages c.lowest c.born c.places base seen.graph (c.before + length a.sealed) t.number seen.made (all_records c) (all_words c) w.agrees.behind id at i v
+  stable_at : IsWriteAt c.pages c.first_number c.born c.places base seen.graph (c.before + length a.sealed) t.number seen.made (all_records c) (all_words c) w.agrees.behind id at i v
   stable_at =
       let free = w.free id holds in
       let writing = writing_of a c s t w.active w.agrees in
@@ -167,14 +167,14 @@ module _ (a : Account) (c : Core) {numbers : List ℕ} {heard : Heard} (o : IsOr
         was = word_now a c w.agrees o s t w.active id at i place within (free_shared c.g0 a t.number id free);
       }
 
-  stable_told : IsTold c.pages c.lowest c.born c.places base (c.before + length a.sealed) (all_records c ++ records) (words_with c records) later
-  stable_told = write_told c.pages c.lowest c.born c.places base seen.graph (c.before + length a.sealed) t.number seen.made (all_records c) (all_words c) w.agrees.behind id at i v stable_at
+  stable_told : IsTold (log_start c) c.born c.places base (c.before + length a.sealed) (all_records c ++ records) (words_with c records) later
+  stable_told = write_told c.pages c.first_number c.born c.places base seen.graph (c.before + length a.sealed) t.number seen.made (all_records c) (all_words c) w.agrees.behind id at i v stable_at
 
   -- the transaction sees what it wrote
   stable_own : IsWriter c.places c.g0 (called a s event) (with_call (a.active s) event) (words_with c records) later
   stable_own =
       let graph : (call seen t.number event).view.graph ≡ with_field seen.graph id i v = w.graph ∙ ap (λ (p : Option Id). put_value seen.graph p i v) holds in
-      let now = stable_write_writing c.pages c.lowest c.born c.places base (c.before + length a.sealed) (all_records c) (all_words c) t event w.agrees.behind id at i v
+      let now = stable_write_writing c.pages c.first_number c.born c.places base (c.before + length a.sealed) (all_records c) (all_words c) t event w.agrees.behind id at i v
       (writing_of a c s t w.active w.agrees) stable_at field_away graph w.made (lock_after base t event hd id w.lock holds) in
       subst (λ x. IsWriter c.places c.g0 (called a s event) (with_call x event) (words_with c records) later) (sym w.active)
       (subst (λ x. IsWriting c.places x t.number (locks_of base (after_call t event)) (words_with c records) later) (sym (run-append base t event)) now)
@@ -205,7 +205,7 @@ module _ (a : Account) (c : Core) {numbers : List ℕ} {heard : Heard} (o : IsOr
         later = [];
         sealed = sym (append-nil a.sealed);
         behind = later;
-        told = subst (λ ps. IsTold c.pages c.lowest c.born ps base (c.before + length a.sealed) (all_records c ++ records) (words_with c records) later) (sym (append-nil c.places)) stable_told;
+        told = subst (λ ps. IsTold (log_start c) c.born ps base (c.before + length a.sealed) (all_records c ++ records) (words_with c records) later) (sym (append-nil c.places)) stable_told;
         next_known = omega arith;
         losers = each_insert (λ q us. IsActive b q) h.behind.undo t.number (entry ∷ undo_of h.behind t.number) here (λ q us is. called_actives a s event q (h.losers q us is));
         writers = λ r. subst (λ ps. IsWriter ps c.g0 b (b.active r) (words_with c records) later) (sym (append-nil c.places))

@@ -48,8 +48,8 @@ others_all s t now none = ap (λ m. each_taken_back (entries m) now) (remove_abs
 
 -- A write of a value into field i of an object that stands at an address, with the field's value before it, by transaction t: no other
 -- transaction has written that field.
-pub record IsWriteAt (pages lowest : ℕ) (born : Bool) (places : Places) (base g : Graph) (k t made : ℕ) (records : List Record) (now : List ℕ) (state : State) (id : Id) (at i : ℕ) (v : Val) : Type 0 where
-  pub told : IsTold pages lowest born places base k records now state
+pub record IsWriteAt (pages first_number : ℕ) (born : Bool) (places : Places) (base g : Graph) (k t made : ℕ) (records : List Record) (now : List ℕ) (state : State) (id : Id) (at i : ℕ) (v : Val) : Type 0 where
+  pub told : IsTold (start pages first_number) born places base k records now state
   pub number : is_number t ≡ true
   pub apart : IsApart state t (entry_of places g id at i ∷ undo_of state t)
   pub stands : Stands t made places g (others_taken_back state t now) state.base state.used
@@ -59,19 +59,19 @@ pub record IsWriteAt (pages lowest : ℕ) (born : Bool) (places : Places) (base 
   pub seen : IsVisible places t made v
   pub was : get_or now (field_at at i) 0 ≡ word_in places g (slice_index_or (fields g id) i Null)
 
-module _ (pages lowest : ℕ) (born : Bool) (places : Places) (base g : Graph) (k t made : ℕ) (records : List Record) (now : List ℕ) (state : State) (id : Id) (at i : ℕ) (v : Val)
-    (w : IsWriteAt pages lowest born places base g k t made records now state id at i v) where
+module _ (pages first_number : ℕ) (born : Bool) (places : Places) (base g : Graph) (k t made : ℕ) (records : List Record) (now : List ℕ) (state : State) (id : Id) (at i : ℕ) (v : Val)
+    (w : IsWriteAt pages first_number born places base g k t made records now state id at i v) where
   -- the words with it
   abbrev pub written_words : List ℕ
   written_words = put_record now (update_of places g t id at i v)
 
-  reached : after_all (start pages lowest) (records ++ update_of places g t id at i v ∷ []) ≡ Some (written state t (entry_of places g id at i))
+  reached : after_all (start pages first_number) (records ++ update_of places g t id at i v ∷ []) ≡ Some (written state t (entry_of places g id at i))
   reached =
       let lies = stands_within w.stands id at w.place in
       let above = lies.above in
       let below = stands_field_within w.stands id at i w.place w.within in
       let inside = inside_from state (entry_of places g id at i) (record { above = omega arith; below = omega arith }) in
-      after_all-append (start pages lowest) state records (update_of places g t id at i v) w.told.reached
+      after_all-append (start pages first_number) state records (update_of places g t id at i v) w.told.reached
       ∙ after-Update state t at i (word_in places g (slice_index_or (fields g id) i Null)) (word_in places g v) w.number inside
 
   committed : all_taken_back (written state t (entry_of places g id at i)) written_words ≡ all_taken_back state now
@@ -94,13 +94,13 @@ module _ (pages lowest : ℕ) (born : Bool) (places : Places) (base g : Graph) (
       }
 
   -- the records tell the same graph with it
-  pub write_told : IsTold pages lowest born places base k (records ++ update_of places g t id at i v ∷ []) written_words (written state t (entry_of places g id at i))
+  pub write_told : IsTold (start pages first_number) born places base k (records ++ update_of places g t id at i v ∷ []) written_words (written state t (entry_of places g id at i))
   write_told = record {
     good = AllByRecursion-append IsRecord records (update_of places g t id at i v ∷ []) w.told.good (spelled, tt);
     reached = reached;
     size = length-set now (field_at at i) (word_in places g v) ∙ w.told.size;
     count = let count = w.told.count in omega arith;
-    base = w.told.base;
+    spaced = record { first = w.told.spaced.first; room = w.told.spaced.room; within = w.told.spaced.within };
     stands = subst (λ ws. StandsCommitted places base ws state.base state.used) (sym committed) w.told.stands;
     old = older state.next (max state.next (t + 1)) places (omega arith) w.told.old;
     births = λ by_birth. subst (AreNamedByBirth places) (sym committed) (w.told.births by_birth);
@@ -108,20 +108,20 @@ module _ (pages lowest : ℕ) (born : Bool) (places : Places) (base g : Graph) (
 
 -- An abort.
 
-module _ (pages lowest : ℕ) (born : Bool) (places : Places) (g : Graph) (k t : ℕ) (records : List Record) (now : List ℕ) (state : State) (told : IsTold pages lowest born places g k records now state)
+module _ (pages first_number : ℕ) (born : Bool) (places : Places) (g : Graph) (k t : ℕ) (records : List Record) (now : List ℕ) (state : State) (told : IsTold (start pages first_number) born places g k records now state)
     (number : is_number t ≡ true) (apart : IsApart state t (undo_of state t)) where
   -- A transaction is taken back and leaves nothing: the records tell the same graph.
-  pub abort_told : IsTold pages lowest born places g k (records ++ abort_records t (undo_of state t)) (fold put_record now (abort_records t (undo_of state t))) (turned state t (with_entries state.undo t []) 0)
+  pub abort_told : IsTold (start pages first_number) born places g k (records ++ abort_records t (undo_of state t)) (fold put_record now (abort_records t (undo_of state t))) (turned state t (with_entries state.undo t []) 0)
   abort_told =
       let small = number_small t number in
-      let can = can_roll_back pages lowest state records told.good told.reached in
+      let can = can_roll_back pages first_number state records told.good told.reached in
       let same = taken_back-abort state now t (told_sound told) apart in
       record {
         good = AllByRecursion-append IsRecord records (abort_records t (undo_of state t)) told.good (abort_good t (undo_of state t) (omega arith) (all_spelled state.undo t can.entries));
-        reached = after_all-append2 (start pages lowest) state records (abort_records t (undo_of state t)) told.reached ∙ abort_reaches state t number can.sound;
+        reached = after_all-append2 (start pages first_number) state records (abort_records t (undo_of state t)) told.reached ∙ abort_reaches state t number can.sound;
         size = length-put_records (abort_records t (undo_of state t)) now ∙ told.size;
         count = let count = told.count in omega arith;
-        base = told.base;
+        spaced = record { first = told.spaced.first; room = told.spaced.room; within = told.spaced.within };
         stands = subst (λ ws. StandsCommitted places g ws state.base state.used) (sym same) told.stands;
         old = older state.next (max state.next (t + 1)) places (omega arith) told.old;
         births = λ by_birth. subst (AreNamedByBirth places) (sym same) (told.births by_birth);

@@ -6,9 +6,10 @@ use Rattle.heap_words.specs.declared.Word.{Word}
 use Rattle.heap_words.specs.declared.Word.TheVariants.{Null, Int, Stable, Volatile}
 use Rattle.heap_words.specs.Header.{born_in, born_as}
 use Rattle.heap_words.specs.Word.{meaning, refers_to_volatile}
+use Rattle.heap_spaces.specs.Collection.{owed_by}
 use Rattle.log_records.specs.declared.Record.{Record}
 use Rattle.log_records.specs.declared.Record.TheVariants.{Base, Fix, Commit}
-use Rattle.log_machine.specs.Machine.{State, field_at, is_number, lies_inside, after, after_all, promoted, turned, with_entries, is_promoted_by}
+use Rattle.log_machine.specs.Machine.{State, owed, field_at, is_number, lies_inside, after, after_all, promoted, turned, with_entries, is_promoted_by}
 use Rattle.log_machine.proofs.MachineLaws.{after_all-append, after_all-append2, after-Base, after-Fix, after-Commit, IsNextFree}
 use Rattle.object_layout.specs.Layout.{field_words, birth_at}
 use Rattle.object_layout.proofs.WalkLaws.{Contains-head, Contains-rest}
@@ -26,6 +27,7 @@ pub record HasGrown (s n : State) (t more : ℕ) : Type 0 where
   pub pages : n.pages ≡ s.pages
   pub base : n.base ≡ s.base
   pub used : n.used ≡ s.used + more
+  pub collection : n.collection ≡ s.collection
   pub undo : n.undo ≡ s.undo
   pub commits : n.commits ≡ s.commits
   pub next : max n.next (t + 1) ≡ max s.next (t + 1)
@@ -37,7 +39,7 @@ pub record Grows (s : State) (t more : ℕ) (records : List Record) : Type 0 whe
   pub grown : HasGrown s state t more
 
 grown_none : (s : State) (t : ℕ) → HasGrown s s t 0
-grown_none s t = record { pages = refl; base = refl; used = omega arith; undo = refl; commits = refl; next = refl }
+grown_none s t = record { pages = refl; base = refl; used = omega arith; collection = refl; undo = refl; commits = refl; next = refl }
 
 grown_on : (s m n : State) (t some more : ℕ) → HasGrown s m t some → HasGrown m n t more → HasGrown s n t (some + more)
 grown_on s m n t some more one two =
@@ -47,6 +49,7 @@ grown_on s m n t some more one two =
       pages = two.pages ∙ one.pages;
       base = two.base ∙ one.base;
       used = omega arith;
+      collection = two.collection ∙ one.collection;
       undo = two.undo ∙ one.undo;
       commits = two.commits ∙ one.commits;
       next = two.next ∙ one.next;
@@ -66,7 +69,7 @@ grows_on s t some more rs records one two = record {
 one_follows : (s n : State) (r : Record) → after s r ≡ Some n → after_all s (r ∷ []) ≡ Some n
 one_follows s n r is = after_all-append s s [] r refl ∙ is
 
-grows_base : (s : State) (area : AreaState) (moves : List Move) (at : ℕ) → is_number area.transaction ≡ true → s.used + words_taken area at ≤ 64 * s.pages → IsPromotable area moves at
+grows_base : (s : State) (area : AreaState) (moves : List Move) (at : ℕ) → is_number area.transaction ≡ true → s.used + words_taken area at + owed s ≤ 64 * s.pages → IsPromotable area moves at
     → Grows s area.transaction (words_taken area at) (base_of area moves (at, s.base + s.used) ∷ [])
 grows_base s area moves at number room is =
     let t = area.transaction in
@@ -79,12 +82,12 @@ grows_base s area moves at number room is =
     record {
       state = promoted s t (length ws);
       reached = one_follows s (promoted s t (length ws)) (Base t (s.base + s.used) ws) (after-Base s t (s.base + s.used) ws number free own);
-      grown = record { pages = refl; base = refl; used = ap (λ n. s.used + n) long; undo = refl; commits = refl; next = omega arith };
+      grown = record { pages = refl; base = refl; used = ap (λ n. s.used + n) long; collection = refl; undo = refl; commits = refl; next = omega arith };
     }
 
 -- the records of objects can follow where the words that are used end, if there is room for them
 pub grows_bases : (s : State) (area : AreaState) (moves : List Move) (starts : List ℕ) (address : ℕ) → address ≡ s.base + s.used → is_number area.transaction ≡ true
-    → s.used + words_needed area starts ≤ 64 * s.pages → ((at : ℕ) → Contains starts at → IsPromotable area moves at)
+    → s.used + words_needed area starts + owed s ≤ 64 * s.pages → ((at : ℕ) → Contains starts at → IsPromotable area moves at)
     → Grows s area.transaction (words_needed area starts) (map (base_of area moves) (moves_to area starts address))
 grows_bases s area moves [] address end number room each = grows_none s area.transaction
 grows_bases s area moves (at ∷ rest) address end number room each =
@@ -94,6 +97,7 @@ grows_bases s area moves (at ∷ rest) address end number room each =
     let pages = first.grown.pages in
     let base = first.grown.base in
     let used = first.grown.used in
+    let same_owed = ap owed_by first.grown.collection in
     let later : Grows n t (words_needed area rest) (map (base_of area moves) (moves_to area rest (address + words_taken area at))) =
     grows_bases n area moves rest (address + words_taken area at) (omega arith) number (omega arith) (λ a has. each a (Contains-rest at rest a has)) in
     let Records : ℕ → Type 0 = λ x. Grows s t (words_needed area (at ∷ rest)) (base_of area moves (at, x) ∷ map (base_of area moves) (moves_to area rest (address + words_taken area at))) in
@@ -114,7 +118,7 @@ grows_fix s t words moves f (Some (Volatile at)) number is fixable =
     record {
       state = turned s t s.undo 0;
       reached = one_follows s (turned s t s.undo 0) (Fix t f.0 f.1 word) (after-Fix s t f.0 f.1 word number inside stable);
-      grown = record { pages = refl; base = refl; used = omega arith; undo = refl; commits = omega arith; next = omega arith };
+      grown = record { pages = refl; base = refl; used = omega arith; collection = refl; undo = refl; commits = omega arith; next = omega arith };
     }
 
 -- a field that can be put right can be so where more words are used
@@ -140,7 +144,7 @@ grows_fixes s t words moves (f ∷ fs) number each =
 sealed_from : (s n : State) (t more : ℕ) → HasGrown s n t more → turned n t (with_entries n.undo t []) 1 ≡ sealed_state s t more
 sealed_from s n t more g =
     let undo = g.undo in
-    λ i. record { pages = g.pages i; base = g.base i; used = g.used i; undo = with_entries (undo i) t []; commits = g.commits i + 1; next = g.next i }
+    λ i. record { pages = g.pages i; base = g.base i; used = g.used i; collection = g.collection i; undo = with_entries (undo i) t []; commits = g.commits i + 1; next = g.next i }
 
 -- the state behind the records of a seal
 pub sealed_follows : (s : State) (t need : ℕ) (records : List Record) → is_number t ≡ true → Grows s t need records → after_all s (records ++ Commit t ∷ []) ≡ Some (sealed_state s t need)

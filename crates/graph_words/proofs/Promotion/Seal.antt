@@ -6,7 +6,7 @@ use Rattle.graph_model.specs.Graph.{Graph}
 use Rattle.log_records.specs.declared.Record.TheVariants.{Commit}
 use Rattle.log_records.specs.Record.{IsRecord}
 use Rattle.log_machine.specs.declared.UndoEntry.{UndoEntry}
-use Rattle.log_machine.specs.Machine.{State, field_at, is_number, put_record, after_all}
+use Rattle.log_machine.specs.Machine.{State, owed, field_at, is_number, put_record, after_all}
 use Rattle.log_machine.proofs.ListLaws.{AllByRecursion-append}
 use Rattle.log_machine.proofs.MachineLaws.{number_small}
 use Rattle.volatile_area.specs.Area.{AreaState}
@@ -131,14 +131,14 @@ seal_spelled {places} {g} {t} {made} {undo} {words} {base} {used} can number =
 
 -- the records of the promotion can follow where the words that are used end
 pub promotion_grows : (s : State) {places : Places} {g : Graph} {t made : ℕ} {undo : List UndoEntry} {words : List ℕ} → CanSeal places g t made undo words s.base s.used → is_number t ≡ true
-    → s.used + promoted_need (area_of (place_of places g) g t made) words undo ≤ 64 * s.pages
+    → s.used + promoted_need (area_of (place_of places g) g t made) words undo + owed s ≤ 64 * s.pages
     → Grows s t (promoted_need (area_of (place_of places g) g t made) words undo) (promotion_records (area_of (place_of places g) g t made) words undo (s.base + s.used))
 promotion_grows s {places} {g} {t} {made} {undo} {words} can number room =
     let c = sealing places g t made undo words s.base s.used in
     let is = is_sealing can in
     let small = number_small t number in
     let same = needs places g t made undo words s.base s.used in
-    let bases = grows_bases s (area c) (moves c) c.starts (s.base + s.used) refl number (subst (λ n. s.used + n ≤ 64 * s.pages) same room) (promotable c is (omega arith)) in
+    let bases = grows_bases s (area c) (moves c) c.starts (s.base + s.used) refl number (subst (λ n. s.used + n + owed s ≤ 64 * s.pages) same room) (promotable c is (omega arith)) in
     let n = bases.state in
     let base = bases.grown.base in
     let used = bases.grown.used in
@@ -149,7 +149,7 @@ promotion_grows s {places} {g} {t} {made} {undo} {words} can number room =
 
 -- each can follow those before it, and behind them the transaction is committed and what it promoted is used
 pub seal_follows : (s : State) {places : Places} {g : Graph} {t made : ℕ} {undo : List UndoEntry} {words : List ℕ} → CanSeal places g t made undo words s.base s.used → is_number t ≡ true
-    → s.used + promoted_need (area_of (place_of places g) g t made) words undo ≤ 64 * s.pages
+    → s.used + promoted_need (area_of (place_of places g) g t made) words undo + owed s ≤ 64 * s.pages
     → let area = area_of (place_of places g) g t made in
     after_all s (seal_records area words undo (s.base + s.used)) ≡ Some (sealed_state s t (promoted_need area words undo))
 seal_follows s {places} {g} {t} {made} {undo} {words} can number room =

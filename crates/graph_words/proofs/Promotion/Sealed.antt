@@ -7,4 +7,4 @@ use Rattle.stability_tracker.specs.Promotion.{need}
 -- the state behind the seal of a transaction that promotes so many words
 abbrev pub sealed_state : State → ℕ → ℕ → State
 sealed_state s t need =
-    record { pages = s.pages; base = s.base; used = s.used + need; undo = finite.remove s.undo t; commits = s.commits + 1; next = max s.next (t + 1) }
+    record s { used = s.used + need; undo = finite.remove s.undo t; commits = s.commits + 1; next = max s.next (t + 1) }

@@ -18,12 +18,12 @@ use Rattle.graph_words.proofs.Places.Names.{name_at}
 use Rattle.graph_words.specs.Stands.{StandsCommitted, AreNamedByBirth}
 use Rattle.graph_words.proofs.Stands.Seen.{stands_walked, stands_seen, stands_own_births, stands_born_before}
 use Rattle.heap_model.specs.CoreTold.{IsTold}
-use Rattle.heap_model.specs.Image.{redone_words, words_of, IsShapedLog, IsLegalLog, Says}
+use Rattle.heap_model.specs.Image.{first_state, redone_words, words_of, IsShapedLog, IsLegalLog, Says}
 
 -- Records and the words that they leave from the first contents on tell a graph, and each page that is stored beside them holds as many of
 -- them as its LSN says.
 module _ (s : Super) (batches : List (List Record)) (stored : Pages) (born : Bool) (places : Places) (g : Graph) (k : ℕ) (now : List ℕ) (state : State) (limits : IsSuper s)
-    (told : IsTold s.pages s.first born places g k (records_of batches) now state) (logged : now ≡ words s.pages (records_of batches))
+    (told : IsTold (first_state s) born places g k (records_of batches) now state) (logged : now ≡ words s.pages (records_of batches))
     (prefixes : EachHoldsPrefix s.pages (records_of batches) stored) (room : length (batches_bytes batches) + 1 + reserve state ≤ s.log_bytes) where
   -- redone on these pages they leave the same words
   told_redone : redone_words batches stored ≡ now

@@ -4,8 +4,8 @@ use Rattle.std.proofs.lemmas.Option.{option_and_then_some}
 use Rattle.graph_model.specs.Graph.{Graph}
 use Rattle.image_plan.specs.declared.superblock.Super.{Super}
 use Rattle.log_records.specs.declared.Record.{Record}
-use Rattle.log_machine.specs.Machine.{State, start, after, after_all, number_of, commits}
-use Rattle.log_machine.proofs.StateLaws.{turns, leads_after_all, room_after_all}
+use Rattle.log_machine.specs.Machine.{State, start, after, after_all, number_of, next_with, commits}
+use Rattle.log_machine.proofs.StateLaws.{turns, leads_after_all, spaced_after_all, spaced_ends}
 use Rattle.gated_log.specs.Log.{records_of}
 use Rattle.page_redo.specs.Pages.{Pages}
 use Rattle.object_layout.specs.Layout.{id_at}
@@ -22,7 +22,7 @@ use Rattle.heap_model.specs.Opening.{rolled_back, next_of, next_behind, opened, 
 
 -- The number of the next transaction.
 
-next_after : (s n : State) (r : Record) → after s r ≡ Some n → max s.next (number_of r + 1) ≡ n.next
+next_after : (s n : State) (r : Record) → after s r ≡ Some n → next_with s.next (number_of r) ≡ n.next
 next_after s n r is = sym (turns s n r is).next
 
 next_all : (s x : State) (rs : List Record) → after_all s rs ≡ Some x → x.next ≡ next_behind s.next rs
@@ -54,9 +54,9 @@ says_found s batches stored legal places g found =
 -- the words of both spaces end below the greatest address
 used_below : (s : Super) (batches : List (List Record)) (stored : Pages) (shaped : IsShapedLog s batches stored) → shaped.state.base + shaped.state.used ≤ 2097152
 used_below s batches stored shaped =
-    let room = room_after_all s.pages s.first shaped.state (records_of batches) shaped.limits.some_pages shaped.reached in
-    let base = room.1 in
-    let used = room.3 in
+    let spaced = spaced_after_all s.pages s.first shaped.state (records_of batches) shaped.limits.some_pages shaped.reached in
+    let same = spaced.0 in
+    let ends = spaced_ends shaped.state spaced.1 in
     let pages = shaped.limits.few_pages in
     omega arith
 

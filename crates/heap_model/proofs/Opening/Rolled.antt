@@ -7,13 +7,13 @@ use Rattle.image_plan.specs.declared.superblock.Super.{Super}
 use Rattle.log_records.specs.declared.Record.{Record}
 use Rattle.log_records.specs.Record.{spellings, IsRecord}
 use Rattle.log_machine.specs.declared.UndoEntry.{UndoEntry}
-use Rattle.log_machine.specs.Machine.{State, Loser, start, after_all, put_record, words_in, all_taken_back, each_taken_back, losing_in, commits, losing, abort_each, rollback, reserve, undo_bytes}
+use Rattle.log_machine.specs.Machine.{settled, State, Loser, start, after_all, put_record, words_in, all_taken_back, each_taken_back, losing_in, commits, losing, abort_each, rollback, reserve, undo_bytes}
 use Rattle.log_machine.proofs.ListLaws.{AllByRecursion-append}
 use Rattle.log_machine.proofs.MapLaws.{entries_empty}
 use Rattle.log_machine.proofs.MachineLaws.{after_all-append2, commits-append}
 use Rattle.log_machine.proofs.StateLaws.{can_roll_back}
 use Rattle.log_machine.proofs.Bounds.{CanRollBack}
-use Rattle.log_machine.proofs.AbortLaws.{settled, rollback_reaches, rollback_words, rollback_commits, rollback_fits, rollback_good}
+use Rattle.log_machine.proofs.AbortLaws.{rollback_reaches, rollback_words, rollback_commits, rollback_fits, rollback_good}
 use Rattle.log_machine.proofs.TakenBackLaws.{taken_back-rollback}
 use Rattle.page_redo.specs.Pages.{Pages}
 use Rattle.page_redo.specs.Prefix.{EachHoldsPrefix}

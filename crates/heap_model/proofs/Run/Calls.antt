@@ -60,38 +60,38 @@ step_history c d event reply (inr cut) = ap (λ (x : Core). x.history) cut.1
 -- What each step keeps.
 
 same_forced : (c : Core) (p : List Record) → SameOpening c (forced c p)
-same_forced c [] = record { pages = refl; room = refl; lowest = refl; first = refl; g0 = refl; born = refl; before = refl }
-same_forced c (r ∷ rs) = record { pages = refl; room = refl; lowest = refl; first = refl; g0 = refl; born = refl; before = refl }
+same_forced c [] = record { pages = refl; room = refl; first_number = refl; first = refl; g0 = refl; born = refl; before = refl }
+same_forced c (r ∷ rs) = record { pages = refl; room = refl; first_number = refl; first = refl; g0 = refl; born = refl; before = refl }
 
 same_done : (c : Core) (event : Event) → SameOpening c (done c event)
 same_done c Force = same_forced c c.pending
 same_done c (Flush p) = same_flushed (is_dirty c p) (is_ahead c p)
   where
     same_flushed : (dirty ahead : Bool) → SameOpening c (if dirty then page_stored (forced_if ahead c) p else c)
-    same_flushed true true = let same = same_forced c c.pending in record { pages = same.pages; room = same.room; lowest = same.lowest; first = same.first; g0 = same.g0; born = same.born; before = same.before }
-    same_flushed true false = record { pages = refl; room = refl; lowest = refl; first = refl; g0 = refl; born = refl; before = refl }
-    same_flushed false ahead = record { pages = refl; room = refl; lowest = refl; first = refl; g0 = refl; born = refl; before = refl }
-same_done c event = record { pages = refl; room = refl; lowest = refl; first = refl; g0 = refl; born = refl; before = refl }
+    same_flushed true true = let same = same_forced c c.pending in record { pages = same.pages; room = same.room; first_number = same.first_number; first = same.first; g0 = same.g0; born = same.born; before = same.before }
+    same_flushed true false = record { pages = refl; room = refl; first_number = refl; first = refl; g0 = refl; born = refl; before = refl }
+    same_flushed false ahead = record { pages = refl; room = refl; first_number = refl; first = refl; g0 = refl; born = refl; before = refl }
+same_done c event = record { pages = refl; room = refl; first_number = refl; first = refl; g0 = refl; born = refl; before = refl }
 
 same_refusal : (o : Option Refusal) (c : Core) (event : Event) → SameOpening c (after_refusal o c event)
 same_refusal None c event = same_done c event
-same_refusal (Some why) c event = record { pages = refl; room = refl; lowest = refl; first = refl; g0 = refl; born = refl; before = refl }
+same_refusal (Some why) c event = record { pages = refl; room = refl; first_number = refl; first = refl; g0 = refl; born = refl; before = refl }
 
 same_entry : (c d : Core) (event : Event) (reply : Reply) → SameOpening c d → SameOpening c (with_entry d event reply)
-same_entry c d event reply same = record { pages = same.pages; room = same.room; lowest = same.lowest; first = same.first; g0 = same.g0; born = same.born; before = same.before }
+same_entry c d event reply same = record { pages = same.pages; room = same.room; first_number = same.first_number; first = same.first; g0 = same.g0; born = same.born; before = same.before }
 
 -- a step keeps what the core was opened with
 pub same_step : (c d : Core) (event : Event) (reply : Reply) → IsStep c event reply d → SameOpening c d
 same_step c d event reply (inl whole) =
     subst (SameOpening c) (sym whole.1) (same_entry c (after_refusal (core_refusal c event) c event) event (answer c event) (same_refusal (core_refusal c event) c event))
 same_step c d event reply (inr cut) =
-    subst (SameOpening c) (sym cut.1) (same_entry c c event reply (record { pages = refl; room = refl; lowest = refl; first = refl; g0 = refl; born = refl; before = refl }))
+    subst (SameOpening c) (sym cut.1) (same_entry c c event reply (record { pages = refl; room = refl; first_number = refl; first = refl; g0 = refl; born = refl; before = refl }))
 
 same_on : (c mid d : Core) → SameOpening c mid → SameOpening mid d → SameOpening c d
 same_on c mid d one more = record {
   pages = more.pages ∙ one.pages;
   room = more.room ∙ one.room;
-  lowest = more.lowest ∙ one.lowest;
+  first_number = more.first_number ∙ one.first_number;
   first = more.first ∙ one.first;
   g0 = more.g0 ∙ one.g0;
   born = more.born ∙ one.born;
@@ -100,5 +100,5 @@ same_on c mid d one more = record {
 
 -- so do steps, one after another
 pub same_run : (c d : Core) (events : List Event) → IsRun c events d → SameOpening c d
-same_run c d [] run = subst (SameOpening c) (sym run) (record { pages = refl; room = refl; lowest = refl; first = refl; g0 = refl; born = refl; before = refl })
+same_run c d [] run = subst (SameOpening c) (sym run) (record { pages = refl; room = refl; first_number = refl; first = refl; g0 = refl; born = refl; before = refl })
 same_run c d (event ∷ events) run = same_on c run.1 d (same_step c run.1 event run.0 run.2) (same_run run.1 d events run.3)

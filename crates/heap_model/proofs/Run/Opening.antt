@@ -6,7 +6,7 @@ use Rattle.heap_model.specs.Core.{Core}
 pub record SameOpening (c d : Core) : Type 0 where
   pub pages : d.pages ≡ c.pages
   pub room : d.room ≡ c.room
-  pub lowest : d.lowest ≡ c.lowest
+  pub first_number : d.first_number ≡ c.first_number
   pub first : d.first ≡ c.first
   pub g0 : d.g0 ≡ c.g0
   pub born : d.born ≡ c.born

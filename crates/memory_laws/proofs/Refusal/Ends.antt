@@ -14,7 +14,7 @@ use Rattle.log_records.specs.declared.Record.TheVariants.{Commit}
 use Rattle.log_records.specs.declared.Record.{Record}
 use Rattle.log_records.specs.Record.{spellings}
 use Rattle.log_machine.specs.declared.UndoEntry.{UndoEntry}
-use Rattle.log_machine.specs.Machine.{State, undo_bytes, end_bytes, undo_of}
+use Rattle.log_machine.specs.Machine.{spaces_of, State, undo_bytes, end_bytes, undo_of}
 use Rattle.log_machine.proofs.MapLaws.{get_kept}
 use Rattle.gated_log.specs.LogState.{log_room, log_used, log_need}
 use Rattle.heap_spaces.specs.Spaces.{SpacesState}
@@ -33,7 +33,7 @@ use Rattle.heap_memory.specs.Memory as memory
 use Rattle.heap_memory.specs.Memory.{Memory, own}
 use Rattle.heap_memory.specs.Refusals as memory_refusals
 use Rattle.heap_memory.specs.Refusals.{no_room, begin_refusal, end_refusal, sealing_records, sealing_need, seal_refusal_of, seal_refusal, reserved_without}
-use Rattle.memory_laws.specs.CoreMemory.{kept, kept_of, spaces_of, IsMemory}
+use Rattle.memory_laws.specs.CoreMemory.{kept, kept_of, IsMemory}
 use Rattle.memory_laws.proofs.Kept.Log.{used_same, need_all}
 use Rattle.memory_laws.proofs.Refusal.Room.{full_same, first_none, second_same}
 use Rattle.memory_laws.proofs.Refusal.LogRoom.{reserved_now}

@@ -18,7 +18,7 @@ use Rattle.gated_log.specs.LogState.{log_room, log_used, log_need}
 use Rattle.graph_words.proofs.Area.Made.{own_apart}
 use Rattle.graph_words.specs.Places.{IsVisible, address_of}
 use Rattle.graph_words.proofs.Places.Addresses.{some_address}
-use Rattle.heap_model.specs.Core.{Core, ground, all_records, all_words, undo_with, undo_behind, view_records, event_records, need, kept_for, reserved, reserved_after, log_refusal, next_number, used}
+use Rattle.heap_model.specs.Core.{Core, log_start, ground, all_records, all_words, undo_with, undo_behind, view_records, event_records, need, kept_for, reserved, reserved_after, log_refusal, next_number, used}
 use Rattle.heap_model.proofs.Step.Goes.{need_nothing}
 use Rattle.heap_model.proofs.Step.Granted.{stable_records, own_records}
 use Rattle.heap_model.proofs.Step.Handles.{held_at_hand}
@@ -92,11 +92,11 @@ module _ (m : Memory) (c : Core) (valid : IsValid c) (runs : RunsLocked c.g0 c.f
   behind id at i = written valid.behind t.number (entry_at id at i)
 
   written_told : (id : Id) (at i : ℕ) (x : Val) → IsWritten id at i x
-      → IsTold c.pages c.lowest c.born c.places (serial c.g0 a.sealed) (c.before + length a.sealed) (all_records c ++ record_at id at i x ∷ []) (words_with c (record_at id at i x ∷ [])) (behind id at i)
+      → IsTold (log_start c) c.born c.places (serial c.g0 a.sealed) (c.before + length a.sealed) (all_records c ++ record_at id at i x ∷ []) (words_with c (record_at id at i x ∷ [])) (behind id at i)
   written_told id at i x w =
       let o = two_phase_ordered c.g0 c.history runs.plain runs.two_phase in
       let writing = writing_of a c s t active valid in
-      write_told c.pages c.lowest c.born c.places (serial c.g0 a.sealed) v.graph (c.before + length a.sealed) t.number v.made (all_records c) (all_words c) valid.behind id at i x (record {
+      write_told c.pages c.first_number c.born c.places (serial c.g0 a.sealed) v.graph (c.before + length a.sealed) t.number v.made (all_records c) (all_words c) valid.behind id at i x (record {
         told = valid.told;
         number = numbered_as a c s t active valid;
         apart = apart_with a c valid o s t active id at i w.place w.within w.free (entry_at id at i) refl refl;

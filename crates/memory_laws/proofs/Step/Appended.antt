@@ -13,7 +13,7 @@ use Rattle.graph_model.specs.History.{Account, account, session_of, with_call}
 use Rattle.graph_model.proofs.Runs.History.{run-append}
 use Rattle.graph_model.specs.Plain.{view}
 use Rattle.log_records.specs.declared.Record.{Record}
-use Rattle.log_machine.specs.Machine.{State, undo_of, put_record}
+use Rattle.log_machine.specs.Machine.{spaces_of, State, undo_of, put_record}
 use Rattle.log_machine.specs.declared.UndoEntry.{UndoEntry}
 use Rattle.object_locks.specs.Holdings.{Holdings}
 use Rattle.txn_table.specs.Table.{TransactionState, TableState, transaction_of, with_transaction}
@@ -31,7 +31,7 @@ use Rattle.core_laws.proofs.Sessions.Actives.{each_session, called}
 use Rattle.core_laws.specs.Valid.{IsValid}
 use Rattle.heap_memory.specs.Memory.{Memory, own}
 use Rattle.heap_memory.specs.Leaves.{Leaves, pages_of}
-use Rattle.memory_laws.specs.CoreMemory.{kept, kept_of, spaces_of, AreHeld, IsMemory}
+use Rattle.memory_laws.specs.CoreMemory.{kept, kept_of, AreHeld, IsMemory}
 use Rattle.memory_laws.proofs.Step.Answered.{Goes}
 use Rattle.memory_laws.proofs.Kept.Locks.{held_same}
 

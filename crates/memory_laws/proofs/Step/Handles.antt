@@ -15,6 +15,7 @@ use Rattle.graph_model.specs.Transaction.{Registers, Transaction, View, IsCall, 
 use Rattle.graph_model.specs.History.{Account, account, session_of}
 use Rattle.graph_model.specs.Plain.{view, reply_of}
 use Rattle.graph_model.proofs.Refusals.Plain.{call_reply-done}
+use Rattle.heap_spaces.specs.Spaces.{SpacesState}
 use Rattle.log_machine.specs.declared.UndoEntry.{UndoEntry}
 use Rattle.log_machine.specs.Machine.{State, undo_of}
 use Rattle.txn_table.specs.declared.place.Place.{Place}
@@ -30,7 +31,7 @@ use Rattle.memory_laws.specs.CoreMemory.{place_in, kept, IsMemory}
 use Rattle.memory_laws.proofs.Does.{Does}
 use Rattle.memory_laws.proofs.Kept.Held.{place_in-placed}
 use Rattle.memory_laws.proofs.Step.Answered.{Goes, does}
-use Rattle.memory_laws.proofs.Step.Appended.{mine, no_lock, quiet_goes, stays}
+use Rattle.memory_laws.proofs.Step.Appended.{mine, no_lock, quiet_goes, spaces_are, stays}
 
 -- what is kept of a transaction one of whose handles holds another object, or nothing
 pub kept_set : (places : Places) (v : View) (t : ℕ) (undo : List UndoEntry) (h : ℕ) (o : Option Id) (p : Option Place) → p ≡ option_map (place_in places v.graph) o
@@ -61,18 +62,18 @@ module _ (m n : Memory) (c : Core) (valid : IsValid c) (is : IsMemory m (account
       (ap (λ y. with_handle y h p) t.2 ∙ kept_set c.places v t.0.number undo h o p (place t.0 t.1) ∙ ap (λ (w : View). kept c.places w t.0.number undo) (sym (sees v t.0.number)))
       (no_lock m n c valid is s t.0 event t.1 (free v.registers))
 
-  -- the root stands at the first word
-  root_stands : (t : Transaction) → a.active s ≡ Some t → Some root_place ≡ option_map (place_in c.places (view c.g0 a t).graph) (Some root)
+  -- the root stands at the first word of the current space
+  root_stands : (t : Transaction) → a.active s ≡ Some t → Some (root_place m) ≡ option_map (place_in c.places (view c.g0 a t).graph) (Some root)
   root_stands t e =
       let w = writing_of a c s t e valid in
-      ap (λ (p : Place). Some p) (sym (place_in-placed c.places (view c.g0 a t).graph root 0 (w.stands.root_place ∙ ap (λ (at : ℕ). Some at) valid.told.base)))
+      ap (λ (p : Place). Some p) (sym (place_in-placed c.places (view c.g0 a t).graph root m.spaces.base (w.stands.root_place ∙ ap (λ (x : SpacesState). Some x.base) (sym (spaces_are m n c valid is)))))
 
   -- a root is answered as the core answers it, and a handle holds the root then
   pub root_does : (h : ℕ) → core_refusal c (Root s h) ≡ handle_refusal (own m s) h → (reply : Reply) → reply ≡ reply_of (handle_refusal (own m s) h) answer.Done
-      → (reply ≡ answer.Done → SetsHandle m n s h (Some root_place)) → ((why : Refusal) → reply ≡ answer.Refused why → n ≡ m) → Does c (Root s h) reply n
+      → (reply ≡ answer.Done → SetsHandle m n s h (Some (root_place m))) → ((why : Refusal) → reply ≡ answer.Refused why → n ≡ m) → Does c (Root s h) reply n
   root_does h same reply replied set stayed =
       does c (Root s h) (handle_refusal (own m s) h) answer.Done reply n same replied (λ e. call_reply-done c.g0 a (a.active s) (Root s h) tt)
-      (λ e done_it. set_goes (Root s h) h (Some root) (Some root_place) tt refl refl (λ v t. refl) root_stands (λ rs. refl) (set done_it))
+      (λ e done_it. set_goes (Root s h) h (Some root) (Some (root_place m)) tt refl refl (λ v t. refl) root_stands (λ rs. refl) (set done_it))
       (λ why e. stays m n c valid is (stayed why e))
 
   -- a drop is answered as the core answers it, and a handle holds nothing then

@@ -20,7 +20,7 @@ use Rattle.commit_order.specs.SerialOrder.{numbers_begun}
 use Rattle.log_records.specs.declared.Record.{Record}
 use Rattle.log_machine.specs.declared.UndoEntry.{UndoEntry}
 use Rattle.log_machine.proofs.ListLaws.{AllByRecursion-map}
-use Rattle.log_machine.specs.Machine.{State, field_at, undo_of}
+use Rattle.log_machine.specs.Machine.{spaces_of, State, field_at, undo_of}
 use Rattle.volatile_area.specs.Area.{AreaState}
 use Rattle.heap_spaces.specs.Spaces.{SpacesState, with_taken}
 use Rattle.object_locks.specs.Holdings.{without}
@@ -41,7 +41,7 @@ use Rattle.core_laws.specs.Valid.{IsValid, RunsLocked}
 use Rattle.heap_memory.specs.Memory.{Memory}
 use Rattle.heap_memory.specs.Refusals.{sealing_records, sealing_need, seal_refusal}
 use Rattle.heap_memory.specs.Leaves.{Leaves, IsAsItWas, Seals}
-use Rattle.memory_laws.specs.CoreMemory.{kept, kept_of, spaces_of, AreHeld, IsMemory}
+use Rattle.memory_laws.specs.CoreMemory.{kept, kept_of, AreHeld, IsMemory}
 use Rattle.memory_laws.proofs.Does.{Does}
 use Rattle.memory_laws.proofs.Kept.Locks.{held_sealed}
 use Rattle.core_laws.proofs.Step.Events.{may_go}

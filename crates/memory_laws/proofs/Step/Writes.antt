@@ -157,7 +157,7 @@ module _ (m n : Memory) (c : Core) (valid : IsValid c) (runs : RunsLocked c.g0 c
 
     -- it is one that the records can tell
     write_at : (at : ℕ) → address_of c.places id ≡ Some at
-        → IsWriteAt c.pages c.lowest c.born c.places (serial c.g0 a.sealed) v.graph (c.before + length a.sealed) t.number v.made (all_records c) now behind id at i x
+        → IsWriteAt c.pages c.first_number c.born c.places (serial c.g0 a.sealed) v.graph (c.before + length a.sealed) t.number v.made (all_records c) now behind id at i x
     write_at at place =
         let writing = writing_of a c s t write.active valid in
         let order = two_phase_ordered c.g0 c.history runs.plain runs.two_phase in
@@ -184,7 +184,7 @@ module _ (m n : Memory) (c : Core) (valid : IsValid c) (runs : RunsLocked c.g0 c
     stable_wrote at place =
         let one = write_at at place in
         let there = place_in-placed c.places v.graph id at place in
-        let told = write_told c.pages c.lowest c.born c.places (serial c.g0 a.sealed) v.graph (c.before + length a.sealed) t.number v.made (all_records c) now behind id at i x one in
+        let told = write_told c.pages c.first_number c.born c.places (serial c.g0 a.sealed) v.graph (c.before + length a.sealed) t.number v.made (all_records c) now behind id at i x one in
         let locks = with_lock m.locks (kept c.places v t.number undo) locked.Exclusive (Stable at) in
         let L : ℕ → Type 0 = λ z. LeavesOwn m n s (Update t.number at i z w ∷ []) (kept c.places v t.number (record { object = at; field = i; was = z } ∷ undo)) locks in
         let left = subst L one.was (left_at (Stable at) there) in

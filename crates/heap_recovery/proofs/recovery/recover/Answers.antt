@@ -33,7 +33,7 @@ returns-clause-opens g c =
     let is = found.2 in
     let roll = c.in_ok-roll_back.ensures in
     let keeps = c.in_ok-force.ensures.kept batches (rollback read.state) (roll.kept batches is.log) in
-    let opened = recovered read.of batches stored read is c.finish.result c.force.new.self c.roll_back.new.self.cache c.roll_back.new.self.of c.roll_back.new.self.state roll.state roll.of (c.force.ensures.at ∙ roll.place) (c.force.ensures.same_room ∙ roll.same_room) roll.pages roll.store keeps c.finish.ensures.log c.finish.ensures.cache c.finish.ensures.pages c.finish.ensures.used c.finish.ensures.commits c.finish.ensures.next in
+    let opened = recovered read.of batches stored read is c.finish.result c.force.new.self c.roll_back.new.self.cache c.roll_back.new.self.state roll.state (c.force.ensures.at ∙ roll.place) (c.force.ensures.same_room ∙ roll.same_room) roll.pages roll.store keeps c.finish.ensures.log c.finish.ensures.cache c.finish.ensures.state in
     opened_shaped read.of batches stored read is c.finish.result (cached c.roll_back.new.self.cache).words c.roll_back.new.self.state c.in_ok-fault.fault c.in_ok-read.ensures.room roll.state roll.words c.in_ok-fault.ensures.passes c.finish.ensures.walked opened
 
 pub returns-clause-found : goal.returns-clause-found
@@ -42,7 +42,7 @@ returns-clause-found g c tells s batches stored shaped =
     let is = c.in_ok-read.ensures.found tells s batches stored shaped in
     let roll = c.in_ok-roll_back.ensures in
     let keeps = c.in_ok-force.ensures.kept batches (rollback read.state) (roll.kept batches is.log) in
-    recovered s batches stored read is c.finish.result c.force.new.self c.roll_back.new.self.cache c.roll_back.new.self.of c.roll_back.new.self.state roll.state roll.of (c.force.ensures.at ∙ roll.place) (c.force.ensures.same_room ∙ roll.same_room) roll.pages roll.store keeps c.finish.ensures.log c.finish.ensures.cache c.finish.ensures.pages c.finish.ensures.used c.finish.ensures.commits c.finish.ensures.next
+    recovered s batches stored read is c.finish.result c.force.new.self c.roll_back.new.self.cache c.roll_back.new.self.state roll.state (c.force.ensures.at ∙ roll.place) (c.force.ensures.same_room ∙ roll.same_room) roll.pages roll.store keeps c.finish.ensures.log c.finish.ensures.cache c.finish.ensures.state
 
 -- a shaped image has no fault that a walk finds
 pub returns-clause-shaped : goal.returns-clause-shaped
@@ -293,7 +293,7 @@ returns-clause-sound g c tells =
     let is = found.1 in
     let roll = c.in_ok-roll_back.ensures in
     let keeps = c.in_ok-force.ensures.kept batches (rollback read.state) (roll.kept batches is.log) in
-    let opened = recovered read.of batches (stored_in read.of image) read is c.finish.result c.force.new.self c.roll_back.new.self.cache c.roll_back.new.self.of c.roll_back.new.self.state roll.state roll.of (c.force.ensures.at ∙ roll.place) (c.force.ensures.same_room ∙ roll.same_room) roll.pages roll.store keeps c.finish.ensures.log c.finish.ensures.cache c.finish.ensures.pages c.finish.ensures.used c.finish.ensures.commits c.finish.ensures.next in
+    let opened = recovered read.of batches (stored_in read.of image) read is c.finish.result c.force.new.self c.roll_back.new.self.cache c.roll_back.new.self.state roll.state (c.force.ensures.at ∙ roll.place) (c.force.ensures.same_room ∙ roll.same_room) roll.pages roll.store keeps c.finish.ensures.log c.finish.ensures.cache c.finish.ensures.state in
     found_on read.of batches image read is found.2 c.finish.result (cached c.roll_back.new.self.cache).words c.roll_back.new.self.state c.in_ok-fault.fault c.in_ok-read.ensures.room roll.state roll.words c.in_ok-fault.ensures.passes c.finish.ensures.walked opened
 
 pub returns-clause-refused : goal.returns-clause-refused

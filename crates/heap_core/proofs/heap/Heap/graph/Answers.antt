@@ -20,7 +20,8 @@ returns-clause-text g c core heap reached =
     let valid = unfailed_valid core _ heap.memory.failure none reached in
     let gr = serial core.g0 (sealed core.history) in
     c.print.ensures.text (name_at core.places) gr
-    (subst (λ (ws : List ℕ). IsSeenAs (name_at core.places) ws 0 gr) (sym c.in_ok-words.ensures) (memory_seen core c.args.self.now.engine valid reached.locked (heap.engine none).memory))
+    (subst (λ (root : ℕ). IsSeenAs (name_at core.places) c.in_ok-words.words root gr) (sym c.root_address.ensures)
+    (subst (λ (ws : List ℕ). IsSeenAs (name_at core.places) ws (memory c.args.self.now.engine).spaces.base gr) (sym c.in_ok-words.ensures) (memory_seen core c.args.self.now.engine valid reached.locked (heap.engine none).memory)))
 
 pub returns-clause-error : goal.returns-clause-error
 returns-clause-error g c core heap reached =
@@ -28,4 +29,5 @@ returns-clause-error g c core heap reached =
     let valid = unfailed_valid core _ heap.memory.failure none reached in
     let gr = serial core.g0 (sealed core.history) in
     c.print.ensures.error (name_at core.places) gr
-    (subst (λ (ws : List ℕ). IsSeenAs (name_at core.places) ws 0 gr) (sym c.in_ok-words.ensures) (memory_seen core c.args.self.now.engine valid reached.locked (heap.engine none).memory))
+    (subst (λ (root : ℕ). IsSeenAs (name_at core.places) c.in_ok-words.words root gr) (sym c.root_address.ensures)
+    (subst (λ (ws : List ℕ). IsSeenAs (name_at core.places) ws (memory c.args.self.now.engine).spaces.base gr) (sym c.in_ok-words.ensures) (memory_seen core c.args.self.now.engine valid reached.locked (heap.engine none).memory)))

@@ -7,21 +7,16 @@ use Rattle.heap_recovery.specs.Faults.{IsNoHeap}
 use Rattle.heap_model.proofs.Shaped.{shaped_image}
 use Rattle.heap_model.specs.Opening.{opening_calls}
 use Rattle.heap_core.specs.Causes.{IsFromOutside, ErrorPasses, error_device}
-use Rattle.heap_core.proofs.RefinementOpen.{opened_bounds, opened_engine, opened_disk_holds, is_fresh}
+use Rattle.heap_core.proofs.RefinementOpen.{commits_found, opened_bounds, opened_engine, opened_disk_holds, is_fresh}
 use Rattle.heap_core.proofs.StepCore.{remembers}
 use Rattle.page_store.specs.Gates.{open_gates}
 use Rattle.heap_core.proofs.OpenErrors.{device_as, outside_as, passes_as}
 use Rattle.heap_core.proofs.heap.Heap.open.Goals as goal
 
-pub new-spaces-requires : goal.new-spaces-requires
-new-spaces-requires g c =
-    let found = c.in-Ok-recover.ensures.opens in
-    (opened_bounds found.0 found.1 found.2 c.in-Ok-recover.found found.3 found.4).spaces
-
 pub new-engine-requires-clause-sized : goal.new-engine-requires-clause-sized
 new-engine-requires-clause-sized g c =
     let found = c.in-Ok-recover.ensures.opens in
-    (opened_bounds found.0 found.1 found.2 c.in-Ok-recover.found found.3 found.4).size ∙ ap (λ x. words_in x.pages) (sym c.new-spaces.ensures)
+    (opened_bounds found.0 found.1 found.2 c.in-Ok-recover.found found.3 found.4).size ∙ ap (λ x. words_in x.pages) (sym c.spaces.ensures)
 
 pub new-engine-requires-clause-new : goal.new-engine-requires-clause-new
 new-engine-requires-clause-new g c =
@@ -31,7 +26,7 @@ new-engine-requires-clause-new g c =
 pub new-engine-requires-clause-few : goal.new-engine-requires-clause-few
 new-engine-requires-clause-few g c =
     let found = c.in-Ok-recover.ensures.opens in
-    subst (λ x. x.pages ≤ 16384) (sym c.new-spaces.ensures) (opened_bounds found.0 found.1 found.2 c.in-Ok-recover.found found.3 found.4).spaces.few
+    subst (λ x. x.pages ≤ 16384) (sym c.spaces.ensures) (opened_bounds found.0 found.1 found.2 c.in-Ok-recover.found found.3 found.4).few
 
 pub new-engine-requires-clause-number : goal.new-engine-requires-clause-number
 new-engine-requires-clause-number g c =
@@ -41,7 +36,7 @@ new-engine-requires-clause-number g c =
 pub returns-in-Ok-recover-clause-opens : goal.returns-in-Ok-recover-clause-opens
 returns-in-Ok-recover-clause-opens g c =
     let found = c.in-Ok-recover.ensures.opens in
-    let fresh = is_fresh c.in-Ok-recover.found c.new-spaces.result c.set_next.new.self c.in-Ok.table _ c.new-engine.ensures c.new-spaces.ensures c.set_next.ensures in
+    let fresh = is_fresh c.in-Ok-recover.found c.spaces.result c.set_next.new.self c.in-Ok.table _ c.new-engine.ensures c.spaces.ensures c.set_next.ensures in
     let image = g.D.Disk.bytes c.recover.new.disk in
     let gates : ℕ → ℕ = λ p. open_gates found.0.log_bytes image p in (
       found.0,
@@ -51,13 +46,13 @@ returns-in-Ok-recover-clause-opens g c =
       found.3,
       λ born places gr stands.
           let is = opened_engine g.D.Disk found.0 found.1 found.2 gates born places gr c.in-Ok-recover.found c.new-engine.result c.recover.new.disk found.3 found.4 fresh c.in-Ok-recover.ensures.known (λ told p. refl) in
-          record { history = c.new-in-Ok-recover.ensures; before = found.4.commits; memory = remembers g.D.Disk _ c.new-engine.result c.recover.new.disk _ refl is; engine = λ none. is },
+          record { history = c.new-in-Ok-recover.ensures; before = commits_found found.0 found.1 found.2 c.in-Ok-recover.found found.3 found.4; memory = remembers g.D.Disk _ c.new-engine.result c.recover.new.disk _ refl is; engine = λ none. is },
     )
 
 pub returns-in-Ok-recover-clause-sound : goal.returns-in-Ok-recover-clause-sound
 returns-in-Ok-recover-clause-sound g c tells =
     let found = c.in-Ok-recover.ensures.sound tells in
-    let fresh = is_fresh c.in-Ok-recover.found c.new-spaces.result c.set_next.new.self c.in-Ok.table _ c.new-engine.ensures c.new-spaces.ensures c.set_next.ensures in
+    let fresh = is_fresh c.in-Ok-recover.found c.spaces.result c.set_next.new.self c.in-Ok.table _ c.new-engine.ensures c.spaces.ensures c.set_next.ensures in
     let gates = open_gates found.0.log_bytes (g.D.Disk.bytes c.args.disk) in
     let still = c.in-Ok-recover.ensures.gates tells found.0 found.1 found.2 found.3 in (
       found.0,
@@ -66,7 +61,7 @@ returns-in-Ok-recover-clause-sound g c tells =
       found.3,
       λ born places gr stands.
           let is = opened_engine g.D.Disk found.0 found.1 found.2 gates born places gr c.in-Ok-recover.found c.new-engine.result c.recover.new.disk found.3.log found.4 fresh c.in-Ok-recover.ensures.known (λ told. still) in
-          record { history = c.new-in-Ok-recover.ensures; before = found.4.commits; memory = remembers g.D.Disk _ c.new-engine.result c.recover.new.disk _ refl is; engine = λ none. is },
+          record { history = c.new-in-Ok-recover.ensures; before = commits_found found.0 found.1 found.2 c.in-Ok-recover.found found.3.log found.4; memory = remembers g.D.Disk _ c.new-engine.result c.recover.new.disk _ refl is; engine = λ none. is },
     )
 
 pub returns-in-Err-clause-moments_not_heap : goal.returns-in-Err-clause-moments_not_heap
@@ -77,11 +72,11 @@ returns-in-Err-clause-moments_not_heap g c tells only none =
 pub returns-in-Ok-recover-clause-found : goal.returns-in-Ok-recover-clause-found
 returns-in-Ok-recover-clause-found g c tells s batches stored shaped born places gr stands =
     let found = c.in-Ok-recover.ensures.found tells s batches stored shaped in
-    let fresh = is_fresh c.in-Ok-recover.found c.new-spaces.result c.set_next.new.self c.in-Ok.table _ c.new-engine.ensures c.new-spaces.ensures c.set_next.ensures in
+    let fresh = is_fresh c.in-Ok-recover.found c.spaces.result c.set_next.new.self c.in-Ok.table _ c.new-engine.ensures c.spaces.ensures c.set_next.ensures in
     let gates = open_gates s.log_bytes (g.D.Disk.bytes c.args.disk) in
     let still = c.in-Ok-recover.ensures.gates tells s batches stored shaped in
     let is = opened_engine g.D.Disk s batches stored gates born places gr c.in-Ok-recover.found c.new-engine.result c.recover.new.disk shaped.log found fresh c.in-Ok-recover.ensures.known (λ told. still) in
-    record { history = c.new-in-Ok-recover.ensures; before = found.commits; memory = remembers g.D.Disk _ c.new-engine.result c.recover.new.disk _ refl is; engine = λ none. is }
+    record { history = c.new-in-Ok-recover.ensures; before = commits_found s batches stored c.in-Ok-recover.found shaped.log found; memory = remembers g.D.Disk _ c.new-engine.result c.recover.new.disk _ refl is; engine = λ none. is }
 
 pub returns-in-Ok-recover-clause-holds : goal.returns-in-Ok-recover-clause-holds
 returns-in-Ok-recover-clause-holds g c tells s batches stored legal only places gr stands =
