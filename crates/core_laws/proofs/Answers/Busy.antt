@@ -12,7 +12,7 @@ use Rattle.graph_model.specs.History.{Account, AreInSessions, account, session_o
 use Rattle.graph_model.proofs.Refusals.Busy.{free_law, busy_law, busy_found}
 use Rattle.graph_model.specs.Locking.{Lock, lock_of, busy_holder}
 use Rattle.graph_model.specs.Plain.{view, no_number, no_int, most_fields, handle_refusal, new_refusal, len_refusal, same_refusal, field_refusal, put_refusal, link_refusal, view_refusal, call_refusal, event_refusal, busy_with, call_conflict, conflict_refusal, first_of_two, model_refusal, refusal_of}
-use Rattle.log_machine.specs.Machine.{State}
+use Rattle.log_machine.specs.Machine.{State, owed}
 use Rattle.page_redo.specs.Pages.{pages_in}
 use Rattle.heap_model.specs.Core.{Core, Ground, ground, next_number, seal_need, space_refusal, page_refusal, room_refusal, words_refusal, log_refusal, core_refusal}
 use Rattle.core_laws.specs.Conflicts.{GivesWay, IsHindered}
@@ -82,7 +82,7 @@ other_event next g0 a event = other_call g0 a (a.active (session_of event)) even
 
 other_space : (o : Option State) (need : ℕ) → IsOther (space_refusal o need)
 other_space None need = tt
-other_space (Some s) need = other_if (nat_lt (64 * s.pages - s.used) need) (Exhausted need (64 * s.pages - s.used) 0) None tt tt
+other_space (Some s) need = other_if (nat_lt (64 * s.pages - s.used - owed s) need) (Exhausted need (64 * s.pages - s.used) (owed s)) None tt tt
 
 -- nor is want of room
 other_room : (g : Ground) (g0 : Graph) (a : Account) (o : Option Transaction) (event : Event) → IsOther (room_refusal g g0 a o event)

@@ -9,7 +9,7 @@ use Rattle.image_plan.specs.declared.superblock.Super.{Super}
 use Rattle.log_records.specs.declared.Record.{Record}
 use Rattle.gated_log.specs.Log.{batches_bytes, records_of}
 use Rattle.log_machine.specs.Machine as machine
-use Rattle.log_machine.specs.Machine.{State, reserve}
+use Rattle.log_machine.specs.Machine.{State, start, reserve}
 use Rattle.log_machine.proofs.StateLaws.{commits-start}
 use Rattle.page_redo.specs.Pages.{Pages}
 use Rattle.page_redo.specs.Prefix.{EachHoldsPrefix}

@@ -15,6 +15,7 @@ use Rattle.log_machine.proofs.Fields.{written, AreApart, IsApart}
 use Rattle.log_machine.specs.Apart.{others_taken_back}
 use Rattle.log_machine.proofs.TakenBackLaws.{taken_back-swap, all_taken_back-first}
 use Rattle.log_machine.proofs.ListLaws.{AllByRecursion-append, AllByRecursion-map}
+use Rattle.log_machine.proofs.Addresses.{effect_writes}
 use Rattle.log_machine.specs.Machine.{State, Loser, effect, addresses, field_at, put_all, put_record, undo_of, taken_back, each_taken_back, all_taken_back}
 use Rattle.log_machine.proofs.MapLaws.{each_entry, each_other}
 use Rattle.log_machine.specs.Sound.{AreLosers}

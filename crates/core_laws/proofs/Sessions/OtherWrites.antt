@@ -9,6 +9,7 @@ use Rattle.std.specs.FinMap.Entries.{by_order}
 use Rattle.std.proofs.lemmas.List.{get_or-set_other, set-set, set_comm, set-get_or}
 use Rattle.log_records.specs.declared.Record.{Record}
 use Rattle.log_machine.specs.declared.UndoEntry.{UndoEntry}
+use Rattle.log_machine.proofs.Addresses.{effect_any, effect_writes}
 use Rattle.log_machine.specs.Machine.{State, Loser, field_at, effect, addresses, put_all, put_record, with_word, with_entries, undo_in, undo_of, turned, taken_back, each_taken_back, all_taken_back}
 use Rattle.log_machine.proofs.Fields.{written, AreApart, IsApart}
 use Rattle.log_machine.specs.Apart.{others_taken_back}

@@ -10,7 +10,7 @@ use Rattle.graph_model.specs.History.{Account, account, session_of}
 use Rattle.graph_model.specs.Plain.{view, model_refusal, first_of_two, refusal_of}
 use Rattle.graph_model.proofs.Refusals.Plain.{HasNoFault, model_no_fault}
 use Rattle.log_records.specs.declared.Record.{Record}
-use Rattle.log_machine.specs.Machine.{State}
+use Rattle.log_machine.specs.Machine.{owed, State}
 use Rattle.std.specs.Prelude.{if◌then◌else◌}
 use Rattle.heap_model.specs.Core.{Core, Ground, ground, next_number, used, need, space_refusal, seal_need, page_refusal, room_refusal, words_refusal, log_refusal, core_refusal, is_dirty, is_ahead, forced, forced_if, page_stored, done}
 
@@ -22,13 +22,13 @@ area_no_fault : (b : Bool) (used : ℕ) → HasNoFault (cond b (Some (VolatileFu
 area_no_fault true used = tt
 area_no_fault false used = tt
 
-space_no_fault : (b : Bool) (need free : ℕ) → HasNoFault (cond b (Some (Exhausted need free 0)) None)
-space_no_fault true need free = tt
-space_no_fault false need free = tt
+space_no_fault : (b : Bool) (need free kept : ℕ) → HasNoFault (cond b (Some (Exhausted need free kept)) None)
+space_no_fault true need free kept = tt
+space_no_fault false need free kept = tt
 
 state_no_fault : (o : Option State) (need : ℕ) → HasNoFault (space_refusal o need)
 state_no_fault None need = tt
-state_no_fault (Some s) need = space_no_fault _ need (64 * s.pages - s.used)
+state_no_fault (Some s) need = space_no_fault _ need (64 * s.pages - s.used) (owed s)
 
 room_no_fault : (g : Ground) (g0 : Graph) (a : Account) (o : Option Transaction) (event : Event) → HasNoFault (room_refusal g g0 a o event)
 room_no_fault g g0 a (Some t) (New s h len) = area_no_fault _ _
