@@ -172,10 +172,7 @@ module _ (m : Memory) (c : Core) (valid : IsValid c) (runs : RunsLocked c.g0 c.f
       (sym is.room) (sym (used_same m.log c.batches c.pending is.log)) (seal_need_same t e) (seal_kept t e space)
 
   space_open : (x : State) (n : ℕ) → space_refusal (Some x) n ≡ memory_refusals.space_refusal (spaces_of x) n
-  space_open x n =
-      let free = 64 * x.pages - x.used in
-      let open_all : free ≡ free - 0 = omega arith in
-      ap (λ (k : ℕ). cond (nat_lt k n) (Some (Exhausted n free 0)) None) open_all
+  space_open x n = refl
 
   -- and the current space has a core's room
   seal_space : (t : Transaction) → space_refusal (ground c).state (seal_need (ground c) t.number (view c.g0 a t)) ≡ memory_refusals.space_refusal m.spaces (sealing_need m (transaction t))
