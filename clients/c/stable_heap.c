@@ -3,6 +3,7 @@
 
 #include <fcntl.h>
 #include <inttypes.h>
+#include <limits.h>
 #include <stdarg.h>
 #include <stdio.h>
 #include <stdlib.h>
@@ -78,13 +79,14 @@ static int wait_for(pid_t child) {
 
 /* Becomes the command with more words, in the folder. It doesn't return. */
 static void become(const char *folder, const char *const *command, const char *const *more) {
-    char path[4096];
+    char path[PATH_MAX];
     const char *words[MOST_WORDS] = {0};
     int count = 0;
-    for (; *command && count < MOST_WORDS - 8; command++) words[count++] = *command;
+    for (; *command && count < MOST_WORDS / 2; command++) words[count++] = *command;
     for (; *more; more++) words[count++] = *more;
-    if (words[0] && strchr(words[0], '/') && realpath(words[0], path)) words[0] = path;
-    if (chdir(folder) == 0) execvp(words[0], (char *const *)words);
+    if (strchr(words[0], '/') && realpath(words[0], path)) words[0] = path;
+    /* (it changes none of the words, for all that its type says) */
+    if (chdir(folder) == 0) execvp(words[0], (char *const *)(uintptr_t)words);
     _exit(127);
 }
 
@@ -106,7 +108,7 @@ static sh_result make_heap(const char *folder, const char *const *command, unsig
 }
 
 static bool has_file(const char *folder) {
-    char path[4096];
+    char path[PATH_MAX];
     struct stat found;
     snprintf(path, sizeof path, "%s/heap.img", folder);
     return stat(path, &found) == 0 && !(S_ISREG(found.st_mode) && found.st_size == 0);
@@ -189,7 +191,12 @@ static sh_result ask(sh_heap *heap, const char *event, char *reply) {
     return judge(heap, answer, reply);
 }
 
-/* Asks in the transaction's session, and notes the first refusal. */
+/* Notes the first call of the transaction that was not done. */
+static void note_refusal(sh_transaction *transaction) {
+    if (transaction->refusal.result == SH_OK) transaction->refusal = transaction->heap->error;
+}
+
+/* Asks in the transaction's session. */
 static sh_result ask_in(sh_transaction *transaction, char *reply, const char *format, ...) {
     char event[LINE];
     int session = (int)(transaction - transaction->heap->transactions) + 1;
@@ -199,7 +206,7 @@ static sh_result ask_in(sh_transaction *transaction, char *reply, const char *fo
     vsnprintf(event + length, sizeof event - (size_t)length, format, words);
     va_end(words);
     sh_result result = ask(transaction->heap, event, reply);
-    if (result != SH_OK && transaction->refusal.result == SH_OK) transaction->refusal = transaction->heap->error;
+    if (result != SH_OK) note_refusal(transaction);
     return result;
 }
 
@@ -299,7 +306,11 @@ static sh_result take_handle(sh_transaction *transaction, sh_object *object) {
             return SH_OK;
         }
     }
-    return fail(&transaction->heap->error, SH_OUT_OF_HANDLES, "the transaction holds 64 objects");
+    /* (the heap refuses each call that names this one) */
+    object->handle = HANDLES;
+    fail(&transaction->heap->error, SH_OUT_OF_HANDLES, "the transaction holds 64 objects");
+    note_refusal(transaction);
+    return SH_OUT_OF_HANDLES;
 }
 
 sh_result sh_root(sh_transaction *transaction, sh_object *root) {

@@ -26,7 +26,7 @@ typedef enum {
     SH_BAD_HANDLE,    /* no object is held there */
     SH_NO_SUCH_PAGE,
     SH_NUMBERS_SPENT, /* all transaction numbers are used */
-    /* What this client can't do. */
+    /* What this client can't do. The first is as good as a refusal. */
     SH_OUT_OF_HANDLES,  /* the transaction holds 64 objects: sh_drop frees one */
     SH_OUT_OF_SESSIONS, /* 32 transactions are active */
     /* The heap's process has ended, or has to be ended: sh_close is all that can follow. */

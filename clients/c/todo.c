@@ -1,9 +1,9 @@
 /* A to-do list that outlives the program.
  *
  *     cc -std=c99 -o todo clients/c/todo.c clients/c/stable_heap.c
- *     ./todo FOLDER LAUNCHER                  prints the list
- *     ./todo FOLDER LAUNCHER add NUMBER       a thing to do, by its number
- *     ./todo FOLDER LAUNCHER done NUMBER      takes it off the list
+ *     ./todo FOLDER list 0 LAUNCHER [OPTION]..         prints the list
+ *     ./todo FOLDER add NUMBER LAUNCHER [OPTION]..     a thing to do, by its number
+ *     ./todo FOLDER done NUMBER LAUNCHER [OPTION]..    takes it off the list
  *
  * The root's field 0 refers to the first item. An item has two fields: its number, and the next item. */
 #include "stable_heap.h"
@@ -88,14 +88,13 @@ static sh_result take_off(sh_transaction *t, void *context) {
 
 int main(int count, char **words) {
     sh_error error;
-    if (count != 3 && count != 5) {
-        fprintf(stderr, "usage: todo FOLDER LAUNCHER [add NUMBER | done NUMBER]\n");
+    if (count < 5) {
+        fprintf(stderr, "usage: todo FOLDER list|add|done NUMBER LAUNCHER [OPTION]..\n");
         return 2;
     }
-    const char *command[] = {words[2], NULL};
-    sh_work work = count == 3 ? print_items : strcmp(words[3], "add") == 0 ? add_item : take_off;
-    uint64_t number = count == 5 ? strtoull(words[4], NULL, 10) : 0;
-    sh_heap *heap = sh_open(words[1], command, 1, 65536, &error);
+    sh_work work = strcmp(words[2], "add") == 0 ? add_item : strcmp(words[2], "done") == 0 ? take_off : print_items;
+    uint64_t number = strtoull(words[3], NULL, 10);
+    sh_heap *heap = sh_open(words[1], (const char *const *)words + 4, 1, 65536, &error);
     if (!heap) {
         fprintf(stderr, "todo: %s\n", error.text);
         return 1;

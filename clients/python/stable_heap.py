@@ -22,7 +22,6 @@ Threads may share a heap: each transaction has a session of its own, of which th
 import pathlib
 import random
 import subprocess
-import tempfile
 import threading
 import time
 from typing import Callable, Dict, List, Optional, Sequence, Type, TypeVar, Union
@@ -56,6 +55,8 @@ HANDLES = 64
 SESSIONS = 32
 LAUNCHER = pathlib.Path(__file__).resolve().parents[2] / "heap"
 
+STATUSES = {1: "out of memory", 6: "the disk failed", 7: "not a heap", 8: "damaged", 70: "the program can't be built"}
+
 Result = TypeVar("Result")
 Value = Union[None, int, "Object"]
 
@@ -73,11 +74,11 @@ class OutOfHandles(HeapError):
 
 
 class Ended(HeapError):
-    """The session's process has ended: its exit status and what it said."""
+    """The session's process has ended, with this exit status. What it said is on standard error."""
 
-    def __init__(self, status: int, said: str):
-        super().__init__(f"the session ended with status {status}: {said or 'it said nothing'}")
-        self.status, self.said = status, said
+    def __init__(self, status: int):
+        super().__init__(f"the heap's process ended with status {status}: {STATUSES.get(status, 'see standard error')}")
+        self.status = status
 
 
 class DiskFault(Ended):
@@ -90,7 +91,7 @@ class NotAHeap(Ended):
 
 
 class Damaged(Ended):
-    """The heap is damaged: `said` has the place."""
+    """The heap is damaged. Standard error has the place, and `tools/heap_inspect` more."""
 
 
 class Refused(HeapError):
@@ -333,8 +334,8 @@ class Transaction:
 class Heap:
     """An open heap: a process that works on the file `heap.img` of a folder, which no other program can open meanwhile."""
 
-    def __init__(self, process: subprocess.Popen, said):
-        self._process, self._said = process, said
+    def __init__(self, process: subprocess.Popen):
+        self._process = process
         self._turn = threading.Lock()
         self._sessions = list(range(SESSIONS, 0, -1))
         self._has_session = threading.Condition()
@@ -344,17 +345,16 @@ class Heap:
         cls, folder: Union[str, pathlib.Path], pages: int = 1_024, log_bytes: int = 16_777_216, command: Sequence[str] = (str(LAUNCHER),)
     ) -> "Heap":
         """Opens the heap in that folder. Where the folder has no `heap.img`, or an empty one, a heap is made, of these sizes; what
-        holds something else is never written over, but raises NotAHeap. `command` is the launcher with its options."""
+        holds something else is never written over, but raises NotAHeap. `command` is the launcher with its options: without `--quick`
+        it proves the program before its first run, which takes many minutes."""
         folder = pathlib.Path(folder)
         file = folder / "heap.img"
         if not file.exists() or file.stat().st_size == 0:
             folder.mkdir(parents=True, exist_ok=True)
             cls._format(folder, pages, log_bytes, command)
-        said = tempfile.TemporaryFile("w+")
-        process = subprocess.Popen(
-            [*command, "session"], cwd=folder, stdin=subprocess.PIPE, stdout=subprocess.PIPE, stderr=said, text=True, bufsize=1
+        heap = cls(
+            subprocess.Popen([*command, "session"], cwd=folder, stdin=subprocess.PIPE, stdout=subprocess.PIPE, text=True, bufsize=1)
         )
-        heap = cls(process, said)
         try:
             # The first answer says that the heap is open.
             heap.force()
@@ -366,18 +366,15 @@ class Heap:
     @staticmethod
     def _format(folder: pathlib.Path, pages: int, log_bytes: int, command: Sequence[str]) -> None:
         words = [*command, "format", str(pages), str(log_bytes), "1"]
-        made = subprocess.run(words, cwd=folder, stdin=subprocess.DEVNULL, stdout=subprocess.DEVNULL, stderr=subprocess.PIPE, text=True)
-        if made.returncode != 0:
-            raise ENDS.get(made.returncode, Ended)(made.returncode, made.stderr.strip())
+        status = subprocess.run(words, cwd=folder, stdin=subprocess.DEVNULL, stdout=subprocess.DEVNULL).returncode
+        if status != 0:
+            raise ENDS.get(status, Ended)(status)
 
     def __enter__(self) -> "Heap":
         return self
 
     def __exit__(self, kind, error, trace) -> None:
         self.close()
-
-    def is_open(self) -> bool:
-        return self._process.poll() is None
 
     def close(self) -> None:
         """Ends the session's process. Transactions that are active are aborted, and what was sealed is forced."""
@@ -386,7 +383,6 @@ class Heap:
             self._process.communicate()
         except BrokenPipeError:
             self._process.wait()
-        self._said.close()
 
     def transaction(self, durable: bool = True) -> Transaction:
         """A transaction, for `with`. If it is not to be durable at its end, it is so after the next `force` of any caller; a crash
@@ -429,7 +425,7 @@ class Heap:
         event = " ".join(map(str, words))
         word, *numbers = self._exchange(event)
         if word in FAULTS:
-            raise DiskFault(6, f"{event} -> {word}")
+            raise DiskFault(6)
         if word in REFUSALS:
             raise REFUSALS[word](event, word, list(map(int, numbers)))
         return [word, *numbers]
@@ -443,7 +439,7 @@ class Heap:
                 answer = ""
             except BaseException:
                 # A call that was cut short leaves an answer behind, which the next one would take for its own.
-                self._process.kill()
+                self._process.terminate()
                 raise
         if not answer:
             raise self._ended()
@@ -454,8 +450,7 @@ class Heap:
 
     def _ended(self) -> HeapError:
         """Why there is no answer."""
-        if self._said.closed:
+        if self._process.stdin.closed:
             return Protocol("the heap was closed")
         status = self._process.wait()
-        self._said.seek(0)
-        return ENDS.get(status, Ended)(status, self._said.read().strip())
+        return ENDS.get(status, Ended)(status)

@@ -122,11 +122,12 @@ static void handles_run_out(sh_heap *heap) {
     sh_transaction *t = begin(heap, &root);
     for (int i = 1; i < 64; i++) CHECK(sh_new(t, 0, &made) == SH_OK);
     CHECK(sh_new(t, 0, &made) == SH_OUT_OF_HANDLES);
+    CHECK(sh_put(t, made, 0, 7) == SH_BAD_HANDLE);
     made.handle = 5;
     CHECK(sh_drop(t, made) == SH_OK);
     CHECK(sh_len(t, made, &(unsigned){0}) == SH_BAD_HANDLE);
     CHECK(sh_new(t, 0, &made) == SH_OK && made.handle == 5);
-    CHECK(sh_abort(t) == SH_OK);
+    CHECK(sh_commit(t, true) == SH_OUT_OF_HANDLES);
 }
 
 static void sessions_run_out(sh_heap *heap) {

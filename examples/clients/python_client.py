@@ -164,7 +164,8 @@ class Client(unittest.TestCase):
         with self.assertRaises(sh.Ended):
             with self.heap.transaction() as t:
                 t.root.put(0, 8)
-                self.heap._process.kill()
+                self.heap._process.terminate()
+                self.heap._process.wait()
                 t.root.put(0, 9)
         self.open_again()
         self.assertEqual(self.root_fields()[0], 7)
@@ -191,15 +192,14 @@ class Client(unittest.TestCase):
 
     def test_threads_share_sessions(self):
         def count():
-            for _ in range(3):
-                self.heap.run(lambda t: t.root.put(0, (t.root.get(0) or 0) + 1), attempts=1_000)
+            self.heap.run(lambda t: t.root.put(0, (t.root.get(0) or 0) + 1), attempts=1_000, pause=0.01)
 
         threads = [threading.Thread(target=count) for _ in range(40)]
         for thread in threads:
             thread.start()
         for thread in threads:
             thread.join()
-        self.assertEqual(self.root_fields()[0], 120)
+        self.assertEqual(self.root_fields()[0], 40)
 
 
 if __name__ == "__main__":
