@@ -59,6 +59,9 @@ def work(heap: Heap, transfers: int, seed: int) -> None:
 
 
 def main() -> int:
+    if len(sys.argv) not in (2, 3):
+        print("usage: bank.py FOLDER [TRANSFERS]", file=sys.stderr)
+        return 2
     folder = sys.argv[1]
     transfers = int(sys.argv[2]) if len(sys.argv) > 2 else 100
     command = os.environ.get("HEAP", str(LAUNCHER)).split()

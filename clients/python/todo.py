@@ -50,15 +50,22 @@ def done(t: Transaction, number: int) -> bool:
     return False
 
 
+def change(heap: Heap, what: str, number: int) -> None:
+    if what == "add":
+        heap.run(lambda t: add(t, number))
+    elif not heap.run(lambda t: done(t, number)):
+        print(f"{number} is not on the list", file=sys.stderr)
+
+
 def main() -> int:
-    folder, *words = sys.argv[1:]
+    folder, *change_words = sys.argv[1:] or [""]
+    if not folder or (change_words and (len(change_words) != 2 or change_words[0] not in ("add", "done"))):
+        print("usage: todo.py FOLDER [add NUMBER | done NUMBER]", file=sys.stderr)
+        return 2
     command = os.environ.get("HEAP", str(LAUNCHER)).split()
     with Heap.open(folder, pages=1, log_bytes=65_536, command=command) as heap:
-        if words[:1] == ["add"]:
-            heap.run(lambda t: add(t, int(words[1])))
-        elif words[:1] == ["done"] and not heap.run(lambda t: done(t, int(words[1]))):
-            print(f"{words[1]} is not on the list", file=sys.stderr)
-            return 1
+        if change_words:
+            change(heap, change_words[0], int(change_words[1]))
         with heap.transaction() as t:
             print(*[item.get(NUMBER) for _, _, item in items(t)])
     return 0

@@ -88,32 +88,46 @@ def draw_byte(rng, old):
     return rng.choice([0, 1, 2, 3, 4, 5, 6, 7, old ^ 1, old ^ 128, (old + 4) % 256, rng.randrange(256)])
 
 
+def frames(image, log_bytes):
+    return range(SUPERBLOCK_BYTES + log_bytes, len(image), FRAME_BYTES)
+
+
 def draw_offset(rng, image, log_bytes):
-    """A byte of the superblock, of the log, of the front of a frame, or of a frame."""
+    """A byte of the superblock, of the log, of a frame, or of the first words of an open one."""
     *_, end = gates(image)
-    frames = SUPERBLOCK_BYTES + log_bytes
-    frame = frames + FRAME_BYTES * rng.randrange((len(image) - frames) // FRAME_BYTES)
-    where = rng.choices(["superblock", "log", "front", "frame"], [1, 8, 2, 3])[0]
+    frame = rng.choice(frames(image, log_bytes))
+    open_frame = rng.choice([at for at in frames(image, log_bytes) if image[at] == 1] or [frame])
+    where = rng.choices(["superblock", "log", "frame", "open"], [1, 8, 1, 6])[0]
     return {
         "superblock": rng.randrange(SUPERBLOCK_BYTES),
         "log": rng.randrange(SUPERBLOCK_BYTES, end + 1),
-        "front": frame + rng.choice([0, 8, 9]),
-        "frame": frame + rng.randrange(FRAME_BYTES),
+        "frame": frame + rng.choice([0, 8, 16]),
+        "open": open_frame + rng.randrange(160),
     }[where]
 
 
 def spoil(rng, whole, log_bytes):
-    """The image as it is, with a gate closed, with some bytes changed, or cut short."""
+    """The image as it is, with a gate closed, with some bytes changed, with less room in its log, or cut short."""
     image = bytearray(whole)
-    how = rng.choices(["whole", "gate", "bytes", "cut"], [1, 2, 8, 1])[0]
+    how = rng.choices(["whole", "gate", "bytes", "room", "cut"], [1, 3, 12, 2, 1])[0]
     if how == "gate":
         image[rng.choice(list(gates(image)))] = 0
+    elif how == "room":
+        lose_room(rng, image)
     elif how == "bytes":
         for at in [draw_offset(rng, whole, log_bytes) for _ in range(rng.randint(1, 2))]:
             image[at] = draw_byte(rng, image[at])
     elif how == "cut":
         del image[rng.randrange(len(image)) :]
     return image
+
+
+def lose_room(rng, image):
+    """The log ends just behind one of its gates, which is closed. Nothing is left of the frames."""
+    gate = rng.choice(list(gates(image)))
+    log_bytes = max(64, gate + 1 - SUPERBLOCK_BYTES + rng.choice([0, 1, 9, 10, 40]))
+    image[gate:] = b""
+    image[12:20] = (1).to_bytes(4, "little") + log_bytes.to_bytes(4, "little")
 
 
 def compare(heap, image):
