@@ -108,6 +108,7 @@ printed damage/spoiled
 printed crashes/every_stop
 printed basics/refused
 printed basics/advice
+printed basics/checked
 
 "$examples/basics/full_log.sh" | heap play --fresh 1 >"$out"
 status=$?
