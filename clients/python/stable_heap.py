@@ -167,6 +167,12 @@ FAULTS = ("diskfault", "stopped", "failed")
 ENDS: Dict[int, Type[Ended]] = {6: DiskFault, 7: NotAHeap, 8: Damaged}
 
 
+def from_here(command: Sequence[str]) -> List[str]:
+    """The command, whose program, where it is named by a path, is found from another folder too."""
+    program, *options = command
+    return [str(pathlib.Path(program).resolve()) if "/" in program else program, *options]
+
+
 class Object:
     """An object, as its transaction sees it. It is good until that transaction ends; a later one finds it again from the root."""
 
@@ -348,6 +354,7 @@ class Heap:
         holds something else is never written over, but raises NotAHeap. `command` is the launcher with its options: without `--quick`
         it proves the program before its first run, which takes many minutes."""
         folder = pathlib.Path(folder)
+        command = from_here(command)
         file = folder / "heap.img"
         if not file.exists() or file.stat().st_size == 0:
             folder.mkdir(parents=True, exist_ok=True)

@@ -8,7 +8,7 @@ client=$top/clients/c
 
 # compiled PROGRAM SOURCE
 compiled() {
-    cc -std=c99 -Wall -Wextra -Wpedantic -Werror -O1 -I"$client" -o "$1" "$2" "$client/stable_heap.c" || exit
+    cc -std=c99 -Wall -Wextra -Wpedantic -O1 -I"$client" -o "$1" "$2" "$client/stable_heap.c" || exit
 }
 
 compiled tests "$here/c_client.c"
