@@ -10,7 +10,6 @@ It prints one line, and each image in which they differ is kept in the current f
 import collections
 import pathlib
 import random
-import shutil
 import subprocess
 import sys
 import tempfile
