@@ -68,6 +68,13 @@ inspects() {
     report "tools/heap_inspect: $(cat "$out")" "$status" 0 0
 }
 
+# answers: a session answers a line that is no line too, and ends what it was left with. Where crates.txt has no session yet, none is tried.
+answers() {
+    grep -q '^heap_session' "$top/crates.txt" || return
+    heap format 1 65536 1 >"$out"
+    made sessions/answered.out heap session <"$examples/sessions/answered.script"
+}
+
 # names_itself: the launcher's version is of one line, and has the toolchain's.
 names_itself() {
     "$top/heap" --version >"$out"
@@ -122,6 +129,7 @@ complains basics/quick.err 2 4 --quick play --fresh 0 </dev/null
 complains basics/no_command.err 2 3 grpah </dev/null
 complains basics/no_command.err 2 3 graph --quick </dev/null
 complains basics/no_command.err 2 3 $quick play --help </dev/null
+answers
 names_itself
 made signals.out "$examples/signals.py" $quick
 made terminal.out "$examples/terminal.py" $quick
