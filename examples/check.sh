@@ -61,23 +61,26 @@ quotes() {
     report "$page quotes $file" $? 0 0
 }
 
-# A signal to the launcher ends the program.
-passes_signals_on() {
-    mkfifo "$room/script"
-    "$top/heap" $quick play --fresh 1 <"$room/script" >"$out" 2>&1 &
-    launcher=$!
-    exec 3>"$room/script"
-    program=
-    for try in 1 2 3 4 5 6 7 8 9 10; do
-        sleep 1
-        program=$(pgrep -P "$launcher" heap_shell) && break
-    done
-    kill -TERM "$launcher"
-    wait "$launcher"
+# inspects: the inspector and the program agree on drawn images.
+inspects() {
+    "$examples/tools/inspected.py" $quick 60 >"$out"
     status=$?
-    exec 3>&-
-    [ -n "$program" ] && ! kill -0 "$program" 2>/dev/null
-    report "a signal to the launcher" "$status" 143 $?
+    report "tools/heap_inspect: $(cat "$out")" "$status" 0 0
+}
+
+# answers: a session answers a line that is no line too, and ends what it was left with. Where crates.txt has no session yet, none is tried.
+answers() {
+    grep -q '^heap_session' "$top/crates.txt" || return
+    heap format 1 65536 1 >"$out"
+    made sessions/answered.out heap session <"$examples/sessions/answered.script"
+}
+
+# names_itself: the launcher's version is of one line, and has the toolchain's.
+names_itself() {
+    "$top/heap" --version >"$out"
+    status=$?
+    [ "$(wc -l <"$out")" = 1 ] && grep -q "^heap .*, $(rt version)\$" "$out"
+    report "heap --version" "$status" 0 $?
 }
 
 example basics/first.out basics/first.script
@@ -111,17 +114,30 @@ printed basics/full_heap
 printed damage/spoiled
 printed crashes/every_stop
 printed basics/refused
+printed basics/advice
+printed basics/checked
 
 "$examples/basics/full_log.sh" | heap play --fresh 1 >"$out"
 status=$?
 tail -n 7 "$out" | cmp -s - "$examples/basics/full_log.out"
 report basics/full_log.out "$status" 0 $?
 
-complains basics/bad_line.err 3 1 $quick play --fresh 1 <"$examples/basics/bad_line.script"
+complains basics/bad_line.err 3 2 $quick play --fresh 1 <"$examples/basics/bad_line.script"
 complains basics/usage.err 2 3 $quick play --fresh 0 </dev/null
 complains basics/help.err 2 4 </dev/null
 complains basics/quick.err 2 4 --quick play --fresh 0 </dev/null
-passes_signals_on
+complains basics/no_command.err 2 3 grpah </dev/null
+complains basics/no_command.err 2 3 graph --quick </dev/null
+complains basics/no_command.err 2 3 $quick play --help </dev/null
+answers
+names_itself
+made signals.out "$examples/signals.py" $quick
+made terminal.out "$examples/terminal.py" $quick
+
+inspects
+printed tools/remade
+printed clients/python
+if command -v cc >/dev/null; then printed clients/c; fi
 
 made basics/list.dot "$top/tools/graph_to_dot" <"$examples/basics/list.out"
 

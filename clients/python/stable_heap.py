@@ -1,0 +1,463 @@
+"""A client of the stable heap: a crash-safe heap of objects in a file, with atomic transactions.
+
+    from stable_heap import Heap
+
+    with Heap.open("notes") as heap:
+        with heap.transaction() as t:
+            note = t.new(2)
+            note.put(0, 7)
+            t.root.link(0, note)
+
+The heap is the file `heap.img` of a folder. A process of its own, `heap session`, works on it: this module sends it one line for each call
+and reads the answer. So the heap keeps its guarantee whatever this program does: if it dies, that is a crash of the heap's client, and what
+was committed is there.
+
+A transaction that ends without an exception is committed, and is on the disk when its `with` is left; one that ends with an exception is
+aborted. A call that the heap refuses is an exception, a `Refused`. A transaction of which a call was refused can't be committed, also if
+the exception was caught: at its end it is aborted, and the refusal is raised again.
+
+Threads may share a heap: each transaction has a session of its own, of which there are 32.
+"""
+
+import pathlib
+import random
+import subprocess
+import threading
+import time
+from typing import Callable, Dict, List, Optional, Sequence, Type, TypeVar, Union
+
+__all__ = [
+    "AlreadyActive",
+    "BadField",
+    "BadHandle",
+    "Busy",
+    "Damaged",
+    "DiskFault",
+    "Ended",
+    "Exhausted",
+    "Heap",
+    "HeapError",
+    "LogFull",
+    "NoSuchPage",
+    "NotAHeap",
+    "NotActive",
+    "NumbersSpent",
+    "Object",
+    "OutOfHandles",
+    "OutOfRange",
+    "Protocol",
+    "Refused",
+    "Transaction",
+    "VolatileFull",
+]
+
+HANDLES = 64
+SESSIONS = 32
+LAUNCHER = pathlib.Path(__file__).resolve().parents[2] / "heap"
+
+STATUSES = {1: "out of memory", 6: "the disk failed", 7: "not a heap", 8: "damaged", 70: "the program can't be built"}
+
+Result = TypeVar("Result")
+Value = Union[None, int, "Object"]
+
+
+class HeapError(Exception):
+    """The root of all errors of this module."""
+
+
+class Protocol(HeapError):
+    """The session's process answered what it should not, or a call came after the end of its transaction or heap."""
+
+
+class OutOfHandles(HeapError):
+    """The transaction holds 64 objects. An object that is dropped, or to which no variable refers any more, frees its handle."""
+
+
+class Ended(HeapError):
+    """The session's process has ended, with this exit status. What it said is on standard error."""
+
+    def __init__(self, status: int):
+        super().__init__(f"the heap's process ended with status {status}: {STATUSES.get(status, 'see standard error')}")
+        self.status = status
+
+
+class DiskFault(Ended):
+    """The file can't be read or written, or another program has it. What is on the disk is known when the heap is opened again; after
+    a failed sync of a real file the safe course is to end this process too."""
+
+
+class NotAHeap(Ended):
+    """The file holds no heap."""
+
+
+class Damaged(Ended):
+    """The heap is damaged. Standard error has the place, and `tools/heap_inspect` more."""
+
+
+class Refused(HeapError):
+    """A call that the heap refused, and that changed nothing: the call, the heap's word for the reason, and its numbers."""
+
+    def __init__(self, event: str, word: str, numbers: Sequence[int]):
+        super().__init__(f"{event} -> {' '.join([word, *map(str, numbers)])}")
+        self.event, self.word, self.numbers = event, word, tuple(numbers)
+
+
+class Busy(Refused):
+    """Another transaction has locked the object: `holder` is its number. The call may succeed once that transaction has ended."""
+
+    @property
+    def holder(self) -> int:
+        return self.numbers[0]
+
+
+class LogFull(Refused):
+    """The log has no room: `numbers` are its used bytes, those that are needed, and those that are kept for the ends of transactions."""
+
+
+class Exhausted(Refused):
+    """The space has no room for the new objects: `numbers` are the words needed, those that are free, and those that are owed."""
+
+
+class VolatileFull(Refused):
+    """The transaction has no room for a new object: `numbers` is how many of its 4,096 words are used."""
+
+
+class OutOfRange(Refused):
+    """A number that is negative or not below 2^62, or an object of more than 510 fields."""
+
+
+class BadField(Refused):
+    """The object has no such field."""
+
+
+class BadHandle(Refused):
+    """The handle holds no object."""
+
+
+class NoSuchPage(Refused):
+    """The heap has no such page."""
+
+
+class NotActive(Refused):
+    """The session has no transaction."""
+
+
+class AlreadyActive(Refused):
+    """The session has a transaction."""
+
+
+class NumbersSpent(Refused):
+    """All transaction numbers are used."""
+
+
+REFUSALS: Dict[str, Type[Refused]] = {
+    "busy": Busy,
+    "logfull": LogFull,
+    "exhausted": Exhausted,
+    "volatilefull": VolatileFull,
+    "range": OutOfRange,
+    "badfield": BadField,
+    "badhandle": BadHandle,
+    "nosuchpage": NoSuchPage,
+    "notactive": NotActive,
+    "alreadyactive": AlreadyActive,
+    "numbersspent": NumbersSpent,
+}
+FAULTS = ("diskfault", "stopped", "failed")
+ENDS: Dict[int, Type[Ended]] = {6: DiskFault, 7: NotAHeap, 8: Damaged}
+
+
+def from_here(command: Sequence[str]) -> List[str]:
+    """The command, whose program, where it is named by a path, is found from another folder too."""
+    program, *options = command
+    return [str(pathlib.Path(program).resolve()) if "/" in program else program, *options]
+
+
+class Object:
+    """An object, as its transaction sees it. It is good until that transaction ends; a later one finds it again from the root."""
+
+    def __init__(self, transaction: "Transaction", handle: int):
+        self._transaction = transaction
+        self._handle: Optional[int] = handle
+
+    def get(self, field: int) -> Value:
+        """What the field holds: None, a number, or an object."""
+        return self._transaction._get(self._named(), field)
+
+    def put(self, field: int, number: int) -> None:
+        """The field is to hold the number, from 0 to 2^62 - 1."""
+        # (a sign is not of the grammar, so the heap can't be asked)
+        if number < 0:
+            self._transaction._refuse(OutOfRange(f"put {field} {number}", "range", []))
+        self._transaction._do("put", self._named(), field, number)
+
+    def clear(self, field: int) -> None:
+        """The field is to hold nothing."""
+        self._transaction._do("clear", self._named(), field)
+
+    def link(self, field: int, other: "Object") -> None:
+        """The field is to refer to the other object, which is of the same transaction."""
+        self._transaction._do("link", self._named(), field, self._beside(other))
+
+    def same(self, other: "Object") -> bool:
+        """Whether both are the same object."""
+        return self._transaction._ask("same", self._named(), self._beside(other)) == ["yes"]
+
+    def __len__(self) -> int:
+        """How many fields it has."""
+        return int(self._transaction._ask("len", self._named())[1])
+
+    def __bool__(self) -> bool:
+        return True
+
+    def drop(self) -> None:
+        """Frees the object's handle. The object stays, and can't be used by this name any more."""
+        handle = self._named()
+        self._transaction._do("drop", handle)
+        self._let_go()
+
+    def __del__(self) -> None:
+        self._let_go()
+
+    def _let_go(self) -> None:
+        if self._handle is not None:
+            self._transaction._free.append(self._handle)
+            self._handle = None
+
+    def _named(self) -> int:
+        if self._handle is None:
+            raise Protocol("this object was dropped")
+        return self._handle
+
+    def _beside(self, other: "Object") -> int:
+        if other._transaction is not self._transaction:
+            raise Protocol("the two objects are of different transactions")
+        return other._named()
+
+
+class Transaction:
+    """A transaction, which `with` ends: `with heap.transaction() as t:`."""
+
+    def __init__(self, heap: "Heap", durable: bool):
+        self._heap = heap
+        self._durable = durable
+        self._free: List[int] = list(range(HANDLES))
+        self._root: Optional[Object] = None
+        self._refusal: Optional[Refused] = None
+        self._session: Optional[int] = None
+        self.number: Optional[int] = None
+
+    def __enter__(self) -> "Transaction":
+        self._session = self._heap._take_session()
+        try:
+            self.number = int(self._ask("begin")[1])
+        except BaseException:
+            self._leave()
+            raise
+        return self
+
+    def __exit__(self, kind, error, trace) -> None:
+        try:
+            if error is None and self._refusal is None:
+                self._commit()
+            else:
+                self._abort()
+        except Ended:
+            # (the end of the process has aborted the transaction too)
+            if error is None:
+                raise
+        finally:
+            self._leave()
+        if error is None and self._refusal is not None:
+            raise self._refusal
+
+    @property
+    def root(self) -> Object:
+        """The root object, from which all others are found. It has four fields."""
+        if self._root is None:
+            self._root = self._named("root")
+        return self._root
+
+    def new(self, fields: int) -> Object:
+        """A new object of that many empty fields. It stays if it can be reached from the root when the transaction ends."""
+        return self._named("new", fields)
+
+    def _commit(self) -> None:
+        """Seals, and forces if that was asked for. A seal that is refused leaves the transaction active, and it is aborted then."""
+        try:
+            self._ask("seal")
+        except Refused:
+            self._abort()
+            raise
+        if self._durable:
+            self._heap.force()
+
+    def _abort(self) -> None:
+        self._ask("abort")
+
+    def _leave(self) -> None:
+        session, self._session = self._session, None
+        self._root = None
+        if session is not None:
+            self._heap._give_session(session)
+
+    def _named(self, what: str, *numbers: int) -> Object:
+        """An object that a fresh handle holds after that call."""
+        made = Object(self, self._take_handle())
+        self._do(what, made._named(), *numbers)
+        return made
+
+    def _get(self, handle: int, field: int) -> Value:
+        found = Object(self, self._take_handle())
+        reply = self._ask("get", handle, field, found._named())
+        if reply == ["ref"]:
+            return found
+        return None if reply == ["null"] else int(reply[1])
+
+    def _take_handle(self) -> int:
+        if not self._free:
+            raise OutOfHandles(f"transaction {self.number} holds {HANDLES} objects")
+        return self._free.pop()
+
+    def _do(self, *words) -> None:
+        if self._ask(*words) != ["done"]:
+            raise Protocol(f"no answer to {words}")
+
+    def _ask(self, *words) -> List[str]:
+        if self._session is None:
+            raise Protocol("the transaction has ended")
+        try:
+            return self._heap._ask(self._session, *words)
+        except Refused as refusal:
+            self._refusal = self._refusal or refusal
+            raise
+
+    def _refuse(self, refusal: Refused) -> None:
+        self._refusal = self._refusal or refusal
+        raise refusal
+
+
+class Heap:
+    """An open heap: a process that works on the file `heap.img` of a folder, which no other program can open meanwhile."""
+
+    def __init__(self, process: subprocess.Popen):
+        self._process = process
+        self._turn = threading.Lock()
+        self._sessions = list(range(SESSIONS, 0, -1))
+        self._has_session = threading.Condition()
+
+    @classmethod
+    def open(
+        cls, folder: Union[str, pathlib.Path], pages: int = 1_024, log_bytes: int = 16_777_216, command: Sequence[str] = (str(LAUNCHER),)
+    ) -> "Heap":
+        """Opens the heap in that folder. Where the folder has no `heap.img`, or an empty one, a heap is made, of these sizes; what
+        holds something else is never written over, but raises NotAHeap. `command` is the launcher with its options: without `--quick`
+        it proves the program before its first run, which takes many minutes."""
+        folder = pathlib.Path(folder)
+        command = from_here(command)
+        file = folder / "heap.img"
+        if not file.exists() or file.stat().st_size == 0:
+            folder.mkdir(parents=True, exist_ok=True)
+            cls._format(folder, pages, log_bytes, command)
+        heap = cls(
+            subprocess.Popen([*command, "session"], cwd=folder, stdin=subprocess.PIPE, stdout=subprocess.PIPE, text=True, bufsize=1)
+        )
+        try:
+            # The first answer says that the heap is open.
+            heap.force()
+        except BaseException:
+            heap.close()
+            raise
+        return heap
+
+    @staticmethod
+    def _format(folder: pathlib.Path, pages: int, log_bytes: int, command: Sequence[str]) -> None:
+        words = [*command, "format", str(pages), str(log_bytes), "1"]
+        status = subprocess.run(words, cwd=folder, stdin=subprocess.DEVNULL, stdout=subprocess.DEVNULL).returncode
+        if status != 0:
+            raise ENDS.get(status, Ended)(status)
+
+    def __enter__(self) -> "Heap":
+        return self
+
+    def __exit__(self, kind, error, trace) -> None:
+        self.close()
+
+    def close(self) -> None:
+        """Ends the session's process. Transactions that are active are aborted, and what was sealed is forced."""
+        try:
+            # (what it says at its end is read, so that it is not held up)
+            self._process.communicate()
+        except BrokenPipeError:
+            self._process.wait()
+
+    def transaction(self, durable: bool = True) -> Transaction:
+        """A transaction, for `with`. If it is not to be durable at its end, it is so after the next `force` of any caller; a crash
+        before that takes it back, with all that later transactions made of it."""
+        return Transaction(self, durable)
+
+    def run(self, work: Callable[[Transaction], Result], durable: bool = True, attempts: int = 20, pause: float = 0.001) -> Result:
+        """Does the work in a transaction and gives its result. Where another transaction is in the way, this one is aborted and the
+        work is done again, in a new one, after a pause that grows; the last of the attempts raises Busy."""
+        for attempt in range(attempts):
+            try:
+                with self.transaction(durable) as transaction:
+                    return work(transaction)
+            except Busy:
+                if attempt + 1 == attempts:
+                    raise
+            time.sleep(random.uniform(0, pause * 2 ** min(attempt, 8)))
+        raise ValueError("attempts is not positive")
+
+    def force(self) -> int:
+        """Puts all that was sealed on the disk: the number of commits there, since the heap was opened."""
+        return int(self._ask("force")[1])
+
+    def flush(self, page: int) -> bool:
+        """Stores a page, so that the next opening redoes less: whether it had changed."""
+        return self._ask("flush", page)[0] == "flushed"
+
+    def _take_session(self) -> int:
+        with self._has_session:
+            self._has_session.wait_for(lambda: self._sessions)
+            return self._sessions.pop()
+
+    def _give_session(self, session: int) -> None:
+        with self._has_session:
+            self._sessions.append(session)
+            self._has_session.notify()
+
+    def _ask(self, *words) -> List[str]:
+        """Sends a line, and gives the words of the answer."""
+        event = " ".join(map(str, words))
+        word, *numbers = self._exchange(event)
+        if word in FAULTS:
+            raise DiskFault(6)
+        if word in REFUSALS:
+            raise REFUSALS[word](event, word, list(map(int, numbers)))
+        return [word, *numbers]
+
+    def _exchange(self, event: str) -> List[str]:
+        with self._turn:
+            try:
+                self._process.stdin.write(event + "\n")
+                answer = self._process.stdout.readline()
+            except (BrokenPipeError, ValueError):
+                answer = ""
+            except BaseException:
+                # A call that was cut short leaves an answer behind, which the next one would take for its own.
+                self._process.terminate()
+                raise
+        if not answer:
+            raise self._ended()
+        asked, arrow, reply = answer.rstrip("\n").partition(" -> ")
+        if not arrow or asked != event:
+            raise Protocol(f"the session answered {answer!r} to {event!r}")
+        return reply.split()
+
+    def _ended(self) -> HeapError:
+        """Why there is no answer."""
+        if self._process.stdin.closed:
+            return Protocol("the heap was closed")
+        status = self._process.wait()
+        return ENDS.get(status, Ended)(status)

@@ -1,0 +1,206 @@
+#!/usr/bin/env python3
+"""Tries clients/python/stable_heap.py. Where the variable HEAP is set, it is the launcher with its options.
+
+    HEAP="./heap --quick" examples/clients/python_client.py
+"""
+import os
+import pathlib
+import sys
+import tempfile
+import threading
+import unittest
+
+CLIENT = pathlib.Path(__file__).resolve().parents[2] / "clients/python"
+sys.dont_write_bytecode = True
+sys.path.insert(0, str(CLIENT))
+
+import stable_heap as sh  # noqa: E402
+
+COMMAND = os.environ.get("HEAP", str(sh.LAUNCHER)).split()
+
+
+class Client(unittest.TestCase):
+    def setUp(self):
+        room = tempfile.TemporaryDirectory()
+        self.addCleanup(room.cleanup)
+        self.folder = pathlib.Path(room.name) / "heap"
+        self.heap = self.open()
+
+    def open(self):
+        heap = sh.Heap.open(self.folder, pages=1, log_bytes=65_536, command=COMMAND)
+        self.addCleanup(heap.close)
+        return heap
+
+    def open_again(self):
+        self.heap.close()
+        self.heap = self.open()
+
+    def root_fields(self):
+        with self.heap.transaction() as t:
+            return [t.root.get(field) for field in range(4)]
+
+    def put(self, number, durable=True):
+        with self.heap.transaction(durable) as t:
+            t.root.put(0, number)
+
+    def test_commit_outlives_the_process(self):
+        with self.heap.transaction() as t:
+            made = t.new(3)
+            made.put(0, 2**62 - 1)
+            made.link(1, made)
+            t.root.link(2, made)
+        self.open_again()
+        with self.heap.transaction() as t:
+            found = t.root.get(2)
+            self.assertEqual((found.get(0), found.get(2), len(found)), (2**62 - 1, None, 3))
+            self.assertTrue(found.same(found.get(1)))
+            self.assertFalse(found.same(t.root))
+
+    def test_clear(self):
+        self.put(7)
+        with self.heap.transaction() as t:
+            t.root.clear(0)
+        self.assertEqual(self.root_fields(), [None] * 4)
+
+    def test_exception_aborts(self):
+        self.put(7)
+        with self.assertRaises(KeyError):
+            with self.heap.transaction() as t:
+                t.root.put(0, 8)
+                raise KeyError
+        self.assertEqual(self.root_fields()[0], 7)
+
+    def test_refusal_aborts_though_it_was_caught(self):
+        with self.assertRaises(sh.BadField):
+            with self.heap.transaction() as t:
+                t.root.put(0, 70)
+                try:
+                    t.root.put(4, 30)
+                except sh.BadField:
+                    pass
+        self.assertEqual(self.root_fields(), [None] * 4)
+
+    def test_refusals_have_their_numbers(self):
+        with self.assertRaises(sh.OutOfRange), self.heap.transaction() as t:
+            t.root.put(0, 2**62)
+        with self.assertRaises(sh.OutOfRange), self.heap.transaction() as t:
+            t.root.put(0, -1)
+        with self.assertRaises(sh.OutOfRange), self.heap.transaction() as t:
+            t.new(511)
+        with self.assertRaises(sh.VolatileFull) as full, self.heap.transaction() as t:
+            for _ in range(9):
+                t.new(510)
+        self.assertEqual(full.exception.numbers, (4_096,))
+
+    def test_seal_that_is_refused_aborts(self):
+        with self.assertRaises(sh.Exhausted) as full:
+            with self.heap.transaction() as t:
+                t.root.link(0, t.new(57))
+        self.assertEqual(full.exception.numbers, (59, 58, 0))
+        self.assertEqual(self.root_fields(), [None] * 4)
+
+    def test_busy_names_the_holder(self):
+        with self.heap.transaction() as first:
+            first.root.put(0, 1)
+            with self.assertRaises(sh.Busy) as busy:
+                with self.heap.transaction() as second:
+                    second.root.get(0)
+            self.assertEqual(busy.exception.holder, first.number)
+        self.assertEqual(self.root_fields()[0], 1)
+
+    def test_run_tries_again(self):
+        first = self.heap.transaction()
+        first.__enter__()
+        first.root.put(0, 1)
+        tries = []
+
+        def add(t):
+            tries.append(t.number)
+            if len(tries) == 3:
+                first.__exit__(None, None, None)
+            t.root.put(0, t.root.get(0) + 1)
+            return "done"
+
+        self.assertEqual(self.heap.run(add), "done")
+        self.assertEqual(len(tries), 3)
+        self.assertEqual(self.root_fields()[0], 2)
+
+    def test_run_gives_up(self):
+        with self.heap.transaction() as first:
+            first.root.put(0, 1)
+            with self.assertRaises(sh.Busy):
+                self.heap.run(lambda t: t.root.get(0), attempts=3)
+
+    def test_handles_are_used_again(self):
+        with self.heap.transaction() as t:
+            t.root.link(0, t.root)
+            here = t.root
+            for _ in range(200):
+                here = here.get(0)
+            self.assertTrue(here.same(t.root))
+
+    def test_handles_run_out(self):
+        with self.heap.transaction() as t:
+            kept = [t.new(0) for _ in range(64)]
+            self.assertRaises(sh.OutOfHandles, t.new, 0)
+            kept[5].drop()
+            self.assertRaises(sh.Protocol, len, kept[5])
+            t.new(0)
+
+    def test_objects_end_with_their_transaction(self):
+        with self.heap.transaction() as t:
+            root = t.root
+        self.assertRaises(sh.Protocol, root.get, 0)
+        with self.heap.transaction() as t:
+            self.assertRaises(sh.Protocol, t.root.link, 0, root)
+
+    def test_forced_later(self):
+        self.put(1, durable=False)
+        self.put(2, durable=False)
+        self.assertEqual(self.heap.force(), 2)
+
+    def test_killed_process(self):
+        self.put(7)
+        with self.assertRaises(sh.Ended):
+            with self.heap.transaction() as t:
+                t.root.put(0, 8)
+                self.heap._process.terminate()
+                self.heap._process.wait()
+                t.root.put(0, 9)
+        self.open_again()
+        self.assertEqual(self.root_fields()[0], 7)
+
+    def test_closed_heap(self):
+        self.heap.close()
+        self.assertRaises(sh.Protocol, self.heap.force)
+
+    def test_heap_in_use(self):
+        self.assertRaises(sh.DiskFault, self.open)
+
+    def test_what_is_no_heap_is_left_alone(self):
+        self.heap.close()
+        file = self.folder / "heap.img"
+        file.write_text("a text\n")
+        self.assertRaises(sh.NotAHeap, self.open)
+        self.assertEqual(file.read_text(), "a text\n")
+
+    def test_flush(self):
+        self.put(7)
+        self.assertRaises(sh.NoSuchPage, self.heap.flush, 2)
+        self.heap.flush(0)
+        self.assertFalse(self.heap.flush(0))
+
+    def test_threads_share_sessions(self):
+        def count():
+            self.heap.run(lambda t: t.root.put(0, (t.root.get(0) or 0) + 1), attempts=1_000, pause=0.01)
+
+        threads = [threading.Thread(target=count) for _ in range(40)]
+        for thread in threads:
+            thread.start()
+        for thread in threads:
+            thread.join()
+        self.assertEqual(self.root_fields()[0], 40)
+
+
+if __name__ == "__main__":
+    unittest.main()
