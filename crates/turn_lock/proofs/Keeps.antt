@@ -16,7 +16,8 @@ use Rattle.turn_lock.specs.declared.view.Stage.TheVariants.{Resting, Waiting, Tu
 use Rattle.turn_lock.specs.Turning.{one, times, total, EachOnce, IsBeginning, greatest, places, StandIn, added, numbers_from, IsOneTurn}
 use Rattle.turn_lock.specs.Rule.{is_queued, is_held, ahead, tickets, tickets_of, times_at, Kept, Shared, Fits, AtHome, IsOut, HasTurns, newcomer}
 use Rattle.turn_lock.specs.Steps.{waiting, in_turn, raising, resting, left_to_deal, dealt, joined, spent, queued, raised, passed, read, GoesBack, looked}
-use Rattle.turn_lock.proofs.Lists.{value_or, begins_itself, begins_more, begins_length, begins_longer, stand_more, stand_append, get_last, added_one, added_none, greatest_since, times_append, places_append}
+use Rattle.turn_lock.proofs.Lists.{value_or, begins_longer, get_last, greatest_since}
+use Rattle.turn_lock.proofs.TurnLaws.{begins_itself, begins_more, begins_length, stand_more, stand_append, added_one, added_none, times_append, places_append}
 use Rattle.turn_lock.proofs.Counts.{one_same, at_within, total_append, total_set, total_same, term_le, terms_le, total_le, total_alone, once_same, once_grown, once_passed, once_bound, once_inside, length_numbers, once_numbers, next_number}
 
 abbrev W : ℕ
