@@ -16,7 +16,8 @@ use Rattle.turn_lock.specs.declared.view.Stage.TheVariants.{Resting, Waiting, Tu
 use Rattle.turn_lock.specs.Turning.{one, times, total, EachOnce, IsBeginning, greatest, places, StandIn, added, numbers_from, IsOneTurn}
 use Rattle.turn_lock.specs.Rule.{is_queued, is_held, ahead, tickets, tickets_of, times_at, Kept, Shared, Fits, AtHome, IsOut, HasTurns, newcomer}
 use Rattle.turn_lock.specs.Steps.{waiting, in_turn, raising, resting, left_to_deal, dealt, joined, spent, queued, raised, passed, read, GoesBack, looked}
-use Rattle.turn_lock.proofs.Lists.{value_or, begins_itself, begins_more, begins_length, begins_longer, stand_more, stand_append, get_last, added_one, added_none, greatest_since, times_append, places_append}
+use Rattle.turn_lock.proofs.Lists.{value_or, begins_longer, get_last, greatest_since}
+use Rattle.turn_lock.proofs.TurnLaws.{begins_itself, begins_more, begins_length, stand_more, stand_append, added_one, added_none, times_append, places_append}
 use Rattle.turn_lock.proofs.Counts.{one_same, at_within, total_append, total_set, total_same, term_le, terms_le, total_le, total_alone, once_same, once_grown, once_passed, once_bound, once_inside, length_numbers, once_numbers, next_number}
 
 abbrev W : ℕ
@@ -49,7 +50,7 @@ empty_or : (l : List ℕ) → (l ≡ []) ⊎ (1 ≤ length l)
 empty_or [] = inl refl
 empty_or (x ∷ xs) = inr (omega arith)
 
-module _ {T E O : Type 0} (entries : T → List E) (stood : T → ℕ) (front : E → ℕ) (empty_turns : T → ℕ) (origin : T → O) (first : T) (passes : ℕ) where
+module _ {T E : Type 0} (entries : T → List E) (stood : T → ℕ) (front : E → ℕ) (empty_turns : T → ℕ) (follows : T → T → Type 0) (first : T) (passes : ℕ) where
   abbrev V : Type 0
   V = View T E
 
@@ -60,19 +61,19 @@ module _ {T E O : Type 0} (entries : T → List E) (stood : T → ℕ) (front : 
   M = Me (Option T) V
 
   abbrev Rule : St → Type 0
-  Rule = Kept entries stood front empty_turns origin first passes
+  Rule = Kept entries stood front empty_turns follows first passes
 
   abbrev Fit : ℕ → List E → V → Type 0
-  Fit = Fits entries stood front empty_turns origin first passes
+  Fit = Fits entries stood front empty_turns follows first passes
 
   abbrev Share : ℕ → ℕ → List E → List V → Type 0
-  Share = Shared entries stood front empty_turns origin first passes
+  Share = Shared entries stood front empty_turns follows first passes
 
   abbrev Home : ℕ → List E → maybe.Option (Option T) → List V → Type 0
-  Home = AtHome entries stood front empty_turns origin first passes
+  Home = AtHome entries stood front empty_turns follows first passes
 
   abbrev Out : ℕ → List E → maybe.Option (Option T) → List V → Type 0
-  Out = IsOut entries stood front empty_turns origin first passes
+  Out = IsOut entries stood front empty_turns follows first passes
 
   abbrev fr : List E → ℕ
   fr log = greatest front (drop (stood first) log)
@@ -107,7 +108,7 @@ module _ {T E O : Type 0} (entries : T → List E) (stood : T → ℕ) (front : 
     home_is = h.home_is;
     entries_are = h.entries_are;
     stood_is = h.stood_is;
-    origin_is = h.origin_is;
+    follows_is = h.follows_is;
     turns_are = h.turns_are;
     nobody = λ j u is. ⊎_elim (λ t. subst (λ (x : V). is_held x.stage ≡ false) t.1 hw) (λ t. h.nobody j u t.1) (at_set views id j w u is);
   }
@@ -179,7 +180,7 @@ module _ {T E O : Type 0} (entries : T → List E) (stood : T → ℕ) (front : 
       sym (one_turn r.served v.ticket W within.0 near (sym (ap (λ ws. get_or ws 1 0) r.words_are) ∙ hit))
 
   gets : (s : St) (r : Rule s) (slots id : ℕ) (me : M) → get_elem? s.views id ≡ some me.0 → me.0.stage ≡ Waiting → get_or s.words 1 0 ≡ me.0.ticket % W → Home r.served r.log r.home s.views
-      → (w : V) × (a : Act (Option T)) × Rattle.atomic_table.specs.Table.Valid s.homes me.1 a × Rule (stepped s 1 (get_or s.words 1 0) id me.1 w a) × looked entries stood front empty_turns origin me (get_or s.words 1 0) (w, Rattle.atomic_table.specs.Table.carried_after me.1 a)
+      → (w : V) × (a : Act (Option T)) × Rattle.atomic_table.specs.Table.Valid s.homes me.1 a × Rule (stepped s 1 (get_or s.words 1 0) id me.1 w a) × looked entries stood front empty_turns follows me (get_or s.words 1 0) (w, Rattle.atomic_table.specs.Table.carried_after me.1 a)
   gets s r slots id me at st hit h =
       let v : V = me.0 in let x : T = h.value in let k = r.knows in let fit = k.each id v at in
       let qv : is_queued v.stage ≡ true = ap is_queued st in
@@ -235,7 +236,7 @@ module _ {T E O : Type 0} (entries : T → List E) (stood : T → ℕ) (front : 
               seen_in = subst (IsBeginning v.seen) (sym h.entries_are) fit.seen_in;
               mine_in = subst (λ l. StandIn l v.mine) (sym h.entries_are) fit.mine_in;
               stood_is = λ f e. h.stood_is ∙ ap stood (sym (fit.first_is f e));
-              origin_is = λ f e. h.origin_is ∙ ap origin (sym (fit.first_is f e));
+              follows_is = λ f e. subst (λ (y : T). follows y x) (sym (fit.first_is f e)) h.follows_is;
               front_is = λ f e. ap (λ y. greatest front (drop (stood y) (entries x))) (sym (fit.first_is f e));
               front_up = omega (arith, fw, fit.front_in);
             },
@@ -245,7 +246,7 @@ module _ {T E O : Type 0} (entries : T → List E) (stood : T → ℕ) (front : 
       )
 
   -- steps 2 and 3
-  pub looks : (slots id : ℕ) (me : M) → me.0.stage ≡ Waiting → Allows Rule slots id me 1 (λ n. n) (looked entries stood front empty_turns origin me)
+  pub looks : (slots id : ℕ) (me : M) → me.0.stage ≡ Waiting → Allows Rule slots id me 1 (λ n. n) (looked entries stood front empty_turns follows me)
   looks slots id me st s r wide at small = let v : V = me.0 in
       dite (ℕ_discrete (get_or s.words 1 0) (v.ticket % W))
       (λ hit. ⊎_elim (gets s r slots id me at st hit)
@@ -270,7 +271,7 @@ module _ {T E O : Type 0} (entries : T → List E) (stood : T → ℕ) (front : 
   raises_with : (s : St) (r : Rule s) (id : ℕ) (me : M) (log' more : List E) (empty' k : ℕ) → get_elem? s.views id ≡ some me.0 → me.0.stage ≡ Turn → me.0.first ≡ Some first → log' ≡ r.log ++ more
       → max (fr r.log) k ≡ fr log' → added me.0.seen log' ≡ added r.log log' → StandIn log' (added r.log log')
       → EachOnce (λ n. total (times_at n) s.views + times n (places (added r.log log'))) (stood first) (length log')
-      → HasTurns entries stood front empty_turns origin first passes log' empty' (r.served + 1)
+      → HasTurns entries stood front empty_turns follows first passes log' empty' (r.served + 1)
       → (w : V) × (a : Act (Option T)) × Rattle.atomic_table.specs.Table.Valid s.homes me.1 a × Rule (stepped s 2 (max (get_or s.words 2 0) k) id me.1 w a) × raised stood front log' empty' me (w, Rattle.atomic_table.specs.Table.carried_after me.1 a)
   raises_with s r id me log' more empty' k at st first_is is top fresh stand once turns =
       let v : V = me.0 in let sh = r.knows in let fit = sh.each id v at in
@@ -330,7 +331,7 @@ module _ {T E O : Type 0} (entries : T → List E) (stood : T → ℕ) (front : 
   raises slots id me log' empty' k st first_is turn s r wide at small =
       let v : V = me.0 in let out = holder s r id v at (ap is_held st) in
       let seen : v.seen ≡ r.log = ap (λ (u : V). u.seen) (sym out.2) ∙ out.0.seen_is in
-      let turns : HasTurns entries stood front empty_turns origin first passes r.log v.empty (r.served + 0) = subst (λ (u : V). HasTurns entries stood front empty_turns origin first passes r.log u.empty (r.served + ahead u.stage)) out.2 out.0.turns_are ∙ ap (λ (z : Stage). (r.served + ahead z) % W) st in
+      let turns : HasTurns entries stood front empty_turns follows first passes r.log v.empty (r.served + 0) = subst (λ (u : V). HasTurns entries stood front empty_turns follows first passes r.log u.empty (r.served + ahead u.stage)) out.2 out.0.turns_are ∙ ap (λ (z : Stage). (r.served + ahead z) % W) st in
       let old : (length r.log - stood first + v.empty) % W ≡ r.served % W = turns ∙ ap (λ (z : ℕ). z % W) (let e : r.served + 0 ≡ r.served = omega arith in e) in
       let long : stood first ≤ length r.log = r.long in
       ⊎_elim
@@ -357,14 +358,14 @@ module _ {T E O : Type 0} (entries : T → List E) (stood : T → ℕ) (front : 
       turn
 
   -- steps 5 and 6
-  pub passes_on : (slots id : ℕ) (me : M) (value : T) → me.0.stage ≡ Raised → me.1 ≡ (0, Some value) ∷ [] → GoesBack entries stood empty_turns origin first me.0 value
+  pub passes_on : (slots id : ℕ) (me : M) (value : T) → me.0.stage ≡ Raised → me.1 ≡ (0, Some value) ∷ [] → GoesBack entries stood empty_turns follows first me.0 value
       → Allows Rule slots id me 1 (λ n. (n + 1) % W) (λ _. passed me)
   passes_on slots id me value st slot back s r wide at small =
       let v : V = me.0 in let w : V = resting v in let sh = r.knows in let fit = sh.each id v at in
       let held : is_held v.stage ≡ true = ap is_held st in let qv : is_queued v.stage ≡ true = ap is_queued st in
       let out = holder s r id v at held in let o = out.0 in
       let seen : v.seen ≡ r.log = ap (λ (u : V). u.seen) (sym out.2) ∙ o.seen_is in
-      let turns : HasTurns entries stood front empty_turns origin first passes r.log v.empty (r.served + 1) = subst (λ (u : V). HasTurns entries stood front empty_turns origin first passes r.log u.empty (r.served + ahead u.stage)) out.2 o.turns_are ∙ ap (λ (z : Stage). (r.served + ahead z) % W) st in
+      let turns : HasTurns entries stood front empty_turns follows first passes r.log v.empty (r.served + 1) = subst (λ (u : V). HasTurns entries stood front empty_turns follows first passes r.log u.empty (r.served + ahead u.stage)) out.2 o.turns_are ∙ ap (λ (z : Stage). (r.served + ahead z) % W) st in
       let mine : v.ticket ≡ r.served = fit.turn_is held in
       let of_v : (t : ℕ) → tickets_of t v ≡ one t r.served = λ t. ap (λ b. cond b (one t v.ticket) 0) qv ∙ ap (one t) mine in
       let n_v : tickets v ≡ 1 = ap (λ b. cond b 1 0) qv in
@@ -398,7 +399,7 @@ module _ {T E O : Type 0} (entries : T → List E) (stood : T → ℕ) (front : 
             home_is = refl;
             entries_are = back.entries_are ∙ seen;
             stood_is = back.stood_is;
-            origin_is = back.origin_is;
+            follows_is = back.follows_is;
             turns_are = ap (λ (z : ℕ). (length r.log - stood first + z) % W) back.empty_is ∙ turns;
             nobody = λ j u is. ⊎_elim (λ t. ap (λ (x : V). is_held x.stage) (sym t.1)) (λ t. nobody j u t.0 t.1) (at_set s.views id j w u is);
           };
@@ -439,7 +440,7 @@ module _ {T E O : Type 0} (entries : T → List E) (stood : T → ℕ) (front : 
                 home_is = h.home_is;
                 entries_are = h.entries_are;
                 stood_is = h.stood_is;
-                origin_is = h.origin_is;
+                follows_is = h.follows_is;
                 turns_are = h.turns_are;
                 nobody = λ j u at_j. ⊎_elim (λ t. ap (λ (x : V). is_held x.stage) (sym t.1) ∙ h.nobody id v at) (λ t. h.nobody j u t.1) (at_set s.views id j w u at_j);
               })
@@ -452,7 +453,7 @@ module _ {T E O : Type 0} (entries : T → List E) (stood : T → ℕ) (front : 
                 home_is = o.home_is;
                 seen_is = ap (λ (u : V). u.seen) (sym same) ∙ o.seen_is;
                 front_is = is;
-                turns_are = subst (λ (u : V). HasTurns entries stood front empty_turns origin first passes r.log u.empty (r.served + ahead u.stage)) same o.turns_are;
+                turns_are = subst (λ (u : V). HasTurns entries stood front empty_turns follows first passes r.log u.empty (r.served + ahead u.stage)) same o.turns_are;
               })
               (λ n. inr record { seat = o.seat; view = o.view; seat_is = set_else s.views id o.seat w n ∙ o.seat_is; held = o.held; home_is = o.home_is; seen_is = o.seen_is; front_is = o.front_is; turns_are = o.turns_are }))
               r.slot;
@@ -467,7 +468,7 @@ module _ {T E O : Type 0} (entries : T → List E) (stood : T → ℕ) (front : 
     home_is = h.home_is;
     entries_are = h.entries_are;
     stood_is = h.stood_is;
-    origin_is = h.origin_is;
+    follows_is = h.follows_is;
     turns_are = h.turns_are;
     nobody = λ j u is. ⊎_elim (λ t. h.nobody j u t) (λ t. ap (λ (x : V). is_held x.stage) (sym t) ∙ hw) (at_snoc views w u j is);
   }
@@ -578,8 +579,8 @@ module _ {T E O : Type 0} (entries : T → List E) (stood : T → ℕ) (front : 
   nothing_since (x ∷ xs) = nothing_since xs
 
   -- the table at the start
-  pub opens : stood first ≡ length (entries first) → empty_turns first ≡ 0 → passes < W → Rule (opening (0 ∷ 0 ∷ 0 ∷ []) (Some first ∷ []) (newcomer entries first passes))
-  opens all none_empty few =
+  pub opens : follows first first → stood first ≡ length (entries first) → empty_turns first ≡ 0 → passes < W → Rule (opening (0 ∷ 0 ∷ 0 ∷ []) (Some first ∷ []) (newcomer entries first passes))
+  opens starts all none_empty few =
       let v : V = newcomer entries first passes in
       let one_view : (f : V → ℕ) → total f (v ∷ []) ≡ f v = λ f. omega arith in
       let since : drop (stood first) (entries first) ≡ [] = ap (λ n. drop n (entries first)) all ∙ nothing_since (entries first) in
@@ -614,7 +615,7 @@ module _ {T E O : Type 0} (entries : T → List E) (stood : T → ℕ) (front : 
           home_is = refl;
           entries_are = refl;
           stood_is = refl;
-          origin_is = refl;
+          follows_is = starts;
           turns_are = ap (λ (z : ℕ). z % W) (let z : length (entries first) - stood first + empty_turns first ≡ 0 = omega (arith, all, none_empty) in z);
           nobody = λ j u is. ap (λ (x : V). is_held x.stage) (only_view v j u is);
         };
@@ -623,7 +624,7 @@ module _ {T E O : Type 0} (entries : T → List E) (stood : T → ℕ) (front : 
   -- What is known of the value once the lock is closed with a pass that has the number of every other.
   pub record Ends (v : V) (value : T) : Type 0 where
     pub stood_is : stood value ≡ stood first
-    pub origin_is : origin value ≡ origin first
+    pub follows_is : follows first value
     pub seen_in : IsBeginning v.seen (entries value)
     pub mine_in : StandIn (entries value) v.mine
     pub once : EachOnce (λ k. times k (places v.mine)) (stood first) (length (entries value))
@@ -648,7 +649,7 @@ module _ {T E O : Type 0} (entries : T → List E) (stood : T → ℕ) (front : 
         f.4 0 (Some h.value) (ap (λ hs. get_elem? hs 0) r.homes_are ∙ ap some h.home_is),
         record {
           stood_is = h.stood_is;
-          origin_is = h.origin_is;
+          follows_is = h.follows_is;
           seen_in = subst (IsBeginning v.seen) (sym es) fit.seen_in;
           mine_in = subst (λ l. StandIn l v.mine) (sym es) fit.mine_in;
           once = once_same (λ k. total (times_at k) s.views) (λ k. times k (places v.mine)) (stood first) (length (entries h.value)) (subst (λ l. EachOnce (λ k. total (times_at k) s.views) (stood first) (length l)) (sym es) sh.places_once) (λ k. sym (alone_at k));

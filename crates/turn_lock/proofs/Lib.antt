@@ -1,3 +1,4 @@
+pub mod TurnLaws
 pub mod Lists
 pub mod Counts
 pub mod Keeps

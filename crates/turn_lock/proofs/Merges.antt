@@ -2,11 +2,11 @@
 use Rattle.std.proofs.Common.{◌≡◌, ℕ, zero, suc, ◌+◌, ◌-◌, ◌<◌, ◌≤◌, ◌⊎◌, List, [], ◌∷◌, ◌++◌, length, drop, sym, refl, ap, ◌∙◌, subst, inl, inr, ⊎_elim, arith, length-drop, Some, slice_get}
 use mathlib.Core.Logic.{dite}
 use native.Mathlib.Decide.{ℕ_discrete}
-use Rattle.std.proofs.lemmas.Option.{none-some}
-use Rattle.turn_lock.specs.Turning.{one, times, EachOnce, places, StandIn, added}
+use Rattle.turn_lock.specs.Turning.{one, times, EachOnce, places, StandIn}
 use Rattle.turn_lock.specs.Merging.{entries_of, Rise, IsMerge}
 use Rattle.turn_lock.proofs.Counts.{one_same, one_other, once_passed, once_same}
-use Rattle.turn_lock.proofs.Lists.{value_or, places_append, added_one}
+use Rattle.turn_lock.proofs.Lists.{value_or}
+use Rattle.turn_lock.proofs.TurnLaws.{places_append}
 
 module _ {E : Type 0} where
   -- no place of a list that rises lies below its start
@@ -94,16 +94,3 @@ module _ {E : Type 0} where
   two_make_all low log ps qs le a b stand once = merges low (drop low log) ps qs a b (stand_from low log ps a (stand_first log ps qs stand)) (stand_from low log qs b (stand_second log ps qs stand))
       (subst (EachOnce (λ k. times k (places ps) + times k (places qs)) low) (let e : length log ≡ low + length (drop low log) = omega (arith, length-drop low log) in e)
       (once_same (λ k. times k (places (ps ++ qs))) (λ k. times k (places ps) + times k (places qs)) low (length log) once (λ k. sym (places_append k ps qs))))
-
-  within : (log : List E) (k : ℕ) (e : E) → slice_get log k ≡ Some e → k < length log
-  within [] k e at = absurd (none-some e at)
-  within (x ∷ xs) zero e at = omega arith
-  within (x ∷ xs) (suc k) e at = omega (arith, within xs k e at)
-
-  -- one turn more, behind all that stand in the history
-  pub rise_more : (low : ℕ) (log : List E) (ps : List (ℕ × E)) (e : E) → low ≤ length log → Rise low ps → StandIn log ps → Rise low (ps ++ (length log, e) ∷ [])
-  rise_more low log [] e le r h = (le, tt)
-  rise_more low log (p ∷ ps) e le r h = (r.0, rise_more (p.0 + 1) log ps e (omega (arith, within log p.0 p.1 h.0)) r.1 h.1)
-
-  pub rise_added : (low : ℕ) (log log' : List E) (ps : List (ℕ × E)) (e : E) → low ≤ length log → Rise low ps → StandIn log ps → log' ≡ log ++ e ∷ [] → Rise low (ps ++ added log log')
-  rise_added low log log' ps e le r h is = subst (λ l. Rise low (ps ++ l)) (sym (ap (added log) is ∙ added_one log e)) (rise_more low log ps e le r h)

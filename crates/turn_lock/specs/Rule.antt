@@ -44,7 +44,7 @@ module _ {T E : Type 0} where
   abbrev pub times_at : ℕ → View T E → ℕ
   times_at k v = times k (places v.mine)
 
-module _ {T E O : Type 0} (entries : T → List E) (stood : T → ℕ) (front : E → ℕ) (empty_turns : T → ℕ) (origin : T → O) (first : T) (passes : ℕ) where
+module _ {T E : Type 0} (entries : T → List E) (stood : T → ℕ) (front : E → ℕ) (empty_turns : T → ℕ) (follows : T → T → Type 0) (first : T) (passes : ℕ) where
   -- the front that the history since the lock was made acknowledges
   abbrev pub front_of : List E → ℕ
   front_of log = greatest front (drop (stood first) log)
@@ -78,7 +78,7 @@ module _ {T E O : Type 0} (entries : T → List E) (stood : T → ℕ) (front : 
     pub home_is : home ≡ some (Some value)
     pub entries_are : entries value ≡ log
     pub stood_is : stood value ≡ stood first
-    pub origin_is : origin value ≡ origin first
+    pub follows_is : follows first value
     pub turns_are : HasTurns log (empty_turns value) served
     pub nobody : (seat : ℕ) (v : View T E) → get_elem? views seat ≡ some v → is_held v.stage ≡ false
 

@@ -53,13 +53,13 @@ module _ {T E : Type 0} where
   abbrev pub read : Knows T E → ℕ → Knows T E → Type 0
   read m r n = (n ≡ (record m.0 { front = r }, m.1)) × (m.0.front ≤ r)
 
-module _ {T E O : Type 0} (entries : T → List E) (stood : T → ℕ) (front : E → ℕ) (empty_turns : T → ℕ) (origin : T → O) where
+module _ {T E : Type 0} (entries : T → List E) (stood : T → ℕ) (front : E → ℕ) (empty_turns : T → ℕ) (follows : T → T → Type 0) where
   -- What a pass learns of the value that it gets: it is the lock's, and goes on from all that the pass had seen and done.
   pub record Suits (v : View T E) (value : T) (known : ℕ) : Type 0 where
     pub seen_in : IsBeginning v.seen (entries value)
     pub mine_in : StandIn (entries value) v.mine
     pub stood_is : (first : T) → v.first ≡ Some first → stood value ≡ stood first
-    pub origin_is : (first : T) → v.first ≡ Some first → origin value ≡ origin first
+    pub follows_is : (first : T) → v.first ≡ Some first → follows first value
     pub front_is : (first : T) → v.first ≡ Some first → known ≡ greatest front (drop (stood first) (entries value))
     pub front_up : v.front ≤ known
 
@@ -72,11 +72,11 @@ module _ {T E O : Type 0} (entries : T → List E) (stood : T → ℕ) (front : 
   looked m r n = (r ≡ m.0.ticket % 2 ^ 64 → Gets m n) × (r ≢ m.0.ticket % 2 ^ 64 → n ≡ m)
 
 -- The value that goes back is the one that the view keeps, and the lock's.
-pub record GoesBack {T E O : Type 0} (entries : T → List E) (stood : T → ℕ) (empty_turns : T → ℕ) (origin : T → O) (first : T) (v : View T E) (value : T) : Type 0 where
+pub record GoesBack {T E : Type 0} (entries : T → List E) (stood : T → ℕ) (empty_turns : T → ℕ) (follows : T → T → Type 0) (first : T) (v : View T E) (value : T) : Type 0 where
   pub entries_are : entries value ≡ v.seen
   pub empty_is : empty_turns value ≡ v.empty
   pub stood_is : stood value ≡ stood first
-  pub origin_is : origin value ≡ origin first
+  pub follows_is : follows first value
 
 -- the front was raised to that of a value with this history and these empty turns, which goes back
 abbrev pub raised : {T E : Type 0} → (T → ℕ) → (E → ℕ) → List E → ℕ → Knows T E → Knows T E → Type 0

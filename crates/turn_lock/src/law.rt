@@ -21,7 +21,7 @@ pub struct TicketOrder;
 impl<T: Turns> TableRule<Option<T>, View<T, T::Entry>, Opening<T>> for TicketOrder {
     ghost use Rattle.turn_lock.specs.Rule.{Kept, newcomer};
 
-    ghost holds = { λ key. Kept T.entries T.stood T.front T.empty_turns T.origin key.first.value key.passes };
+    ghost holds = { λ key. Kept T.entries T.stood T.front T.empty_turns T.follows key.first.value key.passes };
 
     ghost first = { λ key. newcomer T.entries key.first.value key.passes };
 }
@@ -58,7 +58,7 @@ pub struct Look;
 impl<T: Turns> Play<Option<T>, View<T, T::Entry>> for Look {
     ghost use Rattle.turn_lock.specs.Steps.{looked};
 
-    ghost then = { λ _ m r n. looked T.entries T.stood T.front T.empty_turns T.origin m r n };
+    ghost then = { λ _ m r n. looked T.entries T.stood T.front T.empty_turns T.follows m r n };
 }
 
 /// The front was raised, and the new entry joins the pass's own.

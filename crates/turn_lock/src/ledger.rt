@@ -32,9 +32,7 @@ impl Turns for Ledger {
 
     ghost empty_turns = { λ l. l.refused };
 
-    ghost Origin = { ℕ };
-
-    ghost origin = { λ l. l.name };
+    ghost follows = { λ first l. l.name ≡ first.name };
 }
 
 impl Ledger {

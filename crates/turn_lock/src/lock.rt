@@ -59,6 +59,7 @@ impl<T: Turns> TurnLock<T> {
         requires labels { 0 < length labels.now }
         requires stood { T.stood value ≡ length (T.entries value) }
         requires empty { T.empty_turns value ≡ 0 }
+        requires starts { T.follows value value }
         ensures lock { IfOk result (λ r. (first_of r.0 ≡ value) × (passes_of r.0 ≡ length labels.now)) }
         ensures count { IfOk result (λ r. vec_len r.1 ≡ length labels.now) }
         ensures passes { IfOk result (λ r. (i : ℕ) (pass : _) → slice_get r.1.items i ≡ Some pass → IsNew r.0 i (slice_index labels.now i) (T.entries value) pass) }
@@ -114,7 +115,7 @@ impl<T: Turns> TurnLock<T> {
         ensures history { (T.entries result.value ≡ seen_of pass.new) × IsBeginning (seen_of pass.old) (seen_of pass.new) }
         ensures mine { (mine_of pass.new ≡ mine_of pass.old) × StandIn (seen_of pass.new) (mine_of pass.new) }
         ensures turns { (turns_of pass.new ≡ turns_of pass.old) × (T.empty_turns result.value ≡ empty_of pass.new) }
-        ensures same_value { (T.stood result.value ≡ T.stood (first_of self.now)) × (T.origin result.value ≡ T.origin (first_of self.now)) }
+        ensures same_value { (T.stood result.value ≡ T.stood (first_of self.now)) × T.follows (first_of self.now) result.value }
         ensures front { (front_of pass.new ≡ greatest T.front (drop (T.stood (first_of self.now)) (seen_of pass.new))) × (front_of pass.old ≤ front_of pass.new) }
     {
         let ticket = self.queue(pass);
@@ -141,7 +142,7 @@ impl<T: Turns> TurnLock<T> {
         requires pass { IsPassOf self.now pass.old }
         requires ticket { (pass.old.seat.me.0.stage ≡ Waiting) × (ticket ≡ pass.old.seat.me.0.ticket % 2 ^ 64) }
         ensures pass { (pass.new.label ≡ pass.old.label) × (pass.new.seat.table_id ≡ pass.old.seat.table_id) }
-        ensures value { Gets T.entries T.stood T.front T.empty_turns T.origin pass.old.seat.me pass.new.seat.me }
+        ensures value { Gets T.entries T.stood T.front T.empty_turns T.follows pass.old.seat.me pass.new.seat.me }
     {
         let backoff = Backoff::new();
         for _ in rt.forever() {
@@ -171,7 +172,7 @@ impl<T: Turns> TurnLock<T> {
     pub fn give(&self, pass: &mut Pass<T>, held: Held<T>, front: u64)
         requires pass { IsPassOf self.now pass.old }
         requires turn { HasTurn pass.old }
-        requires same_value { (T.stood held.value ≡ T.stood (first_of self.now)) × (T.origin held.value ≡ T.origin (first_of self.now)) }
+        requires same_value { (T.stood held.value ≡ T.stood (first_of self.now)) × T.follows (first_of self.now) held.value }
         requires one_turn { IsOneTurn T.front (seen_of pass.old) (empty_of pass.old) (T.entries held.value) (T.empty_turns held.value) front }
         ensures pass { IsSamePass pass.old pass.new × IsResting pass.new }
         ensures history { seen_of pass.new ≡ T.entries held.value }
@@ -221,7 +222,7 @@ impl<T: Turns> TurnLock<T> {
     // Passes the turn, and the slot goes home with the value.
     fn pass_on(&self, pass: &mut Pass<T>)
         requires pass { (pass.old.seat.table_id ≡ self.now.table.shared.table_id) × (pass.old.seat.me.0.stage ≡ Raised) }
-        requires value { (value : T) × (pass.old.seat.me.1 ≡ (0, Some value) ∷ []) × GoesBack T.entries T.stood T.empty_turns T.origin (first_of self.now) pass.old.seat.me.0 value }
+        requires value { (value : T) × (pass.old.seat.me.1 ≡ (0, Some value) ∷ []) × GoesBack T.entries T.stood T.empty_turns T.follows (first_of self.now) pass.old.seat.me.0 value }
         ensures pass { (pass.new.label ≡ pass.old.label) × (pass.new.seat.table_id ≡ pass.old.seat.table_id) }
         ensures passed { passed pass.old.seat.me pass.new.seat.me }
     {
@@ -258,7 +259,7 @@ impl<T: Turns> TurnLock<T> {
     pub fn close(self, pass: Pass<T>) -> T
         requires pass { IsPassOf self pass × IsResting pass }
         requires all { (number : ℕ) → number < passes_of self → 0 < times number (pass_numbers pass) }
-        ensures same_value { (T.stood result ≡ T.stood (first_of self)) × (T.origin result ≡ T.origin (first_of self)) }
+        ensures same_value { (T.stood result ≡ T.stood (first_of self)) × T.follows (first_of self) result }
         ensures history { IsBeginning (seen_of pass) (T.entries result) }
         ensures stand { StandIn (T.entries result) (mine_of pass) }
         ensures once { EachOnce (λ place. times place (places (mine_of pass))) (T.stood (first_of self)) (length (T.entries result)) }
@@ -274,7 +275,7 @@ impl<T: Turns> TurnLock<T> {
 
 /// In each state of the words, the slot and the passes that the rule allows, one pass at most has its turn.
 pub fn one_at_a_time<T: Turns>()
-    ensures { (first : T) (passes : ℕ) (s : State (Option T) (View T T.Entry)) → Kept T.entries T.stood T.front T.empty_turns T.origin first passes s
+    ensures { (first : T) (passes : ℕ) (s : State (Option T) (View T T.Entry)) → Kept T.entries T.stood T.front T.empty_turns T.follows first passes s
         → (i j : ℕ) (v w : View T T.Entry) → get_elem? s.views i ≡ some v → get_elem? s.views j ≡ some w → is_held v.stage ≡ true → is_held w.stage ≡ true → i ≡ j }
 {}
 

@@ -20,9 +20,6 @@ pub trait Turns {
     /// How many turns added no entry, by remainder of 2^64.
     ghost empty_turns: { Self → ℕ };
 
-    /// What tells a value from another one.
-    ghost Origin: { Type 0 };
-
-    /// Which value this is. No turn changes it.
-    ghost origin: { Self → Origin };
+    /// What a value that was handed to the lock may become. Each turn keeps it, of the value as it was then and the one that goes back.
+    ghost follows: { Self → Self → Type 0 };
 }

@@ -1,8 +1,7 @@
 use Rattle.std.proofs.Common.{◌≡◌, ℕ, ◌≤◌, ◌++◌, [], ◌∷◌, length, List, sym, ap, ◌∙◌, subst, arith, length-append}
 use Rattle.turn_lock.specs.Merging.{Rise}
 use Rattle.turn_lock.specs.Passes.{first_of, seen_of, mine_of}
-use Rattle.turn_lock.proofs.Lists.{begins_length}
-use Rattle.turn_lock.proofs.Merges.{rise_added}
+use Rattle.turn_lock.proofs.TurnLaws.{begins_length, rise_added}
 use Rattle.turn_lock.proofs.ledger.post_one.Goals as goal
 
 pub returns-then-post-clause-rise : goal.returns-then-post-clause-rise

@@ -2,7 +2,8 @@ use Rattle.std.proofs.Common.{◌≡◌, ℕ, ◌≤◌, length, take, drop, Lis
 use Rattle.turn_lock.specs.Turning.{EachOnce, StandIn, times, places}
 use Rattle.turn_lock.specs.Merging.{entries_of, IsMerge}
 use Rattle.turn_lock.specs.Passes.{first_of, mine_of}
-use Rattle.turn_lock.proofs.Lists.{begins_length, length_longer}
+use Rattle.turn_lock.proofs.Lists.{length_longer}
+use Rattle.turn_lock.proofs.TurnLaws.{begins_length}
 use Rattle.turn_lock.proofs.Merges.{two_make_all}
 use Rattle.turn_lock.proofs.ledger.post_two.Goals as goal
 

@@ -6,7 +6,7 @@ use Rattle.turn_lock.proofs.lock.TurnLock.deal.Given as goal
 abbrev pub invariant-loop-label : goal.invariant-loop-label
 invariant-loop-label g l = record {
   seat : l.seat.table_id ≡ l.fn.seat.table_id;
-  view : l.seat.me ≡ (dealing g.T.Turns.entries g.T.Turns.stood g.T.Turns.front g.T.Turns.empty_turns g.T.Turns.origin (first_of l.self) (length l.labels) l.label-index, []);
+  view : l.seat.me ≡ (dealing g.T.Turns.entries g.T.Turns.stood g.T.Turns.front g.T.Turns.empty_turns g.T.Turns.follows (first_of l.self) (length l.labels) l.label-index, []);
   count : vec_len l.passes ≡ l.label-index;
   room : vec_capacity l.passes ≡ vec_capacity l.fn.passes;
   each : (i : ℕ) (pass : _) → slice_get l.passes.items i ≡ Some pass → IsNew l.self i (slice_index l.labels i) (g.T.Turns.entries (first_of l.self)) pass;
