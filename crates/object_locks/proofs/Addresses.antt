@@ -1,5 +1,5 @@
 -- The addresses of the holdings of a tree, and which they are once each has its repeats left out.
-use Rattle.std.proofs.Common.{◌≡◌, ℕ, zero, suc, ◌+◌, ◌<◌, ◌≤◌, eqb, ◌↔◌, Bool, true, false, List, [], ◌∷◌, length, map, get_or, refl, sym, ap, ◌∙◌, subst, arith, Less, eq-eqb}
+use Rattle.std.proofs.Common.{◌≡◌, ℕ, zero, suc, ◌+◌, ◌<◌, ◌≤◌, eqb, true, false, List, [], ◌∷◌, length, map, get_or, refl, sym, ap, ◌∙◌, subst, arith, eq-eqb}
 use Rattle.std.specs.Prelude.{Contains}
 use Rattle.std.specs.List.{dedup, list_any}
 use Rattle.std.specs.List.Sorted.{IsSorted, IsStrictlySortedBy}
@@ -10,7 +10,7 @@ use Rattle.std.proofs.lemmas.Bool.{eqb-true}
 use Rattle.std.proofs.lemmas.List.Kept.{Contains-dedup_nat, Contains-from_dedup}
 use Rattle.std.proofs.lemmas.Map.Keys.{IsStrictlyIncreasing-dedup}
 use Rattle.object_locks.specs.declared.holding.Holding.{Holding}
-use Rattle.object_locks.specs.Holdings.{Holdings, holding_cmp, IsLocked, AreLocked}
+use Rattle.object_locks.specs.Holdings.{Holdings, holding_cmp, AreLocked}
 use Rattle.object_locks.proofs.Orders.{holding_total, holding_exact, upto_number}
 use Rattle.object_locks.proofs.Sets.{any_witness, equal_if, one_of, or_left, or_right}
 
@@ -55,10 +55,13 @@ has_address (x ∷ hs) h e =
 pub are_locked : (hs : List Holding) (held : Holdings) → set.from_list hs ≡ held → IsStrictlySortedBy holding_cmp hs → AreLocked held (dedup eqb (map address_of hs))
 are_locked hs held is sorted = record {
   ascending = IsStrictlyIncreasing-dedup (map address_of hs) (addresses_sorted hs sorted);
-  each = λ a. (λ has.
-      let w = any_witness holding_total holding_exact (λ h. eqb (address_of h) a) hs (has_holding hs a (Contains-from_dedup eqb (map address_of hs) a has)) in
-      (w.0, sees w.0 ∙ w.1, eqb-true (address_of w.0) a w.2), λ locked.
-      Contains-dedup_nat (map address_of hs) a (subst (Contains (map address_of hs)) locked.2 (has_address hs locked.0 (sym (sees locked.0) ∙ locked.1))));
+  each = λ a. (
+    λ has.
+        let w = any_witness holding_total holding_exact (λ h. eqb (address_of h) a) hs (has_holding hs a (Contains-from_dedup eqb (map address_of hs) a has)) in
+        (w.0, sees w.0 ∙ w.1, eqb-true (address_of w.0) a w.2),
+    λ locked.
+        Contains-dedup_nat (map address_of hs) a (subst (Contains (map address_of hs)) locked.2 (has_address hs locked.0 (sym (sees locked.0) ∙ locked.1))),
+  );
 }
   where
     sees : (h : Holding) → set.contains held h ≡ list_any (eq_by_cmp holding_cmp h) hs
