@@ -1,1 +1,1 @@
-mod Mapped
+pub mod Mapped
