@@ -1,5 +1,5 @@
 -- One handle more holds what it holds then.
-use Rattle.std.proofs.Common.{◌≡◌, ◌+◌, ◌++◌, List, ℕ, length, map, take, drop, get_or, set, Option, None, refl, sym, ap, ◌∙◌, add-one}
+use Rattle.std.proofs.Common.{◌≡◌, ◌++◌, map, take, drop, get_or, set, None, refl, sym, ap, ◌∙◌, add-one}
 use Rattle.undo_translation.proofs.Mapped.{put_mapped}
 use Rattle.txn_table.specs.Translation.{translated_handle}
 use Rattle.txn_table.proofs.roots.translate_handles.Goals as goal

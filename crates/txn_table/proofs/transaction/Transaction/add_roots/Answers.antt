@@ -1,5 +1,5 @@
 -- The three lists are what the transaction names.
-use Rattle.std.proofs.Common.{◌≡◌, ◌++◌, List, ℕ, reverse, refl, ap, ◌∙◌, subst}
+use Rattle.std.proofs.Common.{◌≡◌, ◌++◌, reverse, refl, ap, ◌∙◌, subst}
 use Rattle.std.specs.List.{flat_map}
 use Rattle.volatile_area.specs.Area.{starts_of}
 use Rattle.txn_table.specs.Roots.{AddsNamed, referred_from, named_by}

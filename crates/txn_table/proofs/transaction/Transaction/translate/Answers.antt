@@ -1,5 +1,5 @@
 -- Each part has gone along.
-use Rattle.std.proofs.Common.{◌≡◌, List, length, map, reverse, ap, ◌∙◌, subst, arith}
+use Rattle.std.proofs.Common.{length, map, reverse, ap, ◌∙◌, subst, arith}
 use Rattle.std.proofs.lemmas.List.{take_at}
 use Rattle.log_machine.specs.Translation.{translated_entry, translated_list}
 use Rattle.volatile_area.specs.Area.{AreaState, IsTranslated}

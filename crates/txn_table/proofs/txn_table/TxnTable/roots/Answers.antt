@@ -1,6 +1,5 @@
 -- The locked ones, and then those that each slot's transaction names.
-use Rattle.std.proofs.Common.{◌≡◌, ◌+◌, ◌<◌, ◌≤◌, eqb, List, Option, ℕ, length, None, Some, sym, ap, ◌∙◌, subst, arith}
-use Rattle.std.specs.List.{dedup}
+use Rattle.std.proofs.Common.{◌≡◌, ◌+◌, ◌≤◌, eqb, List, Option, ℕ, length, None, sym, ap, ◌∙◌, subst, arith}
 use Rattle.std.proofs.lemmas.List.{get_or_read}
 use Rattle.std.proofs.lemmas.List.Filters.{dedup_is}
 use Rattle.txn_table.specs.Roots.{AreRoots}
