@@ -7,4 +7,5 @@ pub mod Replay
 pub mod Seen
 pub mod Sound
 pub mod StateCode
+pub mod Translation
 pub mod UndoEntry

@@ -1,3 +1,4 @@
+mod Addresses
 pub mod HolderLaws
 pub mod HoldingOrder
 pub mod Moved

@@ -1,5 +1,6 @@
 -- What is held, as a set: who uses which object, and how.
-use Rattle.std.specs.Prelude.{◌≡◌, ℕ, ◌≤◌, ◌==◌, true, false, not, List, [], ◌∷◌, map, if◌then◌else◌}
+use Rattle.std.specs.Prelude.{◌≡◌, ℕ, ◌≤◌, ◌==◌, ◌↔◌, true, false, not, List, [], ◌∷◌, map, Contains, if◌then◌else◌}
+use Rattle.std.specs.List.Sorted.{IsStrictlyIncreasing}
 use Rattle.std.specs.Ordering.{nat_cmp, ordering_then}
 use Rattle.std.specs.declared.cmp.Ordering.{Ordering}
 use Rattle.std.specs.FinSet as set
@@ -43,6 +44,15 @@ MayHold held asked = (h : Holding) → set.contains held h ≡ true → conflict
 pub record IsLeastInConflict (held : Holdings) (asked : Holding) (t : ℕ) : Type 0 where
   pub conflicts : IsInConflict held asked t
   pub least : (other : ℕ) → IsInConflict held asked other → t ≤ other
+
+-- a transaction locks the object at an address
+abbrev pub IsLocked : Holdings → ℕ → Type 0
+IsLocked held address = (h : Holding) × (set.contains held h ≡ true) × (h.key.address ≡ address)
+
+-- These are the addresses of the objects that are locked, ascending, each once.
+pub record AreLocked (held : Holdings) (addresses : List ℕ) : Type 0 where
+  pub ascending : IsStrictlyIncreasing addresses
+  pub each : (address : ℕ) → Contains addresses address ↔ IsLocked held address
 
 -- what is held without transaction t
 abbrev pub without : Holdings → ℕ → Holdings

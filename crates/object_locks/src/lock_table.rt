@@ -6,7 +6,7 @@ ghost use Rattle.std.specs.Prelude.{◌≡◌, OnOk, OnErr, IfOk, IfErr, MatchOp
 ghost use Rattle.std.specs.BTreeMap as tree;
 ghost use Rattle.std.specs.BTreeSet.{IsOrdered};
 ghost use Rattle.std.specs.FinSet as set;
-ghost use Rattle.object_locks.specs.Holdings.{holding_cmp, reading, writing, MayHold, IsLeastInConflict, without, moved, rekeyed};
+ghost use Rattle.object_locks.specs.Holdings.{holding_cmp, reading, writing, MayHold, IsLeastInConflict, without, moved, rekeyed, AreLocked};
 ghost use Rattle.object_locks.specs.Table.{owned, on_object, IsOf, HasNone, key_cmp, AddsMove};
 ghost use Rattle.object_locks.specs.Conflict.{conflicts};
 ghost use Rattle.object_locks.specs.Refused.{IsCause};
@@ -170,9 +170,22 @@ impl LockTable {
         self.by_transaction.remove(&by_transaction(held));
     }
 
+    /// The word addresses of the objects that are locked, ascending, each once. It takes the time to walk the table.
+    pub fn addresses(&self) -> Result<Vec<u32>, AllocError>
+        ensures { IfOk result (λ addresses. AreLocked self.now addresses.items) }
+    {
+        let mut addresses = Vec::new(self.alloc);
+        for holding in &self.by_object {
+            addresses.push(holding.key.address)?;
+        }
+        // The holdings of one object stand together.
+        addresses.dedup();
+        Ok(addresses)
+    }
+
     /// The objects have moved, each from the first key of a pair to the second, and what is held of them goes with them. An object that
     /// no pair names has stayed; of several pairs from one key the first counts. It fails only where memory is lacking, and then nothing
-    /// changes.
+    /// changes: so where more than the locks goes by the move, the locks go first, and what can't fail follows.
     pub fn rekey(&mut self, moves: &[(Key, Key)]) -> Result<(), AllocError>
         ensures ok { OnOk result (self.new ≡ rekeyed moves.now self.old) }
         ensures err { OnErr result (self.new ≡ self.old) }

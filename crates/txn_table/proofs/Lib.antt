@@ -1,2 +1,4 @@
+mod GoneAlong
+pub mod RootsLaws
 mod SlotLaws
 pub mod TableLaws

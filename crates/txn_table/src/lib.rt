@@ -2,6 +2,7 @@
 #![tactic(auto)]
 
 mod place;
+mod roots;
 mod transaction;
 mod txn_table;
 

@@ -2,12 +2,17 @@
 ghost use Rattle.std.specs.Prelude.{◌≡◌, ◌<◌, ◌≤◌, ◌+◌, ◌↔◌, ◌∷◌, drop, reverse, length, slice_get, slice_set, Some, Err, IfOk, OnOk, OnErr};
 ghost use Rattle.heap_words.specs.Word.{IsFieldWord};
 ghost use Rattle.volatile_area.specs.Area.{with_object, with_field, HasField};
+ghost use Rattle.relocation.specs.Relocation.{IsRelocation};
+ghost use Rattle.txn_table.specs.Roots.{AddsNamed};
 ghost use Rattle.txn_table.specs.Table.{new_transaction};
+ghost use Rattle.txn_table.specs.Translation.{HasGoneAlong};
 
 use crate::place::Place;
+use crate::roots::{add_fields, add_held, add_written, translate_handles};
 use log_machine::UndoEntry;
 use std::alloc::{AllocError, Global};
 use std::marker::Model;
+use undo_translation::translate;
 use volatile_area::{Area, AreaError};
 
 /// How many handles a transaction has.
@@ -110,5 +115,24 @@ impl Transaction {
         ensures { self.new ≡ record self.old { area = with_field self.old.area object field word } }
     {
         self.area.set(object, field, word);
+    }
+
+    /// Adds the addresses of the stable objects that the transaction names.
+    pub(crate) fn add_roots(&self, roots: &mut Vec<u32>) -> Result<(), AllocError>
+        ensures { OnOk result (AddsNamed self.now roots.old.items roots.new.items) }
+    {
+        add_held(roots, &self.handles)?;
+        add_fields(roots, &self.area)?;
+        add_written(roots, &self.undo)
+    }
+
+    /// Objects have moved, as the pairs say: what the transaction keeps goes along.
+    pub(crate) fn translate(&mut self, pairs: &[(u32, u32)])
+        requires { IsRelocation pairs.now }
+        ensures { HasGoneAlong pairs.now self.old self.new }
+    {
+        translate_handles(&mut self.handles, pairs);
+        translate(&mut self.undo, pairs);
+        self.area.translate(pairs);
     }
 }

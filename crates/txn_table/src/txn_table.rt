@@ -3,11 +3,15 @@ ghost use Rattle.std.specs.Prelude.{◌≡◌, ◌<◌, ◌≤◌, ◌+◌, ◌�
 ghost use Rattle.std.specs.Option.{option_copied};
 ghost use Rattle.heap_words.specs.Word.{IsFieldWord};
 ghost use Rattle.volatile_area.specs.Area.{with_object, with_field, HasField};
+ghost use Rattle.relocation.specs.Relocation.{IsRelocation};
+ghost use Rattle.txn_table.specs.Roots.{AreRoots};
+ghost use Rattle.txn_table.specs.Translation.{HaveGoneAlong, HasGoneAlongAt};
 ghost use Rattle.txn_table.specs.Table.{new_table, transaction_of, with_begun, with_ended, Changes};
 
 use crate::place::Place;
 use crate::transaction::Transaction;
 use log_machine::UndoEntry;
+use object_locks::LockTable;
 use std::alloc::{AllocError, Global};
 use std::marker::Model;
 use volatile_area::{Area, AreaError};
@@ -225,5 +229,42 @@ impl TxnTable {
     {
         let place = self.place(s);
         self.slots[place] = None;
+    }
+
+    /// The word addresses of the stable objects that are locked or that a transaction names, ascending, each once: what a collector keeps
+    /// beside the root object.
+    pub fn roots(&self, locks: &LockTable) -> Result<Vec<u32>, AllocError>
+        ensures { IfOk result (λ roots. AreRoots self.now locks.now roots.items) }
+    {
+        let mut roots = locks.addresses()?;
+        for slot in &self.slots {
+            if let Some(t) = slot {
+                t.add_roots(&mut roots)?;
+            }
+        }
+        roots.sort_unstable();
+        roots.dedup();
+        Ok(roots)
+    }
+
+    /// Objects have moved, as the pairs say: what the transactions keep goes along, and nothing else changes. It takes no memory.
+    pub fn translate(&mut self, pairs: &[(u32, u32)])
+        requires { IsRelocation pairs.now }
+        ensures { HaveGoneAlong pairs.now self.old self.new }
+    {
+        for place in 0..self.slots.len() {
+            self.translate_slot(place, pairs);
+        }
+    }
+
+    // The same of one session.
+    fn translate_slot(&mut self, place: usize, pairs: &[(u32, u32)])
+        requires within { place < 32 }
+        requires moves { IsRelocation pairs.now }
+        ensures { HasGoneAlongAt pairs.now (place + 1) self.old self.new }
+    {
+        if let Some(t) = &mut self.slots[place] {
+            t.translate(pairs);
+        }
     }
 }

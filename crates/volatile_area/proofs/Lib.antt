@@ -1,3 +1,4 @@
 pub mod AreaLaws
 mod Kept
 pub mod ObjectLaws
+pub mod TranslatedLaws

@@ -1,8 +1,9 @@
 -- The objects that a transaction makes, in words of its own.
-use Rattle.std.specs.Prelude.{◌≡◌, ℕ, zero, suc, ◌+◌, ◌≤◌, ◌<◌, List, [], ◌∷◌, ◌++◌, length, replicate, slice_get, slice_set, Some, Contains}
+use Rattle.std.specs.Prelude.{◌≡◌, ◌≢◌, ℕ, map, zero, suc, ◌+◌, ◌≤◌, ◌<◌, List, [], ◌∷◌, ◌++◌, length, replicate, slice_get, slice_set, Some, Contains}
 use Rattle.heap_words.specs.declared.Header.TheVariants.{Length}
 use Rattle.heap_words.specs.Header.{header_bits, birth_bits}
 use Rattle.heap_words.specs.Word.{IsFieldWord}
+use Rattle.relocation.specs.Relocation.{translated_word}
 use Rattle.object_layout.specs.Layout.{field_words, birth_at}
 use Rattle.object_layout.specs.Walk.{AreEndToEnd}
 
@@ -52,6 +53,26 @@ pub record IsArea (area : AreaState) : Type 0 where
   pub objects : AreEndToEnd area.words 0 (starts_of area) (length area.words)
   pub births : (i at : ℕ) → slice_get (starts_of area) i ≡ Some at → birth_at area.words at ≡ birth_bits area.transaction (i + 1)
   pub fields : (at i w : ℕ) → Contains (starts_of area) at → slice_get (field_words area.words at) i ≡ Some w → IsFieldWord w
+
+-- The same objects with the same births: words of their fields alone may differ.
+pub record HasSameObjects (old new : AreaState) : Type 0 where
+  pub transaction : new.transaction ≡ old.transaction
+  pub made : new.made ≡ old.made
+  pub used : length new.words ≡ length old.words
+  pub starts : starts_of new ≡ starts_of old
+  pub births : (object : ℕ) → Contains (starts_of old) object → birth_at new.words object ≡ birth_at old.words object
+
+-- The area when objects of the heap have moved: in each field of each of its objects a reference to one that moved leads to where it went, and
+-- every other word is as it was.
+pub record IsTranslated (pairs : List (ℕ × ℕ)) (old new : AreaState) : Type 0 where
+  pub objects : HasSameObjects old new
+  pub fields : (object : ℕ) → Contains (starts_of old) object → field_words new.words object ≡ map (translated_word pairs) (field_words old.words object)
+
+-- The same of the fields of one object alone.
+pub record IsTranslatedIn (pairs : List (ℕ × ℕ)) (object : ℕ) (old new : AreaState) : Type 0 where
+  pub objects : HasSameObjects old new
+  pub fields : field_words new.words object ≡ map (translated_word pairs) (field_words old.words object)
+  pub others : (other : ℕ) → Contains (starts_of old) other → other ≢ object → field_words new.words other ≡ field_words old.words other
 
 -- What is kept in memory.
 

@@ -4,10 +4,12 @@ ghost use Rattle.heap_words.specs.declared.Header.TheVariants.{Length};
 ghost use Rattle.heap_words.specs.Header.{header_bits};
 ghost use Rattle.heap_words.specs.Word.{IsFieldWord};
 ghost use Rattle.object_layout.specs.Layout.{object_at, field_words};
-ghost use Rattle.volatile_area.specs.Area.{new_area, length_at, starts_of, with_object, with_field, HasField, IsArea};
+ghost use Rattle.volatile_area.specs.Area.{new_area, length_at, starts_of, with_object, with_field, HasField, IsArea, IsTranslated, IsTranslatedIn};
+ghost use Rattle.relocation.specs.Relocation.{IsRelocation};
 
 use crate::area_error::AreaError;
 use heap_words::{VOLATILE_WORDS, birth};
+use relocation::translated_word;
 use std::alloc::{AllocError, Global};
 use std::marker::Model;
 
@@ -78,6 +80,13 @@ impl Area {
         &self.words
     }
 
+    /// The index of each object, in the order of making.
+    pub fn starts(&self) -> &[u32]
+        ensures { result.now ≡ starts_of self.now }
+    {
+        &self.starts
+    }
+
     /// Makes an object of so many fields, at most 510, each null, and tells its index. An error changes nothing.
     pub fn new_object(&mut self, fields: u32) -> Result<u32, AreaError>
         requires { fields ≤ 510 }
@@ -143,6 +152,32 @@ impl Area {
         ensures { self.new ≡ with_field self.old object field word }
     {
         self.words[(object + FIELDS_AT + field) as usize] = word;
+    }
+
+    /// Objects of the heap have moved, as the pairs say: in each field of each object a reference to one of them leads to where it went. It
+    /// takes no memory.
+    pub fn translate(&mut self, pairs: &[(u32, u32)])
+        requires { IsRelocation pairs.now }
+        ensures { IsTranslated pairs.now self.old self.new }
+    {
+        for place in 0..self.starts.len() {
+            let object = self.starts[place];
+            self.translate_object(object, pairs);
+        }
+    }
+
+    // The same in the fields of one object.
+    fn translate_object(&mut self, object: u32, pairs: &[(u32, u32)])
+        requires sound { IsArea self.old }
+        requires starts { Contains (starts_of self.old) object }
+        requires moves { IsRelocation pairs.now }
+        ensures sound { IsArea self.new }
+        ensures translated { IsTranslatedIn pairs.now object self.old self.new }
+    {
+        for field in 0..self.length(object) {
+            let word = self.get(object, field);
+            self.set(object, field, translated_word(pairs, word));
+        }
     }
 }
 
