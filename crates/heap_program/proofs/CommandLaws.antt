@@ -42,6 +42,7 @@ graph_unread g disk asking.NoMemory words is usage by by_is now only s batches s
       calls = record { times = 0; most = omega arith; all = λ done. cc; told = refl };
       restarts = refl;
       holds = λ done. cc;
+      settled = λ other. only;
       written = λ t. record { front = none_written before (graph_text graph); whole = λ done. cc };
       end = rw by_is tt;
     }

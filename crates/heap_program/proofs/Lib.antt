@@ -3,6 +3,7 @@ mod CommandLaws
 pub mod CoreSteps
 mod Counts
 mod Lines
+pub mod NextRun
 mod PlayAborts
 mod PlayCore
 mod PlayEnding

@@ -1,5 +1,5 @@
 -- What the commands that play no script promise, and what each command asks of the disk.
-use Rattle.std.specs.Prelude.{◌≡◌, ◌⊎◌, ℕ, ◌≤◌, List, [], ◌∷◌, ◌++◌, codes, Bool, IsTrue, Option, None, Some}
+use Rattle.std.specs.Prelude.{◌≡◌, ◌≢◌, ◌⊎◌, ℕ, ◌≤◌, List, [], ◌∷◌, ◌++◌, codes, Bool, IsTrue, Option, None, Some}
 use Rattle.std.specs.Fmt.{decimal}
 use Rattle.counts.specs.Count.{counted}
 use Rattle.disk_model.specs.declared.disk.Disk.{Ghosts}
@@ -93,5 +93,7 @@ module _ {D : Type 0} (g : Ghosts D) where
     pub restarts : g.restarts new ≡ g.restarts old
     -- a run that is done leaves the log rolled back, and nothing unsynced
     pub holds : result ≡ status.Done → Holds s (rolled_back s batches) stored (g.bytes new) × Only (g.bytes new) (g.may_leave new)
+    -- one that ends otherwise, but not by the disk, leaves nothing unsynced either
+    pub settled : result ≢ status.DiskFault → Only (g.bytes new) (g.may_leave new)
     pub written : IsTrue told → WritesText result (graph_text graph) before after
     pub end : IsEndOfPlay result

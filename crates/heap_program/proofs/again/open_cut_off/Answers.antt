@@ -4,6 +4,7 @@ use Rattle.disk_model.specs.Disk.{Only}
 use Rattle.disk_model.specs.Moments.{LeavesOnly}
 use Rattle.disk_model.specs.Fuse.{fuse_inner, fuse_passed}
 use Rattle.heap_core.specs.Causes.{ErrorPasses}
+use Rattle.heap_core.specs.Refusals.{ComesBeforeWrites}
 use Rattle.heap_core.specs.declared.errors.OpenError.TheVariants as opening
 use Rattle.heap_program.specs.declared.status.Status.TheVariants.{NoMemory}
 use Rattle.heap_model.specs.CoreCrash.{StandsForFirst}
@@ -90,11 +91,13 @@ returns-then-eq-clause-cut g c tells core k at_first at_only =
     let keeps = keeps_first d core k start (fuse_inner fuse) first (fuse_since c.new.result fuse _ (e.moments tells only stands.super stands.batches stands.stored (shaped_image legal))) (λ left may. e.crash tells only stands.super stands.batches stands.stored (shaped_image legal) left may) (e.disk.restarts tells) in
     let passes = subst (λ error. ErrorPasses n (fuse_passed c.new.result) (fuse_passed fuse) error) is (e.passes tells stands.super stands.batches stands.stored (shaped_image legal)) in
     let same = fuse_none fuse start tells began (passes ∙ c.new.ensures.passed) in
+    let reads = (e.left_alone (subst ComesBeforeWrites (sym is) tt)).contents tells in
     let fails : FailsToOpen d core k NoMemory start (fuse_inner fuse) = record {
       reason = inl refl;
       keeps = keeps;
       most = (0, omega arith, same);
       none = λ refused. same;
+      only = λ refused image may. only image (reads.crash image may) ∙ sym reads.bytes;
     } in
     rw (c.into_inner-disk.ensures, sym inner) fails
 

@@ -21,6 +21,7 @@ use Rattle.heap_program.proofs.PlayPrints.{wrote_again}
 use Rattle.heap_program.proofs.Statuses.{open_not_done, written_end}
 use Rattle.heap_program.proofs.PrintRecovered.{Left, legal_of, keeps_first, few_commits, since_before, recovers_nothing, recovers_first}
 use Rattle.heap_program.proofs.RefusalLaws.{told_each, end_told_each, refused_by, not_opened, fault_moments}
+use Rattle.heap_program.proofs.Reopened.{reads_only, refused_memory}
 use Rattle.heap_program.proofs.again.print_recovered.Goals as goal
 
 -- an opening leaves the same commits at each moment
@@ -41,6 +42,7 @@ returns-in-Err-clause-recovers g c = λ tells core k first only none.
     let keeps = keeps_first d core k c.args.disk c.in-Err.disk first (c.in-Err.ensures.moments tells only s batches stored (shaped_image legal)) (c.in-Err.ensures.crash tells only s batches stored (shaped_image legal)) (c.in-Err.ensures.disk.restarts tells) in
     recovers_nothing d core k c.args.disk c.in-Err.disk keeps (Reopens d core k c.args.disk c.in-Err.disk) c.in-Err.e c.from.result _ _ (c.in-Err.ensures.shaped tells s batches stored (shaped_image legal)) c.from.ensures
     c.in-Err.ensures.disk.cause (c.in-Err.ensures.passes tells s batches stored (shaped_image legal))
+    (λ refused. reads_only d c.args.disk c.in-Err.disk ((c.in-Err.ensures.left_alone (refused_memory c.in-Err.e refused)).contents tells) only)
 
 pub returns-clause-moments : goal.returns-clause-moments
 returns-clause-moments g c tells core k first only =

@@ -11,6 +11,7 @@ use Rattle.heap_program.proofs.PrintRecovered.{fails_most}
 use Rattle.heap_program.proofs.RefusalLaws.{told_status, told_each, end_told, end_told_each, refused_by, not_opened, only_read, alone_read, fault_moments}
 use Rattle.heap_program.proofs.Statuses.{open_end, open_not_done, written_end, wrote_all}
 use Rattle.heap_program.proofs.Written.{none_written, wrote_some}
+use Rattle.heap_program.proofs.Reopened.{reads_only, refused_memory, outside_memory}
 use Rattle.heap_program.proofs.RunLaws.{end_sound}
 use Rattle.heap_program.proofs.printing.run_graph.Goals as goal
 
@@ -32,6 +33,7 @@ returns-in-Ok-clause-graph g c tells only s batches stored shaped born places gr
       calls = record { times = opening_calls s batches; most = omega arith; all = λ done. refl; told = passed };
       restarts = e.disk.restarts tells;
       holds = λ done. (e.rolled tells s batches stored shaped, e.durable tells only);
+      settled = λ other. e.durable tells only;
       written = λ t. record {
         front = wrote_some c.write_graph.result before (graph_text graph) after (c.write_graph.ensures.wrote t core is reached);
         whole = λ done. wrote_all c.write_graph.result before (graph_text graph) after done (c.write_graph.ensures.wrote t core is reached);
@@ -51,6 +53,7 @@ returns-in-Err-clause-graph g c tells only s batches stored shaped born places g
       calls = record { times = most.0; most = most.1; all = λ done. absurd (open_not_done c.in-Err.e done); told = most.2 };
       restarts = e.disk.restarts tells;
       holds = λ done. absurd (open_not_done c.in-Err.e done);
+      settled = λ other. reads_only d c.args.disk c.in-Err.disk ((e.left_alone (refused_memory c.in-Err.e (outside_memory c.in-Err.e (e.shaped tells s batches stored shaped) other))).contents tells) only;
       written = λ t. record { front = none_written (k.written c.args.sink.now) (graph_text graph); whole = λ done. absurd (open_not_done c.in-Err.e done) };
       end = open_end c.in-Err.e (e.shaped tells s batches stored shaped);
     })
