@@ -23,4 +23,5 @@ mod Reopened
 mod RunLaws
 mod Statuses
 pub mod StepsLaws
+mod WordFaults
 mod Written

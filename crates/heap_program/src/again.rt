@@ -8,7 +8,8 @@ ghost use Rattle.heap_model.specs.Core.{Core};
 ghost use Rattle.heap_model.specs.CoreCrash.{StandsForFirst, IsCommitPrefix};
 ghost use Rattle.heap_program.specs.Causes.{StreamCause, RunsDisk, IsOpenedEnd, either_disk};
 ghost use Rattle.heap_program.specs.Headline.{Restarts, Reopens, FailsToOpen, IsCutOff, StartsAgain, EndsUnopened, RestartsDisk, starts_asked};
-ghost use Rattle.heap_program.specs.Refusals.{IsFault, IsToldOfEach, EndsRefused};
+ghost use Rattle.heap_program.specs.Refusals.{IsFault, IsWordFault, IsToldOfEach, EndsRefused};
+ghost use Rattle.heap_recovery.specs.Faults.{IsLeftOf};
 ghost use Rattle.heap_program.specs.Output.{IsBefore, Recovers, WroteAgain};
 
 use crate::output::write_recovered;
@@ -41,6 +42,7 @@ pub fn start_again<D: Disk, K: Sink>(
     // An image that can't be opened gives its own status, and nothing is written then.
     ensures refuses { IsTrue D.tells → (expected : Status) → ((image : List ℕ) → D.may_leave (fuse_inner fuse) image → IsFault expected image) → EndsRefused expected result.0 × (sink.new ≡ sink.old) }
     ensures keeps_fault { IsTrue D.tells → (expected : Status) → ((image : List ℕ) → D.may_leave (fuse_inner fuse) image → IsFault expected image) → LeavesOnly D.moment D.left_since (fuse_inner fuse) result.1 (IsFault expected) }
+    ensures keeps_log { IsTrue D.tells → (old : List ℕ) → IsWordFault old → ((image : List ℕ) → D.may_leave (fuse_inner fuse) image → IsLeftOf old image) → LeavesOnly D.moment D.left_since (fuse_inner fuse) result.1 (IsLeftOf old) }
 {
     let disk = restart(fuse.into_inner());
     match again {
@@ -71,6 +73,7 @@ fn open_cut_off<D: Disk>(alloc: Global, disk: D, calls: u64) -> Result<D, D>
     // An image that can't be opened leaves one with the same fault.
     ensures refuses { IsTrue D.tells → Only (D.bytes disk) (D.may_leave disk) → (expected : Status) → IsFault expected (D.bytes disk) → (image : List ℕ) → D.may_leave (either_disk result) image → IsFault expected image }
     ensures keeps_fault { IsTrue D.tells → Only (D.bytes disk) (D.may_leave disk) → (expected : Status) → IsFault expected (D.bytes disk) → LeavesOnly D.moment D.left_since disk (either_disk result) (IsFault expected) }
+    ensures keeps_log { IsTrue D.tells → Only (D.bytes disk) (D.may_leave disk) → IsWordFault (D.bytes disk) → LeavesOnly D.moment D.left_since disk (either_disk result) (IsLeftOf (D.bytes disk)) }
 {
     match Heap::open(alloc, FuseDisk::new(disk, calls)) {
         Ok(heap) => Ok(heap.close().into_inner()),
@@ -102,6 +105,7 @@ fn print_recovered<D: Disk, K: Sink>(
     ensures refused_at_end { IsTrue D.tells → Only (D.bytes disk) (D.may_leave disk) → IsToldOfEach result.0 (D.may_leave result.1) }
     ensures refuses { IsTrue D.tells → (expected : Status) → IsFault expected (D.bytes disk) → EndsRefused expected result.0 × (sink.new ≡ sink.old) }
     ensures keeps_fault { IsTrue D.tells → Only (D.bytes disk) (D.may_leave disk) → (expected : Status) → IsFault expected (D.bytes disk) → LeavesOnly D.moment D.left_since disk result.1 (IsFault expected) }
+    ensures keeps_log { IsTrue D.tells → Only (D.bytes disk) (D.may_leave disk) → IsWordFault (D.bytes disk) → LeavesOnly D.moment D.left_since disk result.1 (IsLeftOf (D.bytes disk)) }
 {
     let heap = match Heap::open(alloc, disk) {
         Ok(heap) => heap,

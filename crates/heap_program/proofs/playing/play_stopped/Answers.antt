@@ -28,9 +28,10 @@ use Rattle.heap_program.proofs.PlayFuse.{same_disk, same_limit, rose_some, fuse_
 use Rattle.heap_program.proofs.PlayOpen.{opening_then, few_calls, stored_running, stored_keeps, stored_moments, ends_unopened, ends_stopped, unstarted, opened_core}
 use Rattle.heap_program.proofs.PrintRecovered.{whole_count, fails_few, fails_none, no_rollback, stops_before}
 use Rattle.heap_program.proofs.Statuses.{early_none, early_some, halt_end, halt_not_done, open_not_done, open_fault}
-use Rattle.heap_recovery.specs.Faults.{IsNoHeap, IsFaultAt}
-use Rattle.heap_program.specs.Refusals.{IsFault, LeavesAlone}
-use Rattle.heap_program.proofs.RefusalLaws.{told_status, told_each, end_told, end_told_each, only_read, refused_by, not_opened, fault_moments, at_end}
+use Rattle.heap_recovery.specs.declared.at.At.TheVariants.{Address}
+use Rattle.heap_recovery.specs.Faults.{IsNoHeap, IsFaultAt, IsLogLeft, IsLeftOf}
+use Rattle.heap_program.specs.Refusals.{IsFault, IsWordFault, LeavesAlone}
+use Rattle.heap_program.proofs.RefusalLaws.{told_status, told_each, end_told, end_told_each, only_read, refused_by, not_opened, fault_moments, left_moments, at_end}
 use Rattle.heap_program.proofs.Reopened.{refused_memory}
 use Rattle.heap_program.proofs.RunLaws.{restarts_none}
 use Rattle.heap_program.proofs.PlayPrints.{prints_unplayed, prints_again, prints_early}
@@ -479,3 +480,43 @@ pub returns-in-Some-clause-refused_at_end : goal.returns-in-Some-clause-refused_
 returns-in-Some-clause-refused_at_end g c tells only =
     let halted = early_some c.play_lines-played.result c.in-Some.status (sym c.early_end.ensures ∙ c.in-Some.is) in
     rw halted.3 (end_told_each _ _ (halt_end halted.0))
+
+-- of an image that is damaged at an address a crash leaves the log, rolled back or not, and all else
+pub returns-in-Err-clause-keeps_log : goal.returns-in-Err-clause-keeps_log
+returns-in-Err-clause-keeps_log g c tells only fault =
+    let d = g.D.Disk in
+    let inner = c.new.ensures.inner in
+    let first = fuse_inner c.new.result in
+    let cut = fuse_inner c.in-Err.fuse in
+    let at = subst (λ x. IsWordFault (d.bytes x)) (sym inner) fault in
+    let only_f = subst (λ x. Only (d.bytes x) (d.may_leave x)) (sym inner) only in
+    let moments = left_moments d (d.bytes first) first cut at
+    (λ s batches state readable. fuse_since c.new.result c.in-Err.fuse (IsLogLeft s batches (d.bytes first)) (c.in-Err.ensures.moments_readable tells only_f s batches state readable)) in
+    rw c.into_inner.ensures (subst (λ x. LeavesOnly d.moment d.left_since x cut (IsLeftOf (d.bytes x))) inner moments)
+
+pub returns-then-eq-clause-keeps_log : goal.returns-then-eq-clause-keeps_log
+returns-then-eq-clause-keeps_log g c tells only fault =
+    let d = g.D.Disk in
+    let inner = c.new.ensures.inner in
+    let first = fuse_inner c.new.result in
+    let stopped = fuse_inner c.in-Err.fuse in
+    let at = subst (λ x. IsWordFault (d.bytes x)) (sym inner) fault in
+    let only_f = subst (λ x. Only (d.bytes x) (d.may_leave x)) (sym inner) only in
+    let moments = left_moments d (d.bytes first) first stopped at
+    (λ s batches state readable. fuse_since c.new.result c.in-Err.fuse (IsLogLeft s batches (d.bytes first)) (c.in-Err.ensures.moments_readable tells only_f s batches state readable)) in
+    let mine = subst (λ x. LeavesOnly d.moment d.left_since x stopped (IsLeftOf (d.bytes x))) inner moments in
+    let P = IsLeftOf (d.bytes c.args.disk) in
+    let left = at_end d c.args.disk stopped P mine (λ t image le may. g.met.D.Disk.counts_now tells stopped t image le may) in
+    opening_then d.moment d.left_since c.args.disk stopped c.start_again.result.1 P P mine (c.start_again.ensures.keeps_log tells (d.bytes c.args.disk) fault left) (λ image same. same)
+
+pub returns-in-None-clause-keeps_log : goal.returns-in-None-clause-keeps_log
+returns-in-None-clause-keeps_log g c tells only fault =
+    let d = g.D.Disk in
+    let at = subst (λ x. IsWordFault (d.bytes x)) (sym c.new.ensures.inner) fault in
+    absurd (c.in-Ok.ensures.damaged tells (Address at.0) at.1)
+
+pub returns-in-Some-clause-keeps_log : goal.returns-in-Some-clause-keeps_log
+returns-in-Some-clause-keeps_log g c tells only fault =
+    let d = g.D.Disk in
+    let at = subst (λ x. IsWordFault (d.bytes x)) (sym c.new.ensures.inner) fault in
+    absurd (c.in-Ok.ensures.damaged tells (Address at.0) at.1)

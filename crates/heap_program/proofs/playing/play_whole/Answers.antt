@@ -15,7 +15,8 @@ use Rattle.heap_program.proofs.Counts.{counted_mono}
 use Rattle.heap_program.proofs.PlayEnds.{run_reached, unfailed_only, lines_wrote, halt_part, halt_lines, keeps_own, ends_early, ends_whole, exact_none, exact_passes, passes_most}
 use Rattle.heap_program.proofs.PlayOpen.{stored_running, stored_keeps, stored_moments, ends_unopened, opened_core, played_unfailed}
 use Rattle.heap_program.proofs.PrintRecovered.{fails_most, fails_none}
-use Rattle.heap_program.proofs.RefusalLaws.{told_status, told_each, end_told, end_told_each, refused_by, not_opened, only_read, alone_read, fault_moments}
+use Rattle.heap_recovery.specs.declared.at.At.TheVariants.{Address}
+use Rattle.heap_program.proofs.RefusalLaws.{told_status, told_each, end_told, end_told_each, refused_by, not_opened, only_read, alone_read, fault_moments, left_moments}
 use Rattle.heap_program.proofs.Statuses.{written_end, halt_end, halt_not_done, open_not_done, open_harm}
 use Rattle.heap_program.proofs.PlayPrints.{reached, prints_early, prints_whole}
 use Rattle.heap_program.proofs.Reopened.{reads_only, refused_memory}
@@ -192,3 +193,13 @@ returns-in-Ok-play_all-clause-unwritten g c against = absurd (against (rw c.stat
 
 pub returns-in-Err-play_all-clause-unwritten : goal.returns-in-Err-play_all-clause-unwritten
 returns-in-Err-play_all-clause-unwritten g c against = absurd (against (rw c.from-in-Err-play_all.ensures (end_sound _ (halt_end c.in-Err-play_all.halt))))
+
+-- of an image that is damaged at an address a crash leaves the log, rolled back or not, and all else
+pub returns-in-Err-clause-keeps_log : goal.returns-in-Err-clause-keeps_log
+returns-in-Err-clause-keeps_log g c tells only fault = left_moments g.D.Disk (g.D.Disk.bytes c.args.disk) c.args.disk c.in-Err.disk fault (c.in-Err.ensures.moments_readable tells only)
+
+pub returns-in-Ok-play_all-clause-keeps_log : goal.returns-in-Ok-play_all-clause-keeps_log
+returns-in-Ok-play_all-clause-keeps_log g c tells only fault = absurd (c.in-Ok.ensures.damaged tells (Address fault.0) fault.1)
+
+pub returns-in-Err-play_all-clause-keeps_log : goal.returns-in-Err-play_all-clause-keeps_log
+returns-in-Err-play_all-clause-keeps_log g c tells only fault = absurd (c.in-Ok.ensures.damaged tells (Address fault.0) fault.1)
