@@ -101,7 +101,8 @@ impl<D: Disk> Heap<D> {
     ghost use Rattle.heap_core.specs.Refusals.{IsToldOf, IsErrorOrOutside, ComesBeforeWrites};
     ghost use Rattle.heap_core.specs.declared.errors.OpenError.TheVariants.{NotHeap, Damaged};
     ghost use Rattle.heap_recovery.specs.declared.at.At.{At};
-    ghost use Rattle.heap_recovery.specs.Faults.{IsNoHeap, IsFaultAt};
+    ghost use Rattle.heap_recovery.specs.Faults.{IsNoHeap, IsReadable, IsFaultAt, IsLogLeft};
+    ghost use Rattle.log_machine.specs.Machine.{State};
 
     /// Opens the heap on the disk. An error gives the disk back. `NotHeap` and `Damaged` tell the first fault of its image, and the disk is then as it
     /// was, but for a fault at an address: that is told after the rollback was forced.
@@ -126,6 +127,12 @@ impl<D: Disk> Heap<D> {
         // A crash at any moment leaves an image that is refused as this one is.
         ensures moments_not_heap { IsTrue D.tells → Only (D.bytes disk) (D.may_leave disk) → IsNoHeap (D.bytes disk) → LeavesOnly D.moment D.left_since disk (opened_disk result) IsNoHeap }
         ensures moments_damaged { IsTrue D.tells → Only (D.bytes disk) (D.may_leave disk) → (at : At) → IsFaultAt at (D.bytes disk) → LeavesOnly D.moment D.left_since disk (opened_disk result) (IsFaultAt at) }
+
+        // Of an image whose log can be read, whatever its words, a crash at any moment leaves one with that log or with that log rolled back, and each byte
+        // outside of the log as it was. The opening then makes these calls, and leaves nothing unsynced that it tells of the words.
+        ensures moments_readable { IsTrue D.tells → Only (D.bytes disk) (D.may_leave disk) → (s : Super) (batches : List (List Record)) (state : State) → IsReadable s batches state (D.bytes disk) → LeavesOnly D.moment D.left_since disk (opened_disk result) (IsLogLeft s batches (D.bytes disk)) }
+        ensures passes_readable { IsTrue D.tells → (s : Super) (batches : List (List Record)) (state : State) → IsReadable s batches state (D.bytes disk) → OpenedPasses (opening_calls s batches) (D.passed disk) (D.passed (opened_disk result)) result }
+        ensures durable_damaged { IsTrue D.tells → Only (D.bytes disk) (D.may_leave disk) → IfErr result (λ e. (at : At) → e.0 ≡ Damaged at → Only (D.bytes e.1) (D.may_leave e.1)) }
 
         // Of a shaped image they are the log and the pages that the disk holds; where that is legal the disk then holds the core.
         ensures found { IsTrue D.tells → (s : Super) (batches : List (List Record)) (stored : Pages) → (shaped : IsShaped s batches stored (D.bytes disk)) → IfOk result (λ heap. (born : Bool) (places : Places) (g : Graph) → IsFound s batches stored shaped.log born places g → IsCore (opened s batches stored (open_gates s.log_bytes (D.bytes disk)) born places g) heap) }

@@ -25,10 +25,6 @@ disk_rose f s f' s' result Stopped cause is = rose_sum_stops f s f' s' cause.fau
 pub disk_rose_since : (f s m n f' s' : ℕ) → f ≤ m → s ≤ n → m ≤ f' → n ≤ s' → DiskRose m n f' s' → DiskRose f s f' s'
 disk_rose_since f s m n f' s' fm sn mf ns up = rose_since (f + s) (m + n) (f' + s') (omega arith) (omega arith) up
 
--- what rose between two moments rose between an earlier and a later one
-pub rose_within : (a b c d : ℕ) → a ≤ b → b ≤ c → c ≤ d → Rose b c → Rose a d
-rose_within a b c d ab bc cd up = rose_until a c d cd (rose_since a b c ab bc up)
-
 -- an error's count rose since the first call, if it rose in the last one
 pub cause_on : {A B : Type 0} (faults mid faults' stops mids stops' : ℕ) (result : Result A DiskError) (last : Result B DiskError) → faults ≤ mid → stops ≤ mids → HasCause mid faults' mids stops' last → ((e : DiskError) → result ≡ Err e → last ≡ Err e) → HasCause faults faults' stops stops' result
 cause_on faults mid faults' stops mids stops' result last f s cause same_error = record {

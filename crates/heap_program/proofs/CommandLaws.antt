@@ -1,10 +1,12 @@
 -- What the command says of a run.
-use Rattle.std.proofs.Common.{◌≡◌, ◌≢◌, inl, ℕ, List, Bool, Option, Some, None, refl, sym, subst, arith}
+use Rattle.std.proofs.Common.{◌≡◌, ◌≢◌, inl, ℕ, ◌+◌, List, Bool, Option, Some, None, refl, sym, subst, arith}
 use Rattle.disk_model.specs.declared.disk.Disk.{Ghosts}
-use Rattle.disk_model.specs.Disk.{Only}
+use Rattle.disk_model.specs.Disk.{Only, SameOutside}
 use Rattle.disk_model.proofs.MomentLaws.{begins}
 use Rattle.graph_model.specs.Graph.{Graph}
 use Rattle.image_plan.specs.declared.superblock.Super.{Super}
+use Rattle.image_plan.specs.Plan.{log_offset}
+use Rattle.heap_recovery.proofs.FaultLaws.{same_outside}
 use Rattle.log_records.specs.declared.Record.{Record}
 use Rattle.command_words.specs.declared.commands.Command.{Command}
 use Rattle.command_words.specs.declared.commands.Command.TheVariants as asked
@@ -39,9 +41,12 @@ graph_unread g disk asking.NoMemory words is usage by by_is now only s batches s
     record {
       moments = begins g.moment g.left_since disk (IsLeftByOpening s batches stored) (λ image since. still image (now image since));
       left = still;
+      outside = begins g.moment g.left_since disk (SameOutside log_offset (log_offset + s.log_bytes) (g.bytes disk))
+          (λ image since. subst (SameOutside log_offset (log_offset + s.log_bytes) (g.bytes disk)) (sym (only image (now image since))) (same_outside log_offset (log_offset + s.log_bytes) (g.bytes disk)));
       calls = record { times = 0; most = omega arith; all = λ done. cc; told = refl };
       restarts = refl;
       holds = λ done. cc;
+      settled = λ other. only;
       written = λ t. record { front = none_written before (graph_text graph); whole = λ done. cc };
       end = rw by_is tt;
     }

@@ -3,6 +3,7 @@ mod CommandLaws
 pub mod CoreSteps
 mod Counts
 mod Lines
+pub mod NextRun
 mod PlayAborts
 mod PlayCore
 mod PlayEnding
@@ -22,4 +23,5 @@ mod Reopened
 mod RunLaws
 mod Statuses
 pub mod StepsLaws
+mod WordFaults
 mod Written

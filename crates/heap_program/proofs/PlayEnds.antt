@@ -30,7 +30,7 @@ use Rattle.heap_model.specs.CoreCrash.{IsCommitPrefix}
 use Rattle.heap_model.proofs.Step.Calls.{total_calls-append}
 use Rattle.core_laws.proofs.Crash.Image.{commits-sealed}
 use Rattle.heap_model.proofs.Run.Ending.{total_few}
-use Rattle.heap_program.proofs.CoreSteps.{makes_run}
+use Rattle.heap_program.proofs.CoreSteps.{makes_run, ready_front, running_after}
 use Rattle.core_laws.proofs.Run.Replies.{replies_law}
 use Rattle.core_laws.proofs.Step.Sound.{reached_agrees}
 use Rattle.commit_order.specs.Heard.{replies_of_commits}
@@ -38,7 +38,7 @@ use Rattle.heap_model.specs.CoreRuns.{after_events, total_calls}
 use Rattle.core_laws.specs.Valid.{IsReached}
 use Rattle.log_machine.proofs.StateLaws.{commits-start}
 use Rattle.command_words.specs.declared.commands.Stop.{Stop}
-use Rattle.heap_program.specs.Headline.{lasting, graph_text, end_text, stop_after, let_through, HasMade, StopsLast, IsExact, IsEndOfPlay, IsOfDisk, MakesEvents, KeepsThroughout, IsFollowed, Reopens, StartsAgain, EndsUnopened, Prints, IsPlayed}
+use Rattle.heap_program.specs.Headline.{lasting, graph_text, end_text, stop_after, let_through, HasMade, StopsLast, IsExact, StopsInPlace, IsEndOfPlay, IsOfDisk, MakesEvents, KeepsThroughout, IsFollowed, Reopens, StartsAgain, EndsUnopened, Prints, IsPlayed}
 use Rattle.heap_program.proofs.Playable.{IsPlayable}
 use Rattle.heap_program.specs.Output.{WroteText, Recovers, WroteRecovered, WroteNothing, status_after}
 use Rattle.heap_program.specs.Play.{IsRunning, MadeAll, IsCutBy, MakesAll, MakesShort, Makes, Ends, Plays, Wrote, lines_text, WroteFront, WroteLines}
@@ -48,7 +48,7 @@ use Rattle.heap_program.proofs.Causes.{disk_rose}
 use Rattle.heap_program.proofs.Counts.{counted-sum, counted_mono}
 use Rattle.heap_program.proofs.PlayEvent.{heap_leaves}
 use Rattle.heap_program.proofs.Lines as lines
-use Rattle.heap_program.proofs.PlayFaults.{fault_not_whole, fault_not_stopped}
+use Rattle.heap_program.proofs.PlayFaults.{cut_reply, fault_not_whole, stop_not_whole, fault_not_stopped}
 use Rattle.heap_program.proofs.PlayFuse.{rose_some, own_steps}
 use Rattle.heap_program.proofs.PlayLaws.{ends_makes}
 use Rattle.heap_program.proofs.Reopened.{recovered_only}
@@ -83,6 +83,10 @@ module _ {D : Type 0} {g : Ghosts D} (s : Super) (c : Core) (running : IsRunning
   -- nothing is unsynced where the disk has not failed
   pub unfailed_only : (account core.history).failed ≡ None → Only (g.bytes new.disk) (g.may_leave new.disk)
   unfailed_only unfailed = (plays.heap.disk.unfailed unfailed).only
+
+  -- it has not failed where all events were made
+  made_unfailed : MadeAll c made core → (account core.history).failed ≡ None
+  made_unfailed whole = ap (λ (x : Core). (account x.history).failed) whole ∙ (running_after c made (ready_front c made plays.behind ready)).unfailed
 
   abbrev all : ℕ
   all = length (sealed core.history)
@@ -142,26 +146,28 @@ module _ {D : Type 0} {g : Ghosts D} (s : Super) (c : Core) (running : IsRunning
     few = omega (arith, passed);
     restarts = restarts;
     stopped = new.disk;
-    steps = own_steps g start new.disk tells c core old.disk new.disk made plays.steps;
+    steps = own_steps g start tells c core old.disk new.disk made plays.steps;
     rest = begins g.moment g.left_since new.disk (IsCommitPrefix core) (λ image since. kept image (now new.disk image since));
     kept = kept;
   }
 
   -- the events that were made, as a run tells them
-  abbrev pub events_made : (stop : Option ℕ) (at_opening : ℕ) (by : Status) (unharmed : Type 0) → (by ≡ status.Done → HasMade stop c made plays.behind core) → (unharmed → IsExact stop at_opening c made core) → MakesEvents stop at_opening c events by unharmed
-  events_made stop at_opening by unharmed done place = record { made = made; behind = plays.behind; parts = plays.parts; core = core; last = last_made; done = λ is. inl (done is); exact = place }
+  abbrev pub events_made : (stop : Option ℕ) (at_opening : ℕ) (by : Status) → (by ≡ status.Done → HasMade stop c made plays.behind core) → StopsInPlace stop at_opening c made core → MakesEvents stop at_opening c events by
+  events_made stop at_opening by done stops = record { made = made; behind = plays.behind; parts = plays.parts; core = core; last = last_made; done = λ is. inl (done is); in_place = stops }
 
   -- The disk that was handed in, at the start and at the end, what a crash left of it, and how many calls it has let through.
   module _ {B : Type 0} (h : Ghosts B) (start final : B) (stop : Option Stop) (at_opening : ℕ) (keeps : KeepsThroughout h (stop_after stop) at_opening c made core start final)
-      (calls : Unharmed h start final → h.passed keeps.stopped ≡ counted (let_through (stop_after stop) (at_opening + total_calls c made)) (h.passed start)) (few_calls : h.passed keeps.stopped ≤ counted (let_through (stop_after stop) (at_opening + total_calls c made)) (h.passed start)) where
+      (calls : Unharmed h start keeps.stopped → h.passed keeps.stopped ≡ counted (let_through (stop_after stop) (at_opening + total_calls c made)) (h.passed start)) (few_calls : h.passed keeps.stopped ≤ counted (let_through (stop_after stop) (at_opening + total_calls c made)) (h.passed start)) where
     -- The play ended before more than lines were to be written.
     pub ends_early : (by : Status) → final ≡ keeps.stopped → IsEndOfPlay by → (by ≡ status.Done → ⊥) → (IsTrue told → WroteFront before (lines_text core.history) after × WroteLines before core.history after)
         → (IsTrue told → IsOfDisk by → after ≡ before ++ lines_text core.history)
-        → (Unharmed h start final → IsExact (stop_after stop) at_opening c made core) → IsFollowed h stop core all keeps.stopped final by (IsTrue told → WroteFront before (lines_text core.history) after)
+        → (Unharmed h start keeps.stopped → IsExact (stop_after stop) at_opening c made core) → StopsInPlace (stop_after stop) at_opening c made core
+        → ((account core.history).failed ≡ None → Only (h.bytes keeps.stopped) (h.may_leave keeps.stopped)) → IsFollowed h stop core all keeps.stopped final by (IsTrue told → WroteFront before (lines_text core.history) after)
         → IsPlayed h stop at_opening c events start final by told before after
-    ends_early by same is_end not_done part whole place follows = record {
-      run = events_made (stop_after stop) at_opening by (Unharmed h start final) (λ is. absurd (not_done is)) place;
+    ends_early by same is_end not_done part whole place stops unsynced follows = record {
+      run = events_made (stop_after stop) at_opening by (λ is. absurd (not_done is)) stops;
       disk = keeps;
+      exact = place;
       counts = at_opening;
       opens = inl refl;
       calls = calls;
@@ -177,6 +183,12 @@ module _ {D : Type 0} {g : Ghosts D} (s : Super) (c : Core) (running : IsRunning
       };
       faulted = λ cut. record { same = same; lines = λ t. (part t).0; early = λ is. not_done is };
       durable = λ is. absurd (not_done is);
+      settled = λ other free.
+          let here : Only (h.bytes keeps.stopped) (h.may_leave keeps.stopped) = unsynced (⊎_elim
+          (λ (whole : MadeAll c made core). made_unfailed whole)
+          (λ (some : (reply : Reply) × IsCutBy reply c made core). absurd (free same some.0 some.1))
+          last_made) in
+          subst (λ x. Only (h.bytes x) (h.may_leave x)) (sym same) here;
       end = is_end;
     }
 
@@ -189,8 +201,9 @@ module _ {D : Type 0} {g : Ghosts D} (s : Super) (c : Core) (running : IsRunning
       let full = λ (t : IsTrue told). subst P all_graph (wrote t) in
       let text = graph_text (serial core.g0 (take all (commits core.history))) in
       record {
-        run = events_made None at_opening (status_after output) (Unharmed h start final) (λ is. (nothing, reached)) (λ u. reached);
+        run = events_made None at_opening (status_after output) (λ is. (nothing, reached)) tt;
         disk = keeps;
+        exact = λ u. reached;
         counts = at_opening;
         opens = inl refl;
         calls = λ u. calls;
@@ -206,26 +219,27 @@ module _ {D : Type 0} {g : Ghosts D} (s : Super) (c : Core) (running : IsRunning
         };
         faulted = λ cut. absurd (fault_not_whole c core made cut reached);
         durable = λ is. last;
+        settled = λ other free. last;
         end = written_end output;
       }
 
   -- The heap was to be opened again, and what came back to be written.
   module _ {B : Type 0} (h : Ghosts B) (start final : B) (stop : Stop) (at_opening : ℕ) (keeps : KeepsThroughout h (Some stop.after) at_opening c made core start final)
-      (calls : Unharmed h start final → h.passed keeps.stopped ≡ counted (min stop.after (at_opening + total_calls c made)) (h.passed start)) (few_calls : h.passed keeps.stopped ≤ counted (min stop.after (at_opening + total_calls c made)) (h.passed start)) where
+      (calls : Unharmed h start keeps.stopped → h.passed keeps.stopped ≡ counted (min stop.after (at_opening + total_calls c made)) (h.passed start)) (few_calls : h.passed keeps.stopped ≤ counted (min stop.after (at_opening + total_calls c made)) (h.passed start)) where
     abbrev opens : ℕ → Type 0
     opens k = StartsAgain h stop.again core k (Reopens h core k) keeps.stopped final
 
     abbrev fails : ℕ → Status → Type 0
     fails k by = EndsUnopened h stop.again core k keeps.stopped final by
 
-    module _ (k : ℕ) (by : Status) (after' : List ℕ) (out : IsTrue told → after ≡ before ++ lines_text core.history) (recovers : Recovers core k (opens k) (fails k by) (h.may_leave final) by told after after') where
+    module _ (k : ℕ) (by : Status) (after' : List ℕ) (out : IsTrue told → after ≡ before ++ lines_text core.history) (recovers : Recovers core k (opens k) (fails k by) (h.bytes final) (h.may_leave final) by told after after') where
       found_prints : WroteRecovered core k (opens k) by told after after' → Prints h (Some stop) core keeps.stopped final by told before after'
       found_prints found = record {
         count = k;
         least = recovers.least;
         most = recovers.most;
         all = λ none. cc;
-        behind = inl found.opened;
+        behind = inl (found.opened, found.sound);
         written = λ t. lines.all_writes core.history before after by (end_text (Some stop.after) k (serial core.g0 (take k (commits core.history)))) after' found.sound (out t) (found.written t) (found.whole t);
       }
 
@@ -249,10 +263,11 @@ module _ {D : Type 0} {g : Ghosts D} (s : Super) (c : Core) (running : IsRunning
           (λ (stopped : IsCutBy (Refused Stopped) c made core). fault_not_stopped c core made cut stopped)
           has
 
-      pub ends_recovered : HasMade (Some stop.after) c made plays.behind core → (Unharmed h start final → IsExact (Some stop.after) at_opening c made core) → IsPlayed h (Some stop) at_opening c events start final by told before after'
-      ends_recovered has place = record {
-        run = events_made (Some stop.after) at_opening by (Unharmed h start final) (λ is. has) place;
+      pub ends_recovered : HasMade (Some stop.after) c made plays.behind core → (Unharmed h start keeps.stopped → IsExact (Some stop.after) at_opening c made core) → StopsInPlace (Some stop.after) at_opening c made core → IsPlayed h (Some stop) at_opening c events start final by told before after'
+      ends_recovered has place stops = record {
+        run = events_made (Some stop.after) at_opening by (λ is. has) stops;
         disk = keeps;
+        exact = place;
         counts = at_opening;
         opens = inl refl;
         calls = calls;
@@ -261,6 +276,7 @@ module _ {D : Type 0} {g : Ghosts D} (s : Super) (c : Core) (running : IsRunning
         prints = ⊎_elim found_prints nothing_prints recovers.found;
         faulted = λ cut. absurd (went_on has cut);
         durable = λ done. recovered_only h stop.again core k keeps.stopped final by told after after' recovers.found done;
+        settled = λ other free. recovers.settled other;
         end = recovers.end;
       }
 
@@ -316,16 +332,13 @@ module _ {D : Type 0} {g : Ghosts D} (s : Super) (c : Core) (running : IsRunning
       let sum = counted-sum (total_calls c made) p (omega (arith, few, few_before)) in
       omega (arith, all, sum, within)
 
-  -- The disk does what it is asked up to a limit.
-  module _ (n p : ℕ) (few_before : p ≤ 4) (begun : g.passed old.disk ≡ p) (within : g.passed new.disk ≤ n) (at : g.stops new.disk ≢ 0 → g.passed new.disk ≡ n) (unharmed : Rose (g.faults old.disk) (g.faults new.disk) → ⊥) where
+  -- The disk stops behind a limit.
+  module _ (n p : ℕ) (few_before : p ≤ 4) (begun : g.passed old.disk ≡ p) (within : g.passed new.disk ≤ n) (at : g.stops new.disk ≢ 0 → g.passed new.disk ≡ n) where
     passes_all : MakesAll c made core old new → g.passed new.disk ≡ p + total_calls c made
     passes_all all =
         all.passes ∙ ap (counted (total_calls c made)) begun ∙ counted-sum (total_calls c made) p (omega (arith, few, few_before)) ∙ omega arith
 
-    module _ (reply : Reply) (short : MakesShort c made core old new reply) where
-      is_stopped : reply ≡ Refused Stopped
-      is_stopped = ⊎_elim (λ (is : reply ≡ Refused DiskFault). absurd (unharmed (short.cause.failed (ap reply_device is)))) (λ (is : reply ≡ Refused Stopped). is) short.cut.told
-
+    module _ (reply : Reply) (short : MakesShort c made core old new reply) (is_stopped : reply ≡ Refused Stopped) where
       has_stopped : g.stops new.disk ≢ 0
       has_stopped = rose_some (g.stops old.disk) (g.stops new.disk) short.cause.stops_kept (short.cause.stopped (ap reply_device is_stopped))
 
@@ -354,18 +367,32 @@ module _ {D : Type 0} {g : Ghosts D} (s : Super) (c : Core) (running : IsRunning
       passes_few = omega (arith, at has_stopped, here, total, (short.passes is_stopped).1)
 
     -- It stops in the event that has more calls than are left.
-    pub exact_some : IsExact (Some n) p c made core
-    exact_some = ⊎_elim
-        (λ (all : MakesAll c made core old new). inl (all.reached, omega (arith, passes_all all)))
-        (λ (some : (reply : Reply) × MakesShort c made core old new reply). inr (inl (stopped_last some.0 some.1)))
+    pub stops_some : StopsInPlace (Some n) p c made core
+    stops_some cut = ⊎_elim
+        (λ (all : MakesAll c made core old new). absurd (stop_not_whole c core made cut all.reached))
+        (λ (some : (reply : Reply) × MakesShort c made core old new reply).
+        let short = some.1 in
+        stopped_last some.0 short (cut_reply (Refused Stopped) c core made cut some.0 (record { before = short.before; event = short.event; parts = short.parts; cut = short.cut; reached = short.reached })))
         makes
 
-    -- It lets through the calls of all events, or as many as it was to.
-    pub passes_some : g.passed new.disk ≡ min n (p + total_calls c made)
-    passes_some = ⊎_elim
-        (λ (all : MakesAll c made core old new). omega (arith, passes_all all))
-        (λ (some : (reply : Reply) × MakesShort c made core old new reply). passes_few some.0 some.1)
-        makes
+    -- Where the disk does what it is asked up to there,
+    module _ (unharmed : Rose (g.faults old.disk) (g.faults new.disk) → ⊥) where
+      is_stopped : (reply : Reply) → MakesShort c made core old new reply → reply ≡ Refused Stopped
+      is_stopped reply short = ⊎_elim (λ (is : reply ≡ Refused DiskFault). absurd (unharmed (short.cause.failed (ap reply_device is)))) (λ (is : reply ≡ Refused Stopped). is) short.cut.told
+
+      -- all events are made, or it stops there,
+      pub exact_some : IsExact (Some n) p c made core
+      exact_some = ⊎_elim
+          (λ (all : MakesAll c made core old new). inl (all.reached, omega (arith, passes_all all)))
+          (λ (some : (reply : Reply) × MakesShort c made core old new reply). inr (inl (stopped_last some.0 some.1 (is_stopped some.0 some.1))))
+          makes
+
+      -- and it lets through the calls of all events, or as many as it was to.
+      pub passes_some : g.passed new.disk ≡ min n (p + total_calls c made)
+      passes_some = ⊎_elim
+          (λ (all : MakesAll c made core old new). omega (arith, passes_all all))
+          (λ (some : (reply : Reply) × MakesShort c made core old new reply). passes_few some.0 some.1 (is_stopped some.0 some.1))
+          makes
 
   -- A play that the disk's failing didn't end has made all events, or the disk has stopped.
   pub ends_made : (n : ℕ) → (result ≡ Ok tt) ⊎ (result ≡ Err halt.Stopped) → HasMade (Some n) c made plays.behind core

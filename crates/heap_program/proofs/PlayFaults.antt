@@ -1,4 +1,4 @@
--- A play in whose last event the disk failed.
+-- A play whose last event the disk cut short.
 use Rattle.std.proofs.Common.{◌≡◌, inl, inr, List, [], ◌∷◌, ◌++◌, length, drop, refl, sym, ap, ◌∙◌, subst, arith, length-append}
 use Rattle.std.proofs.lemmas.List.{drop_at}
 use Rattle.graph_model.specs.declared.event.Event.{Event}
@@ -32,32 +32,42 @@ no_last (e ∷ before) event is = cc
 pub none_cut : (reply : Reply) (c d : Core) → IsCutBy reply c [] d → ⊥
 none_cut reply c d cut = no_last cut.before cut.event cut.parts
 
-module _ (c d : Core) (made : List Event) (cut : IsCutBy (Refused DiskFault) c made d) where
+module _ (said : Reply) (c d : Core) (made : List Event) (cut : IsCutBy said c made d) where
   abbrev before : Core
   before = after_events c cut.before
 
   abbrev own : Entry
-  own = record { event = cut.event; reply = Refused DiskFault }
+  own = record { event = cut.event; reply = said }
 
-  fault_history : d.history ≡ before.history ++ own ∷ []
-  fault_history = step_history before d cut.event (Refused DiskFault) (inr (cut.cut, cut.reached))
+  cut_history : d.history ≡ before.history ++ own ∷ []
+  cut_history = step_history before d cut.event said (inr (cut.cut, cut.reached))
 
-  -- then the disk did not do what it was asked in all events
-  pub fault_not_whole : MadeAll c made d → ⊥
-  fault_not_whole whole =
+  -- a last event that was cut short was answered what no other event is, so not all events were made
+  pub cut_not_whole : (IsSoundReply said → ⊥) → MadeAll c made d → ⊥
+  cut_not_whole unsound whole =
       let reached : d ≡ after before cut.event = whole ∙ ap (λ (l : List Event). after_events c l) cut.parts ∙ after_events-append c cut.before (cut.event ∷ []) in
       let entry : Entry = record { event = cut.event; reply = answer before cut.event } in
       let history : d.history ≡ before.history ++ entry ∷ [] = step_history before d cut.event (answer before cut.event) (inl (refl, reached)) in
-      let same : entry ≡ own = last_same before.history before.history entry own (sym history ∙ fault_history) in
-      let reply : answer before cut.event ≡ Refused DiskFault = ap (λ (e : Entry). e.reply) same in
-      subst IsSoundReply reply (answer_sound before cut.event)
+      let same : entry ≡ own = last_same before.history before.history entry own (sym history ∙ cut_history) in
+      let reply : answer before cut.event ≡ said = ap (λ (e : Entry). e.reply) same in
+      unsound (subst IsSoundReply reply (answer_sound before cut.event))
 
-  -- nor did it stop in the last one
-  pub fault_not_stopped : IsCutBy (Refused Stopped) c made d → ⊥
-  fault_not_stopped stopped =
-      let other = after_events c stopped.before in
-      let entry : Entry = record { event = stopped.event; reply = Refused Stopped } in
-      let history : d.history ≡ other.history ++ entry ∷ [] = step_history other d stopped.event (Refused Stopped) (inr (stopped.cut, stopped.reached)) in
-      let same : entry ≡ own = last_same other.history before.history entry own (sym history ∙ fault_history) in
-      let reply : Refused Stopped ≡ Refused DiskFault = ap (λ (e : Entry). e.reply) same in
-      cc
+  -- and it was answered so alone
+  pub cut_reply : (told : Reply) → IsCutBy told c made d → told ≡ said
+  cut_reply told again =
+      let other = after_events c again.before in
+      let entry : Entry = record { event = again.event; reply = told } in
+      let history : d.history ≡ other.history ++ entry ∷ [] = step_history other d again.event told (inr (again.cut, again.reached)) in
+      let same : entry ≡ own = last_same other.history before.history entry own (sym history ∙ cut_history) in
+      ap (λ (e : Entry). e.reply) same
+
+-- Where it was answered `diskfault` or `stopped`, the disk did not do what it was asked in all events.
+pub fault_not_whole : (c d : Core) (made : List Event) → IsCutBy (Refused DiskFault) c made d → MadeAll c made d → ⊥
+fault_not_whole c d made cut whole = cut_not_whole (Refused DiskFault) c d made cut (λ sound. sound) whole
+
+pub stop_not_whole : (c d : Core) (made : List Event) → IsCutBy (Refused Stopped) c made d → MadeAll c made d → ⊥
+stop_not_whole c d made cut whole = cut_not_whole (Refused Stopped) c d made cut (λ sound. sound) whole
+
+-- and it was answered one of them alone
+pub fault_not_stopped : (c d : Core) (made : List Event) → IsCutBy (Refused DiskFault) c made d → IsCutBy (Refused Stopped) c made d → ⊥
+fault_not_stopped c d made cut stopped = let same = cut_reply (Refused DiskFault) c d made cut (Refused Stopped) stopped in cc

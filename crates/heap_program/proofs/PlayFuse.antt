@@ -34,13 +34,13 @@ rose_some a b kept (inl up) none = omega arith
 rose_some a b kept (inr full) none = omega arith
 
 -- A heap's steps on its own disk are steps of a run on it.
-pub own_steps : {D : Type 0} (g : Ghosts D) (start final : D) → IsTrue g.tells → (c d : Core) (old new : D) (events : List Event) → AreSteps (HeapStep g) c old events d new → AreSteps (Step g None start final) c old events d new
-own_steps g start final tells c d old new [] steps = steps
-own_steps g start final tells c d old new (event ∷ events) steps =
+pub own_steps : {D : Type 0} (g : Ghosts D) (start : D) → IsTrue g.tells → (c d : Core) (old new : D) (events : List Event) → AreSteps (HeapStep g) c old events d new → AreSteps (Step g None start) c old events d new
+own_steps g start tells c d old new [] steps = steps
+own_steps g start tells c d old new (event ∷ events) steps =
     let made = steps.2 in
-    let one : Step g None start final c old event steps.0 steps.1 =
+    let one : Step g None start c old event steps.0 steps.1 =
     record { reply = made.reply; step = made.step; cause = made.disk.cause; moments = made.moments; kept = made.kept; passes = λ u. made.passes; restarts = made.disk.restarts tells } in
-    (steps.0, steps.1, one, own_steps g start final tells steps.0 d steps.1 new events steps.3)
+    (steps.0, steps.1, one, own_steps g start tells steps.0 d steps.1 new events steps.3)
 
 module _ {D : Type 0} {g : Ghosts D} where
   -- what a crash leaves of the disk behind a fuse
@@ -87,14 +87,7 @@ module _ {D : Type 0} {g : Ghosts D} where
     pub restarts : (fuse : FuseDisk D g) → h.restarts fuse ≡ g.restarts (fuse_inner fuse)
 
   module _ (h : Ghosts (FuseDisk D g)) (is : IsFuse h) where
-    harm_kept : (c d : Core) (old new : FuseDisk D g) (events : List Event) → AreSteps (HeapStep h) c old events d new → h.faults old ≤ h.faults new
-    harm_kept c d old new [] steps = let same : h.faults new ≡ h.faults old = ap h.faults steps.1 in omega arith
-    harm_kept c d old new (event ∷ events) steps =
-        let first = steps.2.disk.cause.faults_kept in
-        let rest = harm_kept steps.0 d steps.1 new events steps.3 in
-        omega (arith, first, rest)
-
-    module _ (n : ℕ) (began final : D) (tells : IsTrue g.tells) where
+    module _ (n : ℕ) (began : D) (tells : IsTrue g.tells) where
       passes_inside : (m : ℕ) (a b : FuseDisk D g) (result : Result (Unit {0}) DiskError) → g.passed (fuse_inner a) ≡ counted (fuse_passed a) (g.passed began) → g.passed (fuse_inner b) ≡ counted (fuse_passed b) (g.passed began)
           → Passes m (h.passed a) (h.passed b) result → Passes m (g.passed (fuse_inner a)) (g.passed (fuse_inner b)) result
       passes_inside m a b result at_a at_b passes = record {
@@ -128,36 +121,32 @@ module _ {D : Type 0} {g : Ghosts D} where
 
       -- Steps on a fuse are steps on the disk inside.
       pub fuse_steps : (c d : Core) (old new : FuseDisk D g) (events : List Event) → (fuse_origin old).disk ≡ began → (fuse_origin old).limit ≡ n
-          → (Unharmed g began final → DiskRose (g.faults began) (g.stops began) (g.faults (fuse_inner new)) (g.stops (fuse_inner new)) → ⊥)
-          → AreSteps (HeapStep h) c old events d new → AreSteps (Step g (Some n) began final) c (fuse_inner old) events d (fuse_inner new)
-      fuse_steps c d old new [] same limit still steps = (steps.0, ap fuse_inner steps.1)
-      fuse_steps c d old new (event ∷ events) same limit still steps =
+          → AreSteps (HeapStep h) c old events d new → AreSteps (Step g (Some n) began) c (fuse_inner old) events d (fuse_inner new)
+      fuse_steps c d old new [] same limit steps = (steps.0, ap fuse_inner steps.1)
+      fuse_steps c d old new (event ∷ events) same limit steps =
           let mid = steps.1 in
           let made = steps.2 in
-          let rest = harm_kept steps.0 d mid new events steps.3 in
           let first = made.disk.cause.faults_kept in
           let origin = is.origin old mid made.disk.origin in
           let same_mid : (fuse_origin mid).disk ≡ began = same_disk _ _ origin ∙ same in
           let limit_mid : (fuse_origin mid).limit ≡ n = same_limit _ _ origin ∙ limit in
-          let low : g.faults (fuse_inner old) + g.stops (fuse_inner old) ≤ g.faults (fuse_inner new) + g.stops (fuse_inner new) = omega (arith, is.faults old, is.faults new, first, rest) in
-          let high : g.faults (fuse_inner mid) + g.stops (fuse_inner mid) ≤ g.faults (fuse_inner new) + g.stops (fuse_inner new) = omega (arith, is.faults mid, is.faults new, rest) in
-          let one : Step g (Some n) began final c (fuse_inner old) event steps.0 (fuse_inner mid) = record {
+          let low : g.faults (fuse_inner old) + g.stops (fuse_inner old) ≤ g.faults (fuse_inner mid) + g.stops (fuse_inner mid) = omega (arith, is.faults old, is.faults mid, first) in
+          let one : Step g (Some n) began c (fuse_inner old) event steps.0 (fuse_inner mid) = record {
             reply = made.reply;
             step = made.step;
             cause = cause_inside old mid made.reply same_mid limit_mid made.disk.cause;
             moments = is.moments c old mid made.moments;
             kept = λ image left. made.kept image (is.images mid image left);
             passes = λ u. passes_inside (calls c event) old mid (reply_device made.reply)
-                (fuse_passes old began (fuse_passed old) tells same (λ rose. still u (rose_until _ _ _ low rose)) refl)
-                (fuse_passes mid began (fuse_passed mid) tells same_mid (λ rose. still u (rose_until _ _ _ high rose)) refl)
+                (fuse_passes old began (fuse_passed old) tells same (λ rose. u (rose_until _ _ _ low rose)) refl)
+                (fuse_passes mid began (fuse_passed mid) tells same_mid u refl)
                 made.passes;
             restarts = sym (is.restarts mid) ∙ made.disk.restarts (is.tells tells) ∙ is.restarts old;
           } in
-          (steps.0, fuse_inner mid, one, fuse_steps steps.0 d mid new events same_mid limit_mid still steps.3)
+          (steps.0, fuse_inner mid, one, fuse_steps steps.0 d mid new events same_mid limit_mid steps.3)
 
   -- the same, by what the fuse keeps
-  pub fuse_steps_of : {h : Ghosts (FuseDisk D g)} {x y : FuseDisk D g} {r : Result (Unit {0}) DiskError} → KeepsDisk h x y r → IsFuse h → (n : ℕ) (began final : D) → IsTrue g.tells
+  pub fuse_steps_of : {h : Ghosts (FuseDisk D g)} {x y : FuseDisk D g} {r : Result (Unit {0}) DiskError} → KeepsDisk h x y r → IsFuse h → (n : ℕ) (began : D) → IsTrue g.tells
       → (c d : Core) (old new : FuseDisk D g) (events : List Event) → (fuse_origin old).disk ≡ began → (fuse_origin old).limit ≡ n
-      → (Unharmed g began final → DiskRose (g.faults began) (g.stops began) (g.faults (fuse_inner new)) (g.stops (fuse_inner new)) → ⊥)
-      → AreSteps (HeapStep h) c old events d new → AreSteps (Step g (Some n) began final) c (fuse_inner old) events d (fuse_inner new)
-  fuse_steps_of {h} keeps is n began final tells c d old new events same limit still steps = fuse_steps h is n began final tells c d old new events same limit still steps
+      → AreSteps (HeapStep h) c old events d new → AreSteps (Step g (Some n) began) c (fuse_inner old) events d (fuse_inner new)
+  fuse_steps_of {h} keeps is n began tells c d old new events same limit steps = fuse_steps h is n began tells c d old new events same limit steps

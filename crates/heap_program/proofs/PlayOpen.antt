@@ -4,10 +4,11 @@ use Rattle.std.proofs.lemmas.Bool.{cases_lt, false≢true}
 use Rattle.std.specs.Prelude.{◌⊎◌, IsTrue}
 use Rattle.std.proofs.lemmas.List.{append-nil}
 use Rattle.disk_model.specs.declared.disk.Disk.{Ghosts}
+use Rattle.disk_model.specs.Disk.{Only}
 use Rattle.disk_model.specs.Moments.{LeavesOnly}
 use Rattle.disk_model.proofs.MomentLaws.{begins, joined, weaker}
 use Rattle.graph_model.specs.declared.event.Event.{Event}
-use Rattle.graph_model.specs.declared.reply.Refusal.TheVariants.{DiskFault}
+use Rattle.graph_model.specs.declared.reply.Refusal.TheVariants.{DiskFault, Stopped}
 use Rattle.graph_model.specs.declared.reply.Reply.TheVariants.{Refused}
 use Rattle.graph_model.specs.Graph.{Graph, new_graph}
 use Rattle.graph_model.specs.History.{account}
@@ -16,7 +17,7 @@ use Rattle.heap_core.specs.declared.errors.OpenError.{OpenError}
 use Rattle.heap_core.specs.declared.errors.OpenError.TheVariants as opening
 use Rattle.heap_model.specs.Core.{Core}
 use Rattle.heap_program.specs.declared.status.Status.{Status}
-use Rattle.heap_program.specs.declared.status.Status.TheVariants.{Done}
+use Rattle.heap_program.specs.declared.status.Status.TheVariants.{Done, NoMemory}
 use Rattle.heap_model.specs.CoreCrash.{IsCommitPrefix}
 use Rattle.heap_model.specs.NewHeap.{root_place}
 use Rattle.heap_model.proofs.Opening.New.{new_legal, new_found}
@@ -28,12 +29,12 @@ use Rattle.heap_program.proofs.CoreSteps.{running_after, all_playable}
 use Rattle.heap_model.specs.CoreRuns.{after_events}
 use Rattle.heap_model.specs.Ending.{all_events}
 use Rattle.command_words.specs.declared.commands.Stop.{Stop}
-use Rattle.heap_program.specs.Headline.{lasting, IsOpened, made_super, end_text, stop_after, let_through, IsExact, CountsOpening, IsEndOfPlay, StartsAgain, Reopens, EndsUnopened, IsFollowed, Prints, IsPlayed, IsOfImage}
+use Rattle.heap_program.specs.Headline.{lasting, IsOpened, made_super, end_text, stop_after, let_through, IsExact, StopsInPlace, CountsOpening, IsEndOfPlay, StartsAgain, Reopens, EndsUnopened, IsFollowed, Prints, IsPlayed, IsOfImage}
 use Rattle.heap_program.specs.Causes.{Unharmed}
 use Rattle.heap_program.specs.Output.{Recovers, WroteRecovered, WroteNothing}
 use Rattle.heap_program.proofs.Counts.{counted_mono}
 use Rattle.heap_program.proofs.PlayFaults.{none_cut}
-use Rattle.heap_program.proofs.Reopened.{recovered_only}
+use Rattle.heap_program.proofs.Reopened.{recovered_only, outside_memory}
 use Rattle.heap_program.proofs.Lines.{some_writes, all_writes, lines_more}
 use Rattle.graph_model.specs.Transaction.{serial}
 use Rattle.heap_program.specs.Playable.{IsScript}
@@ -99,6 +100,11 @@ exact_unopened (Some n) at_opening c = ⊎_elim
     (λ (most : at_opening ≤ n). inl (refl, omega arith))
     (cases_lt n at_opening)
 
+-- Where no event was made, none was answered `stopped`.
+none_in_place : (stop : Option ℕ) (at_opening : ℕ) (c : Core) → StopsInPlace stop at_opening c [] c
+none_in_place None at_opening c = tt
+none_in_place (Some n) at_opening c = λ cut. absurd (none_cut (Refused Stopped) c c cut)
+
 -- the disk was not started again
 pub unstarted : {D : Type 0} (g : Ghosts D) (again : Option ℕ) (c : Core) (k : ℕ) (disk : D) (by : Status) → EndsUnopened g again c k disk disk by
 unstarted g None c k disk by = inl refl
@@ -149,13 +155,14 @@ module _ {D : Type 0} (g : Ghosts D) {bytes : List ℕ} (stored : IsStored bytes
       → LeavesOnly g.moment g.left_since start final (IsCommitPrefix c) → ((image : List ℕ) → g.may_leave final image → IsCommitPrefix c image)
       → ((image : List ℕ) → g.left_since final (g.moment final) image → g.may_leave final image) → g.restarts final ≡ g.restarts start
       → (e ≡ opening.NoMemory → g.passed final ≡ g.passed start) → (e ≢ opening.NoMemory → Unharmed g start final → ⊥)
-      → g.passed final ≤ counted n (g.passed start) → g.passed final ≤ counted (let_through (stop_after stop) (n + 0)) (g.passed start)
+      → g.passed final ≤ counted n (g.passed start) → g.passed final ≤ counted (let_through (stop_after stop) (n + 0)) (g.passed start) → (open_status e ≡ NoMemory → Only (g.bytes final) (g.may_leave final))
       → IsPlayed g stop n c events start final by told before before
-  ends_unopened stop events e by start final told before is outside moments left now restarts same harm few most =
+  ends_unopened stop events e by start final told before is outside moments left now restarts same harm few most only =
       let early = λ (done : by ≡ Done). open_not_done e (sym is ∙ done) in
       let calls = unopened_calls (stop_after stop) n (g.passed start) (g.passed final) (Unharmed g start final) e by is outside same harm in
       record {
-        run = record { made = []; behind = events; parts = refl; core = c; last = inl refl; done = λ done. absurd (early done); exact = λ u. exact_unopened (stop_after stop) n c };
+        run = record { made = []; behind = events; parts = refl; core = c; last = inl refl; done = λ done. absurd (early done); in_place = none_in_place (stop_after stop) n c };
+        exact = λ u. exact_unopened (stop_after stop) n c;
         disk = record {
           opened = final;
           opening = moments;
@@ -188,6 +195,7 @@ module _ {D : Type 0} (g : Ghosts D) {bytes : List ℕ} (stored : IsStored bytes
         };
         faulted = λ cut. absurd (none_cut (Refused DiskFault) c c cut);
         durable = λ done. absurd (early done);
+        settled = λ other free. only (outside_memory e outside (λ fault. other (is ∙ fault)));
         end = subst IsEndOfPlay (sym is) (open_end e outside);
       }
 
@@ -205,7 +213,7 @@ module _ {D : Type 0} (g : Ghosts D) {bytes : List ℕ} (stored : IsStored bytes
       least = least;
       most = most;
       all = λ none. cc;
-      behind = inl found.opened;
+      behind = inl (found.opened, found.sound);
       written = λ t. all_writes [] before before by (end_text (Some stop.after) k (serial stored.graph (take k []))) after found.sound (sym (append-nil before)) (found.written t) (found.whole t);
     }
 
@@ -225,14 +233,15 @@ module _ {D : Type 0} (g : Ghosts D) {bytes : List ℕ} (stored : IsStored bytes
     -- The disk stopped in the opening: no event was made.
     pub ends_stopped : (events : List Event) (start : D) → LeavesOnly g.moment g.left_since start stopped (IsCommitPrefix c) → ((image : List ℕ) → g.may_leave stopped image → IsCommitPrefix c image)
         → LeavesOnly g.moment g.left_since stopped final (IsCommitPrefix c) → g.restarts stopped ≡ g.restarts start → stop.after < n
-        → g.passed stopped ≤ counted stop.after (g.passed start) → (Unharmed g start final → g.passed stopped ≡ counted stop.after (g.passed start))
-        → Recovers c k opens fails (g.may_leave final) by told before after
+        → g.passed stopped ≤ counted stop.after (g.passed start) → (Unharmed g start stopped → g.passed stopped ≡ counted stop.after (g.passed start))
+        → Recovers c k opens fails (g.bytes final) (g.may_leave final) by told before after
         → IsPlayed g (Some stop) n c events start final by told before after
     ends_stopped events start moments left rest restarts less most exact recovers =
         let through : min stop.after (n + 0) ≡ stop.after = omega arith in
         let more = counted_mono stop.after n (g.passed start) (omega arith) in
         record {
-          run = record { made = []; behind = events; parts = refl; core = c; last = inl refl; done = λ done. inr (less, refl); exact = λ u. inr (inr (less, refl)) };
+          run = record { made = []; behind = events; parts = refl; core = c; last = inl refl; done = λ done. inr (less, refl); in_place = none_in_place (Some stop.after) n c };
+          exact = λ u. inr (inr (less, refl));
           disk = record {
             opened = stopped;
             opening = moments;
@@ -253,6 +262,7 @@ module _ {D : Type 0} (g : Ghosts D) {bytes : List ℕ} (stored : IsStored bytes
           prints = ⊎_elim (found_unplayed recovers.least recovers.most) (nothing_unplayed recovers.least recovers.most) recovers.found;
           faulted = λ cut. absurd (none_cut (Refused DiskFault) c c cut);
           durable = λ done. recovered_only g stop.again c k stopped final by told before after recovers.found done;
+          settled = λ other free. recovers.settled other;
           end = recovers.end;
         }
 

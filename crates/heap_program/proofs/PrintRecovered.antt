@@ -41,6 +41,7 @@ use Rattle.heap_program.proofs.Causes.{disk_rose}
 use Rattle.heap_program.proofs.Counts.{counted-sum}
 use Rattle.heap_program.proofs.PlayFuse.{rose_some}
 use Rattle.heap_program.proofs.PlayOpen.{opening_then}
+use Rattle.heap_program.proofs.Reopened.{outside_memory}
 use Rattle.heap_program.proofs.Statuses.{written_end, written_sound, wrote_all, open_end, open_not_done}
 use Rattle.heap_program.proofs.Written.{wrote_some}
 
@@ -126,26 +127,29 @@ module _ {D : Type 0} (g : Ghosts D) (c : Core) (k : ℕ) (old new : D) (first :
 
 -- What an opening that failed says.
 pub fails_to_open : {D : Type 0} (g : Ghosts D) (c : Core) (k : ℕ) (old new : D) (keeps : KeepsFirst g c k old new) (e : OpenError) → IsFromOutside e
-    → HasCause {T = Unit {0}} (g.faults old) (g.faults new) (g.stops old) (g.stops new) (error_device e) → ErrorPasses (calls_to_open g keeps.first) (g.passed old) (g.passed new) e → FailsToOpen g c k (open_status e) old new
-fails_to_open g c k old new keeps e outside cause passes = record {
+    → HasCause {T = Unit {0}} (g.faults old) (g.faults new) (g.stops old) (g.stops new) (error_device e) → ErrorPasses (calls_to_open g keeps.first) (g.passed old) (g.passed new) e
+    → (open_status e ≡ NoMemory → Only (g.bytes new) (g.may_leave new)) → FailsToOpen g c k (open_status e) old new
+fails_to_open g c k old new keeps e outside cause passes only = record {
   reason = fails_reason (g.faults old) (g.stops old) (g.faults new) (g.stops new) e outside cause;
   keeps = keeps;
   most = fails_most (calls_to_open g keeps.first) (g.passed old) (g.passed new) e passes;
   none = λ refused. fails_none (calls_to_open g keeps.first) (g.passed old) (g.passed new) e refused passes;
+  only = only;
 }
 
 module _ {D : Type 0} (g : Ghosts D) (c : Core) (k : ℕ) (old new : D) (keeps : KeepsFirst g c k old new) where
   -- it couldn't be opened
   pub recovers_nothing : (opens : Type 0) (e : OpenError) (s : Status) (told : Bool) (before : List ℕ) → IsFromOutside e → s ≡ open_status e
       → HasCause {T = Unit {0}} (g.faults old) (g.faults new) (g.stops old) (g.stops new) (error_device e) → ErrorPasses (calls_to_open g keeps.first) (g.passed old) (g.passed new) e
-      → Recovers c k opens (FailsToOpen g c k s old new) (g.may_leave new) s told before before
-  recovers_nothing opens e s told before outside is cause passes = record {
+      → (open_status e ≡ NoMemory → Only (g.bytes new) (g.may_leave new)) → Recovers c k opens (FailsToOpen g c k s old new) (g.bytes new) (g.may_leave new) s told before before
+  recovers_nothing opens e s told before outside is cause passes only = record {
     end = subst IsEndOfPlay (sym is) (open_end e outside);
     least = omega (arith, keeps.first.kept, keeps.first.forced);
     most = keeps.first.some;
     kept = keeps.still;
+    settled = λ other. only (outside_memory e outside (λ fault. other (is ∙ fault)));
     found = inr (record {
-      failed = subst (λ (x : Status). FailsToOpen g c k x old new) (sym is) (fails_to_open g c k old new keeps e outside cause passes);
+      failed = subst (λ (x : Status). FailsToOpen g c k x old new) (sym is) (fails_to_open g c k old new keeps e outside cause passes only);
       early = λ done. open_not_done e (sym is ∙ done);
       nothing = λ t. refl;
     });
@@ -153,12 +157,13 @@ module _ {D : Type 0} (g : Ghosts D) (c : Core) (k : ℕ) (old new : D) (keeps :
 
   -- it was opened, and what came back printed, as far as the sink took it
   pub recovers_first : (fails : Type 0) (r : Result (Unit {0}) WriteError) (s : Status) (told : Bool) (before after : List ℕ) → s ≡ status_after r → g.passed new ≡ counted (calls_to_open g keeps.first) (g.passed old) → Only (g.bytes new) (g.may_leave new)
-      → (IsTrue told → WroteText r before (recovered_line k ++ graph_text (serial c.g0 (take k (history.commits c.history)))) after) → Recovers c k (Reopens g c k old new) fails (g.may_leave new) s told before after
+      → (IsTrue told → WroteText r before (recovered_line k ++ graph_text (serial c.g0 (take k (history.commits c.history)))) after) → Recovers c k (Reopens g c k old new) fails (g.bytes new) (g.may_leave new) s told before after
   recovers_first fails r s told before after is passes only wrote = record {
     end = subst IsEndOfPlay (sym is) (written_end r);
     least = omega (arith, keeps.first.kept, keeps.first.forced);
     most = keeps.first.some;
     kept = keeps.still;
+    settled = λ other. only;
     found = inl (record {
       opened = record { keeps = keeps; passed = passes; only = only };
       sound = λ d. written_sound r (subst IsOfDisk is d);
@@ -169,13 +174,14 @@ module _ {D : Type 0} (g : Ghosts D) (c : Core) (k : ℕ) (old new : D) (keeps :
 
 -- What is said of the last opening is said of the disk as it was stopped.
 pub recovers_again : {D : Type 0} (g : Ghosts D) (again : Option ℕ) (c : Core) (k : ℕ) (stopped first last new : D) (by : Status) (told : Bool) (before after : List ℕ) → Restarts g stopped first → IsCutBefore g again c k first last
-    → Recovers c k (Reopens g c k last new) (FailsToOpen g c k by last new) (g.may_leave new) by told before after
-    → Recovers c k (StartsAgain g again c k (Reopens g c k) stopped new) (EndsUnopened g again c k stopped new by) (g.may_leave new) by told before after
+    → Recovers c k (Reopens g c k last new) (FailsToOpen g c k by last new) (g.bytes new) (g.may_leave new) by told before after
+    → Recovers c k (StartsAgain g again c k (Reopens g c k) stopped new) (EndsUnopened g again c k stopped new by) (g.bytes new) (g.may_leave new) by told before after
 recovers_again {D} g again c k stopped first last new by told before after started cut recovers = record {
   end = recovers.end;
   least = recovers.least;
   most = recovers.most;
   kept = recovers.kept;
+  settled = recovers.settled;
   found = ⊎_elim
       (λ (found : WroteRecovered c k (Reopens g c k last new) by told before after). inl (record { opened = starts (Reopens g c k) found.opened; sound = found.sound; written = found.written; whole = found.whole }))
       (λ (none : WroteNothing (FailsToOpen g c k by last new) by told before after). inr (record { failed = unopened again (starts (FailsToOpen g c k by) none.failed); early = none.early; nothing = none.nothing }))
@@ -191,12 +197,13 @@ recovers_again {D} g again c k stopped first last new by told before after start
 
 -- An opening that was to be cut off had no memory: nothing was written.
 pub recovers_no_memory : {D : Type 0} (g : Ghosts D) (m : ℕ) (c : Core) (k : ℕ) (stopped first new : D) (told : Bool) (before : List ℕ) → Restarts g stopped first → FailsToOpen g c k NoMemory first new
-    → Recovers c k (StartsAgain g (Some m) c k (Reopens g c k) stopped new) (EndsUnopened g (Some m) c k stopped new NoMemory) (g.may_leave new) NoMemory told before before
+    → Recovers c k (StartsAgain g (Some m) c k (Reopens g c k) stopped new) (EndsUnopened g (Some m) c k stopped new NoMemory) (g.bytes new) (g.may_leave new) NoMemory told before before
 recovers_no_memory g m c k stopped first new told before started fails = record {
   end = tt;
   least = omega (arith, fails.keeps.first.kept, fails.keeps.first.forced);
   most = fails.keeps.first.some;
   kept = fails.keeps.still;
+  settled = λ other. fails.only refl;
   found = inr (record {
     failed = inr (inr (refl, record { first = first; started = started; last = first; cut = refl; outcome = fails }));
     early = λ done. cc;

@@ -1,14 +1,21 @@
 -- How what an opening tells of an image goes on to the status of a run.
-use Rattle.std.proofs.Common.{◌≡◌, ⊎_elim, ℕ, ◌≤◌, List, Result, refl, subst, sym}
+use Rattle.std.proofs.Common.{◌≡◌, ⊎_elim, ℕ, ◌+◌, ◌≤◌, List, Result, refl, subst, sym}
 use Rattle.std.specs.Prelude.{IsTrue}
 use Rattle.disk_model.specs.declared.disk.Disk.{Ghosts}
 use Rattle.disk_model.specs.declared.disk.DiskError.{DiskError}
 use Rattle.disk_model.specs.Keeps.{OnlyReads}
 use Rattle.disk_model.proofs.KeepsLaws.{same_none}
 use Rattle.disk_model.specs.Moments.{LeavesOnly}
+use Rattle.disk_model.proofs.MomentLaws.{weaker}
 use Rattle.heap_recovery.specs.declared.at.At.{At}
 use Rattle.heap_recovery.specs.declared.at.At.TheVariants as place
-use Rattle.heap_recovery.specs.Faults.{IsNoHeap, IsFaultAt}
+use Rattle.disk_model.specs.Disk.{SameOutside}
+use Rattle.image_plan.specs.declared.superblock.Super.{Super}
+use Rattle.image_plan.specs.Plan.{log_offset}
+use Rattle.log_records.specs.declared.Record.{Record}
+use Rattle.log_machine.specs.Machine.{State}
+use Rattle.heap_recovery.specs.Faults.{IsNoHeap, IsReadable, IsFaultAt, IsLogLeft, IsLeftOf}
+use Rattle.heap_recovery.proofs.FaultLaws.{left_again, left_of_fault}
 use Rattle.heap_core.specs.Causes.{IsFromOutside}
 use Rattle.heap_core.specs.Refusals as opening_refusals
 use Rattle.heap_core.specs.declared.errors.OpenError.{OpenError}
@@ -17,7 +24,7 @@ use Rattle.heap_program.specs.declared.status.Status.{Status}
 use Rattle.heap_program.specs.declared.status.Status.TheVariants as status
 use Rattle.heap_program.specs.Causes.{IsInputError}
 use Rattle.heap_program.specs.Headline.{IsEndOfPlay}
-use Rattle.heap_program.specs.Refusals.{IsFault, IsToldOf, IsToldOfEach, EndsRefused, IsLeftAlone, LeavesAlone}
+use Rattle.heap_program.specs.Refusals.{IsFault, IsWordFault, IsToldOf, IsToldOfEach, EndsRefused, IsLeftAlone, LeavesAlone}
 use Rattle.heap_program.specs.StatusOf.{open_status}
 
 -- what the error of an opening tells, its status tells
@@ -123,6 +130,24 @@ module _ {D : Type 0} (g : Ghosts D) where
   fault_moments (status.Damaged at) image old new fault no_heap damaged = damaged at fault
   fault_moments (status.TooSmall size need) image old new fault no_heap damaged = absurd fault
 
+  -- At each moment of an opening of an image that is damaged at an address a crash leaves its log, rolled back or not, and all else.
+  pub left_moments : (image : List ℕ) (old new : D) → IsWordFault image → ((s : Super) (batches : List (List Record)) (state : State) → IsReadable s batches state image → LeavesOnly g.moment g.left_since old new (IsLogLeft s batches image))
+      → LeavesOnly g.moment g.left_since old new (IsLeftOf image)
+  left_moments image old new fault moments =
+      let s = fault.1.0 in
+      let batches = fault.1.1 in
+      let state = fault.1.2 in
+      let readable = fault.1.3 in
+      weaker g.moment g.left_since old new (IsLogLeft s batches image) (IsLeftOf image) (moments s batches state readable) (λ c left. (s, batches, state, readable, left))
+
+  pub left_outside : (s : Super) (batches : List (List Record)) (old new : D) → LeavesOnly g.moment g.left_since old new (IsLogLeft s batches (g.bytes old))
+      → LeavesOnly g.moment g.left_since old new (SameOutside log_offset (log_offset + s.log_bytes) (g.bytes old))
+  left_outside s batches old new moments = weaker g.moment g.left_since old new (IsLogLeft s batches (g.bytes old)) (SameOutside log_offset (log_offset + s.log_bytes) (g.bytes old)) moments (λ c left. left.1)
+
+  -- so it does of an image that an opening had left of another
+  pub left_on : (image mid : List ℕ) (old new : D) → IsLeftOf image mid → LeavesOnly g.moment g.left_since old new (IsLeftOf mid) → LeavesOnly g.moment g.left_since old new (IsLeftOf image)
+  left_on image mid old new left moments = weaker g.moment g.left_since old new (IsLeftOf mid) (IsLeftOf image) moments (λ c again. left_again image mid c left again)
+
   -- what holds at each moment holds at the end
   pub at_end : (old new : D) (P : List ℕ → Type 0) → LeavesOnly g.moment g.left_since old new P → ((t : ℕ) (image : List ℕ) → t ≤ g.moment new → g.may_leave new image → g.left_since new t image)
       → (image : List ℕ) → g.may_leave new image → P image
@@ -137,6 +162,10 @@ module _ {D : Type 0} (g : Ghosts D) where
   told_each (opening.Damaged at) by old new is told no_heap damaged counts = rw is (at_end old new (IsFaultAt at) (damaged at told) counts)
   told_each opening.DiskFault by old new is told no_heap damaged counts = rw is (λ image may. tt)
   told_each opening.Stopped by old new is told no_heap damaged counts = rw is (λ image may. tt)
+
+-- An image that openings left of one that is damaged at an address is so too.
+pub left_word_fault : (old new : List ℕ) → IsWordFault old → IsLeftOf old new → IsWordFault new
+left_word_fault old new fault left = (fault.0, left_of_fault old new (place.Address fault.0) fault.1 left)
 
 -- the end of a play says nothing of them
 pub end_told_each : (s : Status) (may_leave : List ℕ → Type 0) → IsEndOfPlay s → IsToldOfEach s may_leave

@@ -122,14 +122,14 @@ steps_append step c mid d old between new (event ∷ before) behind first second
 
 module _ {D : Type 0} (g : Ghosts D) (stop : Option ℕ) (start final : D) where
   -- Steps are a run of the core.
-  pub steps_run : (c d : Core) (old new : D) (events : List Event) → AreSteps (Step g stop start final) c old events d new → IsRun c events d
+  pub steps_run : (c d : Core) (old new : D) (events : List Event) → AreSteps (Step g stop start) c old events d new → IsRun c events d
   steps_run c d old new [] steps = steps.0
   steps_run c d old new (event ∷ events) steps = (steps.2.reply, steps.0, steps.2.step, steps_run steps.0 d steps.1 new events steps.3)
 
   module _ (only_now : (disk : D) (c : List ℕ) → g.left_since disk (g.moment disk) c → g.may_leave disk c) where
     -- From the moment of the first disk on each image holds at least the commits that were acknowledged or forced by then.
     pub steps_last : (c d : Core) (old new : D) (events : List Event) → IsReached c → AllByRecursion IsOfSession events → ((image : List ℕ) → g.may_leave old image → IsCommitPrefix c image)
-        → AreSteps (Step g stop start final) c old events d new → LeavesOnly g.moment g.left_since old new (HasAtLeast d (lasting c))
+        → AreSteps (Step g stop start) c old events d new → LeavesOnly g.moment g.left_since old new (HasAtLeast d (lasting c))
     steps_last c d old new [] reached sessions here steps =
         let P : Core → D → Type 0 = λ x disk. LeavesOnly g.moment g.left_since old disk (HasAtLeast x (lasting c)) in
         subst (λ (x : Core). P x new) (sym steps.0) (subst (λ disk. P c disk) (sym steps.1)
@@ -154,7 +154,7 @@ module _ {D : Type 0} (g : Ghosts D) (stop : Option ℕ) (start final : D) where
 
     -- So do they until a later moment, up to which a crash keeps all commits that were acknowledged or forced at the end.
     pub last_until : (c d : Core) (old new : D) (events : List Event) → IsReached c → AllByRecursion IsOfSession events → ((image : List ℕ) → g.may_leave old image → IsCommitPrefix c image)
-        → AreSteps (Step g stop start final) c old events d new → LeavesOnly g.moment g.left_since new final (IsCommitPrefix d) → LeavesOnly g.moment g.left_since old final (HasAtLeast d (lasting c))
+        → AreSteps (Step g stop start) c old events d new → LeavesOnly g.moment g.left_since new final (IsCommitPrefix d) → LeavesOnly g.moment g.left_since old final (HasAtLeast d (lasting c))
     last_until c d old new events reached sessions here steps rest =
         let least = lasting c in
         let more = run_lasting c d events (steps_run c d old new events steps) in
@@ -167,7 +167,7 @@ module _ {D : Type 0} (g : Ghosts D) (stop : Option ℕ) (start final : D) where
 
     -- Each step of a chain lasts: from its answer on each image holds at least the commits that were acknowledged or forced by then.
     pub lasting_steps : (c d : Core) (old new : D) (events : List Event) → IsReached c → AllByRecursion IsOfSession events
-        → AreSteps (Step g stop start final) c old events d new → LeavesOnly g.moment g.left_since new final (IsCommitPrefix d) → AreSteps (LastingStep g stop d start final) c old events d new
+        → AreSteps (Step g stop start) c old events d new → LeavesOnly g.moment g.left_since new final (IsCommitPrefix d) → AreSteps (LastingStep g stop d start final) c old events d new
     lasting_steps c d old new [] reached sessions steps rest = steps
     lasting_steps c d old new (event ∷ events) reached sessions steps rest =
         let mid = steps.0 in

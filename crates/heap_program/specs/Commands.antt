@@ -1,13 +1,13 @@
 -- What the commands that play no script promise, and what each command asks of the disk.
-use Rattle.std.specs.Prelude.{◌≡◌, ◌⊎◌, ℕ, ◌≤◌, List, [], ◌∷◌, ◌++◌, codes, Bool, IsTrue, Option, None, Some}
+use Rattle.std.specs.Prelude.{◌≡◌, ◌≢◌, ◌⊎◌, ℕ, ◌+◌, ◌≤◌, List, [], ◌∷◌, ◌++◌, codes, Bool, IsTrue, Option, None, Some}
 use Rattle.std.specs.Fmt.{decimal}
 use Rattle.counts.specs.Count.{counted}
 use Rattle.disk_model.specs.declared.disk.Disk.{Ghosts}
-use Rattle.disk_model.specs.Disk.{Only}
+use Rattle.disk_model.specs.Disk.{Only, SameOutside}
 use Rattle.disk_model.specs.Moments.{LeavesOnly}
 use Rattle.graph_model.specs.Graph.{Graph}
 use Rattle.image_plan.specs.declared.superblock.Super.{Super}
-use Rattle.image_plan.specs.Plan.{image_size}
+use Rattle.image_plan.specs.Plan.{image_size, log_offset}
 use Rattle.log_records.specs.declared.Record.{Record}
 use Rattle.heap_core.specs.Format.{heap_of}
 use Rattle.page_redo.specs.Pages.{Pages}
@@ -89,9 +89,13 @@ module _ {D : Type 0} (g : Ghosts D) where
   pub record PrintsGraph (s : Super) (batches : List (List Record)) (stored : Pages) (graph : Graph) (old new : D) (result : Status) (told : Bool) (before after : List ℕ) : Type 0 where
     pub moments : LeavesOnly g.moment g.left_since old new (IsLeftByOpening s batches stored)
     pub left : (image : List ℕ) → g.may_leave new image → IsLeftByOpening s batches stored image
+    -- each byte outside of the log is as it was, those behind the plan among them, and so it was at each moment
+    pub outside : LeavesOnly g.moment g.left_since old new (SameOutside log_offset (log_offset + s.log_bytes) (g.bytes old))
     pub calls : CallsOpening (opening_calls s batches) result (g.passed old) (g.passed new)
     pub restarts : g.restarts new ≡ g.restarts old
     -- a run that is done leaves the log rolled back, and nothing unsynced
     pub holds : result ≡ status.Done → Holds s (rolled_back s batches) stored (g.bytes new) × Only (g.bytes new) (g.may_leave new)
+    -- one that ends otherwise, but not by the disk, leaves nothing unsynced either
+    pub settled : result ≢ status.DiskFault → Only (g.bytes new) (g.may_leave new)
     pub written : IsTrue told → WritesText result (graph_text graph) before after
     pub end : IsEndOfPlay result

@@ -20,7 +20,7 @@ use Rattle.heap_model.specs.CoreCrash.{HasAtLeast}
 module _ {D : Type 0} (g : Ghosts D) where
   -- A step, from whose answer on until the run returned k is no less than what had been acknowledged or forced by then.
   pub record LastingStep (stop : Option ℕ) (last : Core) (start final : D) (c : Core) (before : D) (event : Event) (d : Core) (after : D) : Type 0 where
-    pub made : Step g stop start final c before event d after
+    pub made : Step g stop start c before event d after
     pub lasts : LeavesOnly g.moment g.left_since after final (HasAtLeast last (lasting d))
 
   -- A heap was opened as the core c on a disk, with so many calls at the opening, and these events were made.

@@ -134,6 +134,12 @@ IsExact None at_opening c made d = MadeAll c made d
 IsExact (Some n) at_opening c made d =
     (MadeAll c made d × (at_opening + total_calls c made ≤ n)) ⊎ ((at_opening ≤ n) × StopsLast (n - at_opening) c made d) ⊎ StopsOpening (Some n) at_opening made
 
+-- Where the disk is to stop, an event is answered `stopped` only if it has more calls than were left, also on a disk that fails or stops by itself:
+-- no answer of the disk is handed on as that.
+abbrev pub StopsInPlace : Option ℕ → ℕ → Core → List Event → Core → Type 0
+StopsInPlace None at_opening c made d = Unit {0}
+StopsInPlace (Some n) at_opening c made d = IsCutBy (Refused Stopped) c made d → (at_opening ≤ n) × StopsLast (n - at_opening) c made d
+
 -- A core that is opened on a shaped log beside stored pages, in frames with so many open gates, with a graph that stands in it.
 pub record IsOpened (c : Core) : Type 0 where
   pub super : Super
@@ -193,14 +199,14 @@ IsEndOfPlay status.DiskFault = Unit {0}
 IsEndOfPlay s = ⊥
 
 -- Of the events that were asked of a core these were made, and led to this one. The opening makes so many calls before.
-pub record MakesEvents (stop : Option ℕ) (at_opening : ℕ) (c : Core) (events : List Event) (result : Status) (unharmed : Type 0) : Type 0 where
+pub record MakesEvents (stop : Option ℕ) (at_opening : ℕ) (c : Core) (events : List Event) (result : Status) : Type 0 where
   pub made : List Event
   pub behind : List Event
   pub parts : events ≡ made ++ behind
   pub core : Core
   pub last : MadeAll c made core ⊎ ((reply : Reply) × IsCutBy reply c made core)
   pub done : result ≡ status.Done → HasMade stop c made behind core ⊎ StopsOpening stop at_opening made
-  pub exact : unharmed → IsExact stop at_opening c made core
+  pub in_place : StopsInPlace stop at_opening c made core
 
 -- The calls of an opening that count: all that it makes, or none where memory was refused in it.
 abbrev pub CountsOpening : ℕ → Status → List Event → ℕ → Type 0
@@ -213,11 +219,11 @@ module _ {D : Type 0} (g : Ghosts D) where
     pub opened : D
     pub opening : LeavesOnly g.moment g.left_since start opened (IsCommitPrefix c)
     pub here : (image : List ℕ) → g.may_leave opened image → IsCommitPrefix c image
-    pub passed : Unharmed g start final → made ≢ [] → g.passed opened ≡ counted at_opening (g.passed start)
+    pub passed : Unharmed g start opened → made ≢ [] → g.passed opened ≡ counted at_opening (g.passed start)
     pub few : g.passed opened ≤ counted at_opening (g.passed start)
     pub restarts : g.restarts opened ≡ g.restarts start
     pub stopped : D
-    pub steps : AreSteps (Step g stop start final) c opened made d stopped
+    pub steps : AreSteps (Step g stop start) c opened made d stopped
     pub rest : LeavesOnly g.moment g.left_since stopped final (IsCommitPrefix d)
     pub kept : (image : List ℕ) → g.may_leave final image → IsCommitPrefix d image
 
@@ -254,6 +260,8 @@ module _ {D : Type 0} (g : Ghosts D) where
     pub keeps : KeepsFirst c k old new
     pub most : (calls : ℕ) × (calls ≤ calls_to_open keeps.first) × (g.passed new ≡ counted calls (g.passed old))
     pub none : result ≡ status.NoMemory → g.passed new ≡ g.passed old
+    -- and then nothing is unsynced
+    pub only : result ≡ status.NoMemory → Only (g.bytes new) (g.may_leave new)
 
   -- It was opened on a disk that stops behind m writes and syncs, and what came of that let go. If the disk doesn't fail, it stopped just where
   -- an opening makes more than m: it let through the writes and syncs of an opening, or m of them if they are more.
@@ -281,12 +289,12 @@ module _ {D : Type 0} (g : Ghosts D) where
   EndsUnopened (Some m) c k stopped new result =
       (new ≡ stopped) ⊎ StartsAgain (Some m) c k (FailsToOpen c k result) stopped new ⊎ ((result ≡ status.NoMemory) × StartsAgain None c k (FailsToOpen c k result) stopped new)
 
-  -- What came behind the last event: nothing, where no stop was asked. Else the disk was started again and the heap opened on it; or no heap
-  -- was opened, and no more than lines were written.
+  -- What came behind the last event: nothing, where no stop was asked. Else the disk was started again and the heap opened on it, and then the
+  -- status is not the disk's, whatever came of an opening that was cut off before; or no heap was opened, and no more than lines were written.
   abbrev pub IsFollowed : Option Stop → Core → ℕ → D → D → Status → Type 0 → Type 0
   IsFollowed None c k stopped new result only_lines = new ≡ stopped
   IsFollowed (Some stop) c k stopped new result only_lines =
-      StartsAgain stop.again c k (Reopens c k) stopped new ⊎ (EndsUnopened stop.again c k stopped new result × (result ≢ status.Done) × only_lines)
+      (StartsAgain stop.again c k (Reopens c k) stopped new × (¬ IsOfDisk result)) ⊎ (EndsUnopened stop.again c k stopped new result × (result ≢ status.Done) × only_lines)
 
   -- The lines of a core's history were printed, how many commits came back where a stop was asked, and their graph. All that was acknowledged, or
   -- forced by an event that was not cut short, is among them.
@@ -300,12 +308,14 @@ module _ {D : Type 0} (g : Ghosts D) where
 
   -- Events were played on a disk whose heap was opened as the core c, with so many calls at the opening.
   pub record IsPlayed (stop : Option Stop) (at_opening : ℕ) (c : Core) (events : List Event) (start final : D) (result : Status) (told : Bool) (before after : List ℕ) : Type 0 where
-    pub run : MakesEvents (stop_after stop) at_opening c events result (Unharmed g start final)
+    pub run : MakesEvents (stop_after stop) at_opening c events result
     pub disk : KeepsThroughout (stop_after stop) at_opening c run.made run.core start final
+    -- without a fault up to the last event it stopped just where it was to
+    pub exact : Unharmed g start disk.stopped → IsExact (stop_after stop) at_opening c run.made run.core
     -- the disk behind the last event has counted the writes and syncs of the opening and of these events, or no more than those
     pub counts : ℕ
     pub opens : CountsOpening at_opening result run.made counts
-    pub calls : Unharmed g start final → g.passed disk.stopped ≡ counted (let_through (stop_after stop) (counts + total_calls c run.made)) (g.passed start)
+    pub calls : Unharmed g start disk.stopped → g.passed disk.stopped ≡ counted (let_through (stop_after stop) (counts + total_calls c run.made)) (g.passed start)
     pub most : g.passed disk.stopped ≤ counted (let_through (stop_after stop) (at_opening + total_calls c run.made)) (g.passed start)
     pub replies : replies_of_commits run.core.history ≡ serial_replies run.core.g0 (commits run.core.history)
     pub prints : Prints stop run.core disk.stopped final result told before after
@@ -313,6 +323,8 @@ module _ {D : Type 0} (g : Ghosts D) where
     pub faulted : IsCutBy (Refused DiskFault) c run.made run.core → EndsThere disk.stopped final result (IsTrue told → WroteFront before (lines_text run.core.history) after)
     -- a run that is done leaves nothing unsynced
     pub durable : result ≡ status.Done → Only (g.bytes final) (g.may_leave final)
+    -- and so does each that the disk did not end, unless its last event was cut short, and the disk is given back as that left it
+    pub settled : result ≢ status.DiskFault → (final ≡ disk.stopped → (reply : Reply) → IsCutBy reply c run.made run.core → ⊥) → Only (g.bytes final) (g.may_leave final)
     pub end : IsEndOfPlay result
 
   -- An empty heap was made. Meanwhile a crash left no heap, the old image, or the new heap.

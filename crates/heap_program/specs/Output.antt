@@ -1,6 +1,7 @@
 -- What is written of a text, and of a heap that is opened again.
 use Rattle.std.specs.Prelude.{◌≡◌, ◌≢◌, ◌⊎◌, ℕ, ◌-◌, ◌≤◌, min, List, [], ◌++◌, length, take, Bool, IsTrue, Option, None, Some, Result, Ok, Err}
 use Rattle.counts.specs.Count.{greatest}
+use Rattle.disk_model.specs.Disk.{Only}
 use Rattle.graph_model.specs.Graph.{Graph}
 use Rattle.graph_model.specs.History.{commits}
 use Rattle.graph_model.specs.Transaction.{serial}
@@ -8,7 +9,7 @@ use Rattle.heap_program.specs.declared.output.WriteError.{WriteError}
 use Rattle.heap_program.specs.declared.play.Halt.{Halt}
 use Rattle.heap_program.specs.declared.play.Halt.TheVariants as halt
 use Rattle.heap_program.specs.declared.status.Status.{Status}
-use Rattle.heap_program.specs.declared.status.Status.TheVariants.{Done}
+use Rattle.heap_program.specs.declared.status.Status.TheVariants.{Done, DiskFault}
 use Rattle.heap_model.specs.Core.{Core}
 use Rattle.heap_model.specs.CoreCrash.{StandsForFirst}
 use Rattle.heap_program.specs.Headline.{lasting, IsEndOfPlay, IsOfDisk, recovered_line, graph_text}
@@ -54,12 +55,14 @@ pub record WroteNothing (fails : Type 0) (result : Status) (told : Bool) (before
   pub early : result ≢ Done
   pub nothing : IsTrue told → after ≡ before
 
--- A heap was to be opened again on a disk that keeps a core's first k commits, and what came back was written. A crash still leaves them.
-pub record Recovers (c : Core) (k : ℕ) (opens fails : Type 0) (may_leave : List ℕ → Type 0) (result : Status) (told : Bool) (before after : List ℕ) : Type 0 where
+-- A heap was to be opened again on a disk that keeps a core's first k commits, and what came back was written. A crash still leaves them, and unless
+-- the disk failed nothing is unsynced.
+pub record Recovers (c : Core) (k : ℕ) (opens fails : Type 0) (bytes : List ℕ) (may_leave : List ℕ → Type 0) (result : Status) (told : Bool) (before after : List ℕ) : Type 0 where
   pub end : IsEndOfPlay result
   pub least : lasting c ≤ k
   pub most : k ≤ length (commits c.history)
   pub kept : (image : List ℕ) → may_leave image → StandsForFirst c k image
+  pub settled : result ≢ DiskFault → Only bytes may_leave
   pub found : WroteRecovered c k opens result told before after ⊎ WroteNothing fails result told before after
 
 -- How many commits came back and a graph were written, or a first part of that.

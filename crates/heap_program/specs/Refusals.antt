@@ -13,6 +13,10 @@ IsFault status.NotHeap image = IsNoHeap image
 IsFault (status.Damaged at) image = IsFaultAt at image
 IsFault s image = ⊥
 
+-- The image is damaged at an address: its log can be read, and its words are no objects there.
+abbrev pub IsWordFault : List ℕ → Type 0
+IsWordFault image = (address : ℕ) × IsFaultAt (Address address) image
+
 -- A status that speaks of the image tells what is so.
 abbrev pub IsToldOf : Status → List ℕ → Type 0
 IsToldOf status.NotHeap image = IsNoHeap image

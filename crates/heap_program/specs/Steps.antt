@@ -28,8 +28,8 @@ abbrev pub StepCause : {D : Type 0} (g : Ghosts D) → Option ℕ → D → D �
 StepCause g None start before after reply = HasCause (g.faults before) (g.faults after) (g.stops before) (g.stops after) (reply_device reply)
 StepCause g (Some n) start before after reply = StopCause g n start before after reply
 
--- An event was answered in a run from start to final, which led from one core and disk to others.
-pub record Step {D : Type 0} (g : Ghosts D) (stop : Option ℕ) (start final : D) (c : Core) (before : D) (event : Event) (d : Core) (after : D) : Type 0 where
+-- An event was answered in a run since start, which led from one core and disk to others.
+pub record Step {D : Type 0} (g : Ghosts D) (stop : Option ℕ) (start : D) (c : Core) (before : D) (event : Event) (d : Core) (after : D) : Type 0 where
   pub reply : Reply
   pub step : IsStep c event reply d
   pub cause : StepCause g stop start before after reply
@@ -37,8 +37,8 @@ pub record Step {D : Type 0} (g : Ghosts D) (stop : Option ℕ) (start final : D
   pub moments : LeavesOnly g.moment g.left_since before after (IsCommitPrefix c)
   -- once it was answered, also those that its answer acknowledged, or that it forced
   pub kept : (image : List ℕ) → g.may_leave after image → IsCommitPrefix d image
-  -- without a fault it made the writes and syncs of the core's step, or fewer where it was stopped
-  pub passes : Unharmed g start final → Passes (calls c event) (g.passed before) (g.passed after) (reply_device reply)
+  -- without a fault by then it made the writes and syncs of the core's step, or fewer where it was stopped
+  pub passes : Unharmed g start after → Passes (calls c event) (g.passed before) (g.passed after) (reply_device reply)
   pub restarts : g.restarts after ≡ g.restarts before
 
 -- A step of a heap on its own disk.

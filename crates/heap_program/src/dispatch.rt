@@ -22,7 +22,8 @@ ghost use Rattle.heap_program.specs.Commands.{makes, superblock_numbers, restart
 ghost use Rattle.heap_program.specs.CrashSafe.{RunsSafely};
 ghost use Rattle.heap_program.specs.Headline.{OfTold, PrintsRun, IsOfOwnImage, Runs, IsUntouching, EndsUnread, EndsUnmade, BlamesNoImage, RestartsDisk, graph_text, stop_after};
 ghost use Rattle.heap_program.specs.Playable.{IsReadFrom};
-ghost use Rattle.heap_program.specs.Refusals.{IsFault, IsToldOf, IsToldOfEach, EndsRefused, IsLeftAlone, LeavesAlone};
+ghost use Rattle.heap_recovery.specs.Faults.{IsLeftOf};
+ghost use Rattle.heap_program.specs.Refusals.{IsFault, IsWordFault, IsToldOf, IsToldOfEach, EndsRefused, IsLeftAlone, LeavesAlone};
 ghost use Rattle.script_text.specs.Script.{script};
 
 use crate::playing::run_play;
@@ -96,6 +97,9 @@ pub fn run<D: Disk, S: Source, K: Sink>(
     // At each moment a crash leaves such an image with the same fault.
     ensures keeps_fault { OfTold D.tells (D.bytes disk) (D.may_leave disk) ((asked : Command) (expected : Status) → command (map string_bytes words.now) ≡ Some asked → makes asked ≡ None
         → IsFault expected (D.bytes disk) → LeavesOnly D.moment D.left_since disk result.1 (IsFault expected)) }
+    // One that is damaged at an address keeps its log, or has that log rolled back, and each byte outside of the log is as it was.
+    ensures keeps_log { OfTold D.tells (D.bytes disk) (D.may_leave disk) ((asked : Command) → command (map string_bytes words.now) ≡ Some asked → makes asked ≡ None
+        → IsWordFault (D.bytes disk) → LeavesOnly D.moment D.left_since disk result.1 (IsLeftOf (D.bytes disk))) }
     ensures refused { IsTrue D.tells → (asked : Command) → command (map string_bytes words.now) ≡ Some asked → makes asked ≡ None → (Rose (D.restarts disk) (D.restarts result.1) → restarts_of asked ≡ 0) → IsToldOf result.0 (D.bytes disk) }
     // With a stop too, such a status tells what is so of the disk that is given back: of what it reads as, and of each image that a crash may leave.
     ensures refused_at_end { OfTold D.tells (D.bytes disk) (D.may_leave disk) (IsToldOfEach result.0 (D.may_leave result.1)) }

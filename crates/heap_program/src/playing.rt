@@ -10,7 +10,8 @@ ghost use Rattle.command_words.specs.Limits.{IsPages};
 ghost use Rattle.heap_program.specs.Causes.{StreamCause, RunsDisk, IsInputError, IsOpenedEnd, FailsByScript};
 ghost use Rattle.heap_program.specs.Headline.{OfTold, IsPlayed, IsEndOfPlay, PrintsRun, PrintsSome, IsOfImage, IsOfOwnImage, Runs, CanPlay, IsUntouching, EndsUnread, EndsUnmade, BlamesNoImage, RestartsDisk, restarts_asked, starts_asked, stop_after};
 ghost use Rattle.heap_program.specs.Playable.{IsScript, IsReadFrom};
-ghost use Rattle.heap_program.specs.Refusals.{IsFault, IsToldOf, IsToldOfEach, EndsRefused, IsLeftAlone, LeavesAlone};
+ghost use Rattle.heap_recovery.specs.Faults.{IsLeftOf};
+ghost use Rattle.heap_program.specs.Refusals.{IsFault, IsWordFault, IsToldOf, IsToldOfEach, EndsRefused, IsLeftAlone, LeavesAlone};
 ghost use Rattle.heap_program.specs.Stored.{IsStored, stored_core, stored_calls};
 ghost use Rattle.heap_model.specs.Ending.{all_events};
 ghost use Rattle.heap_program.specs.Output.{early_end};
@@ -73,6 +74,7 @@ pub fn run_play<D: Disk, S: Source, K: Sink>(
     // A heap that it made is never refused.
     ensures sound { OfTold D.tells (D.bytes disk) (D.may_leave disk) ((pages : ℕ) → fresh ≡ Some pages → BlamesNoImage result.0) }
     ensures keeps_fault { OfTold D.tells (D.bytes disk) (D.may_leave disk) (fresh ≡ None → (expected : Status) → IsFault expected (D.bytes disk) → LeavesOnly D.moment D.left_since disk result.1 (IsFault expected)) }
+    ensures keeps_log { OfTold D.tells (D.bytes disk) (D.may_leave disk) (fresh ≡ None → IsWordFault (D.bytes disk) → LeavesOnly D.moment D.left_since disk result.1 (IsLeftOf (D.bytes disk))) }
 {
     let script = match read_input(alloc, source) {
         Ok(script) => script,
@@ -112,6 +114,7 @@ fn play_script<D: Disk, K: Sink>(
     ensures left_alone { IsTrue D.tells → (expected : Status) → IsFault expected (D.bytes disk) → IsLeftAlone expected → LeavesAlone D.Disk disk result.1 }
     // At each moment a crash leaves an image with the same fault.
     ensures keeps_fault { IsTrue D.tells → Only (D.bytes disk) (D.may_leave disk) → (expected : Status) → IsFault expected (D.bytes disk) → LeavesOnly D.moment D.left_since disk result.1 (IsFault expected) }
+    ensures keeps_log { IsTrue D.tells → Only (D.bytes disk) (D.may_leave disk) → IsWordFault (D.bytes disk) → LeavesOnly D.moment D.left_since disk result.1 (IsLeftOf (D.bytes disk)) }
 {
     match stop {
         None => play_whole(alloc, disk, script, sink),
@@ -153,6 +156,7 @@ fn play_whole<D: Disk, K: Sink>(
     ensures refuses { IsTrue D.tells → (expected : Status) → IsFault expected (D.bytes disk) → EndsRefused expected result.0 × (sink.new ≡ sink.old) }
     ensures left_alone { IsTrue D.tells → (expected : Status) → IsFault expected (D.bytes disk) → IsLeftAlone expected → LeavesAlone D.Disk disk result.1 }
     ensures keeps_fault { IsTrue D.tells → Only (D.bytes disk) (D.may_leave disk) → (expected : Status) → IsFault expected (D.bytes disk) → LeavesOnly D.moment D.left_since disk result.1 (IsFault expected) }
+    ensures keeps_log { IsTrue D.tells → Only (D.bytes disk) (D.may_leave disk) → IsWordFault (D.bytes disk) → LeavesOnly D.moment D.left_since disk result.1 (IsLeftOf (D.bytes disk)) }
 {
     let mut heap = match Heap::open(alloc, disk) {
         Ok(heap) => heap,
@@ -189,6 +193,7 @@ fn play_stopped<D: Disk, K: Sink>(
     ensures refuses { IsTrue D.tells → Only (D.bytes disk) (D.may_leave disk) → (expected : Status) → IsFault expected (D.bytes disk) → EndsRefused expected result.0 × (sink.new ≡ sink.old) }
     ensures left_alone { IsTrue D.tells → (expected : Status) → IsFault expected (D.bytes disk) → IsLeftAlone expected → LeavesAlone D.Disk disk result.1 }
     ensures keeps_fault { IsTrue D.tells → Only (D.bytes disk) (D.may_leave disk) → (expected : Status) → IsFault expected (D.bytes disk) → LeavesOnly D.moment D.left_since disk result.1 (IsFault expected) }
+    ensures keeps_log { IsTrue D.tells → Only (D.bytes disk) (D.may_leave disk) → IsWordFault (D.bytes disk) → LeavesOnly D.moment D.left_since disk result.1 (IsLeftOf (D.bytes disk)) }
 {
     let mut heap = match Heap::open(alloc, FuseDisk::new(disk, stop.after)) {
         Ok(heap) => heap,

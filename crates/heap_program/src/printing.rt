@@ -17,7 +17,8 @@ ghost use Rattle.heap_program.specs.Causes.{StreamCause, RunsDisk, IsOpenedEnd};
 ghost use Rattle.heap_program.specs.Commands.{IsEndOf, RunsFormat, PrintsGraph, WritesText, formatted_line};
 ghost use Rattle.heap_program.specs.Headline.{OfTold, IsEndOfPlay, BlamesNoImage, graph_text};
 ghost use Rattle.heap_program.specs.Output.{WroteText};
-ghost use Rattle.heap_program.specs.Refusals.{IsFault, IsToldOf, IsToldOfEach, EndsRefused, IsLeftAlone, LeavesAlone};
+ghost use Rattle.heap_recovery.specs.Faults.{IsLeftOf};
+ghost use Rattle.heap_program.specs.Refusals.{IsFault, IsWordFault, IsToldOf, IsToldOfEach, EndsRefused, IsLeftAlone, LeavesAlone};
 
 use crate::output::{WriteError, write_graph};
 use crate::status::{Status, status_after};
@@ -82,6 +83,7 @@ pub fn run_graph<D: Disk, K: Sink>(alloc: Global, disk: D, sink: &mut K) -> (Sta
     ensures left_alone { IsTrue D.tells → (expected : Status) → IsFault expected (D.bytes disk) → IsLeftAlone expected → LeavesAlone D.Disk disk result.1 }
     // At each moment a crash leaves an image with the same fault.
     ensures keeps_fault { IsTrue D.tells → Only (D.bytes disk) (D.may_leave disk) → (expected : Status) → IsFault expected (D.bytes disk) → LeavesOnly D.moment D.left_since disk result.1 (IsFault expected) }
+    ensures keeps_log { IsTrue D.tells → Only (D.bytes disk) (D.may_leave disk) → IsWordFault (D.bytes disk) → LeavesOnly D.moment D.left_since disk result.1 (IsLeftOf (D.bytes disk)) }
 {
     match Heap::open(alloc, disk) {
         Ok(heap) => {

@@ -2,17 +2,19 @@
 use Rattle.std.proofs.Common.{◌≡◌, inl, inr, ⊎_elim, ℕ, zero, suc, ◌+◌, ◌-◌, ◌<◌, ◌≤◌, ◌^◌, List, [], ◌∷◌, ◌++◌, length, length-append, take, None, Some, true, is_some, refl, sym, ap, ◌∙◌, subst, arith}
 use Rattle.std.proofs.lemmas.Bool.{cases_order}
 use Rattle.std.specs.List.{AllByRecursion}
-use Rattle.std.specs.Prelude.{Option}
-use Rattle.disk_model.specs.Disk.{part}
+use Rattle.std.specs.Prelude.{◌⊎◌, Option}
+use Rattle.disk_model.specs.Disk.{part, SameOutside}
 use Rattle.gate_slot.proofs.ImageLaws.{length_part}
-use Rattle.gated_log.specs.Log.{BreaksAt, batches_bytes, records_of}
+use Rattle.gated_log.specs.Log.{BreaksAt, batches_bytes, records_of, with_batch}
 use Rattle.gated_log.proofs.LogLaws.{holds_once, holds_or_breaks, breaks_once}
 use Rattle.image_plan.specs.declared.superblock.Super.{Super}
 use Rattle.image_plan.specs.Plan.{log_offset}
 use Rattle.image_plan.proofs.SuperLaws.{one_super}
 use Rattle.log_records.specs.declared.Record.{Record}
 use Rattle.log_records.specs.Record.{IsRecord}
-use Rattle.log_machine.specs.Machine.{settled, State, start, after_all, losing_in, all_taken_back, each_taken_back, rollback, reserve}
+use Rattle.log_machine.specs.Machine.{settled, State, start, after_all, losing_in, all_taken_back, each_taken_back, rollback, abort_each, reserve}
+use Rattle.log_machine.specs.declared.UndoEntry.{UndoEntry}
+use Rattle.log_machine.proofs.MapLaws.{entries_empty}
 use Rattle.log_machine.proofs.MachineLaws.{after_all-append2}
 use Rattle.log_machine.specs.Replay.{IsFirstUnshaped}
 use Rattle.log_machine.proofs.ReplayLaws.{none_follow}
@@ -25,18 +27,19 @@ use Rattle.page_redo.specs.Pages.{Pages}
 use Rattle.page_redo.specs.Redo.{EachLacks, redone}
 use Rattle.page_redo.proofs.RedoLaws.{EachLacks-later, redone_words-append}
 use Rattle.page_cache.specs.CacheState.{IsFirstPast}
+use Rattle.page_cache.proofs.ImageLaws.{stored_behind_log}
 use Rattle.object_layout.specs.Walk.{IsWalked, IsWalkFault}
 use Rattle.object_layout.proofs.WalkLaws.{walked_fault, fault_one}
 use Rattle.heap_model.specs.Core.{need}
 use Rattle.heap_model.proofs.Opening.Rolled.{rollback_need, settled_reserve}
 use Rattle.heap_model.proofs.Step.Room.{records_of-with_batch, length-with_batch, length-pending_batch-append}
 use Rattle.heap_model.specs.Image.{redone_words, words_of, IsShaped}
-use Rattle.heap_model.specs.Opening.{rollback_in, rollback_of, rolled_back}
+use Rattle.heap_model.specs.Opening.{rollback_in, rollback_of, rolled_back, opening_calls}
 use Rattle.heap_recovery.specs.declared.at.At.{At}
 use Rattle.heap_recovery.specs.declared.at.At.TheVariants.{Batch, Rec, Reserve, Page, Address}
 use Rattle.heap_recovery.specs.declared.error.RecoverError.{RecoverError}
 use Rattle.heap_recovery.specs.declared.error.RecoverError.TheVariants.{NoMemory, NotHeap, Damaged, Disk}
-use Rattle.heap_recovery.specs.Faults.{stored_in, HasSuper, IsNoHeap, HoldsLog, IsReplayed, HasRoom, IsReadable, IsFaultAt, IsToldOf, IsErrorOrOutside, ComesBeforeWrites, IsLogLeft}
+use Rattle.heap_recovery.specs.Faults.{stored_in, HasSuper, IsNoHeap, HoldsLog, IsReplayed, HasRoom, IsReadable, IsFaultAt, IsToldOf, IsErrorOrOutside, ComesBeforeWrites, IsLogLeft, IsLeftOf}
 
 -- What an image holds is one thing.
 
@@ -363,10 +366,73 @@ module _ (s : Super) (batches : List (List Record)) (state : State) (image : Lis
         (s, batches, state, kept_readable holds, subst (λ (pages : Pages). IsWalkFault (words_of s batches pages) state.base state.used address) (sym same) walk)
 
   -- What an opening leaves of an image whose log can be read has the fault that the image has.
-  pub left_fault : (at : At) → IsFaultAt at image → (new : List ℕ) → IsLogLeft s batches stored new → IsFaultAt at new
+  pub left_fault : (at : At) → IsFaultAt at image → (new : List ℕ) → IsLogLeft s batches image new → IsFaultAt at new
   left_fault at fault new left =
+      let same = stored_behind_log s.pages s.log_bytes image new left.1 in
       let found = readable_fault s batches state image at is fault in
       let P : At → Type 0 = λ x. IsFaultAt x image in
       let Q : At → Type 0 = λ x. IsFaultAt x new in
       let there = subst P found.1 fault in
-      subst Q (sym found.1) (⊎_elim (λ holds. kept_fault new left.1 found.0 holds there) (λ holds. rolled_fault new left.1 found.0 holds there) left.0)
+      subst Q (sym found.1) (⊎_elim (λ holds. kept_fault new same found.0 holds there) (λ holds. rolled_fault new same found.0 holds there) left.0)
+
+  -- in a log that is rolled back nothing is left to be taken back
+  rolled_again : rolled_back s (rolled_back s batches) ≡ rolled_back s batches
+  rolled_again = ap (with_batch (rolled_back s batches)) (ap rollback_in rolled_reached ∙ ap abort_each (entries_empty (List UndoEntry)))
+
+  -- So it can be read too, and an opening of it leaves no other log.
+  left_next : (new : List ℕ) → IsLogLeft s batches image new
+      → (bs : List (List Record)) × (next : State) × IsReadable s bs next new × ((newer : List ℕ) → HoldsLog s bs newer ⊎ HoldsLog s (rolled_back s bs) newer → HoldsLog s batches newer ⊎ HoldsLog s (rolled_back s batches) newer)
+  left_next new left =
+      let same = stored_behind_log s.pages s.log_bytes image new left.1 in
+      ⊎_elim
+      (λ (holds : HoldsLog s batches new). (batches, state, kept_readable new same holds, λ newer either. either))
+      (λ (holds : HoldsLog s (rolled_back s batches) new). (
+        rolled_back s batches,
+        settled state,
+        rolled_readable new same holds,
+        λ newer either. inr (⊎_elim
+            (λ (log : HoldsLog s (rolled_back s batches) newer). log)
+            (λ (log : HoldsLog s (rolled_back s (rolled_back s batches)) newer). subst (λ (bs : List (List Record)). HoldsLog s bs newer) rolled_again log)
+            either),
+      ))
+      left.0
+
+-- each byte is as it was where nothing was written
+pub same_outside : (low high : ℕ) (image : List ℕ) → SameOutside low high image image
+same_outside low high image = record { size = refl; before = λ i less. refl; behind = λ i more. refl }
+
+outside_then : (low high : ℕ) (old mid new : List ℕ) → SameOutside low high old mid → SameOutside low high mid new → SameOutside low high old new
+outside_then low high old mid new first second = record {
+  size = second.size ∙ first.size;
+  before = λ i less. second.before i less ∙ first.before i less;
+  behind = λ i more. second.behind i more ∙ first.behind i more;
+}
+
+-- What only reads leaves of an image whose log can be read is one that an opening leaves of it,
+pub left_same : (s : Super) (batches : List (List Record)) (state : State) (image : List ℕ) → IsReadable s batches state image → IsLogLeft s batches image image
+left_same s batches state image readable = (inl readable.roomy.replayed.log, same_outside log_offset (log_offset + s.log_bytes) image)
+
+-- and what an opening leaves of that, one leaves of the image.
+pub left_again : (old mid new : List ℕ) → IsLeftOf old mid → IsLeftOf mid new → IsLeftOf old new
+left_again old mid new (s, batches, state, readable, left) (r, bs, other, again, then_left) =
+    let next = left_next s batches state old readable mid left in
+    let log = next.2.roomy.replayed.log in
+    let there = again.roomy.replayed.log in
+    let P : Super → Type 0 = λ x. HoldsLog x bs mid × IsLogLeft x bs mid new in
+    let mine = subst P (one_numbers r s mid there.super log.super) (there, then_left) in
+    let Q : List (List Record) → Type 0 = λ l. IsLogLeft s l mid new in
+    let last = subst Q (one_batches s bs next.0 mid mine.0 log) mine.1 in
+    (s, batches, state, readable, (next.3 new last.0, outside_then log_offset (log_offset + s.log_bytes) old mid new left.1 last.1))
+
+-- a fault stays over several openings
+pub left_of_fault : (old new : List ℕ) (at : At) → IsFaultAt at old → IsLeftOf old new → IsFaultAt at new
+left_of_fault old new at fault (s, batches, state, readable, left) = left_fault s batches state old readable at fault new left
+
+-- what is read of an image has one number of calls
+pub one_opening : (s r : Super) (bs cs : List (List Record)) (m n : State) (image : List ℕ) → IsReadable s bs m image → IsReadable r cs n image → opening_calls r cs ≡ opening_calls s bs
+one_opening s r bs cs m n image one other =
+    let log = one.roomy.replayed.log in
+    let there = other.roomy.replayed.log in
+    let P : Super → Type 0 = λ x. HoldsLog x cs image × (opening_calls r cs ≡ opening_calls x cs) in
+    let mine = subst P (one_numbers r s image there.super log.super) (there, refl) in
+    mine.1 ∙ ap (opening_calls s) (one_batches s cs bs image mine.0 log)

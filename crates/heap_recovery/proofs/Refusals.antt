@@ -6,6 +6,7 @@ use Rattle.disk_model.specs.Disk.{part, Only, Narrows, SameOutside}
 use Rattle.disk_model.specs.Moments.{LeavesOnly}
 use Rattle.disk_model.proofs.MomentLaws.{joined, weaker}
 use Rattle.gate_slot.proofs.ImageLaws.{same_part}
+use Rattle.gate_slot.specs.Passing.{Passes}
 use Rattle.gated_log.specs.declared.log.Log.{Log}
 use Rattle.gated_log.specs.Log.{records_of, with_batch, HoldsBatches}
 use Rattle.gated_log.specs.LogState.{log_place, log_room, log_used, Keeps}
@@ -16,7 +17,6 @@ use Rattle.log_records.specs.Record.{IsRecord}
 use Rattle.log_machine.specs.Machine.{State, all_taken_back, rollback, reserve}
 use Rattle.object_layout.specs.Walk.{IsWalked, IsWalkFault}
 use Rattle.page_redo.specs.Pages.{Pages}
-use Rattle.page_cache.proofs.ImageLaws.{stored_behind_log}
 use Rattle.page_cache.specs.CacheState.{cached}
 use Rattle.heap_model.specs.Image.{Holds, IsShaped}
 use Rattle.heap_model.specs.Opening.{rolled_back}
@@ -27,8 +27,8 @@ use Rattle.heap_recovery.specs.declared.error.RecoverError.TheVariants.{NoMemory
 use Rattle.heap_recovery.specs.declared.reading.Reading.{Reading}
 use Rattle.heap_recovery.specs.declared.recovery.Recovered.{Recovered}
 use Rattle.heap_recovery.specs.Faults.{stored_in, HasSuper, IsNoHeap, HoldsLog, IsReadable, IsFaultAt, IsToldOf, IsErrorOrOutside, IsLogLeft}
-use Rattle.heap_recovery.proofs.FaultLaws.{one_numbers, one_batches, shaped_log, shaped_whole, told_not_heap, told_damaged, left_fault, rolled_spelled}
-use Rattle.heap_recovery.specs.Recovered.{IsRead, IsRecovered, IsFromOutside}
+use Rattle.heap_recovery.proofs.FaultLaws.{one_numbers, one_batches, shaped_log, shaped_whole, told_not_heap, told_damaged, readable_fault, left_fault, left_same, rolled_spelled}
+use Rattle.heap_recovery.specs.Recovered.{IsRead, IsRecovered, IsFromOutside, ErrorPasses, OpenPasses}
 use Rattle.heap_recovery.proofs.Opening.{committed, only_still, in_log, held_there, outside_log, rolled_held, placed_there, read_shaped}
 
 -- no numbers are those of an image of which an opening tells no damage, if none lets it end so but the outside
@@ -48,6 +48,13 @@ told_outside s batches stored image (Disk e) shaped told = tt
 pub err_outside : {T : Type 0} (s : Super) (batches : List (List Record)) (stored : Pages) (image : List ℕ) (r : Result T RecoverError) → IsShaped s batches stored image → IfErr r (λ e. IsToldOf e image) → IfErr r IsFromOutside
 err_outside s batches stored image (Ok x) shaped told = tt
 err_outside s batches stored image (Err e) shaped told = told_outside s batches stored image e shaped told
+
+-- nor of one whose log can be read, unless its words were looked at
+pub readable_outside : (s : Super) (batches : List (List Record)) (state : State) (image : List ℕ) (e : RecoverError) → IsReadable s batches state image → ((address : ℕ) → e ≢ Damaged (Address address)) → IsToldOf e image → IsFromOutside e
+readable_outside s batches state image NoMemory readable never told = tt
+readable_outside s batches state image NotHeap readable never told = absurd (told s readable.roomy.replayed.log.super)
+readable_outside s batches state image (Damaged at) readable never told = let found = readable_fault s batches state image at readable told in absurd (never found.0 (ap (λ (x : At). Damaged x) found.1))
+readable_outside s batches state image (Disk e) readable never told = tt
 
 -- what was read of it is its own
 pub read_own : (s : Super) (batches : List (List Record)) (stored : Pages) (image : List ℕ) (r : Result Reading RecoverError) → IsShaped s batches stored image
@@ -85,6 +92,14 @@ module _ (r : Result Recovered RecoverError) (fault : Option ℕ) (damaged : (at
       ok_none (Ok found) ok = tt
       ok_none (Err e) ok = cc ok
   ended (Some at) P is told = subst (λ x. IfErr x P) (sym (damaged at is)) (told at is)
+
+  -- an opening has then made all calls
+  pub finish_passes : (n before now : ℕ) → Passes n before now (Ok tt) → OpenPasses n before now r
+  finish_passes n before now passes = either r (ended fault (λ e. ErrorPasses n before now e) refl (λ at is. passes))
+    where
+      either : (x : Result Recovered RecoverError) → IfErr x (λ e. ErrorPasses n before now e) → OpenPasses n before now x
+      either (Ok found) told = passes
+      either (Err e) told = told
 
   -- an error tells that fault
   pub finish_told : (image : List ℕ) → ((at : ℕ) → fault ≡ Some at → IsFaultAt (Address at) image) → IfErr r (λ e. IsToldOf e image)
@@ -131,38 +146,35 @@ module _ {D : Type 0} (moment : D → ℕ) (left_since : D → ℕ → List ℕ 
 
   -- A crash at any moment of a rollback leaves an image with the log that was read, or with that log rolled back.
   module _ (s : Super) (batches : List (List Record)) (image : List ℕ) (read : Reading) (is : IsRead s batches (stored_in s image) read) (readable : IsReadable s batches read.state image) (old mid new : D) where
-    abbrev stored : Pages
-    stored = stored_in s image
-
     pub forced_run : (before between : List ℕ → Type 0) (now : List ℕ) (log : Log) → log_place log ≡ log_place read.log → log_room log ≡ log_room read.log → Keeps log batches (rollback read.state)
         → Only image before → now ≡ image → Narrows before between → LeavesOnly moment left_since old mid before
         → (Only now between → (bs : List (List Record)) (ps : List Record) → Keeps log bs ps → HoldsBatches (part now (log_place log) (log_room log)) bs → LeavesOnly moment left_since mid new (λ c. SameOutside (log_place log) (log_place log + log_room log) now c × (HoldsBatches (part c (log_place log) (log_room log)) bs ⊎ HoldsBatches (part c (log_place log) (log_room log)) (with_batch bs ps))))
-        → LeavesOnly moment left_since old new (IsLogLeft s batches stored)
+        → LeavesOnly moment left_since old new (IsLogLeft s batches image)
     forced_run before between now log place room keeps only same narrows first forcing =
         let here = readable.roomy.replayed.log in
         let spelled = rolled_spelled s batches read.state image readable in
-        let stand = placed_there log read.log (λ n m. HoldsBatches (part now n m) batches) (sym place) (sym room) (held_there s batches stored read is image now here.held same) in
+        let stand = placed_there log read.log (λ n m. HoldsBatches (part now n m) batches) (sym place) (sym room) (held_there s batches (stored_in s image) read is image now here.held same) in
         let Left : ℕ → ℕ → List ℕ → Type 0 = λ n m c. SameOutside n (n + m) now c × (HoldsBatches (part c n m) batches ⊎ HoldsBatches (part c n m) (with_batch batches (rollback read.state))) in
         let second = placed_there read.log log (λ n m. LeavesOnly moment left_since mid new (Left n m)) place room (forcing (only_still image now before between only same narrows) batches (rollback read.state) keeps stand) in
-        let outside : (c : List ℕ) → SameOutside (log_place read.log) (log_place read.log + log_room read.log) now c → SameOutside log_offset (log_offset + s.log_bytes) image c = λ c. outside_log s batches stored read is image now c same in
-        weaker moment left_since old new _ (IsLogLeft s batches stored) (joined moment left_since old mid new _ _ first second)
-        (λ c. ⊎_elim (λ left. (inl (subst (HoldsLog s batches) (sym (only c left)) here), ap (stored_in s) (only c left)))
+        let outside : (c : List ℕ) → SameOutside (log_place read.log) (log_place read.log + log_room read.log) now c → SameOutside log_offset (log_offset + s.log_bytes) image c = λ c. outside_log s batches (stored_in s image) read is image now c same in
+        weaker moment left_since old new _ (IsLogLeft s batches image) (joined moment left_since old mid new _ _ first second)
+        (λ c. ⊎_elim (λ left. subst (IsLogLeft s batches image) (sym (only c left)) (left_same s batches read.state image readable))
         (λ found. (
-          ⊎_elim (λ holds. inl (log_with s batches batches image c here (outside c found.0) (in_log s batches stored read is (λ n m. HoldsBatches (part c n m) batches) holds) here.good))
-              (λ holds. inr (log_with s batches (rolled_back s batches) image c here (outside c found.0) (rolled_held s batches stored read is c holds) spelled)) found.1,
-          stored_behind_log s.pages s.log_bytes image c (outside c found.0),
+          ⊎_elim (λ holds. inl (log_with s batches batches image c here (outside c found.0) (in_log s batches (stored_in s image) read is (λ n m. HoldsBatches (part c n m) batches) holds) here.good))
+              (λ holds. inr (log_with s batches (rolled_back s batches) image c here (outside c found.0) (rolled_held s batches (stored_in s image) read is c holds) spelled)) found.1,
+          outside c found.0,
         )))
 
-    module _ (run : LeavesOnly moment left_since old new (IsLogLeft s batches stored)) where
+    module _ (run : LeavesOnly moment left_since old new (IsLogLeft s batches image)) where
       -- whatever the log is called
-      pub left_readable : (r : Super) (bs : List (List Record)) (state : State) → IsReadable r bs state image → LeavesOnly moment left_since old new (IsLogLeft r bs (stored_in r image))
+      pub left_readable : (r : Super) (bs : List (List Record)) (state : State) → IsReadable r bs state image → LeavesOnly moment left_since old new (IsLogLeft r bs image)
       left_readable r bs state other =
           let log = readable.roomy.replayed.log in
           let there = other.roomy.replayed.log in
           let numbers = one_numbers s r image log.super there.super in
           let mine = (let P : Super → Type 0 = λ x. HoldsLog x batches image in subst P numbers log) in
-          let Q : Super → Type 0 = λ x. LeavesOnly moment left_since old new (IsLogLeft x batches (stored_in x image)) in
-          let R : List (List Record) → Type 0 = λ l. LeavesOnly moment left_since old new (IsLogLeft r l (stored_in r image)) in
+          let Q : Super → Type 0 = λ x. LeavesOnly moment left_since old new (IsLogLeft x batches image) in
+          let R : List (List Record) → Type 0 = λ l. LeavesOnly moment left_since old new (IsLogLeft r l image) in
           subst R (one_batches r batches bs image mine there) (subst Q numbers run)
 
       -- an image whose log can be read is a heap
@@ -171,4 +183,4 @@ module _ {D : Type 0} (moment : D → ℕ) (left_since : D → ℕ → List ℕ 
 
       -- a fault stays
       pub left_damaged : (at : At) → IsFaultAt at image → LeavesOnly moment left_since old new (IsFaultAt at)
-      left_damaged at fault = weaker moment left_since old new (IsLogLeft s batches stored) (IsFaultAt at) run (left_fault s batches read.state image readable at fault)
+      left_damaged at fault = weaker moment left_since old new (IsLogLeft s batches image) (IsFaultAt at) run (left_fault s batches read.state image readable at fault)

@@ -3,7 +3,7 @@
 -- holds is a page's LSN and words, whatever they are.
 use Rattle.std.specs.Prelude.{◌≡◌, ◌⊎◌, ℕ, ◌+◌, ◌<◌, ◌≤◌, List, length, take, Some}
 use Rattle.std.specs.List.{AllByRecursion}
-use Rattle.disk_model.specs.Disk.{part}
+use Rattle.disk_model.specs.Disk.{part, SameOutside}
 use Rattle.gated_log.specs.Log.{HoldsBatches, BreaksAt, batches_bytes, records_of}
 use Rattle.image_plan.specs.declared.superblock.Super.{Super}
 use Rattle.image_plan.specs.Plan.{log_offset, image_size}
@@ -92,6 +92,10 @@ ComesBeforeWrites (Damaged (Address address)) = ⊥
 ComesBeforeWrites (Disk e) = ⊥
 ComesBeforeWrites e = Unit {0}
 
--- An opening of an image that holds this log leaves one that holds it, or the log behind the opening. It stores no page.
-abbrev pub IsLogLeft : Super → List (List Record) → Pages → List ℕ → Type 0
-IsLogLeft s batches stored image = (HoldsLog s batches image ⊎ HoldsLog s (rolled_back s batches) image) × (stored_in s image ≡ stored)
+-- An opening of an image that holds this log leaves one that holds it, or the log behind the opening. Each byte outside of the log is as it was.
+abbrev pub IsLogLeft : Super → List (List Record) → List ℕ → List ℕ → Type 0
+IsLogLeft s batches old image = (HoldsLog s batches image ⊎ HoldsLog s (rolled_back s batches) image) × SameOutside log_offset (log_offset + s.log_bytes) old image
+
+-- What openings leave of an image whose log can be read, whatever its words.
+abbrev pub IsLeftOf : List ℕ → List ℕ → Type 0
+IsLeftOf old image = (s : Super) × (batches : List (List Record)) × (state : State) × IsReadable s batches state old × IsLogLeft s batches old image

@@ -15,6 +15,7 @@ ghost use Rattle.page_store.specs.StoreState.{Knows};
 ghost use Rattle.page_cache.specs.CacheState.{cached, cache_store, cache_size};
 ghost use Rattle.heap_model.specs.Image.{IsShaped};
 ghost use Rattle.heap_recovery.specs.declared.at.At.{At};
+ghost use Rattle.heap_recovery.specs.declared.at.At.TheVariants.{Address};
 ghost use Rattle.heap_recovery.specs.declared.error.RecoverError.TheVariants.{Damaged};
 ghost use Rattle.heap_recovery.specs.Causes.{open_device};
 ghost use Rattle.heap_recovery.specs.Faults.{stored_in, HasSuper, IsReadable, IsToldOf, IsToldOfLog};
@@ -48,6 +49,8 @@ pub fn read_image<D: Disk>(alloc: Global, disk: &mut D) -> Result<Reading, Recov
     // Of a shaped image its own are read.
     ensures found { IsTrue D.tells → (s : Super) (batches : List (List Record)) (stored : Pages) → IsShaped s batches stored (D.bytes disk.old) → IfOk result (IsRead s batches stored) }
     ensures shaped { IsTrue D.tells → (s : Super) (batches : List (List Record)) (stored : Pages) → IsShaped s batches stored (D.bytes disk.old) → IfErr result IsFromOutside }
+    // The words are not looked at yet.
+    ensures no_address { (address : ℕ) → result ≢ Err (Damaged (Address address)) }
     ensures disk { OnlyReads D.Disk disk.old disk.new (open_device result) }
 {
     let of = read_numbers(disk)?;
@@ -90,6 +93,7 @@ fn read_log<D: Disk>(alloc: Global, disk: &mut D, of: Super) -> Result<Reading, 
     ensures sound { IsTrue D.tells → HasSuper of (D.bytes disk.old) → IfOk result (λ read. (batches : List (List Record)) × IsRead read.of batches (stored_in read.of (D.bytes disk.old)) read × IsReadable read.of batches read.state (D.bytes disk.old)) }
     ensures refused { IsTrue D.tells → HasSuper of (D.bytes disk.old) → IfErr result (λ e. IsToldOf e (D.bytes disk.old)) }
     ensures known { IsTrue D.tells → IfOk result (λ read. Knows (cache_store read.cache) (D.bytes disk.old)) }
+    ensures no_address { (address : ℕ) → result ≢ Err (Damaged (Address address)) }
     ensures disk { OnlyReads D.Disk disk.old disk.new (open_device result) }
 {
     let cache = PageCache::open(alloc, disk, of.plan())?;
@@ -114,6 +118,7 @@ fn replay_log<D: Disk>(
     ensures inside { IfOk result (λ log. log_place log + log_room log ≤ D.extent disk.new) }
     ensures few { IfOk result (λ log. log_count log < 2 ^ 32) }
     ensures store { cache_store replay.new.cache ≡ cache_store replay.old.cache }
+    ensures no_address { (address : ℕ) → result ≢ Err (Damaged (Address address)) }
     ensures disk { OnlyReads D.Disk disk.old disk.new (open_device result) }
 {
     let mut reader = LogReader::open(alloc, of.plan().log_at(), of.log_bytes)?;

@@ -19,7 +19,7 @@ ghost use Rattle.heap_recovery.specs.Causes.{open_device};
 ghost use Rattle.heap_recovery.specs.declared.at.At.{At};
 ghost use Rattle.heap_recovery.specs.declared.at.At.TheVariants.{Address};
 ghost use Rattle.heap_recovery.specs.declared.error.RecoverError.TheVariants.{NoMemory, NotHeap, Damaged};
-ghost use Rattle.heap_recovery.specs.Faults.{stored_in, IsNoHeap, IsReadable, IsFaultAt, IsToldOf, IsErrorOrOutside, ComesBeforeWrites, IsLogLeft};
+ghost use Rattle.heap_recovery.specs.Faults.{IsNoHeap, IsReadable, IsFaultAt, IsToldOf, IsErrorOrOutside, ComesBeforeWrites, IsLogLeft};
 ghost use Rattle.heap_recovery.specs.Recovered.{IsRecovered, IsFromOutside, OpenPasses};
 
 use crate::at::At;
@@ -66,7 +66,7 @@ pub fn recover<D: Disk>(alloc: Global, disk: &mut D) -> Result<Recovered, Recove
     ensures reads_damaged { IsTrue D.tells → (at : At) → IsFaultAt at (D.bytes disk.old) → ComesBeforeWrites (Damaged at) → OnlyReads D.Disk disk.old disk.new (open_device result) }
 
     // A crash at any moment leaves an image with the same log, or that log rolled back; where it is wrong, with the same fault.
-    ensures moments_readable { IsTrue D.tells → Only (D.bytes disk.old) (D.may_leave disk.old) → (s : Super) (batches : List (List Record)) (state : State) → IsReadable s batches state (D.bytes disk.old) → LeavesOnly D.moment D.left_since disk.old disk.new (IsLogLeft s batches (stored_in s (D.bytes disk.old))) }
+    ensures moments_readable { IsTrue D.tells → Only (D.bytes disk.old) (D.may_leave disk.old) → (s : Super) (batches : List (List Record)) (state : State) → IsReadable s batches state (D.bytes disk.old) → LeavesOnly D.moment D.left_since disk.old disk.new (IsLogLeft s batches (D.bytes disk.old)) }
     ensures moments_not_heap { IsTrue D.tells → Only (D.bytes disk.old) (D.may_leave disk.old) → IsNoHeap (D.bytes disk.old) → LeavesOnly D.moment D.left_since disk.old disk.new IsNoHeap }
     ensures moments_damaged { IsTrue D.tells → Only (D.bytes disk.old) (D.may_leave disk.old) → (at : At) → IsFaultAt at (D.bytes disk.old) → LeavesOnly D.moment D.left_since disk.old disk.new (IsFaultAt at) }
 
@@ -82,6 +82,9 @@ pub fn recover<D: Disk>(alloc: Global, disk: &mut D) -> Result<Recovered, Recove
     // A crash at any moment leaves the image as it was, or with its log rolled back: both stand for the same graph and commits.
     ensures moments { IsTrue D.tells → Only (D.bytes disk.old) (D.may_leave disk.old) → (s : Super) (batches : List (List Record)) (stored : Pages) → IsShaped s batches stored (D.bytes disk.old) → LeavesOnly D.moment D.left_since disk.old disk.new (IsLeftByOpening s batches stored) }
     ensures passes { IsTrue D.tells → (s : Super) (batches : List (List Record)) (stored : Pages) → IsShaped s batches stored (D.bytes disk.old) → OpenPasses (opening_calls s batches) (D.passed disk.old) (D.passed disk.new) result }
+    // So many calls it makes too where the words are damaged, and leaves nothing unsynced that it tells.
+    ensures passes_readable { IsTrue D.tells → (s : Super) (batches : List (List Record)) (state : State) → IsReadable s batches state (D.bytes disk.old) → OpenPasses (opening_calls s batches) (D.passed disk.old) (D.passed disk.new) result }
+    ensures durable_damaged { IsTrue D.tells → Only (D.bytes disk.old) (D.may_leave disk.old) → (at : At) → result ≡ Err (Damaged at) → Only (D.bytes disk.new) (D.may_leave disk.new) }
     // Where nothing is rolled back the disk is only read.
     ensures no_first_stop { IsTrue D.tells → (s : Super) (batches : List (List Record)) (stored : Pages) → IsShaped s batches stored (D.bytes disk.old) → rollback_of s batches ≡ [] → D.stops disk.old ≡ 0 → D.stops disk.new ≡ 0 }
 {

@@ -26,7 +26,7 @@ pub struct Replay {
 }
 
 impl Replay {
-    ghost use Rattle.std.specs.Prelude.{ℕ, ◌+◌, ◌^◌, ◌<◌, ◌≤◌, List, [], ◌∷◌, ◌++◌, IsFalse, Ok, IfOk, IfErr, OnOk};
+    ghost use Rattle.std.specs.Prelude.{◌≢◌, ℕ, ◌+◌, ◌^◌, ◌<◌, ◌≤◌, List, [], ◌∷◌, ◌++◌, IsFalse, Ok, Err, IfOk, IfErr, OnOk};
     ghost use Rattle.gated_log.specs.LogState.{log_room, log_used, log_count};
     ghost use Rattle.image_plan.specs.declared.superblock.Super.{Super};
     ghost use Rattle.image_plan.specs.Super.{IsSuper};
@@ -36,7 +36,8 @@ impl Replay {
     ghost use Rattle.page_redo.specs.Redo.{EachLacks};
     ghost use Rattle.page_store.specs.StoreState.{store_plan};
     ghost use Rattle.page_cache.specs.CacheState.{cache_store, cache_failed, flushed_lsn};
-    ghost use Rattle.heap_recovery.specs.declared.error.RecoverError.TheVariants.{NoMemory};
+    ghost use Rattle.heap_recovery.specs.declared.at.At.TheVariants.{Address};
+    ghost use Rattle.heap_recovery.specs.declared.error.RecoverError.TheVariants.{NoMemory, Damaged};
     ghost use Rattle.heap_recovery.specs.Causes.{open_device};
     ghost use Rattle.heap_recovery.specs.Faults.{stored_in, HoldsLog, IsReadable, IsToldOf};
     ghost use Rattle.heap_recovery.specs.Recovered.{plan_of, IsRead};
@@ -92,6 +93,7 @@ impl Replay {
         ensures read { (batches : List (List Record)) (stored : Pages) → HasReplayedLog of batches stored log self → IfOk result (IsRead of batches stored) }
         ensures readable { (batches : List (List Record)) (image : List ℕ) → HoldsLog of batches image → HasReplayedLog of batches (stored_in of image) log self → IfOk result (λ read. IsReadable of batches read.state image) }
         ensures refused { (batches : List (List Record)) (image : List ℕ) → HoldsLog of batches image → HasReplayedLog of batches (stored_in of image) log self → IfErr result (λ e. IsToldOf e image) }
+        ensures no_address { (address : ℕ) → result ≢ Err (Damaged (Address address)) }
         ensures next { IfOk result (λ read. EachLacks (log_count read.log + 1) (cached read.cache)) }
         ensures room { IfOk result (λ read. log_used read.log + reserve read.state ≤ log_room read.log) }
         ensures of { IfOk result (λ read. read.of ≡ of) }

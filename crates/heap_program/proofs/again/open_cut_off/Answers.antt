@@ -4,6 +4,7 @@ use Rattle.disk_model.specs.Disk.{Only}
 use Rattle.disk_model.specs.Moments.{LeavesOnly}
 use Rattle.disk_model.specs.Fuse.{fuse_inner, fuse_passed}
 use Rattle.heap_core.specs.Causes.{ErrorPasses}
+use Rattle.heap_core.specs.Refusals.{ComesBeforeWrites}
 use Rattle.heap_core.specs.declared.errors.OpenError.TheVariants as opening
 use Rattle.heap_program.specs.declared.status.Status.TheVariants.{NoMemory}
 use Rattle.heap_model.specs.CoreCrash.{StandsForFirst}
@@ -13,9 +14,10 @@ use Rattle.heap_model.specs.Opening.{opening_calls, rollback_of}
 use Rattle.heap_program.specs.Headline.{IsCutOff, FailsToOpen}
 use Rattle.heap_program.proofs.PlayFuse.{same_disk, same_limit, fuse_since, fuse_passes, fuse_none, fuse_most}
 use Rattle.heap_program.proofs.PrintRecovered.{keeps_first, few_to_open, whole_passes, error_cut}
-use Rattle.heap_recovery.specs.Faults.{IsNoHeap, IsFaultAt}
-use Rattle.heap_program.specs.Refusals.{IsFault}
-use Rattle.heap_program.proofs.RefusalLaws.{fault_moments, at_end}
+use Rattle.heap_recovery.specs.declared.at.At.TheVariants.{Address}
+use Rattle.heap_recovery.specs.Faults.{IsNoHeap, IsFaultAt, IsLogLeft, IsLeftOf}
+use Rattle.heap_program.specs.Refusals.{IsFault, IsWordFault}
+use Rattle.heap_program.proofs.RefusalLaws.{fault_moments, left_moments, at_end}
 use Rattle.heap_program.proofs.again.open_cut_off.Goals as goal
 
 -- the whole opening passed
@@ -90,11 +92,13 @@ returns-then-eq-clause-cut g c tells core k at_first at_only =
     let keeps = keeps_first d core k start (fuse_inner fuse) first (fuse_since c.new.result fuse _ (e.moments tells only stands.super stands.batches stands.stored (shaped_image legal))) (λ left may. e.crash tells only stands.super stands.batches stands.stored (shaped_image legal) left may) (e.disk.restarts tells) in
     let passes = subst (λ error. ErrorPasses n (fuse_passed c.new.result) (fuse_passed fuse) error) is (e.passes tells stands.super stands.batches stands.stored (shaped_image legal)) in
     let same = fuse_none fuse start tells began (passes ∙ c.new.ensures.passed) in
+    let reads = (e.left_alone (subst ComesBeforeWrites (sym is) tt)).contents tells in
     let fails : FailsToOpen d core k NoMemory start (fuse_inner fuse) = record {
       reason = inl refl;
       keeps = keeps;
       most = (0, omega arith, same);
       none = λ refused. same;
+      only = λ refused image may. only image (reads.crash image may) ∙ sym reads.bytes;
     } in
     rw (c.into_inner-disk.ensures, sym inner) fails
 
@@ -179,3 +183,34 @@ returns-then-eq-clause-keeps_fault g c tells only expected fault =
     (λ none. fuse_since c.new.result c.in-Err.fuse IsNoHeap (c.in-Err.ensures.moments_not_heap tells only_f none))
     (λ place damage. fuse_since c.new.result c.in-Err.fuse (IsFaultAt place) (c.in-Err.ensures.moments_damaged tells only_f place damage)) in
     rw c.into_inner-disk.ensures (subst (λ x. LeavesOnly d.moment d.left_since x cut (IsFault expected)) inner moments)
+
+-- and the log, rolled back or not, and all else
+pub returns-in-Ok-clause-keeps_log : goal.returns-in-Ok-clause-keeps_log
+returns-in-Ok-clause-keeps_log g c tells only fault =
+    let d = g.D.Disk in
+    let at = subst (λ x. IsWordFault (d.bytes x)) (sym c.new.ensures.inner) fault in
+    absurd (c.in-Ok.ensures.damaged tells (Address at.0) at.1)
+
+pub returns-else-eq-clause-keeps_log : goal.returns-else-eq-clause-keeps_log
+returns-else-eq-clause-keeps_log g c tells only fault =
+    let d = g.D.Disk in
+    let inner = c.new.ensures.inner in
+    let first = fuse_inner c.new.result in
+    let cut = fuse_inner c.in-Err.fuse in
+    let at = subst (λ x. IsWordFault (d.bytes x)) (sym inner) fault in
+    let only_f = subst (λ x. Only (d.bytes x) (d.may_leave x)) (sym inner) only in
+    let moments = left_moments d (d.bytes first) first cut at
+    (λ s batches state readable. fuse_since c.new.result c.in-Err.fuse (IsLogLeft s batches (d.bytes first)) (c.in-Err.ensures.moments_readable tells only_f s batches state readable)) in
+    rw c.into_inner-disk.ensures (subst (λ x. LeavesOnly d.moment d.left_since x cut (IsLeftOf (d.bytes x))) inner moments)
+
+pub returns-then-eq-clause-keeps_log : goal.returns-then-eq-clause-keeps_log
+returns-then-eq-clause-keeps_log g c tells only fault =
+    let d = g.D.Disk in
+    let inner = c.new.ensures.inner in
+    let first = fuse_inner c.new.result in
+    let cut = fuse_inner c.in-Err.fuse in
+    let at = subst (λ x. IsWordFault (d.bytes x)) (sym inner) fault in
+    let only_f = subst (λ x. Only (d.bytes x) (d.may_leave x)) (sym inner) only in
+    let moments = left_moments d (d.bytes first) first cut at
+    (λ s batches state readable. fuse_since c.new.result c.in-Err.fuse (IsLogLeft s batches (d.bytes first)) (c.in-Err.ensures.moments_readable tells only_f s batches state readable)) in
+    rw c.into_inner-disk.ensures (subst (λ x. LeavesOnly d.moment d.left_since x cut (IsLeftOf (d.bytes x))) inner moments)

@@ -20,7 +20,9 @@ use Rattle.heap_program.proofs.PlayOpen.{opened_core, opened_unfailed}
 use Rattle.heap_program.proofs.PlayPrints.{wrote_again}
 use Rattle.heap_program.proofs.Statuses.{open_not_done, written_end}
 use Rattle.heap_program.proofs.PrintRecovered.{Left, legal_of, keeps_first, few_commits, since_before, recovers_nothing, recovers_first}
-use Rattle.heap_program.proofs.RefusalLaws.{told_each, end_told_each, refused_by, not_opened, fault_moments}
+use Rattle.heap_recovery.specs.declared.at.At.TheVariants.{Address}
+use Rattle.heap_program.proofs.RefusalLaws.{told_each, end_told_each, refused_by, not_opened, fault_moments, left_moments}
+use Rattle.heap_program.proofs.Reopened.{reads_only, refused_memory}
 use Rattle.heap_program.proofs.again.print_recovered.Goals as goal
 
 -- an opening leaves the same commits at each moment
@@ -41,6 +43,7 @@ returns-in-Err-clause-recovers g c = λ tells core k first only none.
     let keeps = keeps_first d core k c.args.disk c.in-Err.disk first (c.in-Err.ensures.moments tells only s batches stored (shaped_image legal)) (c.in-Err.ensures.crash tells only s batches stored (shaped_image legal)) (c.in-Err.ensures.disk.restarts tells) in
     recovers_nothing d core k c.args.disk c.in-Err.disk keeps (Reopens d core k c.args.disk c.in-Err.disk) c.in-Err.e c.from.result _ _ (c.in-Err.ensures.shaped tells s batches stored (shaped_image legal)) c.from.ensures
     c.in-Err.ensures.disk.cause (c.in-Err.ensures.passes tells s batches stored (shaped_image legal))
+    (λ refused. reads_only d c.args.disk c.in-Err.disk ((c.in-Err.ensures.left_alone (refused_memory c.in-Err.e refused)).contents tells) only)
 
 pub returns-clause-moments : goal.returns-clause-moments
 returns-clause-moments g c tells core k first only =
@@ -113,3 +116,10 @@ returns-in-Err-clause-refused_at_end g c tells only =
 
 pub returns-clause-refused_at_end : goal.returns-clause-refused_at_end
 returns-clause-refused_at_end g c tells only = rw c.status_after-status.ensures (end_told_each _ _ (written_end c.write_recovered.result))
+
+-- of an image that is damaged at an address a crash leaves the log, rolled back or not, and all else
+pub returns-in-Err-clause-keeps_log : goal.returns-in-Err-clause-keeps_log
+returns-in-Err-clause-keeps_log g c tells only fault = left_moments g.D.Disk (g.D.Disk.bytes c.args.disk) c.args.disk c.in-Err.disk fault (c.in-Err.ensures.moments_readable tells only)
+
+pub returns-clause-keeps_log : goal.returns-clause-keeps_log
+returns-clause-keeps_log g c tells only fault = absurd (c.in-Ok.ensures.damaged tells (Address fault.0) fault.1)

@@ -1,6 +1,8 @@
 use Rattle.std.proofs.Common.{Some, None, refl, ap, ◌∙◌, subst, arith}
 use Rattle.disk_model.proofs.MomentLaws.{weaker}
+use Rattle.heap_recovery.specs.Faults.{IsLeftOf}
 use Rattle.heap_program.specs.Refusals.{IsFault}
+use Rattle.heap_program.proofs.RefusalLaws.{left_on, left_word_fault, at_end}
 use Rattle.heap_program.proofs.PlayOpen.{opening_then}
 use Rattle.counts.specs.Count.{raised}
 use Rattle.disk_model.specs.Fuse.{fuse_inner}
@@ -194,3 +196,51 @@ returns-in-None-clause-refused_at_end g c tells = c.print_recovered.ensures.refu
 
 pub returns-in-Ok-clause-refused_at_end : goal.returns-in-Ok-clause-refused_at_end
 returns-in-Ok-clause-refused_at_end g c tells = c.print_recovered-in-Ok.ensures.refused_at_end tells (c.restart.ensures.restarts tells).only
+
+-- of an image that is damaged at an address a crash leaves the log, rolled back or not, and all else
+pub returns-in-None-clause-keeps_log : goal.returns-in-None-clause-keeps_log
+returns-in-None-clause-keeps_log g c tells image fault leaves =
+    let d = g.D.Disk in
+    let old = fuse_inner c.args.fuse in
+    let first = c.restart-disk.result in
+    let final = c.print_recovered.result.1 in
+    let started = subst (λ x. Restarts d x first) c.into_inner.ensures (c.restart-disk.ensures.restarts tells) in
+    let P = IsLeftOf image in
+    let left = leaves (d.bytes first) started.left in
+    let moved = weaker d.moment d.left_since old first (d.may_leave old) P started.moments leaves in
+    opening_then d.moment d.left_since old first final P P moved
+    (left_on d image (d.bytes first) first final left (c.print_recovered.ensures.keeps_log tells started.only (left_word_fault image (d.bytes first) fault left))) (λ c same. same)
+
+pub returns-in-Ok-clause-keeps_log : goal.returns-in-Ok-clause-keeps_log
+returns-in-Ok-clause-keeps_log g c tells image fault leaves =
+    let d = g.D.Disk in
+    let old = fuse_inner c.args.fuse in
+    let first = c.restart-disk.result in
+    let cut = c.in-Ok.disk in
+    let last = c.restart.result in
+    let final = c.print_recovered-in-Ok.result.1 in
+    let started = subst (λ x. Restarts d x first) c.into_inner.ensures (c.restart-disk.ensures.restarts tells) in
+    let again = c.restart.ensures.restarts tells in
+    let P = IsLeftOf image in
+    let left = leaves (d.bytes first) started.left in
+    let there = left_word_fault image (d.bytes first) fault left in
+    let moved = weaker d.moment d.left_since old first (d.may_leave old) P started.moments leaves in
+    let opening = left_on d image (d.bytes first) first cut left (c.in-Ok.ensures.keeps_log tells started.only there) in
+    let behind = at_end d first cut P opening (λ t c' le may. g.met.D.Disk.counts_now tells cut t c' le may) in
+    let opened = opening_then d.moment d.left_since old first cut P P moved opening (λ c same. same) in
+    let back = opening_then d.moment d.left_since old cut last P P opened (weaker d.moment d.left_since cut last (d.may_leave cut) P again.moments behind) (λ c same. same) in
+    let at_last = behind (d.bytes last) again.left in
+    opening_then d.moment d.left_since old last final P P back
+    (left_on d image (d.bytes last) last final at_last (c.print_recovered-in-Ok.ensures.keeps_log tells again.only (left_word_fault image (d.bytes last) fault at_last))) (λ c same. same)
+
+pub returns-in-Err-clause-keeps_log : goal.returns-in-Err-clause-keeps_log
+returns-in-Err-clause-keeps_log g c tells image fault leaves =
+    let d = g.D.Disk in
+    let old = fuse_inner c.args.fuse in
+    let first = c.restart-disk.result in
+    let started = subst (λ x. Restarts d x first) c.into_inner.ensures (c.restart-disk.ensures.restarts tells) in
+    let P = IsLeftOf image in
+    let left = leaves (d.bytes first) started.left in
+    let moved = weaker d.moment d.left_since old first (d.may_leave old) P started.moments leaves in
+    opening_then d.moment d.left_since old first c.in-Err.disk P P moved
+    (left_on d image (d.bytes first) first c.in-Err.disk left (c.in-Err.ensures.keeps_log tells started.only (left_word_fault image (d.bytes first) fault left))) (λ c same. same)

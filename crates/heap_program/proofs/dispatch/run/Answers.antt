@@ -12,6 +12,7 @@ use Rattle.heap_program.specs.Headline.{made_super}
 use Rattle.heap_program.proofs.CommandLaws.{same_play, graph_unread, play_ends, unread_ends, format_told_each, format_sound, no_stop, not_made}
 use Rattle.heap_program.proofs.RefusalLaws.{alone_untouched}
 use Rattle.heap_program.proofs.RunLaws.{runs_safely, end_done}
+use Rattle.heap_program.proofs.WordFaults.{untouched_log}
 use Rattle.heap_program.proofs.dispatch.run.Goals as goal
 
 pub returns-in-Err-clause-graph : goal.returns-in-Err-clause-graph
@@ -100,3 +101,8 @@ returns-in-Play-clause-left_alone g c tells which is none expected fault alone =
 -- a run that did not come to the disk left it alone
 pub returns-in-Err-clause-left_alone : goal.returns-in-Err-clause-left_alone
 returns-in-Err-clause-left_alone g c tells which is none expected fault alone = alone_untouched g.D.Disk c.args.disk (λ image since. g.met.D.Disk.only_now tells c.args.disk image since)
+
+-- an image that is damaged at an address was left alone
+pub returns-in-Err-clause-keeps_log : goal.returns-in-Err-clause-keeps_log
+returns-in-Err-clause-keeps_log g c tells only asked is none fault =
+    untouched_log g.D.Disk c.args.disk only (λ image since. g.met.D.Disk.only_now tells c.args.disk image since) fault

@@ -2,7 +2,7 @@ use Rattle.std.proofs.Common.{◌≡◌, ◌≢◌, ◌≤◌, ◌<◌, ◌+◌,
 use Rattle.counts.specs.Count.{Rose, greatest, counted}
 use Rattle.disk_model.specs.Disk.{Only}
 use Rattle.disk_model.specs.Fuse.{fuse_inner, fuse_passed}
-use Rattle.disk_model.proofs.KeepsLaws.{rose_until}
+use Rattle.disk_model.proofs.KeepsLaws.{rose_since}
 use Rattle.disk_model.specs.Moments.{LeavesOnly}
 use Rattle.disk_model.proofs.MomentLaws.{begins}
 use Rattle.heap_core.specs.declared.errors.OpenError.TheVariants as opening
@@ -23,15 +23,16 @@ use Rattle.heap_program.specs.Output.{Recovers}
 use Rattle.heap_program.specs.StatusOf.{open_status, halt_status}
 use Rattle.heap_program.specs.Stored.{stored_core, stored_calls}
 use Rattle.script_text.specs.Line.{events}
-use Rattle.heap_program.proofs.Causes.{rose_within}
-use Rattle.heap_program.proofs.PlayEnds.{run_reached, kept, halt_part, halt_lines, stopped_lines, ends_early, ends_recovered, ends_made, exact_some, passes_some, passes_within}
+use Rattle.heap_program.proofs.PlayEnds.{run_reached, unfailed_only, kept, halt_part, halt_lines, stopped_lines, ends_early, ends_recovered, ends_made, stops_some, exact_some, passes_some, passes_within}
 use Rattle.heap_program.proofs.PlayFuse.{same_disk, same_limit, rose_some, fuse_since, fuse_passes, fuse_none, fuse_most, fuse_steps_of}
 use Rattle.heap_program.proofs.PlayOpen.{opening_then, few_calls, stored_running, stored_keeps, stored_moments, ends_unopened, ends_stopped, unstarted, opened_core}
 use Rattle.heap_program.proofs.PrintRecovered.{whole_count, fails_few, fails_none, no_rollback, stops_before}
 use Rattle.heap_program.proofs.Statuses.{early_none, early_some, halt_end, halt_not_done, open_not_done, open_fault}
-use Rattle.heap_recovery.specs.Faults.{IsNoHeap, IsFaultAt}
-use Rattle.heap_program.specs.Refusals.{IsFault, LeavesAlone}
-use Rattle.heap_program.proofs.RefusalLaws.{told_status, told_each, end_told, end_told_each, only_read, refused_by, not_opened, fault_moments, at_end}
+use Rattle.heap_recovery.specs.declared.at.At.TheVariants.{Address}
+use Rattle.heap_recovery.specs.Faults.{IsNoHeap, IsFaultAt, IsLogLeft, IsLeftOf}
+use Rattle.heap_program.specs.Refusals.{IsFault, IsWordFault, LeavesAlone}
+use Rattle.heap_program.proofs.RefusalLaws.{told_status, told_each, end_told, end_told_each, only_read, refused_by, not_opened, fault_moments, left_moments, at_end}
+use Rattle.heap_program.proofs.Reopened.{refused_memory}
 use Rattle.heap_program.proofs.RunLaws.{restarts_none}
 use Rattle.heap_program.proofs.PlayPrints.{prints_unplayed, prints_again, prints_early}
 use Rattle.heap_program.proofs.playing.play_stopped.Goals as goal
@@ -65,7 +66,8 @@ returns-in-Err-clause-played g c tells stored only =
     (λ image since. g.met.D.Disk.only_now tells final image since) (e.disk.restarts tells ∙ ap d.restarts inner)
     (λ none. fuse_none fuse start tells began (fails_none n 0 (fuse_passed fuse) c.in-Err.e (ap open_status none) passes))
     (λ some u. u (subst (λ x. Rose (d.faults x + d.stops x) (d.faults final + d.stops final)) inner (open_fault _ _ _ _ c.in-Err.e outside some other e.disk.cause)))
-    (fuse_most fuse start n tells began few) (fuse_most fuse start (min c.args.stop.after (n + 0)) tells began (omega (arith, within, few))))
+    (fuse_most fuse start n tells began few) (fuse_most fuse start (min c.args.stop.after (n + 0)) tells began (omega (arith, within, few)))
+    (λ refused. let reads = (e.left_alone (refused_memory c.in-Err.e refused)).contents tells in λ image may. only_f image (reads.crash image may) ∙ sym reads.bytes))
 
 -- the disk stopped in the opening
 pub returns-then-eq-clause-played : goal.returns-then-eq-clause-played
@@ -101,7 +103,7 @@ returns-then-eq-clause-played g c tells stored only =
     ends_stopped d stored c.args.stop stopped final back.0 c.start_again.result.0 k.tells (k.written c.args.sink.now) (k.written c.start_again.new.sink) (events c.args.script.now) start moments left
     (c.start_again.ensures.moments tells first left) (e.disk.restarts tells ∙ ap d.restarts inner) short
     (fuse_most fuse start c.args.stop.after tells began (omega (arith, blown)))
-    (λ u. fuse_passes fuse start c.args.stop.after tells began (λ rose. u (rose_until _ _ _ c.start_again.ensures.disk.kept rose)) blown)
+    (λ u. fuse_passes fuse start c.args.stop.after tells began u blown)
     back.1
 
 -- the heap is opened again
@@ -134,23 +136,21 @@ returns-in-None-clause-played g c tells stored only =
     let opening = same_run first plays.core plays.made (run_reached s first running refl es playable old new k.tells before after c.play_lines-played.result plays).0 in
     let ended = early_none c.play_lines-played.result (sym c.early_end.ensures ∙ c.in-None.is) in
     let closed = c.close.ensures in
-    let kept_on = subst (λ x. d.faults (fuse_inner x) + d.stops (fuse_inner x) ≤ d.faults final + d.stops final) closed c.start_again-in-None.ensures.disk.kept in
     let origin = c.play_lines-played.ensures.disk.origin ∙ e.disk.origin ∙ c.new.ensures.origin in
     let limit = same_limit _ _ origin in
     let began = same_disk _ _ origin in
     let began_old = same_disk _ _ (e.disk.origin ∙ c.new.ensures.origin) in
     let within = subst (λ m. fuse_passed new.disk ≤ m) limit new.disk.within in
     let at_start = subst (λ x. d.faults x + d.stops x ≤ d.faults (fuse_inner old.disk) + d.stops (fuse_inner old.disk)) inner e.disk.cause.faults_kept in
-    let unrisen = λ (unharmed : Unharmed d start final) (rose : Rose (d.faults (fuse_inner old.disk) + d.stops (fuse_inner old.disk)) (d.faults stopped + d.stops stopped)). unharmed (rose_within _ _ _ _ at_start c.play_lines-played.ensures.disk.cause.faults_kept kept_on rose) in
+    let unrisen = λ (unharmed : Unharmed d start stopped) (rose : Rose (d.faults (fuse_inner old.disk) + d.stops (fuse_inner old.disk)) (d.faults stopped + d.stops stopped)). unharmed (rose_since _ _ _ at_start c.play_lines-played.ensures.disk.cause.faults_kept rose) in
     let few = few_calls s batches in
     let passed : fuse_passed old.disk ≡ n = whole_count n (fuse_passed old.disk) few ((e.passes tells s batches stored.pages shaped).ok ∙ ap (counted n) c.new.ensures.passed) in
     let at_limit : new.disk.stops ≢ 0 → fuse_passed new.disk ≡ c.args.stop.after = λ blown. new.disk.blown blown ∙ limit in
-    let exact : Unharmed d start final → IsExact (Some c.args.stop.after) n first plays.made plays.core = λ u. exact_some s first running refl es playable old new k.tells before after c.play_lines-played.result plays c.args.stop.after n few passed within at_limit (unrisen u) in
+    let exact : Unharmed d start stopped → IsExact (Some c.args.stop.after) n first plays.made plays.core = λ u. exact_some s first running refl es playable old new k.tells before after c.play_lines-played.result plays c.args.stop.after n few passed within at_limit (unrisen u) in
     let through = min c.args.stop.after (n + total_calls first plays.made) in
     let most : d.passed stopped ≤ counted through (d.passed start) = fuse_most new.disk start through tells began
     (passes_within s first running refl es playable old new k.tells before after c.play_lines-played.result plays c.args.stop.after n few passed within) in
-    let calm = λ (u : Unharmed d start final) (rose : Rose (d.faults start + d.stops start) (d.faults stopped + d.stops stopped)). u (rose_until _ _ _ kept_on rose) in
-    let inside : Unharmed d start final → d.passed stopped ≡ counted through (d.passed start) = λ u. fuse_passes new.disk start through tells began (calm u)
+    let inside : Unharmed d start stopped → d.passed stopped ≡ counted through (d.passed start) = λ u. fuse_passes new.disk start through tells began u
     (passes_some s first running refl es playable old new k.tells before after c.play_lines-played.result plays c.args.stop.after n few passed within at_limit (unrisen u)) in
     let left : (image : List ℕ) → d.may_leave (fuse_inner c.close.result) image → IsCommitPrefix plays.core image = λ image l. keep image (subst (λ x. d.may_leave (fuse_inner x) image) closed l) in
     let rest = subst (λ x. LeavesOnly d.moment d.left_since (fuse_inner x) final (IsCommitPrefix plays.core)) closed (c.start_again-in-None.ensures.moments tells plays.core left) in
@@ -159,7 +159,7 @@ returns-in-None-clause-played g c tells stored only =
     let k_back = back.0 in
     let by = c.start_again-in-None.result.0 in
     let again = c.args.stop.again in
-    let recovers = subst (λ x. Recovers plays.core k_back (StartsAgain d again plays.core k_back (Reopens d plays.core k_back) (fuse_inner x) final) (EndsUnopened d again plays.core k_back (fuse_inner x) final by) (d.may_leave final) by k.tells after (k.written c.start_again-in-None.new.sink)) closed back.1 in
+    let recovers = subst (λ x. Recovers plays.core k_back (StartsAgain d again plays.core k_back (Reopens d plays.core k_back) (fuse_inner x) final) (EndsUnopened d again plays.core k_back (fuse_inner x) final by) (d.bytes final) (d.may_leave final) by k.tells after (k.written c.start_again-in-None.new.sink)) closed back.1 in
     let steps = fuse_steps_of c.play_lines-played.ensures.disk (record {
       tells = λ told. told;
       moments = λ core a b run. fuse_since a b (IsCommitPrefix core) run;
@@ -169,13 +169,13 @@ returns-in-None-clause-played g c tells stored only =
       faults = λ fuse. refl;
       stops = λ fuse. refl;
       restarts = λ fuse. refl;
-    }) c.args.stop.after start final tells first plays.core old.disk new.disk plays.made began_old (same_limit _ _ (e.disk.origin ∙ c.new.ensures.origin)) calm plays.steps in
+    }) c.args.stop.after start tells first plays.core old.disk new.disk plays.made began_old (same_limit _ _ (e.disk.origin ∙ c.new.ensures.origin)) plays.steps in
     let keeps : KeepsThroughout d (Some c.args.stop.after) n first plays.made plays.core start final = record {
       opened = fuse_inner old.disk;
       opening = subst (λ x. LeavesOnly d.moment d.left_since x (fuse_inner old.disk) (IsCommitPrefix first)) inner
           (stored_moments d stored (fuse_inner c.new.result) (fuse_inner old.disk) (fuse_since c.new.result old.disk _ (e.moments tells only_f s batches stored.pages shaped)));
       here = λ image may. stored_keeps d stored image (e.crash tells only_f s batches stored.pages shaped image may);
-      passed = λ u some. fuse_passes old.disk start n tells began_old (λ rose. calm u (rose_until _ _ _ c.play_lines-played.ensures.disk.cause.faults_kept rose)) passed;
+      passed = λ u some. fuse_passes old.disk start n tells began_old u passed;
       few = fuse_most old.disk start n tells began_old (omega (arith, passed));
       restarts = e.disk.restarts tells ∙ ap d.restarts inner;
       stopped = stopped;
@@ -185,6 +185,7 @@ returns-in-None-clause-played g c tells stored only =
     } in
     ends_recovered s first running refl es playable old new k.tells before after c.play_lines-played.result plays d start final c.args.stop n keeps inside most k_back by (k.written c.start_again-in-None.new.sink)
     (stopped_lines s first running refl es playable old new k.tells before after c.play_lines-played.result plays ended) recovers (ends_made s first running refl es playable old new k.tells before after c.play_lines-played.result plays c.args.stop.after ended) exact
+    (stops_some s first running refl es playable old new k.tells before after c.play_lines-played.result plays c.args.stop.after n few passed within at_limit)
 
 -- it ended before
 pub returns-in-Some-clause-played : goal.returns-in-Some-clause-played
@@ -219,7 +220,7 @@ returns-in-Some-clause-played g c tells stored only =
     let began_old = same_disk _ _ (e.disk.origin ∙ c.new.ensures.origin) in
     let within = subst (λ m. fuse_passed new.disk ≤ m) limit new.disk.within in
     let at_start = subst (λ x. d.faults x + d.stops x ≤ d.faults (fuse_inner old.disk) + d.stops (fuse_inner old.disk)) inner e.disk.cause.faults_kept in
-    let unrisen = λ (unharmed : Unharmed d start final) (rose : Rose (d.faults (fuse_inner old.disk) + d.stops (fuse_inner old.disk)) (d.faults final + d.stops final)). unharmed (rose_within _ _ _ _ at_start c.play_lines-played.ensures.disk.cause.faults_kept (omega arith) rose) in
+    let unrisen = λ (unharmed : Unharmed d start final) (rose : Rose (d.faults (fuse_inner old.disk) + d.stops (fuse_inner old.disk)) (d.faults final + d.stops final)). unharmed (rose_since _ _ _ at_start c.play_lines-played.ensures.disk.cause.faults_kept rose) in
     let few = few_calls s batches in
     let passed : fuse_passed old.disk ≡ n = whole_count n (fuse_passed old.disk) few ((e.passes tells s batches stored.pages shaped).ok ∙ ap (counted n) c.new.ensures.passed) in
     let at_limit : new.disk.stops ≢ 0 → fuse_passed new.disk ≡ c.args.stop.after = λ blown. new.disk.blown blown ∙ limit in
@@ -227,8 +228,7 @@ returns-in-Some-clause-played g c tells stored only =
     let through = min c.args.stop.after (n + total_calls first plays.made) in
     let most : d.passed final ≤ counted through (d.passed start) = fuse_most new.disk start through tells began
     (passes_within s first running refl es playable old new k.tells before after c.play_lines-played.result plays c.args.stop.after n few passed within) in
-    let calm = λ (u : Unharmed d start final) (rose : Rose (d.faults start + d.stops start) (d.faults final + d.stops final)). u rose in
-    let inside : Unharmed d start final → d.passed final ≡ counted through (d.passed start) = λ u. fuse_passes new.disk start through tells began (calm u)
+    let inside : Unharmed d start final → d.passed final ≡ counted through (d.passed start) = λ u. fuse_passes new.disk start through tells began u
     (passes_some s first running refl es playable old new k.tells before after c.play_lines-played.result plays c.args.stop.after n few passed within at_limit (unrisen u)) in
     let steps = fuse_steps_of c.play_lines-played.ensures.disk (record {
       tells = λ told. told;
@@ -239,13 +239,13 @@ returns-in-Some-clause-played g c tells stored only =
       faults = λ fuse. refl;
       stops = λ fuse. refl;
       restarts = λ fuse. refl;
-    }) c.args.stop.after start final tells first plays.core old.disk new.disk plays.made began_old (same_limit _ _ (e.disk.origin ∙ c.new.ensures.origin)) calm plays.steps in
+    }) c.args.stop.after start tells first plays.core old.disk new.disk plays.made began_old (same_limit _ _ (e.disk.origin ∙ c.new.ensures.origin)) plays.steps in
     let keeps : KeepsThroughout d (Some c.args.stop.after) n first plays.made plays.core start final = record {
       opened = fuse_inner old.disk;
       opening = subst (λ x. LeavesOnly d.moment d.left_since x (fuse_inner old.disk) (IsCommitPrefix first)) inner
           (stored_moments d stored (fuse_inner c.new.result) (fuse_inner old.disk) (fuse_since c.new.result old.disk _ (e.moments tells only_f s batches stored.pages shaped)));
       here = λ image may. stored_keeps d stored image (e.crash tells only_f s batches stored.pages shaped image may);
-      passed = λ u some. fuse_passes old.disk start n tells began_old (λ rose. calm u (rose_until _ _ _ c.play_lines-played.ensures.disk.cause.faults_kept rose)) passed;
+      passed = λ u some. fuse_passes old.disk start n tells began_old u passed;
       few = fuse_most old.disk start n tells began_old (omega (arith, passed));
       restarts = e.disk.restarts tells ∙ ap d.restarts inner;
       stopped = final;
@@ -258,6 +258,8 @@ returns-in-Some-clause-played g c tells stored only =
     rw (closed, halted.3) (ends_early s first running refl es playable old new k.tells before after c.play_lines-played.result plays d start final (Some c.args.stop) n keeps inside most
     _ refl (halt_end halted.0) (halt_not_done halted.0) part
     (halt_lines s first running refl es playable old new k.tells before after c.play_lines-played.result plays halted.0 halted.1) exact
+    (stops_some s first running refl es playable old new k.tells before after c.play_lines-played.result plays c.args.stop.after n few passed within at_limit)
+    (unfailed_only s first running refl es playable old new k.tells before after c.play_lines-played.result plays)
     (inr (unstarted d c.args.stop.again plays.core _ final _, halt_not_done halted.0, λ t. (part t).0)))
 
 pub returns-in-Err-clause-prints : goal.returns-in-Err-clause-prints
@@ -478,3 +480,43 @@ pub returns-in-Some-clause-refused_at_end : goal.returns-in-Some-clause-refused_
 returns-in-Some-clause-refused_at_end g c tells only =
     let halted = early_some c.play_lines-played.result c.in-Some.status (sym c.early_end.ensures ∙ c.in-Some.is) in
     rw halted.3 (end_told_each _ _ (halt_end halted.0))
+
+-- of an image that is damaged at an address a crash leaves the log, rolled back or not, and all else
+pub returns-in-Err-clause-keeps_log : goal.returns-in-Err-clause-keeps_log
+returns-in-Err-clause-keeps_log g c tells only fault =
+    let d = g.D.Disk in
+    let inner = c.new.ensures.inner in
+    let first = fuse_inner c.new.result in
+    let cut = fuse_inner c.in-Err.fuse in
+    let at = subst (λ x. IsWordFault (d.bytes x)) (sym inner) fault in
+    let only_f = subst (λ x. Only (d.bytes x) (d.may_leave x)) (sym inner) only in
+    let moments = left_moments d (d.bytes first) first cut at
+    (λ s batches state readable. fuse_since c.new.result c.in-Err.fuse (IsLogLeft s batches (d.bytes first)) (c.in-Err.ensures.moments_readable tells only_f s batches state readable)) in
+    rw c.into_inner.ensures (subst (λ x. LeavesOnly d.moment d.left_since x cut (IsLeftOf (d.bytes x))) inner moments)
+
+pub returns-then-eq-clause-keeps_log : goal.returns-then-eq-clause-keeps_log
+returns-then-eq-clause-keeps_log g c tells only fault =
+    let d = g.D.Disk in
+    let inner = c.new.ensures.inner in
+    let first = fuse_inner c.new.result in
+    let stopped = fuse_inner c.in-Err.fuse in
+    let at = subst (λ x. IsWordFault (d.bytes x)) (sym inner) fault in
+    let only_f = subst (λ x. Only (d.bytes x) (d.may_leave x)) (sym inner) only in
+    let moments = left_moments d (d.bytes first) first stopped at
+    (λ s batches state readable. fuse_since c.new.result c.in-Err.fuse (IsLogLeft s batches (d.bytes first)) (c.in-Err.ensures.moments_readable tells only_f s batches state readable)) in
+    let mine = subst (λ x. LeavesOnly d.moment d.left_since x stopped (IsLeftOf (d.bytes x))) inner moments in
+    let P = IsLeftOf (d.bytes c.args.disk) in
+    let left = at_end d c.args.disk stopped P mine (λ t image le may. g.met.D.Disk.counts_now tells stopped t image le may) in
+    opening_then d.moment d.left_since c.args.disk stopped c.start_again.result.1 P P mine (c.start_again.ensures.keeps_log tells (d.bytes c.args.disk) fault left) (λ image same. same)
+
+pub returns-in-None-clause-keeps_log : goal.returns-in-None-clause-keeps_log
+returns-in-None-clause-keeps_log g c tells only fault =
+    let d = g.D.Disk in
+    let at = subst (λ x. IsWordFault (d.bytes x)) (sym c.new.ensures.inner) fault in
+    absurd (c.in-Ok.ensures.damaged tells (Address at.0) at.1)
+
+pub returns-in-Some-clause-keeps_log : goal.returns-in-Some-clause-keeps_log
+returns-in-Some-clause-keeps_log g c tells only fault =
+    let d = g.D.Disk in
+    let at = subst (λ x. IsWordFault (d.bytes x)) (sym c.new.ensures.inner) fault in
+    absurd (c.in-Ok.ensures.damaged tells (Address at.0) at.1)

@@ -15,9 +15,11 @@ use Rattle.heap_program.proofs.Counts.{counted_mono}
 use Rattle.heap_program.proofs.PlayEnds.{run_reached, unfailed_only, lines_wrote, halt_part, halt_lines, keeps_own, ends_early, ends_whole, exact_none, exact_passes, passes_most}
 use Rattle.heap_program.proofs.PlayOpen.{stored_running, stored_keeps, stored_moments, ends_unopened, opened_core, played_unfailed}
 use Rattle.heap_program.proofs.PrintRecovered.{fails_most, fails_none}
-use Rattle.heap_program.proofs.RefusalLaws.{told_status, told_each, end_told, end_told_each, refused_by, not_opened, only_read, alone_read, fault_moments}
+use Rattle.heap_recovery.specs.declared.at.At.TheVariants.{Address}
+use Rattle.heap_program.proofs.RefusalLaws.{told_status, told_each, end_told, end_told_each, refused_by, not_opened, only_read, alone_read, fault_moments, left_moments}
 use Rattle.heap_program.proofs.Statuses.{written_end, halt_end, halt_not_done, open_not_done, open_harm}
 use Rattle.heap_program.proofs.PlayPrints.{reached, prints_early, prints_whole}
+use Rattle.heap_program.proofs.Reopened.{reads_only, refused_memory}
 use Rattle.heap_program.proofs.RunLaws.{end_sound}
 use Rattle.heap_program.proofs.playing.play_whole.Goals as goal
 
@@ -38,6 +40,7 @@ returns-in-Err-clause-played g c tells stored only =
     (λ none. fails_none (stored_calls stored) (d.passed c.args.disk) (d.passed c.in-Err.disk) c.in-Err.e (ap open_status none) passes)
     (λ other u. u (open_harm _ _ _ _ c.in-Err.e outside other e.disk.cause))
     (omega (arith, few.2, most)) (omega (arith, few.2, total))
+    (λ refused. reads_only d c.args.disk c.in-Err.disk ((e.left_alone (refused_memory c.in-Err.e refused)).contents tells) only)
 
 pub returns-in-Ok-play_all-clause-played : goal.returns-in-Ok-play_all-clause-played
 returns-in-Ok-play_all-clause-played g c tells stored only =
@@ -99,7 +102,8 @@ returns-in-Err-play_all-clause-played g c tells stored only =
     _ refl (halt_end h) (halt_not_done h)
     (halt_part s first running refl es playable old new k.tells before after (Err h) plays h refl)
     (halt_lines s first running refl es playable old new k.tells before after (Err h) plays h refl)
-    (λ u. exact_none s first running refl es playable old new k.tells before after (Err h) plays (unharmed u))
+    (λ u. exact_none s first running refl es playable old new k.tells before after (Err h) plays (unharmed u)) tt
+    (unfailed_only s first running refl es playable old new k.tells before after (Err h) plays)
     refl)
 
 pub write_graph-requires : goal.write_graph-requires
@@ -189,3 +193,13 @@ returns-in-Ok-play_all-clause-unwritten g c against = absurd (against (rw c.stat
 
 pub returns-in-Err-play_all-clause-unwritten : goal.returns-in-Err-play_all-clause-unwritten
 returns-in-Err-play_all-clause-unwritten g c against = absurd (against (rw c.from-in-Err-play_all.ensures (end_sound _ (halt_end c.in-Err-play_all.halt))))
+
+-- of an image that is damaged at an address a crash leaves the log, rolled back or not, and all else
+pub returns-in-Err-clause-keeps_log : goal.returns-in-Err-clause-keeps_log
+returns-in-Err-clause-keeps_log g c tells only fault = left_moments g.D.Disk (g.D.Disk.bytes c.args.disk) c.args.disk c.in-Err.disk fault (c.in-Err.ensures.moments_readable tells only)
+
+pub returns-in-Ok-play_all-clause-keeps_log : goal.returns-in-Ok-play_all-clause-keeps_log
+returns-in-Ok-play_all-clause-keeps_log g c tells only fault = absurd (c.in-Ok.ensures.damaged tells (Address fault.0) fault.1)
+
+pub returns-in-Err-play_all-clause-keeps_log : goal.returns-in-Err-play_all-clause-keeps_log
+returns-in-Err-play_all-clause-keeps_log g c tells only fault = absurd (c.in-Ok.ensures.damaged tells (Address fault.0) fault.1)

@@ -9,6 +9,7 @@ use Rattle.heap_program.proofs.PlayOpen.{new_stored, no_calls}
 use Rattle.heap_program.proofs.PlayPrints.{prints_script}
 use Rattle.heap_program.proofs.RunLaws.{large_made, not_read, end_sound}
 use Rattle.heap_program.proofs.RefusalLaws.{input_told_each, alone_untouched}
+use Rattle.heap_program.proofs.WordFaults.{untouched_log}
 use Rattle.heap_program.proofs.playing.run_play.Goals as goal
 
 pub play_script-requires : goal.play_script-requires
@@ -98,3 +99,8 @@ returns-in-Ok-format-clause-prints g c tells =
     prints_script (IsReadFrom g.S.Source.tells (g.S.Source.left c.args.source.now)) (stop_after c.args.stop) c.deref-in-Ok-format.result.now c.play_script-in-Ok-format.result.0 (k.written c.args.sink.now) (k.written c.play_script-in-Ok-format.new.sink)
     (record { bytes = read.0; script = read.1 ∙ ap (λ (ls : List Line). Ok ls) (sym c.deref-in-Ok-format.ensures.value); own = read.2 })
     (λ s batches stored gates own none. let never : None ≡ Some c.in-Some.pages = sym none ∙ c.in-Some.is in cc never) (c.play_script-in-Ok-format.ensures.prints tells)
+
+-- an image that is damaged at an address was left alone
+pub returns-in-Err-clause-keeps_log : goal.returns-in-Err-clause-keeps_log
+returns-in-Err-clause-keeps_log g c tells only none fault =
+    untouched_log g.D.Disk c.args.disk only (λ image since. g.met.D.Disk.only_now tells c.args.disk image since) fault

@@ -8,9 +8,12 @@ use Rattle.page_store.specs.Gates.{open_gates}
 use Rattle.heap_program.specs.Headline.{graph_text}
 use Rattle.heap_program.proofs.PlayOpen.{opened_core}
 use Rattle.heap_program.proofs.PrintRecovered.{fails_most}
-use Rattle.heap_program.proofs.RefusalLaws.{told_status, told_each, end_told, end_told_each, refused_by, not_opened, only_read, alone_read, fault_moments}
+use Rattle.heap_recovery.specs.declared.at.At.TheVariants.{Address}
+use Rattle.heap_recovery.proofs.FaultLaws.{shaped_readable}
+use Rattle.heap_program.proofs.RefusalLaws.{told_status, told_each, end_told, end_told_each, refused_by, not_opened, only_read, alone_read, fault_moments, left_moments, left_outside}
 use Rattle.heap_program.proofs.Statuses.{open_end, open_not_done, written_end, wrote_all}
 use Rattle.heap_program.proofs.Written.{none_written, wrote_some}
+use Rattle.heap_program.proofs.Reopened.{reads_only, refused_memory, outside_memory}
 use Rattle.heap_program.proofs.RunLaws.{end_sound}
 use Rattle.heap_program.proofs.printing.run_graph.Goals as goal
 
@@ -29,9 +32,11 @@ returns-in-Ok-clause-graph g c tells only s batches stored shaped born places gr
     rw (c.close.ensures, c.status_after-status.ensures) (record {
       moments = e.moments tells only s batches stored shaped;
       left = e.crash tells only s batches stored shaped;
+      outside = left_outside d s batches c.args.disk c.in-Ok.heap.disk (e.moments_readable tells only s batches shaped.log.state (shaped_readable s batches stored (d.bytes c.args.disk) shaped));
       calls = record { times = opening_calls s batches; most = omega arith; all = λ done. refl; told = passed };
       restarts = e.disk.restarts tells;
       holds = λ done. (e.rolled tells s batches stored shaped, e.durable tells only);
+      settled = λ other. e.durable tells only;
       written = λ t. record {
         front = wrote_some c.write_graph.result before (graph_text graph) after (c.write_graph.ensures.wrote t core is reached);
         whole = λ done. wrote_all c.write_graph.result before (graph_text graph) after done (c.write_graph.ensures.wrote t core is reached);
@@ -48,9 +53,11 @@ returns-in-Err-clause-graph g c tells only s batches stored shaped born places g
     rw c.from.ensures (record {
       moments = e.moments tells only s batches stored shaped;
       left = e.crash tells only s batches stored shaped;
+      outside = left_outside d s batches c.args.disk c.in-Err.disk (e.moments_readable tells only s batches shaped.log.state (shaped_readable s batches stored (d.bytes c.args.disk) shaped));
       calls = record { times = most.0; most = most.1; all = λ done. absurd (open_not_done c.in-Err.e done); told = most.2 };
       restarts = e.disk.restarts tells;
       holds = λ done. absurd (open_not_done c.in-Err.e done);
+      settled = λ other. reads_only d c.args.disk c.in-Err.disk ((e.left_alone (refused_memory c.in-Err.e (outside_memory c.in-Err.e (e.shaped tells s batches stored shaped) other))).contents tells) only;
       written = λ t. record { front = none_written (k.written c.args.sink.now) (graph_text graph); whole = λ done. absurd (open_not_done c.in-Err.e done) };
       end = open_end c.in-Err.e (e.shaped tells s batches stored shaped);
     })
@@ -110,3 +117,9 @@ returns-in-Err-clause-refused_at_end g c tells only =
 
 pub returns-in-Ok-clause-unwritten : goal.returns-in-Ok-clause-unwritten
 returns-in-Ok-clause-unwritten g c against = absurd (against (rw c.status_after-status.ensures (end_sound _ (written_end c.write_graph.result))))
+
+pub returns-in-Err-clause-keeps_log : goal.returns-in-Err-clause-keeps_log
+returns-in-Err-clause-keeps_log g c tells only fault = left_moments g.D.Disk (g.D.Disk.bytes c.args.disk) c.args.disk c.in-Err.disk fault (c.in-Err.ensures.moments_readable tells only)
+
+pub returns-in-Ok-clause-keeps_log : goal.returns-in-Ok-clause-keeps_log
+returns-in-Ok-clause-keeps_log g c tells only fault = absurd (c.in-Ok.ensures.damaged tells (Address fault.0) fault.1)

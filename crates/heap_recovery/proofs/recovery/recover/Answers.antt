@@ -1,6 +1,7 @@
-use Rattle.std.proofs.Common.{◌≡◌, ◌⊎◌, inl, ◌+◌, Ok, Err, refl, ap, sym, ◌∙◌, rules}
+use Rattle.std.proofs.Common.{◌≡◌, ◌⊎◌, inl, ◌+◌, ℕ, Ok, Err, Result, refl, ap, sym, ◌∙◌, subst, rules}
 use Rattle.disk_model.specs.Disk.{part, SameOutside}
 use Rattle.disk_model.specs.Moments.{LeavesOnly}
+use Rattle.gate_slot.specs.Passing.{Passes}
 use Rattle.gated_log.specs.Log.{with_batch, HoldsBatches}
 use Rattle.log_machine.specs.Machine.{rollback}
 use Rattle.heap_model.proofs.Opening.Held.{held_with}
@@ -10,8 +11,8 @@ use Rattle.heap_recovery.proofs.Opening.{error_passes, only_still, held, outside
 use Rattle.page_cache.specs.CacheState.{cached}
 use Rattle.heap_recovery.specs.declared.error.RecoverError.TheVariants.{Disk}
 use Rattle.heap_recovery.specs.Faults.{stored_in, IsNoHeap, IsLogLeft}
-use Rattle.heap_recovery.proofs.FaultLaws.{readable_heap, readable_late, told_not_heap, told_damaged}
-use Rattle.heap_recovery.proofs.Refusals.{not_heap_told, damaged_told, finish_told, walk_told, found_on, still_moments, forced_run, left_readable, left_no_heap, left_damaged}
+use Rattle.heap_recovery.proofs.FaultLaws.{readable_heap, readable_late, told_not_heap, told_damaged, left_same, one_opening}
+use Rattle.heap_recovery.proofs.Refusals.{not_heap_told, damaged_told, readable_outside, finish_passes, finish_told, walk_told, found_on, still_moments, forced_run, left_readable, left_no_heap, left_damaged}
 use Rattle.heap_recovery.proofs.recovery.recover.Goals as goal
 
 pub returns-in_err-read-clause-shaped : goal.returns-in_err-read-clause-shaped
@@ -191,7 +192,7 @@ returns-in_err-read-clause-moments_not_heap g c tells only none =
 pub returns-in_err-roll_back-clause-moments_readable : goal.returns-in_err-roll_back-clause-moments_readable
 returns-in_err-roll_back-clause-moments_readable g c tells only s batches state readable =
     let d = g.D.Disk in
-    still_moments d.moment d.left_since c.args.disk.now c.read_image.new.disk (d.bytes c.args.disk.now) (d.may_leave c.args.disk.now) (IsLogLeft s batches (stored_in s (d.bytes c.args.disk.now))) only (inl readable.roomy.replayed.log, refl) (c.read_image.ensures.disk.contents tells).moments
+    still_moments d.moment d.left_since c.args.disk.now c.read_image.new.disk (d.bytes c.args.disk.now) (d.may_leave c.args.disk.now) (IsLogLeft s batches (d.bytes c.args.disk.now)) only (left_same s batches state (d.bytes c.args.disk.now) readable) (c.read_image.ensures.disk.contents tells).moments
 
 pub returns-in_err-roll_back-clause-moments_not_heap : goal.returns-in_err-roll_back-clause-moments_not_heap
 returns-in_err-roll_back-clause-moments_not_heap g c tells only none =
@@ -201,7 +202,7 @@ returns-in_err-roll_back-clause-moments_not_heap g c tells only none =
 pub returns-in_err-fault-clause-moments_readable : goal.returns-in_err-fault-clause-moments_readable
 returns-in_err-fault-clause-moments_readable g c tells only s batches state readable =
     let d = g.D.Disk in
-    still_moments d.moment d.left_since c.args.disk.now c.read_image.new.disk (d.bytes c.args.disk.now) (d.may_leave c.args.disk.now) (IsLogLeft s batches (stored_in s (d.bytes c.args.disk.now))) only (inl readable.roomy.replayed.log, refl) (c.read_image.ensures.disk.contents tells).moments
+    still_moments d.moment d.left_since c.args.disk.now c.read_image.new.disk (d.bytes c.args.disk.now) (d.may_leave c.args.disk.now) (IsLogLeft s batches (d.bytes c.args.disk.now)) only (left_same s batches state (d.bytes c.args.disk.now) readable) (c.read_image.ensures.disk.contents tells).moments
 
 pub returns-in_err-fault-clause-moments_not_heap : goal.returns-in_err-fault-clause-moments_not_heap
 returns-in_err-fault-clause-moments_not_heap g c tells only none =
@@ -336,3 +337,40 @@ returns-clause-reads_damaged g c tells at fault before =
     let read = c.in_ok-read.read in
     let found = c.in_ok-read.ensures.sound tells in
     absurd (readable_late read.of found.0 read.state (g.D.Disk.bytes c.args.disk.now) at found.2 fault before)
+
+-- The calls of an opening are those of its force, whatever the words are.
+
+pub returns-in_err-read-clause-passes_readable : goal.returns-in_err-read-clause-passes_readable
+returns-in_err-read-clause-passes_readable g c tells s batches state readable =
+    let e = c.in_err-read.field-0.0 in
+    let err : c.from_residual.result ≡ Err e = search rules in
+    let outside = readable_outside s batches state (g.D.Disk.bytes c.args.disk.now) e readable (λ address is. c.read_image.ensures.no_address address (c.in_err-read.was ∙ ap (λ x. Err x) is)) (c.in_err-read.ensures.refused tells) in
+    rw err (error_passes (opening_calls s batches) _ _ e (c.read_image.ensures.disk.contents tells).passed outside)
+
+pub returns-in_err-force-clause-passes_readable : goal.returns-in_err-force-clause-passes_readable
+returns-in_err-force-clause-passes_readable g c tells s batches state readable =
+    let read = c.in_ok-read.read in
+    let found = c.in_ok-read.ensures.sound tells in
+    let image = g.D.Disk.bytes c.args.disk.now in
+    let roll = c.in_ok-roll_back.ensures in
+    let e = c.in_err-force.field-0.0 in
+    let err : c.from_residual-in_err-force.result ≡ Err (Disk e) = search rules in
+    let calls = forced_passes read.of found.0 (stored_in read.of image) read found.1 c.roll_back.new.self.log (roll.kept found.0 found.1.log) _ _ _ (Err e) (c.read_image.ensures.disk.contents tells).passed (c.in_err-force.ensures.passes tells) in
+    rw err (subst (λ (n : ℕ). Passes n (g.D.Disk.passed c.args.disk.now) (g.D.Disk.passed c.force.new.disk) (Err e)) (one_opening s read.of batches found.0 state read.state image readable found.2) calls)
+
+pub returns-clause-passes_readable : goal.returns-clause-passes_readable
+returns-clause-passes_readable g c tells s batches state readable =
+    let read = c.in_ok-read.read in
+    let found = c.in_ok-read.ensures.sound tells in
+    let image = g.D.Disk.bytes c.args.disk.now in
+    let roll = c.in_ok-roll_back.ensures in
+    let calls = forced_passes read.of found.0 (stored_in read.of image) read found.1 c.roll_back.new.self.log (roll.kept found.0 found.1.log) _ _ _ (Ok tt) (c.read_image.ensures.disk.contents tells).passed (c.in_ok-force.ensures.passes tells) in
+    finish_passes c.finish.result c.in_ok-fault.fault c.finish.ensures.damaged c.finish.ensures.whole (opening_calls s batches) _ _
+    (subst (λ (n : ℕ). Passes n (g.D.Disk.passed c.args.disk.now) (g.D.Disk.passed c.force.new.disk) (Ok tt)) (one_opening s read.of batches found.0 state read.state image readable found.2) calls)
+
+-- what it tells of the words comes behind the force, and all else before a write
+pub returns-clause-durable_damaged : goal.returns-clause-durable_damaged
+returns-clause-durable_damaged g c tells only at is =
+    let d = g.D.Disk in
+    let contents = c.read_image.ensures.disk.contents tells in
+    c.in_ok-force.ensures.durable tells (only_still (d.bytes c.args.disk.now) (d.bytes c.read_image.new.disk) (d.may_leave c.args.disk.now) (d.may_leave c.read_image.new.disk) only contents.bytes contents.crash)

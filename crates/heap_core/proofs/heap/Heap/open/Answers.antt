@@ -1,16 +1,17 @@
 use Rattle.log_machine.specs.Machine.{words_in}
-use Rattle.std.proofs.Common.{◌≤◌, ℕ, true, Result, refl, sym, ap, ◌∙◌, subst}
+use Rattle.std.proofs.Common.{◌≤◌, ℕ, true, Result, Err, refl, sym, ap, ◌∙◌, subst}
 use Rattle.disk_model.specs.declared.disk.DiskError.{DiskError}
 use Rattle.disk_model.specs.Keeps.{OnlyReads}
 use Rattle.disk_model.proofs.MomentLaws.{begins}
-use Rattle.heap_recovery.specs.Faults.{IsNoHeap}
+use Rattle.heap_recovery.specs.Faults.{IsNoHeap, IsLogLeft}
+use Rattle.heap_recovery.proofs.FaultLaws.{left_same}
 use Rattle.heap_model.proofs.Shaped.{shaped_image}
 use Rattle.heap_model.specs.Opening.{opening_calls}
 use Rattle.heap_core.specs.Causes.{IsFromOutside, ErrorPasses, error_device}
 use Rattle.heap_core.proofs.RefinementOpen.{commits_found, opened_bounds, opened_engine, opened_disk_holds, is_fresh}
 use Rattle.heap_core.proofs.StepCore.{remembers}
 use Rattle.page_store.specs.Gates.{open_gates}
-use Rattle.heap_core.proofs.OpenErrors.{device_as, outside_as, passes_as}
+use Rattle.heap_core.proofs.OpenErrors.{device_as, outside_as, passes_as, damaged_as}
 use Rattle.heap_core.proofs.heap.Heap.open.Goals as goal
 
 pub new-engine-requires-clause-sized : goal.new-engine-requires-clause-sized
@@ -121,3 +122,26 @@ returns-in-Ok-recover-clause-rolled g c tells s batches stored shaped = c.in-Ok-
 
 pub returns-in-Ok-recover-clause-durable : goal.returns-in-Ok-recover-clause-durable
 returns-in-Ok-recover-clause-durable g c tells only = c.in-Ok-recover.ensures.durable tells only
+
+-- An image whose log can be read is left as it was where memory was refused,
+pub returns-in-Err-clause-moments_readable : goal.returns-in-Err-clause-moments_readable
+returns-in-Err-clause-moments_readable g c tells only s batches state readable =
+    let d = g.D.Disk in
+    let old = d.bytes c.args.disk in
+    begins d.moment d.left_since c.args.disk (IsLogLeft s batches old) (λ image left. subst (IsLogLeft s batches old) (sym (only image (g.met.D.Disk.only_now tells c.args.disk image left))) (left_same s batches state old readable))
+
+-- and else opened with the calls of its recovery.
+pub returns-in-Ok-recover-clause-passes_readable : goal.returns-in-Ok-recover-clause-passes_readable
+returns-in-Ok-recover-clause-passes_readable g c tells s batches state readable = c.in-Ok-recover.ensures.passes_readable tells s batches state readable
+
+pub returns-in-Err-recover-clause-passes_readable : goal.returns-in-Err-recover-clause-passes_readable
+returns-in-Err-recover-clause-passes_readable g c tells s batches state readable =
+    let d = g.D.Disk in
+    subst (λ e. ErrorPasses (opening_calls s batches) (d.passed c.args.disk) (d.passed c.recover.new.disk) e) (sym c.from.ensures)
+    (passes_as (opening_calls s batches) (d.passed c.args.disk) (d.passed c.recover.new.disk) c.in-Err-recover.e (c.in-Err-recover.ensures.passes_readable tells s batches state readable))
+
+pub returns-in-Err-clause-durable_damaged : goal.returns-in-Err-clause-durable_damaged
+returns-in-Err-clause-durable_damaged g c tells only at is = cc
+
+pub returns-in-Err-recover-clause-durable_damaged : goal.returns-in-Err-recover-clause-durable_damaged
+returns-in-Err-recover-clause-durable_damaged g c tells only at is = c.in-Err-recover.ensures.durable_damaged tells only at (ap (λ e. Err e) (damaged_as c.in-Err-recover.e at (sym c.from.ensures ∙ is)))
