@@ -57,7 +57,8 @@ impl Spaces {
 
     /// The address of the current space's first word, where the root object stands.
     pub fn base(&self) -> u32
-        ensures { result ≡ self.now.base }
+        ensures base { result ≡ self.now.base }
+        ensures sound { IsSpaces self.now }
     {
         self.base
     }
