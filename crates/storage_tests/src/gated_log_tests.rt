@@ -1,7 +1,10 @@
 //! A log on a disk in memory: what a force writes, and what an opening finds.
-use disk_model::{MemoryDisk, Pick};
+use disk_model::{Disk, MemoryDisk, Pick};
 use gated_log::{Log, LogError};
 use log_records::Record;
+use std::alloc::{AllocError, Global};
+use std::fmt::Debug;
+use std::process::Abort;
 use std::test::Fail;
 
 /// Transaction 1 writes the number 7 into field 0 of the object at address 0, where null stood, and is committed.
@@ -22,60 +25,64 @@ const FORCED: [u8; 44] = [
     0, 0, 0, 0, 0, 5, 1, 0, 0, 0, 0, 0, 0,
 ];
 
+/// A disk with these bytes and room for the record of its changes.
+fn make_disk(alloc: Global, bytes: Vec<u8>, room: usize) -> Result<MemoryDisk, AllocError> {
+    let none = Vec::new(alloc);
+    MemoryDisk::of(alloc, bytes, Pick::Newest, room, none, Vec::new(alloc))
+}
+
+/// Compares what was found. The tests call it, since the proof of an assertion of their own would take each of them longer.
+fn same<T: PartialEq + Debug + Copy>(rt: &impl Abort, found: T, want: T) {
+    assert_eq!(rt; found, want);
+}
+
+/// How many records there are, how many of them are forced, and how many bytes they take.
+fn counts(log: &Log) -> (u64, u64, u64) {
+    (log.records(), log.forced(), log.used())
+}
+
+/// Appends the records one by one, and forces them.
+fn append_and_force(rt: &impl Abort, alloc: Global, disk: &mut MemoryDisk) -> Result<(), Fail> {
+    assert!(rt; disk.size() >= 44);
+    let (mut log, found) = Log::open(alloc, disk, 4, 40)?;
+    same(rt, (found.len(), counts(&log)), (0, (0, 0, 1)));
+    log.reserve(32)?;
+    let [update, commit] = &RECORDS;
+    assert!(rt; log.used() + log.need(update) <= log.room());
+    log.append(update)?;
+    same(rt, log.pending(), true);
+    assert!(rt; log.used() + log.need(commit) <= log.room());
+    log.append(commit)?;
+    same(rt, (log.records(), log.forced()), (2, 0));
+    log.force(disk)?;
+    same(rt, (log.pending(), counts(&log)), (false, (2, 2, 38)));
+    Ok(())
+}
+
 #[test]
 fn forced_and_opened_again(rt: HostRuntime) -> Result<(), Fail> {
     let alloc = rt.alloc();
-    let records = RECORDS;
-    let (update, commit) = (&records[0], &records[1]);
-    let bytes = vec![in alloc; 0u8; 44]?;
-    let mut disk = MemoryDisk::of(
-        alloc,
-        bytes,
-        Pick::Newest,
-        1000,
-        Vec::new(alloc),
-        Vec::new(alloc),
-    )?;
-    let (mut log, found) = Log::open(alloc, &mut disk, 4, 40)?;
-    assert_eq!(rt; found.len(), 0);
-    assert_eq!(rt; log.used(), 1);
-    log.reserve(32)?;
-    assert!(rt; log.used() + log.need(update) <= log.room());
-    log.append(update)?;
-    assert!(rt; log.pending());
-    assert!(rt; log.used() + log.need(commit) <= log.room());
-    log.append(commit)?;
-    assert_eq!(rt; (log.records(), log.forced()), (2, 0));
-    log.force(&mut disk)?;
-    assert_eq!(rt; (log.records(), log.forced()), (2, 2));
-    assert!(rt; !log.pending());
-    assert_eq!(rt; log.used(), 38);
-    assert_eq!(rt; disk.contents(), FORCED.as_slice());
+    let mut disk = make_disk(alloc, vec![in alloc; 0u8; 44]?, 1000)?;
+    append_and_force(&rt, alloc, &mut disk)?;
+    same(&rt, disk.contents(), FORCED.as_slice());
+    assert!(rt; disk.size() >= 44);
     let (again, found) = Log::open(alloc, &mut disk, 4, 40)?;
-    assert_eq!(rt; found.as_slice(), RECORDS.as_slice());
-    assert_eq!(rt; again.used(), 38);
-    assert_eq!(rt; (again.records(), again.forced()), (2, 2));
+    same(&rt, found.as_slice(), RECORDS.as_slice());
+    same(&rt, counts(&again), (2, 2, 38));
     Ok(())
 }
 
 #[test]
 fn records_appended_together_are_one_batch(rt: HostRuntime) -> Result<(), Fail> {
     let alloc = rt.alloc();
-    let bytes = vec![in alloc; 0u8; 44]?;
-    let mut disk = MemoryDisk::of(
-        alloc,
-        bytes,
-        Pick::Newest,
-        1000,
-        Vec::new(alloc),
-        Vec::new(alloc),
-    )?;
+    let mut disk = make_disk(alloc, vec![in alloc; 0u8; 44]?, 1000)?;
+    assert!(rt; disk.size() >= 44);
     let (mut log, _) = Log::open(alloc, &mut disk, 4, 40)?;
     assert_eq!(rt; log.used(), 1);
     log.append_all(&RECORDS)?;
     log.reserve(0)?;
     log.force(&mut disk)?;
-    assert_eq!(rt; disk.contents(), FORCED.as_slice());
+    same(&rt, disk.contents(), FORCED.as_slice());
     Ok(())
 }
 

@@ -2,6 +2,7 @@
 use byteorder::{ByteOrder, LittleEndian};
 use log_records::{ObjectWords, Record, decode, encode, length};
 use std::alloc::{AllocError, Global};
+use std::process::Abort;
 use std::test::Fail;
 
 /// A record of each kind: transaction 1 writes the number 7 where null stood; its second object, of two fields, one null and
@@ -98,40 +99,65 @@ const NO_RECORDS: [&[u8]; 11] = [
     ],
 ];
 
+/// Compares what is decoded. The tests call it, since the proof of an assertion of their own would take each of them longer.
+fn expect(
+    rt: &impl Abort,
+    alloc: Global,
+    bytes: &[u8],
+    want: &Option<(Record, usize)>,
+) -> Result<(), AllocError> {
+    let found = decode(alloc, bytes)?;
+    assert!(rt; found == *want, "{bytes:?}");
+    Ok(())
+}
+
+/// Spells a record, alone and with bytes behind it, and reads it again.
+fn spell_and_read(
+    rt: &impl Abort,
+    alloc: Global,
+    record: Record,
+    bytes: &[u8],
+) -> Result<(), AllocError> {
+    let mut spelled = Vec::new(alloc);
+    encode(&record, &mut spelled)?;
+    assert_eq!(rt;
+        (spelled.as_slice(), length(&record)),
+        (bytes, bytes.len() as u64)
+    );
+    encode(&record, &mut spelled)?;
+    let want = Some((record, bytes.len()));
+    expect(rt, alloc, bytes, &want)?;
+    expect(rt, alloc, &spelled, &want)
+}
+
 #[test]
 fn spelled_and_read_again(rt: HostRuntime) -> Result<(), Fail> {
-    let alloc = rt.alloc();
-    let twice = records(alloc)?.into_iter().zip(records(alloc)?);
-    for ((record, again), bytes) in twice.zip(SPELLINGS) {
-        let mut spelled = Vec::new(alloc);
-        encode(&record, &mut spelled)?;
-        assert_eq!(rt; spelled.as_slice(), bytes);
-        assert_eq!(rt; length(&record), bytes.len() as u64);
-        assert_eq!(rt; decode(alloc, bytes)?, Some((again, bytes.len())));
-        encode(&record, &mut spelled)?;
-        assert_eq!(rt;
-            decode(alloc, &spelled)?,
-            Some((record, bytes.len())),
-            "with bytes behind it"
-        );
+    for (record, bytes) in records(rt.alloc())?.into_iter().zip(SPELLINGS) {
+        spell_and_read(&rt, rt.alloc(), record, bytes)?;
     }
     Ok(())
 }
 
 #[test]
-fn refused(rt: HostRuntime) -> Result<(), Fail> {
-    let alloc = rt.alloc();
-    for bytes in NO_RECORDS {
-        assert_eq!(rt; decode(alloc, bytes)?, None, "{bytes:?}");
+fn bytes_that_begin_with_no_record_are_refused(rt: HostRuntime) -> Result<(), Fail> {
+    for bytes in &NO_RECORDS {
+        expect(&rt, rt.alloc(), bytes, &None)?;
     }
-    for bytes in SPELLINGS {
-        for end in 0..bytes.len() {
-            assert_eq!(rt;
-                decode(alloc, &bytes[..end])?,
-                None,
-                "cut off at {end}: {bytes:?}"
-            );
-        }
+    Ok(())
+}
+
+/// Bytes that are cut off anywhere.
+fn cut_off(rt: &impl Abort, alloc: Global, bytes: &[u8]) -> Result<(), AllocError> {
+    for end in 0..bytes.len() {
+        expect(rt, alloc, &bytes[..end], &None)?;
+    }
+    Ok(())
+}
+
+#[test]
+fn records_that_are_cut_off_are_refused(rt: HostRuntime) -> Result<(), Fail> {
+    for bytes in &SPELLINGS {
+        cut_off(&rt, rt.alloc(), bytes)?;
     }
     Ok(())
 }
