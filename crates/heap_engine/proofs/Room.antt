@@ -1,5 +1,5 @@
 -- What is kept of the log is enough to take a transaction's writes back.
-use Rattle.std.proofs.Common.{◌≡◌, ℕ, ◌+◌, ◌<◌, ◌≤◌, Bool, true, false, None, Some, Result, Ok, Err, List, length, reverse, refl, sym, ap, ◌∙◌, subst, arith}
+use Rattle.std.proofs.Common.{◌≡◌, ℕ, ◌+◌, ◌<◌, ◌≤◌, Bool, true, false, None, Some, Result, Ok, Err, List, length, reverse, refl, sym, ap, ◌∙◌, subst, arith, inl, inr}
 use Rattle.std.specs.Prelude.{◌↔◌, IsErr, OnOk, nat_lt, if◌then◌else◌}
 use Rattle.std.specs.List.{AllByRecursion}
 use Rattle.std.proofs.lemmas.Bool.Decides.{nat_tests}
@@ -16,8 +16,12 @@ use Rattle.log_machine.proofs.AbortLaws.{abort_length}
 use Rattle.log_machine.proofs.ListLaws.{AllByRecursion-reverse}
 use Rattle.graph_model.specs.declared.reply.Refusal.TheVariants.{LogFull, Exhausted}
 use Rattle.heap_memory.specs.Refusals.{no_room, space_refusal}
-use Rattle.heap_spaces.specs.Spaces.{SpacesState, free_words, open_words, with_taken}
+use Rattle.heap_spaces.specs.Spaces.{SpacesState, IsSpaces, free_words, open_words, with_taken}
 use Rattle.heap_engine.specs.Reserve.{WroteBelow}
+
+-- a space begins below the end of the addresses that a reference can have
+pub base_below : (s : SpacesState) → IsSpaces s → s.base < 2097152
+base_below s is = elim is.first [ inl low ↦ omega arith | inr high ↦ let few = is.few in omega arith ]
 
 used_more : (tail buffer k : ℕ) → used_bytes tail (buffer + k) ≤ used_bytes tail buffer + (k + 5)
 used_more tail buffer k = grind (arith, nat_tests)
