@@ -4,7 +4,7 @@ use Rattle.std.specs.Prelude.{◌^◌, All, Contains}
 use Rattle.std.specs.Cmp.{IsTotalOrder}
 use Rattle.std.specs.declared.cmp.Ordering.{Ordering}
 use Rattle.std.specs.FinMap.{from_entries, entries, contains_key, len, len-empty, len-insert, len-entries}
-use Rattle.std.specs.List.{AllByRecursion, flat_map}
+use Rattle.std.specs.List.{AllByRecursion, enumerate_from, flat_map}
 use Rattle.std.proofs.lemmas.List.{length-map, get_or_default}
 use Rattle.std.proofs.lemmas.List.Elements.{recursion_from_All}
 use Rattle.std.proofs.lemmas.List.Sums.{count_by-le-length}
@@ -16,6 +16,7 @@ use Rattle.log_records.specs.Record.{spellings}
 use Rattle.log_machine.specs.declared.UndoEntry.{UndoEntry}
 use Rattle.log_machine.specs.Machine.{field_at}
 use Rattle.log_machine.specs.Effect.{WritesBelow, EachWritesBelow}
+use Rattle.log_machine.proofs.Addresses.{each_address}
 use Rattle.log_machine.proofs.ListLaws.{AllByRecursion-append}
 use Rattle.log_machine.proofs.WordsFrom.{from_below}
 use Rattle.volatile_area.specs.Area.{AreaState, starts_of}
@@ -48,7 +49,7 @@ bases_below : (area : AreaState) (moves : List Move) (starts : List ℕ) (addres
 bases_below area moves [] address end fits = tt
 bases_below area moves (at ∷ rest) address end fits =
     let long = length-moved_words area moves at in
-    (from_below address end (moved_words area moves at) (omega arith), bases_below area moves rest (address + words_taken area at) end (omega arith))
+    (each_address (λ a. a < end) (enumerate_from address (moved_words area moves at)) (from_below address end (moved_words area moves at) (omega arith)), bases_below area moves rest (address + words_taken area at) end (omega arith))
 
 fix_below : (t : ℕ) (moves : List Move) (f : Field) (w : ℕ) (meant : Option Word) (end : ℕ) → field_at f.0 f.1 < end → EachWritesBelow end (fix_meant t moves f w meant)
 fix_below t moves f w None end below = tt
