@@ -34,6 +34,7 @@ use Rattle.heap_recovery.specs.declared.recovery.Recovered.{Recovered}
 use Rattle.heap_recovery.specs.Recovered.{IsRecovered}
 use Rattle.heap_memory.specs.Memory.{Memory}
 use Rattle.memory_laws.specs.CoreMemory.{AreHeld, IsMemory}
+use Rattle.memory_laws.proofs.Step.Appended.{some_one}
 use Rattle.object_locks.specs.Holdings.{Holdings, holding_cmp}
 use Rattle.txn_table.specs.Table.{TransactionState, TableState, transaction_of, new_table}
 use Rattle.heap_engine.specs.declared.engine.Engine.{Engine}

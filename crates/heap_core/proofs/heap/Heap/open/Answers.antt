@@ -11,6 +11,7 @@ use Rattle.heap_core.specs.Causes.{IsFromOutside, ErrorPasses, error_device}
 use Rattle.heap_core.proofs.RefinementOpen.{commits_found, opened_bounds, opened_engine, opened_disk_holds, is_fresh}
 use Rattle.heap_core.proofs.StepCore.{remembers}
 use Rattle.page_store.specs.Gates.{open_gates}
+use Rattle.txn_table.specs.Table.{TableState}
 use Rattle.heap_core.proofs.OpenErrors.{device_as, outside_as, passes_as, damaged_as}
 use Rattle.heap_core.proofs.heap.Heap.open.Goals as goal
 
@@ -32,12 +33,12 @@ new-engine-requires-clause-few g c =
 pub new-engine-requires-clause-number : goal.new-engine-requires-clause-number
 new-engine-requires-clause-number g c =
     let found = c.in-Ok-recover.ensures.opens in
-    subst (λ x. 1 ≤ x.next) (sym c.set_next.ensures) (opened_bounds found.0 found.1 found.2 c.in-Ok-recover.found found.3 found.4).next
+    subst (λ x. 1 ≤ x.next) (sym c.set_next.ensures) (subst (λ n. 1 ≤ n) (sym c.next.ensures) (opened_bounds found.0 found.1 found.2 c.in-Ok-recover.found found.3 found.4).next)
 
 pub returns-in-Ok-recover-clause-opens : goal.returns-in-Ok-recover-clause-opens
 returns-in-Ok-recover-clause-opens g c =
     let found = c.in-Ok-recover.ensures.opens in
-    let fresh = is_fresh c.in-Ok-recover.found c.spaces.result c.set_next.new.self c.in-Ok.table _ c.new-engine.ensures c.spaces.ensures c.set_next.ensures in
+    let fresh = is_fresh c.in-Ok-recover.found c.spaces.result c.set_next.new.self c.in-Ok.table _ c.new-engine.ensures c.spaces.ensures (c.set_next.ensures ∙ ap (λ (n : ℕ). let t : TableState = record { next = n; active = c.in-Ok.table.active } in t) c.next.ensures) in
     let image = g.D.Disk.bytes c.recover.new.disk in
     let gates : ℕ → ℕ = λ p. open_gates found.0.log_bytes image p in (
       found.0,
@@ -47,13 +48,13 @@ returns-in-Ok-recover-clause-opens g c =
       found.3,
       λ born places gr stands.
           let is = opened_engine g.D.Disk found.0 found.1 found.2 gates born places gr c.in-Ok-recover.found c.new-engine.result c.recover.new.disk found.3 found.4 fresh c.in-Ok-recover.ensures.known (λ told p. refl) in
-          record { history = c.new-in-Ok-recover.ensures; before = commits_found found.0 found.1 found.2 c.in-Ok-recover.found found.3 found.4; memory = remembers g.D.Disk _ c.new-engine.result c.recover.new.disk _ refl is; engine = λ none. is },
+          record { history = c.new-in-Ok-recover.ensures; before = c.commits.ensures ∙ commits_found found.0 found.1 found.2 c.in-Ok-recover.found found.3 found.4; memory = remembers g.D.Disk _ c.new-engine.result c.recover.new.disk _ refl is; engine = λ none. is },
     )
 
 pub returns-in-Ok-recover-clause-sound : goal.returns-in-Ok-recover-clause-sound
 returns-in-Ok-recover-clause-sound g c tells =
     let found = c.in-Ok-recover.ensures.sound tells in
-    let fresh = is_fresh c.in-Ok-recover.found c.spaces.result c.set_next.new.self c.in-Ok.table _ c.new-engine.ensures c.spaces.ensures c.set_next.ensures in
+    let fresh = is_fresh c.in-Ok-recover.found c.spaces.result c.set_next.new.self c.in-Ok.table _ c.new-engine.ensures c.spaces.ensures (c.set_next.ensures ∙ ap (λ (n : ℕ). let t : TableState = record { next = n; active = c.in-Ok.table.active } in t) c.next.ensures) in
     let gates = open_gates found.0.log_bytes (g.D.Disk.bytes c.args.disk) in
     let still = c.in-Ok-recover.ensures.gates tells found.0 found.1 found.2 found.3 in (
       found.0,
@@ -62,7 +63,7 @@ returns-in-Ok-recover-clause-sound g c tells =
       found.3,
       λ born places gr stands.
           let is = opened_engine g.D.Disk found.0 found.1 found.2 gates born places gr c.in-Ok-recover.found c.new-engine.result c.recover.new.disk found.3.log found.4 fresh c.in-Ok-recover.ensures.known (λ told. still) in
-          record { history = c.new-in-Ok-recover.ensures; before = commits_found found.0 found.1 found.2 c.in-Ok-recover.found found.3.log found.4; memory = remembers g.D.Disk _ c.new-engine.result c.recover.new.disk _ refl is; engine = λ none. is },
+          record { history = c.new-in-Ok-recover.ensures; before = c.commits.ensures ∙ commits_found found.0 found.1 found.2 c.in-Ok-recover.found found.3.log found.4; memory = remembers g.D.Disk _ c.new-engine.result c.recover.new.disk _ refl is; engine = λ none. is },
     )
 
 pub returns-in-Err-clause-moments_not_heap : goal.returns-in-Err-clause-moments_not_heap
@@ -73,11 +74,11 @@ returns-in-Err-clause-moments_not_heap g c tells only none =
 pub returns-in-Ok-recover-clause-found : goal.returns-in-Ok-recover-clause-found
 returns-in-Ok-recover-clause-found g c tells s batches stored shaped born places gr stands =
     let found = c.in-Ok-recover.ensures.found tells s batches stored shaped in
-    let fresh = is_fresh c.in-Ok-recover.found c.spaces.result c.set_next.new.self c.in-Ok.table _ c.new-engine.ensures c.spaces.ensures c.set_next.ensures in
+    let fresh = is_fresh c.in-Ok-recover.found c.spaces.result c.set_next.new.self c.in-Ok.table _ c.new-engine.ensures c.spaces.ensures (c.set_next.ensures ∙ ap (λ (n : ℕ). let t : TableState = record { next = n; active = c.in-Ok.table.active } in t) c.next.ensures) in
     let gates = open_gates s.log_bytes (g.D.Disk.bytes c.args.disk) in
     let still = c.in-Ok-recover.ensures.gates tells s batches stored shaped in
     let is = opened_engine g.D.Disk s batches stored gates born places gr c.in-Ok-recover.found c.new-engine.result c.recover.new.disk shaped.log found fresh c.in-Ok-recover.ensures.known (λ told. still) in
-    record { history = c.new-in-Ok-recover.ensures; before = commits_found s batches stored c.in-Ok-recover.found shaped.log found; memory = remembers g.D.Disk _ c.new-engine.result c.recover.new.disk _ refl is; engine = λ none. is }
+    record { history = c.new-in-Ok-recover.ensures; before = c.commits.ensures ∙ commits_found s batches stored c.in-Ok-recover.found shaped.log found; memory = remembers g.D.Disk _ c.new-engine.result c.recover.new.disk _ refl is; engine = λ none. is }
 
 pub returns-in-Ok-recover-clause-holds : goal.returns-in-Ok-recover-clause-holds
 returns-in-Ok-recover-clause-holds g c tells s batches stored legal only places gr stands =
