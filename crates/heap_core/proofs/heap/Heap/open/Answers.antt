@@ -48,7 +48,7 @@ returns-in-Ok-recover-clause-opens g c =
       found.3,
       λ born places gr stands.
           let is = opened_engine g.D.Disk found.0 found.1 found.2 gates born places gr c.in-Ok-recover.found c.new-engine.result c.recover.new.disk found.3 found.4 fresh c.in-Ok-recover.ensures.known (λ told p. refl) in
-          record { history = c.new-in-Ok-recover.ensures; before = c.commits.ensures ∙ commits_found found.0 found.1 found.2 c.in-Ok-recover.found found.3 found.4; memory = remembers g.D.Disk _ c.new-engine.result c.recover.new.disk _ refl is; engine = λ none. is },
+          record { history = c.new-in-Ok-recover.ensures; before = c.commits-commits.ensures ∙ commits_found found.0 found.1 found.2 c.in-Ok-recover.found found.3 found.4; memory = remembers g.D.Disk _ c.new-engine.result c.recover.new.disk _ refl is; engine = λ none. is },
     )
 
 pub returns-in-Ok-recover-clause-sound : goal.returns-in-Ok-recover-clause-sound
@@ -63,7 +63,7 @@ returns-in-Ok-recover-clause-sound g c tells =
       found.3,
       λ born places gr stands.
           let is = opened_engine g.D.Disk found.0 found.1 found.2 gates born places gr c.in-Ok-recover.found c.new-engine.result c.recover.new.disk found.3.log found.4 fresh c.in-Ok-recover.ensures.known (λ told. still) in
-          record { history = c.new-in-Ok-recover.ensures; before = c.commits.ensures ∙ commits_found found.0 found.1 found.2 c.in-Ok-recover.found found.3.log found.4; memory = remembers g.D.Disk _ c.new-engine.result c.recover.new.disk _ refl is; engine = λ none. is },
+          record { history = c.new-in-Ok-recover.ensures; before = c.commits-commits.ensures ∙ commits_found found.0 found.1 found.2 c.in-Ok-recover.found found.3.log found.4; memory = remembers g.D.Disk _ c.new-engine.result c.recover.new.disk _ refl is; engine = λ none. is },
     )
 
 pub returns-in-Err-clause-moments_not_heap : goal.returns-in-Err-clause-moments_not_heap
@@ -78,7 +78,7 @@ returns-in-Ok-recover-clause-found g c tells s batches stored shaped born places
     let gates = open_gates s.log_bytes (g.D.Disk.bytes c.args.disk) in
     let still = c.in-Ok-recover.ensures.gates tells s batches stored shaped in
     let is = opened_engine g.D.Disk s batches stored gates born places gr c.in-Ok-recover.found c.new-engine.result c.recover.new.disk shaped.log found fresh c.in-Ok-recover.ensures.known (λ told. still) in
-    record { history = c.new-in-Ok-recover.ensures; before = c.commits.ensures ∙ commits_found s batches stored c.in-Ok-recover.found shaped.log found; memory = remembers g.D.Disk _ c.new-engine.result c.recover.new.disk _ refl is; engine = λ none. is }
+    record { history = c.new-in-Ok-recover.ensures; before = c.commits-commits.ensures ∙ commits_found s batches stored c.in-Ok-recover.found shaped.log found; memory = remembers g.D.Disk _ c.new-engine.result c.recover.new.disk _ refl is; engine = λ none. is }
 
 pub returns-in-Ok-recover-clause-holds : goal.returns-in-Ok-recover-clause-holds
 returns-in-Ok-recover-clause-holds g c tells s batches stored legal only places gr stands =
