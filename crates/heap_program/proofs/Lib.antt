@@ -1,27 +1,27 @@
-mod Causes
+pub mod Causes
 mod CommandLaws
 pub mod CoreSteps
 mod Counts
-mod Lines
+pub mod Lines
 pub mod NextRun
 mod PlayAborts
-mod PlayCore
+pub mod PlayCore
 mod PlayEnding
 mod PlayEnds
 mod PlayEvent
 mod PlayFaults
 mod PlayFuse
-mod PlayLaws
+pub mod PlayLaws
 mod PlayLoop
-mod PlayOpen
+pub mod PlayOpen
 mod PlayPrints
 pub mod Playable
 mod PrintRecovered
 pub mod Ready
-mod RefusalLaws
+pub mod RefusalLaws
 mod Reopened
 mod RunLaws
-mod Statuses
+pub mod Statuses
 pub mod StepsLaws
 mod WordFaults
-mod Written
+pub mod Written

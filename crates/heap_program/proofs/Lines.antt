@@ -1,15 +1,112 @@
 -- What is written of the lines of a history, and of the text behind them.
-use Rattle.std.proofs.Common.{◌≡◌, ◌⊎◌, inl, inr, ℕ, List, [], ◌++◌, Result, Ok, Err, sym, ap, ◌∙◌, arith, append_assoc}
+use Rattle.std.proofs.Common.{◌≡◌, ◌⊎◌, inl, inr, ℕ, List, [], ◌∷◌, ◌++◌, Result, Ok, Err, refl, sym, ap, ◌∙◌, subst, arith, append_assoc}
+use Rattle.std.proofs.lemmas.Grind.{flat_map-append}
 use Rattle.std.proofs.lemmas.List.{append-nil}
+use Rattle.graph_model.specs.declared.event.Event.{Event}
 use Rattle.graph_model.specs.declared.reply.Entry.{Entry}
+use Rattle.graph_model.specs.declared.reply.Refusal.TheVariants.{DiskFault, Stopped}
+use Rattle.graph_model.specs.declared.reply.Reply.{Reply}
+use Rattle.graph_model.specs.declared.reply.Reply.TheVariants.{Refused}
+use Rattle.graph_model.specs.Text.{line}
+use Rattle.heap_program.specs.declared.output.WriteError.{WriteError}
+use Rattle.heap_program.specs.declared.output.WriteError.TheVariants as writing
 use Rattle.heap_program.specs.declared.play.Halt.{Halt}
 use Rattle.heap_program.specs.declared.play.Halt.TheVariants as halt
 use Rattle.heap_program.specs.declared.status.Status.{Status}
 use Rattle.heap_program.specs.declared.status.Status.TheVariants as status
 use Rattle.heap_program.specs.Headline.{IsOfDisk, Writes}
-use Rattle.heap_program.specs.Play.{lines_text, Wrote, WroteFront, WroteLines}
-use Rattle.heap_program.specs.StatusOf.{halt_status}
+use Rattle.heap_program.specs.Play.{lines_text, ended_by, Wrote, WroteFront, WroteLines}
+use Rattle.heap_program.specs.StatusOf.{halt_status, write_halt}
 use Rattle.heap_program.proofs.Written.{front_more, then_front, whole_front}
+
+-- What a play wrote since another state of the history: the lines of the entries that came behind it.
+abbrev pub WroteSince : Result (Unit {0}) Halt → List Entry → List Entry → List ℕ → List ℕ → Type 0
+WroteSince result old now before after = (heard : List Entry) × (now ≡ old ++ heard) × Wrote result before heard after
+
+-- nothing was made
+pub none_since : (history : List Entry) (before : List ℕ) → WroteSince (Ok tt) history history before before
+none_since history before = ([], sym (append-nil history), sym (append-nil before))
+
+-- and memory was refused
+pub nothing_since : (history : List Entry) (before : List ℕ) → WroteSince (Err halt.NoMemory) history history before before
+nothing_since history before =
+    let front : WroteFront before [] before = ([], [], refl, sym (append-nil before)) in
+    let lines : WroteLines before [] before = ([], [], [], refl, omega arith, sym (append-nil (before ++ []) ∙ append-nil before)) in
+    ([], sym (append-nil history), (front, lines))
+
+-- one event was made
+module _ (old now : List Entry) (event : Event) (reply : Reply) (before after : List ℕ) (made : now ≡ old ++ record { event = event; reply = reply } ∷ []) where
+  abbrev entry : Entry
+  entry = record { event = event; reply = reply }
+
+  one_text : lines_text (entry ∷ []) ≡ line entry
+  one_text = append-nil (line entry)
+
+  whole_line : (r : Reply) → after ≡ before ++ lines_text (entry ∷ []) → Wrote (ended_by r) before (entry ∷ []) after
+  whole_line (Refused DiskFault) out = out
+  whole_line (Refused Stopped) out = out
+  whole_line r out = out
+
+  -- its line was written
+  pub one_since : after ≡ before ++ line entry → WroteSince (ended_by reply) old now before after
+  one_since out = (entry ∷ [], made, whole_line reply (out ∙ ap (λ (l : List ℕ). before ++ l) (sym one_text)))
+
+  some_line : (e : WriteError) → WroteFront before (lines_text (entry ∷ [])) after × WroteLines before (entry ∷ []) after → Wrote (Err (write_halt e)) before (entry ∷ []) after
+  some_line writing.NoMemory some = some
+  some_line writing.SinkFailed some = some
+
+  -- or a first part of it
+  pub part_since : (e : WriteError) → WroteFront before (line entry) after → WroteSince (Err (write_halt e)) old now before after
+  part_since e part =
+      let front : WroteFront before (lines_text (entry ∷ [])) after = (part.0, part.1, one_text ∙ part.2, part.3) in
+      let lines : WroteLines before (entry ∷ []) after = ([], entry ∷ [], part.0, refl, omega arith, part.3 ∙ ap (λ (l : List ℕ). l ++ part.0) (sym (append-nil before))) in
+      (entry ∷ [], made, some_line e (front, lines))
+
+-- More was written behind the lines of a play that ended well.
+module _ (first second : List Entry) (before between after : List ℕ) (out : between ≡ before ++ lines_text first) where
+  both_text : lines_text (first ++ second) ≡ lines_text first ++ lines_text second
+  both_text = flat_map-append line first second
+
+  whole_then : after ≡ between ++ lines_text second → after ≡ before ++ lines_text (first ++ second)
+  whole_then more = more ∙ ap (λ (l : List ℕ). l ++ lines_text second) out ∙ append_assoc before (lines_text first) (lines_text second) ∙ ap (λ (l : List ℕ). before ++ l) (sym both_text)
+
+  part_then : WroteFront between (lines_text second) after × WroteLines between second after → WroteFront before (lines_text (first ++ second)) after × WroteLines before (first ++ second) after
+  part_then more =
+      let front = then_front before (lines_text first) (lines_text second) between after out more.0 in
+      let w = more.1 in
+      let text : before ++ lines_text (first ++ w.0) ≡ between ++ lines_text w.0 =
+      ap (λ (l : List ℕ). before ++ l) (flat_map-append line first w.0) ∙ sym (append_assoc before (lines_text first) (lines_text w.0)) ∙ ap (λ (l : List ℕ). l ++ lines_text w.0) (sym out) in
+      let lines : WroteLines before (first ++ second) after = (
+        first ++ w.0,
+        w.1,
+        w.2,
+        ap (λ (l : List Entry). first ++ l) w.3 ∙ sym (append_assoc first w.0 w.1),
+        w.4,
+        w.5 ∙ ap (λ (l : List ℕ). l ++ w.2) (sym text),
+      ) in
+      (subst (λ (l : List ℕ). WroteFront before l after) (sym both_text) front, lines)
+
+  pub wrote_behind : (r : Result (Unit {0}) Halt) → Wrote r between second after → Wrote r before (first ++ second) after
+  wrote_behind (Ok done) more = whole_then more
+  wrote_behind (Err halt.Stopped) more = whole_then more
+  wrote_behind (Err halt.DiskFault) more = whole_then more
+  wrote_behind (Err halt.NoMemory) more = part_then more
+  wrote_behind (Err halt.WriteFault) more = part_then more
+
+-- A whole play, and then another.
+pub then_since : (result : Result (Unit {0}) Halt) (old mid now : List Entry) (before between after : List ℕ) → WroteSince (Ok tt) old mid before between → WroteSince result mid now between after
+    → WroteSince result old now before after
+then_since result old mid now before between after one two = (
+  one.0 ++ two.0,
+  two.1 ∙ ap (λ (l : List Entry). l ++ two.0) one.1 ∙ append_assoc old one.0 two.0,
+  wrote_behind one.0 two.0 before between after one.2 result two.2,
+)
+
+-- Since the history was empty all of its lines were written.
+pub all_since : (result : Result (Unit {0}) Halt) (old now : List Entry) (before after : List ℕ) → old ≡ [] → WroteSince result old now before after → Wrote result before now after
+all_since result old now before after none wrote =
+    let same : wrote.0 ≡ now = sym (wrote.1 ∙ ap (λ (l : List Entry). l ++ wrote.0) none) in
+    subst (λ (l : List Entry). Wrote result before l after) same wrote.2
 
 module _ (history : List Entry) (before after : List ℕ) where
   -- all lines, and what was written behind them

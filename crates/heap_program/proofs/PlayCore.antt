@@ -1,11 +1,9 @@
 -- How plays go on, on every disk.
 use Rattle.std.proofs.Common.{◌≡◌, ◌⊎◌, inl, inr, ⊎_elim, ℕ, ◌+◌, ◌<◌, Bool, List, [], ◌∷◌, ◌++◌, length, get_or, take, drop, Result, Ok, Err, refl, sym, ap, ◌∙◌, subst, arith, append_assoc}
 use Rattle.std.specs.Prelude.{IsTrue}
-use Rattle.std.proofs.lemmas.Grind.{flat_map-append}
 use Rattle.std.proofs.lemmas.List.{append-nil}
 use Rattle.disk_model.specs.declared.disk.Disk.{Ghosts}
 use Rattle.graph_model.specs.declared.event.Event.{Event}
-use Rattle.graph_model.specs.declared.reply.Entry.{Entry}
 use Rattle.graph_model.specs.declared.reply.Refusal.TheVariants.{DiskFault, Stopped}
 use Rattle.graph_model.specs.declared.reply.Reply.{Reply}
 use Rattle.graph_model.specs.declared.reply.Reply.TheVariants.{Refused}
@@ -23,8 +21,9 @@ use Rattle.heap_model.proofs.Run.Calls.{step_history}
 use Rattle.heap_model.specs.CoreRuns.{after_events}
 use Rattle.heap_core.specs.Refinement.{IsCore}
 use Rattle.heap_program.proofs.CoreSteps.{ready_behind, ready_front}
+use Rattle.heap_program.proofs.Lines.{none_since, nothing_since, one_since, part_since, then_since}
 use Rattle.heap_program.proofs.Ready.{AreReady}
-use Rattle.heap_program.specs.Play.{MadeAll, IsCutBy, EndsAs, PlaysCore, Wrote, WroteFront, WroteLines, ended_by, lines_text}
+use Rattle.heap_program.specs.Play.{MadeAll, IsCutBy, EndsAs, PlaysCore, WroteFront, ended_by}
 use Rattle.heap_program.specs.StatusOf.{write_halt}
 use Rattle.heap_program.proofs.PlayEvent.{whole_reply}
 use Rattle.heap_program.proofs.PlayLoop.{events_next, events_parts}
@@ -100,12 +99,12 @@ module _ {D : Type 0} {g : Ghosts D} where
         run = run_append c m second.core events second.made run second.run;
         ends = ends_then c m events whole second.made second.behind second.core result second.ends;
         is = second.is;
-        written = λ tells w is. second.written tells w (first.written tells w is);
+        written = λ tells. then_since result c.history m.history second.core.history before between after (first.written tells) (second.written tells);
       }
 
   -- A play of no events.
   pub core_none : (c : Core) (heap : Heap D g) (told : Bool) (before : List ℕ) → IsCore c heap → PlaysCore c [] heap told before before (Ok tt)
-  core_none c heap told before is = record { made = []; behind = []; parts = refl; core = c; run = refl; ends = (refl, refl); is = is; written = λ tells w same. same }
+  core_none c heap told before is = record { made = []; behind = []; parts = refl; core = c; run = refl; ends = (refl, refl); is = is; written = λ tells. none_since c.history before }
 
   -- memory was refused: nothing was made
   pub core_nothing : (c : Core) (events : List Event) (new : Heap D g) (told : Bool) (before : List ℕ) → IsCore c new → PlaysCore c events new told before before (Err halt.NoMemory)
@@ -117,10 +116,7 @@ module _ {D : Type 0} {g : Ghosts D} where
     run = refl;
     ends = inl refl;
     is = is;
-    written = λ t w same.
-        let front : WroteFront w (lines_text c.history) before = (lines_text c.history, [], sym (append-nil (lines_text c.history)), same) in
-        let lines : WroteLines w c.history before = (c.history, [], [], sym (append-nil c.history), omega arith, same ∙ sym (append-nil (w ++ lines_text c.history))) in
-        (front, lines);
+    written = λ t. nothing_since c.history before;
   }
 
   module _ (c d : Core) (event : Event) (reply : Reply) (new : Heap D g) (step : IsStep c event reply d) (is : IsCore d new) where
@@ -146,21 +142,9 @@ module _ {D : Type 0} {g : Ghosts D} where
         (λ (cut : IsCutShort c event reply × (d ≡ with_entry c event reply)). inr (reply, cut_one cut.0 cut.1))
         step
 
-    -- the lines with that of the event
+    -- the event's line
     abbrev own : List ℕ
     own = line (record { event = event; reply = reply })
-
-    one_line : lines_text d.history ≡ lines_text c.history ++ own
-    one_line =
-        let entry : Entry = record { event = event; reply = reply } in
-        ap lines_text (step_history c d event reply step)
-        ∙ flat_map-append line c.history (entry ∷ [])
-        ∙ ap (λ (l : List ℕ). lines_text c.history ++ l) (append-nil (line entry))
-
-    wrote_whole : (r : Reply) (w after : List ℕ) → after ≡ w ++ lines_text d.history → Wrote (ended_by r) w d.history after
-    wrote_whole (Refused DiskFault) w after is = is
-    wrote_whole (Refused Stopped) w after is = is
-    wrote_whole r w after is = is
 
     -- the event was made and its line written
     pub core_one : (told : Bool) (before after : List ℕ) → (IsTrue told → after ≡ before ++ own) → PlaysCore c one new told before after (ended_by reply)
@@ -172,17 +156,12 @@ module _ {D : Type 0} {g : Ghosts D} where
       run = (reply, d, step, refl);
       ends = one_ends;
       is = is;
-      written = λ t w same. wrote_whole reply w after
-          (wrote t ∙ ap (λ (l : List ℕ). l ++ own) same ∙ append_assoc w (lines_text c.history) own ∙ ap (λ (l : List ℕ). w ++ l) (sym one_line));
+      written = λ t. one_since c.history d.history event reply before after (step_history c d event reply step) (wrote t);
     }
 
     unwritten_ends : (e : WriteError) → EndsAs c one [] d (Err (write_halt e))
     unwritten_ends writing.NoMemory = one_made
     unwritten_ends writing.SinkFailed = one_made
-
-    wrote_some : (e : WriteError) (w after : List ℕ) → WroteFront w (lines_text d.history) after × WroteLines w d.history after → Wrote (Err (write_halt e)) w d.history after
-    wrote_some writing.NoMemory w after some = some
-    wrote_some writing.SinkFailed w after some = some
 
     -- the event was made, and its line not wholly written
     pub core_unwritten : (told : Bool) (before after : List ℕ) (e : WriteError) → (IsTrue told → WroteFront before own after) → PlaysCore c one new told before after (Err (write_halt e))
@@ -194,16 +173,7 @@ module _ {D : Type 0} {g : Ghosts D} where
       run = (reply, d, step, refl);
       ends = unwritten_ends e;
       is = is;
-      written = λ t w same.
-          let part = wrote t in
-          let front : WroteFront w (lines_text d.history) after = (
-            lines_text c.history ++ part.0,
-            part.1,
-            one_line ∙ ap (λ (l : List ℕ). lines_text c.history ++ l) part.2 ∙ sym (append_assoc (lines_text c.history) part.0 part.1),
-            part.3 ∙ ap (λ (l : List ℕ). l ++ part.0) same ∙ append_assoc w (lines_text c.history) part.0,
-          ) in
-          let lines : WroteLines w d.history after = (c.history, record { event = event; reply = reply } ∷ [], part.0, step_history c d event reply step, omega arith, part.3 ∙ ap (λ (l : List ℕ). l ++ part.0) same) in
-          wrote_some e w after (front, lines);
+      written = λ t. part_since c.history d.history event reply before after (step_history c d event reply step) e (wrote t);
     }
 
   -- A play goes on line by line.

@@ -106,14 +106,11 @@ module _ {D : Type 0} {g : Ghosts D} (s : Super) (c : Core) (running : IsRunning
       let first : take all (commits core.history) ≡ sealed core.history = ap (take all) (commits-sealed core run_reached.1.sound) ∙ take_all all (sealed core.history) (omega arith) in
       ap (λ (ts : List Transaction). graph_text (serial core.g0 ts)) (sym first)
 
-  nothing_yet : before ≡ before ++ lines_text c.history
-  nothing_yet = sym (ap (λ (h : List Entry). before ++ lines_text h) new_history ∙ append-nil before)
-
   -- what was written of the lines, by how the play ended
   pub lines_wrote : (r : Result (Unit {0}) Halt) → result ≡ r → IsTrue told → Wrote r before core.history after
   lines_wrote r is t =
       let P : Result (Unit {0}) Halt → Type 0 = λ x. Wrote x before core.history after in
-      subst P is (plays.written t before nothing_yet)
+      subst P is (lines.all_since result c.history core.history before after new_history (plays.written t))
 
   -- what was written of the lines by a play that halted
   pub halt_part : (h : Halt) → result ≡ Err h → IsTrue told → WroteFront before (lines_text core.history) after × WroteLines before core.history after

@@ -30,11 +30,12 @@ use Rattle.heap_model.proofs.Step.Step.{core_refusal-HasNoFault}
 use Rattle.core_laws.specs.Valid.{IsReached}
 use Rattle.heap_core.specs.Refinement.{DiskHolds, IsCore, IsHeap}
 use Rattle.heap_program.proofs.Ready.{AreReady}
-use Rattle.heap_program.specs.Play.{MakesAll, MakesShort, Makes, Ends, Plays, ended_by, lines_text, Wrote, WroteFront, WroteLines}
+use Rattle.heap_program.specs.Play.{MakesAll, MakesShort, Makes, Ends, Plays, ended_by, WroteFront}
 use Rattle.heap_program.specs.StatusOf.{write_halt}
 use Rattle.heap_program.specs.Steps.{HeapStep, AreSteps}
 use Rattle.heap_program.specs.declared.output.WriteError.TheVariants as writing
 use Rattle.heap_core.proofs.CrashLaws.{heap_keeps}
+use Rattle.heap_program.proofs.Lines.{nothing_since, one_since, part_since}
 
 -- a reply that tells no fault of the disk
 sound_device : (reply : Reply) → IsSoundReply reply → (reply_device reply ≡ Ok tt) × (ended_by reply ≡ Ok tt)
@@ -127,23 +128,6 @@ module _ {D : Type 0} {g : Ghosts D} (s : Super) (c d : Core) (event : Event) (r
       record { reply = reply; step = step; moments = moments; kept = heap_leaves s d new heap next; passes = passes; disk = keeps } in
       (d, new.disk, made, (refl, refl))
 
-  -- the lines with that of the event
-  pub one_line : lines_text d.history ≡ lines_text c.history ++ line (record { event = event; reply = reply })
-  one_line =
-      let entry : Entry = record { event = event; reply = reply } in
-      ap lines_text (step_history c d event reply step)
-      ∙ flat_map-append line c.history (entry ∷ [])
-      ∙ ap (λ (l : List ℕ). lines_text c.history ++ l) (append-nil (line entry))
-
-  whole_line : (told : Bool) (before after : List ℕ) → (IsTrue told → after ≡ before ++ own) → IsTrue told → (w : List ℕ) → before ≡ w ++ lines_text c.history → after ≡ w ++ lines_text d.history
-  whole_line told before after wrote t w is =
-      wrote t ∙ ap (λ (l : List ℕ). l ++ own) is ∙ append_assoc w (lines_text c.history) own ∙ ap (λ (l : List ℕ). w ++ l) (sym one_line)
-
-  wrote_whole : (r : Reply) (w after : List ℕ) → after ≡ w ++ lines_text d.history → Wrote (ended_by r) w d.history after
-  wrote_whole (Refused DiskFault) w after is = is
-  wrote_whole (Refused Stopped) w after is = is
-  wrote_whole r w after is = is
-
   -- the event was made and its line written
   pub plays_one : (told : Bool) (before after : List ℕ) → (IsTrue told → after ≡ before ++ own) → Plays s c one old new told before after (ended_by reply)
   plays_one told before after wrote = record {
@@ -154,16 +138,12 @@ module _ {D : Type 0} {g : Ghosts D} (s : Super) (c d : Core) (event : Event) (r
     steps = one_steps;
     ends = one_ends;
     heap = heap;
-    written = λ t w is. wrote_whole reply w after (whole_line told before after wrote t w is);
+    written = λ t. one_since c.history d.history event reply before after (step_history c d event reply step) (wrote t);
   }
 
   unwritten_ends : (e : WriteError) → Ends c one [] d old new (Err (write_halt e))
   unwritten_ends writing.NoMemory = one_makes
   unwritten_ends writing.SinkFailed = one_makes
-
-  wrote_some : (e : WriteError) (w after : List ℕ) → WroteFront w (lines_text d.history) after × WroteLines w d.history after → Wrote (Err (write_halt e)) w d.history after
-  wrote_some writing.NoMemory w after some = some
-  wrote_some writing.SinkFailed w after some = some
 
   -- the event was made, and its line not wholly written
   pub plays_unwritten : (told : Bool) (before after : List ℕ) (e : WriteError) → (IsTrue told → WroteFront before own after) → Plays s c one old new told before after (Err (write_halt e))
@@ -175,16 +155,7 @@ module _ {D : Type 0} {g : Ghosts D} (s : Super) (c d : Core) (event : Event) (r
     steps = one_steps;
     ends = unwritten_ends e;
     heap = heap;
-    written = λ t w is.
-        let part = wrote t in
-        let front : WroteFront w (lines_text d.history) after = (
-          lines_text c.history ++ part.0,
-          part.1,
-          one_line ∙ ap (λ (l : List ℕ). lines_text c.history ++ l) part.2 ∙ sym (append_assoc (lines_text c.history) part.0 part.1),
-          part.3 ∙ ap (λ (l : List ℕ). l ++ part.0) is ∙ append_assoc w (lines_text c.history) part.0,
-        ) in
-        let lines : WroteLines w d.history after = (c.history, record { event = event; reply = reply } ∷ [], part.0, step_history c d event reply step, omega arith, part.3 ∙ ap (λ (l : List ℕ). l ++ part.0) is) in
-        wrote_some e w after (front, lines);
+    written = λ t. part_since c.history d.history event reply before after (step_history c d event reply step) e (wrote t);
   }
 
 -- memory was refused: nothing was made
@@ -198,8 +169,5 @@ plays_nothing {g = g} s c events old new told before heap core same = record {
   steps = (refl, same);
   ends = inl (record { reached = refl; passes = ap g.passed same });
   heap = record { core = core; disk = subst (λ x. DiskHolds s c (g.bytes x) (g.may_leave x)) (sym same) heap.disk };
-  written = λ t w is.
-      let front : WroteFront w (lines_text c.history) before = (lines_text c.history, [], sym (append-nil (lines_text c.history)), is) in
-      let lines : WroteLines w c.history before = (c.history, [], [], sym (append-nil c.history), omega arith, is ∙ sym (append-nil (w ++ lines_text c.history))) in
-      (front, lines);
+  written = λ t. nothing_since c.history before;
 }

@@ -17,6 +17,7 @@ use Rattle.heap_model.specs.Core.{Core, with_entry, IsCutShort, calls}
 use Rattle.heap_model.specs.CoreRuns.{after_events, total_calls}
 use Rattle.heap_model.proofs.Step.Calls.{after_events-append, total_calls-append}
 use Rattle.heap_program.proofs.CoreSteps.{ready_behind}
+use Rattle.heap_program.proofs.Lines.{none_since, then_since}
 use Rattle.heap_core.specs.Refinement.{IsHeap}
 use Rattle.heap_program.proofs.Ready.{AreReady}
 use Rattle.heap_program.specs.Play.{MakesAll, MakesShort, Makes, Ends, Plays}
@@ -133,7 +134,7 @@ module _ {D : Type 0} {g : Ghosts D} where
         steps = steps_append (HeapStep g) c m second.core old.disk mid.disk new.disk events second.made steps second.steps;
         ends = ends_then c m events old mid new all faults_kept stops_kept second.made second.behind second.core result second.ends;
         heap = second.heap;
-        written = λ tells w is. second.written tells w (first.written tells w is);
+        written = λ tells. then_since result c.history m.history second.core.history before between after (first.written tells) (second.written tells);
       }
 
   -- A play of no events.
@@ -146,5 +147,5 @@ module _ {D : Type 0} {g : Ghosts D} where
     steps = (refl, refl);
     ends = (refl, record { reached = refl; passes = refl });
     heap = is;
-    written = λ tells w same. same;
+    written = λ tells. none_since c.history before;
   }

@@ -35,7 +35,7 @@ use Rattle.heap_program.specs.Output.{WroteText, WroteGraph, WroteAgain, status_
 use Rattle.heap_program.specs.Play.{EndsAs, IsCutBy, MadeAll, PlaysCore, Wrote, WroteFront, lines_text}
 use Rattle.heap_program.specs.Playable.{IsScript}
 use Rattle.heap_program.specs.StatusOf.{halt_status}
-use Rattle.heap_program.proofs.Lines.{halt_part, halt_lines, stopped_lines, some_writes, all_writes, lines_more}
+use Rattle.heap_program.proofs.Lines.{all_since, halt_part, halt_lines, stopped_lines, some_writes, all_writes, lines_more}
 use Rattle.heap_program.proofs.PlayFaults.{none_cut, fault_not_whole, fault_not_stopped}
 use Rattle.heap_program.proofs.PlayOpen.{IsNew}
 use Rattle.heap_program.proofs.Statuses.{halt_not_done, written_sound, wrote_all}
@@ -102,7 +102,7 @@ module _ {D : Type 0} {g : Ghosts D} {from : Super → List (List Record) → Pa
       run_reached c core plays.made new.running.reached (of_session_front plays.made plays.behind (subst (AllByRecursion IsOfSession) plays.parts sessions)) plays.run
 
   wrote : Wrote result before core.history after
-  wrote = plays.written tells before (sym (ap (λ (h : List Entry). before ++ lines_text h) new.nothing ∙ append-nil before))
+  wrote = all_since result c.history core.history before after new.nothing (plays.written tells)
 
   prints : (by : Status) (after' : List ℕ) (k : ℕ) (graph : Graph) → (by ≡ status.Done → HasMade stop c plays.made plays.behind core) → (IsOfDisk by → EndsByDisk stop by c plays.made plays.behind core)
       → (IsCutBy (Refused DiskFault) c plays.made core → (by ≢ status.Done) × WroteFront before (lines_text core.history) after') → (stop ≡ None → graph ≡ serial core.g0 (sealed core.history))

@@ -81,7 +81,8 @@ module _ {D : Type 0} {g : Ghosts D} where
     pub run : IsRun c made core
     pub ends : EndsAs c made behind core result
     pub is : IsCore core new
-    pub written : IsTrue told → (w : List ℕ) → before ≡ w ++ lines_text c.history → Wrote result w core.history after
+    -- what the history has more than before, whose lines were written
+    pub written : IsTrue told → (heard : List Entry) × (core.history ≡ c.history ++ heard) × Wrote result before heard after
 
   -- All of these events were made, and the disk did what it was asked.
   pub record MakesAll (c : Core) (made : List Event) (d : Core) (old new : Heap D g) : Type 0 where
@@ -120,4 +121,5 @@ module _ {D : Type 0} {g : Ghosts D} where
     pub steps : AreSteps (HeapStep g) c old.disk made core new.disk
     pub ends : Ends c made behind core old new result
     pub heap : IsHeap s core new
-    pub written : IsTrue told → (w : List ℕ) → before ≡ w ++ lines_text c.history → Wrote result w core.history after
+    -- what the history has more than before, whose lines were written
+    pub written : IsTrue told → (heard : List Entry) × (core.history ≡ c.history ++ heard) × Wrote result before heard after

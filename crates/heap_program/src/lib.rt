@@ -11,4 +11,6 @@ mod printing;
 mod status;
 
 pub use dispatch::run;
+pub use output::WriteError;
+pub use play::{Halt, play_ending, play_line};
 pub use status::Status;

@@ -108,7 +108,7 @@ pub fn play_all<D: Disk, K: Sink>(
 }
 
 /// Makes the events that end a run: each session that has a transaction aborts, ascending, and then what waits is forced.
-fn play_ending<D: Disk, K: Sink>(
+pub fn play_ending<D: Disk, K: Sink>(
     alloc: Global,
     heap: &mut Heap<D>,
     sink: &mut K,
@@ -171,8 +171,8 @@ fn play_force<D: Disk, K: Sink>(alloc: Global, heap: &mut Heap<D>, sink: &mut K)
     play_event(alloc, heap, Event::Force, sink)
 }
 
-/// Makes the events of one line.
-fn play_line<D: Disk, K: Sink>(
+/// Makes the events of one line, and writes the line of each as soon as it is answered.
+pub fn play_line<D: Disk, K: Sink>(
     alloc: Global,
     heap: &mut Heap<D>,
     line: Line,

@@ -143,3 +143,7 @@ script_sessions bytes lines is = events_sound lines (script_sound bytes lines is
 pub script_few : (bytes : List ℕ) (lines : List Line) → script bytes ≡ Ok lines → length (events lines) ≤ 2097152
 script_few bytes lines is =
     let read = script_sound bytes lines is in omega (arith, read.1, events_few lines read.0)
+
+-- The events of one line are of sessions.
+pub text_sessions : (text : List ℕ) (line : Line) → read_text text ≡ Some line → AllByRecursion IsOfSession (line_events line)
+text_sessions text line is = (subst IsSoundIn is (text_sound text)).0

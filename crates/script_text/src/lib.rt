@@ -6,7 +6,7 @@ mod number;
 mod output;
 mod script;
 
-pub use line::Line;
+pub use line::{Line, read_text};
 pub use number::read_number;
 pub use output::reply_line;
 pub use script::{MOST_BYTES, ScriptError, read_script};
