@@ -1,4 +1,4 @@
-use Rattle.std.proofs.Common.{◌∙◌, ℕ, Some, ap, arith}
+use Rattle.std.proofs.Common.{◌∙◌, Some, arith}
 use Rattle.log_records.proofs.Spelled.{is_word}
 use Rattle.log_records.proofs.Listed.{write_read, has_write}
 use Rattle.log_records.proofs.decoding.write_at.Goals as goal
