@@ -1,2 +1,5 @@
+pub mod Addresses
 pub mod Collection
+pub mod CollectionCode
+pub mod Copying
 pub mod Spaces

@@ -24,6 +24,18 @@ open_words spaces = free_words spaces - spaces.owed
 abbrev pub with_taken : SpacesState → ℕ → SpacesState
 with_taken spaces words = record spaces { used = spaces.used + words }
 
+-- the spaces when the other one has become current, with none of its words taken, and all that were taken are still to be copied
+abbrev pub flipped : SpacesState → SpacesState
+flipped spaces = record { pages = spaces.pages; base = space_words spaces.pages - spaces.base; used = 0; owed = spaces.used }
+
+-- the spaces when so many words, which were kept for it, are taken by a copy
+abbrev pub with_copied : SpacesState → ℕ → SpacesState
+with_copied spaces words = record spaces { used = spaces.used + words; owed = spaces.owed - words }
+
+-- the spaces when nothing is left to be copied
+abbrev pub with_none_owed : SpacesState → SpacesState
+with_none_owed spaces = record spaces { owed = 0 }
+
 -- What holds of the spaces of each heap: a copy always has room.
 pub record IsSpaces (spaces : SpacesState) : Type 0 where
   pub few : spaces.pages ≤ 16384

@@ -1,9 +1,13 @@
 //! The words of the heap's current space: how many are free, and how many are kept for what a collection has still to copy.
 #![tactic(auto)]
 
-ghost use Rattle.std.specs.Prelude.{◌≡◌, ◌+◌, ◌*◌, ◌≤◌, ◌<◌, ◌⊎◌, ◌↔◌, IsErr, IfOk, IfErr, OnOk, OnErr};
-ghost use Rattle.heap_spaces.specs.Spaces.{IsSpaces, free_words, open_words, with_taken};
+mod address_set;
+mod collection;
 
+ghost use Rattle.std.specs.Prelude.{◌≡◌, ◌+◌, ◌*◌, ◌≤◌, ◌<◌, ◌⊎◌, ◌↔◌, IsErr, IfOk, IfErr, OnOk, OnErr};
+ghost use Rattle.heap_spaces.specs.Spaces.{IsSpaces, free_words, open_words, with_taken, flipped, with_copied, with_none_owed};
+
+pub use collection::{Collection, CopiedObject};
 use std::marker::Model;
 
 /// The words of a page.
@@ -114,5 +118,31 @@ impl Spaces {
         let address = self.base + self.used;
         self.used += words as u32;
         Ok(address)
+    }
+
+    /// The two spaces change their roles: none of the words is taken in the one that is current from now on, and all that were taken are
+    /// owed.
+    pub fn flip(&mut self)
+        ensures { self.new ≡ flipped self.old }
+    {
+        self.base = PAGE_WORDS * self.pages - self.base;
+        self.owed = self.used;
+        self.used = 0;
+    }
+
+    /// An object of so many words, which were owed, is copied to the next words of the current space.
+    pub fn copied(&mut self, words: u32)
+        requires { words ≤ self.old.owed }
+        ensures { self.new ≡ with_copied self.old words }
+    {
+        self.used += words;
+        self.owed -= words;
+    }
+
+    /// The collection is done: no word is owed any more.
+    pub fn collected(&mut self)
+        ensures { self.new ≡ with_none_owed self.old }
+    {
+        self.owed = 0;
     }
 }

@@ -3,7 +3,7 @@ use Rattle.std.proofs.Common.{◌≡◌, ℕ, List, [], ◌∷◌, refl, sym, su
 use Rattle.std.specs.Prelude.{map}
 use Rattle.std.specs.List.{AllByRecursion}
 use Rattle.log_records.specs.declared.Record.{Record}
-use Rattle.log_records.specs.declared.Record.TheVariants.{Update, Base, Fix, Undo, Commit, End}
+use Rattle.log_records.specs.declared.Record.TheVariants.{Update, Base, Fix, Undo, Commit, End, Copy, Scan, Flip, Collected}
 use Rattle.log_machine.specs.Machine.{effect, addresses}
 
 pub effect-addresses : (before : List ℕ) (rec : Record) → map (λ w. w.0) (effect before rec) ≡ addresses rec
@@ -13,6 +13,10 @@ effect-addresses before (Fix t object field word) = refl
 effect-addresses before (Undo t object field word) = refl
 effect-addresses before (Commit t) = refl
 effect-addresses before (End t) = refl
+effect-addresses before (Copy from to words) = refl
+effect-addresses before (Scan page writes) = refl
+effect-addresses before (Flip copies) = refl
+effect-addresses before Collected = refl
 
 -- what a record writes is the same whatever words stood there before
 pub effect_any : (before other : List ℕ) (rec : Record) → effect before rec ≡ effect other rec
@@ -22,6 +26,10 @@ effect_any before other (Fix t object field word) = refl
 effect_any before other (Undo t object field word) = refl
 effect_any before other (Commit t) = refl
 effect_any before other (End t) = refl
+effect_any before other (Copy from to words) = refl
+effect_any before other (Scan page writes) = refl
+effect_any before other (Flip copies) = refl
+effect_any before other Collected = refl
 
 -- what holds of each address holds of that of each write
 pub each_write : (P : ℕ → Type 0) (writes : List (ℕ × ℕ)) → AllByRecursion P (map (λ w. w.0) writes) → AllByRecursion (λ w. P w.0) writes

@@ -2,6 +2,7 @@ pub mod AbortLaws
 pub mod Addresses
 pub mod Bounds
 pub mod Consistent
+pub mod CopyLaws
 pub mod Entries
 pub mod Fields
 pub mod ListLaws

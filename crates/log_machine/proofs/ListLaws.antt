@@ -19,6 +19,11 @@ pub AllByRecursion-front : {X : Type 0} (P : X → Type 0) (xs ys : List X) → 
 AllByRecursion-front P [] ys h = tt
 AllByRecursion-front P (x ∷ xs) ys h = (h.0, AllByRecursion-front P xs ys h.1)
 
+-- and behind it
+pub AllByRecursion-behind : {X : Type 0} (P : X → Type 0) (xs ys : List X) → AllByRecursion P (xs ++ ys) → AllByRecursion P ys
+AllByRecursion-behind P [] ys h = h
+AllByRecursion-behind P (x ∷ xs) ys h = AllByRecursion-behind P xs ys h.1
+
 -- and in the other order
 pub AllByRecursion-reverse : {X : Type 0} (P : X → Type 0) (xs : List X) → AllByRecursion P xs → AllByRecursion P (reverse xs)
 AllByRecursion-reverse P [] h = tt

@@ -2,7 +2,7 @@
 use Rattle.std.specs.Prelude.{◌≡◌, ℕ, ◌+◌, List, [], ◌∷◌, length, map, true}
 use Rattle.std.specs.List.{flat_map}
 use Rattle.log_records.specs.declared.Record.{Record}
-use Rattle.log_records.specs.declared.Record.TheVariants.{Update, Base, Fix, Undo, Commit, End}
+use Rattle.log_records.specs.declared.Record.TheVariants.{Update, Base, Fix, Undo, Commit, End, Copy, Scan, Flip, Collected}
 use Rattle.heap_words.specs.Word.{is_stable}
 use Rattle.log_machine.specs.Machine.{State, lies_inside}
 
@@ -14,6 +14,10 @@ IsPromotion t (Fix q object field word) = q ≡ t
 IsPromotion t (Undo q object field word) = ⊥
 IsPromotion t (Commit q) = ⊥
 IsPromotion t (End q) = ⊥
+IsPromotion t (Copy from to words) = ⊥
+IsPromotion t (Scan page writes) = ⊥
+IsPromotion t (Flip copies) = ⊥
+IsPromotion t Collected = ⊥
 
 -- the words of objects, end to end
 abbrev pub end_to_end : List (List ℕ) → List ℕ

@@ -4,7 +4,7 @@ use Rattle.std.specs.Prelude.{option_and_then}
 use Rattle.std.specs.List.{AllByRecursion}
 use Rattle.std.proofs.lemmas.Option.{option_and_then_some, cond_some}
 use Rattle.log_records.specs.declared.Record.{Record}
-use Rattle.log_records.specs.declared.Record.TheVariants.{Update, Base, Fix, Undo, Commit, End}
+use Rattle.log_records.specs.declared.Record.TheVariants.{Update, Base, Fix, Undo, Commit, End, Copy, Scan, Flip, Collected}
 use Rattle.log_machine.specs.Machine.{State, space_words, owed, is_number, is_promoted_by, turned, promoted, row_after, after, after_all, commits, reserve}
 use Rattle.log_machine.proofs.MachineLaws.{after-Base, after-Fix, after_all-append2, told_if}
 use Rattle.log_machine.proofs.Promotion.{IsPromotion, end_to_end, base_records, FieldWord, fix_records, CanFix, with_used}
@@ -30,6 +30,10 @@ keeps_row t s n (Fix q object field word) is e =
 keeps_row t s n (Undo q object field word) is e = absurd is
 keeps_row t s n (Commit q) is e = absurd is
 keeps_row t s n (End q) is e = absurd is
+keeps_row t s n (Copy from to words) is e = absurd is
+keeps_row t s n (Scan page writes) is e = absurd is
+keeps_row t s n (Flip copies) is e = absurd is
+keeps_row t s n Collected is e = absurd is
 
 -- what one of them keeps
 pub keeps_after : (t : ℕ) (s n : State) (r : Record) → IsPromotion t r → after s r ≡ Some n → KeepsWrites t s n
@@ -56,6 +60,10 @@ commits-promotion t (Fix q object field word ∷ ps) all = commits-promotion t p
 commits-promotion t (Undo q object field word ∷ ps) all = absurd all.0
 commits-promotion t (Commit q ∷ ps) all = absurd all.0
 commits-promotion t (End q ∷ ps) all = absurd all.0
+commits-promotion t (Copy from to words ∷ ps) all = absurd all.0
+commits-promotion t (Scan page writes ∷ ps) all = absurd all.0
+commits-promotion t (Flip copies ∷ ps) all = absurd all.0
+commits-promotion t (Collected ∷ ps) all = absurd all.0
 
 -- Objects that a transaction made.
 

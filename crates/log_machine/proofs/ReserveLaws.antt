@@ -4,7 +4,7 @@ use Rattle.std.specs.Ordering.{nat_cmp}
 use Rattle.std.specs.FinMap.{FinMap, remove}
 use Rattle.std.proofs.lemmas.Option.{option_and_then_some, cond_some}
 use Rattle.log_records.specs.declared.Record.{Record}
-use Rattle.log_records.specs.declared.Record.TheVariants.{Update, Base, Fix, Undo, Commit, End}
+use Rattle.log_records.specs.declared.Record.TheVariants.{Update, Base, Fix, Undo, Commit, End, Copy, Scan, Flip, Collected}
 use Rattle.log_machine.specs.declared.UndoEntry.{UndoEntry}
 use Rattle.log_machine.specs.Machine.{State, undo_in, undo_of, with_entries, turned, row_after, after, undo_bytes, reserve, start}
 use Rattle.log_machine.specs.Entries.{sum_over, bytes_over}
@@ -78,6 +78,10 @@ reserve_row s n (Commit t) sound e =
     let same = ap reserve state in
     omega arith
 reserve_row s n (End t) sound e = let told = cond_some _ _ _ e in let same = ap reserve told.1 in omega arith
+reserve_row s n (Copy from to words) sound e = absurd (cc e)
+reserve_row s n (Scan page writes) sound e = absurd (cc e)
+reserve_row s n (Flip copies) sound e = absurd (cc e)
+reserve_row s n Collected sound e = absurd (cc e)
 
 -- a record more keeps at most so many bytes more
 pub reserve-after : (s n : State) (r : Record) → AreLosers s → after s r ≡ Some n → reserve n ≤ reserve s + 29

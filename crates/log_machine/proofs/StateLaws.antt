@@ -8,7 +8,7 @@ use Rattle.std.proofs.lemmas.Bool.{and_parts}
 use Rattle.std.proofs.lemmas.Option.{option_and_then_some, cond_some}
 use Rattle.std.proofs.lemmas.List.Sums.{sum_by-cons}
 use Rattle.log_records.specs.declared.Record.{Record}
-use Rattle.log_records.specs.declared.Record.TheVariants.{Update, Base, Fix, Undo, Commit, End}
+use Rattle.log_records.specs.declared.Record.TheVariants.{Update, Base, Fix, Undo, Commit, End, Copy, Scan, Flip, Collected}
 use Rattle.log_records.specs.Record.{IsRecord}
 use Rattle.log_machine.specs.declared.UndoEntry.{UndoEntry}
 use Rattle.log_machine.proofs.Entries.{IsEntry}
@@ -47,6 +47,10 @@ row_turns s n (Undo t object field word) number e =
     option_and_then_some (λ rest. Some (turned s t (with_entries s.undo t rest) 0)) _ n e (λ rest newest is. turned_turns s n (Undo t object field word) t (with_entries s.undo t rest) refl number (cc is))
 row_turns s n (Commit t) number e = turned_turns s n (Commit t) t (with_entries s.undo t []) refl number (cc e)
 row_turns s n (End t) number e = let told = cond_some _ _ _ e in turned_turns s n (End t) t s.undo refl number told.1
+row_turns s n (Copy from to words) number e = absurd (cc e)
+row_turns s n (Scan page writes) number e = absurd (cc e)
+row_turns s n (Flip copies) number e = absurd (cc e)
+row_turns s n Collected number e = absurd (cc e)
 
 -- what one record does
 pub turns : (s n : State) (r : Record) → after s r ≡ Some n → Turns s r n
@@ -127,6 +131,10 @@ sound_row s n (End t) number sound e =
     let told = cond_some _ _ _ e in
     let is : turned s t s.undo 0 ≡ n = told.1 in
     subst AreLosers is (λ q w some. grown s t s.undo 0 q w (sound q w some))
+sound_row s n (Copy from to words) number sound e = absurd (cc e)
+sound_row s n (Scan page writes) number sound e = absurd (cc e)
+sound_row s n (Flip copies) number sound e = absurd (cc e)
+sound_row s n Collected number sound e = absurd (cc e)
 
 spelled_row : (s n : State) (r : Record) → IsRecord r → HaveSpellings s.undo → row_after s r ≡ Some n → HaveSpellings n.undo
 spelled_row s n (Update t object field was word) good each e =
@@ -156,6 +164,10 @@ spelled_row s n (End t) good each e =
     let told = cond_some _ _ _ e in
     let is : turned s t s.undo 0 ≡ n = told.1 in
     subst (λ (x : State). HaveSpellings x.undo) is each
+spelled_row s n (Copy from to words) good each e = absurd (cc e)
+spelled_row s n (Scan page writes) good each e = absurd (cc e)
+spelled_row s n (Flip copies) good each e = absurd (cc e)
+spelled_row s n Collected good each e = absurd (cc e)
 
 -- one record more leaves a sound state
 pub sound_after : (s n : State) (r : Record) → AreLosers s → after s r ≡ Some n → AreLosers n

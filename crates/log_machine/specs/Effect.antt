@@ -1,8 +1,8 @@
 -- Where a record writes, and what it asks of memory.
-use Rattle.std.specs.Prelude.{ℕ, ◌<◌, List}
+use Rattle.std.specs.Prelude.{ℕ, ◌≡◌, ◌<◌, ◌++◌, List}
 use Rattle.std.specs.List.{AllByRecursion}
 use Rattle.log_records.specs.declared.Record.{Record}
-use Rattle.log_records.specs.declared.Record.TheVariants.{Update, Base, Fix, Undo, Commit, End}
+use Rattle.log_records.specs.declared.Record.TheVariants.{Update, Base, Fix, Undo, Commit, End, Copy, Scan, Flip, Collected}
 use Rattle.log_machine.specs.Machine.{addresses}
 
 -- a record writes only words below an address
@@ -21,3 +21,11 @@ AddsEntry (Fix t object field word) = ⊥
 AddsEntry (Undo t object field word) = ⊥
 AddsEntry (Commit t) = ⊥
 AddsEntry (End t) = ⊥
+AddsEntry (Copy from to words) = ⊥
+AddsEntry (Scan page writes) = ⊥
+AddsEntry (Flip copies) = ⊥
+AddsEntry Collected = ⊥
+
+-- words with their addresses that go on from these
+abbrev pub GoesOn : List (ℕ × ℕ) → List (ℕ × ℕ) → Type 0
+GoesOn before writes = (more : List (ℕ × ℕ)) × (writes ≡ before ++ more)

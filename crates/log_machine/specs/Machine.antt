@@ -1,14 +1,16 @@
 -- What a list of records says: the words that they leave, which writes may still be taken back, and which records can follow.
-use Rattle.std.specs.Prelude.{ℕ, ◌+◌, ◌*◌, ◌==◌, nat_lt, nat_le, List, [], ◌∷◌, length, replicate, Bool, true, false, not, ◌&&◌, Option, None, Some, fold, map, max, slice_set, count_by, sum_by, unwrap_or, option_and_then, if◌then◌else◌}
+use Rattle.std.specs.Prelude.{ℕ, ◌+◌, ◌*◌, ◌==◌, nat_lt, nat_le, List, [], ◌∷◌, ◌++◌, length, replicate, Bool, true, false, not, ◌&&◌, Option, None, Some, fold, map, max, slice_set, count_by, sum_by, unwrap_or, option_and_then, if◌then◌else◌}
 use Rattle.std.specs.List.{flat_map, enumerate_from, list_all}
 use Rattle.std.specs.Ordering.{nat_cmp}
 use Rattle.std.specs.FinMap.{FinMap}
 use Rattle.std.specs.FinMap as finmap
+use Rattle.log_records.specs.declared.copies.ObjectCopy.{ObjectCopy}
 use Rattle.log_records.specs.declared.Record.{Record}
-use Rattle.log_records.specs.declared.Record.TheVariants.{Update, Base, Fix, Undo, Commit, End}
+use Rattle.log_records.specs.declared.Record.TheVariants.{Update, Base, Fix, Undo, Commit, End, Copy, Scan, Flip, Collected}
 use Rattle.heap_spaces.specs.Collection.{Collection, owed_by}
 use Rattle.heap_spaces.specs.Spaces.{SpacesState}
-use Rattle.heap_words.specs.Header.{born_in, born_as}
+use Rattle.heap_words.specs.declared.Header.TheVariants.{Forward}
+use Rattle.heap_words.specs.Header.{header_bits, born_in, born_as}
 use Rattle.heap_words.specs.Word.{is_stable, is_volatile}
 use Rattle.log_machine.specs.declared.UndoEntry.{UndoEntry}
 
@@ -30,6 +32,14 @@ first_contents pages = slice_set (replicate (words_in pages) 0) 0 17
 abbrev pub field_at : ℕ → ℕ → ℕ
 field_at object field = object + 2 + field
 
+-- what a copy of an object writes: its words, and the address of the copy where the object stood
+abbrev pub copy_writes : ℕ → ℕ → List ℕ → List (ℕ × ℕ)
+copy_writes from to words = enumerate_from to words ++ (from, header_bits (Forward to)) ∷ []
+
+-- what a copy in a list writes
+abbrev pub writes_of : ObjectCopy → List (ℕ × ℕ)
+writes_of copy = copy_writes copy.from copy.to copy.words
+
 -- a record's effect on the words before it: the addresses that it writes, each with its word
 abbrev pub effect : List ℕ → Record → List (ℕ × ℕ)
 effect before (Update t object field was word) = (field_at object field, word) ∷ []
@@ -38,6 +48,10 @@ effect before (Fix t object field word) = (field_at object field, word) ∷ []
 effect before (Undo t object field word) = (field_at object field, word) ∷ []
 effect before (Commit t) = []
 effect before (End t) = []
+effect before (Copy from to words) = copy_writes from to words
+effect before (Scan page writes) = writes
+effect before (Flip copies) = flat_map writes_of copies
+effect before Collected = []
 
 -- the addresses that it writes, which the record alone tells
 abbrev pub addresses : Record → List ℕ
@@ -47,6 +61,10 @@ addresses (Fix t object field word) = field_at object field ∷ []
 addresses (Undo t object field word) = field_at object field ∷ []
 addresses (Commit t) = []
 addresses (End t) = []
+addresses (Copy from to words) = map (λ w. w.0) (copy_writes from to words)
+addresses (Scan page writes) = map (λ w. w.0) writes
+addresses (Flip copies) = map (λ w. w.0) (flat_map writes_of copies)
+addresses Collected = []
 
 -- the words with these written at their addresses
 abbrev pub put_all : List ℕ → List (ℕ × ℕ) → List ℕ
@@ -123,6 +141,10 @@ number_of (Fix t object field word) = Some t
 number_of (Undo t object field word) = Some t
 number_of (Commit t) = Some t
 number_of (End t) = Some t
+number_of (Copy from to words) = None
+number_of (Scan page writes) = None
+number_of (Flip copies) = None
+number_of Collected = None
 
 -- a number that a transaction can have
 abbrev pub is_number : ℕ → Bool
@@ -188,7 +210,8 @@ turned s t undo more = record s { undo = undo; commits = s.commits + more; next 
 abbrev pub promoted : State → ℕ → ℕ → State
 promoted s t size = record s { used = s.used + size; next = max s.next (t + 1) }
 
--- the state after one record more of a transaction whose number is one, if the record can follow
+-- The state after one record more of a transaction whose number is one, if the record can follow. No state lets a record of a
+-- collection follow yet, so an image with one is damaged at that record.
 abbrev pub row_after : State → Record → Option State
 row_after s (Update t object field was word) =
     if lies_inside s object field
@@ -202,6 +225,10 @@ row_after s (Undo t object field word) =
     (without_newest (undo_of s t) (record { object = object; field = field; was = word }))
 row_after s (Commit t) = Some (turned s t (finmap.remove s.undo t) 1)
 row_after s (End t) = if has_none (undo_of s t) then Some (turned s t s.undo 0) else None
+row_after s (Copy from to words) = None
+row_after s (Scan page writes) = None
+row_after s (Flip copies) = None
+row_after s Collected = None
 
 -- the state after one record more, if it can follow
 abbrev pub after : State → Record → Option State

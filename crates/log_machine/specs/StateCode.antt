@@ -4,10 +4,9 @@ use Rattle.std.specs.Coded.{Coded, code_by, coded×, coded_ℕ, coded_list, code
 use Rattle.std.specs.Ordering.{nat_cmp}
 use Rattle.std.specs.FinMap.{FinMap}
 use Rattle.std.specs.FinMap as map
-use Rattle.std.specs.FinSet.{FinSet}
-use Rattle.std.specs.FinSet as set
 use Rattle.std.proofs.Common.{refl}
 use Rattle.heap_spaces.specs.Collection.{Collection}
+use Rattle.heap_spaces.specs.CollectionCode.{collection_code}
 use Rattle.log_machine.specs.declared.UndoEntry.{UndoEntry}
 use Rattle.log_machine.specs.Machine.{State}
 
@@ -17,11 +16,6 @@ entry_code =
 
 abbrev pub undo_code : Coded (FinMap nat_cmp (List UndoEntry))
 undo_code = map.code coded_ℕ (coded_list entry_code)
-
-abbrev pub collection_code : Coded Collection
-collection_code =
-    code_by (ℕ × (ℕ × (FinSet nat_cmp × FinSet nat_cmp))) (coded× coded_ℕ (coded× coded_ℕ (coded× (set.code coded_ℕ) (set.code coded_ℕ))))
-    (λ k. (k.used, (k.copied, (k.moved, k.gray)))) (λ p. record { used = p.0; copied = p.1.0; moved = p.1.1.0; gray = p.1.1.1 }) (λ _. refl)
 
 abbrev pub state_code : Coded State
 state_code =

@@ -9,7 +9,7 @@ mod replaying;
 mod undo_lists;
 
 pub use abort::abort_records;
-pub use effects::effect;
+pub use effects::{effect, forwarding_word};
 pub use log_state::{AfterError, LAST_NUMBER, LogState};
 pub use page_words::{FIELDS_AT, PAGE_WORDS, PageWords, ROOT_WORDS};
 pub use replaying::{ReplayError, replay};

@@ -2,7 +2,7 @@
 ghost use Rattle.std.specs.Prelude.{◌≡◌, ◌+◌, ◌<◌, ◌≤◌, ◌^◌, ◌↔◌, ◌∷◌, [], None, Some, IfOk, OnOk, OnErr, IsTrue, is_some, true, drop, reverse, length, nat_lt};
 ghost use Rattle.std.specs.List.{AllByRecursion};
 ghost use Rattle.std.specs.FinMap as map;
-ghost use Rattle.log_records.specs.declared.Record.TheVariants.{Update, Base, Fix, Undo, Commit, End};
+ghost use Rattle.log_records.specs.declared.Record.TheVariants.{Update, Base, Fix, Undo, Commit, End, Copy, Scan, Flip, Collected};
 ghost use Rattle.log_machine.specs.Machine.{start, undo_of, losers, spaces_of, settled, with_entries, space_words, words_in, field_at, number_of, is_number, is_number_or_none, owed, lies_inside, is_next_free, is_promoted_by, is_born_in, none_volatile, without_newest, has_none, turned, promoted, row_after, after, reserve, rollback};
 ghost use Rattle.log_machine.specs.Effect.{WritesBelow, EachWritesBelow, AddsEntry};
 ghost use Rattle.log_machine.specs.declared.UndoEntry.{UndoEntry};
@@ -194,6 +194,10 @@ impl LogState {
             Record::Undo { t, .. } => self.take_off(*t),
             Record::Commit { t } => self.commit(*t),
             Record::Fix { t, .. } | Record::End { t } => self.raise_next(*t),
+            Record::Copy { .. }
+            | Record::Scan { .. }
+            | Record::Flip { .. }
+            | Record::Collected => return Err(AfterError::Unshaped),
         }
         Ok(())
     }
@@ -282,6 +286,10 @@ impl LogState {
             } => self.is_newest(*t, entry(*object, *field, *word)),
             Record::Commit { .. } => true,
             Record::End { t } => self.undo.of(*t).is_empty(),
+            Record::Copy { .. }
+            | Record::Scan { .. }
+            | Record::Flip { .. }
+            | Record::Collected => false,
         }
     }
 
@@ -372,5 +380,8 @@ fn has_number(rec: &Record) -> bool
         | Record::Undo { t, .. }
         | Record::Commit { t }
         | Record::End { t } => is_number(*t),
+        Record::Copy { .. } | Record::Scan { .. } | Record::Flip { .. } | Record::Collected => {
+            true
+        }
     }
 }

@@ -3,15 +3,18 @@ use Rattle.std.specs.Prelude.{◌≡◌, ℕ, ◌+◌, ◌*◌, ◌^◌, ◌<◌
 use Rattle.std.proofs.Common.{sym, ap, ◌∙◌, arith, length-append, append_assoc}
 use Rattle.std.proofs.lemmas.List.{drop_at}
 use Rattle.std.specs.Int.{w16, w32, w64, to_le_bytes, bytes_low_first}
-use Rattle.std.specs.List.{AllByRecursion}
+use Rattle.std.specs.List.{AllByRecursion, flat_map}
 use Rattle.byteorder.specs.Endian.{little_number}
 use Rattle.byteorder.specs.Numbers.{little_number-reads_back, length-bytes_low_first}
 use Rattle.heap_words.specs.Word.{bits, IsWord, IsFieldWord}
 use Rattle.heap_words.specs.declared.Word.{Word}
 use Rattle.heap_words.specs.declared.Word.TheVariants.{Null, Int, Stable, Volatile}
 use Rattle.log_records.specs.declared.Record.{Record}
-use Rattle.log_records.specs.declared.Record.TheVariants.{Update, Base, Fix, Undo, Commit, End}
-use Rattle.log_records.specs.Record.{word_bytes, spelling, spellings, IsObjectWords, IsPut, IsRecord}
+use Rattle.log_records.specs.declared.Record.TheVariants.{Update, Base, Fix, Undo, Commit, End, Copy, Scan, Flip, Collected}
+use Rattle.log_records.specs.declared.copies.ObjectCopy.{ObjectCopy}
+use Rattle.log_records.specs.Copies.{word_bytes, write_bytes, copy_bytes}
+use Rattle.log_records.specs.Record.{spelling, spellings, IsObjectWords, IsObjectCopy, IsPut, IsRecord, IsWrite}
+use Rattle.log_records.proofs.Lists.{one_list_of}
 
 -- a record takes a byte at least
 pub some_spelling : (rec : Record) → 0 < length (spelling rec)
@@ -21,6 +24,10 @@ some_spelling (Fix t object field word) = omega arith
 some_spelling (Undo t object field word) = omega arith
 some_spelling (Commit t) = omega arith
 some_spelling (End t) = omega arith
+some_spelling (Copy from to words) = omega arith
+some_spelling (Scan page writes) = omega arith
+some_spelling (Flip copies) = omega arith
+some_spelling Collected = omega arith
 
 -- a field's word takes eight bytes
 pub field_word_small : (w : ℕ) → IsFieldWord w → w < 256 ^ 8
@@ -47,6 +54,15 @@ length-word_bytes (w ∷ ws) = let more = length-word_bytes ws in omega (arith, 
 -- how many bytes a base takes
 pub length-Base : (t address : ℕ) (words : List ℕ) → length (spelling (Base t address words)) ≡ 9 + 8 * length words
 length-Base t address words = omega (arith, length-word_bytes words)
+
+-- writes take twelve bytes each
+pub length-writes : (writes : List (ℕ × ℕ)) → length (flat_map write_bytes writes) ≡ 12 * length writes
+length-writes [] = refl
+length-writes (w ∷ ws) = let more = length-writes ws in omega (arith, length-append (write_bytes w) (flat_map write_bytes ws), more)
+
+-- how many bytes a copy takes
+pub length-copy_bytes : (copy : ObjectCopy) → length (copy_bytes copy) ≡ 8 + 8 * length copy.words
+length-copy_bytes copy = omega (arith, length-word_bytes copy.words)
 
 -- bytes begin with one list of so many words
 pub one_words : (words words' more rest : List ℕ) → length words ≡ length words' → AllByRecursion (λ w. w < 2 ^ 64) words → AllByRecursion (λ w. w < 2 ^ 64) words' → word_bytes words ++ more ≡ word_bytes words' ++ rest → (words ≡ words') × (more ≡ rest)
@@ -83,6 +99,21 @@ one_object (header ∷ birth ∷ fields) (header' ∷ birth' ∷ fields') more r
     let right = append_assoc (to_le_bytes w64 header') (word_bytes (birth' ∷ fields')) rest in
     let first = one_number 8 header header' (word_bytes (birth ∷ fields) ++ more) (word_bytes (birth' ∷ fields') ++ rest) small.0 small'.0 (sym left ∙ same ∙ right) in
     one_words (header ∷ birth ∷ fields) (header' ∷ birth' ∷ fields') more rest (omega (arith, first.0, good.tells, good'.tells)) small small' same
+
+-- bytes begin with one write
+pub one_write : (a b : ℕ × ℕ) (more rest : List ℕ) → IsWrite a → IsWrite b → write_bytes a ++ more ≡ write_bytes b ++ rest → (a ≡ b) × (more ≡ rest)
+one_write a b more rest good good' same =
+    let first = one_number 4 a.0 b.0 (to_le_bytes w64 a.1 ++ more) (to_le_bytes w64 b.1 ++ rest) good.0 good'.0 same in
+    let second = one_number 8 a.1 b.1 more rest (field_word_small a.1 good.1) (field_word_small b.1 good'.1) first.1 in
+    (λ i. (first.0 i, second.0 i), second.1)
+
+-- bytes begin with one copy
+pub one_copy : (a b : ObjectCopy) (more rest : List ℕ) → IsObjectCopy a → IsObjectCopy b → copy_bytes a ++ more ≡ copy_bytes b ++ rest → (a ≡ b) × (more ≡ rest)
+one_copy a b more rest good good' same =
+    let from = one_number 4 a.from b.from (to_le_bytes w32 a.to ++ (word_bytes a.words ++ more)) (to_le_bytes w32 b.to ++ (word_bytes b.words ++ rest)) good.from_fits good'.from_fits same in
+    let to = one_number 4 a.to b.to (word_bytes a.words ++ more) (word_bytes b.words ++ rest) good.to_fits good'.to_fits from.1 in
+    let words = one_object a.words b.words more rest good.object good'.object to.1 in
+    (λ i. record { from = from.0 i; to = to.0 i; words = words.0 i }, words.1)
 
 -- bytes begin with the fields of one fix or undo
 one_put : (t t' object object' field field' word word' : ℕ) (more rest : List ℕ) → IsPut t object field word → IsPut t' object' field' word'
@@ -123,6 +154,21 @@ one_record (Commit t) (Commit t') more rest good good' same =
 one_record (End t) (End t') more rest good good' same =
     let a = one_number 4 t t' more rest good good' (ap (λ (l : List ℕ). drop 1 l) same) in
     (ap (λ (n : ℕ). End n) a.0, a.1)
+one_record (Copy from to words) (Copy from' to' words') more rest good good' same =
+    let one = one_copy (record { from = from; to = to; words = words }) (record { from = from'; to = to'; words = words' }) more rest good good' (ap (λ (l : List ℕ). drop 1 l) same) in
+    (ap (λ (k : ObjectCopy). Copy k.from k.to k.words) one.0, one.1)
+one_record (Scan page writes) (Scan page' writes') more rest good good' same =
+    let front : List ℕ → List ℕ = λ l. drop 1 l in
+    let a = one_number 4 page page' (to_le_bytes w16 (length writes) ++ (flat_map write_bytes writes ++ more)) (to_le_bytes w16 (length writes') ++ (flat_map write_bytes writes' ++ rest)) good.page_fits good'.page_fits (ap front same) in
+    let b = one_number 2 (length writes) (length writes') (flat_map write_bytes writes ++ more) (flat_map write_bytes writes' ++ rest) good.few good'.few a.1 in
+    let c = one_list_of write_bytes IsWrite one_write writes writes' more rest b.0 good.each good'.each b.1 in
+    (cc (a.0, c.0), c.1)
+one_record (Flip copies) (Flip copies') more rest good good' same =
+    let front : List ℕ → List ℕ = λ l. drop 1 l in
+    let b = one_number 4 (length copies) (length copies') (flat_map copy_bytes copies ++ more) (flat_map copy_bytes copies' ++ rest) good.few good'.few (ap front same) in
+    let c = one_list_of copy_bytes IsObjectCopy one_copy copies copies' more rest b.0 good.each good'.each b.1 in
+    (ap (λ (ks : List ObjectCopy). Flip ks) c.0, c.1)
+one_record Collected Collected more rest good good' same = (refl, ap (λ (l : List ℕ). drop 1 l) same)
 one_record a b more rest good good' same = absurd (omega (arith, ap (λ (l : List ℕ). get_or l 0 0) same))
 
 -- bytes are the spellings of one list of records

@@ -1,6 +1,6 @@
 -- The words of a base, read and spelled one after another.
 use Rattle.std.proofs.Common.{◌≡◌, ℕ, ◌+◌, ◌*◌, ◌-◌, ◌<◌, ◌≤◌, ◌^◌, List, [], ◌∷◌, ◌++◌, length, get_or, take, drop, Option, Some, refl, sym, ap, ◌∙◌, arith, length-append, append_assoc, length-drop}
-use Rattle.std.specs.List.{AllByRecursion}
+use Rattle.std.specs.List.{AllByRecursion, flat_map}
 use Rattle.heap_words.specs.Word.{IsFieldWord}
 use Rattle.heap_words.specs.declared.Header.{Header}
 use Rattle.heap_words.specs.declared.Header.TheVariants.{Length}
@@ -13,14 +13,19 @@ use Rattle.byteorder.specs.Endian.{little_number}
 use Rattle.byteorder.specs.Numbers.{little_number-reads_back}
 use Rattle.log_records.specs.declared.Record.{Record}
 use Rattle.log_records.specs.declared.Record.TheVariants.{Base}
-use Rattle.log_records.specs.Record.{word_bytes, spelling, IsObjectWords, IsBase, IsRecord}
-use Rattle.log_records.proofs.RecordLaws.{length-word_bytes, length-Base, one_words, object_small}
+use Rattle.log_records.specs.Copies.{word_bytes, write_bytes}
+use Rattle.log_records.specs.Record.{spelling, IsObjectWords, IsBase, IsRecord}
+use Rattle.log_records.proofs.RecordLaws.{length-word_bytes, length-writes, length-Base, one_words, object_small}
 use Rattle.log_records.proofs.Fields.{IsBytes, IsBytes-drop, spelled_4, spelled_8}
 use Rattle.log_records.proofs.Spelled.{from_place}
 
 -- how many bytes words take, under a name that code can use
 pub length_word_bytes : (words : List ℕ) → length (word_bytes words) ≡ 8 * length words
 length_word_bytes words = length-word_bytes words
+
+-- and how many writes take
+pub length_writes : (writes : List (ℕ × ℕ)) → length (flat_map write_bytes writes) ≡ 12 * length writes
+length_writes writes = length-writes writes
 
 -- one word more is spelled behind those before it
 pub word_bytes-push : (words : List ℕ) (w : ℕ) → word_bytes (words ++ w ∷ []) ≡ word_bytes words ++ to_le_bytes w64 w
@@ -124,13 +129,18 @@ has_base (Base t address words) bytes rest good e =
     }
 has_base rec bytes rest good e = absurd (omega (arith, ap (λ (l : List ℕ). get_or l 0 0) e))
 
+-- two numbers that were read are spelled in front of words
+pub pair_read : (bytes words rest : List ℕ) (first second : ℕ) → IsBytes bytes → 8 ≤ length bytes → first ≡ little_number 4 bytes → second ≡ little_number 4 (from_place 4 bytes) → drop 8 bytes ≡ word_bytes words ++ rest
+    → bytes ≡ to_le_bytes w32 first ++ (to_le_bytes w32 second ++ (word_bytes words ++ rest))
+pair_read bytes words rest first second fits large first_read second_read behind =
+    spelled_4 bytes first fits (omega (arith, large)) first_read
+    ∙ ap (λ (l : List ℕ). to_le_bytes w32 first ++ l) (spelled_4 (drop 4 bytes) second (IsBytes-drop 4 bytes fits) (omega (arith, large, length-drop 4 bytes)) (second_read ∙ ap (little_number 4) (take_rest bytes 4))
+    ∙ ap (λ (l : List ℕ). to_le_bytes w32 second ++ l) (drop-drop 4 4 bytes ∙ behind))
+
 -- a base that was read is spelled in front
 pub base_read : (bytes words rest : List ℕ) (t address : ℕ) → IsBytes bytes → 8 ≤ length bytes → t ≡ little_number 4 bytes → address ≡ little_number 4 (from_place 4 bytes) → drop 8 bytes ≡ word_bytes words ++ rest
     → 2 ∷ bytes ≡ spelling (Base t address words) ++ rest
-base_read bytes words rest t address fits large t_read address_read behind =
-    ap (λ (l : List ℕ). 2 ∷ l) (spelled_4 bytes t fits (omega (arith, large)) t_read
-    ∙ ap (λ (l : List ℕ). to_le_bytes w32 t ++ l) (spelled_4 (drop 4 bytes) address (IsBytes-drop 4 bytes fits) (omega (arith, large, length-drop 4 bytes)) (address_read ∙ ap (little_number 4) (take_rest bytes 4))
-    ∙ ap (λ (l : List ℕ). to_le_bytes w32 address ++ l) (drop-drop 4 4 bytes ∙ behind)))
+base_read bytes words rest t address fits large t_read address_read behind = ap (λ (l : List ℕ). 2 ∷ l) (pair_read bytes words rest t address fits large t_read address_read behind)
 
 -- and takes so many bytes
 pub base_front : (bytes words rest : List ℕ) (t address n : ℕ) → n ≡ length words → 2 ∷ bytes ≡ spelling (Base t address words) ++ rest → (take (9 + 8 * n) (2 ∷ bytes) ≡ spelling (Base t address words)) × (9 + 8 * n ≡ length (spelling (Base t address words)))

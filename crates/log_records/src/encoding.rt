@@ -1,12 +1,14 @@
 //! How a record is spelled.
 ghost use Rattle.std.specs.Prelude.{◌≡◌, ◌+◌, ◌*◌, ◌≤◌, ◌∷◌, ◌++◌, length, vec_len, vec_capacity, IsOk, OnOk, OnErr};
 ghost use Rattle.std.specs.Int.{w16, w32, w64, to_le_bytes};
-ghost use Rattle.log_records.specs.declared.Record.TheVariants.{Update, Base, Commit, End};
+ghost use Rattle.log_records.specs.declared.Record.TheVariants.{Update, Commit, End, Scan, Flip};
+ghost use Rattle.log_records.specs.Copies.{word_bytes, write_bytes, copy_bytes};
 ghost use Rattle.log_records.specs.Record.{spelling};
 
 use crate::{
-    BASE, BASE_HEAD_BYTES, COMMIT, COMMIT_BYTES, END, END_BYTES, FIX, PUT_BYTES, Record, UNDO,
-    UPDATE, UPDATE_BYTES, WORD_BYTES,
+    BASE, BASE_HEAD_BYTES, COLLECTED, COMMIT, COMMIT_BYTES, COPY, COPY_HEAD_BYTES, Copies, END,
+    END_BYTES, FIX, FLIP, FLIP_HEAD_BYTES, ObjectCopy, PUT_BYTES, Record, SCAN, SCAN_HEAD_BYTES,
+    UNDO, UPDATE, UPDATE_BYTES, WORD_BYTES, WRITE_BYTES, Writes,
 };
 use byteorder::{ByteOrder, LittleEndian};
 use std::alloc::AllocError;
@@ -26,7 +28,9 @@ pub fn encode(rec: &Record, into: &mut Vec<u8>) -> Result<(), AllocError>
             was,
             word,
         } => into.extend_from_slice(&update_bytes(*t, *object, *field, *was, *word)),
-        Record::Base { t, address, words } => encode_base(*t, *address, words.as_slice(), into),
+        Record::Base { t, address, words } => {
+            encode_object(BASE, *t, *address, words.as_slice(), into)
+        }
         Record::Fix {
             t,
             object,
@@ -41,18 +45,79 @@ pub fn encode(rec: &Record, into: &mut Vec<u8>) -> Result<(), AllocError>
         } => into.extend_from_slice(&put_bytes(UNDO, *t, *object, *field, *word)),
         Record::Commit { t } => into.extend_from_slice(&commit_bytes(*t)),
         Record::End { t } => into.extend_from_slice(&end_bytes(*t)),
+        Record::Copy { from, to, words } => {
+            encode_object(COPY, *from, *to, words.as_slice(), into)
+        }
+        Record::Scan { page, writes } => encode_scan(*page, writes, into),
+        Record::Flip { copies } => encode_flip(copies, into),
+        Record::Collected => into.extend_from_slice(&[COLLECTED]),
     }
 }
 
-// Spells a `Base` behind what is there. An `Err` changes nothing, and comes only where memory has to be taken.
-fn encode_base(t: u32, address: u32, words: &[u64], into: &mut Vec<u8>) -> Result<(), AllocError>
-    ensures ok { OnOk result (into.new.items ≡ into.old.items ++ spelling (Base t address words.now)) }
+// Spells a record of an object, as a `Base` and a `Copy` are, behind what is there: its kind, two numbers, and the object's
+// words. An `Err` changes nothing, and comes only where memory has to be taken.
+fn encode_object(
+    kind: u8,
+    first: u32,
+    second: u32,
+    words: &[u64],
+    into: &mut Vec<u8>,
+) -> Result<(), AllocError>
+    ensures ok { OnOk result (into.new.items ≡ into.old.items ++ (kind ∷ to_le_bytes w32 first ++ to_le_bytes w32 second ++ word_bytes words.now)) }
     ensures err { OnErr result (into.new.items ≡ into.old.items) }
-    ensures in_room { vec_len into.old + length (spelling (Base t address words.now)) ≤ vec_capacity into.old → IsOk result }
+    ensures in_room { vec_len into.old + (9 + length (word_bytes words.now)) ≤ vec_capacity into.old → IsOk result }
     ensures capacity { vec_capacity into.old ≤ vec_capacity into.new }
 {
     into.reserve(BASE_HEAD_BYTES + WORD_BYTES * words.len())?;
-    into.extend_from_slice(&base_head(t, address))?;
+    into.extend_from_slice(&object_head(kind, first, second))?;
+    for word in words {
+        into.extend_from_slice(&word.to_le_bytes())?;
+    }
+    Ok(())
+}
+
+// Spells a `Scan` behind what is there. An `Err` changes nothing, and comes only where memory has to be taken.
+fn encode_scan(page: u32, writes: &Writes, into: &mut Vec<u8>) -> Result<(), AllocError>
+    ensures ok { OnOk result (into.new.items ≡ into.old.items ++ spelling (Scan page writes.now)) }
+    ensures err { OnErr result (into.new.items ≡ into.old.items) }
+    ensures in_room { vec_len into.old + length (spelling (Scan page writes.now)) ≤ vec_capacity into.old → IsOk result }
+    ensures capacity { vec_capacity into.old ≤ vec_capacity into.new }
+{
+    let each = writes.as_slice();
+    into.reserve(SCAN_HEAD_BYTES + WRITE_BYTES * each.len())?;
+    into.extend_from_slice(&scan_head(page, each.len() as u16))?;
+    for write in each {
+        into.extend_from_slice(&bytes_of_write(*write))?;
+    }
+    Ok(())
+}
+
+// Spells a `Flip` behind what is there. An `Err` changes nothing, and comes only where memory has to be taken.
+fn encode_flip(copies: &Copies, into: &mut Vec<u8>) -> Result<(), AllocError>
+    ensures ok { OnOk result (into.new.items ≡ into.old.items ++ spelling (Flip copies.now)) }
+    ensures err { OnErr result (into.new.items ≡ into.old.items) }
+    ensures in_room { vec_len into.old + length (spelling (Flip copies.now)) ≤ vec_capacity into.old → IsOk result }
+    ensures capacity { vec_capacity into.old ≤ vec_capacity into.new }
+{
+    into.reserve(FLIP_HEAD_BYTES + copies.bytes())?;
+    let each = copies.as_slice();
+    into.extend_from_slice(&flip_head(each.len() as u32))?;
+    for copy in each {
+        add_copy(copy, into)?;
+    }
+    Ok(())
+}
+
+// Spells a copy behind what is there, where there is room for it.
+fn add_copy(copy: &ObjectCopy, into: &mut Vec<u8>) -> Result<(), AllocError>
+    requires { vec_len into.old + (8 + 8 * length copy.now.words) ≤ vec_capacity into.old }
+    ensures ok { IsOk result }
+    ensures items { into.new.items ≡ into.old.items ++ copy_bytes copy.now }
+    ensures len { vec_len into.new ≡ vec_len into.old + (8 + 8 * length copy.now.words) }
+    ensures capacity { vec_capacity into.old ≤ vec_capacity into.new }
+{
+    into.extend_from_slice(&copy_head(copy.from, copy.to))?;
+    let words = copy.words.as_slice();
     for word in words {
         into.extend_from_slice(&word.to_le_bytes())?;
     }
@@ -72,14 +137,55 @@ fn update_bytes(t: u32, object: u32, field: u16, was: u64, word: u64) -> [u8; UP
     bytes
 }
 
-// What stands before the words of a `Base`.
-fn base_head(t: u32, address: u32) -> [u8; BASE_HEAD_BYTES]
-    ensures { result ≡ 2 ∷ to_le_bytes w32 t ++ to_le_bytes w32 address }
+// What stands before the words of a `Base` or a `Copy`.
+fn object_head(kind: u8, first: u32, second: u32) -> [u8; BASE_HEAD_BYTES]
+    ensures { result ≡ kind ∷ to_le_bytes w32 first ++ to_le_bytes w32 second }
 {
     let mut bytes = [0u8; BASE_HEAD_BYTES];
-    bytes[0] = BASE;
-    LittleEndian::write_u32(&mut bytes[1..], t);
-    LittleEndian::write_u32(&mut bytes[5..], address);
+    bytes[0] = kind;
+    LittleEndian::write_u32(&mut bytes[1..], first);
+    LittleEndian::write_u32(&mut bytes[5..], second);
+    bytes
+}
+
+// What stands before the words of a copy in a `Flip`.
+fn copy_head(from: u32, to: u32) -> [u8; COPY_HEAD_BYTES]
+    ensures { result ≡ to_le_bytes w32 from ++ to_le_bytes w32 to }
+{
+    let mut bytes = [0u8; COPY_HEAD_BYTES];
+    LittleEndian::write_u32(&mut bytes, from);
+    LittleEndian::write_u32(&mut bytes[4..], to);
+    bytes
+}
+
+// What stands before the writes of a `Scan`.
+fn scan_head(page: u32, count: u16) -> [u8; SCAN_HEAD_BYTES]
+    ensures { result ≡ 8 ∷ to_le_bytes w32 page ++ to_le_bytes w16 count }
+{
+    let mut bytes = [0u8; SCAN_HEAD_BYTES];
+    bytes[0] = SCAN;
+    LittleEndian::write_u32(&mut bytes[1..], page);
+    LittleEndian::write_u16(&mut bytes[5..], count);
+    bytes
+}
+
+fn bytes_of_write(write: (u32, u64)) -> [u8; WRITE_BYTES]
+    ensures { result ≡ write_bytes write }
+{
+    let (address, word) = write;
+    let mut bytes = [0u8; WRITE_BYTES];
+    LittleEndian::write_u32(&mut bytes, address);
+    LittleEndian::write_u64(&mut bytes[4..], word);
+    bytes
+}
+
+// What stands before the copies of a `Flip`.
+fn flip_head(count: u32) -> [u8; FLIP_HEAD_BYTES]
+    ensures { result ≡ 9 ∷ to_le_bytes w32 count }
+{
+    let mut bytes = [0u8; FLIP_HEAD_BYTES];
+    bytes[0] = FLIP;
+    LittleEndian::write_u32(&mut bytes[1..], count);
     bytes
 }
 

@@ -1,16 +1,20 @@
 //! The records of the log, and how they are spelled: a byte of its kind, then its fields, lowest bytes first.
 #![tactic(auto)]
 
+mod copies;
 mod decoding;
 mod encoding;
 mod object_words;
+mod writes;
 
 ghost use Rattle.std.specs.Prelude.{◌≡◌, ◌+◌, ◌^◌, ◌<◌, length};
 ghost use Rattle.log_records.specs.Record.{spelling};
 
+pub use copies::{Copies, ObjectCopy};
 pub use decoding::decode;
 pub use encoding::encode;
 pub use object_words::ObjectWords;
+pub use writes::Writes;
 
 const UPDATE: u8 = 1;
 
@@ -23,6 +27,14 @@ const UNDO: u8 = 4;
 const COMMIT: u8 = 5;
 
 const END: u8 = 6;
+
+const COPY: u8 = 7;
+
+const SCAN: u8 = 8;
+
+const FLIP: u8 = 9;
+
+const COLLECTED: u8 = 10;
 
 /// The bytes of an `Update` record.
 pub const UPDATE_BYTES: usize = 27;
@@ -42,8 +54,23 @@ pub const COMMIT_BYTES: usize = 5;
 /// The bytes of an `End` record.
 pub const END_BYTES: usize = 5;
 
-/// A record of the log. Its bytes are read again only where each of its words is one of a field, and those of a `Base` are
-/// the words of an object.
+/// The bytes of a copy before its words, so those of a `Copy` but its kind.
+pub const COPY_HEAD_BYTES: usize = 8;
+
+/// The bytes of a `Scan` record before its writes.
+pub const SCAN_HEAD_BYTES: usize = 7;
+
+/// The bytes of a write in a `Scan` record.
+pub const WRITE_BYTES: usize = 12;
+
+/// The bytes of a `Flip` record before its copies.
+pub const FLIP_HEAD_BYTES: usize = 5;
+
+/// The bytes of a `Collected` record.
+pub const COLLECTED_BYTES: usize = 1;
+
+/// A record of the log. Its bytes are read again only where each of its words is one of a field, and those of a `Base`,
+/// a `Copy` or a `Flip` are the words of objects.
 #[derive(Debug, Drop, PartialEq, Eq)]
 pub enum Record {
     /// Transaction `t` wrote `word` into a field of the object at word address `object`, where `was` stood.
@@ -84,10 +111,28 @@ pub enum Record {
     End {
         t: u32,
     },
+    /// The object at word address `from` is copied: its words stand from word address `to` on, and where it stood the copy's
+    /// address stands.
+    Copy {
+        from: u32,
+        to: u32,
+        words: ObjectWords,
+    },
+    /// No object of page `page` leads to the from-space any more: of their fields those that did are given their new words.
+    Scan {
+        page: u32,
+        writes: Writes,
+    },
+    /// The two spaces change their roles, and these objects, the first ones, are copied into the one that is current now.
+    Flip {
+        copies: Copies,
+    },
+    /// Nothing leads to the from-space any more.
+    Collected,
 }
 
 /// The bytes of the record's spelling.
-#[tactic(auto, using(crate::proofs::Words::length_word_bytes))]
+#[tactic(auto, using(crate::proofs::Words::length_word_bytes, crate::proofs::Words::length_writes))]
 pub fn length(rec: &Record) -> u64
     ensures value { result ≡ length (spelling rec.now) }
     ensures small { result < 2 ^ 63 + 9 }
@@ -99,5 +144,12 @@ pub fn length(rec: &Record) -> u64
         Record::Fix { .. } | Record::Undo { .. } => PUT_BYTES as u64,
         Record::Commit { .. } => COMMIT_BYTES as u64,
         Record::End { .. } => END_BYTES as u64,
+        Record::Copy { words, .. } => (1
+            + COPY_HEAD_BYTES
+            + WORD_BYTES * words.as_slice().len()) as u64,
+        Record::Scan { writes, .. } => (SCAN_HEAD_BYTES
+            + WRITE_BYTES * writes.as_slice().len()) as u64,
+        Record::Flip { copies } => (FLIP_HEAD_BYTES + copies.bytes()) as u64,
+        Record::Collected => COLLECTED_BYTES as u64,
     }
 }

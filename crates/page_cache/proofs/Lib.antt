@@ -1,5 +1,5 @@
 pub mod Flushing
 pub mod ImageLaws
 pub mod Opening
-pub mod Putting
+pub mod PutLaws
 pub mod StoredLaws

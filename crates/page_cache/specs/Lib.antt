@@ -1,2 +1,3 @@
 pub mod CacheState
 pub mod Stored
+pub mod Writing

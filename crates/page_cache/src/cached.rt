@@ -1,13 +1,11 @@
 //! Pages in memory: records are put on those that lack them.
-ghost use Rattle.std.specs.Prelude.{◌≡◌, ℕ, ◌+◌, ◌*◌, ◌≤◌, ◌<◌, ◌^◌, None, Some, length, map, filter, nat_lt, slice_index, vec_len};
-ghost use Rattle.std.specs.List.{AllByRecursion, enumerate_from, range_with_len};
-ghost use Rattle.log_records.specs.declared.Record.{Record};
-ghost use Rattle.log_machine.specs.Machine.{field_at, put_all, put_record};
+ghost use Rattle.std.specs.Prelude.{◌≡◌, ℕ, ◌+◌, ◌*◌, ◌<◌, ◌^◌, None, Some, length, slice_index, vec_len};
 ghost use Rattle.log_machine.specs.Effect.{WritesBelow, EachWritesBelow};
-ghost use Rattle.page_redo.specs.Pages.{page_of, page_words, lsn_of};
-ghost use Rattle.page_redo.specs.Redo.{EachLacks, raised_to, redo_record, redo_all};
+ghost use Rattle.page_redo.specs.Pages.{page_words, lsn_of};
+ghost use Rattle.page_redo.specs.Redo.{EachLacks, redo_record, redo_all};
 
-use log_machine::FIELDS_AT;
+use crate::putting::put_record;
+use crate::raising::raise_touched;
 use log_records::Record;
 use std::marker::Model;
 
@@ -97,34 +95,8 @@ impl CachedPages {
         requires { WritesBelow (length self.old.words) rec.now }
         ensures { self.new ≡ redo_record lsn self.old rec.now }
     {
-        match rec {
-            Record::Update {
-                object,
-                field,
-                word,
-                ..
-            }
-            | Record::Fix {
-                object,
-                field,
-                word,
-                ..
-            }
-            | Record::Undo {
-                object,
-                field,
-                word,
-                ..
-            } => self.put(
-                lsn,
-                *object as usize + FIELDS_AT as usize + *field as usize,
-                &[*word],
-            ),
-            Record::Base { address, words, .. } => {
-                self.put(lsn, *address as usize, words.as_slice())
-            }
-            Record::Commit { .. } | Record::End { .. } => {}
-        }
+        put_record(&mut self.words, &self.lsns, lsn, rec);
+        raise_touched(&mut self.lsns, lsn, rec);
     }
 
     /// Puts these records, in order, on the pages that lack them. The first of them has that LSN.
@@ -136,41 +108,5 @@ impl CachedPages {
         for (i, rec) in records.iter().enumerate() {
             self.redo(first + i as u64, rec);
         }
-    }
-
-    // Puts words from an address on, where the page lacks the record of that LSN, and raises the LSN of each page.
-    fn put(&mut self, lsn: u64, address: usize, words: &[u64])
-        requires { AllByRecursion (λ a. a < length self.old.words) (map (λ w. w.0) (enumerate_from address words.now)) }
-        ensures words { self.new.words ≡ put_all self.old.words (filter (λ w. nat_lt (lsn_of self.old (page_of w.0)) lsn) (enumerate_from address words.now)) }
-        ensures lsns { self.new.lsns ≡ raised_to lsn self.old.lsns (map page_of (map (λ w. w.0) (enumerate_from address words.now))) }
-    {
-        put_lacking(&mut self.words, &self.lsns, lsn, address, words);
-        raise(&mut self.lsns, lsn, address, words.len());
-    }
-}
-
-// Puts words from an address on, where the page's LSN is less than that one.
-fn put_lacking(words: &mut [u64], lsns: &[u64], lsn: u64, address: usize, new: &[u64])
-    requires inside { AllByRecursion (λ w. w.0 < length words.old) (enumerate_from address new.now) }
-    requires whole { length words.old ≡ 64 * length lsns.now }
-    ensures { words.new ≡ put_all words.old (filter (λ w. nat_lt (slice_index lsns.now (page_of w.0)) lsn) (enumerate_from address new.now)) }
-{
-    for (i, word) in new.iter().enumerate() {
-        let at = address + i;
-        if lsns[at / PAGE_WORDS] < lsn {
-            words[at] = *word;
-        }
-    }
-}
-
-// Raises the LSN of each page of so many words from an address on.
-fn raise(lsns: &mut [u64], lsn: u64, address: usize, count: usize)
-    requires inside { 0 < count → address + count ≤ 64 * length lsns.old }
-    requires fits { address + count < 2 ^ 64 }
-    ensures { lsns.new ≡ raised_to lsn lsns.old (map page_of (range_with_len address count)) }
-{
-    for i in 0..count {
-        let page = (address + i) / PAGE_WORDS;
-        lsns[page] = lsns[page].max(lsn);
     }
 }

@@ -3,5 +3,7 @@
 
 mod cache;
 mod cached;
+mod putting;
+mod raising;
 
 pub use cache::PageCache;

@@ -137,7 +137,7 @@ impl Pages {
                 ..
             } => self.redo_word(number, field_address(*object, *field), *word),
             Record::Base { address, words, .. } => self.redo_object(number, *address, words),
-            Record::Commit { .. } | Record::End { .. } => {}
+            Record::Commit { .. } | Record::End { .. } | Record::OfCollection => {}
         }
     }
 

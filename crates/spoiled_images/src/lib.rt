@@ -12,6 +12,8 @@ mod walk;
 pub use reader::{Verdict, read};
 
 #[cfg(test)]
+mod collection_tests;
+#[cfg(test)]
 mod frame_tests;
 #[cfg(test)]
 mod images;

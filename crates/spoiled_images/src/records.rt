@@ -47,6 +47,8 @@ pub enum Record {
     End {
         t: u32,
     },
+    /// A record of a collection. Its contents are not kept, since none may follow yet.
+    OfCollection,
 }
 
 /// The word address of an object's field.
@@ -83,6 +85,7 @@ pub fn read_record(alloc: Global, bytes: &[u8]) -> Result<Option<(Record, usize)
     let mut cursor = Cursor::new(bytes);
     let record = match cursor.take_u8() {
         Some(2) => take_base(alloc, &mut cursor)?,
+        Some(kind @ 7..=10) => pass_collection(kind, &mut cursor).map(|()| Record::OfCollection),
         Some(kind) => take_small(kind, &mut cursor),
         None => None,
     };
@@ -170,4 +173,41 @@ fn take_base(alloc: Global, cursor: &mut Cursor<'_>) -> Result<Option<Record>, A
         address: front.address,
         words,
     }))
+}
+
+/// The fields of a record of a collection.
+fn pass_collection(kind: u8, cursor: &mut Cursor<'_>) -> Option<()> {
+    match kind {
+        7 => pass_copy(cursor),
+        8 => pass_scan(cursor),
+        9 => pass_flip(cursor),
+        _ => Some(()),
+    }
+}
+
+/// Two addresses and the words of an object, which are laid out like the fields of a `Base`.
+fn pass_copy(cursor: &mut Cursor<'_>) -> Option<()> {
+    let front = take_base_front(cursor)?;
+    for _field in 0..front.fields {
+        let _word = take_field_word(cursor)?;
+    }
+    Some(())
+}
+
+fn pass_scan(cursor: &mut Cursor<'_>) -> Option<()> {
+    let _page = cursor.take_u32()?;
+    let count = cursor.take_u16()?;
+    for _write in 0..count {
+        let _address = cursor.take_u32()?;
+        let _word = take_field_word(cursor)?;
+    }
+    Some(())
+}
+
+fn pass_flip(cursor: &mut Cursor<'_>) -> Option<()> {
+    let count = cursor.take_u32()?;
+    for _copy in 0..count {
+        pass_copy(cursor)?;
+    }
+    Some(())
 }

@@ -87,6 +87,7 @@ impl State {
             Record::End { t } => {
                 Ok(is_number(*t) && !self.undo.iter().any(|entry| entry.t == *t))
             }
+            Record::OfCollection => Ok(false),
         }
     }
 

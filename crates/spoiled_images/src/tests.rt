@@ -5,12 +5,12 @@ use std::alloc::{AllocError, Global};
 use std::process::Abort;
 use std::test::Fail;
 
-const LOG_AT: usize = 64;
+pub const LOG_AT: usize = 64;
 
 /// The bytes of the log of the first batch, and of the first two.
 const COMMITTED: usize = 176;
 
-const ABORTED: usize = 232;
+pub const ABORTED: usize = 232;
 
 /// Where END is once both objects are promoted.
 const END: u32 = 13;

@@ -1,15 +1,15 @@
 //! Records byte by byte, one of each kind, and bytes that are none.
 use byteorder::{ByteOrder, LittleEndian};
-use log_records::{ObjectWords, Record, decode, encode, length};
+use log_records::{Copies, ObjectCopy, ObjectWords, Record, Writes, decode, encode, length};
 use std::alloc::{AllocError, Global};
 use std::process::Abort;
 use std::test::Fail;
 
 /// A record of each kind: transaction 1 writes the number 7 where null stood; its second object, of two fields, one null and
 /// one a reference to the root, comes to stand at address 262; a field refers to it from then on; the number is put back into
-/// field 2; and transaction 1 is committed, and has ended. The last three are an object without fields, and records of numbers
-/// that no transaction has.
-fn records(alloc: Global) -> Result<[Record; 9], AllocError> {
+/// field 2; and transaction 1 is committed, and has ended. The next three are an object without fields, and records of numbers
+/// that no transaction has. The last four are those of a collection.
+fn records(alloc: Global) -> Result<[Record; 13], AllocError> {
     let two_fields = [9, 1 << 32 | 2, 0, 2];
     let no_fields = [1, 0];
     Ok([
@@ -46,11 +46,49 @@ fn records(alloc: Global) -> Result<[Record; 9], AllocError> {
         },
         Record::Commit { t: 0 },
         Record::End { t: u32::MAX },
+        copy(alloc)?,
+        scan(alloc)?,
+        flip(alloc)?,
+        Record::Collected,
     ])
 }
 
+/// The object of two fields is copied from address 262 to 64. Its first field refers to a transaction's own object.
+fn copy(alloc: Global) -> Result<Record, AllocError> {
+    let words = ObjectWords::new(Vec::from_array(alloc, [9, 1 << 32 | 2, 3, 1050])?);
+    Ok(Record::Copy {
+        from: 262,
+        to: 64,
+        words,
+    })
+}
+
+/// Two words of page 1 are set, one to a reference to the object at address 68, the other to null.
+fn scan(alloc: Global) -> Result<Record, AllocError> {
+    let writes = Writes::new(Vec::from_array(alloc, [(66, 274), (67, 0)])?);
+    Ok(Record::Scan { page: 1, writes })
+}
+
+/// An object without fields and one of a field are copied, to addresses 64 and 66.
+fn flip(alloc: Global) -> Result<Record, AllocError> {
+    let mut copies = Vec::new(alloc);
+    copies.push(ObjectCopy {
+        from: 0,
+        to: 64,
+        words: ObjectWords::new(Vec::from_array(alloc, [1, 0])?),
+    })?;
+    copies.push(ObjectCopy {
+        from: 262,
+        to: 66,
+        words: ObjectWords::new(Vec::from_array(alloc, [5, 1 << 32 | 2, 3])?),
+    })?;
+    Ok(Record::Flip {
+        copies: Copies::new(copies),
+    })
+}
+
 /// Their bytes. Those of the `Update`, the `Base`, the `Fix` and the `Commit` stand in `docs/FORMATS.md` too.
-const SPELLINGS: [&[u8]; 9] = [
+const SPELLINGS: [&[u8]; 13] = [
     &[
         1, 1, 0, 0, 0, 0, 0, 0, 0, 0, 0, 0, 0, 0, 0, 0, 0, 0, 0, 29, 0, 0, 0, 0, 0, 0, 0,
     ],
@@ -67,18 +105,32 @@ const SPELLINGS: [&[u8]; 9] = [
     ],
     &[5, 0, 0, 0, 0],
     &[6, 255, 255, 255, 255],
+    &[
+        7, 6, 1, 0, 0, 64, 0, 0, 0, 9, 0, 0, 0, 0, 0, 0, 0, 2, 0, 0, 0, 1, 0, 0, 0, 3, 0, 0, 0, 0,
+        0, 0, 0, 26, 4, 0, 0, 0, 0, 0, 0,
+    ],
+    &[
+        8, 1, 0, 0, 0, 2, 0, 66, 0, 0, 0, 18, 1, 0, 0, 0, 0, 0, 0, 67, 0, 0, 0, 0, 0, 0, 0, 0, 0,
+        0, 0,
+    ],
+    &[
+        9, 2, 0, 0, 0, 0, 0, 0, 0, 64, 0, 0, 0, 1, 0, 0, 0, 0, 0, 0, 0, 0, 0, 0, 0, 0, 0, 0, 0, 6,
+        1, 0, 0, 66, 0, 0, 0, 5, 0, 0, 0, 0, 0, 0, 0, 2, 0, 0, 0, 1, 0, 0, 0, 3, 0, 0, 0, 0, 0, 0,
+        0,
+    ],
+    &[10],
 ];
 
 /// Bytes that begin with no record: kinds that are none; and the word 3 * 2^60, which no field has, at each word of an
-/// `Update`, at that of an `Undo`, at that of a `Fix`, and at a field of a `Base`; and a `Base` whose header is one of a moved
-/// object, and one of 511 fields.
-const NO_RECORDS: [&[u8]; 11] = [
+/// `Update`, at that of an `Undo`, at that of a `Fix`, at a field of a `Base`, and at that of a `Scan`; and a `Base` whose header
+/// is one of a moved object, and one of 511 fields; and a `Flip` of one object that counts 4,294,967,295.
+const NO_RECORDS: [&[u8]; 13] = [
     &[],
     &[0, 1, 0, 0, 0],
     &[
-        7, 1, 0, 0, 0, 1, 0, 0, 0, 1, 0, 0, 0, 0, 0, 0, 0, 0, 0, 0, 0, 0, 0, 0, 0,
+        11, 1, 0, 0, 0, 1, 0, 0, 0, 1, 0, 0, 0, 0, 0, 0, 0, 0, 0, 0, 0, 0, 0, 0, 0,
     ],
-    &[10],
+    &[12],
     &[
         1, 1, 0, 0, 0, 0, 0, 0, 0, 0, 0, 0, 0, 0, 0, 0, 0, 0, 48, 29, 0, 0, 0, 0, 0, 0, 0,
     ],
@@ -96,6 +148,11 @@ const NO_RECORDS: [&[u8]; 11] = [
     ],
     &[
         2, 1, 0, 0, 0, 6, 0, 0, 0, 253, 7, 0, 0, 0, 0, 0, 0, 2, 0, 0, 0, 1, 0, 0, 0,
+    ],
+    &[8, 1, 0, 0, 0, 1, 0, 66, 0, 0, 0, 0, 0, 0, 0, 0, 0, 0, 48],
+    &[
+        9, 255, 255, 255, 255, 0, 0, 0, 0, 64, 0, 0, 0, 1, 0, 0, 0, 0, 0, 0, 0, 0, 0, 0, 0, 0, 0,
+        0, 0,
     ],
 ];
 

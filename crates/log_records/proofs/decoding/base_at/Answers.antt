@@ -1,6 +1,7 @@
 use Rattle.std.proofs.Common.{◌≡◌, ◌∙◌, ◌+◌, ◌*◌, ◌++◌, List, ℕ, drop, length, ap, sym, subst, arith}
 use Rattle.std.proofs.lemmas.List.{take_rest}
-use Rattle.log_records.specs.Record.{word_bytes, spelling, IsObjectWords}
+use Rattle.log_records.specs.Copies.{word_bytes}
+use Rattle.log_records.specs.Record.{spelling, IsObjectWords}
 use Rattle.log_records.proofs.RecordLaws.{length-Base}
 use Rattle.log_records.specs.declared.Record.TheVariants.{Base}
 use Rattle.log_records.proofs.Words.{has_base, base_read, base_front}

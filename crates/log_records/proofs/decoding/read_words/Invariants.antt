@@ -1,6 +1,6 @@
 use Rattle.std.proofs.Common.{◌≡◌, ◌*◌, ◌^◌, ◌<◌, ◌++◌, drop, length, vec_len}
 use Rattle.std.specs.List.{AllByRecursion}
-use Rattle.log_records.specs.Record.{word_bytes}
+use Rattle.log_records.specs.Copies.{word_bytes}
 use Rattle.log_records.proofs.decoding.read_words.Given as goal
 
 -- the words so far are spelled in front of the rest

@@ -1,0 +1,16 @@
+-- How a collection is stored, so that it can be what contracts see of a struct.
+use Rattle.std.specs.Prelude.{ℕ}
+use Rattle.std.specs.Coded.{Coded, code_by, coded×, coded_ℕ}
+use Rattle.std.specs.Ordering.{nat_cmp}
+use Rattle.std.specs.FinSet.{FinSet}
+use Rattle.std.specs.FinSet as set
+use Rattle.std.proofs.Common.{refl}
+use Rattle.heap_spaces.specs.Collection.{Collection}
+
+abbrev pub addresses_code : Coded (FinSet nat_cmp)
+addresses_code = set.code coded_ℕ
+
+abbrev pub collection_code : Coded Collection
+collection_code =
+    code_by (ℕ × (ℕ × (FinSet nat_cmp × FinSet nat_cmp))) (coded× coded_ℕ (coded× coded_ℕ (coded× addresses_code addresses_code))) (λ k. (k.used, (k.copied, (k.moved, k.gray))))
+    (λ p. record { used = p.0; copied = p.1.0; moved = p.1.1.0; gray = p.1.1.1 }) (λ _. refl)

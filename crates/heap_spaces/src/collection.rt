@@ -1,0 +1,140 @@
+//! A collection that runs.
+ghost use Rattle.std.specs.Prelude.{◌≡◌, ◌+◌, ◌≤◌, ◌<◌, ◌^◌, ◌↔◌, ℕ, true, sum_by, IfSome, IfNone, OnOk, OnErr, IsTrue};
+ghost use Rattle.std.specs.FinSet.{empty, contains};
+ghost use Rattle.heap_spaces.specs.Collection.{page_of};
+ghost use Rattle.heap_spaces.specs.declared.collection.CopiedObject.{CopiedObject};
+ghost use Rattle.heap_spaces.specs.Copying.{begun, with_copies, with_scanned, IsLeastGrayPage};
+
+use crate::PAGE_WORDS;
+use crate::address_set::AddressSet;
+use std::alloc::{AllocError, Global};
+use std::marker::Model;
+
+/// An object that a collection has copied into the current space.
+#[derive(Clone, Copy, Debug, PartialEq, Eq)]
+pub struct CopiedObject {
+    /// The word address at which it stood.
+    pub from: u32,
+    /// The word address at which the copy stands.
+    pub to: u32,
+    /// The header of the copy.
+    pub header: u64,
+    /// How many words it has.
+    pub words: u32,
+}
+
+/// What a collection has copied, and which of the copies may still lead to the from-space.
+#[derive(Debug, Drop)]
+pub struct Collection {
+    alloc: Global,
+    used: u32,
+    copied: u32,
+    moved: AddressSet,
+    gray: AddressSet,
+}
+
+impl Model for Collection {
+    ghost use Rattle.std.specs.Prelude.{◌≤◌};
+    ghost use Rattle.heap_spaces.specs.Collection.{Collection as Seen};
+    ghost use Rattle.heap_spaces.specs.CollectionCode.{collection_code};
+
+    ghost Value = { Seen };
+
+    ghost coded = { collection_code };
+
+    ghost view = { λ s. record { used = s.used; copied = s.copied; moved = s.moved; gray = s.gray } };
+
+    ghost invariant = { λ s. s.copied ≤ s.used };
+}
+
+impl Collection {
+    /// A collection whose from-space has objects of so many words, of which none is copied. It takes no memory.
+    pub fn begin(alloc: Global, used: u32) -> Collection
+        ensures { result ≡ begun used }
+    {
+        Collection {
+            alloc,
+            used,
+            copied: 0,
+            moved: AddressSet::new(alloc),
+            gray: AddressSet::new(alloc),
+        }
+    }
+
+    /// How many words the objects of the from-space take.
+    pub fn used(&self) -> u32
+        ensures used { result ≡ self.now.used }
+        ensures sound { self.now.copied ≤ self.now.used }
+    {
+        self.used
+    }
+
+    /// How many of these words have been copied.
+    pub fn copied(&self) -> u32
+        ensures copied { result ≡ self.now.copied }
+        ensures sound { self.now.copied ≤ self.now.used }
+    {
+        self.copied
+    }
+
+    /// Whether the object that stood at the address has been copied.
+    pub fn has_moved(&self, from: u32) -> bool
+        ensures { result ≡ contains self.now.moved from }
+    {
+        self.moved.contains(from)
+    }
+
+    /// Whether no object is gray.
+    pub fn is_empty(&self) -> bool
+        ensures { IsTrue result ↔ (self.now.gray ≡ empty) }
+    {
+        self.gray.is_empty()
+    }
+
+    /// Whether a gray object starts in the page.
+    pub fn gray_in(&self, page: u32) -> bool
+        requires { page < 2 ^ 26 }
+        ensures { IsTrue result ↔ ((at : ℕ) × (contains self.now.gray at ≡ true) × (page_of at ≡ page)) }
+    {
+        self.gray.first_in(page).is_some()
+    }
+
+    /// The least page in which a gray object starts.
+    pub fn least_gray_page(&self) -> Option<u32>
+        ensures some { IfSome result (IsLeastGrayPage self.now) }
+        ensures none { IfNone result (self.now.gray ≡ empty) }
+    {
+        Some(self.gray.least()? / PAGE_WORDS)
+    }
+
+    /// Objects have been copied, and are gray from now on. An error changes nothing.
+    pub fn add_copies(&mut self, copies: &[CopiedObject]) -> Result<(), AllocError>
+        requires { self.old.copied + sum_by (λ (c : CopiedObject). c.words) copies.now ≤ self.old.used }
+        ensures ok { OnOk result (self.new ≡ with_copies self.old copies.now) }
+        ensures err { OnErr result (self.new ≡ self.old) }
+    {
+        let mut moved = Vec::with_capacity(self.alloc, copies.len())?;
+        let mut gray = Vec::with_capacity(self.alloc, copies.len())?;
+        let mut copied = self.copied;
+        for copy in copies {
+            moved.push(copy.from)?;
+            gray.push(copy.to)?;
+            copied += copy.words;
+        }
+        let added = self.moved.add_all(&moved)?;
+        if let Err(error) = self.gray.add_all(&gray) {
+            self.moved.remove_all(&added);
+            return Err(error);
+        }
+        self.copied = copied;
+        Ok(())
+    }
+
+    /// All objects that start in the page have been scanned, so none of them is gray any more. It takes no memory.
+    pub fn scanned(&mut self, page: u32)
+        requires { page < 2 ^ 26 }
+        ensures { self.new ≡ with_scanned self.old page }
+    {
+        self.gray.remove_page(page);
+    }
+}
