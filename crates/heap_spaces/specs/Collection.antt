@@ -1,7 +1,7 @@
 -- A collection that runs: what it has to copy, what it has copied, and which of the copies may still lead to where their objects were.
-use Rattle.std.specs.Prelude.{ℕ, ◌-◌, ◌/◌, Bool, Option, None, Some, List, [], ◌∷◌}
+use Rattle.std.specs.Prelude.{ℕ, ◌-◌, ◌/◌, Option, None, Some, List, [], ◌∷◌}
 use Rattle.std.specs.Ordering.{nat_cmp}
-use Rattle.std.specs.FinSet.{FinSet, contains}
+use Rattle.std.specs.FinSet.{FinSet}
 
 -- What the records say of a collection.
 pub record Collection : Type 0 where
@@ -22,11 +22,3 @@ gray_from to header = to ∷ []
 -- the page in which a word address lies
 abbrev pub page_of : ℕ → ℕ
 page_of at = at / 64
-
--- whether a field of an object is gray
-abbrev pub is_gray : Collection → ℕ → ℕ → Bool
-is_gray k object field = contains k.gray object
-
--- the page that has to be scanned before a gray field of an object is used
-abbrev pub barrier_page_of : ℕ → ℕ → ℕ
-barrier_page_of object field = page_of object
