@@ -1,5 +1,5 @@
 -- How a reader of a log goes on.
-use Rattle.std.proofs.Common.{◌≡◌, ℕ, ◌+◌, ◌-◌, ◌^◌, ◌<◌, ◌≤◌, List, [], ◌∷◌, ◌++◌, Option, Some, None, Result, Ok, Err, OnOk, length, vec_len, get_or, take, drop, refl, sym, ◌∙◌, ap, subst, arith, length-append, length-take, length-drop, append_assoc, drop-cons, inl, inr}
+use Rattle.std.proofs.Common.{◌≡◌, ◌≢◌, ℕ, ◌+◌, ◌-◌, ◌^◌, ◌<◌, ◌≤◌, List, [], ◌∷◌, ◌++◌, Option, Some, None, Result, Ok, Err, OnOk, length, vec_len, get_or, take, drop, refl, sym, ◌∙◌, ap, subst, arith, length-append, length-take, length-drop, append_assoc, drop-cons, inl, inr}
 use Rattle.std.specs.Prelude.{Bool, IsTrue, min}
 use Rattle.std.specs.Int.{w32, from_le_bytes, to_le_bytes}
 use Rattle.std.specs.List.{AllByRecursion}
@@ -8,9 +8,9 @@ use Rattle.std.proofs.lemmas.List.{append-nil, take_at, drop-drop, drop-take, ta
 use Rattle.std.proofs.lemmas.Nat.{le_bytes_4}
 use Rattle.disk_model.specs.Disk.{part}
 use Rattle.log_records.specs.declared.Record.{Record}
-use Rattle.log_records.specs.declared.Record.TheVariants.{Update, Base, Fix, Undo, Commit, End}
+use Rattle.log_records.specs.declared.Record.TheVariants.{Update, Base, Fix, Undo, Commit, End, Copy, Scan, Flip, Collected}
 use Rattle.log_records.specs.Record.{spelling, spellings, IsRecord, IsObjectWords}
-use Rattle.log_records.proofs.RecordLaws.{some_spelling, one_number, one_record, length-Base}
+use Rattle.log_records.proofs.RecordLaws.{some_spelling, one_number, one_record, length-word_bytes, length-writes, length-Base}
 use Rattle.gated_log.specs.declared.reading.LogReader.{LogReader}
 use Rattle.gated_log.specs.Log.{batch, batches_bytes, records_of, HoldsBatches, HasBatch, BreaksAt}
 use Rattle.gated_log.specs.Reader.{held, held_size, untaken, begun_bytes, HasRead, HasGiven, HasGivenAll, IsGiven, IsBegun, IsSameReader}
@@ -81,11 +81,15 @@ size_held r log some =
 pub front_held : (r : LogReader) (log : List ℕ) (n : ℕ) → n ≤ held_size r → take n (untaken r log) ≡ take n (held r)
 front_held r log n some = take-append-le n (held r) (drop (r.next + held_size r) log) (omega (arith, some, length-held r))
 
--- a gate that is open is so where more was read
-pub gate_on : (a b : LogReader) (log : List ℕ) → untaken b log ≡ untaken a log → 1 ≤ held_size a → 1 ≤ held_size b → get_or a.window.items a.taken 0 ≡ 1 → get_or (held b) 0 0 ≡ 1
-gate_on a b log same some some' is_open =
+-- the first byte of what was not taken is the same where more was read
+pub first_on : (a b : LogReader) (log : List ℕ) (first : ℕ) → untaken b log ≡ untaken a log → 1 ≤ held_size a → get_or a.window.items a.taken 0 ≡ first → get_or (untaken b log) 0 0 ≡ first
+first_on a b log first same some is =
     let here : a.taken + 0 ≡ a.taken = omega arith in
-    sym (first_held b log some') ∙ ap (λ (l : List ℕ). get_or l 0 0) same ∙ first_held a log some ∙ get_or-drop a.taken a.window.items 0 0 ∙ ap (λ (k : ℕ). get_or a.window.items k 0) here ∙ is_open
+    ap (λ (l : List ℕ). get_or l 0 0) same ∙ first_held a log some ∙ get_or-drop a.taken a.window.items 0 0 ∙ ap (λ (k : ℕ). get_or a.window.items k 0) here ∙ is
+
+-- so a gate that is open is so
+pub gate_on : (a b : LogReader) (log : List ℕ) → untaken b log ≡ untaken a log → 1 ≤ held_size a → 1 ≤ held_size b → get_or a.window.items a.taken 0 ≡ 1 → get_or (held b) 0 0 ≡ 1
+gate_on a b log same some some' is_open = sym (first_held b log some') ∙ first_on a b log 1 same some is_open
 
 -- The bytes of a batch.
 
@@ -134,19 +138,36 @@ batch_size bytes n size small short has =
     let one = one_number 4 n m [] [] (omega (arith, small)) (omega (arith, room, short)) same in
     omega (arith, room, one.0)
 
--- the longest records are those of the largest objects
+-- the longest records that are no lists are those of the largest objects
 object_short : (words : List ℕ) → IsObjectWords words → length words ≤ 512
 object_short [] good = absurd good
 object_short (header ∷ []) good = absurd good
 object_short (header ∷ birth ∷ fields) good = omega (arith, good.few)
 
-pub record_short : (rec : Record) → IsRecord rec → length (spelling rec) ≤ 4105
-record_short (Update t object field was word) good = omega arith
-record_short (Base t address words) good = omega (arith, length-Base t address words, object_short words good.object)
-record_short (Fix t object field word) good = omega arith
-record_short (Undo t object field word) good = omega arith
-record_short (Commit t) good = omega arith
-record_short (End t) good = omega arith
+pub record_short : (rec : Record) → IsRecord rec → get_or (spelling rec) 0 0 ≢ 8 → get_or (spelling rec) 0 0 ≢ 9 → length (spelling rec) ≤ 4105
+record_short (Update t object field was word) good no_scan no_flip = omega arith
+record_short (Base t address words) good no_scan no_flip = omega (arith, length-Base t address words, object_short words good.object)
+record_short (Fix t object field word) good no_scan no_flip = omega arith
+record_short (Undo t object field word) good no_scan no_flip = omega arith
+record_short (Commit t) good no_scan no_flip = omega arith
+record_short (End t) good no_scan no_flip = omega arith
+record_short (Copy from to words) good no_scan no_flip = omega (arith, length-word_bytes words, object_short words good.object)
+record_short (Scan page writes) good no_scan no_flip = absurd (no_scan refl)
+record_short (Flip copies) good no_scan no_flip = absurd (no_flip refl)
+record_short Collected good no_scan no_flip = omega arith
+
+-- a scan has few writes
+pub scan_short : (rec : Record) → IsRecord rec → get_or (spelling rec) 0 0 ≡ 8 → length (spelling rec) ≤ 786427
+scan_short (Update t object field was word) good is = absurd (omega (arith, is))
+scan_short (Base t address words) good is = absurd (omega (arith, is))
+scan_short (Fix t object field word) good is = absurd (omega (arith, is))
+scan_short (Undo t object field word) good is = absurd (omega (arith, is))
+scan_short (Commit t) good is = absurd (omega (arith, is))
+scan_short (End t) good is = absurd (omega (arith, is))
+scan_short (Copy from to words) good is = absurd (omega (arith, is))
+scan_short (Scan page writes) good is = omega (arith, length-writes writes, good.few)
+scan_short (Flip copies) good is = absurd (omega (arith, is))
+scan_short Collected good is = absurd (omega (arith, is))
 
 -- What is spelled as these records begin, and as others do that take no fewer bytes, goes on as those that are left of the others.
 pub record LeftOf (first second : List Record) (x y : List ℕ) : Type 0 where
@@ -175,8 +196,8 @@ begins_with r behind bytes most is le =
 
 -- Where no record begins, there is no whole batch.
 pub no_batch : (n left most : ℕ) (begun : List Record) (rest front : List ℕ) (found : Option (Record × ℕ)) → AllByRecursion IsRecord begun → n ≡ length (spellings begun) + left → 0 < left → length (begun_bytes n begun ++ rest) < 2 ^ 32
-    → front ≡ take most rest → most ≡ min 4105 left → ((rec : Record) (more : List ℕ) → IsRecord rec → front ≡ spelling rec ++ more → found ≡ Some (rec, length (spelling rec))) → found ≡ None → n < 2 ^ 32 → ¬ HasBatch (begun_bytes n begun ++ rest)
-no_batch n left most begun rest front found good size some short cut is_most only none small has =
+    → front ≡ take most rest → ((rec : Record) → IsRecord rec → get_or (spelling rec) 0 0 ≡ get_or rest 0 0 → length (spelling rec) ≤ left → length (spelling rec) ≤ most) → ((rec : Record) (more : List ℕ) → IsRecord rec → front ≡ spelling rec ++ more → found ≡ Some (rec, length (spelling rec))) → found ≡ None → n < 2 ^ 32 → ¬ HasBatch (begun_bytes n begun ++ rest)
+no_batch n left most begun rest front found good size some short cut enough only none small has =
     let m = length (spellings has.records) in
     let room = batch_room (begun_bytes n begun ++ rest) has in
     let one = one_number 4 n m (spellings begun ++ rest) (spellings has.records ++ has.behind) (omega (arith, small)) (omega (arith, room, short)) (ap (λ (l : List ℕ). drop 1 l) has.front) in
@@ -187,7 +208,8 @@ no_batch n left most begun rest front found good size some short cut is_most onl
     at_left [] good' same is = absurd (omega (arith, same, some))
     at_left (r ∷ rs) good' same is =
         let next : rest ≡ spelling r ++ (spellings rs ++ has.behind) = is ∙ append_assoc (spelling r) (spellings rs) has.behind in
-        let fits : length (spelling r) ≤ most = omega (arith, is_most, record_short r good'.0, same, length-append (spelling r) (spellings rs)) in
+        let first : get_or rest 0 0 ≡ get_or (spelling r) 0 0 = ap (λ (l : List ℕ). get_or l 0 0) next ∙ get_or_append_left (spelling r) (spellings rs ++ has.behind) 0 0 (omega (arith, some_spelling r)) in
+        let fits : length (spelling r) ≤ most = enough r good'.0 (sym first) (omega (arith, same, length-append (spelling r) (spellings rs))) in
         let given = only r (drop (length (spelling r)) (take most rest)) good'.0 (cut ∙ begins_with r (spellings rs ++ has.behind) rest most next fits) in
         let never : None ≡ Some (r, length (spelling r)) = sym none ∙ given in
         cc never

@@ -4,7 +4,7 @@ ghost use Rattle.std.specs.Int.{w32, to_le_bytes};
 ghost use Rattle.disk_model.specs.Disk.{part};
 ghost use Rattle.disk_model.specs.Keeps.{OnlyReads};
 ghost use Rattle.log_records.specs.declared.Record.{Record};
-ghost use Rattle.log_records.specs.Record.{IsRecord};
+ghost use Rattle.log_records.specs.Record.{spelling, IsRecord};
 ghost use Rattle.gated_log.specs.Log.{BreaksAt, HasBatch, HoldsBatches};
 ghost use Rattle.gated_log.specs.declared.reading.LogError.TheVariants.{NoMemory, BadBatch};
 ghost use Rattle.gated_log.specs.LogCause.{log_device_result};
@@ -13,15 +13,23 @@ use crate::batch::{BATCH_HEAD, NO_LENGTH, told_length};
 use crate::log::Log;
 use disk_model::{Disk, DiskError};
 use gate_slot::OPEN;
-use log_records::{BASE_HEAD_BYTES, Record, WORD_BYTES};
+use log_records::{BASE_HEAD_BYTES, Record, SCAN_HEAD_BYTES, WORD_BYTES, WRITE_BYTES};
 use std::alloc::{AllocError, AllocFailed, Global};
 
-/// How many bytes of a log are read at once: no more are read behind what is needed, and memory is taken for no more before
-/// they are read.
+/// How many bytes of a log are read at once, where no record needs more: no more are read behind what is needed.
 const PIECE: usize = 65_536;
 
-/// The bytes of the longest record, a `Base` of an object with 510 fields.
+/// The bytes of the longest record that is no list, a `Base` or a `Copy` of an object with 510 fields.
 const LONGEST_RECORD: usize = BASE_HEAD_BYTES + WORD_BYTES * 512;
+
+/// The bytes of the longest `Scan`.
+const LONGEST_SCAN: usize = SCAN_HEAD_BYTES + WRITE_BYTES * 65_535;
+
+/// The first byte of a `Scan`.
+const SCAN: u8 = 8;
+
+/// The first byte of a `Flip`.
+const FLIP: u8 = 9;
 
 /// Why a log could not be read.
 #[derive(Clone, Copy, Debug, PartialEq, Eq)]
@@ -236,7 +244,8 @@ impl LogReader {
         ensures bad { IsTrue D.tells → (log : List ℕ) (batches : List (List Record)) (begun : List Record) → log ≡ part (D.bytes disk.old) (reader_place self.old) (reader_room self.old) → HasRead D.tells log self.old batches begun → (offset : ℕ) → result ≡ Err (BadBatch offset) → BreaksAt log offset }
         ensures disk { OnlyReads D.Disk disk.old disk.new (log_device_result result) }
     {
-        let most = LONGEST_RECORD.min(self.left as usize);
+        self.fill(disk, 1)?;
+        let most = most_bytes(self.window[self.taken], self.left as usize);
         self.fill(disk, most)?;
         let bytes = &self.window[self.taken..][..most];
         let Some((record, size)) = log_records::decode(alloc, bytes)? else {
@@ -276,7 +285,6 @@ impl LogReader {
     /// Reads on until so many bytes of the log that were not taken are in the window.
     fn fill<D: Disk>(&mut self, disk: &mut D, wanted: usize) -> Result<(), LogError>
         requires inside { reader_place self.old + reader_room self.old ≤ D.extent disk.old }
-        requires few { wanted ≤ 65536 }
         requires rest { wanted ≤ reader_rest self.old }
 
         ensures enough { OnOk result (wanted ≤ held_size self.new) }
@@ -291,8 +299,23 @@ impl LogReader {
         self.window.drain(..self.taken);
         self.taken = 0;
         let read = self.next as usize + self.window.len();
-        let size = PIECE.min(self.room as usize - read);
+        let size = PIECE.max(wanted).min(self.room as usize - read);
         read_behind(disk, self.at + read as u64, size, &mut self.window)
+    }
+}
+
+/// How many bytes a record takes at most that begins with this one, where so many are left of its batch. Of a `Flip` it may be all of
+/// them; for any other they are bounded, whatever an image tells.
+fn most_bytes(first: u8, left: usize) -> usize
+    ensures most { result ≤ left }
+    ensures room { (rec : Record) → IsRecord rec → slice_index (spelling rec) 0 ≡ first → length (spelling rec) ≤ left → length (spelling rec) ≤ result }
+{
+    if first == FLIP {
+        left
+    } else if first == SCAN {
+        LONGEST_SCAN.min(left)
+    } else {
+        LONGEST_RECORD.min(left)
     }
 }
 

@@ -208,13 +208,37 @@ fn replay_one(words: &mut [u64], rec: &Record) {
             address,
             words: object,
             ..
-        } => {
-            for (i, word) in object.as_slice().iter().enumerate() {
-                put(words, i.saturating_add(*address as usize), *word);
+        } => put_object(words, *address, object.as_slice()),
+        Record::Copy {
+            from,
+            to,
+            words: object,
+        } => put_copy(words, *from, *to, object.as_slice()),
+        Record::Scan { writes, .. } => {
+            for (at, word) in writes.as_slice() {
+                put(words, *at as usize, *word);
             }
         }
-        Record::Commit { .. } | Record::End { .. } => {}
+        Record::Flip { copies } => {
+            for copy in copies.as_slice() {
+                put_copy(words, copy.from, copy.to, copy.words.as_slice());
+            }
+        }
+        Record::Commit { .. } | Record::End { .. } | Record::Collected => {}
     }
+}
+
+/// Puts an object's words.
+fn put_object(words: &mut [u64], address: u32, object: &[u64]) {
+    for (i, word) in object.iter().enumerate() {
+        put(words, i.saturating_add(address as usize), *word);
+    }
+}
+
+/// Puts a copy of an object, and its address where the object stood.
+fn put_copy(words: &mut [u64], from: u32, to: u32, object: &[u64]) {
+    put_object(words, to, object);
+    put(words, from as usize, (u64::from(to) << 2) | 2);
 }
 
 /// The words of the four pages after all records, from the first contents on.
