@@ -71,12 +71,7 @@ fn add_words(address: u32, words: &[u64], into: &mut Vec<(u32, u64)>) -> Result<
 }
 
 // Adds what a copy of an object writes.
-fn add_copy(
-    from: u32,
-    to: u32,
-    words: &[u64],
-    into: &mut Vec<(u32, u64)>,
-) -> Result<(), AllocError>
+fn add_copy(from: u32, to: u32, words: &[u64], into: &mut Vec<(u32, u64)>) -> Result<(), AllocError>
     requires { AllByRecursion (λ w. w.0 < 2 ^ 32) (enumerate_from to words.now) }
     ensures ok { OnOk result (into.new.items ≡ into.old.items ++ copy_writes from to words.now) }
     ensures err { OnErr result (GoesOn into.old.items into.new.items) }

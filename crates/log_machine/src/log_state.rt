@@ -194,10 +194,8 @@ impl LogState {
             Record::Undo { t, .. } => self.take_off(*t),
             Record::Commit { t } => self.commit(*t),
             Record::Fix { t, .. } | Record::End { t } => self.raise_next(*t),
-            Record::Copy { .. }
-            | Record::Scan { .. }
-            | Record::Flip { .. }
-            | Record::Collected => return Err(AfterError::Unshaped),
+            Record::Copy { .. } | Record::Scan { .. } | Record::Flip { .. } | Record::Collected =>
+                return Err(AfterError::Unshaped),
         }
         Ok(())
     }
@@ -286,10 +284,8 @@ impl LogState {
             } => self.is_newest(*t, entry(*object, *field, *word)),
             Record::Commit { .. } => true,
             Record::End { t } => self.undo.of(*t).is_empty(),
-            Record::Copy { .. }
-            | Record::Scan { .. }
-            | Record::Flip { .. }
-            | Record::Collected => false,
+            Record::Copy { .. } | Record::Scan { .. } | Record::Flip { .. } | Record::Collected =>
+                false,
         }
     }
 

@@ -87,14 +87,7 @@ fn put_copies(words: &mut [u64], lsns: &[u64], lsn: u64, copies: &[ObjectCopy])
     ensures { words.new ≡ put_all words.old (lacking lsns.now lsn (flat_map writes_of copies.now)) }
 {
     for copy in copies {
-        put_copy(
-            words,
-            lsns,
-            lsn,
-            copy.from,
-            copy.to,
-            copy.words.as_slice(),
-        );
+        put_copy(words, lsns, lsn, copy.from, copy.to, copy.words.as_slice());
     }
 }
 
