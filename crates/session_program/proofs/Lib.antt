@@ -1,0 +1,4 @@
+mod Answering
+mod OneLine
+mod SoFar
+mod Unread
