@@ -2,3 +2,4 @@ mod Answering
 mod OneLine
 mod SoFar
 mod Unread
+mod Whole
