@@ -23,6 +23,9 @@ use heap_program::{Halt, Status, play_ending};
 use line_reader::{LineReader, Taken};
 use std::alloc::Global;
 
+/// More than come: so the number of a line can be counted.
+const MOST_TURNS: u64 = u64::MAX - 1;
+
 /// Opens the heap that is there, and answers the lines that `source` gives, each before the next one is read. Behind the last one the
 /// sessions that have a transaction abort, ascending, and what waits is forced.
 pub fn serve<D: Disk, S: Source, K: Sink>(
@@ -89,7 +92,7 @@ fn serve_lines<D: Disk, S: Source, K: Sink>(
 {
     let mut reader = LineReader::new(alloc)?;
     let mut number = 1;
-    for turn in 0..u64::MAX {
+    for turn in 0..MOST_TURNS {
         match reader.next(alloc, source)? {
             Taken::Line(text) => answer(alloc, heap, number, &text, sink)?,
             Taken::TooLong => refuse(alloc, number, sink)?,
