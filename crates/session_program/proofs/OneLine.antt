@@ -20,6 +20,10 @@ use Rattle.script_text.specs.Line.{read_text, line_events}
 use Rattle.session_program.specs.Lines.{named, fault_of, fault_line, found_events, found_fault}
 use Rattle.session_program.specs.Session.{Answers, Wrote}
 
+pub empty_text : (text : List ℕ) → length text ≡ 0 → text ≡ []
+empty_text [] is = refl
+empty_text (b ∷ text) is = absurd (omega arith)
+
 -- what a text names, by what was found in it
 pub names : (text : List ℕ) (found : Option Line) → 0 < length text → read_text text ≡ found → named (Some text) ≡ found_events found
 names [] found some is = absurd (omega arith)

@@ -4,14 +4,14 @@ use Rattle.heap_program.specs.StatusOf.{write_halt}
 use Rattle.script_text.specs.Line.{read_text}
 use Rattle.script_text.proofs.ScriptLaws.{text_sessions}
 use Rattle.session_program.specs.Session.{Answers}
-use Rattle.session_program.proofs.OneLine.{names, faults, line_played, line_nothing, line_empty, line_refused, line_part}
+use Rattle.session_program.proofs.OneLine.{empty_text, names, faults, line_played, line_nothing, line_empty, line_refused, line_part}
 use Rattle.session_program.proofs.answer.answer.Goals as goal
 
 pub returns-then-is_empty-clause-core : goal.returns-then-is_empty-clause-core
 returns-then-is_empty-clause-core g c core is running =
     let k = g.K.Sink in
     let w = k.written c.args.sink.now in
-    let none : c.args.text.now ≡ [] = search rules in
+    let none : c.args.text.now ≡ [] = empty_text c.args.text.now (omega arith) in
     let P : List ℕ → Type 0 = λ t. Answers core c.args.number (Some t) c.args.heap.now k.tells w w (Ok tt) in
     subst P (sym none) (line_empty core c.args.number (Some []) c.args.heap.now k.tells w w is refl refl)
 
