@@ -1,0 +1,5 @@
+mod Answering
+mod OneLine
+mod SoFar
+mod Unread
+mod Whole

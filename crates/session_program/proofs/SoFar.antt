@@ -1,0 +1,117 @@
+-- A session between two lines.
+use Rattle.std.proofs.Common.{◌≡◌, inl, inr, ℕ, ◌+◌, Bool, false, List, [], ◌∷◌, ◌++◌, length, map, Option, Some, Result, Ok, Err, refl, sym, ap, ◌∙◌, subst, arith, length-append}
+use Rattle.std.specs.Prelude.{IsTrue, IsFalse}
+use Rattle.disk_model.specs.declared.disk.Disk.{Ghosts}
+use Rattle.heap_core.specs.declared.heap.Heap.{Heap}
+use Rattle.heap_core.specs.Refinement.{IsCore}
+use Rattle.heap_model.specs.Core.{Core}
+use Rattle.heap_program.specs.declared.play.Halt.{Halt}
+use Rattle.heap_program.specs.declared.play.Halt.TheVariants as halt
+use Rattle.heap_program.specs.Play.{IsRunning}
+use Rattle.heap_program.proofs.CoreSteps.{running_after}
+use Rattle.heap_program.proofs.Ready.{AreReady}
+use Rattle.session_program.specs.declared.ending.Break.TheVariants.{Halted, ReadFault}
+use Rattle.session_program.specs.Lines.{Answered}
+use Rattle.session_program.specs.Session.{HasAnswered, Answers, AreFirst, ServesLines, StopsThere}
+use Rattle.session_program.proofs.Answering.{named_sessions, texts_more, answered_none, answered_next, its, whole}
+use Rattle.session_program.proofs.Unread.{Unread, unread_all, unread_none}
+
+-- their texts
+abbrev pub texts_of : List Answered → List (Option (List ℕ))
+texts_of answered = map (λ (a : Answered). a.text) answered
+
+same_length : (answered : List Answered) → length (texts_of answered) ≡ length answered
+same_length [] = refl
+same_length (a ∷ answered) = let e = same_length answered in omega (arith, e)
+
+module _ {D : Type 0} {g : Ghosts D} where
+  -- Lines were answered from a core on, and the next one has that number.
+  pub record SoFar (tells : Bool) (left : List ℕ) (c : Core) (heap : Heap D g) (passing : Bool) (stream : List ℕ) (number : ℕ) (told : Bool) (before now : List ℕ) : Type 0 where
+    pub answered : List Answered
+    pub core : Core
+    pub answers : HasAnswered c answered core told before now
+    pub is : IsCore core heap
+    pub running : IsRunning core
+    pub count : number ≡ length answered + 1
+    pub unread : IsTrue tells → Unread left (texts_of answered) passing stream
+
+  pub so_far_none : (tells : Bool) (left : List ℕ) (c : Core) (heap : Heap D g) (told : Bool) (before : List ℕ) → IsCore c heap → IsRunning c → SoFar tells left c heap false left 1 told before before
+  so_far_none tells left c heap told before is running = record {
+    answered = [];
+    core = c;
+    answers = answered_none c told before;
+    is = is;
+    running = running;
+    count = omega arith;
+    unread = λ t. unread_all left;
+  }
+
+  module _ (tells : Bool) (left : List ℕ) (c : Core) (heap new : Heap D g) (passing passing' : Bool) (stream rest : List ℕ) (number : ℕ) (told : Bool) (before now after : List ℕ)
+      (so_far : SoFar tells left c heap passing stream number told before now) where
+    -- one line more
+    pub so_far_next : (text : Option (List ℕ)) → Answers so_far.core number text new told now after (Ok tt) → (IsTrue tells → Unread left (texts_of so_far.answered ++ text ∷ []) passing' rest)
+        → SoFar tells left c new passing' rest (number + 1) told before after
+    so_far_next text answers unread =
+        let a = its c so_far.core so_far.answered told before now after so_far.answers number so_far.count text new answers in
+        let made = whole c so_far.core so_far.answered told before now after so_far.answers number so_far.count text new answers in
+        let ready : AreReady so_far.core _ = record { running = so_far.running; sessions = named_sessions text } in
+        record {
+          answered = so_far.answered ++ a ∷ [];
+          core = answers.plays.core;
+          answers = answered_next c so_far.core so_far.answered told before now after so_far.answers number so_far.count text new answers;
+          is = answers.plays.is;
+          running = subst IsRunning (sym made) (running_after so_far.core _ ready);
+          count = omega (arith, so_far.count, length-append so_far.answered (a ∷ []));
+          unread = λ t. subst (λ (l : List (Option (List ℕ))). Unread left l passing' rest) (sym (texts_more so_far.answered a)) (unread t);
+        }
+
+    -- a part of a line went
+    pub so_far_part : (IsTrue tells → Unread left (texts_of so_far.answered) passing' rest) → SoFar tells left c heap passing' rest number told before now
+    so_far_part unread = record {
+      answered = so_far.answered;
+      core = so_far.core;
+      answers = so_far.answers;
+      is = so_far.is;
+      running = so_far.running;
+      count = so_far.count;
+      unread = unread;
+    }
+
+    first : IsTrue tells → AreFirst (texts_of so_far.answered) left
+    first t = let u = so_far.unread t in (_, u.left_lines)
+
+    there : now ≡ now → StopsThere so_far.core heap told now now
+    there e = record { is = so_far.is; nothing = λ t. refl }
+
+    -- no line is left
+    pub lines_done : (IsTrue tells → IsFalse passing × (stream ≡ [])) → ServesLines tells left c heap told before now (Ok tt)
+    lines_done end = record {
+      answered = so_far.answered;
+      core = so_far.core;
+      between = now;
+      answers = so_far.answers;
+      first = first;
+      ended = ((λ t. unread_none left (texts_of so_far.answered) passing passing stream stream (so_far.unread t) (end t).0 (end t).1), there refl);
+    }
+
+    -- the next line could not be read
+    pub lines_unread : ServesLines tells left c heap told before now (Err ReadFault)
+    lines_unread = record { answered = so_far.answered; core = so_far.core; between = now; answers = so_far.answers; first = first; ended = there refl }
+
+    -- nor was there memory
+    pub lines_nothing : ServesLines tells left c heap told before now (Err (Halted halt.NoMemory))
+    lines_nothing = record { answered = so_far.answered; core = so_far.core; between = now; answers = so_far.answers; first = first; ended = inr (refl, there refl) }
+
+    -- the answer of the next line halted
+    pub lines_halted : (text : Option (List ℕ)) (h : Halt) → Answers so_far.core number text new told now after (Err h) → (IsTrue tells → Unread left (texts_of so_far.answered ++ text ∷ []) passing' rest)
+        → ServesLines tells left c new told before after (Err (Halted h))
+    lines_halted text h answers unread =
+        let count : number ≡ length (texts_of so_far.answered) + 1 = so_far.count ∙ ap (λ (n : ℕ). n + 1) (sym (same_length so_far.answered)) in
+        record {
+          answered = so_far.answered;
+          core = so_far.core;
+          between = now;
+          answers = so_far.answers;
+          first = first;
+          ended = inl (record { text = text; next = λ t. (_, (unread t).left_lines); answers = subst (λ (n : ℕ). Answers so_far.core n text new told now after (Err h)) count answers });
+        }

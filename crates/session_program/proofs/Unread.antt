@@ -1,0 +1,111 @@
+-- The lines that are left behind those that were taken.
+use Rattle.std.proofs.Common.{◌≡◌, ◌≢◌, ◌⊎◌, inl, inr, ℕ, ◌+◌, ◌<◌, ◌≤◌, Bool, true, false, List, [], ◌∷◌, ◌++◌, length, map, Option, Some, None, refl, sym, ap, ◌∙◌, subst, arith, append_assoc, length-append}
+use Rattle.std.specs.Prelude.{IsTrue, IsFalse, nat_lt, if◌then◌else◌}
+use Rattle.std.specs.List.{onto_first}
+use Rattle.std.proofs.lemmas.List.{append-nil}
+use Rattle.std.proofs.lemmas.Bool.{lt-ltb, le-ltb, ne_eqb}
+use Rattle.script_text.specs.Script.{lines}
+use Rattle.line_reader.specs.Taking.{IsWithinLine, IsCutAt, IsFirstLine, EndsTooLong, PassesPart}
+use Rattle.session_program.specs.Lines.{as_taken}
+
+-- bytes without a newline, before a newline, are the first line
+cut_line : (text rest : List ℕ) → IsWithinLine text → lines (text ++ 10 ∷ rest) ≡ text ∷ lines rest
+cut_line [] rest within = refl
+cut_line (b ∷ text) rest within = rw (ne_eqb b 10 within.0, cut_line text rest within.1) refl
+
+-- so they are at the end
+last_line : (text : List ℕ) → IsWithinLine text → 0 < length text → lines text ≡ text ∷ []
+last_line [] within some = absurd (omega arith)
+last_line (b ∷ []) within some = rw (ne_eqb b 10 within.0) refl
+last_line (b ∷ c ∷ text) within some = rw (ne_eqb b 10 within.0, last_line (c ∷ text) within.1 (omega arith)) refl
+
+first_line : (text stream rest : List ℕ) → IsCutAt text stream rest → 0 < length stream → lines stream ≡ text ∷ lines rest
+first_line text stream rest cut some = elim cut.parts [
+  | inl ends ↦ ap lines ends ∙ cut_line text rest cut.within
+  | inr last ↦ ap lines last.0 ∙ last_line text cut.within (subst (λ (l : List ℕ). 0 < length l) last.0 some) ∙ ap (λ (l : List ℕ). text ∷ lines l) (sym last.1)
+]
+
+within_both : (front text : List ℕ) → IsWithinLine front → IsWithinLine text → IsWithinLine (front ++ text)
+within_both [] text first second = second
+within_both (b ∷ front) text first second = (first.0, within_both front text first.1 second)
+
+-- More of a line stands before what is cut.
+cut_behind : (front text stream rest : List ℕ) → IsWithinLine front → IsCutAt text stream rest → IsCutAt (front ++ text) (front ++ stream) rest
+cut_behind front text stream rest within cut = record {
+  within = within_both front text within cut.within;
+  parts = elim cut.parts [
+    | inl ends ↦ inl (ap (λ (l : List ℕ). front ++ l) ends ∙ sym (append_assoc front text (10 ∷ rest)))
+    | inr last ↦ inr (ap (λ (l : List ℕ). front ++ l) last.0, last.1)
+  ];
+}
+
+-- The lines of an input: these were taken, and then those of the stream are left, of whose first one a front may be gone.
+pub record Unread (left : List ℕ) (texts : List (Option (List ℕ))) (passing : Bool) (stream : List ℕ) : Type 0 where
+  pub front : List ℕ
+  pub within : IsWithinLine front
+  pub none : IsFalse passing → front ≡ []
+  pub long : IsTrue passing → 1048576 < length front
+  pub left_lines : map as_taken (lines left) ≡ texts ++ map as_taken (lines (front ++ stream))
+
+-- nothing was taken
+pub unread_all : (left : List ℕ) → Unread left [] false left
+unread_all left = record { front = []; within = tt; none = λ t. refl; long = λ never. cc; left_lines = refl }
+
+one_more : (texts : List (Option (List ℕ))) (text : Option (List ℕ)) (more whole : List (Option (List ℕ))) → whole ≡ texts ++ text ∷ more → whole ≡ (texts ++ text ∷ []) ++ more
+one_more texts text more whole is = is ∙ sym (append_assoc texts (text ∷ []) more)
+
+module _ (left : List ℕ) (texts : List (Option (List ℕ))) (passing passing' : Bool) (stream rest : List ℕ) (unread : Unread left texts passing stream) where
+  -- a line was taken
+  pub unread_line : (text : List ℕ) → IsFalse passing → IsFalse passing' → IsFirstLine text stream rest → Unread left (texts ++ Some text ∷ []) passing' rest
+  unread_line text fresh done first =
+      let taken : as_taken text ≡ Some text = rw (le-ltb 1048576 (length text) first.short) refl in
+      let all : lines (unread.front ++ stream) ≡ text ∷ lines rest = ap (λ (l : List ℕ). lines (l ++ stream)) (unread.none fresh) ∙ first_line text stream rest first.cut first.some in
+      record {
+        front = [];
+        within = tt;
+        none = λ t. refl;
+        long = λ never. cc;
+        left_lines = one_more texts (Some text) (map as_taken (lines rest)) (map as_taken (lines left))
+            (unread.left_lines ∙ ap (λ (l : List (List ℕ)). texts ++ map as_taken l) all ∙ ap (λ (t : Option (List ℕ)). texts ++ t ∷ map as_taken (lines rest)) taken);
+      }
+
+  longer : (text : List ℕ) → IsTrue passing ⊎ (1048576 < length text) → 1048576 < length (unread.front ++ text)
+  longer text (inl is) = omega (arith, unread.long is, length-append unread.front text)
+  longer text (inr is) = omega (arith, is, length-append unread.front text)
+
+  -- one that is too long came to its end
+  pub unread_long : IsFalse passing' → EndsTooLong passing stream rest → Unread left (texts ++ None ∷ []) passing' rest
+  unread_long done ends =
+      let text = unread.front ++ ends.text in
+      let long = longer ends.text ends.long in
+      let taken : as_taken text ≡ None = rw (lt-ltb 1048576 (length text) long) refl in
+      let cut = cut_behind unread.front ends.text stream rest unread.within ends.cut in
+      let some : 0 < length (unread.front ++ stream) = elim cut.parts [
+        | inl is ↦ omega (arith, ap (λ (l : List ℕ). length l) is, length-append text (10 ∷ rest))
+        | inr is ↦ omega (arith, ap (λ (l : List ℕ). length l) is.0, long)
+      ] in
+      let all = first_line text (unread.front ++ stream) rest cut some in
+      record {
+        front = [];
+        within = tt;
+        none = λ t. refl;
+        long = λ never. cc;
+        left_lines = one_more texts None (map as_taken (lines rest)) (map as_taken (lines left))
+            (unread.left_lines ∙ ap (λ (l : List (List ℕ)). texts ++ map as_taken l) all ∙ ap (λ (t : Option (List ℕ)). texts ++ t ∷ map as_taken (lines rest)) taken);
+      }
+
+  -- a part of it went
+  pub unread_part : IsTrue passing' → PassesPart stream rest → Unread left texts passing' rest
+  unread_part on part = record {
+    front = unread.front ++ part.text;
+    within = within_both unread.front part.text unread.within part.within;
+    none = λ t. cc;
+    long = λ t. omega (arith, part.long, length-append unread.front part.text);
+    left_lines = unread.left_lines ∙ ap (λ (l : List ℕ). texts ++ map as_taken (lines (unread.front ++ l))) part.parts ∙ ap (λ (l : List ℕ). texts ++ map as_taken (lines l)) (sym (append_assoc unread.front part.text rest));
+  }
+
+  -- no line is left
+  pub unread_none : IsFalse passing → stream ≡ [] → map as_taken (lines left) ≡ texts
+  unread_none fresh end =
+      let all : unread.front ++ stream ≡ [] = ap (λ (l : List ℕ). l ++ stream) (unread.none fresh) ∙ end in
+      unread.left_lines ∙ ap (λ (l : List ℕ). texts ++ map as_taken (lines l)) all ∙ append-nil texts

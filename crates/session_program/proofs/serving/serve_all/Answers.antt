@@ -1,0 +1,28 @@
+use Rattle.std.proofs.Common.{◌≡◌, Ok, Err, rules}
+use Rattle.session_program.specs.declared.ending.Break.TheVariants.{Halted}
+use Rattle.session_program.proofs.Whole.{session_early, session_whole}
+use Rattle.session_program.proofs.serving.serve_all.Goals as goal
+
+pub returns-in_err-serve_lines-clause-core : goal.returns-in_err-serve_lines-clause-core
+returns-in_err-serve_lines-clause-core g c core is running =
+    let s = g.S.Source in
+    let k = g.K.Sink in
+    let b = c.in_err-serve_lines.field-0.0 in
+    let err : c.from_residual.result ≡ Err b = search rules in
+    rw err (session_early s.tells (s.left c.args.source.now) core k.tells (k.written c.args.sink.now) c.serve_lines.new.heap (k.written c.serve_lines.new.sink) b (c.in_err-serve_lines.ensures.core core is running))
+
+pub returns-in_err-play_ending-clause-core : goal.returns-in_err-play_ending-clause-core
+returns-in_err-play_ending-clause-core g c core is running =
+    let s = g.S.Source in
+    let k = g.K.Sink in
+    let h = c.in_err-play_ending.field-0.0 in
+    let err : c.from_residual-in_err-play_ending.result ≡ Err (Halted h) = search rules in
+    rw err (session_whole s.tells (s.left c.args.source.now) core k.tells (k.written c.args.sink.now) running c.serve_lines.new.heap c.play_ending.new.heap (k.written c.serve_lines.new.sink) (k.written c.play_ending.new.sink)
+    (c.in_ok-serve_lines.ensures.core core is running) (Err h) c.in_err-play_ending.ensures.core)
+
+pub returns-clause-core : goal.returns-clause-core
+returns-clause-core g c core is running =
+    let s = g.S.Source in
+    let k = g.K.Sink in
+    session_whole s.tells (s.left c.args.source.now) core k.tells (k.written c.args.sink.now) running c.serve_lines.new.heap c.play_ending.new.heap (k.written c.serve_lines.new.sink) (k.written c.play_ending.new.sink)
+    (c.in_ok-serve_lines.ensures.core core is running) (Ok tt) c.in_ok-play_ending.ensures.core

@@ -1,0 +1,43 @@
+-- Why a session ends before its input does.
+use Rattle.std.specs.Prelude.{Result, Ok, Err}
+use Rattle.disk_model.specs.declared.disk.DiskError.{DiskError}
+use Rattle.heap_program.specs.declared.play.Halt.TheVariants as halt
+use Rattle.heap_program.specs.declared.status.Status.{Status}
+use Rattle.heap_program.specs.declared.status.Status.TheVariants as status
+use Rattle.heap_program.specs.Causes.{played_device}
+use Rattle.heap_program.specs.StatusOf.{halt_status}
+use Rattle.line_reader.specs.declared.reader.LineError.{LineError}
+use Rattle.line_reader.specs.declared.reader.LineError.TheVariants as reading
+use Rattle.session_program.specs.declared.ending.Break.{Break}
+use Rattle.session_program.specs.declared.ending.Break.TheVariants.{Halted, ReadFault}
+
+-- why no line was read
+abbrev pub line_break : LineError → Break
+line_break reading.NoMemory = Halted halt.NoMemory
+line_break reading.SourceFailed = ReadFault
+
+-- the status of a session that ends so
+abbrev pub break_status : Break → Status
+break_status (Halted h) = halt_status h
+break_status ReadFault = status.ReadFault
+
+-- also where it came to the end of its input
+abbrev pub session_status : Result (Unit {0}) Break → Status
+session_status (Ok done) = status.Done
+session_status (Err b) = break_status b
+
+-- what the disk answered in it
+abbrev pub session_device : Result (Unit {0}) Break → Result (Unit {0}) DiskError
+session_device (Err (Halted h)) = played_device (Err h)
+session_device result = Ok tt
+
+-- The statuses of a session.
+abbrev pub IsSessionEnd : Status → Type 0
+IsSessionEnd status.Done = Unit {0}
+IsSessionEnd status.NoMemory = Unit {0}
+IsSessionEnd status.ReadFault = Unit {0}
+IsSessionEnd status.WriteFault = Unit {0}
+IsSessionEnd status.DiskFault = Unit {0}
+IsSessionEnd status.NotHeap = Unit {0}
+IsSessionEnd (status.Damaged at) = Unit {0}
+IsSessionEnd s = ⊥

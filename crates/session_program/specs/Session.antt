@@ -1,0 +1,104 @@
+-- What a session promises.
+use Rattle.std.specs.Prelude.{◌≡◌, ◌⊎◌, ℕ, ◌+◌, List, [], ◌∷◌, ◌++◌, length, map, Bool, IsTrue, Option, Result, Ok, Err}
+use Rattle.std.specs.List.{AllByRecursion}
+use Rattle.disk_model.specs.declared.disk.Disk.{Ghosts}
+use Rattle.image_plan.specs.declared.superblock.Super.{Super}
+use Rattle.log_records.specs.declared.Record.{Record}
+use Rattle.page_redo.specs.Pages.{Pages}
+use Rattle.heap_core.specs.declared.heap.Heap.{Heap}
+use Rattle.heap_core.specs.HeapState.{heap_disk}
+use Rattle.heap_core.specs.Refinement.{IsCore}
+use Rattle.heap_model.specs.Core.{Core}
+use Rattle.heap_model.specs.Ending.{ending}
+use Rattle.heap_program.specs.declared.play.Halt.{Halt}
+use Rattle.heap_program.specs.declared.play.Halt.TheVariants as halt
+use Rattle.heap_program.specs.declared.status.Status.{Status}
+use Rattle.heap_program.specs.Headline.{IsOpened}
+use Rattle.heap_program.specs.Play.{MadeAll, PlaysCore, WroteFront}
+use Rattle.script_text.specs.Script.{lines}
+use Rattle.session_program.specs.declared.ending.Break.{Break}
+use Rattle.session_program.specs.declared.ending.Break.TheVariants.{Halted, ReadFault}
+use Rattle.session_program.specs.Ending.{session_status}
+use Rattle.session_program.specs.Lines.{Answered, IsOfItsEvents, asked, heard_of, answers_text, named, fault_of, as_taken}
+
+-- Lines were answered from a core on: the disk did what it was asked in all of their events, which are a run of the core, and each
+-- answer was written behind the one before it.
+pub record HasAnswered (c : Core) (answered : List Answered) (d : Core) (told : Bool) (before after : List ℕ) : Type 0 where
+  pub made : MadeAll c (asked answered) d
+  pub heard : d.history ≡ c.history ++ heard_of answered
+  pub own : AllByRecursion IsOfItsEvents answered
+  pub written : IsTrue told → after ≡ before ++ answers_text 1 answered
+
+-- A text was written, or a first part of it where that halted.
+abbrev pub Wrote : Result (Unit {0}) Halt → List ℕ → List ℕ → List ℕ → Type 0
+Wrote (Ok done) before text after = after ≡ before ++ text
+Wrote (Err h) before text after = WroteFront before text after
+
+-- These are the first lines of an input.
+abbrev pub AreFirst : List (Option (List ℕ)) → List ℕ → Type 0
+AreFirst texts left = (behind : List (Option (List ℕ))) × (map as_taken (lines left) ≡ texts ++ behind)
+
+-- Lines were answered from a core on, the first ones of an input that tells its bytes, and then it ended so.
+pub record Session (tells : Bool) (left : List ℕ) (c : Core) (told : Bool) (before : List ℕ) (ends : List (Option (List ℕ)) → Core → List ℕ → Type 0) : Type 0 where
+  pub answered : List Answered
+  pub core : Core
+  pub between : List ℕ
+  pub answers : HasAnswered c answered core told before between
+  pub first : IsTrue tells → AreFirst (map (λ a. a.text) answered) left
+  pub ended : ends (map (λ a. a.text) answered) core between
+
+module _ {D : Type 0} {g : Ghosts D} where
+  -- The line with that number was answered, or that halted: what is said against it was written, and its events were played.
+  pub record Answers (c : Core) (number : ℕ) (text : Option (List ℕ)) (new : Heap D g) (told : Bool) (before after : List ℕ) (result : Result (Unit {0}) Halt) : Type 0 where
+    pub between : List ℕ
+    pub fault : IsTrue told → Wrote result before (fault_of number text) between
+    pub plays : PlaysCore c (named text) new told between after result
+
+  -- The next line was taken, and its answer halted.
+  pub record HaltsAtLine (tells : Bool) (left : List ℕ) (texts : List (Option (List ℕ))) (c : Core) (new : Heap D g) (told : Bool) (before after : List ℕ) (h : Halt) : Type 0 where
+    pub text : Option (List ℕ)
+    pub next : IsTrue tells → AreFirst (texts ++ text ∷ []) left
+    pub answers : Answers c (length texts + 1) text new told before after (Err h)
+
+  -- These were all lines, and the events that end a session were played.
+  pub record PlaysEnding (tells : Bool) (left : List ℕ) (texts : List (Option (List ℕ))) (c : Core) (new : Heap D g) (told : Bool) (before after : List ℕ) (result : Result (Unit {0}) Halt) : Type 0 where
+    pub all : IsTrue tells → map as_taken (lines left) ≡ texts
+    pub plays : PlaysCore c (ending c) new told before after result
+
+  -- No further line was taken, and nothing was written.
+  pub record StopsThere (c : Core) (new : Heap D g) (told : Bool) (before after : List ℕ) : Type 0 where
+    pub is : IsCore c new
+    pub nothing : IsTrue told → after ≡ before
+
+  module _ (tells : Bool) (left : List ℕ) (new : Heap D g) (told : Bool) (after : List ℕ) where
+    -- How the answering of lines ends.
+    abbrev pub EndsLines : Result (Unit {0}) Break → List (Option (List ℕ)) → Core → List ℕ → Type 0
+    EndsLines (Ok done) texts c between = (IsTrue tells → map as_taken (lines left) ≡ texts) × StopsThere c new told between after
+    EndsLines (Err ReadFault) texts c between = StopsThere c new told between after
+    EndsLines (Err (Halted h)) texts c between = HaltsAtLine tells left texts c new told between after h ⊎ ((h ≡ halt.NoMemory) × StopsThere c new told between after)
+
+    -- How a session ends.
+    abbrev pub Ends : Result (Unit {0}) Break → List (Option (List ℕ)) → Core → List ℕ → Type 0
+    Ends (Ok done) texts c between = PlaysEnding tells left texts c new told between after (Ok tt)
+    Ends (Err ReadFault) texts c between = StopsThere c new told between after
+    Ends (Err (Halted h)) texts c between =
+        HaltsAtLine tells left texts c new told between after h ⊎ PlaysEnding tells left texts c new told between after (Err h) ⊎ ((h ≡ halt.NoMemory) × StopsThere c new told between after)
+
+  -- On any disk: lines were answered.
+  abbrev pub ServesLines : Bool → List ℕ → Core → Heap D g → Bool → List ℕ → List ℕ → Result (Unit {0}) Break → Type 0
+  ServesLines tells left c new told before after result = Session tells left c told before (EndsLines tells left new told after result)
+
+  -- On any disk: a session was served.
+  abbrev pub Serves : Bool → List ℕ → Core → Heap D g → Bool → List ℕ → List ℕ → Result (Unit {0}) Break → Type 0
+  Serves tells left c new told before after result = Session tells left c told before (Ends tells left new told after result)
+
+-- A heap was opened, with some graph, on a shaped log beside stored pages as `from` says, and a session was served on it.
+pub record ServesHeap {D : Type 0} (g : Ghosts D) (from : Super → List (List Record) → Pages → (ℕ → ℕ) → Type 0) (tells : Bool) (left : List ℕ) (final : D) (by : Status) (told : Bool) (before after : List ℕ) : Type 0 where
+  pub first : Core
+  pub opened : IsOpened first
+  pub image : from opened.super opened.batches opened.stored opened.gates
+  pub heap : Heap D g
+  pub disk : final ≡ heap_disk heap
+  pub result : Result (Unit {0}) Break
+  pub status : by ≡ session_status result
+  pub serves : Serves tells left first heap told before after result

@@ -1,0 +1,9 @@
+//! A session with the heap that is there: each line that comes is answered before the next one is read. The program over it is
+//! `heap_session`.
+#![tactic(auto)]
+
+mod answer;
+mod ending;
+mod serving;
+
+pub use serving::serve;

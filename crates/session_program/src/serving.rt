@@ -1,0 +1,106 @@
+//! A session from its opening to its end.
+ghost use Rattle.std.specs.Prelude.{◌≡◌, ◌≢◌, ◌⊎◌, ℕ, ◌<◌, ◌≤◌, List, Ok, Err, IsTrue};
+ghost use Rattle.disk_model.specs.Disk.{Only};
+ghost use Rattle.disk_model.specs.Keeps.{KeepsDisk};
+ghost use Rattle.disk_model.specs.Moments.{LeavesOnly};
+ghost use Rattle.heap_core.specs.HeapState.{heap_disk};
+ghost use Rattle.heap_core.specs.Refinement.{IsCore};
+ghost use Rattle.heap_model.specs.Core.{Core};
+ghost use Rattle.heap_program.specs.declared.play.Halt.TheVariants as halt;
+ghost use Rattle.heap_program.specs.Causes.{StreamCause, RunsDisk};
+ghost use Rattle.heap_program.specs.Headline.{BlamesNoImage, IsOfImage};
+ghost use Rattle.heap_program.specs.Play.{IsRunning};
+ghost use Rattle.heap_program.specs.Refusals.{IsFault, IsToldOf, IsToldOfEach, EndsRefused, IsLeftAlone, LeavesAlone};
+ghost use Rattle.session_program.specs.Ending.{IsSessionEnd, session_device};
+ghost use Rattle.session_program.specs.Session.{ServesLines, Serves, ServesHeap};
+
+use crate::answer::{answer, refuse};
+use crate::ending::{Break, break_status};
+use disk_model::Disk;
+use heap_core::Heap;
+use heap_io::{Sink, Source};
+use heap_program::{Halt, Status, play_ending};
+use line_reader::{LineReader, Taken};
+use std::alloc::Global;
+
+/// More than come: so the number of a line can be counted.
+const MOST_TURNS: u64 = u64::MAX - 1;
+
+/// Opens the heap that is there, and answers the lines that `source` gives, each before the next one is read. Behind the last one the
+/// sessions that have a transaction abort, ascending, and what waits is forced.
+pub fn serve<D: Disk, S: Source, K: Sink>(
+    alloc: Global,
+    disk: D,
+    source: &mut S,
+    sink: &mut K,
+) -> (Status, D)
+    ensures end { IsSessionEnd result.0 }
+    // Each fault comes from outside.
+    ensures read_fault { StreamCause (S.faults source.old) (S.faults source.new) (result.0 ≡ Status.ReadFault) }
+    ensures write_fault { StreamCause (K.faults sink.old) (K.faults sink.new) (result.0 ≡ Status.WriteFault) }
+    ensures disk_fault { RunsDisk D.Disk disk result.1 (result.0 ≡ Status.DiskFault) }
+
+    // On any disk: the heap was not opened, and nothing was read or written; or the lines that were taken were answered in their order.
+    ensures serves { ((result.0 ≢ Status.Done) × (source.new ≡ source.old) × (sink.new ≡ sink.old)) ⊎ ServesHeap D.Disk (IsOfImage D.tells (D.bytes disk)) S.tells (S.left source.old) result.1 result.0 K.tells (K.written sink.old) (K.written sink.new) }
+
+    // A status against the image tells what is so, and an image that can't be opened gives its own; nothing is read or written then.
+    ensures unwritten { ¬ BlamesNoImage result.0 → (source.new ≡ source.old) × (sink.new ≡ sink.old) }
+    ensures refused { IsTrue D.tells → IsToldOf result.0 (D.bytes disk) }
+    ensures refused_at_end { IsTrue D.tells → Only (D.bytes disk) (D.may_leave disk) → IsToldOfEach result.0 (D.may_leave result.1) }
+    ensures refuses { IsTrue D.tells → (expected : Status) → IsFault expected (D.bytes disk) → EndsRefused expected result.0 × (sink.new ≡ sink.old) }
+    ensures left_alone { IsTrue D.tells → (expected : Status) → IsFault expected (D.bytes disk) → IsLeftAlone expected → LeavesAlone D.Disk disk result.1 }
+    // At each moment a crash leaves an image with the same fault.
+    ensures keeps_fault { IsTrue D.tells → Only (D.bytes disk) (D.may_leave disk) → (expected : Status) → IsFault expected (D.bytes disk) → LeavesOnly D.moment D.left_since disk result.1 (IsFault expected) }
+{
+    let mut heap = match Heap::open(alloc, disk) {
+        Ok(heap) => heap,
+        Err((e, disk)) => return (Status::from(e), disk),
+    };
+    match serve_all(alloc, &mut heap, source, sink) {
+        Ok(()) => (Status::Done, heap.close()),
+        Err(ended) => (break_status(ended), heap.close()),
+    }
+}
+
+/// Answers all lines, and makes the events that end a session.
+fn serve_all<D: Disk, S: Source, K: Sink>(
+    alloc: Global,
+    heap: &mut Heap<D>,
+    source: &mut S,
+    sink: &mut K,
+) -> Result<(), Break>
+    ensures disk { KeepsDisk D.Disk (heap_disk heap.old) (heap_disk heap.new) (session_device result) }
+    ensures source { StreamCause (S.faults source.old) (S.faults source.new) (result ≡ Err Break.ReadFault) }
+    ensures sink { StreamCause (K.faults sink.old) (K.faults sink.new) (result ≡ Err (Break.Halted halt.WriteFault)) }
+    ensures core { (c : Core) → IsCore c heap.old → IsRunning c → Serves S.tells (S.left source.old) c heap.new K.tells (K.written sink.old) (K.written sink.new) result }
+{
+    serve_lines(alloc, heap, source, sink)?;
+    Ok(play_ending(alloc, heap, sink)?)
+}
+
+/// Answers one line after another.
+fn serve_lines<D: Disk, S: Source, K: Sink>(
+    alloc: Global,
+    heap: &mut Heap<D>,
+    source: &mut S,
+    sink: &mut K,
+) -> Result<(), Break>
+    ensures disk { KeepsDisk D.Disk (heap_disk heap.old) (heap_disk heap.new) (session_device result) }
+    ensures source { StreamCause (S.faults source.old) (S.faults source.new) (result ≡ Err Break.ReadFault) }
+    ensures sink { StreamCause (K.faults sink.old) (K.faults sink.new) (result ≡ Err (Break.Halted halt.WriteFault)) }
+    ensures core { (c : Core) → IsCore c heap.old → IsRunning c → ServesLines S.tells (S.left source.old) c heap.new K.tells (K.written sink.old) (K.written sink.new) result }
+{
+    let mut reader = LineReader::new(alloc)?;
+    let mut number = 1;
+    for turn in 0..MOST_TURNS {
+        match reader.next(alloc, source)? {
+            Taken::Line(text) => answer(alloc, heap, number, &text, sink)?,
+            Taken::TooLong => refuse(alloc, number, sink)?,
+            Taken::Part => continue,
+            Taken::End => return Ok(()),
+        }
+        number += 1;
+    }
+    // So many turns don't come; a session that took them would have used up its memory.
+    Err(Break::Halted(Halt::NoMemory))
+}
