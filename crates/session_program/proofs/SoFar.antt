@@ -1,5 +1,5 @@
 -- A session between two lines.
-use Rattle.std.proofs.Common.{◌≡◌, inl, inr, ℕ, ◌+◌, Bool, false, List, [], ◌∷◌, ◌++◌, length, map, Option, Some, Result, Ok, Err, refl, sym, ap, ◌∙◌, subst, arith, length-append}
+use Rattle.std.proofs.Common.{◌≡◌, inl, inr, ℕ, ◌+◌, Bool, false, List, [], ◌∷◌, ◌++◌, length, map, Option, None, Some, Ok, Err, refl, sym, ap, ◌∙◌, subst, arith, length-append}
 use Rattle.std.specs.Prelude.{IsTrue, IsFalse}
 use Rattle.disk_model.specs.declared.disk.Disk.{Ghosts}
 use Rattle.heap_core.specs.declared.heap.Heap.{Heap}
@@ -10,11 +10,15 @@ use Rattle.heap_program.specs.declared.play.Halt.TheVariants as halt
 use Rattle.heap_program.specs.Play.{IsRunning}
 use Rattle.heap_program.proofs.CoreSteps.{running_after}
 use Rattle.heap_program.proofs.Ready.{AreReady}
+use Rattle.line_reader.specs.Taking.{IsFirstLine, EndsTooLong, PassesPart}
+use Rattle.line_reader.specs.declared.reader.LineError.{LineError}
+use Rattle.line_reader.specs.declared.reader.LineError.TheVariants as reading
+use Rattle.session_program.specs.Ending.{line_break}
 use Rattle.session_program.specs.declared.ending.Break.TheVariants.{Halted, ReadFault}
 use Rattle.session_program.specs.Lines.{Answered}
 use Rattle.session_program.specs.Session.{HasAnswered, Answers, AreFirst, ServesLines, StopsThere}
 use Rattle.session_program.proofs.Answering.{named_sessions, texts_more, answered_none, answered_next, its, whole}
-use Rattle.session_program.proofs.Unread.{Unread, unread_all, unread_none}
+use Rattle.session_program.proofs.Unread.{Unread, unread_all, unread_line, unread_long, unread_part, unread_none}
 
 -- their texts
 abbrev pub texts_of : List Answered → List (Option (List ℕ))
@@ -77,6 +81,23 @@ module _ {D : Type 0} {g : Ghosts D} where
       unread = unread;
     }
 
+    -- what is unread behind the next line
+    behind_line : (text : List ℕ) → (IsTrue tells → IsFalse passing × IsFalse passing' × IsFirstLine text stream rest) → IsTrue tells → Unread left (texts_of so_far.answered ++ Some text ∷ []) passing' rest
+    behind_line text taken t = let u = taken t in unread_line left (texts_of so_far.answered) passing passing' stream rest (so_far.unread t) text u.0 u.1 u.2
+
+    -- and behind one that is too long
+    behind_long : (IsTrue tells → IsFalse passing' × EndsTooLong passing stream rest) → IsTrue tells → Unread left (texts_of so_far.answered ++ None ∷ []) passing' rest
+    behind_long taken t = let u = taken t in unread_long left (texts_of so_far.answered) passing passing' stream rest (so_far.unread t) u.0 u.1
+
+    pub line_next : (text : List ℕ) → (IsTrue tells → IsFalse passing × IsFalse passing' × IsFirstLine text stream rest) → Answers so_far.core number (Some text) new told now after (Ok tt) → SoFar tells left c new passing' rest (number + 1) told before after
+    line_next text taken answers = so_far_next (Some text) answers (behind_line text taken)
+
+    pub long_next : (IsTrue tells → IsFalse passing' × EndsTooLong passing stream rest) → Answers so_far.core number None new told now after (Ok tt) → SoFar tells left c new passing' rest (number + 1) told before after
+    long_next taken answers = so_far_next None answers (behind_long taken)
+
+    pub part_next : (IsTrue tells → IsTrue passing' × PassesPart stream rest) → SoFar tells left c heap passing' rest number told before now
+    part_next taken = so_far_part (λ t. let u = taken t in unread_part left (texts_of so_far.answered) passing passing' stream rest (so_far.unread t) u.0 u.1)
+
     first : IsTrue tells → AreFirst (texts_of so_far.answered) left
     first t = let u = so_far.unread t in (_, u.left_lines)
 
@@ -115,3 +136,14 @@ module _ {D : Type 0} {g : Ghosts D} where
           first = first;
           ended = inl (record { text = text; next = λ t. (_, (unread t).left_lines); answers = subst (λ (n : ℕ). Answers so_far.core n text new told now after (Err h)) count answers });
         }
+
+    pub line_halted : (text : List ℕ) (h : Halt) → (IsTrue tells → IsFalse passing × IsFalse passing' × IsFirstLine text stream rest) → Answers so_far.core number (Some text) new told now after (Err h) → ServesLines tells left c new told before after (Err (Halted h))
+    line_halted text h taken answers = lines_halted (Some text) h answers (behind_line text taken)
+
+    pub long_halted : (h : Halt) → (IsTrue tells → IsFalse passing' × EndsTooLong passing stream rest) → Answers so_far.core number None new told now after (Err h) → ServesLines tells left c new told before after (Err (Halted h))
+    long_halted h taken answers = lines_halted None h answers (behind_long taken)
+
+    -- no line was read
+    pub lines_stopped : (e : LineError) → ServesLines tells left c heap told before now (Err (line_break e))
+    lines_stopped reading.NoMemory = lines_nothing
+    lines_stopped reading.SourceFailed = lines_unread

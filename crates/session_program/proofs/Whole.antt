@@ -1,6 +1,5 @@
 -- A session from its first line to its end.
-use Rattle.std.proofs.Common.{◌≡◌, inl, inr, ⊎_elim, ℕ, Bool, List, Result, Ok, Err, sym, ap, ◌∙◌, subst}
-use Rattle.std.specs.Prelude.{IsTrue}
+use Rattle.std.proofs.Common.{inl, inr, ℕ, Bool, List, Result, Ok, Err, sym, ◌∙◌, subst}
 use Rattle.disk_model.specs.declared.disk.Disk.{Ghosts}
 use Rattle.heap_core.specs.declared.heap.Heap.{Heap}
 use Rattle.heap_core.specs.Refinement.{IsCore}

@@ -76,9 +76,11 @@ fn expect(rt: &impl Abort, served: &Outcome, status: Status, output: &str) {
     );
 }
 
-const INPUT: &str = "1 begin\n\n1 root 0\n1 jump\n1 put 0 0 7\n1 commit\n2 begin\n2 root 0\n2 len 0";
+const INPUT: &str =
+    "1 begin\n\n1 root 0\n1 jump\n1 put 0 0 7\n1 commit\n2 begin\n2 root 0\n2 len 0";
 
-const OUTPUT: &str = "1 begin -> begun 1\n1 root 0 -> done\nscript fault at line 4\n1 put 0 0 7 -> done\n1 seal -> sealed 1\nforce -> durable 1\n2 begin -> begun 2\n2 root 0 -> done\n2 len 0 -> len 4\n2 abort -> aborted\nforce -> durable 1\n";
+const OUTPUT: &str =
+    "1 begin -> begun 1\n1 root 0 -> done\nscript fault at line 4\n1 put 0 0 7 -> done\n1 seal -> sealed 1\nforce -> durable 1\n2 begin -> begun 2\n2 root 0 -> done\n2 len 0 -> len 4\n2 abort -> aborted\nforce -> durable 1\n";
 
 #[test]
 fn pieces_of_any_size_give_the_same_answers(rt: HostRuntime) -> Result<(), Fail> {

@@ -1,4 +1,5 @@
-use Rattle.std.proofs.Common.{◌≡◌, ℕ, ◌<◌, List, [], length, Option, Some, None, Ok, Err, refl, rules, sym, ◌∙◌, subst, arith}
+use Rattle.std.proofs.Common.{◌≡◌, ℕ, ◌<◌, List, [], length, Some, None, Ok, Err, refl, rules, sym, ◌∙◌, subst}
+use Rattle.std.proofs.lemmas.Bool.{eqb-true}
 use Rattle.heap_program.specs.declared.play.Halt.TheVariants as halt
 use Rattle.heap_program.specs.StatusOf.{write_halt}
 use Rattle.script_text.specs.Line.{read_text}
@@ -11,7 +12,7 @@ pub returns-then-is_empty-clause-core : goal.returns-then-is_empty-clause-core
 returns-then-is_empty-clause-core g c core is running =
     let k = g.K.Sink in
     let w = k.written c.args.sink.now in
-    let none : c.args.text.now ≡ [] = empty_text c.args.text.now (omega arith) in
+    let none : c.args.text.now ≡ [] = empty_text c.args.text.now (eqb-true _ _ (sym c.if-is_empty.ensures)) in
     let P : List ℕ → Type 0 = λ t. Answers core c.args.number (Some t) c.args.heap.now k.tells w w (Ok tt) in
     subst P (sym none) (line_empty core c.args.number (Some []) c.args.heap.now k.tells w w is refl refl)
 

@@ -1,7 +1,5 @@
 use Rattle.std.proofs.Common.{rules, ap, ◌∙◌, List, ℕ, ◌++◌}
 use Rattle.heap_program.proofs.Written.{wrote_front, wrote_nothing}
-use Rattle.session_program.proofs.OneLine.{line_part}
-use Rattle.session_program.proofs.SoFar.{lines_done}
 use Rattle.session_program.proofs.answer.refuse.Goals as goal
 
 pub returns-in_err-line-clause-wrote : goal.returns-in_err-line-clause-wrote
