@@ -47,8 +47,79 @@ loop-reader-preserved g c =
       disk = reads_ok g.D.Disk _ _ _ tt (reads_on g.D.Disk _ _ _ _ _ so_far.disk on.disk);
     }
 
+-- A record that owns words is let go of, whichever kind it is of.
+
 pub loop-reader-preserved-in_ok-take : goal.loop-reader-preserved-in_ok-take
 loop-reader-preserved-in_ok-take g c =
+    let log = part (g.D.Disk.bytes c.args.disk.now) log_offset c.args.of.log_bytes in
+    let reader = c.loop-reader.reader in
+    let so_far = c.loop-reader.invariant in
+    let on = c.in_ok-record.ensures in
+    let is : IsTrue g.D.Disk.tells → log ≡ part (g.D.Disk.bytes c.loop-reader.disk) (reader_place reader) (reader_room reader) = λ told. log_still log (g.D.Disk.bytes c.args.disk.now) (g.D.Disk.bytes c.loop-reader.disk) log_offset c.args.of.log_bytes (reader_place reader) (reader_room reader) refl (so_far.disk.contents told).bytes so_far.place so_far.same_room in
+    let lsn = rw c.in-Some.is at on.lsn in
+    let given = rw c.in-Some.is at (on.given log so_far.on.given is so_far.on.read) in
+    let count : length (so_far.on.given ++ c.in-Some.record ∷ []) ≡ reader_lsn c.next.new.self = omega (arith, length-append so_far.on.given (c.in-Some.record ∷ []), so_far.on.count, lsn) in
+    record {
+      place = on.place ∙ so_far.place;
+      same_room = on.same_room ∙ so_far.same_room;
+      on = record {
+        given = so_far.on.given ++ c.in-Some.record ∷ [];
+        read = given;
+        count = count;
+        replayed = λ stored none. c.in_ok-take.ensures.on c.args.of stored so_far.on.given (omega (arith, c.lsn.ensures, lsn, so_far.on.count)) (so_far.on.replayed stored none);
+      };
+      store = c.take.ensures.store ∙ so_far.store;
+      disk = reads_ok g.D.Disk _ _ _ tt (reads_on g.D.Disk _ _ _ _ _ so_far.disk on.disk);
+    }
+
+pub loop-reader-preserved-in_ok-take-2 : goal.loop-reader-preserved-in_ok-take-2
+loop-reader-preserved-in_ok-take-2 g c =
+    let log = part (g.D.Disk.bytes c.args.disk.now) log_offset c.args.of.log_bytes in
+    let reader = c.loop-reader.reader in
+    let so_far = c.loop-reader.invariant in
+    let on = c.in_ok-record.ensures in
+    let is : IsTrue g.D.Disk.tells → log ≡ part (g.D.Disk.bytes c.loop-reader.disk) (reader_place reader) (reader_room reader) = λ told. log_still log (g.D.Disk.bytes c.args.disk.now) (g.D.Disk.bytes c.loop-reader.disk) log_offset c.args.of.log_bytes (reader_place reader) (reader_room reader) refl (so_far.disk.contents told).bytes so_far.place so_far.same_room in
+    let lsn = rw c.in-Some.is at on.lsn in
+    let given = rw c.in-Some.is at (on.given log so_far.on.given is so_far.on.read) in
+    let count : length (so_far.on.given ++ c.in-Some.record ∷ []) ≡ reader_lsn c.next.new.self = omega (arith, length-append so_far.on.given (c.in-Some.record ∷ []), so_far.on.count, lsn) in
+    record {
+      place = on.place ∙ so_far.place;
+      same_room = on.same_room ∙ so_far.same_room;
+      on = record {
+        given = so_far.on.given ++ c.in-Some.record ∷ [];
+        read = given;
+        count = count;
+        replayed = λ stored none. c.in_ok-take.ensures.on c.args.of stored so_far.on.given (omega (arith, c.lsn.ensures, lsn, so_far.on.count)) (so_far.on.replayed stored none);
+      };
+      store = c.take.ensures.store ∙ so_far.store;
+      disk = reads_ok g.D.Disk _ _ _ tt (reads_on g.D.Disk _ _ _ _ _ so_far.disk on.disk);
+    }
+
+pub loop-reader-preserved-in_ok-take-3 : goal.loop-reader-preserved-in_ok-take-3
+loop-reader-preserved-in_ok-take-3 g c =
+    let log = part (g.D.Disk.bytes c.args.disk.now) log_offset c.args.of.log_bytes in
+    let reader = c.loop-reader.reader in
+    let so_far = c.loop-reader.invariant in
+    let on = c.in_ok-record.ensures in
+    let is : IsTrue g.D.Disk.tells → log ≡ part (g.D.Disk.bytes c.loop-reader.disk) (reader_place reader) (reader_room reader) = λ told. log_still log (g.D.Disk.bytes c.args.disk.now) (g.D.Disk.bytes c.loop-reader.disk) log_offset c.args.of.log_bytes (reader_place reader) (reader_room reader) refl (so_far.disk.contents told).bytes so_far.place so_far.same_room in
+    let lsn = rw c.in-Some.is at on.lsn in
+    let given = rw c.in-Some.is at (on.given log so_far.on.given is so_far.on.read) in
+    let count : length (so_far.on.given ++ c.in-Some.record ∷ []) ≡ reader_lsn c.next.new.self = omega (arith, length-append so_far.on.given (c.in-Some.record ∷ []), so_far.on.count, lsn) in
+    record {
+      place = on.place ∙ so_far.place;
+      same_room = on.same_room ∙ so_far.same_room;
+      on = record {
+        given = so_far.on.given ++ c.in-Some.record ∷ [];
+        read = given;
+        count = count;
+        replayed = λ stored none. c.in_ok-take.ensures.on c.args.of stored so_far.on.given (omega (arith, c.lsn.ensures, lsn, so_far.on.count)) (so_far.on.replayed stored none);
+      };
+      store = c.take.ensures.store ∙ so_far.store;
+      disk = reads_ok g.D.Disk _ _ _ tt (reads_on g.D.Disk _ _ _ _ _ so_far.disk on.disk);
+    }
+
+pub loop-reader-preserved-in_ok-take-4 : goal.loop-reader-preserved-in_ok-take-4
+loop-reader-preserved-in_ok-take-4 g c =
     let log = part (g.D.Disk.bytes c.args.disk.now) log_offset c.args.of.log_bytes in
     let reader = c.loop-reader.reader in
     let so_far = c.loop-reader.invariant in
