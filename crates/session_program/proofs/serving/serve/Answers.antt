@@ -1,5 +1,6 @@
 use Rattle.std.proofs.Common.{inr, Ok, Err, refl}
 use Rattle.heap_program.proofs.PlayOpen.{opened_core}
+use Rattle.heap_program.proofs.RefusalLaws.{fault_moments}
 use Rattle.session_program.proofs.serving.serve.Goals as goal
 
 pub returns-in-Ok-serve_all-clause-serves : goal.returns-in-Ok-serve_all-clause-serves
@@ -29,3 +30,7 @@ returns-in-Err-serve_all-clause-serves g c =
       status = c.break_status.ensures;
       serves = c.in-Err-serve_all.ensures.core some.0 some.2 some.1.running;
     })
+
+pub returns-in-Err-clause-keeps_fault : goal.returns-in-Err-clause-keeps_fault
+returns-in-Err-clause-keeps_fault g c tells only expected fault =
+    fault_moments g.D.Disk expected (g.D.Disk.bytes c.args.disk) c.args.disk c.in-Err.disk fault (c.in-Err.ensures.moments_not_heap tells only) (c.in-Err.ensures.moments_damaged tells only)
