@@ -18,8 +18,9 @@ const NO_BATCH: Verdict = Verdict::Batch(ABORTED as u64);
 
 /// A batch with its open gate, and the next gate.
 fn batch_of(alloc: Global, records: &[u8]) -> Result<Vec<u8>, AllocError> {
+    let size = u32::try_from(records.len()).unwrap_or(u32::MAX);
     let mut batch = vec![in alloc; 1u8]?;
-    batch.extend_from_slice(&(records.len() as u32).to_le_bytes())?;
+    batch.extend_from_slice(&size.to_le_bytes())?;
     batch.extend_from_slice(records)?;
     batch.push(0)?;
     Ok(batch)
