@@ -13,13 +13,6 @@
 
 enum { ACCOUNTS = 10, FIRST_BALANCE = 100, TELLERS = 8 };
 
-/* Leaves the function with what a call gave, where it was not done. */
-#define TRY(call)                            \
-    do {                                     \
-        sh_result done = (call);             \
-        if (done != SH_OK) return done;      \
-    } while (0)
-
 typedef struct {
     int step;
     int left;
@@ -33,15 +26,15 @@ static sh_result make_table(sh_transaction *t, void *context) {
     sh_object root, table, account;
     sh_value found;
     (void)context;
-    TRY(sh_root(t, &root));
-    TRY(sh_get(t, root, 0, &found));
+    SH_TRY(sh_root(t, &root));
+    SH_TRY(sh_get(t, root, 0, &found));
     if (found.kind != SH_NULL) return SH_OK;
-    TRY(sh_new(t, ACCOUNTS, &table));
+    SH_TRY(sh_new(t, ACCOUNTS, &table));
     for (unsigned i = 0; i < ACCOUNTS; i++) {
-        TRY(sh_new(t, 1, &account));
-        TRY(sh_put(t, account, 0, FIRST_BALANCE));
-        TRY(sh_link(t, table, i, account));
-        TRY(sh_drop(t, account));
+        SH_TRY(sh_new(t, 1, &account));
+        SH_TRY(sh_put(t, account, 0, FIRST_BALANCE));
+        SH_TRY(sh_link(t, table, i, account));
+        SH_TRY(sh_drop(t, account));
     }
     return sh_link(t, root, 0, table);
 }
@@ -49,8 +42,8 @@ static sh_result make_table(sh_transaction *t, void *context) {
 static sh_result find_table(sh_transaction *t, sh_object *table) {
     sh_object root;
     sh_value found;
-    TRY(sh_root(t, &root));
-    TRY(sh_get(t, root, 0, &found));
+    SH_TRY(sh_root(t, &root));
+    SH_TRY(sh_get(t, root, 0, &found));
     *table = found.object;
     return SH_OK;
 }
@@ -59,12 +52,12 @@ static sh_result add_up(sh_transaction *t, void *context) {
     sh_object table;
     sh_value account, balance;
     uint64_t *sum = context;
-    TRY(find_table(t, &table));
+    SH_TRY(find_table(t, &table));
     *sum = 0;
     for (unsigned i = 0; i < ACCOUNTS; i++) {
-        TRY(sh_get(t, table, i, &account));
-        TRY(sh_get(t, account.object, 0, &balance));
-        TRY(sh_drop(t, account.object));
+        SH_TRY(sh_get(t, table, i, &account));
+        SH_TRY(sh_get(t, account.object, 0, &balance));
+        SH_TRY(sh_drop(t, account.object));
         *sum += balance.number;
     }
     return SH_OK;
@@ -79,8 +72,8 @@ static void draw_transfer(teller *who) {
 /* Adds the amount to an account, or takes it away. What it has no money for is not taken. */
 static sh_result change(teller *who, unsigned number, bool take) {
     sh_value account, balance;
-    TRY(sh_get(who->transaction, who->table, number, &account));
-    TRY(sh_get(who->transaction, account.object, 0, &balance));
+    SH_TRY(sh_get(who->transaction, who->table, number, &account));
+    SH_TRY(sh_get(who->transaction, account.object, 0, &balance));
     if (take && balance.number < who->amount) who->amount = balance.number;
     return sh_put(who->transaction, account.object, 0, take ? balance.number - who->amount : balance.number + who->amount);
 }
@@ -89,7 +82,7 @@ static sh_result take_step(sh_heap *heap, teller *who) {
     switch (who->step) {
     case 0:
         draw_transfer(who);
-        TRY(sh_begin(heap, &who->transaction));
+        SH_TRY(sh_begin(heap, &who->transaction));
         who->step = 1;
         return SH_OK;
     case 1:
@@ -123,7 +116,7 @@ static sh_result work(sh_heap *heap, int transfers, int *again) {
     for (int left = TELLERS; left > 0;) {
         teller *who = &tellers[rand() % TELLERS];
         if (who->left == 0) continue;
-        TRY(take_turn(heap, who, again));
+        SH_TRY(take_turn(heap, who, again));
         if (who->left == 0) left--;
     }
     return SH_OK;

@@ -37,6 +37,13 @@ typedef enum {
     SH_PROTOCOL /* it answered what it should not */
 } sh_result;
 
+/* Leaves a function that gives a result with what a call gave, where it was not done. */
+#define SH_TRY(call)                         \
+    do {                                     \
+        sh_result done = (call);             \
+        if (done != SH_OK) return done;      \
+    } while (0)
+
 typedef struct {
     sh_result result;
     uint64_t numbers[3];

@@ -14,13 +14,6 @@
 
 enum { ROOT_FIRST = 0, NUMBER = 0, NEXT = 1 };
 
-/* Leaves the function with what a call gave, where it was not done. */
-#define TRY(call)                            \
-    do {                                     \
-        sh_result done = (call);             \
-        if (done != SH_OK) return done;      \
-    } while (0)
-
 /* The field that a list begins with, or goes on with. */
 typedef struct {
     sh_object object;
@@ -34,7 +27,7 @@ static sh_result first_place(sh_transaction *t, place *at) {
 
 /* Goes on to the item that was found there. */
 static sh_result next_place(sh_transaction *t, place *at, sh_object item) {
-    TRY(sh_drop(t, at->object));
+    SH_TRY(sh_drop(t, at->object));
     at->object = item;
     at->field = NEXT;
     return SH_OK;
@@ -48,41 +41,41 @@ static sh_result print_items(sh_transaction *t, void *context) {
     place at;
     sh_value item, number;
     (void)context;
-    TRY(first_place(t, &at));
+    SH_TRY(first_place(t, &at));
     for (;;) {
-        TRY(sh_get(t, at.object, at.field, &item));
+        SH_TRY(sh_get(t, at.object, at.field, &item));
         if (item.kind != SH_OBJECT) return SH_OK;
-        TRY(sh_get(t, item.object, NUMBER, &number));
+        SH_TRY(sh_get(t, item.object, NUMBER, &number));
         printf("%d\n", (int)number.number);
-        TRY(next_place(t, &at, item.object));
+        SH_TRY(next_place(t, &at, item.object));
     }
 }
 
 static sh_result add_item(sh_transaction *t, void *context) {
     place first, rest;
     sh_value old, item = {.kind = SH_OBJECT};
-    TRY(first_place(t, &first));
-    TRY(sh_get(t, first.object, first.field, &old));
-    TRY(sh_new(t, 2, &item.object));
-    TRY(sh_put(t, item.object, NUMBER, *(uint64_t *)context));
+    SH_TRY(first_place(t, &first));
+    SH_TRY(sh_get(t, first.object, first.field, &old));
+    SH_TRY(sh_new(t, 2, &item.object));
+    SH_TRY(sh_put(t, item.object, NUMBER, *(uint64_t *)context));
     rest.object = item.object;
     rest.field = NEXT;
-    TRY(set_place(t, rest, old));
+    SH_TRY(set_place(t, rest, old));
     return set_place(t, first, item);
 }
 
 static sh_result take_off(sh_transaction *t, void *context) {
     place at;
     sh_value item, number, rest;
-    TRY(first_place(t, &at));
+    SH_TRY(first_place(t, &at));
     for (;;) {
-        TRY(sh_get(t, at.object, at.field, &item));
+        SH_TRY(sh_get(t, at.object, at.field, &item));
         if (item.kind != SH_OBJECT) return SH_OK;
-        TRY(sh_get(t, item.object, NUMBER, &number));
+        SH_TRY(sh_get(t, item.object, NUMBER, &number));
         if (number.number == *(uint64_t *)context) break;
-        TRY(next_place(t, &at, item.object));
+        SH_TRY(next_place(t, &at, item.object));
     }
-    TRY(sh_get(t, item.object, NEXT, &rest));
+    SH_TRY(sh_get(t, item.object, NEXT, &rest));
     return set_place(t, at, rest);
 }
 
