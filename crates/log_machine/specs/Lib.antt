@@ -1,4 +1,5 @@
 pub mod Apart
+pub mod Collecting
 pub mod Effect
 pub mod Entries
 pub mod Kept
