@@ -3,8 +3,8 @@
 
     docs/check_trusted.py [--list CLAUSE]
 
-A clause of `run` rests on the definitions that it cites, on those that these cite, and so on; and on what the traits promise that
-`run` is generic in, as the disk's. Their numbers stand in a table of docs/GUARANTEE.md, with a digest of their texts and of the
+A clause of `run`, or of `play_then_graph`, rests on the definitions that it cites, on those that these cite, and so on; and on what the traits
+promise that the call is generic in, as the disk's. Their numbers stand in a table of docs/GUARANTEE.md, with a digest of their texts and of the
 clauses', so that what has to be believed changes only where the page does. Each definition of specs/ has to be one that some contract
 rests on, free of proofs, and no contract may rest on one of proofs/. It prints what is wrong, and nothing where all is well. With
 --list it prints the definitions behind one clause, or behind all with --list run, by file.
@@ -18,7 +18,9 @@ import re
 import sys
 
 TOP = os.path.dirname(os.path.dirname(os.path.realpath(__file__)))
-PAGE, PROGRAM = "docs/GUARANTEE.md", "crates/heap_program/src/dispatch.rt"
+PAGE = "docs/GUARANTEE.md"
+# the calls whose clauses are the theorems: where each stands, and its clauses with a row of their own
+RUN, BOX = ("crates/heap_program/src/dispatch.rt", "run"), ("crates/black_box/src/lib.rt", "play_then_graph")
 TOKEN = re.compile(r"[^\s(){}\[\],;]+")
 USE = re.compile(r"^(?:pub )?use ([\w.]+)\.\{(.*)\}$")
 ALIAS = re.compile(r"^(?:pub )?use ([\w.]+) as (\w+)$")
@@ -181,10 +183,10 @@ def cited_in(text, names, aliases):
     return found
 
 
-def traits(text):
+def traits(text, call):
     """The traits that the call is generic in, by its bounds: their texts, and what they cite."""
     texts, found = [], set()
-    for name in sorted(set(re.findall(r"\b[A-Z]\w*: (\w+)", re.search(r"fn run<(.*?)>\(", text, re.S)[1]))):
+    for name in sorted(set(re.findall(r"\b[A-Z]\w*: (\w+)", re.search(rf"fn {call}<(.*?)>\(", text, re.S)[1]))):
         for path in glob.glob(f"{TOP}/crates/*/src/**/*.rt", recursive=True):
             whole = text_of(path)
             it = re.search(rf"^pub trait {name}\b.*?^\}}", whole, re.M | re.S)
@@ -194,15 +196,15 @@ def traits(text):
     return texts, found
 
 
-def clauses():
-    """Each clause of `run`, and each premise: its text, and what it cites, with what the traits promise."""
-    text = text_of(f"{TOP}/{PROGRAM}")
+def clauses(path, call):
+    """Each clause of a call, and each premise: its text, and what it cites, with what the traits promise."""
+    text = text_of(f"{TOP}/{path}")
     names, aliases = imports_of(text)
-    contract = re.search(r"pub fn run<.*?^\{", text, re.M | re.S)[0]
+    contract = re.search(rf"pub fn {call}<.*?^\{{", text, re.M | re.S)[0]
     found = re.findall(r"(ensures|requires)\*?(?: (\w+))? (\{.*?\})(?=\s*(?://[^\n]*\s*)*(?:ensures|requires|\{$))", contract, re.S)
     if len(found) != len(re.findall(r"\b(?:ensures|requires)\b", contract)):
-        sys.exit(f"{PROGRAM}: a clause can't be read")
-    texts, promised = traits(text)
+        sys.exit(f"{path}: a clause can't be read")
+    texts, promised = traits(text, call)
     return {name or kind: ([body, *texts], cited_in(body, names, aliases) | promised) for kind, name, body in found}
 
 
@@ -273,8 +275,9 @@ def show(definitions):
 
 
 def main():
-    found = clauses()
-    behind = {name: (found[name][0], closure(found[name][1])) for name in ("crash_safe", "headline")}
+    found = clauses(*RUN)
+    box = clauses(*BOX)
+    behind = {name: (of[name][0], closure(of[name][1])) for of, name in ((box, "one_history"), (found, "crash_safe"), (found, "headline"))}
     behind["run"] = [it for texts, _ in found.values() for it in texts], closure(set().union(*(cited for _, cited in found.values())))
     if sys.argv[1:2] == ["--list"]:
         name = sys.argv[2]

@@ -1,0 +1,43 @@
+-- The events of a run's history, and those that end a run.
+use Rattle.std.proofs.Common.{◌≡◌, ℕ, List, [], ◌∷◌, ◌++◌, map, Option, None, Some, refl, sym, ap, ◌∙◌}
+use Rattle.std.specs.List.{AllByRecursion, flat_map}
+use Rattle.std.proofs.lemmas.List.{append-nil, append-assoc}
+use Rattle.std.proofs.lemmas.List.{map-append}
+use Rattle.log_machine.proofs.ListLaws.{AllByRecursion-append}
+use Rattle.graph_model.specs.declared.event.Event.{Event}
+use Rattle.graph_model.specs.declared.reply.Entry.{Entry}
+use Rattle.graph_model.specs.declared.reply.Reply.{Reply}
+use Rattle.graph_model.specs.History.{account, sessions}
+use Rattle.graph_model.specs.Transaction.{Transaction}
+use Rattle.log_records.specs.declared.Record.{Record}
+use Rattle.heap_model.specs.Core.{Core, IsRun, IsStep}
+use Rattle.heap_model.specs.CoreRuns.{after_events}
+use Rattle.heap_model.specs.Ending.{abort_of, force_of, ending, aborting, forcing}
+use Rattle.heap_model.proofs.Run.Calls.{step_history}
+use Rattle.black_box.specs.Told.{EndsScript, events_of}
+
+-- the history of a run has its events behind those that it had
+pub run_events : (c d : Core) (made : List Event) → IsRun c made d → events_of d.history ≡ events_of c.history ++ made
+run_events c d [] run = ap (λ (x : Core). events_of x.history) run ∙ sym (append-nil (events_of c.history))
+run_events c d (event ∷ made) run =
+    let reply = run.0 in
+    let mid = run.1 in
+    run_events mid d made run.3
+    ∙ ap (λ (l : List Event). l ++ made) (ap events_of (step_history c mid event reply run.2) ∙ map-append (λ (entry : Entry). entry.event) c.history (record { event = event; reply = reply } ∷ []))
+    ∙ append-assoc (events_of c.history) (event ∷ []) made
+
+abort_ends : (s : ℕ) (t : Option Transaction) → AllByRecursion EndsScript (abort_of s t)
+abort_ends s None = tt
+abort_ends s (Some t) = (tt, tt)
+
+aborts_end : (active : ℕ → Option Transaction) (ss : List ℕ) → AllByRecursion EndsScript (flat_map (λ s. abort_of s (active s)) ss)
+aborts_end active [] = tt
+aborts_end active (s ∷ ss) = AllByRecursion-append EndsScript (abort_of s (active s)) (flat_map (λ s. abort_of s (active s)) ss) (abort_ends s (active s)) (aborts_end active ss)
+
+force_ends : (pending : List Record) → AllByRecursion EndsScript (force_of pending)
+force_ends [] = tt
+force_ends (r ∷ rs) = (tt, tt)
+
+-- the events that end a run end a script
+pub ending_ends : (c : Core) → AllByRecursion EndsScript (ending c)
+ending_ends c = AllByRecursion-append EndsScript (aborting c) (forcing (after_events c (aborting c))) (aborts_end ((account c.history).active) sessions) (force_ends (after_events c (aborting c)).pending)
