@@ -1,1 +1,2 @@
 mod Renamed
+mod Stored

@@ -6,8 +6,9 @@ ghost use Rattle.graph_model.specs.Graph.{Graph};
 ghost use Rattle.graph_words.specs.Places.{Places};
 ghost use Rattle.heap_model.specs.Core.{Core};
 ghost use Rattle.heap_model.specs.CoreCrash.{StandsForFirst};
-ghost use Rattle.heap_model.specs.Image.{IsShaped, IsShapedLog, StandsFor};
+ghost use Rattle.heap_model.specs.Image.{IsLegal, IsShaped, IsShapedLog, StandsFor};
 ghost use Rattle.heap_model.specs.Opening.{IsFound, IsLeftByOpening};
+ghost use Rattle.heap_program.specs.Stored.{IsStored};
 ghost use Rattle.heap_model.specs.Theorems.{SayingTheorem, OneMeaningTheorem};
 ghost use Rattle.heap_recovery.specs.Faults.{IsFaultAt, IsNoHeap};
 ghost use Rattle.heap_recovery.specs.declared.at.At.{At};
@@ -68,6 +69,16 @@ pub fn redo_makes_pages_present()
 /// Redo of a log on stored pages, repeated, changes nothing.
 pub fn redo_repeats_without_effect()
     ensures { (pages : ℕ) (records : List Record) (stored : Pages) → EachHoldsPrefix pages records stored → redone (redone stored records) records ≡ redone stored records }
+{}
+
+/// An image that is no heap is not shaped.
+pub fn no_heap_is_not_shaped()
+    ensures { (s : Super) (batches : List (List Record)) (stored : Pages) (image : List ℕ) → IsNoHeap image → IsShaped s batches stored image → ⊥ }
+{}
+
+/// Each legal image is one of which the theorems on runs speak: a graph stands in it, each object under the name of its birth.
+pub fn legal_image_is_stored()
+    ensures { (s : Super) (batches : List (List Record)) (stored : Pages) (image : List ℕ) → IsLegal s batches stored image → IsStored image }
 {}
 
 /// In a legal log that is redone on its pages a graph is found, with the canon of each that the log shows.
