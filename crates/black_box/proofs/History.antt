@@ -1,30 +1,33 @@
 -- The events of a run's history, and those that end a run.
-use Rattle.std.proofs.Common.{◌≡◌, ℕ, List, [], ◌∷◌, ◌++◌, map, Option, None, Some, refl, sym, ap, ◌∙◌}
+use Rattle.std.proofs.Common.{◌≡◌, ℕ, List, [], ◌∷◌, ◌++◌, Option, None, Some, sym, ap, ◌∙◌}
 use Rattle.std.specs.List.{AllByRecursion, flat_map}
-use Rattle.std.proofs.lemmas.List.{append-nil, append-assoc}
+use Rattle.std.proofs.lemmas.List.{append-nil, append_assoc}
 use Rattle.std.proofs.lemmas.List.{map-append}
 use Rattle.log_machine.proofs.ListLaws.{AllByRecursion-append}
 use Rattle.graph_model.specs.declared.event.Event.{Event}
 use Rattle.graph_model.specs.declared.reply.Entry.{Entry}
-use Rattle.graph_model.specs.declared.reply.Reply.{Reply}
 use Rattle.graph_model.specs.History.{account, sessions}
 use Rattle.graph_model.specs.Transaction.{Transaction}
 use Rattle.log_records.specs.declared.Record.{Record}
-use Rattle.heap_model.specs.Core.{Core, IsRun, IsStep}
+use Rattle.heap_model.specs.Core.{Core, IsRun}
 use Rattle.heap_model.specs.CoreRuns.{after_events}
 use Rattle.heap_model.specs.Ending.{abort_of, force_of, ending, aborting, forcing}
 use Rattle.heap_model.proofs.Run.Calls.{step_history}
 use Rattle.black_box.specs.Told.{EndsScript, events_of}
 
 -- the history of a run has its events behind those that it had
-pub run_events : (c d : Core) (made : List Event) → IsRun c made d → events_of d.history ≡ events_of c.history ++ made
-run_events c d [] run = ap (λ (x : Core). events_of x.history) run ∙ sym (append-nil (events_of c.history))
-run_events c d (event ∷ made) run =
+events_more : (c d : Core) (made : List Event) → IsRun c made d → events_of d.history ≡ events_of c.history ++ made
+events_more c d [] run = ap (λ (x : Core). events_of x.history) run ∙ sym (append-nil (events_of c.history))
+events_more c d (event ∷ made) run =
     let reply = run.0 in
     let mid = run.1 in
-    run_events mid d made run.3
+    events_more mid d made run.3
     ∙ ap (λ (l : List Event). l ++ made) (ap events_of (step_history c mid event reply run.2) ∙ map-append (λ (entry : Entry). entry.event) c.history (record { event = event; reply = reply } ∷ []))
-    ∙ append-assoc (events_of c.history) (event ∷ []) made
+    ∙ append_assoc (events_of c.history) (event ∷ []) made
+
+-- and it has them alone where it had none
+pub run_events : (c d : Core) (made : List Event) → c.history ≡ [] → IsRun c made d → events_of d.history ≡ made
+run_events c d made none run = events_more c d made run ∙ ap (λ (h : List Entry). events_of h ++ made) none
 
 abort_ends : (s : ℕ) (t : Option Transaction) → AllByRecursion EndsScript (abort_of s t)
 abort_ends s None = tt

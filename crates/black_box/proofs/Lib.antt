@@ -1,2 +1,3 @@
 mod History
 mod Runs
+mod TurnLaws

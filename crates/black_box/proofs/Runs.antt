@@ -1,26 +1,25 @@
 -- What a play leaves, restarted and printed.
-use Rattle.std.proofs.Common.{◌≡◌, ◌≢◌, ◌⊎◌, inl, inr, ⊎_elim, ℕ, ◌≤◌, Bool, true, IsTrue, List, [], ◌++◌, length, take, Option, None, Some, Ok, refl, sym, ap, ◌∙◌, subst}
+use Rattle.std.proofs.Common.{◌≡◌, ◌≢◌, ◌⊎◌, inl, inr, ℕ, Bool, true, List, [], ◌++◌, length, take, None, Some, Ok, refl, sym, ap, ◌∙◌, subst}
+use Rattle.std.specs.Prelude.{IsTrue}
+use Rattle.std.specs.Option.{option_to_list}
 use Rattle.std.proofs.Math.Seq.{take-append_seam}
 use Rattle.disk_model.specs.declared.disk.Disk.{Ghosts}
+use Rattle.disk_model.specs.Disk.{Only}
 use Rattle.graph_model.specs.declared.event.Event.{Event}
 use Rattle.graph_model.specs.declared.reply.Reply.{Reply}
 use Rattle.graph_model.specs.Canon.{canon}
 use Rattle.graph_model.specs.Graph.{Graph, new_graph}
 use Rattle.graph_model.specs.History.{sealed, commits, account}
-use Rattle.std.specs.Option.{option_to_list}
-use Rattle.graph_model.specs.Text.{canon_text}
-use Rattle.graph_model.specs.Transaction.{serial, serial_replies}
-use Rattle.commit_order.specs.Heard.{replies_of_commits}
+use Rattle.graph_model.specs.Transaction.{Transaction, serial, serial_replies}
 use Rattle.graph_words.specs.Places.{Places}
 use Rattle.image_plan.specs.declared.superblock.Super.{Super}
 use Rattle.log_records.specs.declared.Record.{Record}
 use Rattle.page_redo.specs.Pages.{Pages}
 use Rattle.heap_model.specs.Core.{Core, IsRun}
-use Rattle.heap_model.specs.CoreCrash.{StandsForFirst, IsCommitPrefix}
 use Rattle.heap_model.specs.CoreRuns.{after_events}
-use Rattle.heap_model.specs.Image.{IsShaped, StandsFor}
+use Rattle.heap_model.specs.Image.{IsShaped}
 use Rattle.heap_model.specs.Opening.{IsFound}
-use Rattle.heap_model.specs.Ending.{ending, all_events}
+use Rattle.heap_model.specs.Ending.{ending}
 use Rattle.heap_model.proofs.Opening.Opened.{saying_law}
 use Rattle.heap_model.proofs.Run.Calls.{same_run}
 use Rattle.heap_model.proofs.Step.Calls.{whole_run, run_step}
@@ -30,87 +29,104 @@ use Rattle.script_text.specs.Script.{script}
 use Rattle.heap_program.specs.declared.status.Status.{Status}
 use Rattle.heap_program.specs.declared.status.Status.TheVariants as status
 use Rattle.heap_program.specs.Commands.{PrintsGraph}
-use Rattle.heap_program.specs.Headline.{Runs, MakesEvents, IsUnmade, PlaysScript, PlaysOnNew, made_super, made_core, stop_after, end_text, graph_text}
+use Rattle.heap_program.specs.Headline.{Runs, IsUnmade, PlaysScript, made_super, made_core}
 use Rattle.heap_program.specs.Play.{MadeAll, IsCutBy, lines_text, WroteFront}
 use Rattle.heap_program.specs.Playable.{IsReadFrom}
-use Rattle.black_box.specs.Told.{AreOfScript, TellsOneHistory, events_of, text_of}
+use Rattle.heap_program.specs.Stored.{IsStored, stored_core, stored_calls}
+use Rattle.black_box.specs.Stores.{Stores}
+use Rattle.black_box.specs.Told.{TellsRun, text_of}
 use Rattle.black_box.proofs.History.{run_events, ending_ends}
 
 -- the events that were made are a run
 made_run : (c d : Core) (made : List Event) → (MadeAll c made d ⊎ ((reply : Reply) × IsCutBy reply c made d)) → IsRun c made d
 made_run c d made (inl all) = subst (λ x. IsRun c made x) (sym all) (whole_run c made)
 made_run c d made (inr cut) =
-    let reply = cut.0 in
     let it = cut.1 in
     subst (λ (l : List Event). IsRun c l d) (sym it.parts)
-    (run_step c (after_events c it.before) d it.before it.event reply (whole_run c it.before) (inr (it.cut, it.reached)))
+    (run_step c (after_events c it.before) d it.before it.event cut.0 (whole_run c it.before) (inr (it.cut, it.reached)))
 
--- a run that was not made isn't done
+-- a heap that was not made leaves a run that isn't done
 unmade_early : {D : Type 0} (g : Ghosts D) (s : Super) (old new : D) (result : Status) → IsUnmade g s old new result → result ≢ status.Done
-unmade_early g s old new status.Done unmade = absurd unmade
-unmade_early g s old new other unmade = cc
+unmade_early g s old new result unmade done = subst (λ (r : Status). IsUnmade g s old new r) done unmade
 
 -- the sealed ones are the first of the commits
 sealed_first : (c : Core) → take (length (sealed c.history)) (commits c.history) ≡ sealed c.history
 sealed_first c = take-append_seam (sealed c.history) (option_to_list (account c.history).in_doubt)
 
--- what a legal image says is printed of it
-record Printed (g : Graph) (text text' : List ℕ) : Type 0 where
-  whole : text' ≡ text ++ text_of g
-
 module _ {D : Type 0} (g : Ghosts D) where
-  -- the graph that is printed is the one for which the image stands
-  prints_graph : (h : Graph) (k : ℕ) (again last : D) (second : Status) (text text' : List ℕ) → StandsFor h k (g.bytes again)
-      → ((s : Super) (batches : List (List Record)) (stored : Pages) (shaped : IsShaped s batches stored (g.bytes again)) (born : Bool) (places : Places) (found : Graph) → IsFound s batches stored shaped.log born places found
-          → PrintsGraph g s batches stored found again last second true text text')
-      → second ≡ status.Done → text' ≡ text ++ text_of h
-  prints_graph h k again last second text text' stands prints done =
-      let legal = stands.says.legal in
-      let found = saying_law stands.super stands.batches stands.stored legal stands.says.seen stands.says.shows in
-      let shaped : IsShaped stands.super stands.batches stands.stored (g.bytes again) = record { log = legal.shaped; held = stands.held } in
-      let printed = prints stands.super stands.batches stands.stored shaped true found.0 found.1 found.2 in
-      (printed.written tt).whole done ∙ ap (λ (c : _). text ++ canon_text c) (found.3 ∙ stands.says.graph)
+  -- The graph of a disk that is read, whatever is found in it.
+  abbrev pub PrintsEach : D → D → Status → Bool → List ℕ → List ℕ → Type 0
+  PrintsEach old new result told text text' =
+      (s : Super) (batches : List (List Record)) (stored : Pages) → (shaped : IsShaped s batches stored (g.bytes old)) → (born : Bool) (places : Places) (graph : Graph) → IsFound s batches stored shaped.log born places graph
+      → PrintsGraph g s batches stored graph old new result told text text'
 
-  -- What a play tells on a new heap, and what is printed of any image that it may leave.
-  tells_on_new : (pages : ℕ) (told : Bool) (left : List ℕ) (old new again last : D) (first second : Status) (before after text text' : List ℕ) → IsTrue told
-      → PlaysOnNew g pages None (IsReadFrom told left) old new first true before after → g.may_leave new (g.bytes again)
-      → ((s : Super) (batches : List (List Record)) (stored : Pages) (shaped : IsShaped s batches stored (g.bytes again)) (born : Bool) (places : Places) (found : Graph) → IsFound s batches stored shaped.log born places found
-          → PrintsGraph g s batches stored found again last second true text text')
-      → second ≡ status.Done → (read : List Line) × (script left ≡ Ok read) × TellsOneHistory read before after text text'
-  tells_on_new pages told left old new again last first second before after text text' tells plays leaves prints done =
-      let c = made_core pages (g.bytes plays.made) in
-      let on = plays.plays in
-      let played = on.played in
+  -- the graph that is printed is the one that is stored
+  pub prints_stored : (graph : Graph) (old new : D) (result : Status) (told : Bool) (text text' : List ℕ) → IsTrue told → Stores g graph old → PrintsEach old new result told text text' → result ≡ status.Done → text' ≡ text ++ text_of graph
+  prints_stored graph old new result told text text' sink stores prints done =
+      let it = stores.stored in
+      let shaped : IsShaped it.super it.batches it.pages (g.bytes old) = record { log = it.legal.log.shaped; held = it.legal.held } in
+      ((prints it.super it.batches it.pages shaped true it.places it.graph it.found).written sink).whole done ∙ ap (λ (x : Graph). text ++ text_of x) stores.is
+
+  -- A play, and any image that a crash leaves behind it.
+  tells_script : (begins : Graph) (calls : ℕ) (c : Core) (told : Bool) (left : List ℕ) (old new again : D) (result : Status) (hears : Bool) (before after : List ℕ) → IsTrue told → IsTrue hears → c.g0 ≡ begins → c.history ≡ []
+      → PlaysScript g None (IsReadFrom told left) calls c old new result hears before after → g.may_leave new (g.bytes again) → Only (g.bytes again) (g.may_leave again)
+      → (read : List Line) × (script left ≡ Ok read) × (kept : Graph) × Stores g kept again × TellsRun begins read before after kept
+  tells_script begins calls c told left old new again result hears before after tells sink g0 fresh plays leaves only =
+      let played = plays.played in
       let d = played.run.core in
       let run = made_run c d played.run.made played.run.last in
-      let begins : d.g0 ≡ new_graph = sym (same_run c d played.run.made run).g0 in
+      let same : d.g0 ≡ begins = (same_run c d played.run.made run).g0 ∙ g0 in
       let kept = played.disk.kept (g.bytes again) leaves in
-      let k = kept.0 in
-      let stands = kept.1 in
-      let written = played.prints.written tt in
-      (on.lines, ap script (sym (on.script.own tells)) ∙ on.script.script, record {
-        history = d.history;
-        made = record {
-          ending = ending (after_events c (events on.lines));
-          rest = played.run.behind;
-          all = played.run.parts ∙ ap (λ (l : List Event). l ++ played.run.behind) (sym (run_events c d played.run.made run));
-          ends = ending_ends (after_events c (events on.lines));
-        };
-        lines = written.lines;
-        front = subst (λ (x : Graph). WroteFront before (lines_text d.history ++ text_of (serial x (sealed d.history))) after) begins
-            (subst (λ (ts : List _). WroteFront before (lines_text d.history ++ text_of (serial d.g0 ts)) after) (ap (λ n. take n (commits d.history)) (played.prints.all refl) ∙ sealed_first d) written.front);
-        replies = played.replies ∙ ap (λ (x : Graph). serial_replies x (commits d.history)) begins;
-        count = k;
-        least = stands.kept;
-        most = stands.some;
-        text = prints_graph (serial d.g0 (take k (commits d.history))) (d.before + k) again last second text text' stands.stands prints done ∙ ap (λ (x : Graph). text ++ text_of (serial x (take k (commits d.history)))) begins;
-      })
+      let first = kept.1 in
+      let stands = first.stands in
+      let legal = stands.says.legal in
+      let found = saying_law stands.super stands.batches stands.stored legal stands.says.seen stands.says.shows in
+      let written = played.prints.written sink in
+      let Front : Graph → List Transaction → Type 0 = λ x ts. WroteFront before (lines_text d.history ++ text_of (serial x ts)) after in
+      let last = ap (λ n. take n (commits d.history)) (played.prints.all refl) ∙ sealed_first d in (
+        plays.lines,
+        ap script (sym (plays.script.own tells)) ∙ plays.script.script,
+        found.1,
+        record {
+          stored = record { super = stands.super; batches = stands.batches; pages = stands.stored; legal = record { log = legal; held = stands.held }; places = found.0; graph = found.1; found = found.2 };
+          is = refl;
+          only = only;
+        },
+        record {
+          history = d.history;
+          made = record {
+            ending = ending (after_events c (events plays.lines));
+            rest = played.run.behind;
+            all = played.run.parts ∙ ap (λ (l : List Event). l ++ played.run.behind) (sym (run_events c d played.run.made fresh run));
+            ends = ending_ends (after_events c (events plays.lines));
+          };
+          lines = written.lines;
+          front = subst (λ x. Front x (sealed d.history)) same (subst (Front d.g0) last written.front);
+          replies = played.replies ∙ ap (λ (x : Graph). serial_replies x (commits d.history)) same;
+          count = kept.0;
+          least = first.kept;
+          most = first.some;
+          graph = found.3 ∙ stands.says.graph ∙ ap (λ (x : Graph). canon (serial x (take kept.0 (commits d.history)))) same;
+        },
+      )
 
-  -- of both runs
-  pub both_tell : (pages : ℕ) (told : Bool) (left : List ℕ) (old new again last : D) (first second : Status) (before after text text' : List ℕ) → IsTrue told
-      → Runs g (Some pages) None (IsReadFrom told left) old new first true before after → g.may_leave new (g.bytes again)
-      → ((s : Super) (batches : List (List Record)) (stored : Pages) (shaped : IsShaped s batches stored (g.bytes again)) (born : Bool) (places : Places) (found : Graph) → IsFound s batches stored shaped.log born places found
-          → PrintsGraph g s batches stored found again last second true text text')
-      → second ≡ status.Done → ((first ≢ status.Done) × (after ≡ before)) ⊎ ((read : List Line) × (script left ≡ Ok read) × TellsOneHistory read before after text text')
-  both_tell pages told left old new again last first second before after text text' tells (inl unmade) leaves prints done = inl (unmade_early g (made_super pages) old new first unmade.reason, unmade.nothing tt)
-  both_tell pages told left old new again last first second before after text text' tells (inr plays) leaves prints done = inr (tells_on_new pages told left old new again last first second before after text text' tells plays leaves prints done)
+  -- A play on a new heap.
+  pub tells_new : (pages : ℕ) (told : Bool) (left : List ℕ) (old new again : D) (result : Status) (hears : Bool) (before after : List ℕ) → IsTrue told → IsTrue hears → Runs g (Some pages) None (IsReadFrom told left) old new result hears before after
+      → g.may_leave new (g.bytes again) → Only (g.bytes again) (g.may_leave again)
+      → ((result ≢ status.Done) × (after ≡ before)) ⊎ ((read : List Line) × (script left ≡ Ok read) × (kept : Graph) × Stores g kept again × TellsRun new_graph read before after kept)
+  tells_new pages told left old new again result hears before after tells sink (inl unmade) leaves only = inl (unmade_early g (made_super pages) old new result unmade.reason, unmade.nothing sink)
+  tells_new pages told left old new again result hears before after tells sink (inr plays) leaves only =
+      inr (tells_script new_graph 0 (made_core pages (g.bytes plays.made)) told left plays.made new again result hears before after tells sink refl refl plays.plays leaves only)
+
+  -- A play on the heap that is there.
+  pub tells_stored : (begins : Graph) (told : Bool) (left : List ℕ) (old new again : D) (result : Status) (hears : Bool) (before after : List ℕ) → IsTrue told → IsTrue hears → Stores g begins old → Runs g None None (IsReadFrom told left) old new result hears before after
+      → g.may_leave new (g.bytes again) → Only (g.bytes again) (g.may_leave again)
+      → (kept : Graph) × Stores g kept again × (((after ≡ before) × (kept ≡ begins)) ⊎ ((read : List Line) × (script left ≡ Ok read) × TellsRun begins read before after kept))
+  tells_stored begins told left old new again result hears before after tells sink stores (inl none) leaves only =
+      let same : g.bytes again ≡ g.bytes old = stores.only (g.bytes again) (subst (λ (x : D). g.may_leave x (g.bytes again)) none.same leaves) in
+      let moved : (image : List ℕ) (e : image ≡ g.bytes old) → (stored : IsStored image) × (stored.graph ≡ begins) = λ image e. subst (λ (i : List ℕ). (stored : IsStored i) × (stored.graph ≡ begins)) (sym e) (stores.stored, stores.is) in
+      let there = moved (g.bytes again) same in
+      (begins, record { stored = there.0; is = there.1; only = only }, inl (none.nothing sink, refl))
+  tells_stored begins told left old new again result hears before after tells sink stores (inr plays) leaves only =
+      let tale = tells_script begins (stored_calls stores.stored) (stored_core stores.stored) told left old new again result hears before after tells sink stores.is refl (plays stores.stored) leaves only in
+      (tale.2, tale.3, inr (tale.0, tale.1, tale.4))

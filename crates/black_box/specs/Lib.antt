@@ -1,1 +1,3 @@
+pub mod Stores
+pub mod Tales
 pub mod Told

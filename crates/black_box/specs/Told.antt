@@ -5,9 +5,9 @@ use Rattle.graph_model.specs.declared.event.Event.{Event}
 use Rattle.graph_model.specs.declared.event.Event.TheVariants.{Abort, Force}
 use Rattle.graph_model.specs.declared.reply.Entry.{Entry}
 use Rattle.graph_model.specs.Canon.{canon}
-use Rattle.graph_model.specs.Graph.{Graph, new_graph}
+use Rattle.graph_model.specs.Graph.{Graph}
 use Rattle.graph_model.specs.History.{sealed, commits, acknowledged}
-use Rattle.graph_model.specs.Text.{line, canon_text}
+use Rattle.graph_model.specs.Text.{canon_text}
 use Rattle.graph_model.specs.Transaction.{serial, serial_replies}
 use Rattle.commit_order.specs.Heard.{replies_of_commits}
 use Rattle.script_text.specs.declared.line.Line.{Line}
@@ -35,18 +35,18 @@ events_of history = map (λ (entry : Entry). entry.event) history
 abbrev pub text_of : Graph → List ℕ
 text_of g = canon_text (canon g)
 
--- A play on a new heap wrote lines, and after a crash the graph was printed of what the disk had kept. There is one history of both.
-pub record TellsOneHistory (script : List Line) (lines lines' text text' : List ℕ) : Type 0 where
+-- A run told a history that goes on from a graph, and a crash left another graph of it.
+pub record TellsRun (begins : Graph) (script : List Line) (before after : List ℕ) (left : Graph) : Type 0 where
   pub history : List Entry
   -- its events are those of the script
   pub made : AreOfScript (events script) (events_of history)
-  -- the play wrote all lines of the history but perhaps the last, and nothing but a prefix of them and of the graph that they lead to
-  pub lines : WroteLines lines history lines'
-  pub front : WroteFront lines (lines_text history ++ text_of (serial new_graph (sealed history))) lines'
+  -- the run wrote all lines of the history but perhaps the last, and nothing but a prefix of them and of the graph that they lead to
+  pub lines : WroteLines before history after
+  pub front : WroteFront before (lines_text history ++ text_of (serial begins (sealed history))) after
   -- each committed transaction had the replies that it has where the commits are run one after another
-  pub replies : replies_of_commits history ≡ serial_replies new_graph (commits history)
-  -- the graph that was printed is that of the first commits, among them all that were acknowledged
+  pub replies : replies_of_commits history ≡ serial_replies begins (commits history)
+  -- the graph that was left is that of the first commits, among them all that were acknowledged, up to the names of objects
   pub count : ℕ
   pub least : acknowledged history ≤ count
   pub most : count ≤ length (commits history)
-  pub text : text' ≡ text ++ text_of (serial new_graph (take count (commits history)))
+  pub graph : canon left ≡ canon (serial begins (take count (commits history)))

@@ -1,41 +1,9 @@
-//! Two runs of the program on one disk, with a crash between them: what the second prints follows from what the first wrote. The clause is
-//! said in words of the plain model alone, and follows from the public clauses of `run`.
+//! Runs of the program on one disk, with a crash behind each of them: what is printed in the end follows from what the runs wrote. The clauses are
+//! said in words of the plain model alone, and follow from the public clauses of `run`.
 #![tactic(auto)]
 
-ghost use Rattle.std.specs.Prelude.{◌≡◌, ◌≢◌, ◌⊎◌, ℕ, List, None, Some, Ok, map, string_bytes, IsTrue};
-ghost use Rattle.black_box.specs.Told.{TellsOneHistory};
-ghost use Rattle.command_words.specs.Command.{command};
-ghost use Rattle.command_words.specs.declared.commands.Command.TheVariants as asked;
-ghost use Rattle.disk_model.specs.Disk.{Only};
-ghost use Rattle.script_text.specs.Script.{script};
-ghost use Rattle.script_text.specs.declared.line.Line.{Line};
+mod one_run;
+mod turns;
 
-use disk_model::Disk;
-use heap_io::{Sink, Source};
-use heap_program::{Status, run};
-use std::alloc::Global;
-use std::string::String;
-
-/// Runs the program with the words `play` on the script that `source` gives, and writes to `lines`. However that ends, at whichever call the disk
-/// failed or stopped, the disk is restarted as one of the images that a crash may leave of it, and the program runs with the words `graph`
-/// and writes to `text`. Gives both statuses and the disk.
-pub fn play_then_graph<D: Disk, S: Source, K: Sink>(
-    alloc: Global,
-    play: &[String],
-    graph: &[String],
-    disk: D,
-    source: &mut S,
-    lines: &mut K,
-    text: &mut K,
-) -> (Status, Status, D)
-    // Of a play on a new heap, and a graph that was printed: the play wrote nothing, or both tell one history.
-    ensures one_history { IsTrue D.tells → Only (D.bytes disk) (D.may_leave disk) → IsTrue S.tells → IsTrue K.tells
-        → (pages : ℕ) → command (map string_bytes play.now) ≡ Some (asked.Play (Some pages) None) → command (map string_bytes graph.now) ≡ Some asked.Graph → result.1 ≡ Status.Done
-        → ((result.0 ≢ Status.Done) × (K.written lines.new ≡ K.written lines.old))
-        ⊎ ((read : List Line) × (script (S.left source.old) ≡ Ok read) × TellsOneHistory read (K.written lines.old) (K.written lines.new) (K.written text.old) (K.written text.new)) }
-{
-    let (played, mut disk) = run(alloc, play, disk, source, lines);
-    disk.restart();
-    let (printed, disk) = run(alloc, graph, disk, source, text);
-    (played, printed, disk)
-}
+pub use one_run::play_then_graph;
+pub use turns::{Turn, plays_then_graph};

@@ -1,0 +1,89 @@
+//! Any number of plays, one after another.
+ghost use Rattle.std.specs.Prelude.{◌≡◌, ◌⊎◌, ◌++◌, ℕ, List, None, Some, Ok, map, string_bytes, IsTrue};
+ghost use Rattle.black_box.specs.Stores.{Stores};
+ghost use Rattle.black_box.specs.Told.{TellsRun, text_of};
+ghost use Rattle.black_box.specs.Tales.{TellsTurn, TellTurns};
+ghost use Rattle.command_words.specs.Command.{command};
+ghost use Rattle.command_words.specs.declared.commands.Command.TheVariants as asked;
+ghost use Rattle.disk_model.specs.Disk.{Only};
+ghost use Rattle.graph_model.specs.Graph.{Graph, new_graph};
+ghost use Rattle.script_text.specs.Script.{script};
+ghost use Rattle.script_text.specs.declared.line.Line.{Line};
+
+use disk_model::Disk;
+use heap_io::{Sink, Source};
+use heap_program::{Status, run};
+use std::alloc::Global;
+
+/// What a play reads, and where it writes.
+#[derive(Drop)]
+pub struct Turn<S: Drop, K: Drop> {
+    /// Its script.
+    pub source: S,
+    /// Its lines.
+    pub sink: K,
+    /// How its run ended, if it was made.
+    pub status: Option<Status>,
+}
+
+/// Runs the program with the words `play` on the heap that is there, and restarts the disk however that ends.
+fn play_turn<D: Disk, S: Source + Drop, K: Sink + Drop>(
+    alloc: Global,
+    play: &[String],
+    disk: D,
+    turn: &mut Turn<S, K>,
+) -> D
+    ensures tells { IsTrue D.tells → IsTrue S.tells → IsTrue K.tells → command (map string_bytes play.now) ≡ Some (asked.Play None None)
+        → (begins : Graph) → Stores D.Disk begins disk → (kept : Graph) × Stores D.Disk kept result × TellsTurn S.left K.written begins turn.old turn.new kept }
+{
+    let (status, mut disk) = run(alloc, play, disk, &mut turn.source, &mut turn.sink);
+    turn.status = Some(status);
+    disk.restart();
+    disk
+}
+
+/// Makes these plays, one after another.
+fn play_turns<D: Disk, S: Source + Drop, K: Sink + Drop>(
+    alloc: Global,
+    play: &[String],
+    mut disk: D,
+    turns: &mut [Turn<S, K>],
+) -> D
+    ensures tell { IsTrue D.tells → IsTrue S.tells → IsTrue K.tells → command (map string_bytes play.now) ≡ Some (asked.Play None None)
+        → (begins : Graph) → Stores D.Disk begins disk → (kept : Graph) × Stores D.Disk kept result × TellTurns S.left K.written begins turns.old turns.new kept }
+{
+    for turn in turns.iter_mut() {
+        disk = play_turn(alloc, play, disk, turn);
+    }
+    disk
+}
+
+/// Runs the program with the words `fresh`, on the first turn's script, and then with the words `play` on that of each other turn. Behind each run the
+/// disk is restarted, as any of the images that a crash may leave of it. Then the program runs with the words `graph` and writes to `text`. Gives
+/// the status of that run and the disk.
+pub fn plays_then_graph<D: Disk, S: Source + Drop, K: Sink + Drop>(
+    alloc: Global,
+    fresh: &[String],
+    play: &[String],
+    graph: &[String],
+    disk: D,
+    first: &mut Turn<S, K>,
+    turns: &mut [Turn<S, K>],
+    text: &mut K,
+) -> (Status, D)
+    // Of a play on a new heap, plays on what each left, and a graph that was printed: the first wrote nothing, or one history of all of them was told.
+    ensures one_history { IsTrue D.tells → Only (D.bytes disk) (D.may_leave disk) → IsTrue S.tells → IsTrue K.tells
+        → (pages : ℕ) → command (map string_bytes fresh.now) ≡ Some (asked.Play (Some pages) None) → command (map string_bytes play.now) ≡ Some (asked.Play None None)
+        → command (map string_bytes graph.now) ≡ Some asked.Graph → result.0 ≡ Status.Done
+        → (K.written first.new.sink ≡ K.written first.old.sink)
+        ⊎ ((read : List Line) × (script (S.left first.old.source) ≡ Ok read)
+        × (made : Graph) × TellsRun new_graph read (K.written first.old.sink) (K.written first.new.sink) made
+        × (kept : Graph) × TellTurns S.left K.written made turns.old turns.new kept × (K.written text.new ≡ K.written text.old ++ text_of kept)) }
+{
+    let (status, mut disk) = run(alloc, fresh, disk, &mut first.source, &mut first.sink);
+    first.status = Some(status);
+    disk.restart();
+    let disk = play_turns(alloc, play, disk, turns);
+    let (printed, disk) = run(alloc, graph, disk, &mut first.source, text);
+    (printed, disk)
+}
