@@ -8,6 +8,8 @@ ghost use Rattle.log_machine.specs.Effect.{WritesBelow, EachWritesBelow, AddsEnt
 ghost use Rattle.log_machine.specs.declared.UndoEntry.{UndoEntry};
 ghost use Rattle.log_machine.specs.UndoEntry.{LiesInside};
 
+mod collecting;
+
 use crate::UndoEntry;
 use crate::page_words::{FIELDS_AT, PAGE_WORDS, ROOT_WORDS};
 use crate::undo_lists::UndoLists;
