@@ -1,7 +1,7 @@
 -- What it says that objects are copied, one and several: how the spaces are then, and where the copies stand.
 use Rattle.std.proofs.Common.{◌≡◌, ℕ, ◌+◌, ◌-◌, ◌<◌, ◌≤◌, Bool, true, false, cond, List, [], ◌∷◌, length, Option, None, Some, ◌⊎◌, refl, sym, ap, ◌∙◌, subst, arith, inl, inr}
 use Rattle.std.specs.Prelude.{◌&&◌, ◌==◌, ◌↔◌, IsTrue, option_and_then, option_map, MatchOption, sum_by, is_some}
-use Rattle.std.specs.List.{AllByRecursion, All, list_all}
+use Rattle.std.specs.List.{AllByRecursion, list_all}
 use Rattle.std.specs.Ordering.{nat_cmp}
 use Rattle.std.specs.FinMap.{FinMap, empty}
 use Rattle.std.specs.FinSet.{insert, len, len-empty, empty_of_len}
@@ -15,7 +15,7 @@ use Rattle.heap_spaces.specs.declared.collection.CopiedObject.{CopiedObject}
 use Rattle.heap_spaces.specs.Copying.{begun, with_copies, with_scanned}
 use Rattle.log_machine.specs.declared.UndoEntry.{UndoEntry}
 use Rattle.log_machine.specs.Machine.{State, owed, space_words, words_in}
-use Rattle.log_machine.specs.Sound.{IsLoser, AreLosers, IsSpaced, IsWithin, IsConsistent}
+use Rattle.log_machine.specs.Sound.{IsLoser, IsSpaced, IsWithin, IsConsistent}
 use Rattle.log_machine.specs.Collecting.{other_base, can_move, can_hold, with_moved, with_copy, copied_in, copy_after, copies_after, is_current_page, can_put, scanned_in, collected_in, with_undo}
 use Rattle.log_machine.specs.CopyIndex.{StandInside}
 use Rattle.log_machine.proofs.ListLaws.{AllByRecursion-at}

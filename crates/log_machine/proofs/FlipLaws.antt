@@ -1,5 +1,5 @@
 -- The writes that may be taken back, when a flip has moved their objects.
-use Rattle.std.proofs.Common.{◌≡◌, ◌≢◌, ℕ, ◌+◌, ◌<◌, Bool, true, false, cond, List, [], ◌∷◌, ◌++◌, length, map, reverse, Option, None, Some, is_some, refl, sym, ap, ◌∙◌, subst, arith}
+use Rattle.std.proofs.Common.{◌≡◌, ◌≢◌, ℕ, ◌+◌, ◌<◌, Bool, true, false, cond, List, [], ◌∷◌, length, map, Option, None, Some, is_some, refl, sym, ap, ◌∙◌, subst, arith}
 use Rattle.std.specs.Prelude.{◌==◌, ◌&&◌, option_map, unwrap_or}
 use Rattle.std.specs.List.{AllByRecursion, list_all}
 use Rattle.std.specs.Ordering.{nat_cmp, eq_by_cmp}
@@ -13,9 +13,9 @@ use Rattle.relocation.specs.Relocation.{destination, moved_to}
 use Rattle.log_machine.specs.declared.UndoEntry.{UndoEntry}
 use Rattle.log_machine.specs.UndoEntry.{LiesInside}
 use Rattle.log_machine.specs.Machine.{State, settled}
-use Rattle.log_machine.specs.Sound.{IsLoser, IsConsistent}
+use Rattle.log_machine.specs.Sound.{IsConsistent}
 use Rattle.log_machine.specs.Translation.{translated_entry, translated_list}
-use Rattle.log_machine.specs.Collecting.{other_base, copies_after, pairs_of, copy_of, has_field, follows_copies, can_translate, can_translate_all, translated_undo, begins_at, with_roles_changed, with_undo, flipped_in}
+use Rattle.log_machine.specs.Collecting.{other_base, copies_after, pairs_of, copy_of, has_field, can_translate, can_translate_all, translated_undo, begins_at, with_roles_changed, with_undo, flipped_in}
 use Rattle.log_machine.proofs.CopyRows.{Stands, HaveCopied, consistent_flip, copies_told, along_copies}
 use Rattle.log_machine.proofs.MachineLaws.{told_if}
 

@@ -1,6 +1,7 @@
 pub mod AbortLaws
 pub mod Addresses
 pub mod Bounds
+pub mod CollectingLaws
 pub mod CollectingWrites
 pub mod Consistent
 pub mod CopyLaws

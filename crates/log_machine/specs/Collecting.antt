@@ -15,7 +15,6 @@ use Rattle.log_records.specs.declared.Record.TheVariants.{Update, Base, Fix, Und
 use Rattle.heap_spaces.specs.Collection.{Collection, gray_from}
 use Rattle.heap_spaces.specs.Addresses.{with_all}
 use Rattle.heap_spaces.specs.Copying.{begun, with_scanned}
-use Rattle.relocation.specs.Relocation.{destination}
 use Rattle.log_machine.specs.declared.UndoEntry.{UndoEntry}
 use Rattle.log_machine.specs.Machine.{State, space_words}
 use Rattle.log_machine.specs.Translation.{translated_list}

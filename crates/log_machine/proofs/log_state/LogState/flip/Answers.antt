@@ -1,4 +1,4 @@
-use Rattle.std.proofs.Common.{◌≡◌, true, false, ap, sym, ◌∙◌, subst, rules}
+use Rattle.std.proofs.Common.{ap, sym, ◌∙◌, subst, rules}
 use Rattle.log_machine.specs.Machine.{State, settled}
 use Rattle.log_machine.specs.Sound.{IsConsistent}
 use Rattle.log_machine.specs.Collecting.{with_roles_changed, pairs_of, can_translate_all, translated_undo}

@@ -1,4 +1,4 @@
-use Rattle.std.proofs.Common.{◌≡◌, true, false, map, ap, sym, ◌∙◌, arith}
+use Rattle.std.proofs.Common.{true, false, map, ap, sym, ◌∙◌, arith}
 use Rattle.std.specs.List.{list_all}
 use Rattle.std.proofs.lemmas.Grind.{common_steps}
 use Rattle.log_machine.specs.Collecting.{can_translate, can_translate_all}
