@@ -1,7 +1,7 @@
 //! A collection that runs.
-ghost use Rattle.std.specs.Prelude.{◌≡◌, ◌+◌, ◌≤◌, ◌<◌, ◌^◌, ◌↔◌, ℕ, true, sum_by, IfSome, IfNone, OnOk, OnErr, IsTrue};
+ghost use Rattle.std.specs.Prelude.{◌≡◌, ◌+◌, ◌≤◌, ◌<◌, ◌^◌, ◌↔◌, ℕ, true, sum_by, Some, IfSome, IfNone, OnOk, OnErr, IsTrue};
 ghost use Rattle.std.specs.FinSet.{empty, contains};
-ghost use Rattle.heap_spaces.specs.Collection.{page_of};
+ghost use Rattle.heap_spaces.specs.Collection.{owed_by, page_of};
 ghost use Rattle.heap_spaces.specs.declared.collection.CopiedObject.{CopiedObject};
 ghost use Rattle.heap_spaces.specs.Copying.{begun, with_copies, with_scanned, IsLeastGrayPage};
 
@@ -75,6 +75,13 @@ impl Collection {
         ensures sound { self.now.copied ≤ self.now.used }
     {
         self.copied
+    }
+
+    /// How many of them have still to be copied.
+    pub fn owed(&self) -> u32
+        ensures { result ≡ owed_by (Some self.now) }
+    {
+        self.used - self.copied
     }
 
     /// Whether the object that stood at the address has been copied.

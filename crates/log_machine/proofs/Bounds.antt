@@ -1,5 +1,5 @@
 -- What records do to the state, in parts.
-use Rattle.std.specs.Prelude.{◌≡◌, ◌+◌, ◌≤◌, List, true, cond, max}
+use Rattle.std.specs.Prelude.{◌≡◌, ◌+◌, ◌≤◌, List, true, cond}
 use Rattle.std.specs.List.{AllByRecursion}
 use Rattle.std.specs.Ordering.{nat_cmp}
 use Rattle.std.specs.FinMap.{FinMap}

@@ -1,14 +1,20 @@
 pub mod AbortLaws
 pub mod Addresses
 pub mod Bounds
+pub mod CollectingLaws
+pub mod CollectingWrites
 pub mod Consistent
 pub mod CopyLaws
+pub mod CopyRows
 pub mod Entries
 pub mod Fields
+pub mod FlipLaws
+pub mod IndexLaws
 pub mod ListLaws
 pub mod Lists
 pub mod MachineLaws
 pub mod MapLaws
+pub mod Mapped
 pub mod Promotion
 pub mod PromotionLaws
 pub mod ReplayLaws
@@ -16,5 +22,6 @@ pub mod ReserveLaws
 pub mod Seen
 pub mod StateLaws
 pub mod TakenBackLaws
+pub mod TranslationLaws
 pub mod WordsFrom
 pub mod WordsLaws

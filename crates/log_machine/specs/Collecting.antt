@@ -15,7 +15,6 @@ use Rattle.log_records.specs.declared.Record.TheVariants.{Update, Base, Fix, Und
 use Rattle.heap_spaces.specs.Collection.{Collection, gray_from}
 use Rattle.heap_spaces.specs.Addresses.{with_all}
 use Rattle.heap_spaces.specs.Copying.{begun, with_scanned}
-use Rattle.relocation.specs.Relocation.{destination}
 use Rattle.log_machine.specs.declared.UndoEntry.{UndoEntry}
 use Rattle.log_machine.specs.Machine.{State, space_words}
 use Rattle.log_machine.specs.Translation.{translated_list}
@@ -26,10 +25,13 @@ use Rattle.log_machine.specs.Translation.{translated_list}
 abbrev pub other_base : State → ℕ
 other_base s = space_words s.pages - s.base
 
--- an object of so many words at an address of the from-space is left to be copied
+-- so many words at an address lie in the used words of the from-space
+abbrev pub lies_in_from : State → Collection → ℕ → ℕ → Bool
+lies_in_from s k from size = nat_le (other_base s) from && nat_le (from + size) (other_base s + k.used)
+
+-- an object of so many words, at least a header and a birth, at an address of the from-space is left to be copied
 abbrev pub can_move : State → Collection → ℕ → ℕ → Bool
-can_move s k from size =
-    nat_le (other_base s) from && nat_le (from + size) (other_base s + k.used) && nat_le (k.copied + size) k.used && not (contains k.moved from)
+can_move s k from size = nat_le 2 size && lies_in_from s k from size && nat_le (k.copied + size) k.used && not (contains k.moved from)
 
 -- so many words from an address on are the next words of the current space that are not used
 abbrev pub can_hold : State → ℕ → ℕ → Bool

@@ -26,6 +26,19 @@ AddsEntry (Scan page writes) = ⊥
 AddsEntry (Flip copies) = ⊥
 AddsEntry Collected = ⊥
 
+-- a record copies objects
+abbrev pub CopiesObjects : Record → Type 0
+CopiesObjects (Update t object field was word) = ⊥
+CopiesObjects (Base t address words) = ⊥
+CopiesObjects (Fix t object field word) = ⊥
+CopiesObjects (Undo t object field word) = ⊥
+CopiesObjects (Commit t) = ⊥
+CopiesObjects (End t) = ⊥
+CopiesObjects (Copy from to words) = Unit {0}
+CopiesObjects (Scan page writes) = ⊥
+CopiesObjects (Flip copies) = Unit {0}
+CopiesObjects Collected = ⊥
+
 -- words with their addresses that go on from these
 abbrev pub GoesOn : List (ℕ × ℕ) → List (ℕ × ℕ) → Type 0
 GoesOn before writes = (more : List (ℕ × ℕ)) × (writes ≡ before ++ more)

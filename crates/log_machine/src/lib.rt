@@ -2,6 +2,7 @@
 #![tactic(auto)]
 
 mod abort;
+mod copy_index;
 mod effects;
 mod log_state;
 mod page_words;

@@ -8,10 +8,12 @@ ghost use Rattle.log_machine.specs.Effect.{WritesBelow, EachWritesBelow, AddsEnt
 ghost use Rattle.log_machine.specs.declared.UndoEntry.{UndoEntry};
 ghost use Rattle.log_machine.specs.UndoEntry.{LiesInside};
 
+mod collecting;
+
 use crate::UndoEntry;
 use crate::page_words::{FIELDS_AT, PAGE_WORDS, ROOT_WORDS};
 use crate::undo_lists::UndoLists;
-use heap_spaces::Spaces;
+use heap_spaces::{Collection, Spaces};
 use heap_words::{is_stable, is_volatile};
 use log_records::Record;
 use std::alloc::{AllocError, Global};
@@ -40,13 +42,14 @@ impl From<AllocError> for AfterError {
     }
 }
 
-/// What the records so far say: which writes may be taken back, how many transactions are committed, and the number of the
-/// next one.
+/// What the records so far say: which collection runs, which writes may be taken back, how many transactions are committed, and the number
+/// of the next one.
 #[derive(Debug, Drop)]
 pub struct LogState {
     pages: u32,
     base: u32,
     used: u32,
+    collection: Option<Collection>,
     undo: UndoLists,
     commits: u64,
     next: u32,
@@ -55,16 +58,15 @@ pub struct LogState {
 impl Model for LogState {
     ghost use Rattle.log_machine.specs.Machine.{State};
     ghost use Rattle.log_machine.specs.Sound.{IsConsistent};
-    ghost use Rattle.std.specs.Prelude.{None};
     ghost use Rattle.log_machine.specs.StateCode.{state_code};
 
     ghost Value = { State };
 
     ghost coded = { state_code };
 
-    ghost view = { λ s. record { pages = s.pages; base = s.base; used = s.used; collection = None; undo = s.undo; commits = s.commits; next = s.next } };
+    ghost view = { λ s. record { pages = s.pages; base = s.base; used = s.used; collection = s.collection; undo = s.undo; commits = s.commits; next = s.next } };
 
-    ghost invariant = { λ s. IsConsistent (record { pages = s.pages; base = s.base; used = s.used; collection = None; undo = s.undo; commits = s.commits; next = s.next }) };
+    ghost invariant = { λ s. IsConsistent (record { pages = s.pages; base = s.base; used = s.used; collection = s.collection; undo = s.undo; commits = s.commits; next = s.next }) };
 }
 
 impl LogState {
@@ -79,6 +81,7 @@ impl LogState {
             pages,
             base: 0,
             used: ROOT_WORDS,
+            collection: None,
             undo: UndoLists::new(alloc),
             commits: 0,
             next: first,
@@ -129,7 +132,17 @@ impl LogState {
     pub fn spaces(&self) -> Spaces
         ensures { result ≡ spaces_of self.now }
     {
-        Spaces::new(self.pages, self.base, self.used, 0)
+        Spaces::new(self.pages, self.base, self.used, self.owed())
+    }
+
+    // How many words of the current space are kept for what a collection has still to copy.
+    fn owed(&self) -> u32
+        ensures { result ≡ owed self.now }
+    {
+        match &self.collection {
+            Some(collection) => collection.owed(),
+            None => 0,
+        }
     }
 
     /// Nothing may be taken back any more: each transaction has ended.
@@ -298,14 +311,15 @@ impl LogState {
         object >= self.base && address < u64::from(self.base) + u64::from(self.used)
     }
 
-    // The words are as many as the next ones of the current space, from the address on, that are not used.
+    // The words are as many as the next ones of the current space, from the address on, that are not used, and none of these is owed to a
+    // collection.
     fn is_next_free(&self, address: u32, words: &[u64]) -> bool
         ensures answer { result ≡ is_next_free self.now address (length words.now) }
         ensures inside { result ≡ true → address + length words.now ≤ words_in self.now.pages }
     {
         let end = u64::from(self.base) + u64::from(self.used);
-        let used = u64::from(self.used) + words.len() as u64;
-        u64::from(address) == end && used <= u64::from(PAGE_WORDS) * u64::from(self.pages)
+        let taken = u64::from(self.used) + words.len() as u64 + u64::from(self.owed());
+        u64::from(address) == end && taken <= u64::from(PAGE_WORDS) * u64::from(self.pages)
     }
 
     // This is the newest write of transaction `t` that may be taken back.

@@ -1,12 +1,15 @@
 //! The writes of each transaction that may be taken back.
-ghost use Rattle.std.specs.Prelude.{◌≡◌, ◌≢◌, ◌+◌, ◌<◌, ◌^◌, ◌∷◌, [], ℕ, List, OnOk, OnErr, IfOk, reverse, drop, length};
+ghost use Rattle.std.specs.Prelude.{◌≡◌, ◌≢◌, ◌+◌, ◌<◌, ◌^◌, ◌∷◌, [], ℕ, true, List, OnOk, OnErr, IfOk, reverse, drop, length};
 ghost use Rattle.std.specs.FinMap as map;
 ghost use Rattle.log_machine.specs.declared.UndoEntry.{UndoEntry};
 ghost use Rattle.log_machine.specs.Machine.{undo_in, with_entries, end_bytes, abort_each};
 ghost use Rattle.log_machine.specs.Entries.{bytes_over};
+ghost use Rattle.log_machine.specs.Translation.{translated_list};
+ghost use Rattle.log_machine.specs.Collecting.{pairs_of, can_translate_all, translated_undo};
 
 use crate::UndoEntry;
 use crate::abort::add_abort_records;
+use crate::copy_index::CopyIndex;
 use log_records::Record;
 use std::alloc::{AllocError, Global};
 use std::collections::BTreeMap;
@@ -133,6 +136,34 @@ impl UndoLists {
         if let Some(list) = self.lists.remove(&t) {
             self.reserve -= end_bytes(list.len() as u64);
         }
+    }
+
+    /// Whether each write goes along with the copies of a flip.
+    pub(crate) fn can_translate(&self, index: &CopyIndex) -> bool
+        ensures { result ≡ can_translate_all index.now.copies.now self.now }
+    {
+        for (_, list) in self.lists.iter() {
+            if !index.can_translate_each(list) {
+                return false;
+            }
+        }
+        true
+    }
+
+    /// The objects have moved, and each write goes along. It takes no memory.
+    pub(crate) fn translate(&mut self, index: &CopyIndex)
+        ensures { self.new ≡ translated_undo (pairs_of index.now.copies.now) self.old }
+    {
+        self.lists.retain(
+            |_, list|
+                ensures all { result ≡ true }
+                ensures moved { list.new.items ≡ translated_list (pairs_of index.entry.now.copies.now) list.old.items }
+                ensures same { index.exit ≡ index.entry }
+            {
+                index.translate(list);
+                true
+            },
+        );
     }
 
     /// The records that take the writes of each transaction back, ascending, and end it.

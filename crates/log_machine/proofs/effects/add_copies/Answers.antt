@@ -1,4 +1,4 @@
-use Rattle.std.proofs.Common.{◌≡◌, ◌<◌, ◌^◌, ◌++◌, ◌∙◌, ℕ, List, take, ap, sym, subst, append_assoc}
+use Rattle.std.proofs.Common.{◌<◌, ◌^◌, ◌++◌, ◌∙◌, ℕ, List, take, ap, sym, subst, append_assoc}
 use Rattle.std.specs.List.{AllByRecursion, enumerate_from, flat_map}
 use Rattle.log_machine.specs.Machine.{writes_of, copy_writes}
 use Rattle.log_machine.proofs.Lists.{on_err}
