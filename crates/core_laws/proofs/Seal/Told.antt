@@ -19,7 +19,7 @@ use Rattle.log_machine.proofs.ListLaws.{AllByRecursion-append, AllByRecursion-ma
 use Rattle.log_machine.specs.Machine.{State, start, owed, words_in, after_all, taken_back, all_taken_back, undo_of, put_record, field_at, is_number}
 use Rattle.log_machine.proofs.MachineLaws.{after_all-append2}
 use Rattle.log_machine.specs.Sound.{AreLosers}
-use Rattle.log_machine.proofs.StateLaws.{leads_after_all, spaced_more}
+use Rattle.log_machine.proofs.StateLaws.{all_inside, leads_after_all, spaced_more}
 use Rattle.log_machine.proofs.WordsLaws.{length-put_records}
 use Rattle.volatile_area.specs.Area.{AreaState}
 use Rattle.graph_words.specs.Places.{Places}
@@ -149,26 +149,27 @@ module _ (a : Account) (c : Core) (h : Agrees a c) {numbers : List ℕ} {heard :
     ends = spaced_more h.behind asked h.told.spaced (omega (arith, fits, inside))
 
     -- it finds what its transaction sees
-    pub can : CanSeal c.places seen.graph t.number seen.made own_undo own_words h.behind.base h.behind.used
+    pub can : CanSeal c.places seen.graph t.number seen.made own_undo own_words h.behind.base h.behind.used next_free
     can =
         let w = writing_of a c s t e h in
-        let size = h.told.size in
-        let long = length-others h.behind t.number now in
         record {
           stands = w.stands;
           has = w.made;
           written = w.written;
           of_fields = w.fields;
-          room = omega (arith, ends, same_pages, size, long);
           top = omega (arith, ends, same_pages, h.few_pages);
         }
+
+    -- and words for what it promotes
+    pub room : next_free + asked ≤ length own_words
+    room = omega (arith, ends, same_pages, h.told.size, length-others h.behind t.number now)
 
     number : is_number t.number ≡ true
     number = numbered_as a c s t e h
 
     -- all records lead to the state behind it
     pub reached : after_all (start c.pages c.first_number) (all_records c ++ records) ≡ Some last
-    reached = after_all-append2 (start c.pages c.first_number) h.behind (all_records c) records h.told.reached ∙ seal_follows h.behind can number (omega (arith, fits, inside))
+    reached = after_all-append2 (start c.pages c.first_number) h.behind (all_records c) records h.told.reached ∙ seal_follows h.behind can (all_inside h.behind t.number sound) number (omega (arith, fits, inside))
 
     -- all words are those with the promotion
     pub words_behind : words_with c records ≡ fold put_record now promotion
@@ -196,7 +197,7 @@ module _ (a : Account) (c : Core) (h : Agrees a c) {numbers : List ℕ} {heard :
       size = length-put_records records now ∙ h.told.size;
       count = let count = h.told.count in omega arith;
       spaced = record { first = h.told.spaced.first; room = omega (arith, fits, inside); within = h.told.spaced.within };
-      stands = subst (λ ws. StandsCommitted (c.places ++ placed) seen.graph ws h.behind.base (h.behind.used + asked)) (sym committed) (seal_stands can);
+      stands = subst (λ ws. StandsCommitted (c.places ++ placed) seen.graph ws h.behind.base (h.behind.used + asked)) (sym committed) (seal_stands can room);
       old = seal_old can h.behind.next (max h.behind.next (t.number + 1)) h.told.old (omega arith) (omega arith);
-      births = λ by_birth. subst (AreNamedByBirth (c.places ++ placed)) (sym committed) (seal_births can (births_seen (h.told.births by_birth)));
+      births = λ by_birth. subst (AreNamedByBirth (c.places ++ placed)) (sym committed) (seal_births can room (births_seen (h.told.births by_birth)));
     }

@@ -1,6 +1,6 @@
 -- The records of a seal where others have written too: the words as its transaction sees them tell the same records, and these write no
 -- word that another transaction wrote.
-use Rattle.std.proofs.Common.{◌≡◌, ◌≢◌, ℕ, ◌+◌, ◌≤◌, zero, suc, List, [], ◌∷◌, ◌++◌, map, get_or, Option, None, Some, refl, sym, ap, ◌∙◌, subst, arith}
+use Rattle.std.proofs.Common.{◌≡◌, ◌≢◌, ℕ, ◌+◌, ◌≤◌, List, [], ◌∷◌, ◌++◌, map, get_or, Option, None, Some, refl, sym, ap, ◌∙◌, subst, arith}
 use Rattle.std.specs.Prelude.{fold, slice_index}
 use Rattle.std.specs.List.{AllByRecursion, enumerate_from}
 use Rattle.std.specs.FinMap.{entries, remove}
@@ -22,11 +22,10 @@ use Rattle.log_machine.specs.Sound.{AreLosers}
 use Rattle.log_machine.specs.UndoEntry.{LiesInside}
 use Rattle.stability_tracker.specs.Promotion.{promoted, need}
 use Rattle.volatile_area.specs.Area.{AreaState}
-use Rattle.graph_words.proofs.Area.Fields.{written_from_field}
+use Rattle.graph_words.proofs.Area.Fields.{written_from_field, write_at}
 use Rattle.graph_words.proofs.Promotion.Fix.{fixes}
 use Rattle.graph_words.proofs.Places.Lists.{AllByRecursion-from_get, Contains-get}
 use Rattle.graph_words.specs.Promotion.{Field, Move, base_of, fix_meant, fix_of, moves_of, moves_to, moved_words, promoted_by, promoted_need, promotion_records, seal_records, words_in_fields, words_taken, written_fields}
-use Rattle.graph_words.specs.Stands.{IsWritten}
 use Rattle.core_laws.proofs.Sessions.OtherWrites.{IsAway}
 
 -- What the words tell.
@@ -110,17 +109,14 @@ fixes_write P t words moves (f ∷ fs) all =
     AllByRecursion-append (λ r. AllByRecursion P (addresses r)) (fix_of t words moves f) (fixes t words moves fs)
     (fix_writes P t moves f w (meaning w) all.0) (fixes_write P t words moves fs all.1)
 
-at_written : (P : ℕ → Type 0) (undo : List UndoEntry) (at i : ℕ) → AllByRecursion (λ v. P (written v)) undo → IsWritten undo at i → P (field_at at i)
-at_written P [] at i all (k, u, within, is, same) = absurd (omega arith)
-at_written P (v ∷ us) at i all (suc k, u, within, is, same) = at_written P us at i all.1 (k, u, omega arith, is, same)
-at_written P (v ∷ us) at i all (zero, u, within, is, same) =
-    subst P (ap (λ (x : UndoEntry). field_at x.object x.field) is ∙ ap (λ n. field_at n u.field) same.0 ∙ ap (field_at at) same.1) all.0
-
 -- what holds of the address of each write holds of that of each field that was written
 pub fields_written : (P : ℕ → Type 0) (undo : List UndoEntry) → AllByRecursion (λ v. P (written v)) undo → AllByRecursion (λ f. P (field_at f.0 f.1)) (written_fields undo)
 fields_written P undo all =
     AllByRecursion-from_get (λ f. P (field_at f.0 f.1)) (written_fields undo)
-    (λ i f got. at_written P undo f.0 f.1 all (written_from_field undo f (Contains-get (written_fields undo) i f got)))
+    (λ i f got.
+    let write = write_at (λ v. P (written v)) undo f.0 f.1 all (written_from_field undo f (Contains-get (written_fields undo) i f got)) in
+    let there : written write.0 ≡ field_at f.0 f.1 = λ j. field_at (write.2 j) (write.3 j) in
+    subst P there write.1)
 
 -- A promotion writes from its first address on, and fields that its transaction wrote.
 pub promotion_writes : (P : ℕ → Type 0) (area : AreaState) (words : List ℕ) (undo : List UndoEntry) (address : ℕ) → ((x : ℕ) → address ≤ x → P x) → AllByRecursion (λ v. P (written v)) undo

@@ -76,10 +76,10 @@ value_settled c is none (val.Ref id) (inl there) =
 value_settled c is none (val.Ref id) (inr own) = let first = own.first in let last = own.last in absurd (omega arith)
 
 -- and so is one that has made no object
-pub none_made_settled : {places : Places} {g : Graph} {t made : ℕ} {undo : List UndoEntry} {words : List ℕ} {base used : ℕ} → CanSeal places g t made undo words base used
+pub none_made_settled : {places : Places} {g : Graph} {t made : ℕ} {undo : List UndoEntry} {words : List ℕ} {base used address : ℕ} → CanSeal places g t made undo words base used address
     → made ≡ 0 → AreSettled words (written_fields undo)
-none_made_settled {places} {g} {t} {made} {undo} {words} {base} {used} can none f has =
-    let c = sealing places g t made undo words base used in
+none_made_settled {places} {g} {t} {made} {undo} {words} {base} {used} {address} can none f has =
+    let c = sealing places g t made undo words base used address in
     let is = is_sealing can in
     let there = written_field c is f has in
     let v = slice_index_or (fields g there.id) f.1 val.Null in

@@ -166,7 +166,7 @@ module _ (c : Core) (valid : IsValid c) (runs : RunsLocked c.g0 c.first c.histor
   -- only objects that the transaction made come to stand in the space
   others_stand : (id : Id) → id.t ≢ t.number → address_of later id ≡ address_of c.places id
   others_stand id other =
-      let it = sealing c.places v.graph t.number v.made undo (seal.own_words a c valid order s t e) behind.base behind.used in
+      let it = sealing c.places v.graph t.number v.made undo (seal.own_words a c valid order s t e) behind.base behind.used (seal.next_free a c valid order s t e) in
       elim (none_or_some (address_of later id)) [
         | inl none ↦ none ∙ sym (none_before id none)
         | inr there ↦ elim (later_cases it (is_sealing (seal.can a c valid order s t e space)) id there.0 there.1) [
