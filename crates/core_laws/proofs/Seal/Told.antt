@@ -1,5 +1,5 @@
 -- What a seal among other active transactions finds, and that all records tell what it leaves.
-use Rattle.std.proofs.Common.{◌≡◌, ℕ, ◌+◌, ◌-◌, ◌*◌, ◌≤◌, Bool, true, false, cond, max, List, [], ◌∷◌, ◌++◌, length, Option, Some, None, refl, sym, ap, ◌∙◌, subst, arith}
+use Rattle.std.proofs.Common.{◌≡◌, ℕ, ◌+◌, ◌-◌, ◌*◌, ◌≤◌, Bool, true, false, cond, inl, max, List, [], ◌∷◌, ◌++◌, length, Option, Some, None, refl, sym, ap, ◌∙◌, subst, arith}
 use Rattle.std.specs.Prelude.{fold}
 use Rattle.std.proofs.lemmas.Bool.{ltb-false}
 use Rattle.graph_model.specs.declared.reply.Refusal.{Refusal}
@@ -26,6 +26,7 @@ use Rattle.graph_words.specs.Places.{Places}
 use Rattle.graph_words.specs.Stands.{StandsCommitted, AreNamedByBirth}
 use Rattle.graph_words.proofs.Stands.TakenBack.{renamed, taken_back_birth}
 use Rattle.graph_words.specs.Promotion.{Field, promoted_need, moves_of, seal_records, promotion_records, promoted_places, written_fields}
+use Rattle.graph_words.proofs.Promotion.Alike.{AgreeIn, need_same, moves_same, records_same}
 use Rattle.graph_words.proofs.Promotion.Sealed.{sealed_state}
 use Rattle.graph_words.proofs.Promotion.Seal.{CanSeal, seal_stands, seal_births, seal_old, seal_spelled, seal_follows}
 use Rattle.heap_model.specs.Core.{Core, log_start, Ground, ground, all_records, all_words, area_in, seal_moves, seal_of, seal_need, space_refusal}
@@ -34,7 +35,7 @@ use Rattle.heap_model.specs.CoreTold.{IsTold}
 use Rattle.core_laws.proofs.Sessions.Apart.{own_away, own_apart}
 use Rattle.core_laws.proofs.Step.Goes.{words_with, writing_of, numbered_as}
 use Rattle.core_laws.proofs.Sessions.OtherWrites.{IsAway, length-others, others_at, others_records, all_ended}
-use Rattle.core_laws.proofs.Seal.Words.{AgreeIn, WriteAt, need_same, moves_same, records_same, fields_written, promotion_writes, own_taken_back, free_away}
+use Rattle.core_laws.proofs.Seal.Words.{WriteAt, fields_written, promotion_writes, own_taken_back, free_away}
 use Rattle.core_laws.specs.Valid.{Agrees}
 
 refused_or_not : (b : Bool) (why : Refusal) → cond b (Some why) None ≡ None → b ≡ false
@@ -100,11 +101,11 @@ module _ (a : Account) (c : Core) (h : Agrees a c) {numbers : List ℕ} {heard :
   unfolding known
   where_known = ap (λ (x : Option State). record { places = c.places; words = now; state = x }) h.told.reached
 
-  -- all words are those that it sees in the fields that it wrote
+  -- all words are like those that it sees in the fields that it wrote
   agree : AgreeIn own_words now (written_fields own_undo)
   agree =
       let Away : Field → Type 0 = λ f. IsAway h.behind t.number (field_at f.0 f.1) in
-      AllByRecursion-map Away (λ f. _) (written_fields own_undo) (λ f away. sym (others_at h.behind t.number now (field_at f.0 f.1) away))
+      AllByRecursion-map Away (λ f. _) (written_fields own_undo) (λ f away. inl (sym (others_at h.behind t.number now (field_at f.0 f.1) away)))
       (fields_written (IsAway h.behind t.number) own_undo (own_away a c h o s t e))
 
   -- so the core's records of a seal are these

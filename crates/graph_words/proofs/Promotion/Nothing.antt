@@ -44,7 +44,8 @@ promoted_by_none area words undo settled = promoted_none area (words_in_fields w
 pub moves_none : (area : AreaState) (words : List ℕ) (undo : List UndoEntry) (address : ℕ) → AreSettled words (written_fields undo) → moves_of area words undo address ≡ []
 moves_none area words undo address settled = ap (λ starts. moves_to area starts address) (promoted_by_none area words undo settled)
 
-none_meant : (t : ℕ) (moves : List Move) (f : Field) (w : ℕ) (meant : Option Word) → refers_to_volatile meant ≡ false → fix_meant t moves f w meant ≡ []
+-- a word that refers to no object of an area is not put right
+pub none_meant : (t : ℕ) (moves : List Move) (f : Field) (w : ℕ) (meant : Option Word) → refers_to_volatile meant ≡ false → fix_meant t moves f w meant ≡ []
 none_meant t moves f w None off = refl
 none_meant t moves f w (Some Null) off = refl
 none_meant t moves f w (Some (Int n)) off = refl

@@ -35,7 +35,7 @@ use Rattle.core_laws.proofs.Step.Goes.{writing_of}
 use Rattle.core_laws.proofs.Sessions.OtherWrites.{IsAway, others_at, undo_other}
 use Rattle.core_laws.proofs.Seal.Others.{stays_beside}
 use Rattle.core_laws.proofs.Seal.Told as seal
-use Rattle.core_laws.proofs.Seal.Words.{AgreeIn, fields_written, need_same}
+use Rattle.core_laws.proofs.Seal.Words.{fields_written}
 use Rattle.core_laws.proofs.Sessions.Actives.{each_session}
 use Rattle.core_laws.specs.Valid.{IsValid, RunsLocked}
 use Rattle.heap_memory.specs.Memory.{Memory}
@@ -46,6 +46,7 @@ use Rattle.memory_laws.proofs.Does.{Does}
 use Rattle.memory_laws.proofs.Kept.Locks.{held_sealed}
 use Rattle.core_laws.proofs.Step.Events.{may_go}
 use Rattle.graph_words.proofs.Places.Addresses.{none_or_some}
+use Rattle.graph_words.proofs.Promotion.Alike.{AgreeIn, need_same}
 use Rattle.graph_words.proofs.Promotion.Seal.{is_sealing, sealing}
 use Rattle.graph_words.proofs.Seal.Values.{later_cases}
 use Rattle.graph_model.specs.declared.id.Id.{Id}
@@ -96,11 +97,11 @@ module _ (c : Core) (valid : IsValid c) (runs : RunsLocked c.g0 c.first c.histor
   abbrev sealed : Account
   sealed = account_after a (record { event = Seal s; reply = Sealed (length a.sealed + 1) })
 
-  -- all words are those that the transaction sees in the fields that it wrote
+  -- all words are like those that the transaction sees in the fields that it wrote
   agree : AgreeIn (seal.own_words a c valid order s t e) now (written_fields undo)
   agree =
       let Away : Field → Type 0 = λ f. IsAway behind t.number (field_at f.0 f.1) in
-      AllByRecursion-map Away (λ f. _) (written_fields undo) (λ f away. sym (others_at behind t.number now (field_at f.0 f.1) away))
+      AllByRecursion-map Away (λ f. _) (written_fields undo) (λ f away. inl (sym (others_at behind t.number now (field_at f.0 f.1) away)))
       (fields_written (IsAway behind t.number) undo (own_away a c valid order s t e))
 
   -- so the promotion takes as many words
