@@ -27,6 +27,7 @@ use Rattle.graph_words.specs.Area.{HasMade}
 use Rattle.graph_words.specs.Places.{Places, IsOwn, IsVisible, address_of}
 use Rattle.graph_words.proofs.Places.Addresses.{some_address}
 use Rattle.graph_words.specs.Stands.{Stands, AreWritten, AreOfFields}
+use Rattle.graph_words.proofs.Stands.Objects.{stands_inside}
 use Rattle.graph_words.proofs.Stands.Own.{own_write_stands, own_write_made, own_write_written}
 use Rattle.graph_words.proofs.Stands.Write.{write_stands, write_made, write_written}
 use Rattle.graph_words.proofs.Stands.Visible.{length-with_field}
@@ -125,6 +126,26 @@ record IsWrite (a : Account) (c : Core) (s : ℕ) (t : Transaction) (event : Eve
 
 -- A write into an object that stands in the current space.
 
+-- a write of a field of an object that no other transaction holds is one that the records can tell
+pub writes_at : (a : Account) (c : Core) (h : Agrees a c) {numbers : List ℕ} {heard : Heard} (o : IsOrdered c.g0 numbers a heard) (s : ℕ) (t : Transaction) (e : a.active s ≡ Some t) (id : Id) (at i : ℕ) (v : Val)
+    → address_of c.places id ≡ Some at → i < length (fields (view c.g0 a t).graph id) → IsVisible c.places t.number (view c.g0 a t).made v → IsFree c.g0 a t.number (Some (id, Exclusive))
+    → IsWriteAt c.pages c.first_number c.born c.places (serial c.g0 a.sealed) (view c.g0 a t).graph (c.before + length a.sealed) t.number (view c.g0 a t).made (all_records c) (all_words c) h.behind id at i v
+writes_at a c h o s t e id at i v place within seen free =
+    let writing = writing_of a c s t e h in
+    let entry = entry_of c.places (view c.g0 a t).graph id at i in
+    record {
+      told = h.told;
+      number = numbered_as a c s t e h;
+      apart = apart_with a c h o s t e id at i place within free entry refl refl;
+      stands = writing.stands;
+      has = writing.made;
+      place = place;
+      within = within;
+      inside = stands_inside writing.stands entry (record { id = id; object = place; field = within });
+      seen = seen;
+      was = word_now a c h o s t e id at i place within (free_shared c.g0 a t.number id free);
+    }
+
 module _ (a : Account) (c : Core) {numbers : List ℕ} {heard : Heard} (o : IsOrdered c.g0 numbers a heard) (s : ℕ) (t : Transaction) (event : Event) (hd i : ℕ) (v : Val) (w : IsWrite a c s t event hd i v) (id : Id) (at : ℕ)
     (holds : held (view c.g0 a t).registers hd ≡ Some id) (within : i < length (fields (view c.g0 a t).graph id)) (place : address_of c.places id ≡ Some at) where
   -- what the sealed transactions left
@@ -152,20 +173,7 @@ module _ (a : Account) (c : Core) {numbers : List ℕ} {heard : Heard} (o : IsOr
   field_away = away_field a c w.agrees o s t w.active id at i place within (free_shared c.g0 a t.number id (w.free id holds))
 
   stable_at : IsWriteAt c.pages c.first_number c.born c.places base seen.graph (c.before + length a.sealed) t.number seen.made (all_records c) (all_words c) w.agrees.behind id at i v
-  stable_at =
-      let free = w.free id holds in
-      let writing = writing_of a c s t w.active w.agrees in
-      record {
-        told = w.agrees.told;
-        number = numbered_as a c s t w.active w.agrees;
-        apart = apart_with a c w.agrees o s t w.active id at i place within free entry refl refl;
-        stands = writing.stands;
-        has = writing.made;
-        place = place;
-        within = within;
-        seen = w.seen;
-        was = word_now a c w.agrees o s t w.active id at i place within (free_shared c.g0 a t.number id free);
-      }
+  stable_at = writes_at a c w.agrees o s t w.active id at i v place within w.seen (w.free id holds)
 
   stable_told : IsTold (log_start c) c.born c.places base (c.before + length a.sealed) (all_records c ++ records) (words_with c records) later
   stable_told = write_told c.pages c.first_number c.born c.places base seen.graph (c.before + length a.sealed) t.number seen.made (all_records c) (all_words c) w.agrees.behind id at i v stable_at

@@ -119,15 +119,14 @@ pub stands_field_within : {t made : ℕ} {places : Places} {g : Graph} {words : 
     → (id : Id) (at i : ℕ) → address_of places id ≡ Some at → i < length (fields g id) → field_at at i < base + used
 stands_field_within stands id at i is within = let lies = stands_within stands id at is in let ends = lies.below in omega arith
 
--- so does a write of one
+-- so does a write of a field of such an object
+pub field_inside : (base used n : ℕ) (u : UndoEntry) → LiesWithin base used u.object n → u.field < n → LiesInside base used u
+field_inside base used n u lies field = let ends = lies.below in record { above = lies.above; below = omega arith }
+
+-- and one of an object of the graph
 pub stands_inside : {t made : ℕ} {places : Places} {g : Graph} {words : List ℕ} {base used : ℕ} → Stands t made places g words base used
     → (u : UndoEntry) → IsOfField places g u → LiesInside base used u
-stands_inside stands u one =
-    let lies = stands_within stands one.id u.object one.object in
-    let above = lies.above in
-    let ends = lies.below in
-    let field = one.field in
-    record { above = omega arith; below = omega arith }
+stands_inside {g = g} {base = base} {used = used} stands u one = field_inside base used (length (fields g one.id)) u (stands_within stands one.id u.object one.object) one.field
 
 -- two fields at one address are one
 pub stands_field_one : {t made : ℕ} {places : Places} {g : Graph} {words : List ℕ} {base used : ℕ} → Stands t made places g words base used
