@@ -82,8 +82,8 @@ agrees_history a c history h = record {
 }
 
 -- What an event leaves of a core that agrees with its history: what the history says of the transactions, and what all records tell
--- with those that it appends, where these objects have come to stand in the current space.
-pub record Goes (a : Account) (c : Core) (b : Account) (more : List Record) (placed : Places) : Type 0 where
+-- with those that it appends, where these objects stand in the current space then.
+pub record Goes (a : Account) (c : Core) (b : Account) (more : List Record) (places : Places) : Type 0 where
   pub unfailed : b.failed ≡ None
   pub certain : b.in_doubt ≡ None
   pub acknowledged : b.acknowledged ≡ a.acknowledged
@@ -93,16 +93,16 @@ pub record Goes (a : Account) (c : Core) (b : Account) (more : List Record) (pla
   pub later : List Transaction
   pub sealed : b.sealed ≡ a.sealed ++ later
   pub behind : State
-  pub told : IsTold (log_start c) c.born (c.places ++ placed) (serial c.g0 b.sealed) (c.before + length b.sealed) (all_records c ++ more) (words_with c more) behind
+  pub told : IsTold (log_start c) c.born places (serial c.g0 b.sealed) (c.before + length b.sealed) (all_records c ++ more) (words_with c more) behind
   pub next_known : behind.next ≤ c.first + b.begun
   pub losers : EachKeyed (λ q us. IsActive b q) behind.undo
-  pub writers : (s : ℕ) → IsWriter (c.places ++ placed) c.g0 b (b.active s) (words_with c more) behind
+  pub writers : (s : ℕ) → IsWriter places c.g0 b (b.active s) (words_with c more) behind
   pub room : used c + need c.pending more + reserved (undo_of behind) b ≤ c.room
 
 -- so a core is left that agrees with its history
-pub goes_on : (a : Account) (c : Core) (b : Account) (more : List Record) (placed : Places) → Agrees a c → Goes a c b more placed
-    → Agrees b (record c { pending = c.pending ++ more; places = c.places ++ placed })
-goes_on a c b more placed h go =
+pub goes_on : (a : Account) (c : Core) (b : Account) (more : List Record) (places : Places) → Agrees a c → Goes a c b more places
+    → Agrees b (record c { pending = c.pending ++ more; places = places })
+goes_on a c b more places h go =
     let all = used-append c more in
     let room = go.room in
     let first = h.sealed_first in
@@ -132,22 +132,20 @@ goes_on a c b more placed h go =
       disk_room = h.disk_room;
       behind = go.behind;
       told =
-          let told = subst (λ (rs : List Record). IsTold (log_start c) c.born (c.places ++ placed) (serial c.g0 b.sealed) (c.before + length b.sealed) rs (words_with c more) go.behind) records go.told in
-          subst (λ (ws : List ℕ). IsTold (log_start c) c.born (c.places ++ placed) (serial c.g0 b.sealed) (c.before + length b.sealed) (records_of c.batches ++ (c.pending ++ more)) ws go.behind) words told;
+          let told = subst (λ (rs : List Record). IsTold (log_start c) c.born places (serial c.g0 b.sealed) (c.before + length b.sealed) rs (words_with c more) go.behind) records go.told in
+          subst (λ (ws : List ℕ). IsTold (log_start c) c.born places (serial c.g0 b.sealed) (c.before + length b.sealed) (records_of c.batches ++ (c.pending ++ more)) ws go.behind) words told;
       next_known = go.next_known;
       losers = go.losers;
-      writers = λ s. subst (λ (ws : List ℕ). IsWriter (c.places ++ placed) c.g0 b (b.active s) ws go.behind) words (go.writers s);
+      writers = λ s. subst (λ (ws : List ℕ). IsWriter places c.g0 b (b.active s) ws go.behind) words (go.writers s);
       room = omega arith;
     }
 
--- no more records, and no more places
+-- no more records tell the same
 pub as_told : (a : Account) (c : Core) → (h : Agrees a c)
-    → IsTold (log_start c) c.born (c.places ++ []) (serial c.g0 a.sealed) (c.before + length a.sealed) (all_records c ++ []) (words_with c []) h.behind
+    → IsTold (log_start c) c.born c.places (serial c.g0 a.sealed) (c.before + length a.sealed) (all_records c ++ []) (words_with c []) h.behind
 as_told a c h =
-    subst (λ (ps : Places). IsTold (log_start c) c.born ps (serial c.g0 a.sealed) (c.before + length a.sealed) (all_records c ++ []) (words_with c []) h.behind) (sym (append-nil c.places))
-    (subst (λ (rs : List Record). IsTold (log_start c) c.born c.places (serial c.g0 a.sealed) (c.before + length a.sealed) rs (all_words c) h.behind) (sym (append-nil (all_records c))) h.told)
+    subst (λ (rs : List Record). IsTold (log_start c) c.born c.places (serial c.g0 a.sealed) (c.before + length a.sealed) rs (all_words c) h.behind) (sym (append-nil (all_records c))) h.told
 
--- a writer of the same words and places
-pub as_writer : (c : Core) (b : Account) (o : Option Transaction) (state : State) → IsWriter c.places c.g0 b o (all_words c) state
-    → IsWriter (c.places ++ []) c.g0 b o (words_with c []) state
-as_writer c b o state w = subst (λ (ps : Places). IsWriter ps c.g0 b o (words_with c []) state) (sym (append-nil c.places)) w
+-- no more places are those that there are
+pub places_still : (c : Core) (more : List Record) → record c { pending = c.pending ++ more; places = c.places ++ [] } ≡ record c { pending = c.pending ++ more }
+places_still c more = ap (λ (ps : Places). record c { pending = c.pending ++ more; places = ps }) (append-nil c.places)

@@ -194,7 +194,7 @@ module _ (a : Account) (c : Core) {numbers : List ℕ} {heard : Heard} (o : IsOr
       let beside = o.beside r s u t other also w.active in
       stays_write (writing_of a c r u also w.agrees) t.number beside.differ entry (word_in c.places seen.graph v) stable_at.was stable_at.apart)
 
-  stable_goes : HasRoom c records (called a s event) → Agrees (called a s event) (record c { pending = c.pending ++ records; places = c.places ++ [] })
+  stable_goes : HasRoom c records (called a s event) → Agrees (called a s event) (record c { pending = c.pending ++ records })
   stable_goes room =
       let h = w.agrees in
       let b = called a s event in
@@ -203,7 +203,7 @@ module _ (a : Account) (c : Core) {numbers : List ℕ} {heard : Heard} (o : IsOr
       let known = h.next_known in
       let kept = reserved_told c records b stable_told in
       let here : IsActive b t.number = record { session = s; transaction = after_call t event; active = called_active a s event t w.active; number = refl } in
-      goes_on a c b records [] h (record {
+      goes_on a c b records c.places h (record {
         unfailed = h.unfailed;
         certain = h.certain;
         acknowledged = refl;
@@ -213,18 +213,17 @@ module _ (a : Account) (c : Core) {numbers : List ℕ} {heard : Heard} (o : IsOr
         later = [];
         sealed = sym (append-nil a.sealed);
         behind = later;
-        told = subst (λ ps. IsTold (log_start c) c.born ps base (c.before + length a.sealed) (all_records c ++ records) (words_with c records) later) (sym (append-nil c.places)) stable_told;
+        told = stable_told;
         next_known = omega arith;
         losers = each_insert (λ q us. IsActive b q) h.behind.undo t.number (entry ∷ undo_of h.behind t.number) here (λ q us is. called_actives a s event q (h.losers q us is));
-        writers = λ r. subst (λ ps. IsWriter ps c.g0 b (b.active r) (words_with c records) later) (sym (append-nil c.places))
-            (each_session P a.active s (with_call (a.active s) event) stable_own stable_others r);
+        writers = each_session P a.active s (with_call (a.active s) event) stable_own stable_others;
         room = omega arith;
       })
 
 -- A write into an object that the transaction made.
 
 own_goes : (a : Account) (c : Core) (s : ℕ) (t : Transaction) (event : Event) (hd i : ℕ) (v : Val) (id : Id) → IsWrite a c s t event hd i v
-    → held (view c.g0 a t).registers hd ≡ Some id → IsOwn t.number (view c.g0 a t).made id → Agrees (called a s event) (record c { pending = c.pending ++ []; places = c.places ++ [] })
+    → held (view c.g0 a t).registers hd ≡ Some id → IsOwn t.number (view c.g0 a t).made id → Agrees (called a s event) (record c { pending = c.pending ++ [] })
 own_goes a c s t event hd i v id w holds own =
     let seen = view c.g0 a t in
     let writing = writing_of a c s t w.active w.agrees in
@@ -243,7 +242,7 @@ pub write_agrees : (a : Account) (c : Core) {numbers : List ℕ} {heard : Heard}
     → lock_of (view c.g0 a t).registers event ≡ lock_on (view c.g0 a t).registers hd Exclusive
     → ((id : Id) → held (view c.g0 a t).registers hd ≡ Some id → IsFree c.g0 a t.number (Some (id, Exclusive)))
     → more ≡ view_records c.places t.number (view c.g0 a t) hd i v → HasRoom c more (called a s event)
-    → Agrees (called a s event) (record c { pending = c.pending ++ more; places = c.places ++ [] })
+    → Agrees (called a s event) (record c { pending = c.pending ++ more })
 write_agrees a c o s t event hd i v more h e graph made visible granted lock free is room =
     let seen = view c.g0 a t in
     let b = called a s event in
@@ -252,7 +251,7 @@ write_agrees a c o s t event hd i v more h e graph made visible granted lock fre
     let field = holds_field seen hd i granted in
     let id = field.0 in
     let holds = field.1.holds in
-    let G : List Record → Type 0 = λ rs. Agrees b (record c { pending = c.pending ++ rs; places = c.places ++ [] }) in
+    let G : List Record → Type 0 = λ rs. Agrees b (record c { pending = c.pending ++ rs }) in
     elim (held_at_hand c.places t.number seen.made seen.registers hd id writing.handles holds) [
       | inl there ↦
           let place = some_address (address_of c.places id) there in

@@ -22,6 +22,7 @@ use Rattle.heap_spaces.specs.Spaces.{SpacesState}
 use Rattle.graph_words.specs.Places.{Places}
 use Rattle.heap_model.specs.Core.{Core, Ground, all_records, all_words, next_number, state_behind, undo_with, event_records, done}
 use Rattle.core_laws.proofs.Step.Forms.{call_places, done_records, no_call}
+use Rattle.core_laws.proofs.Step.Goes.{places_still}
 use Rattle.page_redo.proofs.RedoLaws.{lsns-redo_all}
 use Rattle.page_store.specs.declared.store.PageStore.{PageStore}
 use Rattle.page_store.specs.StoreState.{store_plan, stored_lsn, has_failed}
@@ -40,10 +41,11 @@ pub some_one : {A : Type 0} (x y : A) → Some x ≡ Some y → x ≡ y
 some_one x y e = cc e
 
 -- a call leaves of the core these records more
-pub call_done : (c : Core) (event : Event) (more : List Record) → IsCall event → event_records c event ≡ more → done c event ≡ record c { pending = c.pending ++ more; places = c.places ++ [] }
+pub call_done : (c : Core) (event : Event) (more : List Record) → IsCall event → event_records c event ≡ more → done c event ≡ record c { pending = c.pending ++ more }
 call_done c event more is records =
     done_records c event (no_call event is) ∙ ap (λ (placed : Places). record c { pending = c.pending ++ event_records c event; places = c.places ++ placed }) (call_places c event is)
     ∙ ap (λ (rs : List Record). record c { pending = c.pending ++ rs; places = c.places ++ [] }) records
+    ∙ places_still c more
 
 -- where the heap is found with these places, in this state
 abbrev pub ground_in : Core → Places → State → Ground
@@ -92,12 +94,12 @@ module _ (m n : Memory) (c : Core) (valid : IsValid c) (is : IsMemory m (account
   pub stays : n ≡ m → IsMemory n a c
   stays same = let P : Memory → Type 0 = λ x. IsMemory x a c in subst P (sym same) is
 
-  -- records more wait, and objects more stand in the current space
-  pub appended : (b : Account) (more : List Record) (placed : Places) (table : TableState) (locks : Holdings) (current : SpacesState) (count : ℕ) (later : State)
+  -- records more wait, and these objects stand in the current space then
+  pub appended : (b : Account) (more : List Record) (places : Places) (table : TableState) (locks : Holdings) (current : SpacesState) (count : ℕ) (later : State)
       → Leaves m n more table locks current count → state_behind c (all_records c ++ more) ≡ Some later → current ≡ spaces_of later
-      → ((r : ℕ) → transaction_of table r ≡ kept_of (ground_in c (c.places ++ placed) later) c.g0 b (b.active r)) → AreHeld locks (c.places ++ placed) c.g0 b
-      → table.next ≡ c.first + b.begun → count ≡ length b.sealed → IsMemory n b (record c { pending = c.pending ++ more; places = c.places ++ placed })
-  appended b more placed table locks current count later left reached room there held next sealed =
+      → ((r : ℕ) → transaction_of table r ≡ kept_of (ground_in c places later) c.g0 b (b.active r)) → AreHeld locks places c.g0 b
+      → table.next ≡ c.first + b.begun → count ≡ length b.sealed → IsMemory n b (record c { pending = c.pending ++ more; places = places })
+  appended b more places table locks current count later left reached room there held next sealed =
       let all = append_assoc (records_of c.batches) c.pending more in
       let then : state_behind c (records_of c.batches ++ (c.pending ++ more)) ≡ Some later = ap (state_behind c) (sym all) ∙ reached in
       record {
@@ -114,8 +116,8 @@ module _ (m n : Memory) (c : Core) (valid : IsValid c) (is : IsMemory m (account
         reached = then;
         spaces = left.spaces ∙ room;
         transactions = λ r. ap (λ (t : TableState). transaction_of t r) left.table ∙ there r
-            ∙ ap (λ (o : Option State). kept_of (record { places = c.places ++ placed; words = all_words c; state = o }) c.g0 b (b.active r)) (sym then);
-        locks = subst (λ (ls : Holdings). AreHeld ls (c.places ++ placed) c.g0 b) (sym left.locks) held;
+            ∙ ap (λ (o : Option State). kept_of (record { places = places; words = all_words c; state = o }) c.g0 b (b.active r)) (sym then);
+        locks = subst (λ (ls : Holdings). AreHeld ls places c.g0 b) (sym left.locks) held;
         next = ap (λ (t : TableState). t.next) left.table ∙ next;
         sealed = left.sealed ∙ sealed;
       }
@@ -124,11 +126,9 @@ module _ (m n : Memory) (c : Core) (valid : IsValid c) (is : IsMemory m (account
   pub appended_here : (b : Account) (more : List Record) (table : TableState) (locks : Holdings) (count : ℕ) (later : State) → Leaves m n more table locks m.spaces count
       → state_behind c (all_records c ++ more) ≡ Some later → spaces_of behind ≡ spaces_of later
       → ((r : ℕ) → transaction_of table r ≡ kept_of (ground_in c c.places later) c.g0 b (b.active r)) → AreHeld locks c.places c.g0 b
-      → table.next ≡ c.first + b.begun → count ≡ length b.sealed → IsMemory n b (record c { pending = c.pending ++ more; places = c.places ++ [] })
+      → table.next ≡ c.first + b.begun → count ≡ length b.sealed → IsMemory n b (record c { pending = c.pending ++ more })
   appended_here b more table locks count later left reached same there held next sealed =
-      let here = sym (append-nil c.places) in
-      appended b more [] table locks m.spaces count later left reached (spaces_are ∙ same)
-      (λ r. there r ∙ ap (λ (places : Places). kept_of (ground_in c places later) c.g0 b (b.active r)) here) (subst (λ (places : Places). AreHeld locks places c.g0 b) here held) next sealed
+      appended b more c.places table locks m.spaces count later left reached (spaces_are ∙ same) there held next sealed
 
   -- In a later state the transactions of all other sessions have the same writes that may be taken back.
   abbrev pub LeavesOthers : ℕ → State → Type 0

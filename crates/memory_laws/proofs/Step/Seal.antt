@@ -215,7 +215,7 @@ module _ (c : Core) (valid : IsValid c) (runs : RunsLocked c.g0 c.first c.histor
         omega (arith, is.sealed, ap (λ (o : Option Transaction). length (a.sealed ++ option_to_list o)) e, length-append a.sealed (t ∷ [])) in
         let held = subst (λ (ps : Places). AreHeld locks (c.places ++ ps) c.g0 sealed) (sym places_then)
         (held_sealed c.g0 c.history m.locks c.places later s (length a.sealed + 1) t runs.plain runs.two_phase e others_stand is.locks) in
-        appended m n c valid is sealed (event_records c (Seal s)) (event_places c (Seal s)) table locks taken (m.sealed + 1) last left seal_reaches (taking_same x same) there held is.next count
+        appended m n c valid is sealed (event_records c (Seal s)) (c.places ++ event_places c (Seal s)) table locks taken (m.sealed + 1) last left seal_reaches (taking_same x same) there held is.next count
 
 module _ (m n : Memory) (c : Core) (valid : IsValid c) (runs : RunsLocked c.g0 c.first c.history) (is : IsMemory m (account c.history) c) (s : ℕ) where
   -- a seal is answered as the core answers it, and the session has no transaction then
