@@ -158,7 +158,7 @@ module _ (a : Account) (c : Core) (h : Agrees a c) {numbers : List ℕ} {heard :
           has = w.made;
           written = w.written;
           of_fields = w.fields;
-          top = omega (arith, ends, same_pages, h.few_pages);
+          top = omega (arith, ends, same_pages, h.in_range.few_pages);
         }
 
     -- and words for what it promotes

@@ -76,7 +76,7 @@ pub begin_agrees : (a : Account) (c : Core) (s : ℕ) → Agrees a c → IsSessi
     → Agrees (account_after a (record { event = Begin s; reply = Begun (c.first + a.begun) })) (record c { pending = c.pending ++ [] })
 begin_agrees a c s h session none fits room =
     let bound = h.next_fits in
-    let some = h.some_first in
+    let some = h.in_range.some_first in
     let known = h.next_known in
     let n = c.first + a.begun in
     let next = c.first + (a.begun + 1) in

@@ -128,19 +128,19 @@ force_all a c bs acknowledged entries h same size last =
       unfailed = h.unfailed;
       certain = h.certain;
       in_sessions = h.in_sessions;
-      some_pages = h.some_pages;
-      few_pages = h.few_pages;
-      some_first = h.some_first;
+      in_range = h.in_range;
       next_fits = h.next_fits;
       numbered = h.numbered;
-      durable = length a.sealed;
-      sealed_first = omega arith;
-      acknowledged_last = last;
-      on_disk = h.behind;
-      disk_places = c.places;
-      disk_told = all_on_disk a c bs h same;
-      first_known = known_on a c h;
-      disk_room = omega arith;
+      disk = record {
+        commits = length a.sealed;
+        sealed_first = omega arith;
+        acknowledged_last = last;
+        state = h.behind;
+        places = c.places;
+        told = all_on_disk a c bs h same;
+        first_known = known_on a c h;
+        has_room = omega arith;
+      };
       behind = h.behind;
       told = subst (λ (rs : List Record). IsTold (log_start c) c.born c.places (serial c.g0 a.sealed) (c.before + length a.sealed) rs (all_words c) h.behind) (sym records) h.told;
       next_known = h.next_known;
@@ -158,15 +158,15 @@ force_waiting a c acknowledged entries h last =
 -- all that waits is forced to the disk, and nothing is answered yet
 pub forced_agrees : (a : Account) (c : Core) → Agrees a c → Agrees a (forced c c.pending)
 forced_agrees a c h =
-    let first = h.sealed_first in
-    let last = h.acknowledged_last in
+    let first = h.disk.sealed_first in
+    let last = h.disk.acknowledged_last in
     force_waiting a c a.acknowledged a.entries h (omega arith)
 
 -- all that waits is forced to the disk
 pub force_agrees : (a : Account) (c : Core) → Agrees a c → Agrees (account_after a (record { event = Force; reply = Durable (length a.sealed) })) (forced c c.pending)
 force_agrees a c h =
-    let first = h.sealed_first in
-    let last = h.acknowledged_last in
+    let first = h.disk.sealed_first in
+    let last = h.disk.acknowledged_last in
     force_waiting a c (max a.acknowledged (length a.sealed)) (a.entries + 1) h (omega arith)
 
 -- A flush.
@@ -177,19 +177,10 @@ agrees_stored a c p h = record {
   unfailed = h.unfailed;
   certain = h.certain;
   in_sessions = h.in_sessions;
-  some_pages = h.some_pages;
-  few_pages = h.few_pages;
-  some_first = h.some_first;
+  in_range = h.in_range;
   next_fits = h.next_fits;
   numbered = h.numbered;
-  durable = h.durable;
-  sealed_first = h.sealed_first;
-  acknowledged_last = h.acknowledged_last;
-  on_disk = h.on_disk;
-  disk_places = h.disk_places;
-  disk_told = h.disk_told;
-  first_known = h.first_known;
-  disk_room = h.disk_room;
+  disk = h.disk;
   behind = h.behind;
   told = h.told;
   next_known = h.next_known;
