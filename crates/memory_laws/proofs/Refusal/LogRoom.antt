@@ -49,7 +49,7 @@ kept_end c a (Some t) = refl
 
 -- so memory keeps as much for the ends of all transactions
 pub reserved_kept : (m : Memory) (c : Core) (a : Account) → IsMemory m a c → memory.reserved m.table ≡ reserved (undo_behind c (all_records c)) a
-reserved_kept m c a is = ap (λ (f : ℕ → ℕ). sum_by f sessions) (λ i s. (ap kept_for_end (is.transactions s) ∙ kept_end c a (a.active s)) i)
+reserved_kept m c a is = ap (λ (f : ℕ → ℕ). sum_by f sessions) (λ i s. (ap kept_for_end (is.sessions.transactions s) ∙ kept_end c a (a.active s)) i)
 
 -- where the state behind all records is known
 pub reserved_now : (m : Memory) (c : Core) (valid : IsValid c) → IsMemory m (account c.history) c → memory.reserved m.table ≡ reserved (undo_of valid.behind) (account c.history)

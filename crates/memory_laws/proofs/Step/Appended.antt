@@ -74,17 +74,17 @@ module _ (m n : Memory) (c : Core) (valid : IsValid c) (is : IsMemory m (account
   behind = valid.behind
 
   -- it is the one that memory follows
-  same_state : is.state ≡ behind
-  same_state = some_one is.state behind (sym is.reached ∙ valid.told.reached)
+  same_state : is.sessions.state ≡ behind
+  same_state = some_one is.sessions.state behind (sym is.sessions.reached ∙ valid.told.reached)
 
   -- the spaces in memory are the state's
   pub spaces_are : m.spaces ≡ spaces_of behind
-  spaces_are = is.spaces ∙ ap spaces_of same_state
+  spaces_are = is.sessions.spaces ∙ ap spaces_of same_state
 
   -- each session's transaction is in memory what the core keeps of it
   pub own_kept : (s : ℕ) → own m s ≡ kept_of (ground_in c c.places behind) c.g0 a (a.active s)
   own_kept s =
-      is.transactions s ∙ ap (λ (o : Option State). kept_of (record { places = c.places; words = all_words c; state = o }) c.g0 a (a.active s)) valid.told.reached
+      is.sessions.transactions s ∙ ap (λ (o : Option State). kept_of (record { places = c.places; words = all_words c; state = o }) c.g0 a (a.active s)) valid.told.reached
 
   -- the transaction of a session in memory is the core's
   pub mine : (s : ℕ) (x : TransactionState) → own m s ≡ Some x → (t : Transaction) × (a.active s ≡ Some t) × (x ≡ kept c.places (view c.g0 a t) t.number (undo_of behind t.number))
@@ -107,19 +107,23 @@ module _ (m n : Memory) (c : Core) (valid : IsValid c) (is : IsMemory m (account
         place = left.log.place.at ∙ is.place;
         room = left.log.place.room ∙ is.room;
         words = left.words ∙ ap (λ (ws : List ℕ). fold put_record ws more) is.words ∙ sym (fold-append put_record c.words c.pending more);
-        pages = ap (λ (l : List ℕ). length l) left.lsns ∙ lsns-redo_all (log_count m.log + 1) (pages_of m) more ∙ is.pages;
-        lsns = λ p lt. lsn_appended m n c is more left.lsns p lt;
-        flushed = λ p lt. ap (λ (x : PageStore). stored_lsn x p) left.store ∙ is.flushed p lt;
-        plan = ap store_plan left.store ∙ is.plan;
-        unfailed = subst (λ (x : PageStore). IsFalse (has_failed x)) (sym left.store) is.unfailed;
-        state = later;
-        reached = then;
-        spaces = left.spaces ∙ room;
-        transactions = λ r. ap (λ (t : TableState). transaction_of t r) left.table ∙ there r
-            ∙ ap (λ (o : Option State). kept_of (record { places = places; words = all_words c; state = o }) c.g0 b (b.active r)) (sym then);
-        locks = subst (λ (ls : Holdings). AreHeld ls places c.g0 b) (sym left.locks) held;
-        next = ap (λ (t : TableState). t.next) left.table ∙ next;
-        sealed = left.sealed ∙ sealed;
+        pages = record {
+          number = ap (λ (l : List ℕ). length l) left.lsns ∙ lsns-redo_all (log_count m.log + 1) (pages_of m) more ∙ is.pages.number;
+          now = λ p lt. lsn_appended m n c is more left.lsns p lt;
+          flushed = λ p lt. ap (λ (x : PageStore). stored_lsn x p) left.store ∙ is.pages.flushed p lt;
+          plan = ap store_plan left.store ∙ is.pages.plan;
+          unfailed = subst (λ (x : PageStore). IsFalse (has_failed x)) (sym left.store) is.pages.unfailed;
+        };
+        sessions = record {
+          state = later;
+          reached = then;
+          spaces = left.spaces ∙ room;
+          transactions = λ r. ap (λ (t : TableState). transaction_of t r) left.table ∙ there r
+              ∙ ap (λ (o : Option State). kept_of (record { places = places; words = all_words c; state = o }) c.g0 b (b.active r)) (sym then);
+          locks = subst (λ (ls : Holdings). AreHeld ls places c.g0 b) (sym left.locks) held;
+          next = ap (λ (t : TableState). t.next) left.table ∙ next;
+          sealed = left.sealed ∙ sealed;
+        };
       }
 
   -- records more wait, and the same objects stand there
@@ -159,7 +163,7 @@ module _ (m n : Memory) (c : Core) (valid : IsValid c) (is : IsMemory m (account
       let there : transaction_of table s ≡ kept_of (ground_in c c.places later) c.g0 a (with_call (a.active s) event) =
       holds ∙ ap (λ (y : TransactionState). Some y) kept_so ∙ sym (kept_call (ground_in c c.places later) c.g0 a (a.active s) t event e) in
       let each = each_session P a.active s (with_call (a.active s) event) there (others_kept s table later beside others) in
-      let now = appended_here (called a s event) more table locks m.sealed later left reached same each held (next ∙ is.next) is.sealed in
+      let now = appended_here (called a s event) more table locks m.sealed later left reached same each held (next ∙ is.sessions.next) is.sessions.sealed in
       subst (λ (b : Account). IsMemory n b (done c event)) (sym (reply_adds c event ∙ call_account (next_number c) c.g0 a event called_it ∙ ap (λ (q : ℕ). called a q event) one))
       (subst (λ (d : Core). IsMemory n (called a s event) d) (sym (call_done c event more called_it records)) now)
 
@@ -181,7 +185,7 @@ module _ (m n : Memory) (c : Core) (valid : IsValid c) (is : IsMemory m (account
 
   -- a call that needs no lock leaves the locks
   pub no_lock : (s : ℕ) (t : Transaction) (event : Event) → a.active s ≡ Some t → lock_of (view c.g0 a t).registers event ≡ None → AreHeld m.locks c.places c.g0 (called a s event)
-  no_lock s t event e none = held_same m.locks c.places c.g0 a s t event e (λ id mode some. let never = sym none ∙ some in cc) is.locks
+  no_lock s t event e none = held_same m.locks c.places c.g0 a s t event e (λ id mode some. let never = sym none ∙ some in cc) is.sessions.locks
 
 -- what an event leaves that changes nothing
 pub nothing_left : (m : Memory) → Leaves m m [] m.table m.locks m.spaces m.sealed

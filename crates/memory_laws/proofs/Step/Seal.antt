@@ -212,10 +212,10 @@ module _ (c : Core) (valid : IsValid c) (runs : RunsLocked c.g0 c.first c.histor
         (λ r other. with_ended_other m.table s r other ∙ own_kept m n c valid is r ∙ kept_then r other (a.active r) refl) in
         let there = λ (r : ℕ). each r ∙ ap (λ (ps : Places). kept_of (ground_in c (c.places ++ ps) last) c.g0 sealed (sealed.active r)) (sym places_then) in
         let count : m.sealed + 1 ≡ length sealed.sealed =
-        omega (arith, is.sealed, ap (λ (o : Option Transaction). length (a.sealed ++ option_to_list o)) e, length-append a.sealed (t ∷ [])) in
+        omega (arith, is.sessions.sealed, ap (λ (o : Option Transaction). length (a.sealed ++ option_to_list o)) e, length-append a.sealed (t ∷ [])) in
         let held = subst (λ (ps : Places). AreHeld locks (c.places ++ ps) c.g0 sealed) (sym places_then)
-        (held_sealed c.g0 c.history m.locks c.places later s (length a.sealed + 1) t runs.plain runs.two_phase e others_stand is.locks) in
-        appended m n c valid is sealed (event_records c (Seal s)) (c.places ++ event_places c (Seal s)) table locks taken (m.sealed + 1) last left seal_reaches (taking_same x same) there held is.next count
+        (held_sealed c.g0 c.history m.locks c.places later s (length a.sealed + 1) t runs.plain runs.two_phase e others_stand is.sessions.locks) in
+        appended m n c valid is sealed (event_records c (Seal s)) (c.places ++ event_places c (Seal s)) table locks taken (m.sealed + 1) last left seal_reaches (taking_same x same) there held is.sessions.next count
 
 module _ (m n : Memory) (c : Core) (valid : IsValid c) (runs : RunsLocked c.g0 c.first c.history) (is : IsMemory m (account c.history) c) (s : ℕ) where
   -- a seal is answered as the core answers it, and the session has no transaction then
@@ -223,7 +223,7 @@ module _ (m n : Memory) (c : Core) (valid : IsValid c) (runs : RunsLocked c.g0 c
       → ((number : ℕ) → result ≡ Ok (Sealed number) → Seals m n s) → ((why : Refusal) → result ≡ Ok (Refused why) → IsAsItWas m n) → IfOk result (λ reply. Does c (Seal s) reply n)
   seal_does same (Err e) replied sealed_it stayed = tt
   seal_does same (Ok reply) replied sealed_it stayed =
-      does c (Seal s) (seal_refusal m s) (Sealed (m.sealed + 1)) reply n same replied (λ e. ap (λ (k : ℕ). Sealed (k + 1)) (sym is.sealed))
+      does c (Seal s) (seal_refusal m s) (Sealed (m.sealed + 1)) reply n same replied (λ e. ap (λ (k : ℕ). Sealed (k + 1)) (sym is.sessions.sealed))
       (λ e done_it.
       let seals = sealed_it (m.sealed + 1) (ap Ok done_it) in
       let t = mine m n c valid is s seals.transaction seals.was in

@@ -121,7 +121,7 @@ module _ (m n : Memory) (c : Core) (valid : IsValid c) (runs : RunsLocked c.g0 c
     locks_at : (q : Place) → place_in c.places v.graph id ≡ q → AreHeld (with_lock m.locks (kept c.places v t.number undo) locked.Exclusive q) c.places c.g0 (called a s event)
     locks_at q stands =
         subst (λ (r : Place). AreHeld (with_lock m.locks (kept c.places v t.number undo) locked.Exclusive r) c.places c.g0 (called a s event)) stands
-        (held_used m.locks c.places c.g0 a s t event id locked.Exclusive undo write.active write.needs is.locks)
+        (held_used m.locks c.places c.g0 a s t event id locked.Exclusive undo write.active write.needs is.sessions.locks)
 
     -- and what the write leaves
     left_at : (q : Place) → place_in c.places v.graph id ≡ q
