@@ -1,5 +1,5 @@
 -- What holds of every core that the events of sessions side by side reach from an opening.
-use Rattle.std.specs.Prelude.{◌≡◌, ◌⊎◌, ℕ, ◌+◌, ◌<◌, ◌≤◌, List, length, take, Option, None, Some}
+use Rattle.std.specs.Prelude.{◌≡◌, ◌⊎◌, ℕ, ◌+◌, ◌<◌, ◌≤◌, Bool, List, length, take, Option, None, Some}
 use Rattle.std.specs.List.{AllByRecursion, Contains}
 use Rattle.graph_model.specs.declared.id.Id.{Id}
 use Rattle.graph_model.specs.declared.reply.Entry.{Entry}
@@ -10,6 +10,7 @@ use Rattle.graph_model.specs.History.{Account, AreInSessions, account}
 use Rattle.graph_model.specs.Locking.{Exclusive, Lock, locks_of}
 use Rattle.graph_model.specs.Plain.{view, no_number}
 use Rattle.commit_order.specs.SerialOrder.{EachEntry, EndsWithFailure, IsTwoPhase, HasPlainReplies, numbers_begun}
+use Rattle.log_records.specs.declared.Record.{Record}
 use Rattle.log_machine.specs.declared.UndoEntry.{UndoEntry}
 use Rattle.log_machine.specs.Apart.{others_taken_back}
 use Rattle.log_machine.specs.Machine.{State, undo_of, reserve}
@@ -52,24 +53,36 @@ pub record IsActive (a : Account) (n : ℕ) : Type 0 where
   pub active : a.active session ≡ Some transaction
   pub number : transaction.number ≡ n
 
+-- How many pages a core has, and with which number its transactions began, is in range.
+pub record IsInRange (pages first : ℕ) : Type 0 where
+  pub some_pages : 1 ≤ pages
+  pub few_pages : pages ≤ 16384
+  pub some_first : 1 ≤ first
+
+-- The batches on the disk, with the words behind them, tell the first of these commits, and among them all that were acknowledged.
+pub record IsDurable (from : State) (born : Bool) (g0 : Graph) (before first room : ℕ) (batches : List (List Record)) (words : List ℕ) (sealed : List Transaction) (acknowledged : ℕ) : Type 0 where
+  pub commits : ℕ  -- how many commits since the opening are on the disk
+  pub sealed_first : commits ≤ length sealed
+  pub acknowledged_last : acknowledged ≤ commits  -- what was answered `durable` is
+  pub state : State
+  pub places : Places
+  pub told : IsTold from born places (serial g0 (take commits sealed)) (before + commits) (records_of batches) words state
+  pub first_known : first ≤ state.next  -- an opening of it goes on with no number below the first of this one
+  pub has_room : length (batches_bytes batches) + 1 + reserve state ≤ room  -- and has room to take back what else it holds
+
+-- the disk of a core tells so of what its history says
+abbrev pub DiskAgrees : Account → Core → Type 0
+DiskAgrees a c = IsDurable (log_start c) c.born c.g0 c.before c.first c.room c.batches c.words a.sealed a.acknowledged
+
 -- A core agrees with what its history says.
 pub record Agrees (a : Account) (c : Core) : Type 0 where
   pub unfailed : a.failed ≡ None  -- the disk has done what it was asked
   pub certain : a.in_doubt ≡ None  -- a seal asks nothing of the disk
   pub in_sessions : AreInSessions a
-  pub some_pages : 1 ≤ c.pages
-  pub few_pages : c.pages ≤ 16384
-  pub some_first : 1 ≤ c.first
+  pub in_range : IsInRange c.pages c.first
   pub next_fits : c.first + a.begun ≤ no_number
   pub numbered : (s : ℕ) → IsNumbered (c.first + a.begun) (a.active s)
-  pub durable : ℕ  -- how many commits since the opening are on the disk
-  pub sealed_first : durable ≤ length a.sealed
-  pub acknowledged_last : a.acknowledged ≤ durable  -- what was answered `durable` is
-  pub on_disk : State
-  pub disk_places : Places
-  pub disk_told : IsTold (log_start c) c.born disk_places (serial c.g0 (take durable a.sealed)) (c.before + durable) (records_of c.batches) c.words on_disk  -- the disk tells those commits
-  pub first_known : c.first ≤ on_disk.next  -- an opening of it goes on with no number below the first of this one
-  pub disk_room : length (batches_bytes c.batches) + 1 + reserve on_disk ≤ c.room  -- and has room to take back what else it holds
+  pub disk : DiskAgrees a c
   pub behind : State
   pub told : IsTold (log_start c) c.born c.places (serial c.g0 a.sealed) (c.before + length a.sealed) (all_records c) (all_words c) behind  -- all records tell all that was sealed
   pub next_known : behind.next ≤ c.first + a.begun  -- no transaction to come has written yet

@@ -1,4 +1,5 @@
 -- The records of a promotion.
+pub mod Alike
 pub mod Bytes
 pub mod Fix
 pub mod Follow

@@ -38,7 +38,7 @@ memory_committed : (c : Core) (w : Engine) → (valid : IsValid c) → RunsLocke
 memory_committed c w valid runs is =
     let a = account c.history in
     let undo = undo_of valid.behind in
-    taken_same w.table undo a (λ s. ap undo_if (is.transactions s) ∙ undo_kept (ground c) valid.behind c.g0 a (a.active s) valid.told.reached) sessions (memory w).words
+    taken_same w.table undo a (λ s. ap undo_if (is.sessions.transactions s) ∙ undo_kept (ground c) valid.behind c.g0 a (a.active s) valid.told.reached) sessions (memory w).words
     ∙ ap (taken_by undo a sessions) is.words
     ∙ committed_by_session a c valid (two_phase_ordered c.g0 c.history runs.plain runs.two_phase)
 

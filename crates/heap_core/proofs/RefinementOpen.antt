@@ -126,18 +126,22 @@ fresh_memory s batches stored gates born places g found m shaped recovered fresh
       place = rw fresh.log recovered.place;
       room = rw fresh.log recovered.room;
       words = fresh.words ∙ words_found s batches stored found shaped recovered;
-      pages = ap (λ (l : List ℕ). length l) fresh.lsns ∙ lsns_found s batches stored found shaped recovered;
-      lsns = λ p lt. ap (λ (l : List ℕ). get_or l p 0) fresh.lsns ∙ lsn_found s batches stored found shaped recovered p lt ∙ ap (λ (rs : List Record). max (lsn_of stored p) (last_lsn p 1 rs)) (sym none);
-      flushed = λ p lt. ap (λ (x : PageStore). stored_lsn x p) fresh.store ∙ recovered.flushed p lt;
-      plan = ap store_plan fresh.store ∙ recovered.plan;
-      unfailed = subst (λ (x : PageStore). IsFalse (has_failed x)) (sym fresh.store) recovered.unfailed;
-      state = settled shaped.state;
-      reached = ap (state_behind c) none ∙ rolled_reached s batches stored shaped;
-      spaces = fresh.spaces ∙ ap spaces_of (state_found s batches stored found shaped recovered);
-      transactions = none_begun m.table found.state.next fresh.table;
-      locks = none_held m.locks places g fresh.locks;
-      next = ap (λ t. t.next) fresh.table ∙ omega (arith, same_next);
-      sealed = fresh.sealed;
+      pages = record {
+        number = ap (λ (l : List ℕ). length l) fresh.lsns ∙ lsns_found s batches stored found shaped recovered;
+        now = λ p lt. ap (λ (l : List ℕ). get_or l p 0) fresh.lsns ∙ lsn_found s batches stored found shaped recovered p lt ∙ ap (λ (rs : List Record). max (lsn_of stored p) (last_lsn p 1 rs)) (sym none);
+        flushed = λ p lt. ap (λ (x : PageStore). stored_lsn x p) fresh.store ∙ recovered.flushed p lt;
+        plan = ap store_plan fresh.store ∙ recovered.plan;
+        unfailed = subst (λ (x : PageStore). IsFalse (has_failed x)) (sym fresh.store) recovered.unfailed;
+      };
+      sessions = record {
+        state = settled shaped.state;
+        reached = ap (state_behind c) none ∙ rolled_reached s batches stored shaped;
+        spaces = fresh.spaces ∙ ap spaces_of (state_found s batches stored found shaped recovered);
+        transactions = none_begun m.table found.state.next fresh.table;
+        locks = none_held m.locks places g fresh.locks;
+        next = ap (λ t. t.next) fresh.table ∙ omega (arith, same_next);
+        sealed = fresh.sealed;
+      };
     }
 
 -- What was known of the pages that are stored is known of them.

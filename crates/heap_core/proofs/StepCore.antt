@@ -61,7 +61,7 @@ module _ {D : Type 0} (g : Ghosts D) where
   remembers c e disk failed none is = record {
     failure = ap entry_of none ∙ sym is.unfailed;
     pending = subst (KnowsPending c) (sym none) tt;
-    sealed = is.memory.sealed;
+    sealed = is.memory.sessions.sealed;
     active = is_some_own (memory e) (account c.history) c is.memory;
   }
 

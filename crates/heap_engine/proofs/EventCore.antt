@@ -126,7 +126,7 @@ disk_keeps s c image may_leave disk sound d left =
 pub cut_short : (c : Core) (event : Event) (old new : Engine) → IsMemory (memory old) (account c.history) c → 0 < calls c event → new.sealed ≡ old.sealed → new.table ≡ old.table → WasCutShort c event new
 cut_short c event old new is some sealed table = record {
   some = some;
-  sealed = sealed ∙ is.sealed;
+  sealed = sealed ∙ is.sessions.sealed;
   active = λ s. ap (λ (t : TableState). is_some (transaction_of t s)) table ∙ is_some_own (memory old) (account c.history) c is s;
 }
 

@@ -29,7 +29,7 @@ use Rattle.heap_engine.specs.EngineState.{memory}
 
 -- a page of memory that is not there is not there in the core
 pub past : (c : Core) (w : Engine) (p n : ℕ) → IsMemory (memory w) (account c.history) c → n ≡ cache_pages w.cache → n ≤ p → pages_in c.pages ≤ p
-past c w p n works is le = subst (λ (k : ℕ). k ≤ p) (is ∙ ap (λ (of : Plan). 2 * of.pages) works.plan) le
+past c w p n works is le = subst (λ (k : ℕ). k ≤ p) (is ∙ ap (λ (of : Plan). 2 * of.pages) works.pages.plan) le
 
 pub is_there : (w : Engine) (p n : ℕ) → n ≡ cache_pages w.cache → p < n → p < cache_pages w.cache
 is_there w p n is lt = subst (λ (k : ℕ). p < k) is lt

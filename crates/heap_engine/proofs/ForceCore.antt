@@ -49,7 +49,7 @@ pub force_does : (m new : Memory) (c : Core) (reply : Reply) → IsValid c → I
 force_does m new c reply valid is keeps at room same store replied =
     let a = account c.history in
     let forced = forced_memory m new a c is keeps at room same store in
-    does c Force None (Durable m.sealed) reply new (force_granted c valid) replied (λ e. ap Durable (sym is.sealed))
+    does c Force None (Durable m.sealed) reply new (force_granted c valid) replied (λ e. ap Durable (sym is.sessions.sealed))
     (λ e granted. memory_told new a (done c Force) (max a.acknowledged (length a.sealed)) (a.entries + 1) forced)
     (λ why refused. let never : Durable m.sealed ≡ Refused why = sym replied ∙ refused in cc never)
 
@@ -93,7 +93,7 @@ module _ (c : Core) (w : Engine) (log : Log) (works : IsMemory (memory w) (accou
   in_core P h = subst (P log_offset) room (let Q : ℕ → Type 0 = λ n. P n (log_room log) in subst Q at h)
 
   bytes : store_log (cache_store w.cache) ≡ c.room
-  bytes = ap (λ (of : Plan). of.log_bytes) works.plan
+  bytes = ap (λ (of : Plan). of.log_bytes) works.pages.plan
 
   -- a write into the log stores no page
   pub frames_forced : (old image : List ℕ) → SameOutside (log_place log) (log_place log + log_room log) old image → Knows (cache_store w.cache) old → Knows (cache_store w.cache) image

@@ -13,4 +13,4 @@ is_some_kept g g0 a (Some t) = refl
 
 -- one is kept of a session that has one
 pub is_some_own : (m : Memory) (a : Account) (c : Core) → IsMemory m a c → (s : ℕ) → is_some (own m s) ≡ is_some (a.active s)
-is_some_own m a c is s = ap is_some (is.transactions s) ∙ is_some_kept (ground c) c.g0 a (a.active s)
+is_some_own m a c is s = ap is_some (is.sessions.transactions s) ∙ is_some_kept (ground c) c.g0 a (a.active s)

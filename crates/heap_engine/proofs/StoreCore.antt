@@ -65,17 +65,7 @@ memory_if false m log a c is keeps at room = record {
   room = room ∙ is.room;
   words = is.words;
   pages = is.pages;
-  lsns = is.lsns;
-  flushed = is.flushed;
-  plan = is.plan;
-  unfailed = is.unfailed;
-  state = is.state;
-  reached = is.reached;
-  spaces = is.spaces;
-  transactions = is.transactions;
-  locks = is.locks;
-  next = is.next;
-  sealed = is.sealed;
+  sessions = is.sessions;
 }
 
 -- the batches stand on the disk where the log lies
@@ -101,19 +91,19 @@ ready c p = forced_if (is_ahead c p) c
 module _ (c : Core) (w : Engine) (p : ℕ) (works : IsMemory (memory w) (account c.history) c) (page : p < cache_pages w.cache) where
   -- the pages in memory are those of the core
   pub bytes : cache_log w.cache ≡ c.room
-  bytes = ap (λ (of : Plan). of.log_bytes) works.plan
+  bytes = ap (λ (of : Plan). of.log_bytes) works.pages.plan
 
   pub within : p < pages_in c.pages
-  within = subst (λ (n : ℕ). p < n) (ap (λ (of : Plan). 2 * of.pages) works.plan) page
+  within = subst (λ (n : ℕ). p < n) (ap (λ (of : Plan). 2 * of.pages) works.pages.plan) page
 
   pub lsn : cached_lsn w.cache p ≡ present_lsn c p
-  lsn = works.lsns p within
+  lsn = works.pages.now p within
 
   -- so is whether one has changed
   pub dirty_is : cache.is_dirty w.cache p ≡ is_dirty c p
   dirty_is =
       ap (λ (n : ℕ). not (n == flushed_lsn w.cache p)) lsn
-      ∙ ap (λ (n : ℕ). not (present_lsn c p == n)) (works.flushed p within)
+      ∙ ap (λ (n : ℕ). not (present_lsn c p == n)) (works.pages.flushed p within)
       ∙ sym (ap (λ (b : Bool). b && not (present_lsn c p == c.stored_lsns p)) (lt-ltb p (pages_in c.pages) within))
 
   -- and whether it is ahead of the log

@@ -94,8 +94,8 @@ module _ {D : Type 0} {g : Ghosts D} (s : Super) (c : Core) (running : IsRunning
   least : lasting core ≤ all
   least =
       let agrees = reached_agrees core run_reached.1 in
-      let commits = commits-start core.pages core.first_number agrees.on_disk (records_of core.batches) agrees.disk_told.reached in
-      omega (arith, agrees.acknowledged_last, agrees.sealed_first, agrees.disk_told.count, commits)
+      let commits = commits-start core.pages core.first_number agrees.disk.state (records_of core.batches) agrees.disk.told.reached in
+      omega (arith, agrees.disk.acknowledged_last, agrees.disk.sealed_first, agrees.disk.told.count, commits)
 
   most : all ≤ length (commits core.history)
   most = let same : length (commits core.history) ≡ all = ap (λ (ts : List Transaction). length ts) (commits-sealed core run_reached.1.sound) in omega arith

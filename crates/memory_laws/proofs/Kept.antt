@@ -4,4 +4,5 @@ pub mod Held
 pub mod Locks
 pub mod Log
 pub mod Pages
+pub mod Same
 pub mod Writes

@@ -14,17 +14,19 @@ use Rattle.image_plan.specs.Plan.{log_offset}
 use Rattle.log_machine.specs.declared.UndoEntry.{UndoEntry}
 use Rattle.log_machine.specs.Machine.{State, spaces_of}
 use Rattle.page_redo.specs.Pages.{pages_in}
+use Rattle.page_store.specs.declared.store.PageStore.{PageStore}
 use Rattle.page_store.specs.StoreState.{store_plan, stored_lsn, has_failed}
+use Rattle.heap_spaces.specs.Spaces.{SpacesState}
 use Rattle.object_locks.specs.declared.holding.Holding.{Holding}
 use Rattle.object_locks.specs.declared.holding.Mode as table
 use Rattle.object_locks.specs.declared.holding.Mode.TheVariants as locked
 use Rattle.object_locks.specs.Holdings.{Holdings}
 use Rattle.txn_table.specs.declared.place.Place.{Place}
 use Rattle.txn_table.specs.declared.place.Place.TheVariants.{Stable, Volatile}
-use Rattle.txn_table.specs.Table.{TransactionState}
+use Rattle.txn_table.specs.Table.{TableState, TransactionState, transaction_of}
 use Rattle.graph_words.specs.Places.{Places, address_of, index_of}
-use Rattle.heap_memory.specs.Memory.{Memory, own}
-use Rattle.heap_model.specs.Core.{Core, Ground, ground, all_records, all_words, state_behind, undo_with, area_in, present_lsn}
+use Rattle.heap_memory.specs.Memory.{Memory}
+use Rattle.heap_model.specs.Core.{Core, Ground, ground, all_words, undo_with, area_in, present_lsn}
 
 -- the place of an object by its address, if it has one, and by its index
 abbrev pub standing_place : Option ℕ → ℕ → Place
@@ -63,21 +65,37 @@ pub record IsHeld (places : Places) (g0 : Graph) (a : Account) (h : Holding) : T
 abbrev pub AreHeld : Holdings → Places → Graph → Account → Type 0
 AreHeld locks places g0 a = (h : Holding) → (set.contains locks h ≡ true) ↔ IsHeld places g0 a h
 
+-- Each page in memory has the LSN that these records give it, and is known to be stored with the one that it is stored with.
+pub record ArePages (lsns : List ℕ) (store : PageStore) (pages log_bytes : ℕ) (present stored : ℕ → ℕ) : Type 0 where
+  pub number : length lsns ≡ pages_in pages
+  pub now : (p : ℕ) → p < pages_in pages → slice_index lsns p ≡ present p
+  pub flushed : (p : ℕ) → p < pages_in pages → stored_lsn store p ≡ stored p
+  pub plan : store_plan store ≡ record { pages = pages; log_bytes = log_bytes }
+  pub unfailed : IsFalse (has_failed store)  -- no store of a page has failed
+
+-- the pages in memory are a core's
+abbrev pub PagesAgree : Memory → Core → Type 0
+PagesAgree m c = ArePages m.lsns m.store c.pages c.room (present_lsn c) c.stored_lsns
+
+-- The spaces, transactions and locks in memory are those of a history that tells this account, where it finds the heap so.
+pub record AreSessions (current : SpacesState) (table : TableState) (held : Holdings) (count : ℕ) (ground : Ground) (g0 : Graph) (first : ℕ) (a : Account) : Type 0 where
+  pub state : State
+  pub reached : ground.state ≡ Some state
+  pub spaces : current ≡ spaces_of state
+  pub transactions : (s : ℕ) → transaction_of table s ≡ kept_of ground g0 a (a.active s)
+  pub locks : AreHeld held ground.places g0 a
+  pub next : table.next ≡ first + a.begun
+  pub sealed : count ≡ length a.sealed
+
+-- those in memory are a core's
+abbrev pub SessionsAgree : Memory → Account → Core → Type 0
+SessionsAgree m a c = AreSessions m.spaces m.table m.locks m.sealed (ground c) c.g0 c.first a
+
 -- What is kept in memory is that of a core whose history tells this account.
 pub record IsMemory (m : Memory) (a : Account) (c : Core) : Type 0 where
   pub log : Keeps m.log c.batches c.pending
   pub place : log_place m.log ≡ log_offset
   pub room : log_room m.log ≡ c.room
   pub words : m.words ≡ all_words c
-  pub pages : length m.lsns ≡ pages_in c.pages
-  pub lsns : (p : ℕ) → p < pages_in c.pages → slice_index m.lsns p ≡ present_lsn c p
-  pub flushed : (p : ℕ) → p < pages_in c.pages → stored_lsn m.store p ≡ c.stored_lsns p
-  pub plan : store_plan m.store ≡ record { pages = c.pages; log_bytes = c.room }
-  pub unfailed : IsFalse (has_failed m.store)  -- no store of a page has failed
-  pub state : State
-  pub reached : state_behind c (all_records c) ≡ Some state
-  pub spaces : m.spaces ≡ spaces_of state
-  pub transactions : (s : ℕ) → own m s ≡ kept_of (ground c) c.g0 a (a.active s)
-  pub locks : AreHeld m.locks c.places c.g0 a
-  pub next : m.table.next ≡ c.first + a.begun
-  pub sealed : m.sealed ≡ length a.sealed
+  pub pages : PagesAgree m c
+  pub sessions : SessionsAgree m a c

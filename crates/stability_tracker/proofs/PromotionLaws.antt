@@ -1,6 +1,6 @@
 -- Laws of what is promoted: it is just what is reached.
 use Rattle.std.proofs.Common.{◌≡◌, ℕ, zero, suc, ◌≤◌, ◌⊎◌, inl, inr, List, [], ◌∷◌, length, true, Option, None, Some, refl, sym, ap, ◌∙◌, subst, arith}
-use Rattle.std.specs.Prelude.{slice_get, Contains, filter}
+use Rattle.std.specs.Prelude.{slice_get, Contains, filter, ◌||◌}
 use Rattle.std.specs.List.{list_any}
 use Rattle.std.specs.List.Sorted.{IsStrictlyIncreasing}
 use Rattle.std.proofs.lemmas.Bool.{or_cases, or_left, or_right, eqb-true, eq-eqb}
@@ -169,5 +169,19 @@ promoted_none area written no_word = sym (promoted_one area written [] (λ k wit
     none : (at : ℕ) → IsReached area written at → ⊥
     none at (named i w is meant start) = no_word i w at is meant start
     none at (along from i w reached is meant start) = none from reached
+
+-- Words that refer to the same objects.
+
+reached_alike : (steps : ℕ) (area : AreaState) (written others : List ℕ) → ((at : ℕ) → some_refers at written ≡ some_refers at others) → reached_in steps area written ≡ reached_in steps area others
+unfolding reached_in
+reached_alike zero area written others same = refl
+reached_alike (suc steps) area written others same =
+    let before = reached_alike steps area written others same in
+    λ i. filter (λ at. same at i || list_any (λ from. some_refers at (field_words area.words from)) (before i)) (starts_of area)
+
+-- where the words that were written refer to the same objects as others, the same objects are promoted
+pub promoted_alike : (area : AreaState) (written others : List ℕ) → ((at : ℕ) → some_refers at written ≡ some_refers at others) → promoted area written ≡ promoted area others
+unfolding promoted
+promoted_alike area written others same = reached_alike area.made area written others same
 
 -- What the objects take.

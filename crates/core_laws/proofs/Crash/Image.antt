@@ -71,10 +71,10 @@ tell_sealed c k batches places now state h told logged room next kept forced som
     }
 
 -- so many commits of the log on the disk came before the opening, and so many since then
-forced_commits : (a : Account) (c : Core) → (b : Agrees a c) → machine.commits (records_of c.batches) ≡ c.before + b.durable
+forced_commits : (a : Account) (c : Core) → (b : Agrees a c) → machine.commits (records_of c.batches) ≡ c.before + b.disk.commits
 forced_commits a c b =
-    let all = commits-start c.pages c.first_number b.on_disk (records_of c.batches) b.disk_told.reached in
-    let count = b.disk_told.count in
+    let all = commits-start c.pages c.first_number b.disk.state (records_of c.batches) b.disk.told.reached in
+    let count = b.disk.told.count in
     omega arith
 
 -- pages that may stand beside the forced records may stand beside these batches
@@ -89,14 +89,14 @@ pub tell_first : (c : Core) (batches : List (List Record)) → IsSound c → Has
 tell_first c batches h logged (inl is) =
     let b = sound_agrees c h in
     let forced = forced_commits (record (account c.history) { failed = None }) c b in
-    let P : List (List Record) → Type 0 = λ bs. TellFirst c b.durable bs in
-    (b.durable, subst P (sym is) (tell_sealed c b.durable c.batches b.disk_places c.words b.on_disk h b.disk_told logged b.disk_room b.first_known b.acknowledged_last (omega arith) b.sealed_first))
+    let P : List (List Record) → Type 0 = λ bs. TellFirst c b.disk.commits bs in
+    (b.disk.commits, subst P (sym is) (tell_sealed c b.disk.commits c.batches b.disk.places c.words b.disk.state h b.disk.told logged b.disk.has_room b.disk.first_known b.disk.acknowledged_last (omega arith) b.disk.sealed_first))
 tell_first c batches h logged (inr is) =
     let b = sound_agrees c h in
     let a = record (account c.history) { failed = None } in
     let all = length (sealed c.history) in
-    let last = b.acknowledged_last in
-    let first = b.sealed_first in
+    let last = b.disk.acknowledged_last in
+    let first = b.disk.sealed_first in
     let records = ap records_of is ∙ records_of-with_batch c.batches c.pending in
     let told = all_on_disk a c batches b records in
     let words = all_logged c logged ∙ ap (machine.words c.pages) (sym records) in

@@ -77,7 +77,7 @@ module _ (a : Account) (c : Core) (h : Agrees a c) {numbers : List ℕ} {heard :
       let below = (number_below a c s t e h).1 in
       let known = h.next_known in
       let kept = reserved_told c (seal.records a c h o s t e) b told in
-      goes_on a c b (seal.records a c h o s t e) (seal.placed a c h o s t e) h (record {
+      goes_on a c b (seal.records a c h o s t e) later h (record {
         unfailed = h.unfailed;
         certain = h.certain;
         acknowledged = refl;

@@ -117,7 +117,7 @@ module _ (a : Account) (c : Core) (h : Agrees a c) {numbers : List ℕ} {heard :
   there_left id at there = (fields left id, stands_get h.told.stands id at there)
 
   there_after : (id : Id) (at : ℕ) → address_of later id ≡ Some at → IsThere after id
-  there_after id at there = (fields after id, stands_get (seal_stands (seal.can a c h o s t e space)) id at there)
+  there_after id at there = (fields after id, stands_get (seal_stands (seal.can a c h o s t e space) (seal.room a c h o s t e space)) id at there)
 
   -- it sees what it made as before
   its_own : (k : ℕ) → 1 ≤ k → k ≤ before.made → get behind.graph (made_by u.number k) ≡ get before.graph (made_by u.number k)
@@ -149,7 +149,7 @@ module _ (a : Account) (c : Core) (h : Agrees a c) {numbers : List ℕ} {heard :
   -- what stands in the space then stood there before, or the sealed transaction made it
   old_or_new : (id : Id) (at : ℕ) → address_of later id ≡ Some at → (address_of c.places id ≡ Some at) ⊎ (id.t ≡ t.number)
   old_or_new id at there =
-      let it = sealing c.places after t.number (view c.g0 a t).made (seal.own_undo a c h o s t e) (seal.own_words a c h o s t e) h.behind.base h.behind.used in
+      let it = sealing c.places after t.number (view c.g0 a t).made (seal.own_undo a c h o s t e) (seal.own_words a c h o s t e) h.behind.base h.behind.used (seal.next_free a c h o s t e) in
       elim (later_cases it (is_sealing (seal.can a c h o s t e space)) id at there) [ inl old ↦ inl old | inr to ↦ inr to.own.maker ]
 
   -- what it holds stood there before
@@ -231,7 +231,7 @@ module _ (a : Account) (c : Core) (h : Agrees a c) {numbers : List ℕ} {heard :
     written = w.written;
     of_fields = w.fields;
     locked = w.locked;
-    settled = seal_stands (seal.can a c h o s t e space);
+    settled = seal_stands (seal.can a c h o s t e space) (seal.room a c h o s t e space);
     back = its_back;
     grown = λ id at there. address_of-append_left c.places (seal.placed a c h o s t e) id at there;
     apart = its_apart;

@@ -1,5 +1,5 @@
 -- What a seal among other active transactions finds, and that all records tell what it leaves.
-use Rattle.std.proofs.Common.{◌≡◌, ℕ, ◌+◌, ◌-◌, ◌*◌, ◌≤◌, Bool, true, false, cond, max, List, [], ◌∷◌, ◌++◌, length, Option, Some, None, refl, sym, ap, ◌∙◌, subst, arith}
+use Rattle.std.proofs.Common.{◌≡◌, ℕ, ◌+◌, ◌-◌, ◌*◌, ◌≤◌, Bool, true, false, cond, inl, max, List, [], ◌∷◌, ◌++◌, length, Option, Some, None, refl, sym, ap, ◌∙◌, subst, arith}
 use Rattle.std.specs.Prelude.{fold}
 use Rattle.std.proofs.lemmas.Bool.{ltb-false}
 use Rattle.graph_model.specs.declared.reply.Refusal.{Refusal}
@@ -19,13 +19,14 @@ use Rattle.log_machine.proofs.ListLaws.{AllByRecursion-append, AllByRecursion-ma
 use Rattle.log_machine.specs.Machine.{State, start, owed, words_in, after_all, taken_back, all_taken_back, undo_of, put_record, field_at, is_number}
 use Rattle.log_machine.proofs.MachineLaws.{after_all-append2}
 use Rattle.log_machine.specs.Sound.{AreLosers}
-use Rattle.log_machine.proofs.StateLaws.{leads_after_all, spaced_more}
+use Rattle.log_machine.proofs.StateLaws.{all_inside, leads_after_all, spaced_more}
 use Rattle.log_machine.proofs.WordsLaws.{length-put_records}
 use Rattle.volatile_area.specs.Area.{AreaState}
 use Rattle.graph_words.specs.Places.{Places}
 use Rattle.graph_words.specs.Stands.{StandsCommitted, AreNamedByBirth}
 use Rattle.graph_words.proofs.Stands.TakenBack.{renamed, taken_back_birth}
 use Rattle.graph_words.specs.Promotion.{Field, promoted_need, moves_of, seal_records, promotion_records, promoted_places, written_fields}
+use Rattle.graph_words.proofs.Promotion.Alike.{AgreeIn, need_same, moves_same, records_same}
 use Rattle.graph_words.proofs.Promotion.Sealed.{sealed_state}
 use Rattle.graph_words.proofs.Promotion.Seal.{CanSeal, seal_stands, seal_births, seal_old, seal_spelled, seal_follows}
 use Rattle.heap_model.specs.Core.{Core, log_start, Ground, ground, all_records, all_words, area_in, seal_moves, seal_of, seal_need, space_refusal}
@@ -34,7 +35,7 @@ use Rattle.heap_model.specs.CoreTold.{IsTold}
 use Rattle.core_laws.proofs.Sessions.Apart.{own_away, own_apart}
 use Rattle.core_laws.proofs.Step.Goes.{words_with, writing_of, numbered_as}
 use Rattle.core_laws.proofs.Sessions.OtherWrites.{IsAway, length-others, others_at, others_records, all_ended}
-use Rattle.core_laws.proofs.Seal.Words.{AgreeIn, WriteAt, need_same, moves_same, records_same, fields_written, promotion_writes, own_taken_back, free_away}
+use Rattle.core_laws.proofs.Seal.Words.{WriteAt, fields_written, promotion_writes, own_taken_back, free_away}
 use Rattle.core_laws.specs.Valid.{Agrees}
 
 refused_or_not : (b : Bool) (why : Refusal) → cond b (Some why) None ≡ None → b ≡ false
@@ -100,11 +101,11 @@ module _ (a : Account) (c : Core) (h : Agrees a c) {numbers : List ℕ} {heard :
   unfolding known
   where_known = ap (λ (x : Option State). record { places = c.places; words = now; state = x }) h.told.reached
 
-  -- all words are those that it sees in the fields that it wrote
+  -- all words are like those that it sees in the fields that it wrote
   agree : AgreeIn own_words now (written_fields own_undo)
   agree =
       let Away : Field → Type 0 = λ f. IsAway h.behind t.number (field_at f.0 f.1) in
-      AllByRecursion-map Away (λ f. _) (written_fields own_undo) (λ f away. sym (others_at h.behind t.number now (field_at f.0 f.1) away))
+      AllByRecursion-map Away (λ f. _) (written_fields own_undo) (λ f away. inl (sym (others_at h.behind t.number now (field_at f.0 f.1) away)))
       (fields_written (IsAway h.behind t.number) own_undo (own_away a c h o s t e))
 
   -- so the core's records of a seal are these
@@ -149,26 +150,27 @@ module _ (a : Account) (c : Core) (h : Agrees a c) {numbers : List ℕ} {heard :
     ends = spaced_more h.behind asked h.told.spaced (omega (arith, fits, inside))
 
     -- it finds what its transaction sees
-    pub can : CanSeal c.places seen.graph t.number seen.made own_undo own_words h.behind.base h.behind.used
+    pub can : CanSeal c.places seen.graph t.number seen.made own_undo own_words h.behind.base h.behind.used next_free
     can =
         let w = writing_of a c s t e h in
-        let size = h.told.size in
-        let long = length-others h.behind t.number now in
         record {
           stands = w.stands;
           has = w.made;
           written = w.written;
           of_fields = w.fields;
-          room = omega (arith, ends, same_pages, size, long);
-          top = omega (arith, ends, same_pages, h.few_pages);
+          top = omega (arith, ends, same_pages, h.in_range.few_pages);
         }
+
+    -- and words for what it promotes
+    pub room : next_free + asked ≤ length own_words
+    room = omega (arith, ends, same_pages, h.told.size, length-others h.behind t.number now)
 
     number : is_number t.number ≡ true
     number = numbered_as a c s t e h
 
     -- all records lead to the state behind it
     pub reached : after_all (start c.pages c.first_number) (all_records c ++ records) ≡ Some last
-    reached = after_all-append2 (start c.pages c.first_number) h.behind (all_records c) records h.told.reached ∙ seal_follows h.behind can number (omega (arith, fits, inside))
+    reached = after_all-append2 (start c.pages c.first_number) h.behind (all_records c) records h.told.reached ∙ seal_follows h.behind can (all_inside h.behind t.number sound) number (omega (arith, fits, inside))
 
     -- all words are those with the promotion
     pub words_behind : words_with c records ≡ fold put_record now promotion
@@ -196,7 +198,7 @@ module _ (a : Account) (c : Core) (h : Agrees a c) {numbers : List ℕ} {heard :
       size = length-put_records records now ∙ h.told.size;
       count = let count = h.told.count in omega arith;
       spaced = record { first = h.told.spaced.first; room = omega (arith, fits, inside); within = h.told.spaced.within };
-      stands = subst (λ ws. StandsCommitted (c.places ++ placed) seen.graph ws h.behind.base (h.behind.used + asked)) (sym committed) (seal_stands can);
+      stands = subst (λ ws. StandsCommitted (c.places ++ placed) seen.graph ws h.behind.base (h.behind.used + asked)) (sym committed) (seal_stands can room);
       old = seal_old can h.behind.next (max h.behind.next (t.number + 1)) h.told.old (omega arith) (omega arith);
-      births = λ by_birth. subst (AreNamedByBirth (c.places ++ placed)) (sym committed) (seal_births can (births_seen (h.told.births by_birth)));
+      births = λ by_birth. subst (AreNamedByBirth (c.places ++ placed)) (sym committed) (seal_births can room (births_seen (h.told.births by_birth)));
     }

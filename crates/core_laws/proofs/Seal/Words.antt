@@ -1,6 +1,5 @@
--- The records of a seal where others have written too: the words as its transaction sees them tell the same records, and these write no
--- word that another transaction wrote.
-use Rattle.std.proofs.Common.{◌≡◌, ◌≢◌, ℕ, ◌+◌, ◌≤◌, zero, suc, List, [], ◌∷◌, ◌++◌, map, get_or, Option, None, Some, refl, sym, ap, ◌∙◌, subst, arith}
+-- The records of a seal where others have written too: they write no word that another transaction wrote.
+use Rattle.std.proofs.Common.{◌≡◌, ◌≢◌, ℕ, ◌+◌, ◌≤◌, List, [], ◌∷◌, map, get_or, Option, None, Some, refl, sym, ap, ◌∙◌, subst, arith}
 use Rattle.std.specs.Prelude.{fold, slice_index}
 use Rattle.std.specs.List.{AllByRecursion, enumerate_from}
 use Rattle.std.specs.FinMap.{entries, remove}
@@ -9,7 +8,6 @@ use Rattle.heap_words.specs.declared.Word.{Word}
 use Rattle.heap_words.specs.declared.Word.TheVariants.{Null, Int, Stable, Volatile}
 use Rattle.heap_words.specs.Word.{meaning}
 use Rattle.log_records.specs.declared.Record.{Record}
-use Rattle.log_records.specs.declared.Record.TheVariants.{Commit}
 use Rattle.log_machine.specs.declared.UndoEntry.{UndoEntry}
 use Rattle.log_machine.proofs.Fields.{written, AreApart, IsApart}
 use Rattle.log_machine.specs.Apart.{others_taken_back}
@@ -20,54 +18,12 @@ use Rattle.log_machine.specs.Machine.{State, Loser, effect, addresses, field_at,
 use Rattle.log_machine.proofs.MapLaws.{each_entry, each_other}
 use Rattle.log_machine.specs.Sound.{AreLosers}
 use Rattle.log_machine.specs.UndoEntry.{LiesInside}
-use Rattle.stability_tracker.specs.Promotion.{promoted, need}
 use Rattle.volatile_area.specs.Area.{AreaState}
-use Rattle.graph_words.proofs.Area.Fields.{written_from_field}
+use Rattle.graph_words.proofs.Area.Fields.{written_from_field, write_at}
 use Rattle.graph_words.proofs.Promotion.Fix.{fixes}
 use Rattle.graph_words.proofs.Places.Lists.{AllByRecursion-from_get, Contains-get}
-use Rattle.graph_words.specs.Promotion.{Field, Move, base_of, fix_meant, fix_of, moves_of, moves_to, moved_words, promoted_by, promoted_need, promotion_records, seal_records, words_in_fields, words_taken, written_fields}
-use Rattle.graph_words.specs.Stands.{IsWritten}
+use Rattle.graph_words.specs.Promotion.{Field, Move, base_of, fix_meant, fix_of, moves_of, moves_to, moved_words, promoted_by, promotion_records, words_taken, written_fields}
 use Rattle.core_laws.proofs.Sessions.OtherWrites.{IsAway}
-
--- What the words tell.
-
--- these words are the others in these fields
-abbrev pub AgreeIn : List ℕ → List ℕ → List Field → Type 0
-AgreeIn words others fs = AllByRecursion (λ f. slice_index others (field_at f.0 f.1) ≡ slice_index words (field_at f.0 f.1)) fs
-
-in_fields : (words others : List ℕ) (fs : List Field) → AgreeIn words others fs → words_in_fields others fs ≡ words_in_fields words fs
-in_fields words others [] same = refl
-in_fields words others (f ∷ fs) same =
-    ap (λ w. w ∷ words_in_fields others fs) same.0 ∙ ap (λ ws. slice_index words (field_at f.0 f.1) ∷ ws) (in_fields words others fs same.1)
-
-fixes_same : (t : ℕ) (words others : List ℕ) (moves : List Move) (fs : List Field) → AgreeIn words others fs → fixes t others moves fs ≡ fixes t words moves fs
-fixes_same t words others moves [] same = refl
-fixes_same t words others moves (f ∷ fs) same =
-    ap (λ w. fix_meant t moves f w (meaning w) ++ fixes t others moves fs) same.0 ∙ ap (λ rs. fix_of t words moves f ++ rs) (fixes_same t words others moves fs same.1)
-
-module _ (area : AreaState) (words others : List ℕ) (undo : List UndoEntry) (same : AgreeIn words others (written_fields undo)) where
-  -- they tell the same objects that a seal promotes
-  pub promoted_same : promoted_by area others undo ≡ promoted_by area words undo
-  promoted_same = ap (promoted area) (in_fields words others (written_fields undo) same)
-
-  -- as many words that these take
-  pub need_same : promoted_need area others undo ≡ promoted_need area words undo
-  need_same = ap (need area) promoted_same
-
-  -- where they move
-  pub moves_same : (address : ℕ) → moves_of area others undo address ≡ moves_of area words undo address
-  moves_same address = ap (λ starts. moves_to area starts address) promoted_same
-
-  -- the same records of the promotion
-  pub promotion_same : (address : ℕ) → promotion_records area others undo address ≡ promotion_records area words undo address
-  promotion_same address =
-      let moves = moves_of area words undo address in
-      ap (λ ms. map (base_of area ms) ms ++ fixes area.transaction others ms (written_fields undo)) (moves_same address)
-      ∙ ap (λ rs. map (base_of area moves) moves ++ rs) (fixes_same area.transaction words others moves (written_fields undo) same)
-
-  -- and of the seal
-  pub records_same : (address : ℕ) → seal_records area others undo address ≡ seal_records area words undo address
-  records_same address = ap (λ rs. rs ++ Commit area.transaction ∷ []) (promotion_same address)
 
 -- Where records write.
 
@@ -110,17 +66,14 @@ fixes_write P t words moves (f ∷ fs) all =
     AllByRecursion-append (λ r. AllByRecursion P (addresses r)) (fix_of t words moves f) (fixes t words moves fs)
     (fix_writes P t moves f w (meaning w) all.0) (fixes_write P t words moves fs all.1)
 
-at_written : (P : ℕ → Type 0) (undo : List UndoEntry) (at i : ℕ) → AllByRecursion (λ v. P (written v)) undo → IsWritten undo at i → P (field_at at i)
-at_written P [] at i all (k, u, within, is, same) = absurd (omega arith)
-at_written P (v ∷ us) at i all (suc k, u, within, is, same) = at_written P us at i all.1 (k, u, omega arith, is, same)
-at_written P (v ∷ us) at i all (zero, u, within, is, same) =
-    subst P (ap (λ (x : UndoEntry). field_at x.object x.field) is ∙ ap (λ n. field_at n u.field) same.0 ∙ ap (field_at at) same.1) all.0
-
 -- what holds of the address of each write holds of that of each field that was written
 pub fields_written : (P : ℕ → Type 0) (undo : List UndoEntry) → AllByRecursion (λ v. P (written v)) undo → AllByRecursion (λ f. P (field_at f.0 f.1)) (written_fields undo)
 fields_written P undo all =
     AllByRecursion-from_get (λ f. P (field_at f.0 f.1)) (written_fields undo)
-    (λ i f got. at_written P undo f.0 f.1 all (written_from_field undo f (Contains-get (written_fields undo) i f got)))
+    (λ i f got.
+    let write = write_at (λ v. P (written v)) undo f.0 f.1 all (written_from_field undo f (Contains-get (written_fields undo) i f got)) in
+    let there : written write.0 ≡ field_at f.0 f.1 = λ j. field_at (write.2 j) (write.3 j) in
+    subst P there write.1)
 
 -- A promotion writes from its first address on, and fields that its transaction wrote.
 pub promotion_writes : (P : ℕ → Type 0) (area : AreaState) (words : List ℕ) (undo : List UndoEntry) (address : ℕ) → ((x : ℕ) → address ≤ x → P x) → AllByRecursion (λ v. P (written v)) undo

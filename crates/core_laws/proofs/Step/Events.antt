@@ -12,7 +12,7 @@ use Rattle.graph_model.specs.declared.reply.Entry.{Entry}
 use Rattle.graph_model.specs.declared.reply.Refusal.{Refusal}
 use Rattle.graph_model.specs.declared.reply.Refusal.TheVariants.{AlreadyActive, NumbersSpent}
 use Rattle.graph_model.specs.declared.reply.Reply.{Reply}
-use Rattle.graph_model.specs.declared.reply.Reply.TheVariants.{Durable, Flushed, Clean, Refused}
+use Rattle.graph_model.specs.declared.reply.Reply.TheVariants.{Aborted, Begun, Durable, Flushed, Clean, Refused}
 use Rattle.graph_model.specs.Graph.{Graph}
 use Rattle.graph_model.specs.Transaction.{Transaction, IsCall, held, put_value, reference_to, call}
 use Rattle.graph_model.specs.History.{Account, IsSession, account, account_after, session_of, IsOfSession}
@@ -32,7 +32,7 @@ use Rattle.heap_model.proofs.Step.Goes.{need_nothing}
 use Rattle.heap_model.proofs.Step.Room.{full_log-none, full_log-room}
 use Rattle.heap_model.proofs.Step.Step.{core_refusal-HasNoFault, done_history}
 use Rattle.core_laws.proofs.Step.Forms.{is_write, quiet_records, call_places, is_new, quiet_call, done_records, no_call, two_tests, not_active, has_transaction, area_fits, put_bounds, reference_visible, link_field}
-use Rattle.core_laws.proofs.Step.Goes.{writing_of, agrees_history}
+use Rattle.core_laws.proofs.Step.Goes.{writing_of, agrees_history, places_still}
 use Rattle.core_laws.proofs.Step.Granted.{HasRoom, begin_agrees, quiet_agrees, new_agrees}
 use Rattle.core_laws.proofs.Step.GrantedWrites.{write_agrees}
 use Rattle.core_laws.proofs.Step.GrantedEnds.{abort_room, abort_agrees, force_agrees, flush_agrees}
@@ -152,20 +152,25 @@ call_transaction c event is may =
     let t = has_transaction c.g0 a (a.active (session_of event)) event own in
     (t.0, t.1, ap (λ (o : Option Transaction). call_refusal c.g0 a o event) (sym t.1) ∙ own)
 
+-- a core with no more places agrees as with those that there are
+placed_still : (b : Account) (c : Core) (more : List Record) → Agrees b (record c { pending = c.pending ++ more }) → Agrees b (record c { pending = c.pending ++ more; places = c.places ++ [] })
+placed_still b c more left = subst (λ (d : Core). Agrees b d) (sym (places_still c more)) left
+
 begin_goes : (c : Core) (s : ℕ) → IsValid c → IsSession s → IsGranted c (Begin s) → Goes c (Begin s)
 begin_goes c s valid session may =
     let a = account c.history in
     let tests = two_tests (is_some (a.active s)) (next_number c == no_number) AlreadyActive NumbersSpent may.asks in
-    begin_agrees a c s valid session (not_active (a.active s) tests.0) (eqb-false (next_number c) no_number tests.1) (log_has_room c (Begin s) may.log)
+    placed_still (account_after a (record { event = Begin s; reply = Begun (next_number c) })) c []
+    (begin_agrees a c s valid session (not_active (a.active s) tests.0) (eqb-false (next_number c) no_number tests.1) (log_has_room c (Begin s) may.log))
 
 -- what a call leaves, by what it appends
-call_left : (c : Core) (event : Event) (more : List Record) → IsCall event → event_records c event ≡ more → Agrees (called (account c.history) (session_of event) event) (record c { pending = c.pending ++ more; places = c.places ++ [] })
+call_left : (c : Core) (event : Event) (more : List Record) → IsCall event → event_records c event ≡ more → Agrees (called (account c.history) (session_of event) event) (record c { pending = c.pending ++ more })
     → Goes c event
 call_left c event more is records go =
     let a = account c.history in
     let left = done_records c event (no_call event is)
     ∙ ap (λ (rs : List Record). record c { pending = c.pending ++ rs; places = c.places ++ event_places c event }) records
-    ∙ ap (λ (placed : Places). record c { pending = c.pending ++ more; places = c.places ++ placed }) (call_places c event is) in
+    ∙ ap (λ (placed : Places). record c { pending = c.pending ++ more; places = c.places ++ placed }) (call_places c event is) ∙ places_still c more in
     let there = subst (λ (d : Core). Agrees (called a (session_of event) event) d) (sym left) go in
     subst (λ (b : Account). Agrees b (done c event)) (sym (call_account (next_number c) c.g0 a event is)) there
 
@@ -248,7 +253,8 @@ abort_goes : (c : Core) (s : ℕ) → IsValid c → RunsLocked c.g0 c.first c.hi
 abort_goes c s valid runs may =
     let a = account c.history in
     let t = has_transaction c.g0 a (a.active s) (Abort s) may.asks in
-    abort_agrees a c (two_phase_ordered c.g0 c.history runs.plain runs.two_phase) s t.0 (event_records c (Abort s)) valid t.1 (abort_is c s t.0 valid t.1)
+    placed_still (account_after a (record { event = Abort s; reply = Aborted })) c (event_records c (Abort s))
+    (abort_agrees a c (two_phase_ordered c.g0 c.history runs.plain runs.two_phase) s t.0 (event_records c (Abort s)) valid t.1 (abort_is c s t.0 valid t.1))
 
 -- an event that isn't refused, by its form
 pub goes : (c : Core) (event : Event) → IsValid c → RunsLocked c.g0 c.first c.history → IsOfSession event → IsGranted c event → Goes c event

@@ -20,7 +20,7 @@ use Rattle.graph_words.specs.Places.{Places}
 use Rattle.heap_model.specs.Core.{Core, log_start, all_records, all_words, used, need, reserved}
 use Rattle.heap_model.proofs.Step.Goes.{used-append}
 use Rattle.heap_model.specs.CoreTold.{IsTold, IsNumbered}
-use Rattle.core_laws.specs.Valid.{IsWriting, IsWriter, IsActive, Agrees}
+use Rattle.core_laws.specs.Valid.{IsWriting, IsWriter, IsActive, DiskAgrees, Agrees}
 
 -- the words with these records behind all that there are
 abbrev pub words_with : Core → List Record → List ℕ
@@ -47,9 +47,9 @@ numbered_as a c s t e h =
 -- all records know the numbers that were given before the opening
 pub known_on : (a : Account) (c : Core) → (h : Agrees a c) → c.first ≤ h.behind.next
 known_on a c h =
-    let pending : after_all h.on_disk c.pending ≡ Some h.behind = sym (after_all-append2 (start c.pages c.first_number) h.on_disk (records_of c.batches) c.pending h.disk_told.reached) ∙ h.told.reached in
-    let grows = (leads_after_all h.on_disk h.behind c.pending pending).grows in
-    let known = h.first_known in
+    let pending : after_all h.disk.state c.pending ≡ Some h.behind = sym (after_all-append2 (start c.pages c.first_number) h.disk.state (records_of c.batches) c.pending h.disk.told.reached) ∙ h.told.reached in
+    let grows = (leads_after_all h.disk.state h.behind c.pending pending).grows in
+    let known = h.disk.first_known in
     omega arith
 
 -- Another history, or more records that wait.
@@ -60,19 +60,10 @@ agrees_history a c history h = record {
   unfailed = h.unfailed;
   certain = h.certain;
   in_sessions = h.in_sessions;
-  some_pages = h.some_pages;
-  few_pages = h.few_pages;
-  some_first = h.some_first;
+  in_range = h.in_range;
   next_fits = h.next_fits;
   numbered = h.numbered;
-  durable = h.durable;
-  sealed_first = h.sealed_first;
-  acknowledged_last = h.acknowledged_last;
-  on_disk = h.on_disk;
-  disk_places = h.disk_places;
-  disk_told = h.disk_told;
-  first_known = h.first_known;
-  disk_room = h.disk_room;
+  disk = h.disk;
   behind = h.behind;
   told = h.told;
   next_known = h.next_known;
@@ -82,8 +73,8 @@ agrees_history a c history h = record {
 }
 
 -- What an event leaves of a core that agrees with its history: what the history says of the transactions, and what all records tell
--- with those that it appends, where these objects have come to stand in the current space.
-pub record Goes (a : Account) (c : Core) (b : Account) (more : List Record) (placed : Places) : Type 0 where
+-- with those that it appends, where these objects stand in the current space then.
+pub record Goes (a : Account) (c : Core) (b : Account) (more : List Record) (places : Places) : Type 0 where
   pub unfailed : b.failed ≡ None
   pub certain : b.in_doubt ≡ None
   pub acknowledged : b.acknowledged ≡ a.acknowledged
@@ -93,61 +84,63 @@ pub record Goes (a : Account) (c : Core) (b : Account) (more : List Record) (pla
   pub later : List Transaction
   pub sealed : b.sealed ≡ a.sealed ++ later
   pub behind : State
-  pub told : IsTold (log_start c) c.born (c.places ++ placed) (serial c.g0 b.sealed) (c.before + length b.sealed) (all_records c ++ more) (words_with c more) behind
+  pub told : IsTold (log_start c) c.born places (serial c.g0 b.sealed) (c.before + length b.sealed) (all_records c ++ more) (words_with c more) behind
   pub next_known : behind.next ≤ c.first + b.begun
   pub losers : EachKeyed (λ q us. IsActive b q) behind.undo
-  pub writers : (s : ℕ) → IsWriter (c.places ++ placed) c.g0 b (b.active s) (words_with c more) behind
+  pub writers : (s : ℕ) → IsWriter places c.g0 b (b.active s) (words_with c more) behind
   pub room : used c + need c.pending more + reserved (undo_of behind) b ≤ c.room
 
+-- the disk tells the same where more is sealed and no more acknowledged
+disk_on : (a b : Account) (c : Core) (later : List Transaction) → b.sealed ≡ a.sealed ++ later → b.acknowledged ≡ a.acknowledged → DiskAgrees a c → DiskAgrees b c
+disk_on a b c later sealed acknowledged disk =
+    let k = disk.commits in
+    let first = disk.sealed_first in
+    let last = disk.acknowledged_last in
+    let longer : length b.sealed ≡ length a.sealed + length later = ap (λ (ts : List Transaction). length ts) sealed ∙ length-append a.sealed later in
+    let graph : serial c.g0 (take k b.sealed) ≡ serial c.g0 (take k a.sealed) = ap (λ (ts : List Transaction). serial c.g0 (take k ts)) sealed ∙ serial-take c.g0 a.sealed later k first in
+    record {
+      commits = k;
+      sealed_first = omega arith;
+      acknowledged_last = omega arith;
+      state = disk.state;
+      places = disk.places;
+      told = subst (λ (g : Graph). IsTold (log_start c) c.born disk.places g (c.before + k) (records_of c.batches) c.words disk.state) (sym graph) disk.told;
+      first_known = disk.first_known;
+      has_room = disk.has_room;
+    }
+
 -- so a core is left that agrees with its history
-pub goes_on : (a : Account) (c : Core) (b : Account) (more : List Record) (placed : Places) → Agrees a c → Goes a c b more placed
-    → Agrees b (record c { pending = c.pending ++ more; places = c.places ++ placed })
-goes_on a c b more placed h go =
+pub goes_on : (a : Account) (c : Core) (b : Account) (more : List Record) (places : Places) → Agrees a c → Goes a c b more places
+    → Agrees b (record c { pending = c.pending ++ more; places = places })
+goes_on a c b more places h go =
     let all = used-append c more in
     let room = go.room in
-    let first = h.sealed_first in
-    let last = h.acknowledged_last in
-    let same = go.acknowledged in
-    let longer : length b.sealed ≡ length a.sealed + length go.later = ap (λ (ts : List Transaction). length ts) go.sealed ∙ length-append a.sealed go.later in
-    let graph : serial c.g0 (take h.durable b.sealed) ≡ serial c.g0 (take h.durable a.sealed) =
-    ap (λ (ts : List Transaction). serial c.g0 (take h.durable ts)) go.sealed ∙ serial-take c.g0 a.sealed go.later h.durable first in
     let records = append_assoc (records_of c.batches) c.pending more in
     let words = sym (fold-append put_record c.words c.pending more) in
     record {
       unfailed = go.unfailed;
       certain = go.certain;
       in_sessions = go.in_sessions;
-      some_pages = h.some_pages;
-      few_pages = h.few_pages;
-      some_first = h.some_first;
+      in_range = h.in_range;
       next_fits = go.next_fits;
       numbered = go.numbered;
-      durable = h.durable;
-      sealed_first = omega arith;
-      acknowledged_last = omega arith;
-      on_disk = h.on_disk;
-      disk_places = h.disk_places;
-      disk_told = subst (λ (g : Graph). IsTold (log_start c) c.born h.disk_places g (c.before + h.durable) (records_of c.batches) c.words h.on_disk) (sym graph) h.disk_told;
-      first_known = h.first_known;
-      disk_room = h.disk_room;
+      disk = disk_on a b c go.later go.sealed go.acknowledged h.disk;
       behind = go.behind;
       told =
-          let told = subst (λ (rs : List Record). IsTold (log_start c) c.born (c.places ++ placed) (serial c.g0 b.sealed) (c.before + length b.sealed) rs (words_with c more) go.behind) records go.told in
-          subst (λ (ws : List ℕ). IsTold (log_start c) c.born (c.places ++ placed) (serial c.g0 b.sealed) (c.before + length b.sealed) (records_of c.batches ++ (c.pending ++ more)) ws go.behind) words told;
+          let told = subst (λ (rs : List Record). IsTold (log_start c) c.born places (serial c.g0 b.sealed) (c.before + length b.sealed) rs (words_with c more) go.behind) records go.told in
+          subst (λ (ws : List ℕ). IsTold (log_start c) c.born places (serial c.g0 b.sealed) (c.before + length b.sealed) (records_of c.batches ++ (c.pending ++ more)) ws go.behind) words told;
       next_known = go.next_known;
       losers = go.losers;
-      writers = λ s. subst (λ (ws : List ℕ). IsWriter (c.places ++ placed) c.g0 b (b.active s) ws go.behind) words (go.writers s);
+      writers = λ s. subst (λ (ws : List ℕ). IsWriter places c.g0 b (b.active s) ws go.behind) words (go.writers s);
       room = omega arith;
     }
 
--- no more records, and no more places
+-- no more records tell the same
 pub as_told : (a : Account) (c : Core) → (h : Agrees a c)
-    → IsTold (log_start c) c.born (c.places ++ []) (serial c.g0 a.sealed) (c.before + length a.sealed) (all_records c ++ []) (words_with c []) h.behind
+    → IsTold (log_start c) c.born c.places (serial c.g0 a.sealed) (c.before + length a.sealed) (all_records c ++ []) (words_with c []) h.behind
 as_told a c h =
-    subst (λ (ps : Places). IsTold (log_start c) c.born ps (serial c.g0 a.sealed) (c.before + length a.sealed) (all_records c ++ []) (words_with c []) h.behind) (sym (append-nil c.places))
-    (subst (λ (rs : List Record). IsTold (log_start c) c.born c.places (serial c.g0 a.sealed) (c.before + length a.sealed) rs (all_words c) h.behind) (sym (append-nil (all_records c))) h.told)
+    subst (λ (rs : List Record). IsTold (log_start c) c.born c.places (serial c.g0 a.sealed) (c.before + length a.sealed) rs (all_words c) h.behind) (sym (append-nil (all_records c))) h.told
 
--- a writer of the same words and places
-pub as_writer : (c : Core) (b : Account) (o : Option Transaction) (state : State) → IsWriter c.places c.g0 b o (all_words c) state
-    → IsWriter (c.places ++ []) c.g0 b o (words_with c []) state
-as_writer c b o state w = subst (λ (ps : Places). IsWriter ps c.g0 b o (words_with c []) state) (sym (append-nil c.places)) w
+-- no more places are those that there are
+pub places_still : (c : Core) (more : List Record) → record c { pending = c.pending ++ more; places = c.places ++ [] } ≡ record c { pending = c.pending ++ more }
+places_still c more = ap (λ (ps : Places). record c { pending = c.pending ++ more; places = ps }) (append-nil c.places)

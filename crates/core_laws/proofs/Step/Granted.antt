@@ -31,7 +31,7 @@ use Rattle.heap_model.proofs.Step.Handles.{call_at_hand, none_at_hand, more_hand
 use Rattle.heap_model.proofs.Opening.Told.{of_fields_kept}
 use Rattle.heap_model.specs.CoreTold.{HoldsAtHand, IsTold, IsNumbered}
 use Rattle.heap_model.proofs.ListLaws.{AllByRecursion-set, AllByRecursion-map}
-use Rattle.core_laws.proofs.Step.Goes.{words_with, writing_of, goes_on, as_told, as_writer}
+use Rattle.core_laws.proofs.Step.Goes.{words_with, writing_of, goes_on, as_told}
 use Rattle.core_laws.proofs.Sessions.Actives.{each_session, sessions_with, after_call, called, called_sessions, called_numbered, called_actives, begun_actives, called_reserved}
 use Rattle.core_laws.proofs.Step.Told.{none_yet, others_all}
 use Rattle.core_laws.specs.Valid.{IsLocked, AreLocked, IsWriting, IsWriter, Agrees}
@@ -73,10 +73,10 @@ numbered_on n m le (Some t) is = (is.0, omega (arith, is.1))
 -- a transaction begins
 pub begin_agrees : (a : Account) (c : Core) (s : ℕ) → Agrees a c → IsSession s → a.active s ≡ None → c.first + a.begun ≢ no_number
     → HasRoom c [] (account_after a (record { event = Begin s; reply = Begun (c.first + a.begun) }))
-    → Agrees (account_after a (record { event = Begin s; reply = Begun (c.first + a.begun) })) (record c { pending = c.pending ++ []; places = c.places ++ [] })
+    → Agrees (account_after a (record { event = Begin s; reply = Begun (c.first + a.begun) })) (record c { pending = c.pending ++ [] })
 begin_agrees a c s h session none fits room =
     let bound = h.next_fits in
-    let some = h.some_first in
+    let some = h.in_range.some_first in
     let known = h.next_known in
     let n = c.first + a.begun in
     let next = c.first + (a.begun + 1) in
@@ -85,7 +85,7 @@ begin_agrees a c s h session none fits room =
     let own = begin_writing a c n h (omega arith) (omega arith) in
     let kept = reserved_told c [] b (as_told a c h) in
     let P : ℕ → Option Transaction → Type 0 = λ r o. IsWriter c.places c.g0 b o (all_words c) h.behind in
-    goes_on a c b [] [] h (record {
+    goes_on a c b [] c.places h (record {
       unfailed = h.unfailed;
       certain = h.certain;
       acknowledged = refl;
@@ -98,7 +98,7 @@ begin_agrees a c s h session none fits room =
       told = as_told a c h;
       next_known = omega arith;
       losers = λ q us is. begun_actives a b s x none refl q (h.losers q us is);
-      writers = λ r. as_writer c b (b.active r) h.behind (each_session P a.active s x own (λ q other. h.writers q) r);
+      writers = each_session P a.active s x own (λ q other. h.writers q);
       room = omega arith;
     })
 
@@ -107,7 +107,7 @@ begin_agrees a c s h session none fits room =
 -- a call that appends no record, where what its transaction sees stands behind it
 pub quiet_goes : (a : Account) (c : Core) (s : ℕ) (t : Transaction) (event : Event) → (h : Agrees a c) → a.active s ≡ Some t
     → IsWriting c.places (call (view c.g0 a t) t.number event).view t.number (locks_of (serial c.g0 a.sealed) (after_call t event)) (all_words c) h.behind
-    → Agrees (called a s event) (record c { pending = c.pending ++ []; places = c.places ++ [] })
+    → Agrees (called a s event) (record c { pending = c.pending ++ [] })
 quiet_goes a c s t event h e writes =
     let now = all_words c in
     let b = called a s event in
@@ -117,7 +117,7 @@ quiet_goes a c s t event h e writes =
     let nothing = need_nothing c.pending in
     let kept = called_reserved (undo_of h.behind) a s event in
     let room = h.room in
-    goes_on a c b [] [] h (record {
+    goes_on a c b [] c.places h (record {
       unfailed = h.unfailed;
       certain = h.certain;
       acknowledged = refl;
@@ -130,7 +130,7 @@ quiet_goes a c s t event h e writes =
       told = as_told a c h;
       next_known = h.next_known;
       losers = λ q us is. called_actives a s event q (h.losers q us is);
-      writers = λ r. as_writer c b (b.active r) h.behind (each_session P a.active s (with_call (a.active s) event) own (λ q other. h.writers q) r);
+      writers = each_session P a.active s (with_call (a.active s) event) own (λ q other. h.writers q);
       room = omega arith;
     })
 
@@ -162,14 +162,14 @@ quiet_writing places g t event now state quiet w =
 
 -- a call that leaves the graph as it is
 pub quiet_agrees : (a : Account) (c : Core) (s : ℕ) (t : Transaction) (event : Event) → Agrees a c → a.active s ≡ Some t → IsQuiet (view c.g0 a t) t.number event
-    → Agrees (called a s event) (record c { pending = c.pending ++ []; places = c.places ++ [] })
+    → Agrees (called a s event) (record c { pending = c.pending ++ [] })
 quiet_agrees a c s t event h e quiet =
     quiet_goes a c s t event h e (quiet_writing c.places (serial c.g0 a.sealed) t event (all_words c) h.behind quiet (writing_of a c s t e h))
 
 -- a call that makes an object
 pub new_agrees : (a : Account) (c : Core) (s : ℕ) (t : Transaction) (i len : ℕ) → Agrees a c → a.active s ≡ Some t → len ≤ 510
     → area_used (view c.g0 a t).graph t.number (view c.g0 a t).made + 2 + len ≤ 4096
-    → Agrees (called a s (New s i len)) (record c { pending = c.pending ++ []; places = c.places ++ [] })
+    → Agrees (called a s (New s i len)) (record c { pending = c.pending ++ [] })
 new_agrees a c s t i len h e small few =
     let v = view c.g0 a t in
     let w = writing_of a c s t e h in

@@ -69,16 +69,14 @@ module _ (a : Account) (c : Core) (h : Agrees a c) {numbers : List ℕ} {heard :
       let room = h.room in
       omega arith
 
-  end_agrees : Agrees aborted (record c { pending = c.pending ++ ends; places = c.places ++ [] })
+  end_agrees : Agrees aborted (record c { pending = c.pending ++ ends })
   end_agrees =
-      let base = serial c.g0 a.sealed in
-      let k = c.before + length a.sealed in
       let P : ℕ → Option Transaction → Type 0 = λ r x. IsWriter c.places c.g0 aborted x (words_with c ends) last in
       let below = (number_below a c s t e h).1 in
       let known = h.next_known in
       let kept = reserved_told c ends aborted end_told in
       let room = end_room in
-      goes_on a c aborted ends [] h (record {
+      goes_on a c aborted ends c.places h (record {
         unfailed = h.unfailed;
         certain = h.certain;
         acknowledged = refl;
@@ -88,11 +86,10 @@ module _ (a : Account) (c : Core) (h : Agrees a c) {numbers : List ℕ} {heard :
         later = [];
         sealed = sym (append-nil a.sealed);
         behind = last;
-        told = subst (λ ps. IsTold (log_start c) c.born ps base k (all_records c ++ ends) (words_with c ends) last) (sym (append-nil c.places)) end_told;
+        told = end_told;
         next_known = omega arith;
         losers = each_other (λ q us. IsActive aborted q) h.behind.undo t.number (λ q us is other. ended_actives a aborted s t e refl q other (h.losers q us is));
-        writers = λ r. subst (λ ps. IsWriter ps c.g0 aborted (aborted.active r) (words_with c ends) last) (sym (append-nil c.places))
-            (each_session P a.active s None tt end_others r);
+        writers = each_session P a.active s None tt end_others;
         room = omega arith;
       })
 
@@ -104,10 +101,10 @@ abort_room a c o s t more h e is = subst (λ rs. HasRoom c rs (account_after a (
 -- a transaction is taken back
 pub abort_agrees : (a : Account) (c : Core) {numbers : List ℕ} {heard : Heard} (o : IsOrdered c.g0 numbers a heard) (s : ℕ) (t : Transaction) (more : List Record) → (h : Agrees a c) → a.active s ≡ Some t
     → more ≡ abort_records t.number (undo_of h.behind t.number)
-    → Agrees (account_after a (record { event = Abort s; reply = Aborted })) (record c { pending = c.pending ++ more; places = c.places ++ [] })
+    → Agrees (account_after a (record { event = Abort s; reply = Aborted })) (record c { pending = c.pending ++ more })
 abort_agrees a c o s t more h e is =
     let b : Account = account_after a (record { event = Abort s; reply = Aborted }) in
-    subst (λ (rs : List Record). Agrees b (record c { pending = c.pending ++ rs; places = c.places ++ [] })) (sym is) (end_agrees a c h o s t e)
+    subst (λ (rs : List Record). Agrees b (record c { pending = c.pending ++ rs })) (sym is) (end_agrees a c h o s t e)
 
 -- A force.
 
@@ -131,19 +128,19 @@ force_all a c bs acknowledged entries h same size last =
       unfailed = h.unfailed;
       certain = h.certain;
       in_sessions = h.in_sessions;
-      some_pages = h.some_pages;
-      few_pages = h.few_pages;
-      some_first = h.some_first;
+      in_range = h.in_range;
       next_fits = h.next_fits;
       numbered = h.numbered;
-      durable = length a.sealed;
-      sealed_first = omega arith;
-      acknowledged_last = last;
-      on_disk = h.behind;
-      disk_places = c.places;
-      disk_told = all_on_disk a c bs h same;
-      first_known = known_on a c h;
-      disk_room = omega arith;
+      disk = record {
+        commits = length a.sealed;
+        sealed_first = omega arith;
+        acknowledged_last = last;
+        state = h.behind;
+        places = c.places;
+        told = all_on_disk a c bs h same;
+        first_known = known_on a c h;
+        has_room = omega arith;
+      };
       behind = h.behind;
       told = subst (λ (rs : List Record). IsTold (log_start c) c.born c.places (serial c.g0 a.sealed) (c.before + length a.sealed) rs (all_words c) h.behind) (sym records) h.told;
       next_known = h.next_known;
@@ -161,15 +158,15 @@ force_waiting a c acknowledged entries h last =
 -- all that waits is forced to the disk, and nothing is answered yet
 pub forced_agrees : (a : Account) (c : Core) → Agrees a c → Agrees a (forced c c.pending)
 forced_agrees a c h =
-    let first = h.sealed_first in
-    let last = h.acknowledged_last in
+    let first = h.disk.sealed_first in
+    let last = h.disk.acknowledged_last in
     force_waiting a c a.acknowledged a.entries h (omega arith)
 
 -- all that waits is forced to the disk
 pub force_agrees : (a : Account) (c : Core) → Agrees a c → Agrees (account_after a (record { event = Force; reply = Durable (length a.sealed) })) (forced c c.pending)
 force_agrees a c h =
-    let first = h.sealed_first in
-    let last = h.acknowledged_last in
+    let first = h.disk.sealed_first in
+    let last = h.disk.acknowledged_last in
     force_waiting a c (max a.acknowledged (length a.sealed)) (a.entries + 1) h (omega arith)
 
 -- A flush.
@@ -180,19 +177,10 @@ agrees_stored a c p h = record {
   unfailed = h.unfailed;
   certain = h.certain;
   in_sessions = h.in_sessions;
-  some_pages = h.some_pages;
-  few_pages = h.few_pages;
-  some_first = h.some_first;
+  in_range = h.in_range;
   next_fits = h.next_fits;
   numbered = h.numbered;
-  durable = h.durable;
-  sealed_first = h.sealed_first;
-  acknowledged_last = h.acknowledged_last;
-  on_disk = h.on_disk;
-  disk_places = h.disk_places;
-  disk_told = h.disk_told;
-  first_known = h.first_known;
-  disk_room = h.disk_room;
+  disk = h.disk;
   behind = h.behind;
   told = h.told;
   next_known = h.next_known;

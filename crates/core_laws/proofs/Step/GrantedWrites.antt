@@ -27,6 +27,7 @@ use Rattle.graph_words.specs.Area.{HasMade}
 use Rattle.graph_words.specs.Places.{Places, IsOwn, IsVisible, address_of}
 use Rattle.graph_words.proofs.Places.Addresses.{some_address}
 use Rattle.graph_words.specs.Stands.{Stands, AreWritten, AreOfFields}
+use Rattle.graph_words.proofs.Stands.Objects.{stands_inside}
 use Rattle.graph_words.proofs.Stands.Own.{own_write_stands, own_write_made, own_write_written}
 use Rattle.graph_words.proofs.Stands.Write.{write_stands, write_made, write_written}
 use Rattle.graph_words.proofs.Stands.Visible.{length-with_field}
@@ -125,6 +126,26 @@ record IsWrite (a : Account) (c : Core) (s : ℕ) (t : Transaction) (event : Eve
 
 -- A write into an object that stands in the current space.
 
+-- a write of a field of an object that no other transaction holds is one that the records can tell
+pub writes_at : (a : Account) (c : Core) (h : Agrees a c) {numbers : List ℕ} {heard : Heard} (o : IsOrdered c.g0 numbers a heard) (s : ℕ) (t : Transaction) (e : a.active s ≡ Some t) (id : Id) (at i : ℕ) (v : Val)
+    → address_of c.places id ≡ Some at → i < length (fields (view c.g0 a t).graph id) → IsVisible c.places t.number (view c.g0 a t).made v → IsFree c.g0 a t.number (Some (id, Exclusive))
+    → IsWriteAt c.pages c.first_number c.born c.places (serial c.g0 a.sealed) (view c.g0 a t).graph (c.before + length a.sealed) t.number (view c.g0 a t).made (all_records c) (all_words c) h.behind id at i v
+writes_at a c h o s t e id at i v place within seen free =
+    let writing = writing_of a c s t e h in
+    let entry = entry_of c.places (view c.g0 a t).graph id at i in
+    record {
+      told = h.told;
+      number = numbered_as a c s t e h;
+      apart = apart_with a c h o s t e id at i place within free entry refl refl;
+      stands = writing.stands;
+      has = writing.made;
+      place = place;
+      within = within;
+      inside = stands_inside writing.stands entry (record { id = id; object = place; field = within });
+      seen = seen;
+      was = word_now a c h o s t e id at i place within (free_shared c.g0 a t.number id free);
+    }
+
 module _ (a : Account) (c : Core) {numbers : List ℕ} {heard : Heard} (o : IsOrdered c.g0 numbers a heard) (s : ℕ) (t : Transaction) (event : Event) (hd i : ℕ) (v : Val) (w : IsWrite a c s t event hd i v) (id : Id) (at : ℕ)
     (holds : held (view c.g0 a t).registers hd ≡ Some id) (within : i < length (fields (view c.g0 a t).graph id)) (place : address_of c.places id ≡ Some at) where
   -- what the sealed transactions left
@@ -152,20 +173,7 @@ module _ (a : Account) (c : Core) {numbers : List ℕ} {heard : Heard} (o : IsOr
   field_away = away_field a c w.agrees o s t w.active id at i place within (free_shared c.g0 a t.number id (w.free id holds))
 
   stable_at : IsWriteAt c.pages c.first_number c.born c.places base seen.graph (c.before + length a.sealed) t.number seen.made (all_records c) (all_words c) w.agrees.behind id at i v
-  stable_at =
-      let free = w.free id holds in
-      let writing = writing_of a c s t w.active w.agrees in
-      record {
-        told = w.agrees.told;
-        number = numbered_as a c s t w.active w.agrees;
-        apart = apart_with a c w.agrees o s t w.active id at i place within free entry refl refl;
-        stands = writing.stands;
-        has = writing.made;
-        place = place;
-        within = within;
-        seen = w.seen;
-        was = word_now a c w.agrees o s t w.active id at i place within (free_shared c.g0 a t.number id free);
-      }
+  stable_at = writes_at a c w.agrees o s t w.active id at i v place within w.seen (w.free id holds)
 
   stable_told : IsTold (log_start c) c.born c.places base (c.before + length a.sealed) (all_records c ++ records) (words_with c records) later
   stable_told = write_told c.pages c.first_number c.born c.places base seen.graph (c.before + length a.sealed) t.number seen.made (all_records c) (all_words c) w.agrees.behind id at i v stable_at
@@ -186,7 +194,7 @@ module _ (a : Account) (c : Core) {numbers : List ℕ} {heard : Heard} (o : IsOr
       let beside = o.beside r s u t other also w.active in
       stays_write (writing_of a c r u also w.agrees) t.number beside.differ entry (word_in c.places seen.graph v) stable_at.was stable_at.apart)
 
-  stable_goes : HasRoom c records (called a s event) → Agrees (called a s event) (record c { pending = c.pending ++ records; places = c.places ++ [] })
+  stable_goes : HasRoom c records (called a s event) → Agrees (called a s event) (record c { pending = c.pending ++ records })
   stable_goes room =
       let h = w.agrees in
       let b = called a s event in
@@ -195,7 +203,7 @@ module _ (a : Account) (c : Core) {numbers : List ℕ} {heard : Heard} (o : IsOr
       let known = h.next_known in
       let kept = reserved_told c records b stable_told in
       let here : IsActive b t.number = record { session = s; transaction = after_call t event; active = called_active a s event t w.active; number = refl } in
-      goes_on a c b records [] h (record {
+      goes_on a c b records c.places h (record {
         unfailed = h.unfailed;
         certain = h.certain;
         acknowledged = refl;
@@ -205,18 +213,17 @@ module _ (a : Account) (c : Core) {numbers : List ℕ} {heard : Heard} (o : IsOr
         later = [];
         sealed = sym (append-nil a.sealed);
         behind = later;
-        told = subst (λ ps. IsTold (log_start c) c.born ps base (c.before + length a.sealed) (all_records c ++ records) (words_with c records) later) (sym (append-nil c.places)) stable_told;
+        told = stable_told;
         next_known = omega arith;
         losers = each_insert (λ q us. IsActive b q) h.behind.undo t.number (entry ∷ undo_of h.behind t.number) here (λ q us is. called_actives a s event q (h.losers q us is));
-        writers = λ r. subst (λ ps. IsWriter ps c.g0 b (b.active r) (words_with c records) later) (sym (append-nil c.places))
-            (each_session P a.active s (with_call (a.active s) event) stable_own stable_others r);
+        writers = each_session P a.active s (with_call (a.active s) event) stable_own stable_others;
         room = omega arith;
       })
 
 -- A write into an object that the transaction made.
 
 own_goes : (a : Account) (c : Core) (s : ℕ) (t : Transaction) (event : Event) (hd i : ℕ) (v : Val) (id : Id) → IsWrite a c s t event hd i v
-    → held (view c.g0 a t).registers hd ≡ Some id → IsOwn t.number (view c.g0 a t).made id → Agrees (called a s event) (record c { pending = c.pending ++ []; places = c.places ++ [] })
+    → held (view c.g0 a t).registers hd ≡ Some id → IsOwn t.number (view c.g0 a t).made id → Agrees (called a s event) (record c { pending = c.pending ++ [] })
 own_goes a c s t event hd i v id w holds own =
     let seen = view c.g0 a t in
     let writing = writing_of a c s t w.active w.agrees in
@@ -235,7 +242,7 @@ pub write_agrees : (a : Account) (c : Core) {numbers : List ℕ} {heard : Heard}
     → lock_of (view c.g0 a t).registers event ≡ lock_on (view c.g0 a t).registers hd Exclusive
     → ((id : Id) → held (view c.g0 a t).registers hd ≡ Some id → IsFree c.g0 a t.number (Some (id, Exclusive)))
     → more ≡ view_records c.places t.number (view c.g0 a t) hd i v → HasRoom c more (called a s event)
-    → Agrees (called a s event) (record c { pending = c.pending ++ more; places = c.places ++ [] })
+    → Agrees (called a s event) (record c { pending = c.pending ++ more })
 write_agrees a c o s t event hd i v more h e graph made visible granted lock free is room =
     let seen = view c.g0 a t in
     let b = called a s event in
@@ -244,7 +251,7 @@ write_agrees a c o s t event hd i v more h e graph made visible granted lock fre
     let field = holds_field seen hd i granted in
     let id = field.0 in
     let holds = field.1.holds in
-    let G : List Record → Type 0 = λ rs. Agrees b (record c { pending = c.pending ++ rs; places = c.places ++ [] }) in
+    let G : List Record → Type 0 = λ rs. Agrees b (record c { pending = c.pending ++ rs }) in
     elim (held_at_hand c.places t.number seen.made seen.registers hd id writing.handles holds) [
       | inl there ↦
           let place = some_address (address_of c.places id) there in

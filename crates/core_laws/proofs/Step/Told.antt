@@ -18,12 +18,13 @@ use Rattle.log_machine.proofs.MachineLaws.{after_all-append, after_all-append2, 
 use Rattle.log_machine.proofs.WordsLaws.{length-put_records}
 use Rattle.log_machine.proofs.MapLaws.{remove_absent}
 use Rattle.log_machine.specs.Sound.{AreLosers}
+use Rattle.log_machine.specs.UndoEntry.{LiesInside}
 use Rattle.log_machine.proofs.StateLaws.{can_roll_back, all_spelled}
 use Rattle.log_machine.specs.declared.UndoEntry.{UndoEntry}
 use Rattle.graph_words.specs.Area.{HasMade}
 use Rattle.graph_words.specs.Places.{Places, address_of, IsVisible}
 use Rattle.graph_words.specs.Stands.{Stands, StandsCommitted, AreNamedByBirth}
-use Rattle.graph_words.proofs.Stands.Objects.{stands_field_within, stands_within, stands_short, visible_field_word}
+use Rattle.graph_words.proofs.Stands.Objects.{stands_field_within, stands_short, visible_field_word}
 use Rattle.heap_model.proofs.Step.Goes.{told_sound}
 use Rattle.heap_model.proofs.Opening.Told.{older, word_in, entry_of, update_of, written}
 use Rattle.heap_model.specs.CoreTold.{IsTold}
@@ -46,8 +47,8 @@ others_all s t now none = ap (λ m. each_taken_back (entries m) now) (remove_abs
 
 -- A write.
 
--- A write of a value into field i of an object that stands at an address, with the field's value before it, by transaction t: no other
--- transaction has written that field.
+-- A write of a value into field i of an object that stands at an address, with the field's value before it, by transaction t: the field
+-- is one of the used words, and no other transaction has written it.
 pub record IsWriteAt (pages first_number : ℕ) (born : Bool) (places : Places) (base g : Graph) (k t made : ℕ) (records : List Record) (now : List ℕ) (state : State) (id : Id) (at i : ℕ) (v : Val) : Type 0 where
   pub told : IsTold (start pages first_number) born places base k records now state
   pub number : is_number t ≡ true
@@ -56,6 +57,7 @@ pub record IsWriteAt (pages first_number : ℕ) (born : Bool) (places : Places) 
   pub has : HasMade places g t made
   pub place : address_of places id ≡ Some at
   pub within : i < length (fields g id)
+  pub inside : LiesInside state.base state.used (entry_of places g id at i)
   pub seen : IsVisible places t made v
   pub was : get_or now (field_at at i) 0 ≡ word_in places g (slice_index_or (fields g id) i Null)
 
@@ -67,10 +69,7 @@ module _ (pages first_number : ℕ) (born : Bool) (places : Places) (base g : Gr
 
   reached : after_all (start pages first_number) (records ++ update_of places g t id at i v ∷ []) ≡ Some (written state t (entry_of places g id at i))
   reached =
-      let lies = stands_within w.stands id at w.place in
-      let above = lies.above in
-      let below = stands_field_within w.stands id at i w.place w.within in
-      let inside = inside_from state (entry_of places g id at i) (record { above = omega arith; below = omega arith }) in
+      let inside = inside_from state (entry_of places g id at i) w.inside in
       after_all-append (start pages first_number) state records (update_of places g t id at i v) w.told.reached
       ∙ after-Update state t at i (word_in places g (slice_index_or (fields g id) i Null)) (word_in places g v) w.number inside
 

@@ -79,6 +79,12 @@ written_from_field undo f has =
     written_place undo f (Contains-from_any tied_fields f (map field_of undo)
     (sym (told_among undo f) ∙ list_any-from_Contains (eq_by_cmp_equiv field_cmp_total) f (written_fields undo) has))
 
+-- what holds of each write holds of one that wrote such a field
+pub write_at : (P : UndoEntry → Type 0) (undo : List UndoEntry) (at field : ℕ) → AllByRecursion P undo → IsWritten undo at field → (u : UndoEntry) × P u × (u.object ≡ at) × (u.field ≡ field)
+write_at P [] at field all (k, u, within, is, same) = absurd (omega arith)
+write_at P (v ∷ us) at field all (zero, u, within, is, same) = (v, all.0, ap (λ (x : UndoEntry). x.object) is ∙ same.0, ap (λ (x : UndoEntry). x.field) is ∙ same.1)
+write_at P (v ∷ us) at field all (suc k, u, within, is, same) = write_at P us at field all.1 (k, u, omega arith, is, same)
+
 -- the field of each write is among them
 pub field_from_written : (undo : List UndoEntry) (at field : ℕ) → IsWritten undo at field → Contains (written_fields undo) (at, field)
 field_from_written undo at field is =

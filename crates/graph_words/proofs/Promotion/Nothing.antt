@@ -44,7 +44,8 @@ promoted_by_none area words undo settled = promoted_none area (words_in_fields w
 pub moves_none : (area : AreaState) (words : List ℕ) (undo : List UndoEntry) (address : ℕ) → AreSettled words (written_fields undo) → moves_of area words undo address ≡ []
 moves_none area words undo address settled = ap (λ starts. moves_to area starts address) (promoted_by_none area words undo settled)
 
-none_meant : (t : ℕ) (moves : List Move) (f : Field) (w : ℕ) (meant : Option Word) → refers_to_volatile meant ≡ false → fix_meant t moves f w meant ≡ []
+-- a word that refers to no object of an area is not put right
+pub none_meant : (t : ℕ) (moves : List Move) (f : Field) (w : ℕ) (meant : Option Word) → refers_to_volatile meant ≡ false → fix_meant t moves f w meant ≡ []
 none_meant t moves f w None off = refl
 none_meant t moves f w (Some Null) off = refl
 none_meant t moves f w (Some (Int n)) off = refl
@@ -76,10 +77,10 @@ value_settled c is none (val.Ref id) (inl there) =
 value_settled c is none (val.Ref id) (inr own) = let first = own.first in let last = own.last in absurd (omega arith)
 
 -- and so is one that has made no object
-pub none_made_settled : {places : Places} {g : Graph} {t made : ℕ} {undo : List UndoEntry} {words : List ℕ} {base used : ℕ} → CanSeal places g t made undo words base used
+pub none_made_settled : {places : Places} {g : Graph} {t made : ℕ} {undo : List UndoEntry} {words : List ℕ} {base used address : ℕ} → CanSeal places g t made undo words base used address
     → made ≡ 0 → AreSettled words (written_fields undo)
-none_made_settled {places} {g} {t} {made} {undo} {words} {base} {used} can none f has =
-    let c = sealing places g t made undo words base used in
+none_made_settled {places} {g} {t} {made} {undo} {words} {base} {used} {address} can none f has =
+    let c = sealing places g t made undo words base used address in
     let is = is_sealing can in
     let there = written_field c is f has in
     let v = slice_index_or (fields g there.id) f.1 val.Null in

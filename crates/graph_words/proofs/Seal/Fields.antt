@@ -1,6 +1,6 @@
 -- The objects and fields of a seal: what a placed or a promoted object refers to stands in the space behind it, what is promoted can be
 -- promoted, and the fields that were written can be put right.
-use Rattle.std.proofs.Common.{◌≡◌, ℕ, ◌<◌, ◌^◌, zero, suc, ◌+◌, inl, inr, List, [], ◌∷◌, map, length, None, Some, sym, ap, ◌∙◌, subst, arith}
+use Rattle.std.proofs.Common.{◌≡◌, ℕ, ◌<◌, ◌^◌, ◌+◌, inl, inr, map, length, None, Some, sym, ap, ◌∙◌, subst, arith}
 use Rattle.std.specs.Prelude.{Contains, slice_get, slice_index, slice_index_or}
 use Rattle.std.specs.List.{AllByRecursion}
 use Rattle.std.proofs.lemmas.List.{length-map}
@@ -13,8 +13,8 @@ use Rattle.graph_model.specs.declared.id.Id.{Id}
 use Rattle.graph_model.specs.declared.val.Val.{Val}
 use Rattle.graph_model.specs.declared.val.Val.TheVariants.{Null, Int, Ref}
 use Rattle.graph_model.specs.Graph.{fields}
-use Rattle.log_machine.specs.declared.UndoEntry.{UndoEntry}
 use Rattle.log_machine.specs.Machine.{field_at}
+use Rattle.log_machine.specs.UndoEntry.{LiesInside}
 use Rattle.object_layout.specs.Layout.{field_words}
 use Rattle.object_layout.proofs.LayoutLaws.{object_header}
 use Rattle.graph_words.proofs.Area.State.{own_birth, own_words, own_object}
@@ -22,11 +22,11 @@ use Rattle.graph_words.proofs.Places.Lists.{AllByRecursion-get, AllByRecursion-f
 use Rattle.graph_words.proofs.Area.Made.{own_short, own_visible}
 use Rattle.graph_words.specs.Places.{address_of, index_of, IsOwn, IsVisible, bits_of}
 use Rattle.graph_words.proofs.Places.Addresses.{none_or_some}
-use Rattle.graph_words.specs.Stands.{IsWritten, AreOfFields}
-use Rattle.graph_words.proofs.Stands.Objects.{visible_meaning, stands_field, stands_within, stands_short}
+use Rattle.graph_words.specs.Stands.{IsOfField}
+use Rattle.graph_words.proofs.Stands.Objects.{visible_meaning, stands_field, stands_short}
 use Rattle.graph_words.proofs.Stands.Visible.{place_of-placed}
 use Rattle.graph_words.specs.Promotion.{Field, written_fields}
-use Rattle.graph_words.proofs.Area.Fields.{written_from_field, field_from_written}
+use Rattle.graph_words.proofs.Area.Fields.{written_from_field, field_from_written, write_at}
 use Rattle.graph_words.proofs.Places.Moved.{IsMoved}
 use Rattle.graph_words.proofs.Promotion.Records.{IsPromotable, IsFixable}
 use Rattle.graph_words.proofs.Seal.Sealing.{Sealing, IsSealing, place, area, moves, later_places}
@@ -118,33 +118,32 @@ pub record IsFieldOf (c : Sealing) (f : Field) : Type 0 where
   pub object : address_of c.places id ≡ Some f.0
   pub within : f.1 < length (fields c.g id)
 
-write_field : (c : Sealing) (undo : List UndoEntry) (at i : ℕ) → AreOfFields c.places c.g undo → IsWritten undo at i → IsFieldOf c (at, i)
-write_field c [] at i of_fields (k, u, within, is, same) = absurd (omega arith)
-write_field c (v ∷ us) at i of_fields (suc k, u, within, is, same) = write_field c us at i of_fields.1 (k, u, omega arith, is, same)
-write_field c (v ∷ us) at i of_fields (zero, u, within, is, same) =
-    let one = of_fields.0 in
-    let field = one.field in
-    let object : v.object ≡ at = ap (λ (x : UndoEntry). x.object) is ∙ same.0 in
-    let number : v.field ≡ i = ap (λ (x : UndoEntry). x.field) is ∙ same.1 in
-    record { id = one.id; object = one.object ∙ ap Some object; within = omega arith }
-
 -- each of them is such
 pub written_field : (c : Sealing) → IsSealing c → (f : Field) → Contains (written_fields c.undo) f → IsFieldOf c f
-written_field c is f has = write_field c c.undo f.0 f.1 is.of_fields (written_from_field c.undo f has)
+written_field c is f has =
+    let write = write_at (IsOfField c.places c.g) c.undo f.0 f.1 is.of_fields (written_from_field c.undo f has) in
+    let one = write.1 in
+    let field = one.field in
+    let number = write.3 in
+    record { id = one.id; object = one.object ∙ ap Some write.2; within = omega arith }
 
--- and can be put right
-pub fixable : (c : Sealing) → IsSealing c → (f : Field) → Contains (written_fields c.undo) f → IsFixable c.words (moves c) c.base (c.base + c.used) f
-fixable c is f has =
+-- and can be put right, where all that was written lies inside these words
+pub fixable : (c : Sealing) → IsSealing c → (base used : ℕ) → AllByRecursion (LiesInside base used) c.undo → (f : Field) → Contains (written_fields c.undo) f
+    → IsFixable c.words (moves c) base (base + used) f
+fixable c is base used inside f has =
     let there = written_field c is f has in
     let id = there.id in
     let within = there.within in
-    let lies = stands_within is.stands id f.0 there.object in
-    let below = lies.below in
+    let write = write_at (LiesInside base used) c.undo f.0 f.1 inside (written_from_field c.undo f has) in
+    let above = write.1.above in
+    let below = write.1.below in
+    let object = write.2 in
+    let number = write.3 in
     let v = slice_index_or (fields c.g id) f.1 Null in
     let got : slice_get (fields c.g id) f.1 ≡ Some v = slice_get-get_or (fields c.g id) f.1 Null within in
     let seen = AllByRecursion-get (IsVisible c.places c.t c.made) (fields c.g id) f.1 v (is.stands.visible id f.0 there.object) got in
     record {
-      above = lies.above;
+      above = omega arith;
       below = omega arith;
       small = omega (arith, stands_short is.stands id f.0 there.object);
       goes = subst (IsMoved (moves c)) (sym (stands_field is.stands id f.0 f.1 there.object within)) (taken_moved c is v seen (placed_values_taken c is id f.0 f.1 v there.object got));

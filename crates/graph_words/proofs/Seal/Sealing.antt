@@ -28,6 +28,7 @@ pub record Sealing : Type 0 where
   pub base : ℕ  -- where the space begins
   pub used : ℕ  -- how many words of it are used
   pub starts : List ℕ  -- the objects that are promoted
+  pub address : ℕ  -- where the first of them goes
 
 -- where objects stand before the seal
 abbrev pub place : Sealing → Id → Word
@@ -37,9 +38,9 @@ place c = place_of c.places c.g
 abbrev pub area : Sealing → AreaState
 area c = area_of (place c) c.g c.t c.made
 
--- the objects that move: they get the words behind those that are used
+-- the objects that move: they get the words from the address on
 abbrev pub moves : Sealing → List Move
-moves c = moves_to (area c) c.starts (c.base + c.used)
+moves c = moves_to (area c) c.starts c.address
 
 -- how many words they need
 abbrev pub need : Sealing → ℕ
@@ -69,12 +70,17 @@ pub record ArePromoted (area : AreaState) (words : List ℕ) (fields : List Fiel
   pub along : (from i w at : ℕ) → Contains starts from → slice_get (field_words area.words from) i ≡ Some w → meaning w ≡ Some (Volatile at) → Contains (starts_of area) at
       → Contains starts at
 
--- What a seal finds: the graph stands there as its transaction sees it, and what it promotes has room.
+-- What a seal finds: the graph stands there as its transaction sees it, and a reference has room for each address that it gives.
 pub record IsSealing (c : Sealing) : Type 0 where
   pub stands : Stands c.t c.made c.places c.g c.words c.base c.used
   pub has : HasMade c.places c.g c.t c.made
   pub written : AreWritten c.places c.g c.undo
   pub of_fields : AreOfFields c.places c.g c.undo
   pub promotion : ArePromoted (area c) c.words (written_fields c.undo) c.starts
-  pub room : c.base + c.used + need c ≤ length c.words
-  pub top : c.base + c.used + need c ≤ 2097152
+  pub top : c.address + need c ≤ 2097152
+
+-- Such a seal gives the words behind those that are used, and there are as many.
+pub record Appends (c : Sealing) : Type 0 where
+  pub sealing : IsSealing c
+  pub end : c.address ≡ c.base + c.used
+  pub room : c.address + need c ≤ length c.words

@@ -20,7 +20,7 @@ use Rattle.graph_words.proofs.Stands.Objects.{stands_get, stands_object, stands_
 use Rattle.graph_words.specs.Promotion.{Move, words_taken, moves_to, moved, moved_word, promoted_places}
 use Rattle.graph_words.proofs.Places.Moves.{moved_of, moved_given, words_needed}
 use Rattle.graph_words.proofs.Stands.ReadBack.{changed_object, changed_field_words}
-use Rattle.graph_words.proofs.Seal.Sealing.{Sealing, IsSealing, area, moves, need, later_words, later_places, later_place}
+use Rattle.graph_words.proofs.Seal.Sealing.{Sealing, IsSealing, Appends, area, moves, need, later_words, later_places, later_place}
 use Rattle.graph_words.proofs.Seal.Places.{addresses-append, addresses-promoted}
 use Rattle.graph_words.proofs.Seal.Values.{own_at, later_old, later_own, later_cases, IsPromotedTo, map_moved_bits, moved_into}
 use Rattle.graph_words.proofs.Seal.Fields.{placed_visible, promoted_visible, own_length}
@@ -61,47 +61,47 @@ ends_moved area words (at ∷ rest) address each =
 -- Each object.
 
 -- one that stood in the space stands where it did
-pub later_old_object : (c : Sealing) → IsSealing c → (id : Id) (at : ℕ) → address_of c.places id ≡ Some at → object_at (later_words c) at ≡ Some (length (fields c.g id))
+pub later_old_object : (c : Sealing) → Appends c → (id : Id) (at : ℕ) → address_of c.places id ≡ Some at → object_at (later_words c) at ≡ Some (length (fields c.g id))
 later_old_object c is id at there =
-    changed_object (moved_word (moves c)) c.words (later_words c) at (length (fields c.g id)) (stands_object is.stands id at there) (later_changed c is id at there)
+    changed_object (moved_word (moves c)) c.words (later_words c) at (length (fields c.g id)) (stands_object is.sealing.stands id at there) (later_changed c is id at there)
 
-old_words : (c : Sealing) → IsSealing c → (id : Id) (at : ℕ) → address_of c.places id ≡ Some at → field_words (later_words c) at ≡ map (bits_of (later_place c)) (fields c.g id)
+old_words : (c : Sealing) → Appends c → (id : Id) (at : ℕ) → address_of c.places id ≡ Some at → field_words (later_words c) at ≡ map (bits_of (later_place c)) (fields c.g id)
 old_words c is id at there =
-    changed_field_words (moved_word (moves c)) c.words (later_words c) at (length (fields c.g id)) (stands_object is.stands id at there) (later_changed c is id at there)
-    ∙ ap (map (moved_word (moves c))) (stands_words is.stands id at there)
-    ∙ map_moved_bits c is (fields c.g id) (is.stands.visible id at there)
+    changed_field_words (moved_word (moves c)) c.words (later_words c) at (length (fields c.g id)) (stands_object is.sealing.stands id at there) (later_changed c is id at there)
+    ∙ ap (map (moved_word (moves c))) (stands_words is.sealing.stands id at there)
+    ∙ map_moved_bits c is.sealing (fields c.g id) (is.sealing.stands.visible id at there)
 
--- A promoted object stands behind the words that were used, and ends within those that the seal needs.
+-- A promoted object lies within the words that the seal gives.
 pub record EndsWithin (c : Sealing) (id : Id) (new : ℕ) : Type 0 where
   pub taken : Contains c.starts (index_of c.g id)
-  pub above : c.base + c.used ≤ new
-  pub below : new + 2 + length (fields c.g id) ≤ c.base + c.used + need c
+  pub above : c.address ≤ new
+  pub below : new + 2 + length (fields c.g id) ≤ c.address + need c
 
 -- each that is promoted does
 pub promoted_within : (c : Sealing) → IsSealing c → (id : Id) (new : ℕ) → IsPromotedTo c id new → EndsWithin c id new
 promoted_within c is id new to =
-    let has = moved_given (area c) c.starts (c.base + c.used) (index_of c.g id) new to.moves_there in
+    let has = moved_given (area c) c.starts c.address (index_of c.g id) new to.moves_there in
     let into = moved_into c (index_of c.g id) has in
     let same = same_Some into.new new (sym into.is ∙ to.moves_there) in
     let above = into.above in
     let below = into.below in
     record { taken = has; above = omega arith; below = omega (arith, own_length c is id to.own) }
 
-new_object : (c : Sealing) → IsSealing c → (id : Id) (new : ℕ) → IsPromotedTo c id new → object_at (later_words c) new ≡ Some (length (fields c.g id))
+new_object : (c : Sealing) → Appends c → (id : Id) (new : ℕ) → IsPromotedTo c id new → object_at (later_words c) new ≡ Some (length (fields c.g id))
 new_object c is id new to =
-    (later_object c is id new to.own to.moves_there (promoted_within c is id new to).above).object
-    ∙ ap Some (length-map (field_words (area c).words (index_of c.g id)) (moved_word (moves c)) ∙ own_length c is id to.own)
+    (later_object c is id new to.own to.moves_there (promoted_within c is.sealing id new to).above).object
+    ∙ ap Some (length-map (field_words (area c).words (index_of c.g id)) (moved_word (moves c)) ∙ own_length c is.sealing id to.own)
 
-new_words : (c : Sealing) → IsSealing c → (id : Id) (new : ℕ) → IsPromotedTo c id new → field_words (later_words c) new ≡ map (bits_of (later_place c)) (fields c.g id)
+new_words : (c : Sealing) → Appends c → (id : Id) (new : ℕ) → IsPromotedTo c id new → field_words (later_words c) new ≡ map (bits_of (later_place c)) (fields c.g id)
 new_words c is id new to =
-    (later_object c is id new to.own to.moves_there (promoted_within c is id new to).above).fields_words
-    ∙ ap (map (moved_word (moves c))) (own_words is.has id to.own)
-    ∙ map_moved_bits c is (fields c.g id) (own_visible is.has to.own)
+    (later_object c is id new to.own to.moves_there (promoted_within c is.sealing id new to).above).fields_words
+    ∙ ap (map (moved_word (moves c))) (own_words is.sealing.has id to.own)
+    ∙ map_moved_bits c is.sealing (fields c.g id) (own_visible is.sealing.has to.own)
 
-later_each : (c : Sealing) → IsSealing c → (id : Id) (at : ℕ) → address_of (later_places c) id ≡ Some at → StandsAt (later_place c) c.g (later_words c) id at
-later_each c is id at there = elim (later_cases c is id at there) [
-  | inl old ↦ stands_at (later_place c) c.g (later_words c) id at (stands_get is.stands id at old) (later_old_object c is id at old) (old_words c is id at old)
-  | inr to ↦ stands_at (later_place c) c.g (later_words c) id at (own_get is.has to.own) (new_object c is id at to) (new_words c is id at to)
+later_each : (c : Sealing) → Appends c → (id : Id) (at : ℕ) → address_of (later_places c) id ≡ Some at → StandsAt (later_place c) c.g (later_words c) id at
+later_each c is id at there = elim (later_cases c is.sealing id at there) [
+  | inl old ↦ stands_at (later_place c) c.g (later_words c) id at (stands_get is.sealing.stands id at old) (later_old_object c is id at old) (old_words c is id at old)
+  | inr to ↦ stands_at (later_place c) c.g (later_words c) id at (own_get is.sealing.has to.own) (new_object c is id at to) (new_words c is id at to)
 ]
 
 later_visible : (c : Sealing) → IsSealing c → (id : Id) (at : ℕ) → address_of (later_places c) id ≡ Some at → AllByRecursion (IsVisible (later_places c) 0 0) (fields c.g id)
@@ -127,7 +127,7 @@ pub record IsMoveOf (c : Sealing) (m : Move) : Type 0 where
 -- each move is of such
 pub move_of : (c : Sealing) → IsSealing c → (m : Move) → Contains (moves c) m → IsMoveOf c m
 move_of c is m has =
-    let there = moved_of (area c) c.starts (c.base + c.used) m is.promotion.distinct has in
+    let there = moved_of (area c) c.starts c.address m is.promotion.distinct has in
     let own = own_at c is m.0 there.0 in
     record { id = own.id; index = own.index; name = own.name; to = record { own = own.own; moves_there = ap (moved (moves c)) own.index ∙ there.1 } }
 
@@ -140,55 +140,59 @@ later_names c is =
     let one = move_of c is m has in
     ap (address_of (later_places c)) one.name ∙ later_own c is one.id one.to.own ∙ one.to.moves_there))
 
-old_ends : (c : Sealing) → IsSealing c → AreEndToEnd (used_words (later_words c) c.base (c.used + need c)) c.base (addresses c.places) (c.base + c.used)
-old_ends c is = ends_on (used_words c.words c.base c.used) (used_words (later_words c) c.base (c.used + need c)) c.base (addresses c.places) (c.base + c.used) is.stands.ends (λ at n has object.
-    let there = stands_placed is.stands at has in
-    let long : n ≡ length (fields c.g there.0) = same_Some n (length (fields c.g there.0)) (sym (object_take c.words (c.base + c.used) at n object) ∙ stands_object is.stands there.0 at there.1) in
+old_ends : (c : Sealing) → Appends c → AreEndToEnd (used_words (later_words c) c.base (c.used + need c)) c.base (addresses c.places) (c.base + c.used)
+old_ends c is = ends_on (used_words c.words c.base c.used) (used_words (later_words c) c.base (c.used + need c)) c.base (addresses c.places) (c.base + c.used) is.sealing.stands.ends (λ at n has object.
+    let there = stands_placed is.sealing.stands at has in
+    let long : n ≡ length (fields c.g there.0) = same_Some n (length (fields c.g there.0)) (sym (object_take c.words (c.base + c.used) at n object) ∙ stands_object is.sealing.stands there.0 at there.1) in
     let end = object_take_end c.words (c.base + c.used) at n object in
     object_in_take (later_words c) (c.base + (c.used + need c)) at n (later_old_object c is there.0 at there.1 ∙ ap Some (sym long)) (omega arith))
 
-new_ends : (c : Sealing) → IsSealing c → AreEndToEnd (used_words (later_words c) c.base (c.used + need c)) (c.base + c.used) (map (λ m. m.1) (moves c)) (c.base + c.used + need c)
-new_ends c is = ends_moved (area c) (used_words (later_words c) c.base (c.used + need c)) c.starts (c.base + c.used) (λ m has.
-    let one = move_of c is m has in
-    let within = promoted_within c is one.id m.1 one.to in
+new_ends : (c : Sealing) → Appends c → AreEndToEnd (used_words (later_words c) c.base (c.used + need c)) c.address (map (λ m. m.1) (moves c)) (c.address + need c)
+new_ends c is = ends_moved (area c) (used_words (later_words c) c.base (c.used + need c)) c.starts c.address (λ m has.
+    let one = move_of c is.sealing m has in
+    let within = promoted_within c is.sealing one.id m.1 one.to in
     let below = within.below in
+    let end = is.end in
     object_in_take (later_words c) (c.base + (c.used + need c)) m.1 (length (field_words (area c).words m.0))
-    (new_object c is one.id m.1 one.to ∙ ap Some (sym (own_length c is one.id one.to.own)) ∙ ap (λ x. Some (length (field_words (area c).words x))) one.index)
-    (omega (arith, own_length c is one.id one.to.own, ap (λ x. length (field_words (area c).words x)) one.index)))
+    (new_object c is one.id m.1 one.to ∙ ap Some (sym (own_length c is.sealing one.id one.to.own)) ∙ ap (λ x. Some (length (field_words (area c).words x))) one.index)
+    (omega (arith, own_length c is.sealing one.id one.to.own, ap (λ x. length (field_words (area c).words x)) one.index)))
 
-later_ends : (c : Sealing) → IsSealing c → AreEndToEnd (used_words (later_words c) c.base (c.used + need c)) c.base (addresses (later_places c)) (c.base + (c.used + need c))
+later_ends : (c : Sealing) → Appends c → AreEndToEnd (used_words (later_words c) c.base (c.used + need c)) c.base (addresses (later_places c)) (c.base + (c.used + need c))
 later_ends c is =
     let W = used_words (later_words c) c.base (c.used + need c) in
     let starts : addresses (later_places c) ≡ addresses c.places ++ map (λ m. m.1) (moves c) =
     addresses-append c.places (promoted_places (area c) (moves c)) ∙ ap (λ xs. addresses c.places ++ xs) (addresses-promoted (area c) (moves c)) in
-    let end : c.base + c.used + need c ≡ c.base + (c.used + need c) = omega arith in
-    let Starts : List ℕ → Type 0 = λ xs. AreEndToEnd W c.base xs (c.base + (c.used + need c)) in
-    let End : ℕ → Type 0 = λ x. AreEndToEnd W c.base (addresses c.places ++ map (λ m. m.1) (moves c)) x in
-    subst Starts (sym starts) (subst End end (ends_append W c.base (addresses c.places) (map (λ m. m.1) (moves c)) (c.base + c.used) (c.base + c.used + need c) (old_ends c is) (new_ends c is)))
+    let end = is.end in
+    let stop : c.address + need c ≡ c.base + (c.used + need c) = omega arith in
+    let Ends : List ℕ → ℕ → Type 0 = λ xs x. AreEndToEnd W c.base xs x in
+    let old = subst (Ends (addresses c.places)) (sym end) (old_ends c is) in
+    let all = ends_append W c.base (addresses c.places) (map (λ m. m.1) (moves c)) c.address (c.address + need c) old (new_ends c is) in
+    subst (λ xs. Ends xs (c.base + (c.used + need c))) (sym starts) (subst (Ends (addresses c.places ++ map (λ m. m.1) (moves c))) stop all)
 
-later_root : (c : Sealing) → IsSealing c → IsRootAt (used_words (later_words c) c.base (c.used + need c)) c.base
+later_root : (c : Sealing) → Appends c → IsRootAt (used_words (later_words c) c.base (c.used + need c)) c.base
 later_root c is =
-    let root_object = is.stands.root_object in
-    let place = is.stands.root_place in
+    let root_object = is.sealing.stands.root_object in
+    let place = is.sealing.stands.root_place in
     let end = object_take_end c.words (c.base + c.used) c.base 4 root_object.length in
     let same = later_changed c is root c.base place in
     record {
       length = object_in_take (later_words c) (c.base + (c.used + need c)) c.base 4
-          (later_old_object c is root c.base place ∙ sym (stands_object is.stands root c.base place) ∙ object_take c.words (c.base + c.used) c.base 4 root_object.length) (omega arith);
+          (later_old_object c is root c.base place ∙ sym (stands_object is.sealing.stands root c.base place) ∙ object_take c.words (c.base + c.used) c.base 4 root_object.length) (omega arith);
       birth = get_or-take (c.base + (c.used + need c)) (later_words c) (c.base + 1) 0 (omega arith) ∙ same.birth_same
           ∙ sym (get_or-take (c.base + c.used) c.words (c.base + 1) 0 (omega arith)) ∙ root_object.birth;
     }
 
 -- the graph stands behind the seal, as it is committed
-pub later_stands : (c : Sealing) → IsSealing c → StandsCommitted (later_places c) c.g (later_words c) c.base (c.used + need c)
+pub later_stands : (c : Sealing) → Appends c → StandsCommitted (later_places c) c.g (later_words c) c.base (c.used + need c)
 later_stands c is =
-    let top = is.top in
+    let top = is.sealing.top in
+    let end = is.end in
     record {
       below = omega arith;
       ends = later_ends c is;
       root_object = later_root c is;
-      root_place = later_old c root c.base is.stands.root_place;
-      names = later_names c is;
+      root_place = later_old c root c.base is.sealing.stands.root_place;
+      names = later_names c is.sealing;
       each = later_each c is;
-      visible = later_visible c is;
+      visible = later_visible c is.sealing;
     }

@@ -72,7 +72,7 @@ later_old c id at is = address_of-append_left c.places (promoted_places (area c)
 pub later_own : (c : Sealing) → IsSealing c → (id : Id) → IsOwn c.t c.made id → address_of (later_places c) id ≡ moved (moves c) (index_of c.g id)
 later_own c is id own =
     address_of-append_right c.places (promoted_places (area c) (moves c)) id (own_apart is.has own)
-    ∙ address_of-promoted (area c) c.g c.t c.made c.starts (c.base + c.used) id (own_at c is) own
+    ∙ address_of-promoted (area c) c.g c.t c.made c.starts c.address id (own_at c is) own
 
 -- An object of the transaction that is promoted to an address.
 pub record IsPromotedTo (c : Sealing) (id : Id) (at : ℕ) : Type 0 where
@@ -84,7 +84,7 @@ pub later_cases : (c : Sealing) → IsSealing c → (id : Id) (at : ℕ) → add
 later_cases c is id at there = elim (none_or_some (address_of c.places id)) [
   | inl none ↦
       let new = sym (address_of-append_right c.places (promoted_places (area c) (moves c)) id none) ∙ there in
-      let own = promoted_own (area c) c.g c.t c.made c.starts (c.base + c.used) id at (own_at c is) new in
+      let own = promoted_own (area c) c.g c.t c.made c.starts c.address id at (own_at c is) new in
       inr (record { own = own; moves_there = sym (later_own c is id own) ∙ there })
   | inr old ↦ inl (old.1 ∙ ap Some (same_Some old.0 at (sym (later_old c id old.0 old.1) ∙ there)))
 ]
@@ -134,17 +134,17 @@ map_moved_bits c is (v ∷ vs) seen =
 abbrev pub IsTaken : Sealing → Val → Type 0
 IsTaken c v = (at : ℕ) → meaning (bits_of (place c) v) ≡ Some (word.Volatile at) → Contains (starts_of (area c)) at → Contains c.starts at
 
--- An object moves to an address of the space.
+-- An object moves to one of the words that the seal gives.
 pub record IsMovedInto (c : Sealing) (at : ℕ) : Type 0 where
   pub new : ℕ
   pub is : moved (moves c) at ≡ Some new
-  pub above : c.base + c.used ≤ new
-  pub below : new + words_taken (area c) at ≤ c.base + c.used + need c
+  pub above : c.address ≤ new
+  pub below : new + words_taken (area c) at ≤ c.address + need c
 
 -- each that is promoted does
 pub moved_into : (c : Sealing) → (at : ℕ) → Contains c.starts at → IsMovedInto c at
 moved_into c at has =
-    let there = moved_to (area c) c.starts (c.base + c.used) at has in
+    let there = moved_to (area c) c.starts c.address at has in
     record { new = there.0; is = there.1.is; above = there.1.above; below = there.1.below }
 
 moved_below : (c : Sealing) → IsSealing c → (at : ℕ) → Contains c.starts at → (new : ℕ) × (moved (moves c) at ≡ Some new) × (new < 2097152)

@@ -14,14 +14,16 @@ use Rattle.graph_model.specs.declared.val.Val.TheVariants.{Int, Null, Ref}
 use Rattle.object_layout.specs.Layout.{field_words, object_at}
 use Rattle.object_layout.proofs.LayoutLaws.{object_small}
 use Rattle.object_layout.proofs.ObjectLaws.{end_to_end_begins, end_to_end_field, field_words_at}
-use Rattle.object_layout.specs.Walk.{used_words}
+use Rattle.object_layout.specs.Walk.{used_words, AreEndToEnd}
 use Rattle.object_layout.proofs.WalkLaws.{object_take, object_take_end}
 use Rattle.object_layout.proofs.WalkedLaws.{end_to_end_object}
+use Rattle.log_machine.specs.declared.UndoEntry.{UndoEntry}
 use Rattle.log_machine.specs.Machine.{field_at}
+use Rattle.log_machine.specs.UndoEntry.{LiesInside}
 use Rattle.graph_words.specs.Area.{HasMade}
 use Rattle.graph_words.specs.Places.{IsAtHand, IsVisible, Places, address_of, addresses, bits_of, index_of, place_of, word_of}
 use Rattle.graph_words.proofs.Places.Addresses.{address_of-Contains, address_of-one, index_of-one, named_at, own_made, own_within, some_address}
-use Rattle.graph_words.specs.Stands.{Stands, StandsAt}
+use Rattle.graph_words.specs.Stands.{Stands, StandsAt, IsOfField}
 use Rattle.graph_words.proofs.Stands.Visible.{place_of-apart, place_of-placed}
 
 -- The objects.
@@ -66,13 +68,22 @@ pub record LiesWithin (base used at fields : ℕ) : Type 0 where
   pub above : base ≤ at
   pub below : at + 2 + fields ≤ base + used
 
--- so it lies within them
+-- each of the objects end to end in them does
+pub ends_within : (words : List ℕ) (base used : ℕ) (starts : List ℕ) → AreEndToEnd (used_words words base used) base starts (base + used)
+    → (at n : ℕ) → Contains starts at → object_at words at ≡ Some n → LiesWithin base used at n
+ends_within words base used starts ends at n has object =
+    let there = end_to_end_object (used_words words base used) base starts (base + used) at ends has in
+    let same : there.0 ≡ n = same_Some there.0 n (sym (object_take words (base + used) at there.0 there.1) ∙ object) in
+    record {
+      above = end_to_end_begins (used_words words base used) base starts (base + used) at ends has;
+      below = object_take_end words (base + used) at n (there.1 ∙ ap Some same);
+    }
+
+-- so does each object of a graph that stands there
 pub stands_within : {t made : ℕ} {places : Places} {g : Graph} {words : List ℕ} {base used : ℕ} → Stands t made places g words base used
     → (id : Id) (at : ℕ) → address_of places id ≡ Some at → LiesWithin base used at (length (fields g id))
-stands_within {places = places} {g = g} {words = words} {base = base} {used = used} stands id at is = record {
-  above = end_to_end_begins (used_words words base used) base (addresses places) (base + used) at stands.ends (address_of-Contains places id at is);
-  below = object_take_end words (base + used) at (length (fields g id)) (stands_used_object stands id at is);
-}
+stands_within {places = places} {g = g} {words = words} {base = base} {used = used} stands id at is =
+    ends_within words base used (addresses places) stands.ends at (length (fields g id)) (address_of-Contains places id at is) (stands_object stands id at is)
 
 -- an object has at most 510 fields
 pub stands_short : {t made : ℕ} {places : Places} {g : Graph} {words : List ℕ} {base used : ℕ} → Stands t made places g words base used
@@ -107,6 +118,15 @@ stands_field_apart {places = places} {g = g} {words = words} {base = base} {used
 pub stands_field_within : {t made : ℕ} {places : Places} {g : Graph} {words : List ℕ} {base used : ℕ} → Stands t made places g words base used
     → (id : Id) (at i : ℕ) → address_of places id ≡ Some at → i < length (fields g id) → field_at at i < base + used
 stands_field_within stands id at i is within = let lies = stands_within stands id at is in let ends = lies.below in omega arith
+
+-- so does a write of a field of such an object
+pub field_inside : (base used n : ℕ) (u : UndoEntry) → LiesWithin base used u.object n → u.field < n → LiesInside base used u
+field_inside base used n u lies field = let ends = lies.below in record { above = lies.above; below = omega arith }
+
+-- and one of an object of the graph
+pub stands_inside : {t made : ℕ} {places : Places} {g : Graph} {words : List ℕ} {base used : ℕ} → Stands t made places g words base used
+    → (u : UndoEntry) → IsOfField places g u → LiesInside base used u
+stands_inside {g = g} {base = base} {used = used} stands u one = field_inside base used (length (fields g one.id)) u (stands_within stands one.id u.object one.object) one.field
 
 -- two fields at one address are one
 pub stands_field_one : {t made : ℕ} {places : Places} {g : Graph} {words : List ℕ} {base used : ℕ} → Stands t made places g words base used

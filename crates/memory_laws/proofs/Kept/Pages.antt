@@ -32,9 +32,9 @@ module _ (m n : Memory) {a : Account} (c : Core) (is : IsMemory m a c) where
       → get_or n.lsns p 0 ≡ max (c.stored_lsns p) (last_lsn p 1 (records_of c.batches ++ (c.pending ++ more)))
   lsn_appended more left p lt =
       let here : get_or n.lsns p 0 ≡ max (get_or m.lsns p 0) (last_lsn p (log_count m.log + 1) more) =
-      ap (λ (l : List ℕ). get_or l p 0) left ∙ lsn-redo_all (log_count m.log + 1) (pages_of m) more p (omega (arith, is.pages)) in
+      ap (λ (l : List ℕ). get_or l p 0) left ∙ lsn-redo_all (log_count m.log + 1) (pages_of m) more p (omega (arith, is.pages.number)) in
       let place : log_count m.log + 1 ≡ 1 + length (all_records c) = omega (arith, count) in
       let next : last_lsn p (log_count m.log + 1) more ≡ last_lsn p (1 + length (all_records c)) more = ap (λ (k : ℕ). last_lsn p k more) place in
       let whole : last_lsn p 1 (records_of c.batches ++ (c.pending ++ more)) ≡ max (last_lsn p 1 (all_records c)) (last_lsn p (1 + length (all_records c)) more) =
       ap (last_lsn p 1) (sym (append_assoc (records_of c.batches) c.pending more)) ∙ last_lsn-append p 1 (all_records c) more in
-      omega (arith, here, next, whole, is.lsns p lt)
+      omega (arith, here, next, whole, is.pages.now p lt)

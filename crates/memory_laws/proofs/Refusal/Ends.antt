@@ -103,8 +103,8 @@ module _ (m : Memory) (c : Core) (valid : IsValid c) (runs : RunsLocked c.g0 c.f
       ∙ two_first (is_some (a.active s)) spent AlreadyActive NumbersSpent log
       ∙ begin_room session spent (a.active s) refl
       ∙ ap (λ (b : Bool). cond b (Some AlreadyActive) (cond spent (Some NumbersSpent) full)) (is_some_kept c a (a.active s))
-      ∙ ap (λ (o : Option TransactionState). cond (is_some o) (Some AlreadyActive) (cond spent (Some NumbersSpent) full)) (sym (is.transactions s))
-      ∙ ap (λ (n : ℕ). cond (is_some (own m s)) (Some AlreadyActive) (cond (n == no_number) (Some NumbersSpent) full)) (sym is.next)
+      ∙ ap (λ (o : Option TransactionState). cond (is_some o) (Some AlreadyActive) (cond spent (Some NumbersSpent) full)) (sym (is.sessions.transactions s))
+      ∙ ap (λ (n : ℕ). cond (is_some (own m s)) (Some AlreadyActive) (cond (n == no_number) (Some NumbersSpent) full)) (sym is.sessions.next)
 
   -- why the end of a transaction is refused, for what it asks, for its words or for the log
   abbrev end_asked : Option Transaction → Event → Option Refusal → Option Refusal
@@ -117,7 +117,7 @@ module _ (m : Memory) (c : Core) (valid : IsValid c) (runs : RunsLocked c.g0 c.f
 
   -- memory refuses an abort as the core does
   pub abort_refused : core_refusal c (Abort s) ≡ end_refusal (own m s)
-  abort_refused = unfailed_refusal c (Abort s) valid.unfailed ∙ abort_cases (a.active s) refl ∙ ap end_refusal (sym (is.transactions s))
+  abort_refused = unfailed_refusal c (Abort s) valid.unfailed ∙ abort_cases (a.active s) refl ∙ ap end_refusal (sym (is.sessions.transactions s))
 
   -- A seal.
   -- what is kept of a transaction
@@ -129,7 +129,7 @@ module _ (m : Memory) (c : Core) (valid : IsValid c) (runs : RunsLocked c.g0 c.f
   sealing t = sealing_records m (transaction t)
 
   next_free : next_word (ground c).state ≡ m.spaces.base + m.spaces.used
-  next_free = ap next_word is.reached ∙ ap (λ (x : SpacesState). x.base + x.used) (sym is.spaces)
+  next_free = ap next_word is.sessions.reached ∙ ap (λ (x : SpacesState). x.base + x.used) (sym is.sessions.spaces)
 
   -- its records are those that memory tells
   seal_records_same : (t : Transaction) → a.active s ≡ Some t → event_records c (Seal s) ≡ sealing t
@@ -180,9 +180,9 @@ module _ (m : Memory) (c : Core) (valid : IsValid c) (runs : RunsLocked c.g0 c.f
       let area = area_in c.places (view c.g0 a t) t.number in
       let undo = undo_with (ground c).state t.number in
       ap (λ (ws : List ℕ). space_refusal (ground c).state (promoted_need area ws undo)) (sym is.words)
-      ∙ ap (λ (o : Option State). space_refusal o (sealing_need m (transaction t))) is.reached
-      ∙ space_open is.state (sealing_need m (transaction t))
-      ∙ ap (λ (x : SpacesState). memory_refusals.space_refusal x (sealing_need m (transaction t))) (sym is.spaces)
+      ∙ ap (λ (o : Option State). space_refusal o (sealing_need m (transaction t))) is.sessions.reached
+      ∙ space_open is.sessions.state (sealing_need m (transaction t))
+      ∙ ap (λ (x : SpacesState). memory_refusals.space_refusal x (sealing_need m (transaction t))) (sym is.sessions.spaces)
 
   seal_cases : (o : Option Transaction) → a.active s ≡ o → end_asked o (Seal s) (log_refusal c (Seal s)) ≡ seal_refusal_of m (kept_of (ground c) c.g0 a o)
   seal_cases None e = refl
@@ -193,4 +193,4 @@ module _ (m : Memory) (c : Core) (valid : IsValid c) (runs : RunsLocked c.g0 c.f
 
   -- memory refuses a seal as the core does
   pub seal_refused : core_refusal c (Seal s) ≡ seal_refusal m s
-  seal_refused = unfailed_refusal c (Seal s) valid.unfailed ∙ seal_cases (a.active s) refl ∙ ap (seal_refusal_of m) (sym (is.transactions s))
+  seal_refused = unfailed_refusal c (Seal s) valid.unfailed ∙ seal_cases (a.active s) refl ∙ ap (seal_refusal_of m) (sym (is.sessions.transactions s))

@@ -72,7 +72,7 @@ module _ (m : Memory) (c : Core) (valid : IsValid c) (runs : RunsLocked c.g0 c.f
 
   -- memory refuses to let a handle hold the root as the core does
   pub root_refused : (h : ℕ) → core_refusal c (Root s h) ≡ handle_refusal (own m s) h
-  root_refused h = quiet_refused c (Root s h) valid tt refl refl ∙ root_cases (a.active s) h ∙ ap (λ (o : Option TransactionState). handle_refusal o h) (sym (is.transactions s))
+  root_refused h = quiet_refused c (Root s h) valid tt refl refl ∙ root_cases (a.active s) h ∙ ap (λ (o : Option TransactionState). handle_refusal o h) (sym (is.sessions.transactions s))
 
   drop_cases : (o : Option Transaction) (h : ℕ) → asked o (Drop s h) ≡ handle_refusal (mine o) h
   drop_cases None h = refl
@@ -80,7 +80,7 @@ module _ (m : Memory) (c : Core) (valid : IsValid c) (runs : RunsLocked c.g0 c.f
 
   -- to let it hold nothing
   pub drop_refused : (h : ℕ) → core_refusal c (Drop s h) ≡ handle_refusal (own m s) h
-  drop_refused h = quiet_refused c (Drop s h) valid tt refl refl ∙ drop_cases (a.active s) h ∙ ap (λ (o : Option TransactionState). handle_refusal o h) (sym (is.transactions s))
+  drop_refused h = quiet_refused c (Drop s h) valid tt refl refl ∙ drop_cases (a.active s) h ∙ ap (λ (o : Option TransactionState). handle_refusal o h) (sym (is.sessions.transactions s))
 
   len_cases : (o : Option Transaction) (h : ℕ) → asked o (Len s h) ≡ and_then (held_place (mine o) h) (λ p. None)
   len_cases None h = refl
@@ -91,7 +91,7 @@ module _ (m : Memory) (c : Core) (valid : IsValid c) (runs : RunsLocked c.g0 c.f
 
   -- to tell an object's length
   pub len_refused : (h : ℕ) → core_refusal c (Len s h) ≡ len_refusal m s h
-  len_refused h = quiet_refused c (Len s h) valid tt refl refl ∙ len_cases (a.active s) h ∙ ap (λ (o : Option TransactionState). and_then (held_place o h) (λ p. None)) (sym (is.transactions s))
+  len_refused h = quiet_refused c (Len s h) valid tt refl refl ∙ len_cases (a.active s) h ∙ ap (λ (o : Option TransactionState). and_then (held_place o h) (λ p. None)) (sym (is.sessions.transactions s))
 
   same_cases : (o : Option Transaction) (h h2 : ℕ) → asked o (Same s h h2) ≡ and_then (held_place (mine o) h) (λ p. and_then (held_place (mine o) h2) (λ q. None))
   same_cases None h h2 = refl
@@ -105,7 +105,7 @@ module _ (m : Memory) (c : Core) (valid : IsValid c) (runs : RunsLocked c.g0 c.f
   pub same_refused : (h h2 : ℕ) → core_refusal c (Same s h h2) ≡ same_refusal m s h h2
   same_refused h h2 =
       quiet_refused c (Same s h h2) valid tt refl refl ∙ same_cases (a.active s) h h2
-      ∙ ap (λ (o : Option TransactionState). and_then (held_place o h) (λ p. and_then (held_place o h2) (λ q. None))) (sym (is.transactions s))
+      ∙ ap (λ (o : Option TransactionState). and_then (held_place o h) (λ p. and_then (held_place o h2) (λ q. None))) (sym (is.sessions.transactions s))
 
   -- what a handle holds is at hand
   pub held_there : (t : Transaction) (h : ℕ) (id : Id) → a.active s ≡ Some t → held (view c.g0 a t).registers h ≡ Some id → IsAtHand c.places t.number (view c.g0 a t).made id
@@ -150,7 +150,7 @@ module _ (m : Memory) (c : Core) (valid : IsValid c) (runs : RunsLocked c.g0 c.f
   pub get_refused : (h i h2 : ℕ) → core_refusal c (Get s h i h2) ≡ get_refusal m s h i h2
   get_refused h i h2 =
       quiet_refused c (Get s h i h2) valid tt refl refl ∙ get_cases (a.active s) h i h2 refl
-      ∙ ap (λ (o : Option TransactionState). first_of_two (handle_refusal o h2) (and_then (held_place o h) (λ p. read_refusal_of m o p i))) (sym (is.transactions s))
+      ∙ ap (λ (o : Option TransactionState). first_of_two (handle_refusal o h2) (and_then (held_place o h) (λ p. read_refusal_of m o p i))) (sym (is.sessions.transactions s))
 
   new_cases : (o : Option Transaction) (h len : ℕ) → first_of_two (asked o (New s h len)) (room_refusal (ground c) c.g0 a o (New s h len)) ≡ new_refusal (mine o) h len
   new_cases None h len = refl
@@ -171,4 +171,4 @@ module _ (m : Memory) (c : Core) (valid : IsValid c) (runs : RunsLocked c.g0 c.f
       ∙ ap (λ (o : Option Refusal). first_of_two first (first_of_two words o)) (log_quiet c (New s h len) valid tt refl)
       ∙ ap (first_of_two first) (first_none words)
       ∙ new_cases (a.active s) h len
-      ∙ ap (λ (o : Option TransactionState). new_refusal o h len) (sym (is.transactions s))
+      ∙ ap (λ (o : Option TransactionState). new_refusal o h len) (sym (is.sessions.transactions s))

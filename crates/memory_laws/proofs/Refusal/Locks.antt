@@ -121,7 +121,7 @@ module _ (m : Memory) (c : Core) (valid : IsValid c) (runs : RunsLocked c.g0 c.f
   v = view c.g0 a t
 
   table_of : IsLockTable m.locks c.places c.g0 a
-  table_of = record { held = is.locks; one = λ id q at here there. stands_one valid.told.stands id q at here there; within = valid.in_sessions }
+  table_of = record { held = is.sessions.locks; one = λ id q at here there. stands_one valid.told.stands id q at here there; within = valid.in_sessions }
 
   -- memory finds the holder that the model finds
   pub same_holder : (id : Id) (at : ℕ) (mode : table.Mode) → address_of c.places id ≡ Some at → holder_of m.locks (asked t.number mode at) ≡ busy_holder c.g0 a t.number (Some (lock_in mode id))

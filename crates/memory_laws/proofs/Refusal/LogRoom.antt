@@ -25,13 +25,13 @@ use Rattle.heap_model.proofs.Step.Handles.{held_at_hand}
 use Rattle.heap_model.proofs.Step.Room.{full_log-none}
 use Rattle.heap_model.proofs.Opening.Told.{entry_of, update_of, written}
 use Rattle.heap_model.specs.CoreTold.{IsTold}
-use Rattle.core_laws.proofs.Sessions.Apart.{apart_with, word_now, free_shared}
-use Rattle.core_laws.proofs.Step.Goes.{words_with, writing_of, numbered_as}
+use Rattle.core_laws.proofs.Step.Goes.{words_with, writing_of}
 use Rattle.core_laws.proofs.Step.Granted.{reserved_told}
 use Rattle.core_laws.proofs.Sessions.OtherWrites.{undo_other}
 use Rattle.core_laws.proofs.Step.Reserved.{reserved_but}
 use Rattle.core_laws.proofs.Sessions.Actives.{called_reserved}
 use Rattle.core_laws.proofs.Step.Events.{call_account, kept_still}
+use Rattle.core_laws.proofs.Step.GrantedWrites.{writes_at}
 use Rattle.core_laws.proofs.Step.Told.{write_told}
 use Rattle.core_laws.specs.Valid.{IsValid, RunsLocked}
 use Rattle.heap_memory.specs.Memory as memory
@@ -49,7 +49,7 @@ kept_end c a (Some t) = refl
 
 -- so memory keeps as much for the ends of all transactions
 pub reserved_kept : (m : Memory) (c : Core) (a : Account) → IsMemory m a c → memory.reserved m.table ≡ reserved (undo_behind c (all_records c)) a
-reserved_kept m c a is = ap (λ (f : ℕ → ℕ). sum_by f sessions) (λ i s. (ap kept_for_end (is.transactions s) ∙ kept_end c a (a.active s)) i)
+reserved_kept m c a is = ap (λ (f : ℕ → ℕ). sum_by f sessions) (λ i s. (ap kept_for_end (is.sessions.transactions s) ∙ kept_end c a (a.active s)) i)
 
 -- where the state behind all records is known
 pub reserved_now : (m : Memory) (c : Core) (valid : IsValid c) → IsMemory m (account c.history) c → memory.reserved m.table ≡ reserved (undo_of valid.behind) (account c.history)
@@ -95,18 +95,8 @@ module _ (m : Memory) (c : Core) (valid : IsValid c) (runs : RunsLocked c.g0 c.f
       → IsTold (log_start c) c.born c.places (serial c.g0 a.sealed) (c.before + length a.sealed) (all_records c ++ record_at id at i x ∷ []) (words_with c (record_at id at i x ∷ [])) (behind id at i)
   written_told id at i x w =
       let o = two_phase_ordered c.g0 c.history runs.plain runs.two_phase in
-      let writing = writing_of a c s t active valid in
-      write_told c.pages c.first_number c.born c.places (serial c.g0 a.sealed) v.graph (c.before + length a.sealed) t.number v.made (all_records c) (all_words c) valid.behind id at i x (record {
-        told = valid.told;
-        number = numbered_as a c s t active valid;
-        apart = apart_with a c valid o s t active id at i w.place w.within w.free (entry_at id at i) refl refl;
-        stands = writing.stands;
-        has = writing.made;
-        place = w.place;
-        within = w.within;
-        seen = w.seen;
-        was = word_now a c valid o s t active id at i w.place w.within (free_shared c.g0 a t.number id w.free);
-      })
+      write_told c.pages c.first_number c.born c.places (serial c.g0 a.sealed) v.graph (c.before + length a.sealed) t.number v.made (all_records c) (all_words c) valid.behind id at i x
+      (writes_at a c valid o s t active id at i x w.place w.within w.seen w.free)
 
   -- the bytes of one write more are kept
   written_more : (id : Id) (at i : ℕ) → reserved (undo_of valid.behind) a + 19 ≡ reserved (undo_of (behind id at i)) a

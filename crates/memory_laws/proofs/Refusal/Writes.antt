@@ -110,7 +110,7 @@ module _ (m : Memory) (c : Core) (valid : IsValid c) (runs : RunsLocked c.g0 c.f
   put_refused h i v =
       old_refused c (Put s h i v) valid tt refl
       ∙ put_cases (a.active s) h i v refl
-      ∙ ap (λ (o : Option TransactionState). and_then (held_place o h) (λ p. first_of_two (range_refusal v) (write_refusal_of m o p i))) (sym (is.transactions s))
+      ∙ ap (λ (o : Option TransactionState). and_then (held_place o h) (λ p. first_of_two (range_refusal v) (write_refusal_of m o p i))) (sym (is.sessions.transactions s))
 
   -- Null.
   clear_held : (t : Transaction) (h i : ℕ) (o : Option Id) → a.active s ≡ Some t → held (view c.g0 a t).registers h ≡ o
@@ -131,7 +131,7 @@ module _ (m : Memory) (c : Core) (valid : IsValid c) (runs : RunsLocked c.g0 c.f
   clear_refused h i =
       old_refused c (Clear s h i) valid tt refl
       ∙ clear_cases (a.active s) h i refl
-      ∙ ap (λ (o : Option TransactionState). and_then (held_place o h) (λ p. write_refusal_of m o p i)) (sym (is.transactions s))
+      ∙ ap (λ (o : Option TransactionState). and_then (held_place o h) (λ p. write_refusal_of m o p i)) (sym (is.sessions.transactions s))
 
   -- A reference.
   link_held : (t : Transaction) (h i h2 : ℕ) (o p : Option Id) → a.active s ≡ Some t → held (view c.g0 a t).registers h ≡ o
@@ -160,4 +160,4 @@ module _ (m : Memory) (c : Core) (valid : IsValid c) (runs : RunsLocked c.g0 c.f
   link_refused h i h2 =
       old_refused c (Link s h i h2) valid tt refl
       ∙ link_cases (a.active s) h i h2 refl
-      ∙ ap (λ (o : Option TransactionState). and_then (held_place o h) (λ x. and_then (held_place o h2) (λ y. write_refusal_of m o x i))) (sym (is.transactions s))
+      ∙ ap (λ (o : Option TransactionState). and_then (held_place o h) (λ x. and_then (held_place o h2) (λ y. write_refusal_of m o x i))) (sym (is.sessions.transactions s))

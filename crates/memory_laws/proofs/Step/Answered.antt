@@ -1,6 +1,5 @@
 -- An event is answered as the core answers it, where it is refused for the same reason.
-use Rattle.std.proofs.Common.{◌≡◌, ℕ, ◌+◌, List, [], ◌∷◌, ◌++◌, length, Option, Some, None, refl, sym, ap, ◌∙◌, subst}
-use Rattle.std.specs.Prelude.{slice_index, IsFalse}
+use Rattle.std.proofs.Common.{◌≡◌, ℕ, ◌+◌, List, [], ◌∷◌, ◌++◌, Option, Some, None, refl, sym, ap, ◌∙◌, subst}
 use Rattle.graph_model.specs.declared.event.Event.{Event}
 use Rattle.graph_model.specs.declared.reply.Entry.{Entry}
 use Rattle.graph_model.specs.declared.reply.Refusal.{Refusal}
@@ -12,16 +11,13 @@ use Rattle.graph_model.specs.Plain.{reply_of}
 use Rattle.graph_model.proofs.Refusals.Plain.{IsNoFault, HasNoFault, account_after-refused}
 use Rattle.heap_model.specs.Core.{Core, core_refusal, granted_by, answer, with_entry, done, after_refusal, after}
 use Rattle.heap_model.proofs.Step.Step.{core_refusal-HasNoFault, done_history}
-use Rattle.page_store.specs.declared.store.PageStore.{PageStore}
-use Rattle.page_store.specs.StoreState.{store_plan, stored_lsn, has_failed}
 use Rattle.heap_memory.specs.Leaves.{IsAsItWas}
 use Rattle.heap_memory.specs.Memory.{Memory}
-use Rattle.memory_laws.specs.CoreMemory.{AreHeld, IsMemory}
+use Rattle.memory_laws.specs.CoreMemory.{IsMemory}
 use Rattle.memory_laws.proofs.Does.{Does}
 use Rattle.memory_laws.proofs.Kept.Locks.{held_alike}
 use Rattle.memory_laws.proofs.Kept.Log.{keeps_same}
-use Rattle.object_locks.specs.Holdings.{Holdings}
-use Rattle.txn_table.specs.Table.{TableState, transaction_of}
+use Rattle.memory_laws.proofs.Kept.Same.{same_pages, same_sessions}
 
 -- Another history, and one entry more, change nothing of memory.
 
@@ -32,17 +28,7 @@ memory_with m a c event reply h = record {
   room = h.room;
   words = h.words;
   pages = h.pages;
-  lsns = h.lsns;
-  flushed = h.flushed;
-  plan = h.plan;
-  unfailed = h.unfailed;
-  state = h.state;
-  reached = h.reached;
-  spaces = h.spaces;
-  transactions = h.transactions;
-  locks = h.locks;
-  next = h.next;
-  sealed = h.sealed;
+  sessions = h.sessions;
 }
 
 memory_entry : (m : Memory) (c d : Core) (event : Event) (reply : Reply) → d.history ≡ c.history → IsMemory m (account_after (account c.history) (record { event = event; reply = reply })) d
@@ -61,17 +47,17 @@ memory_told m a c acknowledged entries h = record {
   room = h.room;
   words = h.words;
   pages = h.pages;
-  lsns = h.lsns;
-  flushed = h.flushed;
-  plan = h.plan;
-  unfailed = h.unfailed;
-  state = h.state;
-  reached = h.reached;
-  spaces = h.spaces;
-  transactions = h.transactions;
-  locks = held_alike m.locks c.places c.g0 a (record a { acknowledged = acknowledged; entries = entries }) refl refl h.locks;
-  next = h.next;
-  sealed = h.sealed;
+  sessions =
+      let is = h.sessions in
+      record {
+        state = is.state;
+        reached = is.reached;
+        spaces = is.spaces;
+        transactions = is.transactions;
+        locks = held_alike m.locks c.places c.g0 a (record a { acknowledged = acknowledged; entries = entries }) refl refl is.locks;
+        next = is.next;
+        sealed = is.sealed;
+      };
 }
 
 memory_refused : (m : Memory) (a : Account) (c : Core) (event : Event) (why : Refusal) → IsNoFault why → IsMemory m a c → IsMemory m (account_after a (record { event = event; reply = Refused why })) c
@@ -115,16 +101,6 @@ as_it_was m n c is same = record {
   place = same.log.place.at ∙ is.place;
   room = same.log.place.room ∙ is.room;
   words = same.words ∙ is.words;
-  pages = ap (λ (l : List ℕ). length l) same.lsns ∙ is.pages;
-  lsns = λ p lt. ap (λ (l : List ℕ). slice_index l p) same.lsns ∙ is.lsns p lt;
-  flushed = λ p lt. ap (λ (x : PageStore). stored_lsn x p) same.store ∙ is.flushed p lt;
-  plan = ap store_plan same.store ∙ is.plan;
-  unfailed = subst (λ (x : PageStore). IsFalse (has_failed x)) (sym same.store) is.unfailed;
-  state = is.state;
-  reached = is.reached;
-  spaces = same.spaces ∙ is.spaces;
-  transactions = λ s. ap (λ (t : TableState). transaction_of t s) same.table ∙ is.transactions s;
-  locks = subst (λ (l : Holdings). AreHeld l c.places c.g0 (account c.history)) (sym same.locks) is.locks;
-  next = ap (λ (t : TableState). t.next) same.table ∙ is.next;
-  sealed = same.sealed ∙ is.sealed;
+  pages = same_pages m n c same.lsns same.store is.pages;
+  sessions = same_sessions m n (account c.history) c same.spaces same.table same.locks same.sealed is.sessions;
 }

@@ -22,6 +22,7 @@ use Rattle.heap_spaces.specs.Spaces.{SpacesState}
 use Rattle.graph_words.specs.Places.{Places}
 use Rattle.heap_model.specs.Core.{Core, Ground, all_records, all_words, next_number, state_behind, undo_with, event_records, done}
 use Rattle.core_laws.proofs.Step.Forms.{call_places, done_records, no_call}
+use Rattle.core_laws.proofs.Step.Goes.{places_still}
 use Rattle.page_redo.proofs.RedoLaws.{lsns-redo_all}
 use Rattle.page_store.specs.declared.store.PageStore.{PageStore}
 use Rattle.page_store.specs.StoreState.{store_plan, stored_lsn, has_failed}
@@ -40,10 +41,11 @@ pub some_one : {A : Type 0} (x y : A) → Some x ≡ Some y → x ≡ y
 some_one x y e = cc e
 
 -- a call leaves of the core these records more
-pub call_done : (c : Core) (event : Event) (more : List Record) → IsCall event → event_records c event ≡ more → done c event ≡ record c { pending = c.pending ++ more; places = c.places ++ [] }
+pub call_done : (c : Core) (event : Event) (more : List Record) → IsCall event → event_records c event ≡ more → done c event ≡ record c { pending = c.pending ++ more }
 call_done c event more is records =
     done_records c event (no_call event is) ∙ ap (λ (placed : Places). record c { pending = c.pending ++ event_records c event; places = c.places ++ placed }) (call_places c event is)
     ∙ ap (λ (rs : List Record). record c { pending = c.pending ++ rs; places = c.places ++ [] }) records
+    ∙ places_still c more
 
 -- where the heap is found with these places, in this state
 abbrev pub ground_in : Core → Places → State → Ground
@@ -72,17 +74,17 @@ module _ (m n : Memory) (c : Core) (valid : IsValid c) (is : IsMemory m (account
   behind = valid.behind
 
   -- it is the one that memory follows
-  same_state : is.state ≡ behind
-  same_state = some_one is.state behind (sym is.reached ∙ valid.told.reached)
+  same_state : is.sessions.state ≡ behind
+  same_state = some_one is.sessions.state behind (sym is.sessions.reached ∙ valid.told.reached)
 
   -- the spaces in memory are the state's
   pub spaces_are : m.spaces ≡ spaces_of behind
-  spaces_are = is.spaces ∙ ap spaces_of same_state
+  spaces_are = is.sessions.spaces ∙ ap spaces_of same_state
 
   -- each session's transaction is in memory what the core keeps of it
   pub own_kept : (s : ℕ) → own m s ≡ kept_of (ground_in c c.places behind) c.g0 a (a.active s)
   own_kept s =
-      is.transactions s ∙ ap (λ (o : Option State). kept_of (record { places = c.places; words = all_words c; state = o }) c.g0 a (a.active s)) valid.told.reached
+      is.sessions.transactions s ∙ ap (λ (o : Option State). kept_of (record { places = c.places; words = all_words c; state = o }) c.g0 a (a.active s)) valid.told.reached
 
   -- the transaction of a session in memory is the core's
   pub mine : (s : ℕ) (x : TransactionState) → own m s ≡ Some x → (t : Transaction) × (a.active s ≡ Some t) × (x ≡ kept c.places (view c.g0 a t) t.number (undo_of behind t.number))
@@ -92,12 +94,12 @@ module _ (m n : Memory) (c : Core) (valid : IsValid c) (is : IsMemory m (account
   pub stays : n ≡ m → IsMemory n a c
   stays same = let P : Memory → Type 0 = λ x. IsMemory x a c in subst P (sym same) is
 
-  -- records more wait, and objects more stand in the current space
-  pub appended : (b : Account) (more : List Record) (placed : Places) (table : TableState) (locks : Holdings) (current : SpacesState) (count : ℕ) (later : State)
+  -- records more wait, and these objects stand in the current space then
+  pub appended : (b : Account) (more : List Record) (places : Places) (table : TableState) (locks : Holdings) (current : SpacesState) (count : ℕ) (later : State)
       → Leaves m n more table locks current count → state_behind c (all_records c ++ more) ≡ Some later → current ≡ spaces_of later
-      → ((r : ℕ) → transaction_of table r ≡ kept_of (ground_in c (c.places ++ placed) later) c.g0 b (b.active r)) → AreHeld locks (c.places ++ placed) c.g0 b
-      → table.next ≡ c.first + b.begun → count ≡ length b.sealed → IsMemory n b (record c { pending = c.pending ++ more; places = c.places ++ placed })
-  appended b more placed table locks current count later left reached room there held next sealed =
+      → ((r : ℕ) → transaction_of table r ≡ kept_of (ground_in c places later) c.g0 b (b.active r)) → AreHeld locks places c.g0 b
+      → table.next ≡ c.first + b.begun → count ≡ length b.sealed → IsMemory n b (record c { pending = c.pending ++ more; places = places })
+  appended b more places table locks current count later left reached room there held next sealed =
       let all = append_assoc (records_of c.batches) c.pending more in
       let then : state_behind c (records_of c.batches ++ (c.pending ++ more)) ≡ Some later = ap (state_behind c) (sym all) ∙ reached in
       record {
@@ -105,30 +107,32 @@ module _ (m n : Memory) (c : Core) (valid : IsValid c) (is : IsMemory m (account
         place = left.log.place.at ∙ is.place;
         room = left.log.place.room ∙ is.room;
         words = left.words ∙ ap (λ (ws : List ℕ). fold put_record ws more) is.words ∙ sym (fold-append put_record c.words c.pending more);
-        pages = ap (λ (l : List ℕ). length l) left.lsns ∙ lsns-redo_all (log_count m.log + 1) (pages_of m) more ∙ is.pages;
-        lsns = λ p lt. lsn_appended m n c is more left.lsns p lt;
-        flushed = λ p lt. ap (λ (x : PageStore). stored_lsn x p) left.store ∙ is.flushed p lt;
-        plan = ap store_plan left.store ∙ is.plan;
-        unfailed = subst (λ (x : PageStore). IsFalse (has_failed x)) (sym left.store) is.unfailed;
-        state = later;
-        reached = then;
-        spaces = left.spaces ∙ room;
-        transactions = λ r. ap (λ (t : TableState). transaction_of t r) left.table ∙ there r
-            ∙ ap (λ (o : Option State). kept_of (record { places = c.places ++ placed; words = all_words c; state = o }) c.g0 b (b.active r)) (sym then);
-        locks = subst (λ (ls : Holdings). AreHeld ls (c.places ++ placed) c.g0 b) (sym left.locks) held;
-        next = ap (λ (t : TableState). t.next) left.table ∙ next;
-        sealed = left.sealed ∙ sealed;
+        pages = record {
+          number = ap (λ (l : List ℕ). length l) left.lsns ∙ lsns-redo_all (log_count m.log + 1) (pages_of m) more ∙ is.pages.number;
+          now = λ p lt. lsn_appended m n c is more left.lsns p lt;
+          flushed = λ p lt. ap (λ (x : PageStore). stored_lsn x p) left.store ∙ is.pages.flushed p lt;
+          plan = ap store_plan left.store ∙ is.pages.plan;
+          unfailed = subst (λ (x : PageStore). IsFalse (has_failed x)) (sym left.store) is.pages.unfailed;
+        };
+        sessions = record {
+          state = later;
+          reached = then;
+          spaces = left.spaces ∙ room;
+          transactions = λ r. ap (λ (t : TableState). transaction_of t r) left.table ∙ there r
+              ∙ ap (λ (o : Option State). kept_of (record { places = places; words = all_words c; state = o }) c.g0 b (b.active r)) (sym then);
+          locks = subst (λ (ls : Holdings). AreHeld ls places c.g0 b) (sym left.locks) held;
+          next = ap (λ (t : TableState). t.next) left.table ∙ next;
+          sealed = left.sealed ∙ sealed;
+        };
       }
 
   -- records more wait, and the same objects stand there
   pub appended_here : (b : Account) (more : List Record) (table : TableState) (locks : Holdings) (count : ℕ) (later : State) → Leaves m n more table locks m.spaces count
       → state_behind c (all_records c ++ more) ≡ Some later → spaces_of behind ≡ spaces_of later
       → ((r : ℕ) → transaction_of table r ≡ kept_of (ground_in c c.places later) c.g0 b (b.active r)) → AreHeld locks c.places c.g0 b
-      → table.next ≡ c.first + b.begun → count ≡ length b.sealed → IsMemory n b (record c { pending = c.pending ++ more; places = c.places ++ [] })
+      → table.next ≡ c.first + b.begun → count ≡ length b.sealed → IsMemory n b (record c { pending = c.pending ++ more })
   appended_here b more table locks count later left reached same there held next sealed =
-      let here = sym (append-nil c.places) in
-      appended b more [] table locks m.spaces count later left reached (spaces_are ∙ same)
-      (λ r. there r ∙ ap (λ (places : Places). kept_of (ground_in c places later) c.g0 b (b.active r)) here) (subst (λ (places : Places). AreHeld locks places c.g0 b) here held) next sealed
+      appended b more c.places table locks m.spaces count later left reached (spaces_are ∙ same) there held next sealed
 
   -- In a later state the transactions of all other sessions have the same writes that may be taken back.
   abbrev pub LeavesOthers : ℕ → State → Type 0
@@ -159,7 +163,7 @@ module _ (m n : Memory) (c : Core) (valid : IsValid c) (is : IsMemory m (account
       let there : transaction_of table s ≡ kept_of (ground_in c c.places later) c.g0 a (with_call (a.active s) event) =
       holds ∙ ap (λ (y : TransactionState). Some y) kept_so ∙ sym (kept_call (ground_in c c.places later) c.g0 a (a.active s) t event e) in
       let each = each_session P a.active s (with_call (a.active s) event) there (others_kept s table later beside others) in
-      let now = appended_here (called a s event) more table locks m.sealed later left reached same each held (next ∙ is.next) is.sealed in
+      let now = appended_here (called a s event) more table locks m.sealed later left reached same each held (next ∙ is.sessions.next) is.sessions.sealed in
       subst (λ (b : Account). IsMemory n b (done c event)) (sym (reply_adds c event ∙ call_account (next_number c) c.g0 a event called_it ∙ ap (λ (q : ℕ). called a q event) one))
       (subst (λ (d : Core). IsMemory n (called a s event) d) (sym (call_done c event more called_it records)) now)
 
@@ -181,7 +185,7 @@ module _ (m n : Memory) (c : Core) (valid : IsValid c) (is : IsMemory m (account
 
   -- a call that needs no lock leaves the locks
   pub no_lock : (s : ℕ) (t : Transaction) (event : Event) → a.active s ≡ Some t → lock_of (view c.g0 a t).registers event ≡ None → AreHeld m.locks c.places c.g0 (called a s event)
-  no_lock s t event e none = held_same m.locks c.places c.g0 a s t event e (λ id mode some. let never = sym none ∙ some in cc) is.locks
+  no_lock s t event e none = held_same m.locks c.places c.g0 a s t event e (λ id mode some. let never = sym none ∙ some in cc) is.sessions.locks
 
 -- what an event leaves that changes nothing
 pub nothing_left : (m : Memory) → Leaves m m [] m.table m.locks m.spaces m.sealed

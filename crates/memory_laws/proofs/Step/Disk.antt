@@ -8,16 +8,14 @@ use Rattle.gated_log.specs.declared.log.Log.{Log}
 use Rattle.gated_log.specs.LogState.{Keeps, log_place, log_room}
 use Rattle.graph_model.specs.History.{Account}
 use Rattle.log_records.specs.declared.Record.{Record}
-use Rattle.object_locks.specs.Holdings.{Holdings}
 use Rattle.page_redo.specs.Pages.{pages_in}
 use Rattle.page_redo.specs.Redo.{last_lsn}
-use Rattle.page_store.specs.declared.store.PageStore.{PageStore}
 use Rattle.page_store.specs.StoreState.{store_plan, stored_lsn, has_failed}
-use Rattle.txn_table.specs.Table.{TableState, transaction_of}
 use Rattle.heap_memory.specs.Memory.{Memory}
-use Rattle.heap_model.specs.Core.{Core, ground, all_records, all_words, present_lsn, state_behind, forced, page_stored}
+use Rattle.heap_model.specs.Core.{Core, Ground, ground, all_records, all_words, present_lsn, state_behind, forced, page_stored}
 use Rattle.heap_model.proofs.Step.Room.{forced-with_batch, records_of-with_batch}
-use Rattle.memory_laws.specs.CoreMemory.{IsMemory, AreHeld, kept_of}
+use Rattle.memory_laws.proofs.Kept.Same.{same_pages, same_sessions}
+use Rattle.memory_laws.specs.CoreMemory.{ArePages, AreSessions, IsMemory}
 
 -- Nothing but the log, and what is known of the stored pages, may be other than it was.
 pub record HasSameWork (old new : Memory) : Type 0 where
@@ -44,18 +42,10 @@ forced_memory m n a c is keeps at room same store =
       place = at ∙ is.place;
       room = room ∙ is.room;
       words = same.words ∙ is.words;
-      pages = ap (λ (l : List ℕ). length l) same.lsns ∙ is.pages;
-      lsns = λ p lt. ap (λ (l : List ℕ). get_or l p 0) same.lsns ∙ is.lsns p lt ∙ ap (λ (rs : List Record). max (c.stored_lsns p) (last_lsn p 1 rs)) (sym records);
-      flushed = λ p lt. ap (λ (x : PageStore). stored_lsn x p) store ∙ is.flushed p lt;
-      plan = ap store_plan store ∙ is.plan;
-      unfailed = subst (λ (x : PageStore). IsFalse (has_failed x)) (sym store) is.unfailed;
-      state = is.state;
-      reached = ap (state_behind c) records ∙ is.reached;
-      spaces = same.spaces ∙ is.spaces;
-      transactions = λ s. ap (λ (t : TableState). transaction_of t s) same.table ∙ is.transactions s ∙ ap (λ h. kept_of h c.g0 a (a.active s)) (sym here);
-      locks = subst (λ (l : Holdings). AreHeld l c.places c.g0 a) (sym same.locks) is.locks;
-      next = ap (λ (t : TableState). t.next) same.table ∙ is.next;
-      sealed = same.sealed ∙ is.sealed;
+      pages = subst (λ (rs : List Record). ArePages n.lsns n.store c.pages c.room (λ p. max (c.stored_lsns p) (last_lsn p 1 rs)) c.stored_lsns) (sym records)
+          (same_pages m n c same.lsns store is.pages);
+      sessions = subst (λ (g : Ground). AreSessions n.spaces n.table n.locks n.sealed g c.g0 c.first a) (sym here)
+          (same_sessions m n a c same.spaces same.table same.locks same.sealed is.sessions);
     })
 
 -- a page that is stored has the LSN that it had
@@ -68,8 +58,8 @@ known_stored : (m n : Memory) (a : Account) (c : Core) (p : ℕ) → IsMemory m 
     → ((q : ℕ) → q ≢ p → stored_lsn n.store q ≡ stored_lsn m.store q) → (q : ℕ) → q < pages_in c.pages → (b : Bool) → (q == p) ≡ b → stored_lsn n.store q ≡ cond b (present_lsn c q) (c.stored_lsns q)
 known_stored m n a c p is lt stored others q within true e =
     let same = eqb-true q p e in
-    ap (stored_lsn n.store) same ∙ stored ∙ is.lsns p lt ∙ ap (present_lsn c) (sym same)
-known_stored m n a c p is lt stored others q within false e = others q (eqb-false q p e) ∙ is.flushed q within
+    ap (stored_lsn n.store) same ∙ stored ∙ is.pages.now p lt ∙ ap (present_lsn c) (sym same)
+known_stored m n a c p is lt stored others q within false e = others q (eqb-false q p e) ∙ is.pages.flushed q within
 
 -- a page was stored as it is
 pub stored_memory : (m n : Memory) (a : Account) (c : Core) (p : ℕ) → IsMemory m a c → n.log ≡ m.log → HasSameWork m n → store_plan n.store ≡ store_plan m.store → IsFalse (has_failed n.store)
@@ -79,16 +69,12 @@ stored_memory m n a c p is log same plan unfailed stored others lt = record {
   place = ap log_place log ∙ is.place;
   room = ap log_room log ∙ is.room;
   words = same.words ∙ is.words;
-  pages = ap (λ (l : List ℕ). length l) same.lsns ∙ is.pages;
-  lsns = λ q within. ap (λ (l : List ℕ). get_or l q 0) same.lsns ∙ is.lsns q within ∙ still_present c q (q == p);
-  flushed = λ q within. known_stored m n a c p is lt stored others q within (q == p) refl;
-  plan = plan ∙ is.plan;
-  unfailed = unfailed;
-  state = is.state;
-  reached = is.reached;
-  spaces = same.spaces ∙ is.spaces;
-  transactions = λ s. ap (λ (t : TableState). transaction_of t s) same.table ∙ is.transactions s;
-  locks = subst (λ (l : Holdings). AreHeld l c.places c.g0 a) (sym same.locks) is.locks;
-  next = ap (λ (t : TableState). t.next) same.table ∙ is.next;
-  sealed = same.sealed ∙ is.sealed;
+  pages = record {
+    number = ap (λ (l : List ℕ). length l) same.lsns ∙ is.pages.number;
+    now = λ q within. ap (λ (l : List ℕ). get_or l q 0) same.lsns ∙ is.pages.now q within ∙ still_present c q (q == p);
+    flushed = λ q within. known_stored m n a c p is lt stored others q within (q == p) refl;
+    plan = plan ∙ is.pages.plan;
+    unfailed = unfailed;
+  };
+  sessions = same_sessions m n a c same.spaces same.table same.locks same.sealed is.sessions;
 }

@@ -23,7 +23,7 @@ use Rattle.txn_table.proofs.TableLaws.{with_begun_same, with_begun_other, with_e
 use Rattle.heap_model.specs.Core.{Core, Ground, ground, all_records, all_words, next_number, core_refusal}
 use Rattle.heap_model.proofs.Step.Goes.{told_sound}
 use Rattle.core_laws.proofs.Sessions.Apart.{own_apart}
-use Rattle.core_laws.proofs.Step.Goes.{numbered_as}
+use Rattle.core_laws.proofs.Step.Goes.{numbered_as, places_still}
 use Rattle.core_laws.proofs.Sessions.OtherWrites.{undo_other}
 use Rattle.core_laws.proofs.Sessions.Actives.{each_session}
 use Rattle.core_laws.proofs.Step.Told.{none_yet, abort_told}
@@ -65,7 +65,7 @@ module _ (m n : Memory) (c : Core) (valid : IsValid c) (runs : RunsLocked c.g0 c
 
   -- where memory has no transaction the core has none
   none_active : begin_refusal m s ≡ None → a.active s ≡ None
-  none_active e = none_kept (ground c) c.g0 a (a.active s) (own m s) (is.transactions s) (test_none (is_some (own m s)) AlreadyActive _ e).0
+  none_active e = none_kept (ground c) c.g0 a (a.active s) (own m s) (is.sessions.transactions s) (test_none (is_some (own m s)) AlreadyActive _ e).0
 
   -- the transaction that begins has no writes that may be taken back
   nothing_written : undo_of behind (next_number c) ≡ []
@@ -76,7 +76,7 @@ module _ (m n : Memory) (c : Core) (valid : IsValid c) (runs : RunsLocked c.g0 c
   begun_kept =
       let t = next_number c in
       let v = view c.g0 a (record { number = t; calls = [] }) in
-      ap new_transaction is.next
+      ap new_transaction is.sessions.next
       ∙ ap (λ (hs : List (Option Place)). record (new_transaction t) { handles = hs }) (none_mapped (place_in c.places v.graph) 64)
       ∙ ap (kept c.places v t) (sym nothing_written)
 
@@ -88,14 +88,15 @@ module _ (m n : Memory) (c : Core) (valid : IsValid c) (runs : RunsLocked c.g0 c
       let P : ℕ → Option Transaction → Type 0 = λ r o. transaction_of table r ≡ kept_of (ground_in c c.places behind) c.g0 a o in
       let there = with_begun_same m.table s ∙ ap (λ (y : TransactionState). Some y) begun_kept in
       let others = others_kept m n c valid is s table behind (with_begun_other m.table s) (λ r u other also. refl) in
-      appended_here m n c valid is begun [] table m.locks m.sealed behind begins (reached_still m n c valid is) refl (each_session P a.active s x there others)
-      (held_begun c.g0 c.history m.locks c.places s (next_number c) none is.locks) (omega (arith, is.next)) is.sealed
+      subst (λ (d : Core). IsMemory n begun d) (sym (places_still c []))
+      (appended_here m n c valid is begun [] table m.locks m.sealed behind begins (reached_still m n c valid is) refl (each_session P a.active s x there others)
+      (held_begun c.g0 c.history m.locks c.places s (next_number c) none is.sessions.locks) (omega (arith, is.sessions.next)) is.sessions.sealed)
 
   -- a begin is answered as the core answers it, and the session has the next transaction then
   pub begin_does : core_refusal c (Begin s) ≡ begin_refusal m s → (reply : Reply) → reply ≡ reply_of (begin_refusal m s) (Begun m.table.next) → ((k : ℕ) → reply ≡ Begun k → Begins m n s)
       → ((why : Refusal) → reply ≡ Refused why → n ≡ m) → Does c (Begin s) reply n
   begin_does same reply replied begins stayed =
-      does c (Begin s) (begin_refusal m s) (Begun m.table.next) reply n same replied (λ e. ap Begun (sym is.next))
+      does c (Begin s) (begin_refusal m s) (Begun m.table.next) reply n same replied (λ e. ap Begun (sym is.sessions.next))
       (λ e begun_it. begun_goes (none_active e) (begins m.table.next begun_it))
       (λ why e. stays m n c valid is (stayed why e))
 
@@ -126,8 +127,9 @@ module _ (m n : Memory) (c : Core) (valid : IsValid c) (runs : RunsLocked c.g0 c
       let P : ℕ → Option Transaction → Type 0 = λ r o. transaction_of table r ≡ kept_of (ground_in c c.places (ended t.number)) c.g0 a o in
       let others = others_kept m n c valid is s table (ended t.number) (with_ended_other m.table s) (ended_others t e) in
       subst (λ (rs : List Record). IsMemory n aborted (record c { pending = c.pending ++ rs; places = c.places ++ [] })) (sym (abort_is c s t valid e))
+      (subst (λ (d : Core). IsMemory n aborted d) (sym (places_still c more))
       (appended_here m n c valid is aborted more table (without m.locks t.number) m.sealed (ended t.number) left told.reached refl
-      (each_session P a.active s None (with_ended_same m.table s) others) (held_aborted c.g0 c.history m.locks c.places c.places s t runs.plain runs.two_phase e (λ id other. refl) is.locks) is.next is.sealed)
+      (each_session P a.active s None (with_ended_same m.table s) others) (held_aborted c.g0 c.history m.locks c.places c.places s t runs.plain runs.two_phase e (λ id other. refl) is.sessions.locks) is.sessions.next is.sessions.sealed))
 
   -- an abort is answered as the core answers it, and the session has no transaction then
   pub abort_does : core_refusal c (Abort s) ≡ end_refusal (own m s) → (result : Result Reply AllocError) → IfOk result (λ reply. reply ≡ reply_of (end_refusal (own m s)) Aborted)

@@ -142,7 +142,7 @@ module _ (m n : Memory) (c : Core) (valid : IsValid c) (runs : RunsLocked c.g0 c
       let place : read.p ≡ gets.place = let both = sym read.there ∙ gets.held in cc both in
       let event : Event = Get s h i h2 in
       let P : TransactionState → Place → Type 0 = λ y p. AreHeld (with_lock m.locks y locked.Shared p) c.places c.g0 (called a s event) in
-      let locks = held_used m.locks c.places c.g0 a s t event read.one.id locked.Shared undo read.active (ap (option_map (in_mode Shared)) read.one.holds) is.locks in
+      let locks = held_used m.locks c.places c.g0 a s t event read.one.id locked.Shared undo read.active (ap (option_map (in_mode Shared)) read.one.holds) is.sessions.locks in
       let held = subst (λ (y : TransactionState). P y gets.place) (sym same) (subst (P (kept c.places v t.number undo)) (read.one.place ∙ place) locks) in
       quiet_goes m n c valid is s t event (with_lock m.locks gets.transaction locked.Shared gets.place) (with_read gets.transaction h2 (meant_held m s h i)) read.active tt refl (quiet_records c event tt refl) gets.left
       (ap (λ y. with_read y h2 (meant_held m s h i)) same ∙ ap (with_read (kept c.places v t.number undo) h2) (meant h i read)

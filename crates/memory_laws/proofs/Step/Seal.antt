@@ -35,7 +35,7 @@ use Rattle.core_laws.proofs.Step.Goes.{writing_of}
 use Rattle.core_laws.proofs.Sessions.OtherWrites.{IsAway, others_at, undo_other}
 use Rattle.core_laws.proofs.Seal.Others.{stays_beside}
 use Rattle.core_laws.proofs.Seal.Told as seal
-use Rattle.core_laws.proofs.Seal.Words.{AgreeIn, fields_written, need_same}
+use Rattle.core_laws.proofs.Seal.Words.{fields_written}
 use Rattle.core_laws.proofs.Sessions.Actives.{each_session}
 use Rattle.core_laws.specs.Valid.{IsValid, RunsLocked}
 use Rattle.heap_memory.specs.Memory.{Memory}
@@ -46,6 +46,7 @@ use Rattle.memory_laws.proofs.Does.{Does}
 use Rattle.memory_laws.proofs.Kept.Locks.{held_sealed}
 use Rattle.core_laws.proofs.Step.Events.{may_go}
 use Rattle.graph_words.proofs.Places.Addresses.{none_or_some}
+use Rattle.graph_words.proofs.Promotion.Alike.{AgreeIn, need_same}
 use Rattle.graph_words.proofs.Promotion.Seal.{is_sealing, sealing}
 use Rattle.graph_words.proofs.Seal.Values.{later_cases}
 use Rattle.graph_model.specs.declared.id.Id.{Id}
@@ -96,11 +97,11 @@ module _ (c : Core) (valid : IsValid c) (runs : RunsLocked c.g0 c.first c.histor
   abbrev sealed : Account
   sealed = account_after a (record { event = Seal s; reply = Sealed (length a.sealed + 1) })
 
-  -- all words are those that the transaction sees in the fields that it wrote
+  -- all words are like those that the transaction sees in the fields that it wrote
   agree : AgreeIn (seal.own_words a c valid order s t e) now (written_fields undo)
   agree =
       let Away : Field → Type 0 = λ f. IsAway behind t.number (field_at f.0 f.1) in
-      AllByRecursion-map Away (λ f. _) (written_fields undo) (λ f away. sym (others_at behind t.number now (field_at f.0 f.1) away))
+      AllByRecursion-map Away (λ f. _) (written_fields undo) (λ f away. inl (sym (others_at behind t.number now (field_at f.0 f.1) away)))
       (fields_written (IsAway behind t.number) undo (own_away a c valid order s t e))
 
   -- so the promotion takes as many words
@@ -166,7 +167,7 @@ module _ (c : Core) (valid : IsValid c) (runs : RunsLocked c.g0 c.first c.histor
   -- only objects that the transaction made come to stand in the space
   others_stand : (id : Id) → id.t ≢ t.number → address_of later id ≡ address_of c.places id
   others_stand id other =
-      let it = sealing c.places v.graph t.number v.made undo (seal.own_words a c valid order s t e) behind.base behind.used in
+      let it = sealing c.places v.graph t.number v.made undo (seal.own_words a c valid order s t e) behind.base behind.used (seal.next_free a c valid order s t e) in
       elim (none_or_some (address_of later id)) [
         | inl none ↦ none ∙ sym (none_before id none)
         | inr there ↦ elim (later_cases it (is_sealing (seal.can a c valid order s t e space)) id there.0 there.1) [
@@ -211,10 +212,10 @@ module _ (c : Core) (valid : IsValid c) (runs : RunsLocked c.g0 c.first c.histor
         (λ r other. with_ended_other m.table s r other ∙ own_kept m n c valid is r ∙ kept_then r other (a.active r) refl) in
         let there = λ (r : ℕ). each r ∙ ap (λ (ps : Places). kept_of (ground_in c (c.places ++ ps) last) c.g0 sealed (sealed.active r)) (sym places_then) in
         let count : m.sealed + 1 ≡ length sealed.sealed =
-        omega (arith, is.sealed, ap (λ (o : Option Transaction). length (a.sealed ++ option_to_list o)) e, length-append a.sealed (t ∷ [])) in
+        omega (arith, is.sessions.sealed, ap (λ (o : Option Transaction). length (a.sealed ++ option_to_list o)) e, length-append a.sealed (t ∷ [])) in
         let held = subst (λ (ps : Places). AreHeld locks (c.places ++ ps) c.g0 sealed) (sym places_then)
-        (held_sealed c.g0 c.history m.locks c.places later s (length a.sealed + 1) t runs.plain runs.two_phase e others_stand is.locks) in
-        appended m n c valid is sealed (event_records c (Seal s)) (event_places c (Seal s)) table locks taken (m.sealed + 1) last left seal_reaches (taking_same x same) there held is.next count
+        (held_sealed c.g0 c.history m.locks c.places later s (length a.sealed + 1) t runs.plain runs.two_phase e others_stand is.sessions.locks) in
+        appended m n c valid is sealed (event_records c (Seal s)) (c.places ++ event_places c (Seal s)) table locks taken (m.sealed + 1) last left seal_reaches (taking_same x same) there held is.sessions.next count
 
 module _ (m n : Memory) (c : Core) (valid : IsValid c) (runs : RunsLocked c.g0 c.first c.history) (is : IsMemory m (account c.history) c) (s : ℕ) where
   -- a seal is answered as the core answers it, and the session has no transaction then
@@ -222,7 +223,7 @@ module _ (m n : Memory) (c : Core) (valid : IsValid c) (runs : RunsLocked c.g0 c
       → ((number : ℕ) → result ≡ Ok (Sealed number) → Seals m n s) → ((why : Refusal) → result ≡ Ok (Refused why) → IsAsItWas m n) → IfOk result (λ reply. Does c (Seal s) reply n)
   seal_does same (Err e) replied sealed_it stayed = tt
   seal_does same (Ok reply) replied sealed_it stayed =
-      does c (Seal s) (seal_refusal m s) (Sealed (m.sealed + 1)) reply n same replied (λ e. ap (λ (k : ℕ). Sealed (k + 1)) (sym is.sealed))
+      does c (Seal s) (seal_refusal m s) (Sealed (m.sealed + 1)) reply n same replied (λ e. ap (λ (k : ℕ). Sealed (k + 1)) (sym is.sessions.sealed))
       (λ e done_it.
       let seals = sealed_it (m.sealed + 1) (ap Ok done_it) in
       let t = mine m n c valid is s seals.transaction seals.was in

@@ -31,10 +31,10 @@ use Rattle.graph_words.proofs.Area.Made.{own_apart}
 use Rattle.graph_words.specs.Places.{IsOwn, IsVisible, address_of, index_of, place_of, bits_of}
 use Rattle.graph_words.proofs.Places.Addresses.{some_address}
 use Rattle.heap_model.specs.Core.{Core, ground, all_records, all_words, view_records, call_records, event_records, core_refusal}
-use Rattle.core_laws.proofs.Sessions.Apart.{apart_with, free_shared, word_now}
-use Rattle.core_laws.proofs.Step.Goes.{writing_of, numbered_as}
+use Rattle.core_laws.proofs.Step.Goes.{writing_of}
 use Rattle.core_laws.proofs.Sessions.OtherWrites.{undo_other}
 use Rattle.core_laws.proofs.Sessions.Actives.{called}
+use Rattle.core_laws.proofs.Step.GrantedWrites.{writes_at}
 use Rattle.core_laws.proofs.Step.Told.{IsWriteAt, write_told}
 use Rattle.core_laws.specs.Valid.{IsValid, RunsLocked}
 use Rattle.commit_order.proofs.OrderLaws.{two_phase_ordered}
@@ -121,7 +121,7 @@ module _ (m n : Memory) (c : Core) (valid : IsValid c) (runs : RunsLocked c.g0 c
     locks_at : (q : Place) → place_in c.places v.graph id ≡ q → AreHeld (with_lock m.locks (kept c.places v t.number undo) locked.Exclusive q) c.places c.g0 (called a s event)
     locks_at q stands =
         subst (λ (r : Place). AreHeld (with_lock m.locks (kept c.places v t.number undo) locked.Exclusive r) c.places c.g0 (called a s event)) stands
-        (held_used m.locks c.places c.g0 a s t event id locked.Exclusive undo write.active write.needs is.locks)
+        (held_used m.locks c.places c.g0 a s t event id locked.Exclusive undo write.active write.needs is.sessions.locks)
 
     -- and what the write leaves
     left_at : (q : Place) → place_in c.places v.graph id ≡ q
@@ -158,20 +158,7 @@ module _ (m n : Memory) (c : Core) (valid : IsValid c) (runs : RunsLocked c.g0 c
     -- it is one that the records can tell
     write_at : (at : ℕ) → address_of c.places id ≡ Some at
         → IsWriteAt c.pages c.first_number c.born c.places (serial c.g0 a.sealed) v.graph (c.before + length a.sealed) t.number v.made (all_records c) now behind id at i x
-    write_at at place =
-        let writing = writing_of a c s t write.active valid in
-        let order = two_phase_ordered c.g0 c.history runs.plain runs.two_phase in
-        record {
-          told = valid.told;
-          number = numbered_as a c s t write.active valid;
-          apart = apart_with a c valid order s t write.active id at i place write.within write.free (entry at) refl refl;
-          stands = writing.stands;
-          has = writing.made;
-          place = place;
-          within = write.within;
-          seen = write.seen;
-          was = word_now a c valid order s t write.active id at i place write.within (free_shared c.g0 a t.number id write.free);
-        }
+    write_at at place = writes_at a c valid (two_phase_ordered c.g0 c.history runs.plain runs.two_phase) s t write.active id at i x place write.within write.seen write.free
 
     -- it is no write of another session's transaction
     leaves_others : (at : ℕ) → LeavesOthers m n c valid is s (later at)
