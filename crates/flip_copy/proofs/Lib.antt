@@ -1,0 +1,6 @@
+pub mod CopiesLaws
+pub mod FlipKept
+pub mod FlipLaws
+pub mod FlipRecord
+pub mod ObjectWordsLaws
+pub mod StepLaws

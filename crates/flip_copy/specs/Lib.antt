@@ -1,0 +1,4 @@
+pub mod Copied
+pub mod FlipFailure
+pub mod Flipped
+pub mod Plan
