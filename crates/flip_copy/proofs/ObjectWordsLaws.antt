@@ -2,7 +2,7 @@
 use Rattle.std.proofs.Common.{◌≡◌, ◌≢◌, ℕ, zero, suc, ◌+◌, ◌==◌, ◌<◌, ◌≤◌, inl, inr, Bool, true, false, List, [], ◌∷◌, length, take, drop, get_or, Option, None, Some, refl, sym, ap, ◌∙◌, subst, arith}
 use Rattle.std.specs.Prelude.{Contains, if◌then◌else◌}
 use Rattle.std.specs.List.Sorted.{IsStrictlyIncreasing}
-use Rattle.std.proofs.lemmas.Bool.{eq-eqb}
+use Rattle.std.proofs.lemmas.Bool.{eq-eqb, eqb-true}
 use Rattle.std.proofs.lemmas.List.{length-take, length-drop, get_or-drop}
 use Rattle.std.proofs.lemmas.List.Kept.{AllPairs-from_increasing}
 use Rattle.heap_spaces.specs.Spaces.{SpacesState}
@@ -10,7 +10,7 @@ use Rattle.object_layout.specs.Layout.{object_at}
 use Rattle.object_layout.specs.Walk.{IsFilled}
 use Rattle.object_layout.proofs.LayoutLaws.{object_header}
 use Rattle.object_layout.proofs.ObjectLaws.{end_to_end_begins, end_to_end_apart}
-use Rattle.object_layout.proofs.WalkLaws.{Contains-head, Contains-cases, Contains-none, object_take_end}
+use Rattle.object_layout.proofs.WalkLaws.{Contains-head, Contains-rest, Contains-cases, Contains-none, object_take_end}
 use Rattle.object_layout.proofs.WalkedLaws.{end_to_end_object}
 use Rattle.flip_copy.specs.Copied.{object_words_of, object_words_at, with_base}
 use Rattle.flip_copy.specs.Plan.{AreRootsIn}
@@ -129,3 +129,21 @@ with_base_roots words spaces (root ∷ roots) are = choose (root == spaces.base)
             | inr behind ↦ are.among at behind
           ];
         }
+
+-- each root is one of them
+pub Contains-with_base : (base : ℕ) (roots : List ℕ) (at : ℕ) → Contains roots at → Contains (with_base base roots) at
+Contains-with_base base [] at has = absurd (Contains-none at has)
+Contains-with_base base (root ∷ roots) at has = choose (root == base)
+  where
+    choose : (b : Bool) → Contains (if b then root ∷ roots else base ∷ root ∷ roots) at
+    choose true = has
+    choose false = Contains-rest base (root ∷ roots) at has
+
+-- and so is the root object
+pub with_base-first : (base : ℕ) (roots : List ℕ) → Contains (with_base base roots) base
+with_base-first base [] = Contains-head base []
+with_base-first base (root ∷ roots) = choose (root == base) refl
+  where
+    choose : (b : Bool) → (root == base) ≡ b → Contains (if b then root ∷ roots else base ∷ root ∷ roots) base
+    choose true is = subst (λ (x : ℕ). Contains (root ∷ roots) x) (eqb-true root base is) (Contains-head root roots)
+    choose false is = Contains-head base (root ∷ roots)

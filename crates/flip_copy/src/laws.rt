@@ -1,16 +1,17 @@
 //! What a planned flip is to the machine of the records: each law is the contract of a function that does nothing.
-ghost use Rattle.std.specs.Prelude.{◌≡◌, ℕ, List, Contains, Some, true};
+ghost use Rattle.std.specs.Prelude.{◌≡◌, ◌≤◌, ℕ, List, length, Contains, Some, true};
 ghost use Rattle.std.specs.FinSet.{contains};
 ghost use Rattle.heap_spaces.specs.Copying.{begun, with_copies};
 ghost use Rattle.heap_spaces.specs.Spaces.{SpacesState, IsSpaces, flipped, with_copied};
 ghost use Rattle.log_machine.specs.Collecting.{pairs_of, collecting_after};
-ghost use Rattle.log_machine.specs.Machine.{State, spaces_of, undo_of};
+ghost use Rattle.log_machine.specs.Machine.{State, spaces_of, undo_of, words_in, put_record};
 ghost use Rattle.log_machine.specs.Sound.{IsConsistent};
 ghost use Rattle.log_machine.specs.Translation.{translated_list};
 ghost use Rattle.log_records.specs.declared.copies.ObjectCopy.{ObjectCopy};
 ghost use Rattle.log_records.specs.Record.{IsRecord};
 ghost use Rattle.flip_copy.specs.Copied.{root_copies, flip_record, with_base, moved_objects, size_of};
 ghost use Rattle.flip_copy.specs.Flipped.{IsPlanned, with_flip};
+ghost use Rattle.flip_copy.specs.Moved.{HasMoved};
 ghost use Rattle.flip_copy.specs.Plan.{AreCopiesOf, AreRecorded};
 
 /// A planned flip can follow, and leaves the collection that has begun with its copies and the translated undo entries.
@@ -41,4 +42,9 @@ pub fn flip_copies_are_gray()
 /// The record of a planned flip has a spelling, where words have 64 bits and fields have field words.
 pub fn planned_flip_has_a_spelling()
     ensures { (spaces : SpacesState) (words roots : List ℕ) → IsSpaces spaces → AreCopiesOf spaces (root_copies spaces words roots) → AreRecorded words (with_base spaces.base roots) → IsRecord (flip_record spaces words roots) }
+{}
+
+/// Behind the record of a planned flip each object that it copies has moved: a forwarding word leads to the copy, which has the object's words.
+pub fn planned_flip_moves_objects()
+    ensures { (spaces : SpacesState) (words roots : List ℕ) (copy : ObjectCopy) → IsSpaces spaces → words_in spaces.pages ≤ length words → AreCopiesOf spaces (root_copies spaces words roots) → Contains (root_copies spaces words roots) copy → HasMoved words (put_record words (flip_record spaces words roots)) copy }
 {}
