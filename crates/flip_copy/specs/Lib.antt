@@ -1,0 +1,5 @@
+pub mod Copied
+pub mod FlipFailure
+pub mod Flipped
+pub mod Moved
+pub mod Plan

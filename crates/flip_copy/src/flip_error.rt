@@ -1,0 +1,47 @@
+//! Why a flip was not planned.
+ghost use Rattle.flip_copy.specs.declared.flip_error.FlipError.TheVariants.{NoMemory};
+
+use disk_model::DiskError;
+use std::alloc::{AllocError, AllocFailed};
+
+/// Why a flip was not planned. Nothing has changed.
+#[derive(Clone, Copy, Debug, PartialEq, Eq)]
+pub enum FlipError {
+    /// No object of the current space's used words stands at this root, behind the objects of the roots before it.
+    NoObject { address: u32 },
+    /// The disk failed, or had stopped.
+    Disk(DiskError),
+    /// Memory was refused.
+    NoMemory,
+}
+
+impl From<DiskError> for FlipError {
+    ghost use Rattle.std.specs.Prelude.{◌≡◌};
+    ghost use Rattle.flip_copy.specs.declared.flip_error.FlipError.TheVariants.{Disk};
+
+    ghost from_gives = { λ error e. e ≡ Disk error };
+
+    fn from(error: DiskError) -> FlipError {
+        FlipError::Disk(error)
+    }
+}
+
+impl<T: Drop> From<AllocFailed<T>> for FlipError {
+    ghost use Rattle.std.specs.Prelude.{◌≡◌};
+
+    ghost from_gives = { λ _ e. e ≡ NoMemory };
+
+    fn from(_refused: AllocFailed<T>) -> FlipError {
+        FlipError::NoMemory
+    }
+}
+
+impl From<AllocError> for FlipError {
+    ghost use Rattle.std.specs.Prelude.{◌≡◌};
+
+    ghost from_gives = { λ _ e. e ≡ NoMemory };
+
+    fn from(_refused: AllocError) -> FlipError {
+        FlipError::NoMemory
+    }
+}
