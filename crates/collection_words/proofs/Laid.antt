@@ -1,0 +1,7 @@
+-- Words that are laid out, and completed.
+pub mod Completed
+pub mod Followed
+pub mod Names
+pub mod Old
+pub mod Sources
+pub mod Within

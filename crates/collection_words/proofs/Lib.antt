@@ -1,0 +1,4 @@
+pub mod Laid
+pub mod Moves
+pub mod Relocated
+pub mod Words

@@ -1,0 +1,4 @@
+pub mod Completed
+pub mod LaidOut
+pub mod Placed
+pub mod Relocated
