@@ -1,7 +1,9 @@
 -- Words that are laid out, and completed.
 pub mod Completed
+pub mod Filled
 pub mod Followed
 pub mod Names
 pub mod Old
 pub mod Sources
 pub mod Within
+pub mod Write

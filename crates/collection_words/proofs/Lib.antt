@@ -1,4 +1,5 @@
 pub mod Laid
 pub mod Moves
 pub mod Relocated
+pub mod Steps
 pub mod Words

@@ -1,5 +1,5 @@
 -- How words are while a collection runs: what stands where, what is gray, and that only gray fields and what remains lead to the from-space.
-use Rattle.std.specs.Prelude.{◌≡◌, ℕ, ◌+◌, ◌⊎◌, List, [], ◌∷◌, filter, slice_get, slice_index, Bool, true, false, not, Option, None, Some, Contains, MatchOption}
+use Rattle.std.specs.Prelude.{◌≡◌, ℕ, ◌+◌, ◌<◌, ◌⊎◌, List, [], ◌∷◌, filter, slice_index, Bool, true, false, not, Option, None, Some, Contains, MatchOption}
 use Rattle.std.specs.FinSet.{contains}
 use Rattle.heap_words.specs.declared.Header.TheVariants.{Forward}
 use Rattle.heap_words.specs.Header.{header}
@@ -7,12 +7,16 @@ use Rattle.heap_words.specs.declared.Word.{Word}
 use Rattle.heap_words.specs.declared.Word.TheVariants.{Null, Int, Stable, Volatile}
 use Rattle.heap_words.specs.Word.{meaning}
 use Rattle.heap_spaces.specs.Collection.{Collection}
-use Rattle.object_layout.specs.Layout.{object_at, field_words, led}
-use Rattle.object_layout.specs.Walk.{IsFilled, KeepsInside}
-use Rattle.log_machine.specs.Machine.{State}
+use Rattle.object_layout.specs.Layout.{object_at, led}
+use Rattle.object_layout.specs.Walk.{IsFilled, IsInside}
+use Rattle.log_machine.specs.Machine.{State, field_at}
 use Rattle.log_machine.specs.Collecting.{other_base}
 use Rattle.graph_words.specs.Places.{Places, addresses}
 use Rattle.collection_words.specs.Completed.{taken_by}
+
+-- something holds of the number and the word of each field of the object at an address
+abbrev pub EachField : List ℕ → ℕ → (ℕ → ℕ → Type 0) → Type 0
+EachField words at P = (n i : ℕ) → object_at words at ≡ Some n → i < n → P i (slice_index words (field_at at i))
 
 -- a field of an object is gray: it may still lead to the from-space
 abbrev pub is_gray : Option Collection → ℕ → ℕ → Bool
@@ -53,12 +57,12 @@ pub record IsFromSpace (s : State) (k : Collection) (places remaining : Places) 
   pub left : addresses remaining ≡ filter (λ at. not (contains k.moved at)) starts
   pub sum : k.copied + taken_by words (addresses remaining) ≡ k.used
   pub grays : (at : ℕ) → contains k.gray at ≡ true → Contains (addresses places) at
-  pub back : (at i w : ℕ) → Contains (addresses places) at → slice_get (field_words words at) i ≡ Some w → MayLeadBack (addresses places) starts (meaning w)
-  pub inside : (at : ℕ) → Contains (addresses remaining) at → KeepsInside words starts at
+  pub back : (at : ℕ) → Contains (addresses places) at → EachField words at (λ i w. MayLeadBack (addresses places) starts (meaning w))
+  pub inside : (at : ℕ) → Contains (addresses remaining) at → EachField words at (λ i w. IsInside starts (meaning w))
 
 -- The words are laid out: the objects of places fill the used words, each of their fields that is not gray leads to one of them, and the
 -- from-space has what remains.
 pub record IsLaidOut (s : State) (places remaining : Places) (words : List ℕ) : Type 0 where
   pub filled : IsFilled words s.base s.used (addresses places)
-  pub here : (at i w : ℕ) → Contains (addresses places) at → slice_get (field_words words at) i ≡ Some w → is_gray s.collection at i ≡ false → LeadsHere (addresses places) (meaning w)
+  pub here : (at : ℕ) → Contains (addresses places) at → EachField words at (λ i w. is_gray s.collection at i ≡ false → LeadsHere (addresses places) (meaning w))
   pub from : MatchOption s.collection (remaining ≡ []) (λ k. IsFromSpace s k places remaining words)

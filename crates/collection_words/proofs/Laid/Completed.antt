@@ -42,7 +42,8 @@ length-completed s places remaining words = each s.collection
 
 -- While a collection runs.
 
-completed_put : {s : State} {k : Collection} {places remaining : Places} {words : List ℕ} → IsCollecting s k places remaining words
+-- they are the words with these objects put end to end
+pub completed_put : {s : State} {k : Collection} {places remaining : Places} {words : List ℕ} → IsCollecting s k places remaining words
     → completed s places remaining words ≡ put_all words (putting (followed s words remaining) words (addresses (places ++ remaining)) s.base)
 completed_put {s} {places = places} {remaining = remaining} {words = words} is = ap (completed_in s places remaining words) is.run
 

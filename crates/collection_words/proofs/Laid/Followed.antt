@@ -1,8 +1,8 @@
 -- What following a word leads to: a word that leads here stays, and so do words whose from-space is the same.
-use Rattle.std.proofs.Common.{◌≡◌, ◌≢◌, ℕ, ◌+◌, ◌<◌, ◌≤◌, Bool, true, false, List, [], ◌∷◌, ◌++◌, Option, None, Some, refl, sym, ap, ◌∙◌, subst, arith}
+use Rattle.std.proofs.Common.{◌≡◌, ◌≢◌, ◌⊎◌, inl, inr, ℕ, ◌+◌, ◌<◌, ◌≤◌, Bool, true, false, List, [], ◌∷◌, ◌++◌, Option, None, Some, refl, sym, ap, ◌∙◌, subst, arith}
 use Rattle.std.specs.Prelude.{Contains, slice_get, slice_index, if◌then◌else◌}
 use Rattle.std.proofs.lemmas.Option.{slice_get-get_or}
-use Rattle.std.proofs.lemmas.List.Elements.{Contains-append_left}
+use Rattle.std.proofs.lemmas.List.Elements.{Contains-append_cases, Contains-append_left}
 use Rattle.heap_words.specs.declared.Word.{Word}
 use Rattle.heap_words.specs.declared.Word.TheVariants as word
 use Rattle.heap_words.specs.Header.{header}
@@ -14,14 +14,15 @@ use Rattle.log_machine.specs.Machine.{State, field_at, space_words}
 use Rattle.log_machine.specs.Sound.{IsSpaced}
 use Rattle.graph_words.specs.Places.{Places, addresses}
 use Rattle.graph_words.proofs.Stands.Objects.{word_at_field}
-use Rattle.collection_words.specs.Completed.{completed, end_of, followed, followed_by, in_other_space, moves_from}
+use Rattle.collection_words.specs.Completed.{completed, end_of, followed, followed_by, in_other_space, moves_from, taken_by}
 use Rattle.collection_words.specs.LaidOut.{IsLaidOut, LeadsHere, is_gray}
 use Rattle.collection_words.proofs.Laid.Completed.{move_made}
 use Rattle.collection_words.proofs.Laid.Old.{current_not_other}
 use Rattle.collection_words.proofs.Laid.Sources.{IsCollecting, here_ends}
 use Rattle.collection_words.proofs.Laid.Within.{start_within}
-use Rattle.collection_words.proofs.Moves.Ends.{addresses-append, moves-append}
-use Rattle.collection_words.proofs.Words.Cover.{move_here}
+use Rattle.collection_words.proofs.Moves.Ends.{addresses-append, moves-append, taken_by-ends}
+use Rattle.collection_words.proofs.Moves.Sources.{move_source}
+use Rattle.collection_words.proofs.Words.Cover.{move_here, move_stays}
 
 -- A word that leads here.
 
@@ -77,15 +78,20 @@ move_placed {s} {places} {remaining} {words} laid at has =
     subst (λ m. Contains m (at, at)) (sym (ap (λ xs. moves_from words xs s.base) (addresses-append places remaining) ∙ moves-append words (addresses places) (addresses remaining) s.base))
     (Contains-append_left (moves_from words (addresses places) s.base) _ (at, at) (move_here words s.base (addresses places) (s.base + s.used) at (here_ends laid) has))
 
--- the field words that a law of fields speaks of
-pub field_got : (words : List ℕ) (at n i : ℕ) → object_at words at ≡ Some n → i < n → slice_get (field_words words at) i ≡ Some (slice_index words (field_at at i))
-field_got words at n i is below =
-    let many = length-field_words words at n is in
-    slice_get-get_or (field_words words at) i 0 (omega arith) ∙ ap Some (sym (word_at_field words at n i is below))
+-- an object goes where it is, or remains and goes behind the used words
+pub move_kind : {s : State} {places remaining : Places} {words : List ℕ} → IsLaidOut s places remaining words → (at there : ℕ) → Contains (moves_from words (addresses (places ++ remaining)) s.base) (at, there)
+    → (Contains (addresses places) at × (at ≡ there)) ⊎ Contains (moves_from words (addresses remaining) (s.base + s.used)) (at, there)
+move_kind {s} {places} {remaining} {words} laid at there has =
+    let split = ap (λ xs. moves_from words xs s.base) (addresses-append places remaining) ∙ moves-append words (addresses places) (addresses remaining) s.base in
+    let next : s.base + taken_by words (addresses places) ≡ s.base + s.used = taken_by-ends words s.base (addresses places) (s.base + s.used) (here_ends laid) in
+    elim (Contains-append_cases (moves_from words (addresses places) s.base) _ (at, there) (subst (λ m. Contains m (at, there)) split has)) [
+      | inl here ↦ inl (move_source words (addresses places) s.base at there here, move_stays words s.base (addresses places) (s.base + s.used) at there (here_ends laid) here)
+      | inr behind ↦ inr (subst (λ (x : ℕ). Contains (moves_from words (addresses remaining) x) (at, there)) next behind)
+    ]
 
 -- A field that is not gray has its own word in the completed words.
 pub raw_word : {s : State} {k : Collection} {places remaining : Places} {words : List ℕ} → IsCollecting s k places remaining words → (at n i : ℕ) → Contains (addresses places) at → object_at words at ≡ Some n
     → i < n → is_gray s.collection at i ≡ false → slice_index (completed s places remaining words) (field_at at i) ≡ slice_index words (field_at at i)
 raw_word {s} {places = places} {remaining = remaining} {words = words} is at n i has object below not_gray =
     (move_made is at at n (move_placed is.laid at has) object).fields i below
-    ∙ followed_here is.spaced is.laid words (slice_index words (field_at at i)) (is.laid.here at i (slice_index words (field_at at i)) has (field_got words at n i object below) not_gray)
+    ∙ followed_here is.spaced is.laid words (slice_index words (field_at at i)) (is.laid.here at has n i object below not_gray)

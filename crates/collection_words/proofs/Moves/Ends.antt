@@ -5,7 +5,7 @@ use Rattle.std.proofs.lemmas.List.{map-append}
 use Rattle.object_layout.specs.Layout.{object_at, field_words}
 use Rattle.object_layout.specs.Walk.{AreEndToEnd}
 use Rattle.object_layout.proofs.LayoutLaws.{length-field_words}
-use Rattle.object_layout.proofs.WalkLaws.{Contains-cases, Contains-none}
+use Rattle.object_layout.proofs.WalkLaws.{Contains-cases, Contains-head, Contains-none, Contains-rest}
 use Rattle.graph_words.specs.Places.{Places, addresses}
 use Rattle.collection_words.specs.Completed.{taken_at, taken_by, moves_from, places_from}
 
@@ -62,3 +62,17 @@ move_within words (x ∷ xs) to at there has = elim (Contains-cases (x, to) (mov
       let size : taken_at words x ≡ taken_at words at = ap (taken_at words) first in (omega arith, omega arith)
   | inr behind ↦ let later = move_within words xs (to + taken_at words x) at there behind in (omega (arith, later.0), omega (arith, later.1))
 ]
+
+-- objects that take as many words each do so together
+pub taken_same : (words others xs : List ℕ) → ((at : ℕ) → Contains xs at → taken_at others at ≡ taken_at words at) → taken_by others xs ≡ taken_by words xs
+taken_same words others [] same = refl
+taken_same words others (x ∷ xs) same =
+    let first = same x (Contains-head x xs) in
+    let later = taken_same words others xs (λ at has. same at (Contains-rest x xs at has)) in omega arith
+
+-- and get the same places
+pub places_taken_same : (words others : List ℕ) (ps : Places) (to : ℕ) → ((at : ℕ) → Contains (addresses ps) at → taken_at others at ≡ taken_at words at) → places_from others ps to ≡ places_from words ps to
+places_taken_same words others [] to same = refl
+places_taken_same words others (p ∷ ps) to same =
+    let first = same p.1 (Contains-head p.1 (addresses ps)) in
+    ap (λ (l : Places). (p.0, to) ∷ l) (ap (λ (n : ℕ). places_from others ps (to + n)) first ∙ places_taken_same words others ps (to + taken_at words p.1) (λ at has. same at (Contains-rest p.1 (addresses ps) at has)))

@@ -121,3 +121,20 @@ moves_same words others [] to same = refl
 moves_same words others (x ∷ xs) to same =
     let first = same x (Contains-head x xs) in
     ap (λ (l : List (ℕ × ℕ)). (x, to) ∷ l) (ap (λ (n : ℕ). moves_from others xs (to + n)) first ∙ moves_same words others xs (to + taken_at words x) (λ at has. same at (Contains-rest x xs at has)))
+
+-- and nowhere else
+pub move_stays : (words : List ℕ) (from : ℕ) (starts : List ℕ) (end at there : ℕ) → AreEndToEnd words from starts end → Contains (moves_from words starts from) (at, there) → at ≡ there
+move_stays words from [] end at there ends has = absurd (Contains-none (at, there) has)
+move_stays words from (a ∷ rest) end at there (n, same, object, more) has = elim (Contains-cases (a, from) (moves_from words rest (from + taken_at words a)) (at, there) has) [
+  | inl here ↦ sym (ap (λ (m : ℕ × ℕ). m.0) here) ∙ same ∙ ap (λ (m : ℕ × ℕ). m.1) here
+  | inr behind ↦
+      let size = taken_object words a n object in
+      let next : from + taken_at words a ≡ a + 2 + n = omega arith in
+      move_stays words (a + 2 + n) rest end at there more (subst (λ (x : ℕ). Contains (moves_from words rest x) (at, there)) next behind)
+]
+
+-- a word becomes the same where fields are made the same
+pub head_same : (j w : ℕ) (f g : ℕ → ℕ) → ((v : ℕ) → f v ≡ g v) → head_or f j w ≡ head_or g j w
+head_same zero w f g same = refl
+head_same (suc zero) w f g same = refl
+head_same (suc (suc j)) w f g same = same w

@@ -1,0 +1,3 @@
+-- The records of a collection.
+pub mod Addresses
+pub mod Scan
