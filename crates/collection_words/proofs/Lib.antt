@@ -1,3 +1,4 @@
+pub mod Copy
 pub mod Laid
 pub mod Moves
 pub mod Relocated

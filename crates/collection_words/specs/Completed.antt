@@ -1,5 +1,5 @@
 -- The words as they would be if the collection that runs copied all that is left, and every reference were followed.
-use Rattle.std.specs.Prelude.{◌≡◌, ℕ, ◌+◌, nat_le, nat_lt, List, [], ◌∷◌, ◌++◌, length, map, slice_index, Bool, ◌&&◌, Option, None, Some, if◌then◌else◌}
+use Rattle.std.specs.Prelude.{◌≡◌, ℕ, ◌+◌, ◌==◌, nat_le, nat_lt, List, [], ◌∷◌, ◌++◌, length, map, filter, slice_index, Bool, not, ◌&&◌, Option, None, Some, if◌then◌else◌}
 use Rattle.std.specs.List.{flat_map, enumerate_from}
 use Rattle.heap_words.specs.declared.Header.{Header}
 use Rattle.heap_words.specs.declared.Header.TheVariants.{Length, Forward}
@@ -41,6 +41,10 @@ places_from words (p ∷ ps) to = (p.0, to) ∷ places_from words ps (to + taken
 -- the objects that remain, each at the address that it will have behind the used words
 abbrev pub future : State → List ℕ → Places → Places
 future s words remaining = places_from words remaining (s.base + s.used)
+
+-- the places but the one at an address
+abbrev pub without : Places → ℕ → Places
+without places from = filter (λ p. not (p.1 == from)) places
 
 -- References.
 

@@ -1,4 +1,5 @@
 pub mod Completed
+pub mod Copying
 pub mod LaidOut
 pub mod Placed
 pub mod Relocated

@@ -51,7 +51,8 @@ pub record LiesBehind (s : State) (words : List ℕ) (at : ℕ) : Type 0 where
   pub above : other_base s ≤ at
   pub below : at + 2 + fields ≤ other_base s + space_words s.pages
 
-collection_within : {s : State} {k : Collection} {places remaining : Places} {words : List ℕ} → IsCollecting s k places remaining words → IsWithin s.pages k
+-- the words of the from-space that are copied, and these are words of a space
+pub collection_within : {s : State} {k : Collection} {places remaining : Places} {words : List ℕ} → IsCollecting s k places remaining words → IsWithin s.pages k
 collection_within {s} is = subst (λ o. MatchOption o (Unit {0}) (IsWithin s.pages)) is.run is.spaced.within
 
 -- so it does

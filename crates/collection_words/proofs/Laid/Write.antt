@@ -95,7 +95,8 @@ write_moves : {s : State} {k : Collection} {places remaining : Places} {words : 
 write_moves {places = places} {remaining = remaining} {words = words} {object = object} {field = field} {word = word} is write to =
     moves_same words (with_word words object field word) (addresses (places ++ remaining)) to (write_taken is write)
 
-has_left : (places remaining : Places) (at : ℕ) → Contains (addresses remaining) at → Contains (addresses (places ++ remaining)) at
+-- what remains is among all
+pub has_left : (places remaining : Places) (at : ℕ) → Contains (addresses remaining) at → Contains (addresses (places ++ remaining)) at
 has_left [] remaining at has = has
 has_left (p ∷ ps) remaining at has = Contains-rest p.1 (addresses (ps ++ remaining)) at (has_left ps remaining at has)
 

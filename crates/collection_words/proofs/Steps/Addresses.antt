@@ -21,4 +21,4 @@ contains-other set at q other = contains-insert nat_cmp_total set at q ∙ ap (�
 
 -- what is in a set without the addresses of a page
 pub contains-without : (set : FinSet nat_cmp) (page q : ℕ) → contains (without_page set page) q ≡ (contains set q && not (page_of q == page))
-contains-without set page q = contains-retain set (λ at. not (page_of at == page)) q (λ x same. ap (λ (a : ℕ). not (page_of a == page)) (sym (ranked q x Equal same)))
+contains-without set page q = contains-retain set (λ at. not (page_of at == page)) q (λ x same. ap (λ (a : ℕ). not (page_of a == page)) (sym (ranked q x Equal (sym same))))
