@@ -1,5 +1,6 @@
 -- One object is copied.
 pub mod Ascending
+pub mod Laid
 pub mod Moved
 pub mod Named
 pub mod Words

@@ -140,11 +140,12 @@ write_length {s} {places} {words = words} {object = object} {field = field} {wor
     let same = object_with_word words s.base (addresses places) (s.base + s.used) object field word at was.fields (here_ends laid) write.is has was.object in
     was.object ∙ sym same ∙ there
 
-write_chain : (words others : List ℕ) (from : ℕ) (starts : List ℕ) (end : ℕ) → ((at : ℕ) → Contains starts at → old_length others at ≡ old_length words at) → AreOldEndToEnd words from starts end
+-- objects of the from-space stay end to end where their lengths do
+pub old_ends_same : (words others : List ℕ) (from : ℕ) (starts : List ℕ) (end : ℕ) → ((at : ℕ) → Contains starts at → old_length others at ≡ old_length words at) → AreOldEndToEnd words from starts end
     → AreOldEndToEnd others from starts end
-write_chain words others from [] end same ends = ends
-write_chain words others from (a ∷ rest) end same (n, equal, long, more) =
-    (n, equal, same a (Contains-head a rest) ∙ long, write_chain words others (a + 2 + n) rest end (λ at has. same at (Contains-rest a rest at has)) more)
+old_ends_same words others from [] end same ends = ends
+old_ends_same words others from (a ∷ rest) end same (n, equal, long, more) =
+    (n, equal, same a (Contains-head a rest) ∙ long, old_ends_same words others (a + 2 + n) rest end (λ at has. same at (Contains-rest a rest at has)) more)
 
 -- an object of the from-space that is forwarded to one of places, or that is whole, is so behind the write
 write_forwarded : {s : State} {k : Collection} {places remaining : Places} {words : List ℕ} {object field word : ℕ} → IsCollecting s k places remaining words → IsHereWrite places words object field word
@@ -178,7 +179,7 @@ write_from {s} {k} {places} {remaining} {words} {object} {field} {word} is write
     λ at has. write_forwarded is write at (old_in_other is at has) (contains k.moved at) (λ unmoved. unmoved_left from at has unmoved) (from.forwarded at has) in
     record {
       starts = from.starts;
-      chain = write_chain words others (other_base s) from.starts (other_base s + k.used) (λ at has. (each at has).1) from.chain;
+      chain = old_ends_same words others (other_base s) from.starts (other_base s + k.used) (λ at has. (each at has).1) from.chain;
       forwarded = λ at has. (each at has).0;
       left = from.left;
       sum = ap (λ (n : ℕ). k.copied + n) (taken_same words others (addresses remaining) (λ at has. write_taken is write at (has_left places remaining at has))) ∙ from.sum;
