@@ -3,4 +3,5 @@ pub mod Ascending
 pub mod Laid
 pub mod Moved
 pub mod Named
+pub mod Relocated
 pub mod Words

@@ -89,7 +89,8 @@ pub record IsFollowedTo (s : State) (places remaining : Places) (words : List �
   pub there : address_of (places ++ future s words remaining) id ≡ Some to
   pub is : followed s words remaining w ≡ bits (word.Stable to)
 
-apart_of : (ps qs : Places) (id : Id) (at : ℕ) → HaveOwnNames (ps ++ qs) → address_of qs id ≡ Some at → address_of ps id ≡ None
+-- what remains is not current
+pub apart_of : (ps qs : Places) (id : Id) (at : ℕ) → HaveOwnNames (ps ++ qs) → address_of qs id ≡ Some at → address_of ps id ≡ None
 apart_of [] qs id at own is = refl
 apart_of (p ∷ ps) qs id at own is =
     let later = behind_there ps qs id at own.1 is in
