@@ -4,4 +4,5 @@ pub mod Laid
 pub mod Moved
 pub mod Named
 pub mod Relocated
+pub mod Stands
 pub mod Words
