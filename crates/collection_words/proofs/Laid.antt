@@ -5,5 +5,6 @@ pub mod Followed
 pub mod Names
 pub mod Old
 pub mod Sources
+pub mod TakenBack
 pub mod Within
 pub mod Write
