@@ -1,5 +1,5 @@
 -- The words as they would be if the collection that runs copied all that is left, and every reference were followed.
-use Rattle.std.specs.Prelude.{◌≡◌, ℕ, ◌+◌, ◌==◌, nat_le, nat_lt, List, [], ◌∷◌, ◌++◌, length, map, filter, slice_index, Bool, not, ◌&&◌, Option, None, Some, if◌then◌else◌}
+use Rattle.std.specs.Prelude.{◌≡◌, ℕ, ◌+◌, ◌<◌, ◌==◌, nat_le, nat_lt, List, [], ◌∷◌, ◌++◌, length, map, filter, slice_index, Bool, not, ◌&&◌, Option, None, Some, if◌then◌else◌}
 use Rattle.std.specs.List.{flat_map, enumerate_from}
 use Rattle.heap_words.specs.declared.Header.{Header}
 use Rattle.heap_words.specs.declared.Header.TheVariants.{Length, Forward}
@@ -9,9 +9,9 @@ use Rattle.heap_words.specs.declared.Word.TheVariants as word
 use Rattle.heap_words.specs.Word.{bits, meaning}
 use Rattle.heap_spaces.specs.Collection.{Collection}
 use Rattle.relocation.specs.Relocation.{moved_to}
-use Rattle.object_layout.specs.Layout.{birth_at, field_words}
+use Rattle.object_layout.specs.Layout.{birth_at, field_words, object_at}
 use Rattle.log_machine.specs.declared.UndoEntry.{UndoEntry}
-use Rattle.log_machine.specs.Machine.{State, space_words, owed, put_all, taken_back}
+use Rattle.log_machine.specs.Machine.{State, field_at, space_words, owed, put_all, taken_back}
 use Rattle.log_machine.specs.Collecting.{other_base}
 use Rattle.graph_model.specs.Graph.{Graph}
 use Rattle.graph_words.specs.Places.{Places, addresses}
@@ -94,6 +94,13 @@ completed_in s places remaining words (Some k) = put_all words (completing s pla
 -- The completed words, where objects stand at places and these remain in the from-space: without a collection they are the words.
 abbrev pub completed : State → Places → Places → List ℕ → List ℕ
 completed s places remaining words = completed_in s places remaining words s.collection
+
+-- An object stands elsewhere in other words, with its fields made others.
+pub record IsMade (follow : ℕ → ℕ) (words others : List ℕ) (at to n : ℕ) : Type 0 where
+  pub was : object_at words at ≡ Some n
+  pub is : object_at others to ≡ Some n
+  pub birth : birth_at others to ≡ birth_at words at
+  pub fields : (i : ℕ) → i < n → slice_index others (field_at to i) ≡ follow (slice_index words (field_at at i))
 
 -- A graph stands in the completed words when these writes are taken back, as a transaction sees it that has made so many objects.
 abbrev pub StandsCompleted : ℕ → ℕ → Places → Places → Graph → List UndoEntry → List ℕ → State → Type 0

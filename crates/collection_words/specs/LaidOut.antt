@@ -1,5 +1,5 @@
 -- How words are while a collection runs: what stands where, what is gray, and that only gray fields and what remains lead to the from-space.
-use Rattle.std.specs.Prelude.{◌≡◌, ℕ, ◌+◌, ◌<◌, ◌⊎◌, List, [], ◌∷◌, filter, slice_index, Bool, true, false, not, Option, None, Some, Contains, MatchOption}
+use Rattle.std.specs.Prelude.{◌≡◌, ℕ, ◌+◌, ◌<◌, ◌≤◌, ◌⊎◌, List, [], ◌∷◌, length, filter, slice_index, Bool, true, false, not, Option, None, Some, Contains, MatchOption}
 use Rattle.std.specs.FinSet.{contains}
 use Rattle.heap_words.specs.declared.Header.TheVariants.{Forward}
 use Rattle.heap_words.specs.Header.{header}
@@ -9,7 +9,8 @@ use Rattle.heap_words.specs.Word.{meaning}
 use Rattle.heap_spaces.specs.Collection.{Collection}
 use Rattle.object_layout.specs.Layout.{object_at, led}
 use Rattle.object_layout.specs.Walk.{IsFilled, IsInside}
-use Rattle.log_machine.specs.Machine.{State, field_at}
+use Rattle.log_machine.specs.Machine.{State, field_at, words_in}
+use Rattle.log_machine.specs.Sound.{IsSpaced}
 use Rattle.log_machine.specs.Collecting.{other_base}
 use Rattle.graph_words.specs.Places.{Places, addresses}
 use Rattle.collection_words.specs.Completed.{taken_by}
@@ -66,3 +67,11 @@ pub record IsLaidOut (s : State) (places remaining : Places) (words : List ℕ) 
   pub filled : IsFilled words s.base s.used (addresses places)
   pub here : (at : ℕ) → Contains (addresses places) at → EachField words at (λ i w. is_gray s.collection at i ≡ false → LeadsHere (addresses places) (meaning w))
   pub from : MatchOption s.collection (remaining ≡ []) (λ k. IsFromSpace s k places remaining words)
+
+-- A collection is under way, and the words of a heap are laid out.
+pub record IsUnderway (s : State) (k : Collection) (places remaining : Places) (words : List ℕ) : Type 0 where
+  pub run : s.collection ≡ Some k
+  pub spaced : IsSpaced s
+  pub long : length words ≡ words_in s.pages
+  pub small : words_in s.pages ≤ 2097152
+  pub laid : IsLaidOut s places remaining words

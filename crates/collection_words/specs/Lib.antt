@@ -3,3 +3,4 @@ pub mod Copying
 pub mod LaidOut
 pub mod Placed
 pub mod Relocated
+pub mod Writes

@@ -22,7 +22,7 @@ use Rattle.log_machine.specs.Machine.{State, field_at, owed, space_words, words_
 use Rattle.log_machine.specs.Sound.{IsSpaced, IsWithin}
 use Rattle.graph_words.specs.Places.{Places, address_of, addresses}
 use Rattle.graph_words.proofs.Places.Addresses.{address_of-Contains}
-use Rattle.collection_words.specs.Completed.{in_other_space, taken_at, taken_by, without}
+use Rattle.collection_words.specs.Completed.{IsMade, in_other_space, taken_at, taken_by, without}
 use Rattle.collection_words.specs.Copying.{copied_words, next_copy, object_words_at, with_place}
 use Rattle.collection_words.specs.LaidOut.{AreOldEndToEnd, IsForwarded, IsFromSpace, IsLaidOut, LeadsHere, MayLeadBack, is_gray, old_length}
 use Rattle.collection_words.proofs.Copy.Ascending.{Ascend, addresses_without, filter_twice, other_than}
@@ -34,7 +34,6 @@ use Rattle.collection_words.proofs.Laid.Within.{start_within}
 use Rattle.collection_words.proofs.Laid.Write.{old_ends_same, unmoved_left}
 use Rattle.collection_words.proofs.Moves.Ends.{addresses-append, taken_object, taken_same}
 use Rattle.collection_words.proofs.Steps.Addresses.{contains-new, contains-other}
-use Rattle.collection_words.proofs.Words.Objects.{IsMade}
 use Rattle.stability_tracker.proofs.ListLaws.{Contains-from_filter}
 
 -- the collection and the state behind the copy of an object

@@ -18,7 +18,7 @@ use Rattle.log_machine.specs.Machine.{State, field_at, owed, words_in}
 use Rattle.graph_words.specs.Places.{Places, address_of, addresses}
 use Rattle.graph_words.proofs.Places.Addresses.{address_of-Contains, address_of-head, none_or_some, placed_as}
 use Rattle.graph_words.proofs.Seal.Places.{address_of-append_left, address_of-append_right}
-use Rattle.collection_words.specs.Completed.{completed, followed, future, places_from, without}
+use Rattle.collection_words.specs.Completed.{IsMade, completed, followed, future, places_from, without}
 use Rattle.collection_words.specs.Copying.{copied_words, with_place}
 use Rattle.collection_words.specs.LaidOut.{MayLeadBack}
 use Rattle.collection_words.specs.Relocated.{HasMoved, HaveSameIds, IsRelocatedObject, IsRelocatedWord}
@@ -34,7 +34,6 @@ use Rattle.collection_words.proofs.Laid.Sources.{IsCollecting, all_places, left_
 use Rattle.collection_words.proofs.Laid.Within.{start_within}
 use Rattle.collection_words.proofs.Moves.Sources.{put_same}
 use Rattle.collection_words.proofs.Relocated.Writes.{IsRelocation}
-use Rattle.collection_words.proofs.Words.Objects.{IsMade}
 
 -- the object that is copied alone stands where it stood
 pub copying_only : {s : State} {k : Collection} {places remaining : Places} {words : List ℕ} {id : Id} {from : ℕ} → IsCopying s k places remaining words id from → AllByRecursion (λ p. p.1 ≡ from → p.0 ≡ id) remaining

@@ -15,6 +15,7 @@ use Rattle.graph_words.specs.Stands.{Stands}
 use Rattle.collection_words.specs.Completed.{StandsCompleted, completed, future, places_from, without}
 use Rattle.collection_words.specs.Copying.{copied_words, with_place}
 use Rattle.collection_words.specs.LaidOut.{IsLaidOut}
+use Rattle.collection_words.specs.Writes.{AreBacked}
 use Rattle.collection_words.proofs.Copy.Laid.{copied_laid, copied_state, copied_total}
 use Rattle.collection_words.proofs.Copy.Named.{own_front}
 use Rattle.collection_words.proofs.Copy.Relocated.{copied_own, copy_relocates}
@@ -26,7 +27,7 @@ use Rattle.collection_words.proofs.Laid.Sources.{IsCollecting, all_places}
 use Rattle.collection_words.proofs.Laid.Within.{start_within}
 use Rattle.collection_words.proofs.Moves.Ends.{move_within}
 use Rattle.collection_words.proofs.Moves.Sources.{put_source}
-use Rattle.collection_words.proofs.Relocated.Entries.{AreBacked, backed_entries, backed_fields}
+use Rattle.collection_words.proofs.Relocated.Entries.{backed_entries, backed_fields}
 use Rattle.collection_words.proofs.Relocated.Stands.{relocated_stands}
 use Rattle.collection_words.proofs.Relocated.Writes.{IsRelocation, relocated_taken_back}
 

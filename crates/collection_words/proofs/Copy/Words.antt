@@ -20,7 +20,7 @@ use Rattle.log_machine.proofs.WordsFrom.{put_from-at, put_from-before, put_from-
 use Rattle.graph_words.specs.Places.{Places, address_of, addresses}
 use Rattle.graph_words.proofs.Places.Addresses.{address_of-Contains}
 use Rattle.graph_words.proofs.Stands.Objects.{word_at_field}
-use Rattle.collection_words.specs.Completed.{in_other_space, taken_at, taken_by, without}
+use Rattle.collection_words.specs.Completed.{IsMade, in_other_space, taken_at, taken_by, without}
 use Rattle.collection_words.specs.Copying.{copied_words, next_copy, object_words_at}
 use Rattle.collection_words.specs.LaidOut.{AreOldEndToEnd, old_length}
 use Rattle.collection_words.proofs.Copy.Ascending.{addresses_without, other_than, taken_without}
@@ -30,7 +30,7 @@ use Rattle.collection_words.proofs.Laid.Old.{apart_spaces, left_within, old_leng
 use Rattle.collection_words.proofs.Laid.Sources.{IsCollecting, left_object, left_taken}
 use Rattle.collection_words.proofs.Laid.Within.{start_within}
 use Rattle.collection_words.proofs.Moves.Ends.{taken_object}
-use Rattle.collection_words.proofs.Words.Objects.{IsMade, object_like}
+use Rattle.collection_words.proofs.Words.Objects.{object_like}
 use Rattle.collection_words.proofs.Words.Put.{put_all-append}
 
 -- A collection can copy an object that remains.

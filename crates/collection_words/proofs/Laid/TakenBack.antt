@@ -9,10 +9,10 @@ use Rattle.log_machine.specs.Machine.{State, taken_back, with_word}
 use Rattle.graph_words.specs.Places.{Places, addresses}
 use Rattle.graph_words.proofs.Area.Field.{field_with_word}
 use Rattle.collection_words.specs.Completed.{completed, future}
+use Rattle.collection_words.specs.Writes.{AreBacked, IsHereWrite}
 use Rattle.collection_words.proofs.Laid.Sources.{IsCollecting, here_ends}
-use Rattle.collection_words.proofs.Laid.Write.{IsHereWrite, completed_write, has_left, write_laid, write_taken}
+use Rattle.collection_words.proofs.Laid.Write.{as_field, completed_write, has_left, of_field, write_laid, write_taken}
 use Rattle.collection_words.proofs.Moves.Ends.{places_taken_same}
-use Rattle.collection_words.proofs.Relocated.Entries.{AreBacked}
 
 -- What words are when writes are taken back.
 pub record IsTakenBack (s : State) (k : Collection) (places remaining : Places) (words : List ℕ) (us : List UndoEntry) : Type 0 where
@@ -25,7 +25,7 @@ backed_left : {s : State} {k : Collection} {places remaining : Places} {words : 
 backed_left {s} {places = places} {words = words} is u us all =
     AllByRecursion-map (λ v. IsHereWrite places words v.object v.field v.was) (λ v. IsHereWrite places (with_word words u.object u.field u.was) v.object v.field v.was) us
     (λ v write. record {
-      is = field_with_word words s.base (addresses places) (s.base + s.used) u.object u.field u.was v.object v.field (here_ends is.laid) all.0.is write.is;
+      is = of_field (field_with_word words s.base (addresses places) (s.base + s.used) u.object u.field u.was v.object v.field (here_ends is.laid) (as_field all.0.is) (as_field write.is));
       leads = write.leads;
     }) all.1
 

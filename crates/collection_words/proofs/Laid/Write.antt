@@ -22,6 +22,7 @@ use Rattle.graph_words.proofs.Area.Field.{birth_with_word, ends_with_word, objec
 use Rattle.graph_words.proofs.Stands.Field.{IsField}
 use Rattle.collection_words.specs.Completed.{completed, followed, followed_words, in_other_space, moves_from, taken_at, taken_by}
 use Rattle.collection_words.specs.LaidOut.{AreOldEndToEnd, IsForwarded, IsFromSpace, IsLaidOut, LeadsHere, MayLeadBack, is_gray, old_length}
+use Rattle.collection_words.specs.Writes.{IsCurrentField, IsHereWrite}
 use Rattle.collection_words.proofs.Laid.Completed.{completed-before, completed-behind, completed_put, length-completed}
 use Rattle.collection_words.proofs.Laid.Filled.{filled_by, filling}
 use Rattle.collection_words.proofs.Laid.Followed.{followed_here, followed_same, move_kind, move_placed}
@@ -33,10 +34,13 @@ use Rattle.collection_words.proofs.Moves.Sources.{move_source}
 use Rattle.collection_words.proofs.Words.Cover.{followed_get, head_or, head_same, move_one, moves_same, putting_is}
 use Rattle.collection_words.proofs.Words.Put.{putting-at}
 
--- A write into a field of an object of places, of a word that leads here.
-pub record IsHereWrite (places : Places) (words : List ℕ) (object field word : ℕ) : Type 0 where
-  pub is : IsField words (addresses places) object field
-  pub leads : LeadsHere (addresses places) (meaning word)
+-- such a field is a field of the words
+pub as_field : {places : Places} {words : List ℕ} {object field : ℕ} → IsCurrentField places words object field → IsField words (addresses places) object field
+as_field is = record { start = is.start; fields = is.fields; stands = is.stands; within = is.within }
+
+-- and the other way round
+pub of_field : {places : Places} {words : List ℕ} {object field : ℕ} → IsField words (addresses places) object field → IsCurrentField places words object field
+of_field is = record { start = is.start; fields = is.fields; stands = is.stands; within = is.within }
 
 -- the field lies in the used words
 pub write_within : {s : State} {places remaining : Places} {words : List ℕ} {object field word : ℕ} → IsLaidOut s places remaining words → IsHereWrite places words object field word
@@ -65,7 +69,7 @@ pub write_object : {s : State} {k : Collection} {places remaining : Places} {wor
     → (at n : ℕ) → Contains (addresses (places ++ remaining)) at → object_at words at ≡ Some n → object_at (with_word words object field word) at ≡ Some n
 write_object {s} {places = places} {remaining = remaining} {words = words} {object = object} {field = field} {word = word} is write at n has there =
     elim (Contains-append_cases (addresses places) (addresses remaining) at (subst (λ (xs : List ℕ). Contains xs at) (addresses-append places remaining) has)) [
-      | inl here ↦ object_with_word words s.base (addresses places) (s.base + s.used) object field word at n (here_ends is.laid) write.is here there
+      | inl here ↦ object_with_word words s.base (addresses places) (s.base + s.used) object field word at n (here_ends is.laid) (as_field write.is) here there
       | inr back ↦
           let left = left_within is at back in
           let close = left.below in
@@ -114,10 +118,10 @@ write_filled : {s : State} {places remaining : Places} {words : List ℕ} {objec
 write_filled {s} {places} {words = words} {object = object} {field = field} {word = word} laid write =
     let all = filling words s.base s.used (addresses places) laid.filled in
     filled_by (with_word words object field word) s.base s.used (addresses places) (record {
-      ends = ends_with_word words s.base (addresses places) (s.base + s.used) object field word all.ends write.is;
+      ends = ends_with_word words s.base (addresses places) (s.base + s.used) object field word all.ends (as_field write.is);
       first = all.first;
-      root = object_with_word words s.base (addresses places) (s.base + s.used) object field word s.base 4 all.ends write.is all.first all.root;
-      birth = birth_with_word words s.base (addresses places) (s.base + s.used) object field word s.base all.ends write.is all.first ∙ all.birth;
+      root = object_with_word words s.base (addresses places) (s.base + s.used) object field word s.base 4 all.ends (as_field write.is) all.first all.root;
+      birth = birth_with_word words s.base (addresses places) (s.base + s.used) object field word s.base all.ends (as_field write.is) all.first ∙ all.birth;
     })
 
 -- what holds of the words of an object's fields holds of them behind the write, if it holds of the word that is written
@@ -137,7 +141,7 @@ pub write_length : {s : State} {places remaining : Places} {words : List ℕ} {o
     → (at n : ℕ) → Contains (addresses places) at → object_at (with_word words object field word) at ≡ Some n → object_at words at ≡ Some n
 write_length {s} {places} {words = words} {object = object} {field = field} {word = word} laid write at n has there =
     let was = start_within laid at has in
-    let same = object_with_word words s.base (addresses places) (s.base + s.used) object field word at was.fields (here_ends laid) write.is has was.object in
+    let same = object_with_word words s.base (addresses places) (s.base + s.used) object field word at was.fields (here_ends laid) (as_field write.is) has was.object in
     was.object ∙ sym same ∙ there
 
 -- objects of the from-space stay end to end where their lengths do
@@ -156,7 +160,7 @@ write_forwarded {s} {places = places} {remaining = remaining} {words = words} {o
     let head = ap header (write_old is write at other) ∙ forward in
     let there = start_within is.laid to has in
     let length_was : old_length words at ≡ Some there.fields = ap (λ h. object_at words (led at h)) forward ∙ there.object in
-    let kept = object_with_word words s.base (addresses places) (s.base + s.used) object field word to there.fields (here_ends is.laid) write.is has there.object in
+    let kept = object_with_word words s.base (addresses places) (s.base + s.used) object field word to there.fields (here_ends is.laid) (as_field write.is) has there.object in
     let length_is : old_length others at ≡ Some there.fields = ap (λ h. object_at others (led at h)) head ∙ kept in
     ((to, head, has), length_is ∙ sym length_was)
 write_forwarded {s} {places = places} {remaining = remaining} {words = words} {object = object} {field = field} {word = word} is write at other false left (n, there) =

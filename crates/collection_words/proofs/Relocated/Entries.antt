@@ -17,16 +17,12 @@ use Rattle.graph_words.proofs.Seal.Places.{address_of-append_left}
 use Rattle.collection_words.specs.Completed.{completed, future}
 use Rattle.collection_words.specs.LaidOut.{LeadsHere}
 use Rattle.collection_words.specs.Relocated.{AreRelocatedEntries, IsRelocatedEntry, IsRelocatedWord}
+use Rattle.collection_words.specs.Writes.{AreBacked}
 use Rattle.collection_words.proofs.Copy.Named.{named}
 use Rattle.collection_words.proofs.Laid.Completed.{move_made}
 use Rattle.collection_words.proofs.Laid.Followed.{move_placed}
 use Rattle.collection_words.proofs.Laid.Names.{HaveOwnNames}
 use Rattle.collection_words.proofs.Laid.Sources.{IsCollecting}
-use Rattle.collection_words.proofs.Laid.Write.{IsHereWrite}
-
--- writes that may be taken back: each is of a field of a current object, and puts back a word that leads to current ones
-abbrev pub AreBacked : Places → List ℕ → List UndoEntry → Type 0
-AreBacked places words us = AllByRecursion (λ u. IsHereWrite places words u.object u.field u.was) us
 
 here_word : (places before after : Places) (w : ℕ) (meant : Option Word) → meaning w ≡ meant → HaveOwnNames places
     → ((id : Id) (at : ℕ) → address_of places id ≡ Some at → address_of before id ≡ Some at) → ((id : Id) (at : ℕ) → address_of places id ≡ Some at → address_of after id ≡ Some at)

@@ -26,25 +26,15 @@ use Rattle.graph_words.proofs.Area.Field.{field_with_word}
 use Rattle.graph_words.proofs.Stands.Field.{IsField}
 use Rattle.collection_words.specs.Completed.{StandsCompleted, completed, completed_in, followed, future}
 use Rattle.collection_words.specs.LaidOut.{EachField, IsFromSpace, IsLaidOut, LeadsHere, is_gray}
+use Rattle.collection_words.specs.Writes.{IsHereWrite, IsScanWrite}
 use Rattle.collection_words.proofs.Laid.Completed.{completed_put, length-completed, move_made}
 use Rattle.collection_words.proofs.Laid.Followed.{followed_here, move_placed}
 use Rattle.collection_words.proofs.Laid.Old.{collection_within}
 use Rattle.collection_words.proofs.Laid.Sources.{IsCollecting, here_ends}
 use Rattle.collection_words.proofs.Laid.Within.{start_within}
-use Rattle.collection_words.proofs.Laid.Write.{IsHereWrite, completed_write, has_left, write_followed, write_laid, write_other, write_taken, write_within}
+use Rattle.collection_words.proofs.Laid.Write.{as_field, completed_write, has_left, of_field, write_followed, write_laid, write_other, write_taken, write_within}
 use Rattle.collection_words.proofs.Moves.Ends.{places_taken_same}
 use Rattle.collection_words.proofs.Steps.Addresses.{contains-without}
-
--- A write of a scan: it puts into a field of an object of places what its word follows to, which is a reference to one of these objects.
-pub record IsScanWrite (s : State) (places remaining : Places) (words : List ℕ) (write : ℕ × ℕ) : Type 0 where
-  pub object : ℕ
-  pub field : ℕ
-  pub to : ℕ
-  pub at : write.0 ≡ field_at object field
-  pub is : IsField words (addresses places) object field
-  pub word : write.1 ≡ bits (word.Stable to)
-  pub leads : Contains (addresses places) to
-  pub follows : followed s words remaining (slice_index words write.0) ≡ write.1
 
 -- a reference to one of the objects of places leads here
 pub stable_here : {s : State} {k : Collection} {places remaining : Places} {words : List ℕ} → IsCollecting s k places remaining words → words_in s.pages ≤ 2097152 → (to : ℕ) → Contains (addresses places) to
@@ -112,7 +102,7 @@ scan_later {s} {k} {places} {remaining} {words} is small write w y v =
       field = v.field;
       to = v.to;
       at = v.at;
-      is = field_with_word words s.base (addresses places) (s.base + s.used) w.object w.field write.1 v.object v.field (here_ends is.laid) w.is v.is;
+      is = of_field (field_with_word words s.base (addresses places) (s.base + s.used) w.object w.field write.1 v.object v.field (here_ends is.laid) (as_field w.is) (as_field v.is));
       word = v.word;
       leads = v.leads;
       follows = follows;

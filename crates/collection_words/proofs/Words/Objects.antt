@@ -12,16 +12,9 @@ use Rattle.log_machine.specs.Machine.{put_all, field_at}
 use Rattle.log_machine.proofs.WordsLaws.{length-put_all}
 use Rattle.graph_words.specs.Places.{Places, addresses}
 use Rattle.graph_words.proofs.Stands.Objects.{word_at_field}
-use Rattle.collection_words.specs.Completed.{taken_at, taken_by, moves_from, places_from, followed_words}
+use Rattle.collection_words.specs.Completed.{IsMade, taken_at, taken_by, moves_from, places_from, followed_words}
 use Rattle.collection_words.proofs.Moves.Ends.{move_within, taken_object}
 use Rattle.collection_words.proofs.Words.Put.{putting, putting-at}
-
--- An object stands elsewhere in other words, with its fields made others.
-pub record IsMade (follow : ℕ → ℕ) (words others : List ℕ) (at to n : ℕ) : Type 0 where
-  pub was : object_at words at ≡ Some n
-  pub is : object_at others to ≡ Some n
-  pub birth : birth_at others to ≡ birth_at words at
-  pub fields : (i : ℕ) → i < n → slice_index others (field_at to i) ≡ follow (slice_index words (field_at at i))
 
 -- an object with the header of another has its length, where its words are all there
 pub object_like : (words others : List ℕ) (at to n : ℕ) → object_at words at ≡ Some n → slice_index others to ≡ slice_index words at → to + 2 + n ≤ length others → object_at others to ≡ Some n
