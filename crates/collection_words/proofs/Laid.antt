@@ -6,5 +6,6 @@ pub mod Names
 pub mod Old
 pub mod Sources
 pub mod TakenBack
+pub mod Underway
 pub mod Within
 pub mod Write
