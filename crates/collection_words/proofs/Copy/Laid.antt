@@ -1,6 +1,6 @@
 -- The words behind a copy are laid out.
-use Rattle.std.proofs.Common.{◌≡◌, ◌≢◌, ◌⊎◌, ℕ, ◌+◌, ◌-◌, ◌<◌, ◌≤◌, ◌==◌, ◌&&◌, inl, inr, Bool, true, false, not, List, [], ◌∷◌, ◌++◌, length, Option, None, Some, refl, sym, ap, ◌∙◌, subst, arith}
-use Rattle.std.specs.Prelude.{Contains, MatchOption, filter, slice_index, if◌then◌else◌}
+use Rattle.std.proofs.Common.{◌≡◌, ◌≢◌, ◌⊎◌, ℕ, ◌+◌, ◌<◌, ◌≤◌, ◌&&◌, inl, inr, Bool, true, false, not, List, [], ◌∷◌, ◌++◌, length, Option, None, Some, refl, sym, ap, ◌∙◌, subst, arith}
+use Rattle.std.specs.Prelude.{Contains, filter, slice_index, if◌then◌else◌}
 use Rattle.std.specs.FinSet.{contains, insert}
 use Rattle.std.proofs.lemmas.Bool.{and_from, cases_order, eq-eqb, le-leb, ne_eqb}
 use Rattle.std.proofs.lemmas.List.Elements.{Contains-append_cases, Contains-append_left, Contains-append_right}
@@ -19,17 +19,17 @@ use Rattle.object_layout.proofs.ObjectLaws.{end_to_end_push}
 use Rattle.object_layout.proofs.WalkLaws.{Contains-cases, Contains-head, Contains-none, Contains-rest}
 use Rattle.log_machine.specs.Collecting.{can_hold, can_move, copied_in, copy_after, other_base, with_copy, with_moved}
 use Rattle.log_machine.specs.Machine.{State, field_at, owed, space_words, words_in}
-use Rattle.log_machine.specs.Sound.{IsSpaced, IsWithin}
-use Rattle.graph_words.specs.Places.{Places, address_of, addresses}
+use Rattle.log_machine.specs.Sound.{IsSpaced}
+use Rattle.graph_words.specs.Places.{Places, addresses}
 use Rattle.graph_words.proofs.Places.Addresses.{address_of-Contains}
-use Rattle.collection_words.specs.Completed.{IsMade, in_other_space, taken_at, taken_by, without}
+use Rattle.collection_words.specs.Completed.{IsMade, without}
 use Rattle.collection_words.specs.Copying.{copied_words, next_copy, object_words_at, with_place}
-use Rattle.collection_words.specs.LaidOut.{AreOldEndToEnd, IsForwarded, IsFromSpace, IsLaidOut, LeadsHere, MayLeadBack, is_gray, old_length}
-use Rattle.collection_words.proofs.Copy.Ascending.{Ascend, addresses_without, filter_twice, other_than}
-use Rattle.collection_words.proofs.Copy.Words.{CopyRoom, IsCopying, copied_forward, copied_here, copied_left, copied_made, copied_new, copied_old, copy_room, length-copied}
+use Rattle.collection_words.specs.LaidOut.{IsForwarded, IsFromSpace, LeadsHere, MayLeadBack, is_gray, old_length}
+use Rattle.collection_words.proofs.Copy.Ascending.{addresses_without, filter_twice, other_than}
+use Rattle.collection_words.proofs.Copy.Words.{CopyRoom, IsCopying, copied_forward, copied_here, copied_left, copied_made, copied_old, copy_room, length-copied}
 use Rattle.collection_words.proofs.Laid.Filled.{filled_by, filling}
-use Rattle.collection_words.proofs.Laid.Old.{collection_within, left_within, old_in_other, old_length-object, old_within, other_bounds}
-use Rattle.collection_words.proofs.Laid.Sources.{IsCollecting, left_object, source_object}
+use Rattle.collection_words.proofs.Laid.Old.{collection_within, old_in_other, old_length-object, old_within, other_bounds}
+use Rattle.collection_words.proofs.Laid.Sources.{IsCollecting, left_object}
 use Rattle.collection_words.proofs.Laid.Within.{start_within}
 use Rattle.collection_words.proofs.Laid.Write.{old_ends_same, unmoved_left}
 use Rattle.collection_words.proofs.Moves.Ends.{addresses-append, taken_object, taken_same}
@@ -62,7 +62,7 @@ copy_row {s} {k} {places} {remaining} {words} {id} {from} copying =
     let long = length (object_words_at words from) in
     let moves : can_move s k from long ≡ true =
     and_from _ _ (and_from _ _ (and_from _ _ (le-leb (other_base s) from room.above) (le-leb (from + long) (other_base s + k.used) (omega arith))) (le-leb (k.copied + long) k.used (omega arith)))
-      (ap not left.unmoved) in
+    (ap not left.unmoved) in
     let holds : can_hold s (s.base + s.used) long ≡ true = and_from _ _ (eq-eqb (s.base + s.used) (s.base + s.used) refl) (le-leb (s.used + long) (space_words s.pages) (omega arith)) in
     ap (copied_in s (next_copy s words from)) is.run
     ∙ ap (λ b. if b then Some (copied_state s k words from) else None) (and_from _ _ moves holds)

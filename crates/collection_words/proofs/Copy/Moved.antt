@@ -1,11 +1,11 @@
 -- Places when one object has gone from those that remain to those that are current.
-use Rattle.std.proofs.Common.{◌≡◌, ◌≢◌, ℕ, ◌==◌, inl, inr, Bool, true, false, not, List, [], ◌∷◌, ◌++◌, Option, None, Some, refl, sym, ap, ◌∙◌, subst, arith}
+use Rattle.std.proofs.Common.{◌≡◌, ◌≢◌, ℕ, ◌==◌, inl, inr, Bool, true, false, not, [], ◌∷◌, ◌++◌, Option, None, Some, refl, sym, ap, ◌∙◌}
 use Rattle.std.specs.Prelude.{if◌then◌else◌}
 use Rattle.std.specs.List.{AllByRecursion}
 use Rattle.std.proofs.lemmas.Option.{same_Some}
 use Rattle.std.proofs.lemmas.Bool.{eqb-true}
 use Rattle.graph_model.specs.Graph.{is_same_id}
-use Rattle.graph_model.proofs.Whole.Graph.{same_id, same_or_other}
+use Rattle.graph_model.proofs.Whole.Graph.{same_or_other}
 use Rattle.graph_model.specs.declared.id.Id.{Id}
 use Rattle.graph_words.specs.Places.{Places, address_of}
 use Rattle.graph_words.proofs.Places.Addresses.{address_of-head, address_of-rest}

@@ -1,10 +1,8 @@
 -- Which object a word refers to while a collection runs, and what the word is when it is followed.
-use Rattle.std.proofs.Common.{◌≡◌, ◌≢◌, ◌⊎◌, ℕ, ◌+◌, ◌<◌, ◌≤◌, inl, inr, Bool, true, false, not, List, [], ◌∷◌, ◌++◌, Option, None, Some, is_some, refl, sym, ap, ◌∙◌, subst, arith}
+use Rattle.std.proofs.Common.{◌≡◌, ◌⊎◌, ℕ, ◌+◌, inl, inr, Bool, true, false, not, List, [], ◌∷◌, ◌++◌, Option, None, Some, is_some, refl, sym, ap, ◌∙◌, subst}
 use Rattle.std.specs.Prelude.{Contains, slice_index, if◌then◌else◌, unwrap_or}
 use Rattle.std.specs.FinSet.{contains}
-use Rattle.std.specs.List.{AllByRecursion}
-use Rattle.std.proofs.lemmas.Option.{same_Some}
-use Rattle.heap_words.specs.declared.Header.TheVariants.{Forward, Length}
+use Rattle.heap_words.specs.declared.Header.TheVariants.{Forward}
 use Rattle.heap_words.specs.Header.{header}
 use Rattle.heap_words.specs.declared.Word.{Word}
 use Rattle.heap_words.specs.declared.Word.TheVariants as word
@@ -13,19 +11,19 @@ use Rattle.heap_words.proofs.WordLaws.{bits-meaning}
 use Rattle.heap_spaces.specs.Collection.{Collection}
 use Rattle.graph_model.specs.declared.id.Id.{Id}
 use Rattle.object_layout.proofs.LayoutLaws.{object_header}
-use Rattle.relocation.specs.Relocation.{destination, moved_to}
+use Rattle.relocation.specs.Relocation.{destination}
 use Rattle.log_machine.specs.Collecting.{other_base}
 use Rattle.log_machine.specs.Machine.{State}
 use Rattle.graph_words.specs.Places.{Places, address_of, addresses}
 use Rattle.graph_words.proofs.Places.Addresses.{address_of-Contains, address_of-rest, named_at, none_or_some, some_address}
 use Rattle.graph_words.proofs.Seal.Places.{address_of-append_left, address_of-append_right}
-use Rattle.collection_words.specs.Completed.{end_of, followed, followed_by, future, in_other_space, moves_from, places_from}
+use Rattle.collection_words.specs.Completed.{end_of, followed, followed_by, future, in_other_space, moves_from}
 use Rattle.collection_words.specs.LaidOut.{IsForwarded, IsFromSpace, LeadsHere, MayLeadBack}
 use Rattle.collection_words.proofs.Copy.Ascending.{Ascend, ascend_chain, ascend_filter, put_destination}
 use Rattle.collection_words.proofs.Copy.Moved.{behind_there, not_first}
 use Rattle.collection_words.proofs.Laid.Followed.{followed_here}
 use Rattle.collection_words.proofs.Laid.Names.{HaveOwnNames, names_own}
-use Rattle.collection_words.proofs.Laid.Old.{left_within, old_in_other}
+use Rattle.collection_words.proofs.Laid.Old.{old_in_other}
 use Rattle.collection_words.proofs.Laid.Sources.{IsCollecting, left_object}
 use Rattle.collection_words.proofs.Laid.Write.{unmoved_left}
 use Rattle.collection_words.proofs.Moves.Sources.{put_same}

@@ -1,8 +1,7 @@
 -- The completed words behind a copy are those before, with their objects relocated.
-use Rattle.std.proofs.Common.{◌≡◌, ◌≢◌, ◌⊎◌, ℕ, ◌+◌, ◌<◌, ◌≤◌, inl, inr, true, false, List, [], ◌∷◌, ◌++◌, None, Some, is_some, refl, sym, ap, ◌∙◌, subst, arith}
-use Rattle.std.specs.Prelude.{Contains, slice_index}
+use Rattle.std.proofs.Common.{◌≡◌, ◌≢◌, ℕ, ◌+◌, ◌<◌, ◌≤◌, inl, inr, List, [], ◌∷◌, ◌++◌, Some, is_some, refl, sym, ap, ◌∙◌, subst, arith}
+use Rattle.std.specs.Prelude.{slice_index}
 use Rattle.std.specs.List.{AllByRecursion}
-use Rattle.std.proofs.lemmas.Bool.{cases_order}
 use Rattle.std.proofs.lemmas.Option.{same_Some}
 use Rattle.heap_words.specs.declared.Header.TheVariants.{Forward}
 use Rattle.heap_words.specs.declared.Word.TheVariants as word
@@ -18,19 +17,19 @@ use Rattle.log_machine.specs.Machine.{State, field_at, owed, words_in}
 use Rattle.graph_words.specs.Places.{Places, address_of, addresses}
 use Rattle.graph_words.proofs.Places.Addresses.{address_of-Contains, address_of-head, none_or_some, placed_as}
 use Rattle.graph_words.proofs.Seal.Places.{address_of-append_left, address_of-append_right}
-use Rattle.collection_words.specs.Completed.{IsMade, completed, followed, future, places_from, without}
+use Rattle.collection_words.specs.Completed.{IsMade, completed, followed, future, without}
 use Rattle.collection_words.specs.Copying.{copied_words, with_place}
 use Rattle.collection_words.specs.LaidOut.{MayLeadBack}
 use Rattle.collection_words.specs.Relocated.{HasMoved, HaveSameIds, IsRelocatedObject, IsRelocatedWord}
 use Rattle.collection_words.proofs.Copy.Ascending.{only_at}
-use Rattle.collection_words.proofs.Copy.Laid.{copied_collection, copied_laid, copied_state, inside_leads}
+use Rattle.collection_words.proofs.Copy.Laid.{copied_laid, copied_state, inside_leads}
 use Rattle.collection_words.proofs.Copy.Moved.{behind_there, gone, gone_other, gone_own, gone_there, without_other}
 use Rattle.collection_words.proofs.Copy.Named.{RefersTo, apart_of, current, followed_plain, forwarded, left, left_ascend, refers, refers_followed}
 use Rattle.collection_words.proofs.Copy.Words.{IsCopying, copied_forward, copied_here, copied_left, copied_made, copied_old, copy_room}
 use Rattle.collection_words.proofs.Laid.Completed.{completed_ends, completed_object}
 use Rattle.collection_words.proofs.Laid.Names.{HaveOwnNames}
 use Rattle.collection_words.proofs.Laid.Old.{old_in_other, other_bounds}
-use Rattle.collection_words.proofs.Laid.Sources.{IsCollecting, all_places, left_object}
+use Rattle.collection_words.proofs.Laid.Sources.{all_places, left_object}
 use Rattle.collection_words.proofs.Laid.Within.{start_within}
 use Rattle.collection_words.proofs.Moves.Sources.{put_same}
 use Rattle.collection_words.proofs.Relocated.Writes.{IsRelocation}
@@ -81,7 +80,7 @@ copied_refers {s} {k} {places} {remaining} {words} {id} {from} copying limit w q
 copied_word : {s : State} {k : Collection} {places remaining : Places} {words : List ℕ} {id : Id} {from : ℕ} (copying : IsCopying s k places remaining words id from) → words_in s.pages ≤ 2097152 → (w : ℕ)
     → MayLeadBack (addresses places) copying.is.from.starts (meaning w)
     → IsRelocatedWord (places ++ future s words remaining) (with_place s places id ++ future (copied_state s k words from) (copied_words s words from) (without remaining from))
-      (followed s words remaining w) (followed (copied_state s k words from) (copied_words s words from) (without remaining from) w)
+    (followed s words remaining w) (followed (copied_state s k words from) (copied_words s words from) (without remaining from) w)
 copied_word {s} {k} {places} {remaining} {words} {id} {from} copying limit w may =
     let n = copied_state s k words from in
     let others = copied_words s words from in
@@ -161,7 +160,7 @@ source_moved {s} {k} {places} {remaining} {words} {id} {from} copying q at to st
 copied_object : {s : State} {k : Collection} {places remaining : Places} {words : List ℕ} {id : Id} {from : ℕ} (copying : IsCopying s k places remaining words id from) → words_in s.pages ≤ 2097152 → (q : Id) (at to : ℕ)
     → HasMoved (places ++ future s words remaining) (with_place s places id ++ future (copied_state s k words from) (copied_words s words from) (without remaining from)) q at to
     → IsRelocatedObject (places ++ future s words remaining) (with_place s places id ++ future (copied_state s k words from) (copied_words s words from) (without remaining from))
-      (completed s places remaining words) (completed (copied_state s k words from) (with_place s places id) (without remaining from) (copied_words s words from)) at to
+    (completed s places remaining words) (completed (copied_state s k words from) (with_place s places id) (without remaining from) (copied_words s words from)) at to
 copied_object {s} {k} {places} {remaining} {words} {id} {from} copying limit q at to moved =
     let n = copied_state s k words from in
     let others = copied_words s words from in
@@ -208,8 +207,8 @@ copied_same {s} {k} {places} {remaining} {words} {id} {from} copying limit q =
 -- The objects of the completed words are relocated by a copy, from end to end.
 pub copy_relocates : {s : State} {k : Collection} {places remaining : Places} {words : List ℕ} {id : Id} {from : ℕ} (copying : IsCopying s k places remaining words id from) → words_in s.pages ≤ 2097152
     → IsRelocation (places ++ future s words remaining) (with_place s places id ++ future (copied_state s k words from) (copied_words s words from) (without remaining from))
-      (completed s places remaining words) (completed (copied_state s k words from) (with_place s places id) (without remaining from) (copied_words s words from))
-      s.base (s.base + (s.used + owed s)) s.base (s.base + ((copied_state s k words from).used + owed (copied_state s k words from)))
+    (completed s places remaining words) (completed (copied_state s k words from) (with_place s places id) (without remaining from) (copied_words s words from))
+    s.base (s.base + (s.used + owed s)) s.base (s.base + ((copied_state s k words from).used + owed (copied_state s k words from)))
 copy_relocates copying limit = record {
   here = completed_ends copying.is;
   there = completed_ends (copied_laid copying limit);

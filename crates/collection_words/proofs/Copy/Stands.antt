@@ -1,8 +1,6 @@
 -- A graph that stands in the completed words stands there behind a copy.
-use Rattle.std.proofs.Common.{◌≡◌, ℕ, ◌+◌, ◌<◌, ◌≤◌, inl, inr, List, [], ◌∷◌, ◌++◌, None, Some, refl, sym, ap, ◌∙◌, subst, arith}
-use Rattle.std.specs.Prelude.{Contains}
+use Rattle.std.proofs.Common.{◌≡◌, ℕ, ◌+◌, ◌≤◌, inl, inr, List, [], ◌∷◌, ◌++◌, Some, sym, ◌∙◌, subst, arith}
 use Rattle.std.specs.List.{AllByRecursion}
-use Rattle.std.proofs.lemmas.Option.{same_Some}
 use Rattle.heap_spaces.specs.Collection.{Collection}
 use Rattle.graph_model.specs.Graph.{Graph, root}
 use Rattle.graph_model.specs.declared.id.Id.{Id}
@@ -11,8 +9,7 @@ use Rattle.log_machine.specs.Machine.{State, owed, taken_back, words_in}
 use Rattle.graph_words.specs.Places.{Places, address_of, addresses}
 use Rattle.graph_words.proofs.Places.Addresses.{none_or_some}
 use Rattle.graph_words.proofs.Seal.Places.{address_of-append_left, address_of-append_right}
-use Rattle.graph_words.specs.Stands.{Stands}
-use Rattle.collection_words.specs.Completed.{StandsCompleted, completed, future, places_from, without}
+use Rattle.collection_words.specs.Completed.{StandsCompleted, completed, future, without}
 use Rattle.collection_words.specs.Copying.{copied_words, with_place}
 use Rattle.collection_words.specs.LaidOut.{IsLaidOut}
 use Rattle.collection_words.specs.Writes.{AreBacked}
@@ -64,8 +61,8 @@ to_copied s places others id q at there = address_of-append_left (with_place s p
 copied_back : {s : State} {k : Collection} {places remaining : Places} {words : List ℕ} {id : Id} {from : ℕ} (us : List UndoEntry) → (copying : IsCopying s k places remaining words id from) → words_in s.pages ≤ 2097152
     → AreBacked places words us
     → IsRelocation (places ++ future s words remaining) (with_place s places id ++ future (copied_state s k words from) (copied_words s words from) (without remaining from))
-      (taken_back us (completed s places remaining words)) (taken_back us (completed (copied_state s k words from) (with_place s places id) (without remaining from) (copied_words s words from)))
-      s.base (s.base + (s.used + owed s)) s.base (s.base + ((copied_state s k words from).used + owed (copied_state s k words from)))
+    (taken_back us (completed s places remaining words)) (taken_back us (completed (copied_state s k words from) (with_place s places id) (without remaining from) (copied_words s words from)))
+    s.base (s.base + (s.used + owed s)) s.base (s.base + ((copied_state s k words from).used + owed (copied_state s k words from)))
 copied_back {s} {k} {places} {remaining} {words} {id} {from} us copying limit backed =
     let rest = future (copied_state s k words from) (copied_words s words from) (without remaining from) in
     let own = own_front places remaining copying.own in

@@ -1,5 +1,5 @@
 -- The words behind a copy: the copy has the object's words, where that stood is a forwarding word, and all else is as before.
-use Rattle.std.proofs.Common.{◌≡◌, ◌≢◌, ◌⊎◌, ℕ, zero, suc, ◌+◌, ◌*◌, ◌<◌, ◌≤◌, inl, inr, List, [], ◌∷◌, ◌++◌, length, get_or, Some, refl, sym, ap, ◌∙◌, subst, arith}
+use Rattle.std.proofs.Common.{◌≡◌, ◌≢◌, ◌⊎◌, ℕ, suc, ◌+◌, ◌<◌, ◌≤◌, inl, inr, List, [], ◌∷◌, ◌++◌, length, get_or, Some, sym, ap, ◌∙◌, subst, arith}
 use Rattle.std.specs.Prelude.{Contains, slice_index, slice_set}
 use Rattle.std.specs.List.{enumerate_from}
 use Rattle.std.proofs.lemmas.List.{get_or-set_other, get_or-set_same}
@@ -8,25 +8,25 @@ use Rattle.heap_words.specs.declared.Header.TheVariants.{Forward}
 use Rattle.heap_words.specs.Header.{header_bits}
 use Rattle.heap_spaces.specs.Collection.{Collection}
 use Rattle.graph_model.specs.declared.id.Id.{Id}
-use Rattle.object_layout.specs.Layout.{birth_at, object_at}
-use Rattle.object_layout.proofs.LayoutLaws.{length-field_words, object_header}
+use Rattle.object_layout.specs.Layout.{object_at}
+use Rattle.object_layout.proofs.LayoutLaws.{object_header}
 use Rattle.object_layout.proofs.ObjectLaws.{object_same}
 use Rattle.object_layout.proofs.WalkLaws.{Contains-cases, Contains-none}
 use Rattle.log_machine.specs.Collecting.{other_base}
-use Rattle.log_machine.specs.Machine.{State, field_at, owed, put_all, space_words, words_in, writes_of}
+use Rattle.log_machine.specs.Machine.{State, field_at, put_all, space_words, writes_of}
 use Rattle.log_machine.proofs.StateLaws.{spaced_more}
 use Rattle.log_machine.proofs.WordsLaws.{length-put_all}
 use Rattle.log_machine.proofs.WordsFrom.{put_from-at, put_from-before, put_from-behind}
 use Rattle.graph_words.specs.Places.{Places, address_of, addresses}
 use Rattle.graph_words.proofs.Places.Addresses.{address_of-Contains}
 use Rattle.graph_words.proofs.Stands.Objects.{word_at_field}
-use Rattle.collection_words.specs.Completed.{IsMade, in_other_space, taken_at, taken_by, without}
+use Rattle.collection_words.specs.Completed.{IsMade, taken_by, without}
 use Rattle.collection_words.specs.Copying.{copied_words, next_copy, object_words_at}
 use Rattle.collection_words.specs.LaidOut.{AreOldEndToEnd, old_length}
-use Rattle.collection_words.proofs.Copy.Ascending.{addresses_without, other_than, taken_without}
+use Rattle.collection_words.proofs.Copy.Ascending.{addresses_without, taken_without}
 use Rattle.collection_words.proofs.Copy.Named.{left_ascend}
 use Rattle.collection_words.proofs.Laid.Names.{HaveOwnNames}
-use Rattle.collection_words.proofs.Laid.Old.{apart_spaces, left_within, old_length-object, old_within, other_bounds}
+use Rattle.collection_words.proofs.Laid.Old.{apart_spaces, left_within, old_length-object, old_within}
 use Rattle.collection_words.proofs.Laid.Sources.{IsCollecting, left_object, left_taken}
 use Rattle.collection_words.proofs.Laid.Within.{start_within}
 use Rattle.collection_words.proofs.Moves.Ends.{taken_object}

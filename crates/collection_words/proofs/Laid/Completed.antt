@@ -1,5 +1,5 @@
 -- The completed words, address by address.
-use Rattle.std.proofs.Common.{◌≡◌, ℕ, ◌+◌, ◌<◌, ◌≤◌, List, [], ◌∷◌, ◌++◌, length, get_or, Option, None, Some, refl, sym, ap, ◌∙◌, subst, arith}
+use Rattle.std.proofs.Common.{◌≡◌, ℕ, ◌+◌, ◌<◌, ◌≤◌, List, [], ◌++◌, length, Option, None, Some, refl, sym, ap, ◌∙◌, subst, arith}
 use Rattle.std.proofs.lemmas.List.{append-nil}
 use Rattle.std.specs.Prelude.{Contains, slice_index}
 use Rattle.heap_spaces.specs.Collection.{Collection}
@@ -10,8 +10,7 @@ use Rattle.log_machine.specs.Machine.{State, owed, put_all}
 use Rattle.log_machine.proofs.WordsLaws.{length-put_all}
 use Rattle.graph_words.specs.Places.{Places, address_of, addresses}
 use Rattle.graph_words.proofs.Places.Addresses.{address_of-Contains}
-use Rattle.collection_words.specs.Completed.{IsMade, completed, completed_in, completing, followed, future, moves_from, places_from, taken_by}
-use Rattle.collection_words.specs.LaidOut.{IsLaidOut}
+use Rattle.collection_words.specs.Completed.{IsMade, completed, completed_in, completing, followed, future, moves_from, places_from}
 use Rattle.collection_words.proofs.Laid.Sources.{IsCollecting, all_fit, all_places, all_taken, source_object}
 use Rattle.collection_words.proofs.Moves.Sources.{IsPut, move_source, put_source}
 use Rattle.collection_words.proofs.Words.Objects.{placed_ends, putting-object}

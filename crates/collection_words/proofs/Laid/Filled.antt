@@ -1,5 +1,5 @@
 -- A space that is filled, told of all words in place of the used ones.
-use Rattle.std.proofs.Common.{◌≡◌, ℕ, ◌+◌, ◌≤◌, List, [], ◌∷◌, Some, refl, sym, ap, ◌∙◌, subst, arith}
+use Rattle.std.proofs.Common.{◌≡◌, ℕ, ◌+◌, List, [], ◌∷◌, Some, sym, ◌∙◌, subst, arith}
 use Rattle.std.specs.Prelude.{Contains}
 use Rattle.object_layout.specs.Layout.{birth_at, object_at}
 use Rattle.object_layout.specs.Walk.{AreEndToEnd, IsFilled, used_words}

@@ -1,19 +1,16 @@
 -- What following a word leads to: a word that leads here stays, and so do words whose from-space is the same.
-use Rattle.std.proofs.Common.{◌≡◌, ◌≢◌, ◌⊎◌, inl, inr, ℕ, ◌+◌, ◌<◌, ◌≤◌, Bool, true, false, List, [], ◌∷◌, ◌++◌, Option, None, Some, refl, sym, ap, ◌∙◌, subst, arith}
-use Rattle.std.specs.Prelude.{Contains, slice_get, slice_index, if◌then◌else◌}
-use Rattle.std.proofs.lemmas.Option.{slice_get-get_or}
+use Rattle.std.proofs.Common.{◌≡◌, ◌⊎◌, inl, inr, ℕ, ◌+◌, ◌<◌, Bool, true, false, List, ◌++◌, Option, None, Some, refl, sym, ap, ◌∙◌, subst, arith}
+use Rattle.std.specs.Prelude.{Contains, slice_index, if◌then◌else◌}
 use Rattle.std.proofs.lemmas.List.Elements.{Contains-append_cases, Contains-append_left}
 use Rattle.heap_words.specs.declared.Word.{Word}
 use Rattle.heap_words.specs.declared.Word.TheVariants as word
 use Rattle.heap_words.specs.Header.{header}
 use Rattle.heap_words.specs.Word.{bits, meaning}
 use Rattle.heap_spaces.specs.Collection.{Collection}
-use Rattle.object_layout.specs.Layout.{field_words, object_at}
-use Rattle.object_layout.proofs.LayoutLaws.{length-field_words}
-use Rattle.log_machine.specs.Machine.{State, field_at, space_words}
+use Rattle.object_layout.specs.Layout.{object_at}
+use Rattle.log_machine.specs.Machine.{State, field_at}
 use Rattle.log_machine.specs.Sound.{IsSpaced}
 use Rattle.graph_words.specs.Places.{Places, addresses}
-use Rattle.graph_words.proofs.Stands.Objects.{word_at_field}
 use Rattle.collection_words.specs.Completed.{completed, end_of, followed, followed_by, in_other_space, moves_from, taken_by}
 use Rattle.collection_words.specs.LaidOut.{IsLaidOut, LeadsHere, is_gray}
 use Rattle.collection_words.proofs.Laid.Completed.{move_made}

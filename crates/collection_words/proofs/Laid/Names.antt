@@ -1,8 +1,7 @@
 -- Names of objects: where no two are the same, whatever the order.
-use Rattle.std.proofs.Common.{◌≡◌, ◌≢◌, ℕ, ◌+◌, ◌<◌, ◌≤◌, inl, inr, List, [], ◌∷◌, ◌++◌, Option, None, Some, is_some, refl, sym, ap, ◌∙◌, subst, arith}
+use Rattle.std.proofs.Common.{◌≡◌, ℕ, ◌+◌, inl, inr, List, [], ◌∷◌, Option, None, Some, is_some, refl, sym, ap, ◌∙◌, arith}
 use Rattle.std.specs.List.{AllByRecursion}
 use Rattle.std.proofs.lemmas.Option.{same_Some}
-use Rattle.graph_model.specs.declared.id.Id.{Id}
 use Rattle.object_layout.specs.Walk.{AreEndToEnd}
 use Rattle.object_layout.proofs.ObjectLaws.{end_to_end_begins}
 use Rattle.log_machine.proofs.ListLaws.{AllByRecursion-map}
@@ -22,7 +21,7 @@ names_own [] own = tt
 names_own (p ∷ ps) own = (
   address_of-head p ps,
   AllByRecursion-map (λ q. address_of ps q.0 ≡ Some q.1) (λ q. address_of (p ∷ ps) q.0 ≡ Some q.1) ps
-  (λ q is. address_of-rest p ps q.0 (λ same. let clash = sym own.0 ∙ ap (address_of ps) same ∙ is in cc) ∙ is) (names_own ps own.1),
+      (λ q is. address_of-rest p ps q.0 (λ same. let clash = sym own.0 ∙ ap (address_of ps) same ∙ is in cc) ∙ is) (names_own ps own.1),
 )
 
 -- and where they stand end to end, each at its own place, no two have one name

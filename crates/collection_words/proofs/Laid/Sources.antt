@@ -1,5 +1,5 @@
 -- Words that are laid out while a collection runs: the objects that completed words have, where each stands, and how many words they take.
-use Rattle.std.proofs.Common.{◌≡◌, ◌⊎◌, ℕ, ◌+◌, ◌-◌, ◌<◌, ◌≤◌, inl, inr, Bool, true, false, not, List, [], ◌∷◌, ◌++◌, length, None, Some, refl, sym, ap, ◌∙◌, subst, arith}
+use Rattle.std.proofs.Common.{◌≡◌, ℕ, ◌+◌, ◌≤◌, inl, inr, Bool, true, false, not, List, [], ◌++◌, length, Some, refl, sym, ap, ◌∙◌, subst, arith}
 use Rattle.std.specs.Prelude.{Contains, MatchOption}
 use Rattle.std.specs.FinSet.{contains}
 use Rattle.std.proofs.lemmas.List.Elements.{Contains-append_cases}
@@ -8,7 +8,7 @@ use Rattle.object_layout.specs.Layout.{object_at}
 use Rattle.object_layout.specs.Walk.{AreEndToEnd}
 use Rattle.object_layout.proofs.WalkedLaws.{end_to_end_object}
 use Rattle.stability_tracker.proofs.ListLaws.{Contains-from_filter}
-use Rattle.log_machine.specs.Machine.{State, owed, space_words, words_in}
+use Rattle.log_machine.specs.Machine.{State, owed, words_in}
 use Rattle.log_machine.specs.Sound.{IsSpaced}
 use Rattle.log_machine.proofs.StateLaws.{spaced_more}
 use Rattle.graph_words.specs.Places.{Places, addresses}

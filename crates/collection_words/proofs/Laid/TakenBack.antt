@@ -1,7 +1,5 @@
 -- Writes that are taken back: it is the same to complete the words before or after.
-use Rattle.std.proofs.Common.{◌≡◌, ℕ, ◌+◌, List, [], ◌∷◌, ◌++◌, Some, refl, sym, ap, ◌∙◌}
-use Rattle.std.specs.Prelude.{Contains}
-use Rattle.std.specs.List.{AllByRecursion}
+use Rattle.std.proofs.Common.{◌≡◌, ℕ, ◌+◌, List, [], ◌∷◌, refl, ap, ◌∙◌}
 use Rattle.heap_spaces.specs.Collection.{Collection}
 use Rattle.log_machine.proofs.ListLaws.{AllByRecursion-map}
 use Rattle.log_machine.specs.declared.UndoEntry.{UndoEntry}

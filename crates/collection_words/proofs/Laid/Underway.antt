@@ -1,5 +1,5 @@
 -- A collection that is under way, with its from-space, and the other way round.
-use Rattle.std.proofs.Common.{◌≡◌, ℕ, ◌≤◌, List}
+use Rattle.std.proofs.Common.{ℕ, ◌≤◌, List}
 use Rattle.heap_spaces.specs.Collection.{Collection}
 use Rattle.log_machine.specs.Machine.{State, words_in}
 use Rattle.graph_words.specs.Places.{Places}

@@ -1,5 +1,5 @@
 -- Objects of words that are laid out lie in the used words.
-use Rattle.std.proofs.Common.{◌≡◌, ℕ, ◌+◌, ◌<◌, ◌≤◌, List, Some, refl, sym, ap, ◌∙◌}
+use Rattle.std.proofs.Common.{◌≡◌, ℕ, ◌+◌, ◌≤◌, List, Some}
 use Rattle.std.specs.Prelude.{Contains}
 use Rattle.graph_model.specs.declared.id.Id.{Id}
 use Rattle.object_layout.specs.Layout.{object_at}

@@ -1,6 +1,6 @@
 -- A write into a field of a current object, of a word that leads here: the words stay laid out, and it is the same write of the completed words.
-use Rattle.std.proofs.Common.{◌≡◌, ◌≢◌, ℕ, zero, suc, ◌+◌, ◌<◌, ◌≤◌, inl, inr, Bool, true, false, not, List, [], ◌∷◌, ◌++◌, length, get_or, Some, refl, sym, ap, ◌∙◌, subst, arith, length-set}
-use Rattle.std.specs.Prelude.{Contains, MatchOption, slice_index, slice_set}
+use Rattle.std.proofs.Common.{◌≡◌, ◌≢◌, ℕ, suc, ◌+◌, ◌<◌, ◌≤◌, inl, inr, Bool, true, false, not, List, [], ◌∷◌, ◌++◌, get_or, Some, refl, sym, ap, ◌∙◌, subst, arith, length-set}
+use Rattle.std.specs.Prelude.{Contains, MatchOption, slice_index}
 use Rattle.std.specs.FinSet.{contains}
 use Rattle.std.proofs.lemmas.Bool.{cases_order}
 use Rattle.std.proofs.lemmas.List.{get_or-set_other, get_or-set_same}
@@ -20,8 +20,8 @@ use Rattle.log_machine.specs.Machine.{State, field_at, space_words, with_word}
 use Rattle.graph_words.specs.Places.{Places, addresses}
 use Rattle.graph_words.proofs.Area.Field.{birth_with_word, ends_with_word, object_with_word}
 use Rattle.graph_words.proofs.Stands.Field.{IsField}
-use Rattle.collection_words.specs.Completed.{completed, followed, followed_words, in_other_space, moves_from, taken_at, taken_by}
-use Rattle.collection_words.specs.LaidOut.{AreOldEndToEnd, IsForwarded, IsFromSpace, IsLaidOut, LeadsHere, MayLeadBack, is_gray, old_length}
+use Rattle.collection_words.specs.Completed.{completed, followed, followed_words, in_other_space, moves_from, taken_at}
+use Rattle.collection_words.specs.LaidOut.{AreOldEndToEnd, IsForwarded, IsFromSpace, IsLaidOut, LeadsHere, MayLeadBack, old_length}
 use Rattle.collection_words.specs.Writes.{IsCurrentField, IsHereWrite}
 use Rattle.collection_words.proofs.Laid.Completed.{completed-before, completed-behind, completed_put, length-completed}
 use Rattle.collection_words.proofs.Laid.Filled.{filled_by, filling}
@@ -225,7 +225,7 @@ write_laid {s} {k} {places} {remaining} {words} {object} {field} {word} is write
 written_word : {s : State} {k : Collection} {places remaining : Places} {words : List ℕ} {object field word : ℕ} → IsCollecting s k places remaining words → IsHereWrite places words object field word
     → (at there j : ℕ) → Contains (moves_from words (addresses (places ++ remaining)) s.base) (at, there) → j < taken_at words at
     → slice_index (with_word (completed s places remaining words) object field word) (there + j)
-      ≡ get_or (followed_words (followed s (with_word words object field word) remaining) (with_word words object field word) at) j 0
+    ≡ get_or (followed_words (followed s (with_word words object field word) remaining) (with_word words object field word) at) j 0
 written_word {s} {places = places} {remaining = remaining} {words = words} {object = object} {field = field} {word = word} is write at there j move within =
     let others = with_word words object field word in
     let V = completed s places remaining words in
@@ -286,11 +286,11 @@ completed_write {s} {k} {places} {remaining} {words} {object} {field} {word} is 
     let taken = all_taken now in
     completed_put now
     ∙ putting_is (followed s others remaining) others all others (with_word V object field word) s.base
-      (length-set V (field_at object field) word ∙ length-completed s places remaining words ∙ sym (length-set words (field_at object field) word))
-      (λ i below. write_other V object field word i (λ same. omega arith) ∙ completed-before is i below ∙ sym (write_other words object field word i (λ same. omega arith)))
-      (λ i above. write_other V object field word i (λ same. omega arith) ∙ completed-behind is i (omega arith) ∙ sym (write_other words object field word i (λ same. omega arith)))
-      (all_fit now)
-      (λ at there j move within.
-      let move_was = subst (λ m. Contains m (at, there)) (write_moves is write s.base) move in
-      let size = write_taken is write at (move_source words all s.base at there move_was) in
-      written_word is write at there j move_was (omega arith))
+    (length-set V (field_at object field) word ∙ length-completed s places remaining words ∙ sym (length-set words (field_at object field) word))
+    (λ i below. write_other V object field word i (λ same. omega arith) ∙ completed-before is i below ∙ sym (write_other words object field word i (λ same. omega arith)))
+    (λ i above. write_other V object field word i (λ same. omega arith) ∙ completed-behind is i (omega arith) ∙ sym (write_other words object field word i (λ same. omega arith)))
+    (all_fit now)
+    (λ at there j move within.
+    let move_was = subst (λ m. Contains m (at, there)) (write_moves is write s.base) move in
+    let size = write_taken is write at (move_source words all s.base at there move_was) in
+    written_word is write at there j move_was (omega arith))

@@ -1,8 +1,8 @@
 -- Where objects go that are put end to end, and how many words they take.
-use Rattle.std.proofs.Common.{◌≡◌, ℕ, ◌+◌, ◌≤◌, inl, inr, List, [], ◌∷◌, ◌++◌, length, map, Some, refl, sym, ap, ◌∙◌, subst, arith}
+use Rattle.std.proofs.Common.{◌≡◌, ℕ, ◌+◌, ◌≤◌, inl, inr, List, [], ◌∷◌, ◌++◌, Some, refl, sym, ap, ◌∙◌, arith}
 use Rattle.std.specs.Prelude.{Contains}
 use Rattle.std.proofs.lemmas.List.{map-append}
-use Rattle.object_layout.specs.Layout.{object_at, field_words}
+use Rattle.object_layout.specs.Layout.{object_at}
 use Rattle.object_layout.specs.Walk.{AreEndToEnd}
 use Rattle.object_layout.proofs.LayoutLaws.{length-field_words}
 use Rattle.object_layout.proofs.WalkLaws.{Contains-cases, Contains-head, Contains-none, Contains-rest}

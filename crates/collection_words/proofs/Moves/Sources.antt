@@ -1,11 +1,10 @@
 -- Of objects that are put end to end, the names, and where each of them stood.
-use Rattle.std.proofs.Common.{◌≡◌, ◌≢◌, ℕ, ◌+◌, inl, inr, Bool, true, false, List, [], ◌∷◌, ◌++◌, map, Option, None, Some, is_some, refl, sym, ap, ◌∙◌, subst, arith}
+use Rattle.std.proofs.Common.{◌≡◌, ℕ, ◌+◌, inl, inr, Bool, true, false, List, [], ◌∷◌, Option, Some, is_some, refl, ap, ◌∙◌, subst}
 use Rattle.std.specs.Prelude.{Contains, if◌then◌else◌}
 use Rattle.graph_model.specs.Graph.{is_same_id}
 use Rattle.graph_model.specs.declared.id.Id.{Id}
 use Rattle.object_layout.proofs.WalkLaws.{Contains-cases, Contains-head, Contains-none, Contains-rest}
 use Rattle.graph_words.specs.Places.{Places, addresses, address_of}
-use Rattle.graph_words.proofs.Places.Addresses.{address_of-Contains}
 use Rattle.collection_words.specs.Completed.{taken_at, moves_from, places_from}
 
 -- An object that is put elsewhere, by where it stood and where it stands then.
@@ -18,20 +17,24 @@ put_here : (words : List ℕ) (p : Id × ℕ) (ps : Places) (to : ℕ) (id : Id)
     → (address_of (places_from words ps (to + taken_at words p.1)) id ≡ Some there → (at : ℕ) × IsPut words ps (to + taken_at words p.1) id at there)
     → (if b then Some to else address_of (places_from words ps (to + taken_at words p.1)) id) ≡ Some there → (at : ℕ) × IsPut words (p ∷ ps) to id at there
 put_here words p ps to id there true same later is =
-    let end : to ≡ there = cc is in
-    (p.1, record {
-      stood = ap (λ (b : Bool). if b then Some p.1 else address_of ps id) same;
-      stands = ap (λ (b : Bool). if b then Some to else address_of (places_from words ps (to + taken_at words p.1)) id) same ∙ is;
-      move = subst (λ (x : ℕ). Contains (moves_from words (addresses (p ∷ ps)) to) (p.1, x)) end (Contains-head (p.1, to) (moves_from words (addresses ps) (to + taken_at words p.1)));
-    })
+    let end : to ≡ there = cc is in (
+      p.1,
+      record {
+        stood = ap (λ (b : Bool). if b then Some p.1 else address_of ps id) same;
+        stands = ap (λ (b : Bool). if b then Some to else address_of (places_from words ps (to + taken_at words p.1)) id) same ∙ is;
+        move = subst (λ (x : ℕ). Contains (moves_from words (addresses (p ∷ ps)) to) (p.1, x)) end (Contains-head (p.1, to) (moves_from words (addresses ps) (to + taken_at words p.1)));
+      },
+    )
 put_here words p ps to id there false same later is =
     let found = later is in
-    let put = found.1 in
-    (found.0, record {
-      stood = ap (λ (b : Bool). if b then Some p.1 else address_of ps id) same ∙ put.stood;
-      stands = ap (λ (b : Bool). if b then Some to else address_of (places_from words ps (to + taken_at words p.1)) id) same ∙ put.stands;
-      move = Contains-rest (p.1, to) (moves_from words (addresses ps) (to + taken_at words p.1)) (found.0, there) put.move;
-    })
+    let put = found.1 in (
+      found.0,
+      record {
+        stood = ap (λ (b : Bool). if b then Some p.1 else address_of ps id) same ∙ put.stood;
+        stands = ap (λ (b : Bool). if b then Some to else address_of (places_from words ps (to + taken_at words p.1)) id) same ∙ put.stands;
+        move = Contains-rest (p.1, to) (moves_from words (addresses ps) (to + taken_at words p.1)) (found.0, there) put.move;
+      },
+    )
 
 -- each object that stands there stood somewhere
 pub put_source : (words : List ℕ) (ps : Places) (to : ℕ) (id : Id) (there : ℕ) → address_of (places_from words ps to) id ≡ Some there → (at : ℕ) × IsPut words ps to id at there

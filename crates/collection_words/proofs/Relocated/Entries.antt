@@ -1,10 +1,8 @@
 -- Writes into fields of current objects, whose addresses stay, are the same where other objects are relocated.
-use Rattle.std.proofs.Common.{◌≡◌, ℕ, ◌+◌, ◌<◌, ◌≤◌, inl, inr, List, [], ◌∷◌, ◌++◌, Option, None, Some, refl, sym, ap, ◌∙◌, subst}
-use Rattle.std.specs.Prelude.{Contains}
-use Rattle.std.specs.List.{AllByRecursion}
+use Rattle.std.proofs.Common.{◌≡◌, ℕ, inl, inr, List, [], ◌∷◌, ◌++◌, Option, None, Some, refl, ap}
 use Rattle.heap_words.specs.declared.Word.{Word}
 use Rattle.heap_words.specs.declared.Word.TheVariants as word
-use Rattle.heap_words.specs.Word.{is_stable, meaning, refers_to_stable}
+use Rattle.heap_words.specs.Word.{meaning, refers_to_stable}
 use Rattle.heap_words.proofs.WordLaws.{bits-meaning}
 use Rattle.heap_spaces.specs.Collection.{Collection}
 use Rattle.graph_model.specs.declared.id.Id.{Id}
@@ -16,7 +14,7 @@ use Rattle.graph_words.proofs.Places.Addresses.{address_of-Contains}
 use Rattle.graph_words.proofs.Seal.Places.{address_of-append_left}
 use Rattle.collection_words.specs.Completed.{completed, future}
 use Rattle.collection_words.specs.LaidOut.{LeadsHere}
-use Rattle.collection_words.specs.Relocated.{AreRelocatedEntries, IsRelocatedEntry, IsRelocatedWord}
+use Rattle.collection_words.specs.Relocated.{AreRelocatedEntries, IsRelocatedWord}
 use Rattle.collection_words.specs.Writes.{AreBacked}
 use Rattle.collection_words.proofs.Copy.Named.{named}
 use Rattle.collection_words.proofs.Laid.Completed.{move_made}
@@ -42,13 +40,15 @@ pub backed_entries : (places before after : Places) (words : List ℕ) (us : Lis
     → AreBacked places words us → AreRelocatedEntries before after us us
 backed_entries places before after words [] own here there all = tt
 backed_entries places before after words (u ∷ us) own here there all =
-    let object = named places u.object own all.0.is.start in
-    (record {
-      id = object.0;
-      object = record { before = here object.0 u.object object.1; after = there object.0 u.object object.1 };
-      field = refl;
-      was = here_word places before after u.was (meaning u.was) refl own here there all.0.leads;
-    }, backed_entries places before after words us own here there all.1)
+    let object = named places u.object own all.0.is.start in (
+      record {
+        id = object.0;
+        object = record { before = here object.0 u.object object.1; after = there object.0 u.object object.1 };
+        field = refl;
+        was = here_word places before after u.was (meaning u.was) refl own here there all.0.leads;
+      },
+      backed_entries places before after words us own here there all.1,
+    )
 
 -- and of fields of the completed words
 pub backed_fields : {s : State} {k : Collection} {places remaining : Places} {words : List ℕ} → IsCollecting s k places remaining words → HaveOwnNames places → (us : List UndoEntry) → AreBacked places words us
@@ -56,10 +56,12 @@ pub backed_fields : {s : State} {k : Collection} {places remaining : Places} {wo
 backed_fields is own [] all = tt
 backed_fields {s} {places = places} {remaining = remaining} {words = words} is own (u ∷ us) all =
     let write = all.0.is in
-    let object = named places u.object own write.start in
-    (record {
-      start = address_of-Contains (places ++ future s words remaining) object.0 u.object (address_of-append_left places (future s words remaining) object.0 u.object object.1);
-      fields = write.fields;
-      stands = (move_made is u.object u.object write.fields (move_placed is.laid u.object write.start) write.stands).is;
-      within = write.within;
-    }, backed_fields is own us all.1)
+    let object = named places u.object own write.start in (
+      record {
+        start = address_of-Contains (places ++ future s words remaining) object.0 u.object (address_of-append_left places (future s words remaining) object.0 u.object object.1);
+        fields = write.fields;
+        stands = (move_made is u.object u.object write.fields (move_placed is.laid u.object write.start) write.stands).is;
+        within = write.within;
+      },
+      backed_fields is own us all.1,
+    )

@@ -1,30 +1,29 @@
 -- A graph stands where its objects were relocated.
-use Rattle.std.proofs.Common.{◌≡◌, ℕ, ◌+◌, ◌*◌, ◌<◌, ◌≤◌, inl, inr, true, false, List, [], ◌∷◌, length, map, take, get_or, Option, None, Some, is_some, refl, sym, ap, ◌∙◌, subst, arith, ext_get_or}
-use Rattle.std.specs.Prelude.{Contains, slice_index, slice_index_or}
-use Rattle.std.specs.List.{AllByRecursion}
+use Rattle.std.proofs.Common.{◌≡◌, ℕ, ◌+◌, ◌<◌, inl, inr, List, length, map, Option, None, Some, is_some, refl, sym, ap, ◌∙◌, subst, arith, ext_get_or}
+use Rattle.std.specs.Prelude.{slice_index, slice_index_or}
 use Rattle.std.proofs.lemmas.List.{get_or-map, length-map}
 use Rattle.std.proofs.lemmas.Option.{same_Some}
 use Rattle.heap_words.specs.declared.Word.{Word}
 use Rattle.heap_words.specs.declared.Word.TheVariants as word
-use Rattle.heap_words.specs.Word.{bits, is_stable}
+use Rattle.heap_words.specs.Word.{bits}
 use Rattle.heap_words.proofs.WordLaws.{is_stable-bits}
 use Rattle.graph_model.specs.Graph.{Graph, fields, root}
 use Rattle.graph_model.specs.declared.id.Id.{Id}
 use Rattle.graph_model.specs.declared.val.Val.{Val}
 use Rattle.graph_model.specs.declared.val.Val.TheVariants.{Int, Null, Ref}
-use Rattle.object_layout.specs.Layout.{birth_at, field_words, object_at}
+use Rattle.object_layout.specs.Layout.{field_words}
 use Rattle.object_layout.specs.Walk.{IsRootAt, used_words}
 use Rattle.object_layout.proofs.LayoutLaws.{length-field_words}
-use Rattle.object_layout.proofs.WalkLaws.{object_take, object_take_end}
+use Rattle.object_layout.proofs.WalkLaws.{object_take}
 use Rattle.log_machine.proofs.ListLaws.{AllByRecursion-map}
 use Rattle.log_machine.specs.Machine.{field_at}
-use Rattle.graph_words.specs.Places.{IsAtHand, IsVisible, Places, address_of, addresses, bits_of, index_of, place_of}
+use Rattle.graph_words.specs.Places.{IsVisible, Places, address_of, addresses, bits_of, index_of, place_of}
 use Rattle.graph_words.proofs.Places.Addresses.{address_of-Contains, none_or_some, some_address}
 use Rattle.graph_words.specs.Stands.{Stands, StandsAt}
 use Rattle.graph_words.proofs.Stands.Objects.{stands_at, stands_field, stands_get, stands_object, stands_one, stands_within, word_at_field}
 use Rattle.graph_words.proofs.Stands.Visible.{place_of-apart, place_of-placed}
 use Rattle.collection_words.specs.Placed.{ArePlacedIn}
-use Rattle.collection_words.specs.Relocated.{HasMoved, HaveSameIds, IsLedAlong, IsRelocated, IsRelocatedObject, IsRelocatedWord}
+use Rattle.collection_words.specs.Relocated.{HasMoved, HaveSameIds, IsRelocated, IsRelocatedObject, IsRelocatedWord}
 use Rattle.collection_words.proofs.Relocated.Fronts.{ends_front, front_birth, front_object}
 
 -- Places.
@@ -103,7 +102,7 @@ relocated_fields {places = places} {g = g} {words = words} others moved stands s
     let inside : i < length (fields g id) = omega arith in
     sym (word_at_field moved to object.fields i object.is within)
     ∙ relocated_value others stands same value (slice_index moved (field_at to i))
-      (subst (λ (x : ℕ). IsRelocatedWord places others x (slice_index moved (field_at to i))) (stands_field stands id at i is inside) (object.led i within))
+    (subst (λ (x : ℕ). IsRelocatedWord places others x (slice_index moved (field_at to i))) (stands_field stands id at i is inside) (object.led i within))
     ∙ sym (get_or-map (bits_of (place_of others g)) (fields g id) i Null 0 inside))
 
 relocated_at : {t made : ℕ} {places : Places} {g : Graph} {words : List ℕ} {base used : ℕ} (others : Places) (moved : List ℕ) → Stands t made places g words base used → IsRelocated places others words moved

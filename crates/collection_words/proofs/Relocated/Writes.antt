@@ -1,14 +1,13 @@
 -- Objects stay relocated when a field is written in the one words, and the field that it has become in the others: so they do when writes
 -- are taken back.
-use Rattle.std.proofs.Common.{◌≡◌, ◌≢◌, ◌⊎◌, ℕ, ◌+◌, ◌<◌, ◌≤◌, inl, inr, List, [], ◌∷◌, length, get_or, set, Some, refl, sym, ap, ◌∙◌, subst, arith, length-set}
-use Rattle.std.specs.Prelude.{Contains, slice_index, slice_set}
-use Rattle.std.specs.List.{AllByRecursion}
+use Rattle.std.proofs.Common.{◌≡◌, ◌≢◌, ◌⊎◌, ℕ, ◌<◌, inl, inr, List, [], ◌∷◌, Some, sym, ap, ◌∙◌, subst, arith}
+use Rattle.std.specs.Prelude.{slice_index, slice_set}
 use Rattle.std.proofs.lemmas.Bool.{cases_order}
 use Rattle.std.proofs.lemmas.Option.{same_Some}
 use Rattle.std.proofs.lemmas.List.{get_or-set_same, get_or-set_other}
 use Rattle.graph_model.proofs.Whole.Graph.{same_or_other}
 use Rattle.graph_model.specs.declared.id.Id.{Id}
-use Rattle.object_layout.specs.Layout.{birth_at, object_at}
+use Rattle.object_layout.specs.Layout.{object_at}
 use Rattle.object_layout.specs.Walk.{AreEndToEnd}
 use Rattle.object_layout.proofs.LayoutLaws.{object_header}
 use Rattle.object_layout.proofs.ObjectLaws.{end_to_end_apart}
@@ -19,7 +18,6 @@ use Rattle.graph_words.proofs.Area.Field.{AreFields, birth_with_word, ends_with_
 use Rattle.graph_words.specs.Places.{Places, address_of, addresses}
 use Rattle.graph_words.proofs.Places.Addresses.{address_of-Contains, address_of-one}
 use Rattle.graph_words.proofs.Stands.Field.{IsField}
-use Rattle.collection_words.specs.Placed.{ArePlacedIn}
 use Rattle.collection_words.specs.Relocated.{AreRelocatedEntries, HasMoved, IsRelocated, IsRelocatedEntry, IsRelocatedObject, IsRelocatedWord}
 
 -- Fields.

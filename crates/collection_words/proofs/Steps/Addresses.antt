@@ -4,7 +4,7 @@ use Rattle.std.specs.Cmp.{nat_cmp_total, unsigned_tied, ranked}
 use Rattle.std.specs.declared.cmp.Ordering.TheVariants.{Equal}
 use Rattle.std.specs.Ordering.{nat_cmp, eq_by_cmp}
 use Rattle.std.specs.FinSet.{FinSet, contains, insert, contains-insert, contains-retain}
-use Rattle.std.proofs.lemmas.Bool.{eq-eqb, ne_eqb, eqb-true}
+use Rattle.std.proofs.lemmas.Bool.{eq-eqb, ne_eqb}
 use Rattle.heap_spaces.specs.Addresses.{without_page}
 use Rattle.heap_spaces.specs.Collection.{page_of}
 

@@ -1,23 +1,22 @@
 -- The end of a collection: nothing is gray, so nothing leads to what remains, and that goes.
-use Rattle.std.proofs.Common.{◌≡◌, ◌≢◌, ℕ, zero, suc, ◌+◌, ◌<◌, ◌≤◌, ◌==◌, inl, inr, true, false, List, [], ◌∷◌, ◌++◌, length, map, get_or, None, Some, is_some, refl, sym, ap, ◌∙◌, subst, arith, ext_get_or}
-use Rattle.std.specs.Prelude.{Contains, slice_index, slice_index_or, slice_get, if◌then◌else◌}
+use Rattle.std.proofs.Common.{◌≡◌, ℕ, ◌+◌, ◌<◌, inl, inr, false, List, [], ◌++◌, length, map, None, Some, is_some, refl, sym, ap, ◌∙◌, subst, arith, ext_get_or}
+use Rattle.std.specs.Prelude.{Contains, slice_index, slice_index_or, if◌then◌else◌}
 use Rattle.std.specs.FinSet.{contains, contains-empty, empty_of_len, len}
 use Rattle.std.specs.List.{AllByRecursion}
 use Rattle.std.specs.Ordering.{nat_cmp}
 use Rattle.std.proofs.lemmas.Bool.{eq-eqb}
 use Rattle.std.proofs.lemmas.List.{append-nil, get_or-map, length-map}
-use Rattle.std.proofs.lemmas.Option.{get_or_from_slice_get, same_Some, slice_get_within}
+use Rattle.std.proofs.lemmas.Option.{get_or_from_slice_get, slice_get_within}
 use Rattle.heap_words.specs.declared.Word.{Word}
 use Rattle.heap_words.specs.declared.Word.TheVariants as word
 use Rattle.heap_words.specs.Word.{bits, meaning}
 use Rattle.heap_words.proofs.WordLaws.{meaning-bits}
 use Rattle.heap_spaces.specs.Collection.{Collection}
-use Rattle.graph_model.specs.Graph.{Graph, fields, root}
+use Rattle.graph_model.specs.Graph.{Graph, fields}
 use Rattle.graph_model.specs.declared.id.Id.{Id}
 use Rattle.graph_model.specs.declared.val.Val.{Val}
 use Rattle.graph_model.specs.declared.val.Val.TheVariants.{Int, Null, Ref}
-use Rattle.object_layout.specs.Layout.{birth_at, field_words, object_at}
-use Rattle.object_layout.specs.Walk.{IsRootAt, used_words}
+use Rattle.object_layout.specs.Layout.{field_words, object_at}
 use Rattle.object_layout.proofs.LayoutLaws.{length-field_words}
 use Rattle.log_machine.specs.Collecting.{collected_in}
 use Rattle.log_machine.specs.declared.UndoEntry.{UndoEntry}
@@ -25,7 +24,7 @@ use Rattle.log_machine.specs.Machine.{State, field_at, owed, taken_back}
 use Rattle.graph_words.proofs.Places.Lists.{AllByRecursion-from_get, AllByRecursion-get}
 use Rattle.graph_words.specs.Places.{IsVisible, Places, address_of, addresses, bits_of, place_of}
 use Rattle.graph_words.proofs.Places.Addresses.{address_of-Contains, none_or_some, some_address}
-use Rattle.graph_words.proofs.Seal.Places.{address_of-append_left, address_of-append_right}
+use Rattle.graph_words.proofs.Seal.Places.{address_of-append_left}
 use Rattle.graph_words.specs.Stands.{Stands, StandsAt}
 use Rattle.graph_words.proofs.Stands.Objects.{stands_at, stands_field, stands_get, stands_object, stands_one, stands_within, word_at_field}
 use Rattle.graph_words.proofs.Stands.Visible.{place_of-apart, place_of-placed}
@@ -35,7 +34,6 @@ use Rattle.collection_words.specs.Writes.{AreBacked}
 use Rattle.collection_words.proofs.Copy.Named.{named, own_front}
 use Rattle.collection_words.proofs.Copy.Stands.{completed_own, root_current}
 use Rattle.collection_words.proofs.Laid.Completed.{move_made}
-use Rattle.collection_words.proofs.Laid.Filled.{filling}
 use Rattle.collection_words.proofs.Laid.Followed.{move_placed, raw_word}
 use Rattle.collection_words.proofs.Laid.Names.{HaveOwnNames, names_own}
 use Rattle.collection_words.proofs.Laid.Sources.{IsCollecting, here_ends}

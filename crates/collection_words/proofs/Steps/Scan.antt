@@ -1,33 +1,29 @@
 -- A scan: completed words are the same before and after, and the objects of its page are gray no longer.
-use Rattle.std.proofs.Common.{◌≡◌, ◌≢◌, ◌⊎◌, ℕ, ◌+◌, ◌-◌, ◌*◌, ◌<◌, ◌≤◌, ◌==◌, inl, inr, Bool, true, false, not, List, [], ◌∷◌, ◌++◌, length, map, get_or, None, Some, refl, sym, ap, ◌∙◌, subst, arith, length-set}
-use Rattle.std.specs.Prelude.{Contains, MatchOption, slice_index, slice_set, ◌&&◌, if◌then◌else◌}
+use Rattle.std.proofs.Common.{◌≡◌, ◌≢◌, ◌⊎◌, ℕ, ◌+◌, ◌<◌, ◌≤◌, ◌==◌, inl, inr, Bool, true, false, not, List, [], ◌∷◌, ◌++◌, length, map, None, Some, refl, sym, ap, ◌∙◌, subst, arith, length-set}
+use Rattle.std.specs.Prelude.{Contains, slice_index, slice_set, ◌&&◌, if◌then◌else◌}
 use Rattle.std.specs.List.{AllByRecursion, list_all}
 use Rattle.std.specs.FinSet.{contains}
 use Rattle.std.proofs.lemmas.Bool.{and_from, cases_order, le-leb, lt-ltb}
 use Rattle.std.proofs.lemmas.List.{get_or-set_other, get_or-set_same, set-get_or}
-use Rattle.heap_words.specs.declared.Word.{Word}
 use Rattle.heap_words.specs.declared.Word.TheVariants as word
 use Rattle.heap_words.specs.Word.{bits, meaning}
 use Rattle.heap_words.proofs.WordLaws.{meaning-bits}
 use Rattle.heap_spaces.specs.Collection.{Collection, owed_by, page_of}
 use Rattle.heap_spaces.specs.Copying.{with_scanned}
 use Rattle.graph_model.specs.Graph.{Graph}
-use Rattle.object_layout.specs.Layout.{object_at}
 use Rattle.object_layout.proofs.LayoutLaws.{object_header}
 use Rattle.object_layout.proofs.WalkLaws.{Contains-cases, Contains-none}
 use Rattle.log_machine.proofs.ListLaws.{AllByRecursion-map}
 use Rattle.log_machine.specs.Collecting.{can_put, is_current_page, is_used, leads_to_used, scanned_in}
 use Rattle.log_machine.specs.declared.UndoEntry.{UndoEntry}
 use Rattle.log_machine.specs.Machine.{State, field_at, owed, put_all, taken_back, with_word, words_in}
-use Rattle.log_machine.specs.Sound.{IsSpaced, IsWithin}
 use Rattle.graph_words.specs.Places.{Places, addresses}
 use Rattle.graph_words.specs.Stands.{Stands}
 use Rattle.graph_words.proofs.Area.Field.{field_with_word}
-use Rattle.graph_words.proofs.Stands.Field.{IsField}
-use Rattle.collection_words.specs.Completed.{StandsCompleted, completed, completed_in, followed, future}
+use Rattle.collection_words.specs.Completed.{StandsCompleted, completed, followed, future}
 use Rattle.collection_words.specs.LaidOut.{EachField, IsFromSpace, IsLaidOut, LeadsHere, is_gray}
 use Rattle.collection_words.specs.Writes.{IsHereWrite, IsScanWrite}
-use Rattle.collection_words.proofs.Laid.Completed.{completed_put, length-completed, move_made}
+use Rattle.collection_words.proofs.Laid.Completed.{completed_put, move_made}
 use Rattle.collection_words.proofs.Laid.Followed.{followed_here, move_placed}
 use Rattle.collection_words.proofs.Laid.Old.{collection_within}
 use Rattle.collection_words.proofs.Laid.Sources.{IsCollecting, here_ends}

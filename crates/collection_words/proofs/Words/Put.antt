@@ -1,5 +1,5 @@
 -- The words where objects were put end to end, with their fields made others.
-use Rattle.std.proofs.Common.{◌≡◌, ℕ, ◌+◌, ◌<◌, ◌≤◌, inl, inr, List, [], ◌∷◌, ◌++◌, length, map, get_or, refl, sym, ap, ◌∙◌, subst, arith}
+use Rattle.std.proofs.Common.{◌≡◌, ℕ, ◌+◌, ◌<◌, ◌≤◌, inl, inr, List, [], ◌∷◌, ◌++◌, length, get_or, refl, sym, ap, ◌∙◌, arith}
 use Rattle.std.specs.Prelude.{Contains, slice_set}
 use Rattle.std.specs.List.{flat_map, enumerate_from}
 use Rattle.std.proofs.lemmas.List.{length-map}
@@ -10,7 +10,6 @@ use Rattle.log_machine.specs.Machine.{put_all}
 use Rattle.log_machine.proofs.WordsLaws.{length-put_all}
 use Rattle.log_machine.proofs.WordsFrom.{put_from-at, put_from-before, put_from-behind}
 use Rattle.collection_words.specs.Completed.{taken_at, taken_by, moves_from, followed_words, move_writes}
-use Rattle.collection_words.proofs.Moves.Ends.{move_within}
 
 -- the writes that put these objects from an address on
 abbrev pub putting : (ℕ → ℕ) → List ℕ → List ℕ → ℕ → List (ℕ × ℕ)
