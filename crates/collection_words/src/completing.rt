@@ -3,7 +3,9 @@ ghost use Rattle.std.specs.Prelude.{◌≡◌, ◌+◌, ◌<◌, ◌≤◌, ◌+
 ghost use Rattle.heap_spaces.specs.Collection.{Collection};
 ghost use Rattle.graph_model.specs.Graph.{Graph};
 ghost use Rattle.graph_model.specs.declared.id.Id.{Id};
+ghost use Rattle.std.specs.List.{AllByRecursion};
 ghost use Rattle.object_layout.specs.Layout.{object_at};
+ghost use Rattle.object_layout.specs.Walk.{AreEndToEnd};
 ghost use Rattle.log_machine.specs.Machine.{State, field_at, taken_back, with_word};
 ghost use Rattle.log_machine.specs.declared.UndoEntry.{UndoEntry};
 ghost use Rattle.graph_words.specs.Places.{Places, address_of, addresses};
@@ -11,8 +13,8 @@ ghost use Rattle.graph_words.specs.Stands.{Stands};
 ghost use Rattle.collection_words.specs.Completed.{IsMade, completed, followed, future};
 ghost use Rattle.collection_words.specs.LaidOut.{IsLaidOut, IsUnderway, is_gray};
 ghost use Rattle.collection_words.specs.Placed.{ArePlacedIn};
-ghost use Rattle.collection_words.specs.Relocated.{IsRelocated};
-ghost use Rattle.collection_words.specs.Writes.{AreBacked, IsHereWrite};
+ghost use Rattle.collection_words.specs.Relocated.{AreRelocatedEntries, IsRelocated};
+ghost use Rattle.collection_words.specs.Writes.{AreBacked, IsCurrentField, IsHereWrite};
 
 /// Without a collection the words are complete.
 pub fn words_are_complete_without_a_collection()
@@ -52,4 +54,9 @@ pub fn taken_back_words_are_completed_alike()
 /// A graph stands where its objects were relocated, if they fill the used words of a space there.
 pub fn relocated_graphs_stand()
     ensures { (t made : ℕ) (places others : Places) (g : Graph) (words moved : List ℕ) (base used new_base new_used : ℕ) → Stands t made places g words base used → ArePlacedIn others moved new_base new_used → IsRelocated places others words moved → Stands t made others g moved new_base new_used }
+{}
+
+/// Objects stay relocated when writes of their fields are taken back, in the one words as they are and in the others as they are there.
+pub fn relocations_survive_writes_taken_back()
+    ensures { (places others : Places) (words moved : List ℕ) (from end to stop : ℕ) (us vs : List UndoEntry) → AreEndToEnd words from (addresses places) end → AreEndToEnd moved to (addresses others) stop → IsRelocated places others words moved → AreRelocatedEntries places others us vs → AllByRecursion (λ u. IsCurrentField places words u.object u.field) us → AreEndToEnd (taken_back vs moved) to (addresses others) stop × IsRelocated places others (taken_back us words) (taken_back vs moved) }
 {}
