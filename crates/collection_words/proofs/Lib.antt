@@ -1,4 +1,5 @@
 pub mod Copy
+pub mod Flip
 pub mod Laid
 pub mod Moves
 pub mod Relocated

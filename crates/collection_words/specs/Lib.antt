@@ -1,5 +1,6 @@
 pub mod Completed
 pub mod Copying
+pub mod Flipped
 pub mod LaidOut
 pub mod Placed
 pub mod Relocated

@@ -1,0 +1,3 @@
+-- A flip: some objects are copied, the others stay.
+pub mod Entries
+pub mod Relocated

@@ -1,0 +1,48 @@
+-- What a flip does to objects: some are copied, and the others stay in what is the from-space then.
+use Rattle.std.specs.Prelude.{◌≡◌, ◌⊎◌, ℕ, ◌++◌, List, slice_index, Option, Some, true}
+use Rattle.std.specs.List.{AllByRecursion}
+use Rattle.heap_words.specs.declared.Header.TheVariants.{Forward}
+use Rattle.heap_words.specs.declared.Word.{Word}
+use Rattle.heap_words.specs.declared.Word.TheVariants as word
+use Rattle.heap_words.specs.Header.{header}
+use Rattle.heap_words.specs.Word.{meaning}
+use Rattle.graph_model.specs.declared.id.Id.{Id}
+use Rattle.relocation.specs.Relocation.{moved_to}
+use Rattle.log_machine.specs.declared.UndoEntry.{UndoEntry}
+use Rattle.log_machine.specs.Machine.{State}
+use Rattle.graph_words.specs.Places.{Places, address_of}
+use Rattle.collection_words.specs.Completed.{IsMade, in_other_space}
+use Rattle.collection_words.specs.Relocated.{HaveSameIds}
+
+-- An object was copied, and where it stood is a forwarding word.
+pub record WasCopied (n : State) (places : Places) (words moved : List ℕ) (id : Id) (at : ℕ) : Type 0 where
+  pub to : ℕ
+  pub fields : ℕ
+  pub current : address_of places id ≡ Some to
+  pub old : in_other_space n at ≡ true
+  pub forward : header (slice_index moved at) ≡ Some (Forward to)
+  pub same : IsMade (λ w. w) words moved at to fields
+
+-- An object stays where it stood, with its words.
+pub record HasStayed (remaining : Places) (words moved : List ℕ) (id : Id) (at : ℕ) : Type 0 where
+  pub fields : ℕ
+  pub left : address_of remaining id ≡ Some at
+  pub same : IsMade (λ w. w) words moved at at fields
+
+-- The objects of these places were copied to those, or remain.
+pub record HaveParted (n : State) (places currents remaining : Places) (words moved : List ℕ) : Type 0 where
+  pub same : HaveSameIds places (currents ++ remaining)
+  pub each : (id : Id) (at : ℕ) → address_of places id ≡ Some at → WasCopied n currents words moved id at ⊎ HasStayed remaining words moved id at
+
+-- an object went along these pairs
+abbrev pub WentAlong : List (ℕ × ℕ) → Places → Places → ℕ → Type 0
+WentAlong pairs places currents at = (id : Id) × (address_of places id ≡ Some at) × (address_of currents id ≡ Some (moved_to pairs at))
+
+-- so did the one to which a word of this meaning leads, if it is a reference to a stable object
+abbrev pub LedAlong : List (ℕ × ℕ) → Places → Places → Option Word → Type 0
+LedAlong pairs places currents (Some (word.Stable at)) = WentAlong pairs places currents at
+LedAlong pairs places currents meant = Unit {0}
+
+-- the objects of these writes went along, and what they would put back leads to such
+abbrev pub WereTranslated : List (ℕ × ℕ) → Places → Places → List UndoEntry → Type 0
+WereTranslated pairs places currents us = AllByRecursion (λ u. WentAlong pairs places currents u.object × LedAlong pairs places currents (meaning u.was)) us
