@@ -1,5 +1,5 @@
 -- Objects that stand end to end in the used words of a space.
-use Rattle.std.specs.Prelude.{◌≡◌, ℕ, ◌+◌, ◌≤◌, List, Some}
+use Rattle.std.specs.Prelude.{◌≡◌, ℕ, ◌+◌, ◌≤◌, List, [], ◌∷◌, None, Some}
 use Rattle.std.specs.List.{AllByRecursion}
 use Rattle.graph_model.specs.Graph.{root}
 use Rattle.object_layout.specs.Walk.{AreEndToEnd}
@@ -11,3 +11,8 @@ pub record ArePlacedIn (places : Places) (words : List ℕ) (base used : ℕ) : 
   pub ends : AreEndToEnd words base (addresses places) (base + used)
   pub root_place : address_of places root ≡ Some base
   pub names : AllByRecursion (λ p. address_of places p.0 ≡ Some p.1) places
+
+-- no two of these objects have one name
+abbrev pub HaveOwnNames : Places → Type 0
+HaveOwnNames [] = Unit {0}
+HaveOwnNames (p ∷ ps) = (address_of ps p.0 ≡ None) × HaveOwnNames ps

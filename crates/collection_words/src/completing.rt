@@ -3,10 +3,10 @@ ghost use Rattle.std.specs.Prelude.{◌≡◌, ◌+◌, ◌<◌, ◌≤◌, ◌+
 ghost use Rattle.heap_spaces.specs.Collection.{Collection};
 ghost use Rattle.graph_model.specs.Graph.{Graph};
 ghost use Rattle.graph_model.specs.declared.id.Id.{Id};
-ghost use Rattle.std.specs.List.{AllByRecursion};
+ghost use Rattle.std.specs.List.{AllByRecursion, flat_map};
 ghost use Rattle.object_layout.specs.Layout.{object_at};
 ghost use Rattle.object_layout.specs.Walk.{AreEndToEnd};
-ghost use Rattle.log_machine.specs.Machine.{State, field_at, taken_back, with_word};
+ghost use Rattle.log_machine.specs.Machine.{Loser, State, each_taken_back, field_at, taken_back, with_word};
 ghost use Rattle.log_machine.specs.declared.UndoEntry.{UndoEntry};
 ghost use Rattle.graph_words.specs.Places.{Places, address_of, addresses};
 ghost use Rattle.graph_words.specs.Stands.{Stands};
@@ -59,4 +59,9 @@ pub fn relocated_graphs_stand()
 /// Objects stay relocated when writes of their fields are taken back, in the one words as they are and in the others as they are there.
 pub fn relocations_survive_writes_taken_back()
     ensures { (places others : Places) (words moved : List ℕ) (from end to stop : ℕ) (us vs : List UndoEntry) → AreEndToEnd words from (addresses places) end → AreEndToEnd moved to (addresses others) stop → IsRelocated places others words moved → AreRelocatedEntries places others us vs → AllByRecursion (λ u. IsCurrentField places words u.object u.field) us → AreEndToEnd (taken_back vs moved) to (addresses others) stop × IsRelocated places others (taken_back us words) (taken_back vs moved) }
+{}
+
+/// The writes of several transactions are taken back as one list.
+pub fn transactions_are_taken_back_as_one_list()
+    ensures { (es : List Loser) (words : List ℕ) → each_taken_back es words ≡ taken_back (flat_map (λ (e : Loser). e.1) es) words }
 {}

@@ -5,7 +5,7 @@ ghost use Rattle.std.specs.List.{AllByRecursion};
 ghost use Rattle.heap_words.specs.Word.{meaning};
 ghost use Rattle.heap_spaces.specs.Collection.{Collection, page_of};
 ghost use Rattle.heap_spaces.specs.Copying.{with_scanned};
-ghost use Rattle.graph_model.specs.Graph.{Graph};
+ghost use Rattle.graph_model.specs.Graph.{Graph, root};
 ghost use Rattle.graph_model.specs.declared.id.Id.{Id};
 ghost use Rattle.log_machine.specs.Collecting.{collected_in, copy_after, is_current_page, scanned_in, with_copy, with_moved};
 ghost use Rattle.log_machine.specs.Machine.{State, put_all};
@@ -13,8 +13,11 @@ ghost use Rattle.log_machine.specs.declared.UndoEntry.{UndoEntry};
 ghost use Rattle.graph_words.specs.Places.{Places, address_of, addresses};
 ghost use Rattle.collection_words.specs.Completed.{StandsCompleted, completed, without};
 ghost use Rattle.collection_words.specs.Copying.{copied_words, next_copy, object_words_at, with_place};
+ghost use Rattle.log_machine.specs.Translation.{translated_list};
+ghost use Rattle.collection_words.specs.Flipped.{HaveParted, WereTranslated};
+ghost use Rattle.collection_words.specs.Placed.{HaveOwnNames};
 ghost use Rattle.collection_words.specs.LaidOut.{EachField, IsLaidOut, IsUnderway, LeadsHere};
-ghost use Rattle.collection_words.specs.Writes.{AreBacked, IsScanWrite};
+ghost use Rattle.collection_words.specs.Writes.{AreBacked, IsCurrentField, IsScanWrite};
 
 /// The copy of an object that remains can follow. Behind it the words are laid out, with the object among the current ones, and each graph
 /// stands in the completed words that stood there, where the same writes are taken back.
@@ -41,4 +44,10 @@ pub fn scans_keep_graphs()
 /// in the words that stood in the completed ones, where the same writes are taken back.
 pub fn ended_collections_keep_graphs()
     ensures { (s : State) (k : Collection) (places remaining : Places) (words : List ℕ) (t made : ℕ) (g : Graph) (us : List UndoEntry) → IsUnderway s k places remaining words → len k.gray ≡ 0 → AreBacked places words us → StandsCompleted t made places remaining g us words s → (collected_in s s.collection ≡ Some (record s { collection = None })) × IsLaidOut (record s { collection = None }) places [] words × StandsCompleted t made places [] g us words (record s { collection = None }) }
+{}
+
+/// Where some objects of a heap without a collection were copied, the root to the front of the other space, and the others stay in what is the
+/// from-space then, each graph stands in the completed words that stood in the words, with its writes translated along with the objects.
+pub fn graphs_stand_where_objects_parted()
+    ensures { (s n : State) (k : Collection) (places currents remaining : Places) (words moved : List ℕ) (pairs : List (ℕ × ℕ)) (t made : ℕ) (g : Graph) (us : List UndoEntry) → s.collection ≡ None → IsLaidOut s places [] words → HaveOwnNames places → IsUnderway n k currents remaining moved → HaveOwnNames (currents ++ remaining) → HaveParted n places currents remaining words moved → address_of currents root ≡ Some n.base → WereTranslated pairs places currents us → AllByRecursion (λ u. IsCurrentField places words u.object u.field) us → StandsCompleted t made places [] g us words s → StandsCompleted t made currents remaining g (translated_list pairs us) moved n }
 {}

@@ -10,8 +10,8 @@ use Rattle.graph_model.specs.declared.id.Id.{Id}
 use Rattle.graph_words.specs.Places.{Places, address_of}
 use Rattle.graph_words.proofs.Places.Addresses.{address_of-head, address_of-rest}
 use Rattle.collection_words.specs.Completed.{without}
+use Rattle.collection_words.specs.Placed.{HaveOwnNames}
 use Rattle.collection_words.proofs.Copy.Ascending.{other_false, other_than}
-use Rattle.collection_words.proofs.Laid.Names.{HaveOwnNames}
 
 not_false : (b : Bool) → not b ≡ false → b ≡ true
 not_false true is = refl

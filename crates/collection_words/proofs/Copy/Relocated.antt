@@ -21,13 +21,13 @@ use Rattle.collection_words.specs.Completed.{IsMade, completed, followed, future
 use Rattle.collection_words.specs.Copying.{copied_words, with_place}
 use Rattle.collection_words.specs.LaidOut.{MayLeadBack}
 use Rattle.collection_words.specs.Relocated.{HasMoved, HaveSameIds, IsRelocatedObject, IsRelocatedWord}
+use Rattle.collection_words.specs.Placed.{HaveOwnNames}
 use Rattle.collection_words.proofs.Copy.Ascending.{only_at}
 use Rattle.collection_words.proofs.Copy.Laid.{copied_laid, copied_state, inside_leads}
 use Rattle.collection_words.proofs.Copy.Moved.{behind_there, gone, gone_other, gone_own, gone_there, without_other}
 use Rattle.collection_words.proofs.Copy.Named.{RefersTo, apart_of, current, followed_plain, forwarded, left, left_ascend, refers, refers_followed}
 use Rattle.collection_words.proofs.Copy.Words.{IsCopying, copied_forward, copied_here, copied_left, copied_made, copied_old, copy_room}
 use Rattle.collection_words.proofs.Laid.Completed.{completed_ends, completed_object}
-use Rattle.collection_words.proofs.Laid.Names.{HaveOwnNames}
 use Rattle.collection_words.proofs.Laid.Old.{old_in_other, other_bounds}
 use Rattle.collection_words.proofs.Laid.Sources.{all_places, left_object}
 use Rattle.collection_words.proofs.Laid.Within.{start_within}

@@ -13,13 +13,14 @@ use Rattle.collection_words.specs.Completed.{StandsCompleted, completed, future,
 use Rattle.collection_words.specs.Copying.{copied_words, with_place}
 use Rattle.collection_words.specs.LaidOut.{IsLaidOut}
 use Rattle.collection_words.specs.Writes.{AreBacked}
+use Rattle.collection_words.specs.Placed.{HaveOwnNames}
 use Rattle.collection_words.proofs.Copy.Laid.{copied_laid, copied_state, copied_total}
 use Rattle.collection_words.proofs.Copy.Named.{own_front}
 use Rattle.collection_words.proofs.Copy.Relocated.{copied_own, copy_relocates}
 use Rattle.collection_words.proofs.Copy.Words.{IsCopying}
 use Rattle.collection_words.proofs.Laid.Completed.{completed_ends}
 use Rattle.collection_words.proofs.Laid.Filled.{filling}
-use Rattle.collection_words.proofs.Laid.Names.{HaveOwnNames, names_own, own_names, own_put, put_own}
+use Rattle.collection_words.proofs.Laid.Names.{names_own, own_names, own_put, put_own}
 use Rattle.collection_words.proofs.Laid.Sources.{IsCollecting, all_places}
 use Rattle.collection_words.proofs.Laid.Within.{start_within}
 use Rattle.collection_words.proofs.Moves.Ends.{move_within}

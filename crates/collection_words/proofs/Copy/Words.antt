@@ -23,9 +23,9 @@ use Rattle.graph_words.proofs.Stands.Objects.{word_at_field}
 use Rattle.collection_words.specs.Completed.{IsMade, taken_by, without}
 use Rattle.collection_words.specs.Copying.{copied_words, next_copy, object_words_at}
 use Rattle.collection_words.specs.LaidOut.{AreOldEndToEnd, old_length}
+use Rattle.collection_words.specs.Placed.{HaveOwnNames}
 use Rattle.collection_words.proofs.Copy.Ascending.{addresses_without, taken_without}
 use Rattle.collection_words.proofs.Copy.Named.{left_ascend}
-use Rattle.collection_words.proofs.Laid.Names.{HaveOwnNames}
 use Rattle.collection_words.proofs.Laid.Old.{apart_spaces, left_within, old_length-object, old_within}
 use Rattle.collection_words.proofs.Laid.Sources.{IsCollecting, left_object, left_taken}
 use Rattle.collection_words.proofs.Laid.Within.{start_within}

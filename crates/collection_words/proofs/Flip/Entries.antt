@@ -1,16 +1,15 @@
 -- A graph stands in the completed words behind a flip, where translated writes are taken back.
-use Rattle.std.proofs.Common.{◌≡◌, ℕ, ◌+◌, ◌<◌, ◌≤◌, inl, inr, List, [], ◌∷◌, ◌++◌, Option, None, Some, refl, sym, ap, ◌∙◌, subst, arith}
-use Rattle.std.specs.List.{AllByRecursion}
+use Rattle.std.proofs.Common.{◌≡◌, ℕ, ◌+◌, ◌≤◌, inl, inr, List, [], ◌∷◌, ◌++◌, Option, None, Some, refl, ap, arith}
 use Rattle.heap_words.specs.declared.Word.{Word}
 use Rattle.heap_words.specs.declared.Word.TheVariants as word
-use Rattle.heap_words.specs.Word.{bits, meaning, refers_to_stable}
+use Rattle.heap_words.specs.Word.{meaning, refers_to_stable}
 use Rattle.heap_words.proofs.WordLaws.{bits-meaning}
 use Rattle.heap_spaces.specs.Collection.{Collection}
 use Rattle.graph_model.specs.Graph.{Graph, root}
 use Rattle.relocation.specs.Relocation.{moved_to, translated_by}
 use Rattle.log_machine.specs.declared.UndoEntry.{UndoEntry}
 use Rattle.log_machine.specs.Machine.{State, owed, taken_back, words_in}
-use Rattle.log_machine.specs.Translation.{translated_entry, translated_list}
+use Rattle.log_machine.specs.Translation.{translated_list}
 use Rattle.log_machine.proofs.StateLaws.{spaced_more}
 use Rattle.graph_words.specs.Places.{Places, address_of, addresses}
 use Rattle.graph_words.specs.Stands.{Stands}
@@ -44,13 +43,15 @@ pub translated_entries : (pairs : List (ℕ × ℕ)) (places currents rest : Pla
     → AreRelocatedEntries places (currents ++ rest) us (translated_list pairs us)
 translated_entries pairs places currents rest [] all = tt
 translated_entries pairs places currents rest (u ∷ us) all =
-    let object = all.0.0 in
-    (record {
-      id = object.0;
-      object = record { before = object.1; after = address_of-append_left currents rest object.0 (moved_to pairs u.object) object.2 };
-      field = refl;
-      was = along_word pairs places currents rest u.was (meaning u.was) refl all.0.1;
-    }, translated_entries pairs places currents rest us all.1)
+    let object = all.0.0 in (
+      record {
+        id = object.0;
+        object = record { before = object.1; after = address_of-append_left currents rest object.0 (moved_to pairs u.object) object.2 };
+        field = refl;
+        was = along_word pairs places currents rest u.was (meaning u.was) refl all.0.1;
+      },
+      translated_entries pairs places currents rest us all.1,
+    )
 
 -- A graph that stands in the words stands in the completed words behind a flip, where translated writes are taken back.
 pub flip_stands : {s n : State} {k : Collection} {places currents remaining : Places} {words moved : List ℕ} {t made : ℕ} {g : Graph} (pairs : List (ℕ × ℕ)) (us : List UndoEntry)

@@ -1,10 +1,10 @@
 -- Where some objects were copied and the others stay, the completed words are the words from before, with their objects relocated.
-use Rattle.std.proofs.Common.{◌≡◌, ◌⊎◌, ℕ, ◌+◌, ◌<◌, ◌≤◌, inl, inr, false, List, [], ◌∷◌, ◌++◌, Option, None, Some, is_some, refl, sym, ap, ◌∙◌, subst, arith}
-use Rattle.std.specs.Prelude.{Contains, slice_index}
+use Rattle.std.proofs.Common.{◌≡◌, ◌⊎◌, ℕ, ◌+◌, inl, inr, List, [], ◌++◌, Option, None, Some, is_some, refl, sym, ap, ◌∙◌, subst, arith}
+use Rattle.std.specs.Prelude.{slice_index}
 use Rattle.std.proofs.lemmas.Option.{same_Some}
 use Rattle.heap_words.specs.declared.Word.{Word}
 use Rattle.heap_words.specs.declared.Word.TheVariants as word
-use Rattle.heap_words.specs.Word.{is_stable, meaning, refers_to_stable}
+use Rattle.heap_words.specs.Word.{meaning, refers_to_stable}
 use Rattle.heap_words.proofs.WordLaws.{bits-meaning}
 use Rattle.heap_spaces.specs.Collection.{Collection}
 use Rattle.graph_model.specs.declared.id.Id.{Id}
@@ -15,12 +15,11 @@ use Rattle.collection_words.specs.Completed.{IsMade, completed, followed, future
 use Rattle.collection_words.specs.Flipped.{HasStayed, HaveParted, WasCopied}
 use Rattle.collection_words.specs.LaidOut.{IsLaidOut, LeadsHere, is_gray}
 use Rattle.collection_words.specs.Relocated.{HasMoved, HaveSameIds, IsRelocatedObject, IsRelocatedWord}
+use Rattle.collection_words.specs.Placed.{HaveOwnNames}
 use Rattle.collection_words.proofs.Copy.Moved.{behind_there}
 use Rattle.collection_words.proofs.Copy.Named.{RefersTo, followed_plain, forwarded, left, named, refers_followed}
 use Rattle.collection_words.proofs.Laid.Completed.{completed_ends, completed_object}
-use Rattle.collection_words.proofs.Laid.Names.{HaveOwnNames}
 use Rattle.collection_words.proofs.Laid.Sources.{IsCollecting, all_places, here_ends}
-use Rattle.collection_words.proofs.Laid.Within.{start_within}
 use Rattle.collection_words.proofs.Moves.Sources.{put_same}
 use Rattle.collection_words.proofs.Relocated.Writes.{IsRelocation}
 use Rattle.graph_words.proofs.Seal.Places.{address_of-append_left}

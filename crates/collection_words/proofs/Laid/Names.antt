@@ -8,12 +8,8 @@ use Rattle.log_machine.proofs.ListLaws.{AllByRecursion-map}
 use Rattle.graph_words.specs.Places.{Places, address_of, addresses}
 use Rattle.graph_words.proofs.Places.Addresses.{address_of-Contains, address_of-head, address_of-rest, none_or_some, placed_as}
 use Rattle.collection_words.specs.Completed.{places_from, taken_at}
+use Rattle.collection_words.specs.Placed.{HaveOwnNames}
 use Rattle.collection_words.proofs.Moves.Sources.{put_same}
-
--- no two of these objects have one name
-abbrev pub HaveOwnNames : Places → Type 0
-HaveOwnNames [] = Unit {0}
-HaveOwnNames (p ∷ ps) = (address_of ps p.0 ≡ None) × HaveOwnNames ps
 
 -- so each of them stands at its own place
 pub names_own : (ps : Places) → HaveOwnNames ps → AllByRecursion (λ p. address_of ps p.0 ≡ Some p.1) ps

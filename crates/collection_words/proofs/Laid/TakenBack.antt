@@ -1,9 +1,9 @@
 -- Writes that are taken back: it is the same to complete the words before or after.
-use Rattle.std.proofs.Common.{◌≡◌, ℕ, ◌+◌, List, [], ◌∷◌, refl, ap, ◌∙◌}
+use Rattle.std.proofs.Common.{◌≡◌, ℕ, ◌+◌, List, [], ◌∷◌, refl, ap, ◌∙◌, ◌++◌, flat_map, sym}
 use Rattle.heap_spaces.specs.Collection.{Collection}
 use Rattle.log_machine.proofs.ListLaws.{AllByRecursion-map}
 use Rattle.log_machine.specs.declared.UndoEntry.{UndoEntry}
-use Rattle.log_machine.specs.Machine.{State, taken_back, with_word}
+use Rattle.log_machine.specs.Machine.{Loser, State, each_taken_back, taken_back, with_word}
 use Rattle.graph_words.specs.Places.{Places, addresses}
 use Rattle.graph_words.proofs.Area.Field.{field_with_word}
 use Rattle.collection_words.specs.Completed.{completed, future}
@@ -39,3 +39,15 @@ completed_taken_back (u ∷ us) {s} {k} {places} {remaining} {words} is all =
       same = rest.same ∙ ap (taken_back us) (completed_write is all.0);
       future = rest.future ∙ places_taken_same words others remaining (s.base + s.used) (λ at has. write_taken is all.0 at (has_left places remaining at has));
     }
+
+-- Several transactions.
+
+-- writes after writes are taken back as one list
+pub taken_back-append : (us vs : List UndoEntry) (words : List ℕ) → taken_back (us ++ vs) words ≡ taken_back vs (taken_back us words)
+taken_back-append [] vs words = refl
+taken_back-append (u ∷ us) vs words = taken_back-append us vs (with_word words u.object u.field u.was)
+
+-- so are those of several transactions
+pub each_taken_back-list : (es : List Loser) (words : List ℕ) → each_taken_back es words ≡ taken_back (flat_map (λ e. e.1) es) words
+each_taken_back-list [] words = refl
+each_taken_back-list (e ∷ es) words = each_taken_back-list es (taken_back e.1 words) ∙ sym (taken_back-append e.1 (flat_map (λ e. e.1) es) words)

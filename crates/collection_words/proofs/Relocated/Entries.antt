@@ -16,10 +16,10 @@ use Rattle.collection_words.specs.Completed.{completed, future}
 use Rattle.collection_words.specs.LaidOut.{LeadsHere}
 use Rattle.collection_words.specs.Relocated.{AreRelocatedEntries, IsRelocatedWord}
 use Rattle.collection_words.specs.Writes.{AreBacked}
+use Rattle.collection_words.specs.Placed.{HaveOwnNames}
 use Rattle.collection_words.proofs.Copy.Named.{named}
 use Rattle.collection_words.proofs.Laid.Completed.{move_made}
 use Rattle.collection_words.proofs.Laid.Followed.{move_placed}
-use Rattle.collection_words.proofs.Laid.Names.{HaveOwnNames}
 use Rattle.collection_words.proofs.Laid.Sources.{IsCollecting}
 
 here_word : (places before after : Places) (w : ℕ) (meant : Option Word) → meaning w ≡ meant → HaveOwnNames places

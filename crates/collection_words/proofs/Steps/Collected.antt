@@ -31,11 +31,12 @@ use Rattle.graph_words.proofs.Stands.Visible.{place_of-apart, place_of-placed}
 use Rattle.collection_words.specs.Completed.{StandsCompleted, completed, future}
 use Rattle.collection_words.specs.LaidOut.{IsLaidOut, LeadsHere, is_gray}
 use Rattle.collection_words.specs.Writes.{AreBacked}
+use Rattle.collection_words.specs.Placed.{HaveOwnNames}
 use Rattle.collection_words.proofs.Copy.Named.{named, own_front}
 use Rattle.collection_words.proofs.Copy.Stands.{completed_own, root_current}
 use Rattle.collection_words.proofs.Laid.Completed.{move_made}
 use Rattle.collection_words.proofs.Laid.Followed.{move_placed, raw_word}
-use Rattle.collection_words.proofs.Laid.Names.{HaveOwnNames, names_own}
+use Rattle.collection_words.proofs.Laid.Names.{names_own}
 use Rattle.collection_words.proofs.Laid.Sources.{IsCollecting, here_ends}
 use Rattle.collection_words.proofs.Laid.TakenBack.{completed_taken_back}
 use Rattle.collection_words.proofs.Laid.Within.{start_within}
