@@ -1,3 +1,4 @@
 -- A flip: some objects are copied, the others stay.
 pub mod Entries
 pub mod Relocated
+pub mod Words

@@ -1,6 +1,6 @@
 -- What a flip does to objects: some are copied, and the others stay in what is the from-space then.
-use Rattle.std.specs.Prelude.{◌≡◌, ◌⊎◌, ℕ, ◌++◌, List, slice_index, Option, Some, true}
-use Rattle.std.specs.List.{AllByRecursion}
+use Rattle.std.specs.Prelude.{◌≡◌, ◌⊎◌, ℕ, ◌++◌, List, map, slice_index, Option, Some, true}
+use Rattle.std.specs.List.{AllByRecursion, flat_map}
 use Rattle.heap_words.specs.declared.Header.TheVariants.{Forward}
 use Rattle.heap_words.specs.declared.Word.{Word}
 use Rattle.heap_words.specs.declared.Word.TheVariants as word
@@ -9,10 +9,21 @@ use Rattle.heap_words.specs.Word.{meaning}
 use Rattle.graph_model.specs.declared.id.Id.{Id}
 use Rattle.relocation.specs.Relocation.{moved_to}
 use Rattle.log_machine.specs.declared.UndoEntry.{UndoEntry}
-use Rattle.log_machine.specs.Machine.{State}
+use Rattle.log_records.specs.declared.copies.ObjectCopy.{ObjectCopy}
+use Rattle.log_machine.specs.Collecting.{other_base}
+use Rattle.log_machine.specs.Machine.{State, put_all, writes_of}
 use Rattle.graph_words.specs.Places.{Places, address_of}
-use Rattle.collection_words.specs.Completed.{IsMade, in_other_space}
+use Rattle.collection_words.specs.Completed.{IsMade, in_other_space, moves_from}
+use Rattle.collection_words.specs.Copying.{object_words_at}
 use Rattle.collection_words.specs.Relocated.{HaveSameIds}
+
+-- the copies of the objects at these addresses, end to end from an address on
+abbrev pub flip_copies : List ℕ → List ℕ → ℕ → List ObjectCopy
+flip_copies words roots to = map (λ m. record { from = m.0; to = m.1; words = object_words_at words m.0 }) (moves_from words roots to)
+
+-- the words behind a flip that copies them into the other space
+abbrev pub flipped_words : State → List ℕ → List ℕ → List ℕ
+flipped_words s words roots = put_all words (flat_map writes_of (flip_copies words roots (other_base s)))
 
 -- An object was copied, and where it stood is a forwarding word.
 pub record WasCopied (n : State) (places : Places) (words moved : List ℕ) (id : Id) (at : ℕ) : Type 0 where
