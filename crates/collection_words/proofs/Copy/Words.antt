@@ -142,7 +142,8 @@ copied_old {s} copying room i above below other =
 
 -- Objects.
 
-kept_made : (words others : List ℕ) (at n : ℕ) → object_at words at ≡ Some n → length others ≡ length words → ((j : ℕ) → j < 2 + n → slice_index others (at + j) ≡ slice_index words (at + j))
+-- an object whose words are as before stays as it is
+pub kept_made : (words others : List ℕ) (at n : ℕ) → object_at words at ≡ Some n → length others ≡ length words → ((j : ℕ) → j < 2 + n → slice_index others (at + j) ≡ slice_index words (at + j))
     → IsMade (λ w. w) words others at at n
 kept_made words others at n is long same =
     let whole = (object_header words at n is).1 in
