@@ -1,5 +1,5 @@
 -- What a flip does to objects: some are copied, and the others stay in what is the from-space then.
-use Rattle.std.specs.Prelude.{◌≡◌, ◌⊎◌, ℕ, ◌++◌, List, map, slice_index, Option, Some, true}
+use Rattle.std.specs.Prelude.{◌≡◌, ◌⊎◌, ℕ, ◌≤◌, ◌++◌, List, [], length, Contains, map, slice_index, Option, Some, true}
 use Rattle.std.specs.List.{AllByRecursion, flat_map}
 use Rattle.heap_words.specs.declared.Header.TheVariants.{Forward}
 use Rattle.heap_words.specs.declared.Word.{Word}
@@ -11,10 +11,13 @@ use Rattle.relocation.specs.Relocation.{moved_to}
 use Rattle.log_machine.specs.declared.UndoEntry.{UndoEntry}
 use Rattle.log_records.specs.declared.copies.ObjectCopy.{ObjectCopy}
 use Rattle.log_machine.specs.Collecting.{other_base}
-use Rattle.log_machine.specs.Machine.{State, put_all, writes_of}
-use Rattle.graph_words.specs.Places.{Places, address_of}
+use Rattle.log_machine.specs.Machine.{State, put_all, words_in, writes_of}
+use Rattle.log_machine.specs.Sound.{IsSpaced}
+use Rattle.graph_words.specs.Places.{Places, address_of, addresses}
 use Rattle.collection_words.specs.Completed.{IsMade, in_other_space, moves_from}
 use Rattle.collection_words.specs.Copying.{object_words_at}
+use Rattle.collection_words.specs.LaidOut.{IsLaidOut}
+use Rattle.collection_words.specs.Placed.{Ascend}
 use Rattle.collection_words.specs.Relocated.{HaveSameIds}
 
 -- the copies of the objects at these addresses, end to end from an address on
@@ -57,3 +60,19 @@ LedAlong pairs places currents meant = Unit {0}
 -- the objects of these writes went along, and what they would put back leads to such
 abbrev pub WereTranslated : List (ℕ × ℕ) → Places → Places → List UndoEntry → Type 0
 WereTranslated pairs places currents us = AllByRecursion (λ u. WentAlong pairs places currents u.object × LedAlong pairs places currents (meaning u.was)) us
+
+-- A flip copies the chosen ones of the objects of places, and the others remain.
+pub record IsFlipping (s : State) (places chosen remaining : Places) (words : List ℕ) : Type 0 where
+  pub spaced : IsSpaced s
+  pub long : length words ≡ words_in s.pages
+  pub small : words_in s.pages ≤ 2097152
+  pub laid : IsLaidOut s places [] words
+  pub up : Ascend s.base (addresses chosen)
+  pub starts : (at : ℕ) → Contains (addresses chosen) at → Contains (addresses places) at
+  pub parts : (id : Id) (at : ℕ) → address_of places id ≡ Some at → (address_of chosen id ≡ Some at) ⊎ ((address_of remaining id ≡ Some at) × (Contains (addresses chosen) at → ⊥))
+  pub same : HaveSameIds places (chosen ++ remaining)
+
+-- The state behind a flip, by its spaces.
+pub record HasFlipped (s n : State) : Type 0 where
+  pub base : n.base ≡ other_base s
+  pub pages : n.pages ≡ s.pages

@@ -1,4 +1,5 @@
 -- Objects that stand end to end in the used words of a space.
+use Rattle.std.proofs.Common.{suc}
 use Rattle.std.specs.Prelude.{◌≡◌, ℕ, ◌+◌, ◌≤◌, List, [], ◌∷◌, None, Some}
 use Rattle.std.specs.List.{AllByRecursion}
 use Rattle.graph_model.specs.Graph.{root}
@@ -16,3 +17,8 @@ pub record ArePlacedIn (places : Places) (words : List ℕ) (base used : ℕ) : 
 abbrev pub HaveOwnNames : Places → Type 0
 HaveOwnNames [] = Unit {0}
 HaveOwnNames (p ∷ ps) = (address_of ps p.0 ≡ None) × HaveOwnNames ps
+
+-- these addresses ascend, from one on
+abbrev pub Ascend : ℕ → List ℕ → Type 0
+Ascend low [] = Unit {0}
+Ascend low (x ∷ xs) = (low ≤ x) × Ascend (suc x) xs

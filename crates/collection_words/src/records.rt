@@ -7,14 +7,14 @@ ghost use Rattle.heap_spaces.specs.Collection.{Collection, page_of};
 ghost use Rattle.heap_spaces.specs.Copying.{with_scanned};
 ghost use Rattle.graph_model.specs.Graph.{Graph, root};
 ghost use Rattle.graph_model.specs.declared.id.Id.{Id};
-ghost use Rattle.log_machine.specs.Collecting.{collected_in, copy_after, is_current_page, scanned_in, with_copy, with_moved};
+ghost use Rattle.log_machine.specs.Collecting.{collected_in, copy_after, is_current_page, other_base, scanned_in, with_copy, with_moved};
 ghost use Rattle.log_machine.specs.Machine.{State, put_all};
 ghost use Rattle.log_machine.specs.declared.UndoEntry.{UndoEntry};
 ghost use Rattle.graph_words.specs.Places.{Places, address_of, addresses};
-ghost use Rattle.collection_words.specs.Completed.{StandsCompleted, completed, without};
+ghost use Rattle.collection_words.specs.Completed.{StandsCompleted, completed, places_from, without};
 ghost use Rattle.collection_words.specs.Copying.{copied_words, next_copy, object_words_at, with_place};
 ghost use Rattle.log_machine.specs.Translation.{translated_list};
-ghost use Rattle.collection_words.specs.Flipped.{HaveParted, WereTranslated};
+ghost use Rattle.collection_words.specs.Flipped.{HasFlipped, HaveParted, IsFlipping, WereTranslated, flipped_words};
 ghost use Rattle.collection_words.specs.Placed.{HaveOwnNames};
 ghost use Rattle.collection_words.specs.LaidOut.{EachField, IsLaidOut, IsUnderway, LeadsHere};
 ghost use Rattle.collection_words.specs.Writes.{AreBacked, IsCurrentField, IsScanWrite};
@@ -50,4 +50,10 @@ pub fn ended_collections_keep_graphs()
 /// from-space then, each graph stands in the completed words that stood in the words, with its writes translated along with the objects.
 pub fn graphs_stand_where_objects_parted()
     ensures { (s n : State) (k : Collection) (places currents remaining : Places) (words moved : List ℕ) (pairs : List (ℕ × ℕ)) (t made : ℕ) (g : Graph) (us : List UndoEntry) → s.collection ≡ None → IsLaidOut s places [] words → HaveOwnNames places → IsUnderway n k currents remaining moved → HaveOwnNames (currents ++ remaining) → HaveParted n places currents remaining words moved → address_of currents root ≡ Some n.base → WereTranslated pairs places currents us → AllByRecursion (λ u. IsCurrentField places words u.object u.field) us → StandsCompleted t made places [] g us words s → StandsCompleted t made currents remaining g (translated_list pairs us) moved n }
+{}
+
+/// The copies of a flip part the objects: each chosen one is copied with its words, and a forwarding word leads from where it stood to its copy;
+/// each other one stays as it is.
+pub fn flips_part_objects()
+    ensures { (s n : State) (places chosen remaining : Places) (words : List ℕ) → IsFlipping s places chosen remaining words → HasFlipped s n → HaveParted n places (places_from words chosen (other_base s)) remaining words (flipped_words s words (addresses chosen)) }
 {}

@@ -10,13 +10,9 @@ use Rattle.object_layout.proofs.WalkLaws.{Contains-cases, Contains-none}
 use Rattle.relocation.specs.Relocation.{destination}
 use Rattle.graph_words.specs.Places.{Places, address_of, addresses}
 use Rattle.graph_words.proofs.Places.Addresses.{address_of-Contains, address_of-head, address_of-rest}
+use Rattle.collection_words.specs.Placed.{Ascend}
 use Rattle.collection_words.specs.Completed.{moves_from, places_from, taken_at, taken_by, without}
 use Rattle.collection_words.specs.LaidOut.{AreOldEndToEnd}
-
--- these addresses ascend, from one on
-abbrev pub Ascend : ℕ → List ℕ → Type 0
-Ascend low [] = Unit {0}
-Ascend low (x ∷ xs) = (low ≤ x) × Ascend (suc x) xs
 
 -- each of them is not below
 pub ascend_low : (low : ℕ) (xs : List ℕ) (at : ℕ) → Ascend low xs → Contains xs at → low ≤ at

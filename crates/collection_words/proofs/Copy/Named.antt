@@ -19,8 +19,8 @@ use Rattle.graph_words.proofs.Places.Addresses.{address_of-Contains, address_of-
 use Rattle.graph_words.proofs.Seal.Places.{address_of-append_left, address_of-append_right}
 use Rattle.collection_words.specs.Completed.{end_of, followed, followed_by, future, in_other_space, moves_from}
 use Rattle.collection_words.specs.LaidOut.{IsForwarded, IsFromSpace, LeadsHere, MayLeadBack}
-use Rattle.collection_words.specs.Placed.{HaveOwnNames}
-use Rattle.collection_words.proofs.Copy.Ascending.{Ascend, ascend_chain, ascend_filter, put_destination}
+use Rattle.collection_words.specs.Placed.{Ascend, HaveOwnNames}
+use Rattle.collection_words.proofs.Copy.Ascending.{ascend_chain, ascend_filter, put_destination}
 use Rattle.collection_words.proofs.Copy.Moved.{behind_there, not_first}
 use Rattle.collection_words.proofs.Laid.Followed.{followed_here}
 use Rattle.collection_words.proofs.Laid.Names.{names_own}

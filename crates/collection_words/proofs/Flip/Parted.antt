@@ -21,10 +21,11 @@ use Rattle.graph_words.proofs.Places.Addresses.{address_of-Contains, some_addres
 use Rattle.graph_words.proofs.Stands.Objects.{word_at_field}
 use Rattle.collection_words.specs.Completed.{IsMade, in_other_space, moves_from, places_from, taken_at, taken_by}
 use Rattle.collection_words.specs.Copying.{object_words_at}
-use Rattle.collection_words.specs.Flipped.{HasStayed, HaveParted, WasCopied, flipped_words}
+use Rattle.collection_words.specs.Flipped.{HasFlipped, HasStayed, HaveParted, IsFlipping, WasCopied, flipped_words}
 use Rattle.collection_words.specs.LaidOut.{IsLaidOut}
 use Rattle.collection_words.specs.Relocated.{HaveSameIds}
-use Rattle.collection_words.proofs.Copy.Ascending.{Ascend, ascend_low}
+use Rattle.collection_words.specs.Placed.{Ascend}
+use Rattle.collection_words.proofs.Copy.Ascending.{ascend_low}
 use Rattle.collection_words.proofs.Copy.Words.{kept_made}
 use Rattle.collection_words.proofs.Flip.Words.{LieApart, flip_forward, flip_kept, flip_new, flipping}
 use Rattle.collection_words.proofs.Laid.Sources.{here_ends}
@@ -33,17 +34,6 @@ use Rattle.collection_words.proofs.Moves.Ends.{move_within, taken_object}
 use Rattle.collection_words.proofs.Moves.Sources.{put_same, put_source}
 use Rattle.collection_words.proofs.Relocated.Fronts.{ends_order}
 use Rattle.collection_words.proofs.Words.Objects.{object_like}
-
--- A flip copies the chosen ones of the objects of places, and the others remain.
-pub record IsFlipping (s : State) (places chosen remaining : Places) (words : List ℕ) : Type 0 where
-  pub spaced : IsSpaced s
-  pub long : length words ≡ words_in s.pages
-  pub small : words_in s.pages ≤ 2097152
-  pub laid : IsLaidOut s places [] words
-  pub up : Ascend s.base (addresses chosen)
-  pub starts : (at : ℕ) → Contains (addresses chosen) at → Contains (addresses places) at
-  pub parts : (id : Id) (at : ℕ) → address_of places id ≡ Some at → (address_of chosen id ≡ Some at) ⊎ ((address_of remaining id ≡ Some at) × (Contains (addresses chosen) at → ⊥))
-  pub same : HaveSameIds places (chosen ++ remaining)
 
 -- Room.
 
@@ -125,11 +115,6 @@ chosen_made {s} {chosen = chosen} {words = words} flip at there n object move =
           let place : field_at there i ≡ there + suc (suc i) = omega arith in
           ap (slice_index others) place ∙ each (suc (suc i)) (omega arith) ∙ sym (word_at_field words at n i object below);
     }
-
--- The state behind a flip, by its spaces.
-pub record HasFlipped (s n : State) : Type 0 where
-  pub base : n.base ≡ other_base s
-  pub pages : n.pages ≡ s.pages
 
 chosen_copied : {s n : State} {places chosen remaining : Places} {words : List ℕ} → IsFlipping s places chosen remaining words → HasFlipped s n → (id : Id) (at : ℕ) → address_of places id ≡ Some at
     → address_of chosen id ≡ Some at → WasCopied n (places_from words chosen (other_base s)) words (flipped_words s words (addresses chosen)) id at

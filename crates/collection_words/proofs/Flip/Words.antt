@@ -12,7 +12,8 @@ use Rattle.log_machine.proofs.WordsFrom.{put_from-at, put_from-before, put_from-
 use Rattle.collection_words.specs.Completed.{moves_from, taken_at, taken_by}
 use Rattle.collection_words.specs.Copying.{object_words_at}
 use Rattle.collection_words.specs.Flipped.{flip_copies}
-use Rattle.collection_words.proofs.Copy.Ascending.{Ascend, ascend_low}
+use Rattle.collection_words.specs.Placed.{Ascend}
+use Rattle.collection_words.proofs.Copy.Ascending.{ascend_low}
 use Rattle.collection_words.proofs.Moves.Ends.{move_within}
 use Rattle.collection_words.proofs.Words.Put.{put_all-append}
 
