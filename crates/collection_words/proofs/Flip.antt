@@ -1,0 +1,5 @@
+-- A flip: some objects are copied, the others stay.
+pub mod Entries
+pub mod Parted
+pub mod Relocated
+pub mod Words

@@ -1,0 +1,7 @@
+pub mod Copy
+pub mod Flip
+pub mod Laid
+pub mod Moves
+pub mod Relocated
+pub mod Steps
+pub mod Words

@@ -1,0 +1,3 @@
+-- Objects that are put end to end.
+pub mod Ends
+pub mod Sources

@@ -1,0 +1,4 @@
+-- The records of a collection.
+pub mod Addresses
+pub mod Collected
+pub mod Scan

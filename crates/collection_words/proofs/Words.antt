@@ -1,0 +1,4 @@
+-- Words of objects that are put end to end.
+pub mod Cover
+pub mod Put
+pub mod Objects

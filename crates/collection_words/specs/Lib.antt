@@ -1,0 +1,7 @@
+pub mod Completed
+pub mod Copying
+pub mod Flipped
+pub mod LaidOut
+pub mod Placed
+pub mod Relocated
+pub mod Writes
