@@ -2,7 +2,6 @@ pub mod AbortLaws
 pub mod Addresses
 pub mod Bounds
 pub mod Consistent
-pub mod CopyLaws
 pub mod Entries
 pub mod Fields
 pub mod ListLaws
@@ -13,6 +12,7 @@ pub mod Promotion
 pub mod PromotionLaws
 pub mod ReplayLaws
 pub mod ReserveLaws
+pub mod RunLaws
 pub mod Seen
 pub mod StateLaws
 pub mod TakenBackLaws

@@ -6,6 +6,7 @@ mod effects;
 mod log_state;
 mod page_words;
 mod replaying;
+mod runs;
 mod undo_lists;
 
 pub use abort::abort_records;
@@ -13,6 +14,7 @@ pub use effects::{effect, forwarding_word};
 pub use log_state::{AfterError, LAST_NUMBER, LogState};
 pub use page_words::{FIELDS_AT, PAGE_WORDS, PageWords, ROOT_WORDS};
 pub use replaying::{ReplayError, replay};
+pub use runs::{Run, Runs};
 pub use undo_lists::end_bytes;
 
 /// A write that may be taken back: the field of the object at a word address, and the word that stood there before.
