@@ -5,17 +5,12 @@ ghost use Rattle.log_machine.specs.declared.UndoEntry.{UndoEntry};
 ghost use Rattle.log_machine.specs.Machine.{field_at, with_word, taken_back};
 
 use crate::UndoEntry;
+use heap_words::{FIELDS_AT, ROOT_FIELDS};
 use std::alloc::{AllocError, Global};
 use std::marker::Model;
 
-/// The words of a page.
-pub const PAGE_WORDS: u32 = 64;
-
 /// The words of the root object: its header, its birth and its fields.
-pub const ROOT_WORDS: u32 = 6;
-
-/// Where an object's fields begin behind its address.
-pub const FIELDS_AT: u32 = 2;
+pub const ROOT_WORDS: u32 = FIELDS_AT + ROOT_FIELDS;
 
 /// A copy of words by address, from which writes can be taken back while the words themselves stay as they are.
 #[derive(Debug, Drop)]
