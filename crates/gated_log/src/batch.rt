@@ -4,11 +4,8 @@ ghost use Rattle.std.specs.Int.{w32, from_le_bytes, to_le_bytes};
 ghost use Rattle.log_records.specs.Record.{spellings};
 
 use gate_slot::CLOSED;
-use log_records::Record;
+use log_records::{BATCH_BYTES, Record};
 use std::alloc::{AllocError, Global};
-
-/// The bytes of a batch beside its records: its gate and its length.
-pub(crate) const BATCH_HEAD: usize = 5;
 
 /// Where the length of a batch will stand.
 pub(crate) const NO_LENGTH: [u8; 4] = [0; 4];
@@ -50,12 +47,12 @@ pub(crate) fn told_length(bytes: &[u8]) -> Option<u32>
     ensures length { IfSome result (λ n. (n < 2 ^ 32) × (5 ≤ length bytes.now) × (take 4 (drop 1 bytes.now) ≡ to_le_bytes w32 n)) }
     ensures none { result ≡ None → length bytes.now < 5 }
 {
-    let head = bytes.first_chunk::<BATCH_HEAD>()?;
+    let head = bytes.first_chunk::<BATCH_BYTES>()?;
     Some(batch_length(head))
 }
 
 /// The length that a batch tells behind its gate.
-fn batch_length(head: &[u8; BATCH_HEAD]) -> u32
+fn batch_length(head: &[u8; BATCH_BYTES]) -> u32
     ensures value { result ≡ from_le_bytes w32 (slice_index head.now 1 ∷ slice_index head.now 2 ∷ slice_index head.now 3 ∷ slice_index head.now 4 ∷ []) }
 {
     u32::from_le_bytes([head[1], head[2], head[3], head[4]])

@@ -12,11 +12,11 @@ ghost use Rattle.gated_log.specs.declared.reading.LogError.TheVariants.{BadBatch
 ghost use Rattle.gated_log.specs.LogCause.{log_device_result};
 ghost use Rattle.gated_log.specs.LogRoom.{used_bytes};
 
-use crate::batch::{BATCH_HEAD, NO_LENGTH, close_batch, spell};
+use crate::batch::{NO_LENGTH, close_batch, spell};
 use crate::reading::{LogError, LogReader};
 use disk_model::{Disk, DiskError};
 use gate_slot::fill_and_open;
-use log_records::Record;
+use log_records::{BATCH_BYTES, Record};
 use std::alloc::{AllocError, Global};
 
 /// A log that lies in a part of a disk. What was forced is there after a crash; a record that waits is in memory alone.
@@ -153,7 +153,7 @@ impl Log {
         if self.pending() {
             own
         } else {
-            own + BATCH_HEAD as u64
+            own + BATCH_BYTES as u64
         }
     }
 

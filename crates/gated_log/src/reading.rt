@@ -9,11 +9,11 @@ ghost use Rattle.gated_log.specs.Log.{BreaksAt, HasBatch, HoldsBatches};
 ghost use Rattle.gated_log.specs.declared.reading.LogError.TheVariants.{NoMemory, BadBatch};
 ghost use Rattle.gated_log.specs.LogCause.{log_device_result};
 
-use crate::batch::{BATCH_HEAD, NO_LENGTH, told_length};
+use crate::batch::{NO_LENGTH, told_length};
 use crate::log::Log;
 use disk_model::{Disk, DiskError};
 use gate_slot::OPEN;
-use log_records::{BASE_HEAD_BYTES, Record, SCAN_HEAD_BYTES, WORD_BYTES, WRITE_BYTES};
+use log_records::{BASE_HEAD_BYTES, BATCH_BYTES, Record, SCAN_HEAD_BYTES, WORD_BYTES, WRITE_BYTES};
 use std::alloc::{AllocError, AllocFailed, Global};
 
 /// How many bytes of a log are read at once, where no record needs more: no more are read behind what is needed.
@@ -204,7 +204,7 @@ impl LogReader {
             });
         };
         self.first = self.given + 1;
-        self.pass(BATCH_HEAD, 0, length);
+        self.pass(BATCH_BYTES, 0, length);
         Ok(true)
     }
 
@@ -220,12 +220,12 @@ impl LogReader {
         ensures disk { OnlyReads D.Disk disk.old disk.new (log_device_result result) }
     {
         let rest = (self.room - self.next) as usize;
-        if rest <= BATCH_HEAD {
+        if rest <= BATCH_BYTES {
             return Ok(None);
         }
-        self.fill(disk, BATCH_HEAD)?;
+        self.fill(disk, BATCH_BYTES)?;
         match told_length(&self.window[self.taken..]) {
-            Some(length) if BATCH_HEAD + (length as usize) < rest => Ok(Some(length)),
+            Some(length) if BATCH_BYTES + (length as usize) < rest => Ok(Some(length)),
             _ => Ok(None),
         }
     }

@@ -13,22 +13,19 @@ use crate::locking::{keep_write, lock_of, lock_refusal};
 use crate::log_room::{UNDO_BYTES, log_refusal, need_of};
 use crate::logging::carry_out;
 use graph_model::{Refusal, Reply};
-use heap_words::{Header, NO_INT, Word, decode, encode, header_of};
+use heap_words::{FIELDS_AT, Header, NO_INT, Word, decode, encode, header_of};
 use log_machine::UndoEntry;
 use log_records::Record;
 use object_locks::Mode;
 use std::alloc::AllocError;
 use txn_table::Place;
 
-/// The words in front of an object's fields: its header and its birth.
-const FIELDS_AT: usize = 2;
-
 /// The words of the fields of the object that stands at an address, in order, and none where no object stands.
 fn fields_at(words: &[u64], at: u32) -> &[u64]
     requires { length words.now < 2 ^ 32 }
     ensures { result.now ≡ field_words words.now at }
 {
-    let from = at as usize + FIELDS_AT;
+    let from = at as usize + FIELDS_AT as usize;
     if at as usize >= words.len() {
         return &[];
     }
@@ -179,9 +176,7 @@ impl Engine {
         ensures refused { (why : _) → result ≡ Ok (Reply.Refused why) → IsAsItWas (memory self.old) (memory self.new) }
         ensures err { OnErr result (IsAsItWas (memory self.old) (memory self.new)) }
     {
-        let was = self
-            .cache
-            .word(object + FIELDS_AT as u32 + u32::from(field));
+        let was = self.cache.word(object + FIELDS_AT + u32::from(field));
         let t = self.table.number(session);
         let rec = Record::Update {
             t,

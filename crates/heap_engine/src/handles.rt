@@ -13,7 +13,7 @@ use txn_table::{HANDLES, Place};
 use volatile_area::AreaError;
 
 /// The most fields of an object.
-const MOST_FIELDS: u64 = 510;
+const MOST_FIELDS: u64 = heap_words::MOST_FIELDS as u64;
 
 impl Engine {
     ghost use Rattle.heap_memory.specs.Refusals.{handle_refusal, new_refusal, same_refusal, len_refusal};

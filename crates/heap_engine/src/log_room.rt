@@ -10,13 +10,10 @@ use crate::engine::Engine;
 use gated_log::Log;
 use graph_model::Refusal;
 use log_machine::end_bytes;
-use log_records::Record;
+use log_records::{BATCH_BYTES, PUT_BYTES, Record};
 
-/// The bytes that a batch takes beside its records: its length, and the gate behind it.
-const BATCH_BYTES: u64 = 5;
-
-/// The bytes that are kept to take a write back.
-pub(crate) const UNDO_BYTES: u64 = 19;
+/// The bytes that are kept to take a write back: those of an `Undo`.
+pub(crate) const UNDO_BYTES: u64 = PUT_BYTES as u64;
 
 /// Why the log has no room for an event, if it hasn't: by the bytes that the event needs, and those kept after it.
 pub(crate) fn log_refusal(log: &Log, need: u64, reserved: u64) -> Option<Refusal>
@@ -44,7 +41,7 @@ pub(crate) fn need_of(log: &Log, bytes: u64) -> u64
     if log.pending() {
         bytes
     } else {
-        bytes + BATCH_BYTES
+        bytes + BATCH_BYTES as u64
     }
 }
 

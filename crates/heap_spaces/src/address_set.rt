@@ -5,7 +5,7 @@ ghost use Rattle.std.specs.FinSet.{empty, contains, insert, remove};
 ghost use Rattle.heap_spaces.specs.Collection.{page_of};
 ghost use Rattle.heap_spaces.specs.Addresses.{with_all, without_page};
 
-use crate::PAGE_WORDS;
+use heap_words::PAGE_WORDS;
 use std::alloc::{AllocError, Global};
 use std::collections::BTreeSet;
 use std::marker::Model;

@@ -5,8 +5,8 @@ ghost use Rattle.heap_spaces.specs.Collection.{owed_by, page_of};
 ghost use Rattle.heap_spaces.specs.declared.collection.CopiedObject.{CopiedObject};
 ghost use Rattle.heap_spaces.specs.Copying.{begun, with_copies, with_scanned, IsLeastGrayPage};
 
-use crate::PAGE_WORDS;
 use crate::address_set::AddressSet;
+use heap_words::PAGE_WORDS;
 use std::alloc::{AllocError, Global};
 use std::marker::Model;
 

@@ -8,10 +8,8 @@ ghost use Rattle.std.specs.Prelude.{◌≡◌, ◌+◌, ◌*◌, ◌≤◌, ◌<
 ghost use Rattle.heap_spaces.specs.Spaces.{IsSpaces, free_words, open_words, with_taken, flipped, with_copied, with_none_owed};
 
 pub use collection::{Collection, CopiedObject};
+use heap_words::PAGE_WORDS;
 use std::marker::Model;
-
-/// The words of a page.
-const PAGE_WORDS: u32 = 64;
 
 /// Fewer words may be taken than are needed.
 #[derive(Clone, Copy, Debug, PartialEq, Eq)]

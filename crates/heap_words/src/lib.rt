@@ -15,8 +15,17 @@ pub const VOLATILE_WORDS: u32 = 4_096;
 /// The first whole number that is too large for a word.
 pub const NO_INT: u64 = 4_611_686_018_427_387_904;
 
+/// The words of a page.
+pub const PAGE_WORDS: u32 = 64;
+
 /// The most fields that an object has.
 pub const MOST_FIELDS: u32 = 510;
+
+/// Where an object's fields begin behind its address: behind its header and its birth.
+pub const FIELDS_AT: u32 = 2;
+
+/// The fields of the root object.
+pub const ROOT_FIELDS: u32 = 4;
 
 /// What a field's word means.
 #[derive(Clone, Copy, Debug, PartialEq, Eq)]

@@ -4,7 +4,6 @@ pub mod Bounds
 pub mod CollectingLaws
 pub mod CollectingWrites
 pub mod Consistent
-pub mod CopyLaws
 pub mod CopyRows
 pub mod Entries
 pub mod Fields
@@ -19,6 +18,7 @@ pub mod Promotion
 pub mod PromotionLaws
 pub mod ReplayLaws
 pub mod ReserveLaws
+pub mod RunLaws
 pub mod Seen
 pub mod StateLaws
 pub mod TakenBackLaws

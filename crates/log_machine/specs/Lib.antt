@@ -6,6 +6,9 @@ pub mod Entries
 pub mod Kept
 pub mod Machine
 pub mod Replay
+pub mod RunWords
+pub mod Runs
+pub mod RunsLeft
 pub mod Seen
 pub mod Sound
 pub mod StateCode

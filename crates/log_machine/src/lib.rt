@@ -7,13 +7,15 @@ mod effects;
 mod log_state;
 mod page_words;
 mod replaying;
+mod runs;
 mod undo_lists;
 
 pub use abort::abort_records;
 pub use effects::{effect, forwarding_word};
 pub use log_state::{AfterError, LAST_NUMBER, LogState};
-pub use page_words::{FIELDS_AT, PAGE_WORDS, PageWords, ROOT_WORDS};
+pub use page_words::{PageWords, ROOT_WORDS};
 pub use replaying::{ReplayError, replay};
+pub use runs::{Run, Runs};
 pub use undo_lists::end_bytes;
 
 /// A write that may be taken back: the field of the object at a word address, and the word that stood there before.

@@ -11,10 +11,10 @@ ghost use Rattle.log_machine.specs.UndoEntry.{LiesInside};
 mod collecting;
 
 use crate::UndoEntry;
-use crate::page_words::{FIELDS_AT, PAGE_WORDS, ROOT_WORDS};
+use crate::page_words::ROOT_WORDS;
 use crate::undo_lists::UndoLists;
 use heap_spaces::{Collection, Spaces};
-use heap_words::{is_stable, is_volatile};
+use heap_words::{FIELDS_AT, PAGE_WORDS, is_stable, is_volatile};
 use log_records::Record;
 use std::alloc::{AllocError, Global};
 use std::marker::Model;

@@ -1,21 +1,16 @@
 //! Words of the heap's pages from which writes are taken back.
-ghost use Rattle.std.specs.Prelude.{◌≡◌, ◌+◌, ◌^◌, ◌<◌, IfOk, length, reverse};
+ghost use Rattle.std.specs.Prelude.{◌≡◌, ◌<◌, IfOk, length, reverse};
 ghost use Rattle.std.specs.List.{AllByRecursion};
 ghost use Rattle.log_machine.specs.declared.UndoEntry.{UndoEntry};
 ghost use Rattle.log_machine.specs.Machine.{field_at, with_word, taken_back};
 
 use crate::UndoEntry;
+use heap_words::{FIELDS_AT, ROOT_FIELDS};
 use std::alloc::{AllocError, Global};
 use std::marker::Model;
 
-/// The words of a page.
-pub const PAGE_WORDS: u32 = 64;
-
 /// The words of the root object: its header, its birth and its fields.
-pub const ROOT_WORDS: u32 = 6;
-
-/// Where an object's fields begin behind its address.
-pub const FIELDS_AT: u32 = 2;
+pub const ROOT_WORDS: u32 = FIELDS_AT + ROOT_FIELDS;
 
 /// A copy of words by address, from which writes can be taken back while the words themselves stay as they are.
 #[derive(Debug, Drop)]
@@ -70,14 +65,13 @@ impl PageWords {
         requires { field_at object field < length self.old }
         ensures { self.new ≡ with_word self.old object field word }
     {
-        self.words[object as usize + FIELDS_AT as usize + field as usize] = word;
+        self.words[field_address(object, field)] = word;
     }
 }
 
 /// The address of a field of the object at a word address.
-pub(crate) fn field_at(object: u32, field: u16) -> u32
-    requires { field_at object field < 2 ^ 32 }
+pub(crate) fn field_address(object: u32, field: u16) -> usize
     ensures { result ≡ field_at object field }
 {
-    object + FIELDS_AT + u32::from(field)
+    object as usize + FIELDS_AT as usize + field as usize
 }

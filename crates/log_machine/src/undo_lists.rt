@@ -10,16 +10,16 @@ ghost use Rattle.log_machine.specs.Collecting.{pairs_of, can_translate_all, tran
 use crate::UndoEntry;
 use crate::abort::add_abort_records;
 use crate::copy_index::CopyIndex;
-use log_records::Record;
+use log_records::{BATCH_BYTES, END_BYTES, PUT_BYTES, Record};
 use std::alloc::{AllocError, Global};
 use std::collections::BTreeMap;
 use std::marker::Model;
 
 /// The log's bytes that are kept for the end of a transaction: a batch's head, and an `End`.
-const HEAD_BYTES: u64 = 10;
+const HEAD_BYTES: u64 = (BATCH_BYTES + END_BYTES) as u64;
 
 /// The log's bytes that are kept for each write that may be taken back: those of an `Undo`.
-const WRITE_BYTES: u64 = 19;
+const WRITE_BYTES: u64 = PUT_BYTES as u64;
 
 /// The writes of each transaction that may be taken back, and the log's bytes that are kept to do so.
 #[derive(Debug, Drop)]

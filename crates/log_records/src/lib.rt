@@ -69,6 +69,9 @@ pub const FLIP_HEAD_BYTES: usize = 5;
 /// The bytes of a `Collected` record.
 pub const COLLECTED_BYTES: usize = 1;
 
+/// The bytes that a batch of records takes in a log beside them: its gate and its length.
+pub const BATCH_BYTES: usize = 5;
+
 /// A record of the log. Its bytes are read again only where each of its words is one of a field, and those of a `Base`,
 /// a `Copy` or a `Flip` are the words of objects.
 #[derive(Debug, Drop, PartialEq, Eq)]

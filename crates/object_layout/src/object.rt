@@ -8,11 +8,8 @@ ghost use Rattle.object_layout.specs.ReadFailure.{read_failure};
 use crate::read_error::ReadError;
 use crate::words::Words;
 use disk_model::DiskError;
-use heap_words::{Header, header_of};
+use heap_words::{FIELDS_AT, Header, header_of};
 use std::alloc::Global;
-
-/// The words in front of an object's fields: its header and its birth.
-pub(crate) const FIELDS_AT: u32 = 2;
 
 /// The number of fields of the object that stands at an address, if one does: a header with all its words behind it.
 pub fn object_at<W: Words>(words: &mut W, at: u32) -> Result<Option<u32>, DiskError>

@@ -6,15 +6,12 @@ ghost use Rattle.object_layout.specs.Layout.{object_at};
 ghost use Rattle.object_layout.specs.Read.{IsRead, disk_failure};
 ghost use Rattle.object_layout.specs.WalkFailure.{walk_failure};
 
-use crate::object::{FIELDS_AT, object_before};
+use crate::object::object_before;
 use crate::walk_error::WalkError;
 use crate::words::Words;
 use disk_model::DiskError;
-use heap_words::Word;
+use heap_words::{FIELDS_AT, ROOT_FIELDS, Word};
 use std::alloc::Global;
-
-/// The number of the root's fields.
-const ROOT_FIELDS: u32 = 4;
 
 /// The birth of the root, which no transaction made.
 const ROOT_BIRTH: u64 = 0;

@@ -7,10 +7,8 @@ ghost use Rattle.page_redo.specs.Redo.{EachLacks, redo_record, redo_all};
 use crate::putting::put_record;
 use crate::raising::raise_touched;
 use log_records::Record;
+use page_store::PAGE_WORDS;
 use std::marker::Model;
-
-/// The words of a page.
-pub(crate) const PAGE_WORDS: usize = 64;
 
 /// The words of all pages of both spaces, by address, and the LSN of each page.
 #[derive(Debug, Drop)]

@@ -5,9 +5,10 @@ ghost use Rattle.page_store.specs.Page.{frame_number, first_words};
 
 use byteorder::{ByteOrder, LittleEndian};
 use gate_slot::OPEN;
+use heap_words::ROOT_FIELDS;
 
 /// The words of a page.
-pub const PAGE_WORDS: usize = 64;
+pub const PAGE_WORDS: usize = heap_words::PAGE_WORDS as usize;
 
 /// The bytes of a frame.
 pub(crate) const FRAME_BYTES: usize = 528;
@@ -21,7 +22,7 @@ const LSN_AT: usize = 8;
 const WORDS_AT: usize = 16;
 
 /// The first word of page 0 before it is stored: the header of a heap's root.
-const ROOT_HEADER: u64 = 17;
+const ROOT_HEADER: u64 = 4 * ROOT_FIELDS as u64 + 1;
 
 /// One of the two frames of a page.
 #[derive(Clone, Copy, Debug, PartialEq, Eq)]

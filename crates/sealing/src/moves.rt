@@ -6,8 +6,7 @@ ghost use Rattle.volatile_area.specs.Area.{starts_of};
 ghost use Rattle.stability_tracker.specs.Promotion.{need};
 ghost use Rattle.graph_words.specs.Promotion.{moves_to, moved_word as moved};
 
-use heap_words::{Word, decode, encode};
-use log_machine::FIELDS_AT;
+use heap_words::{FIELDS_AT, Word, decode, encode};
 use std::alloc::{AllocError, Global};
 use volatile_area::Area;
 

@@ -9,8 +9,7 @@ ghost use Rattle.volatile_area.specs.Area.{starts_of};
 ghost use Rattle.graph_words.specs.Promotion.{base_of, fix_of};
 
 use crate::moves::moved_word;
-use heap_words::is_volatile;
-use log_machine::FIELDS_AT;
+use heap_words::{FIELDS_AT, is_volatile};
 use log_records::{ObjectWords, Record};
 use std::alloc::{AllocError, Global};
 use std::collections::BTreeSet;

@@ -3,7 +3,8 @@ ghost use Rattle.std.specs.Prelude.{◌≡◌, ◌<◌, All, IfOk, length, rever
 ghost use Rattle.log_machine.specs.Machine.{field_at};
 ghost use Rattle.graph_words.specs.Promotion.{written_fields as written, words_in_fields};
 
-use log_machine::{FIELDS_AT, UndoEntry};
+use heap_words::FIELDS_AT;
+use log_machine::UndoEntry;
 use std::alloc::{AllocError, Global};
 use std::collections::BTreeSet;
 

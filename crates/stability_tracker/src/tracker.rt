@@ -4,12 +4,10 @@ ghost use Rattle.volatile_area.specs.Area.{starts_of};
 ghost use Rattle.stability_tracker.specs.Promotion.{promoted, need};
 
 use crate::search::Search;
+use heap_words::FIELDS_AT;
 use std::alloc::{AllocError, Global};
 use std::collections::BTreeSet;
 use volatile_area::Area;
-
-/// The words in front of an object's fields.
-const FIELDS_AT: u32 = 2;
 
 /// The objects that a seal promotes, by their indices, ascending, and how many words they take: those of the volatile area that are
 /// reached from the words of the stable fields that the transaction wrote, `written`, through fields of objects of the area.

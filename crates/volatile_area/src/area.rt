@@ -8,13 +8,10 @@ ghost use Rattle.volatile_area.specs.Area.{new_area, length_at, starts_of, with_
 ghost use Rattle.relocation.specs.Relocation.{IsRelocation};
 
 use crate::area_error::AreaError;
-use heap_words::{VOLATILE_WORDS, birth};
+use heap_words::{FIELDS_AT, VOLATILE_WORDS, birth};
 use relocation::translated_word;
 use std::alloc::{AllocError, Global};
 use std::marker::Model;
-
-/// The words in front of an object's fields: its header and its birth.
-const FIELDS_AT: u32 = 2;
 
 /// The word of a null field.
 const NULL: u64 = 0;

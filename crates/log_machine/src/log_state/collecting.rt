@@ -9,7 +9,7 @@ ghost use Rattle.log_machine.specs.Collecting.{other_base, can_move, can_hold, c
 
 use crate::copy_index::CopyIndex;
 use crate::log_state::{AfterError, LogState};
-use crate::page_words::PAGE_WORDS;
+use heap_words::PAGE_WORDS;
 use crate::undo_lists::UndoLists;
 use heap_spaces::{Collection, CopiedObject};
 use heap_words::{Word, decode};

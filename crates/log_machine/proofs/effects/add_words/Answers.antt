@@ -4,8 +4,8 @@ use Rattle.log_machine.proofs.Lists.{on_err}
 use Rattle.log_machine.proofs.WordsFrom.{from_more, below_at}
 use Rattle.log_machine.proofs.effects.add_words.Goals as goal
 
-pub overflow_cast-i : goal.overflow_cast-i
-overflow_cast-i c = omega (arith, below_at c.args.address _ c.loop-i.i c.args.words.now c.requires c.loop-i-test.true)
+pub overflow_cast-address : goal.overflow_cast-address
+overflow_cast-address c = omega (arith, below_at c.args.address _ c.loop-i.i c.args.words.now c.requires c.loop-i-test.true)
 
 pub overflow_add-address : goal.overflow_add-address
 overflow_add-address c = omega (arith, below_at c.args.address _ c.loop-i.i c.args.words.now c.requires c.loop-i-test.true)

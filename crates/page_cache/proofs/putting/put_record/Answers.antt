@@ -1,37 +1,42 @@
-use Rattle.std.proofs.Common.{ℕ, ◌<◌, List, length, sym, subst}
-use Rattle.std.specs.List.{enumerate_from, flat_map}
-use Rattle.log_records.specs.declared.Record.{Record}
-use Rattle.log_records.specs.declared.copies.ObjectCopy.{ObjectCopy}
-use Rattle.log_machine.specs.Machine.{copy_writes, writes_of}
-use Rattle.log_machine.specs.Effect.{WritesBelow}
-use Rattle.log_machine.proofs.Addresses.{each_write}
-use Rattle.page_cache.specs.Writing.{AreBelow}
+use Rattle.std.proofs.Common.{ℕ, List, length, ap, sym, subst, ◌∙◌}
+use Rattle.std.specs.List.{enumerate_from}
+use Rattle.log_machine.specs.Machine.{put_all}
+use Rattle.log_machine.specs.Runs.{run_writes}
+use Rattle.log_machine.specs.RunsLeft.{runs_left}
+use Rattle.log_machine.proofs.RunLaws.{run_below, run_taken, runs_done, writes_more}
+use Rattle.page_cache.specs.Writing.{AreBelow, lacking}
+use Rattle.page_cache.proofs.PutLaws.{put_on}
 use Rattle.page_cache.proofs.putting.put_record.Goals as goal
 
 pub put_from-requires-clause-inside : goal.put_from-requires-clause-inside
 put_from-requires-clause-inside c =
+    let run = c.in-Some.run' in
     let end = length c.args.words.now in
-    let here = subst (λ (r : Record). WritesBelow end r) c.in-Base.is c.requires.inside in
-    let there = each_write (λ a. a < end) (enumerate_from c.in-Base.address c.in-Base.object) here in
-    subst (λ (l : List ℕ). AreBelow end (enumerate_from c.in-Base.address l)) (sym c.as_slice.ensures) there
+    let below = run_below end c.args.rec.now c.loop-run.yielded (runs_left c.loop-run.run-iterator) (runs_left c.next.new.self) run c.requires.inside c.loop-run.invariant.left c.in-Some.ensures.steps in
+    let words = subst (λ (l : List ℕ). AreBelow end (enumerate_from run.0 l)) (sym c.words.ensures) below in
+    let here = subst (λ (a : ℕ). AreBelow end (enumerate_from a c.words.result.now)) (sym c.address.ensures) words in
+    subst (λ (n : ℕ). AreBelow n (enumerate_from c.address.result c.words.result.now)) (sym c.loop-run.auto.words) here
 
-pub put_copy-requires-clause-inside : goal.put_copy-requires-clause-inside
-put_copy-requires-clause-inside c =
-    let end = length c.args.words.now in
-    let here = subst (λ (r : Record). WritesBelow end r) c.in-Copy.is c.requires.inside in
-    let there = each_write (λ a. a < end) (copy_writes c.in-Copy.from c.in-Copy.to c.in-Copy.object) here in
-    subst (λ (l : List ℕ). AreBelow end (copy_writes c.in-Copy.from c.in-Copy.to l)) (sym c.as_slice-in-Copy.ensures) there
+pub loop-run-preserved : goal.loop-run-preserved
+loop-run-preserved c =
+    let run = c.in-Some.run' in
+    let lsns = c.args.lsns.now in
+    let lsn = c.args.lsn in
+    let so_far = c.loop-run.yielded in
+    record {
+      can_next = tt;
+      is_finite = tt;
+      left = run_taken c.args.rec.now so_far (runs_left c.loop-run.run-iterator) (runs_left c.next.new.self) run c.loop-run.invariant.left c.in-Some.ensures.steps;
+      put =
+          c.put_from.ensures
+          ∙ ap (λ (a : ℕ). put_all c.loop-run.words (lacking lsns lsn (enumerate_from a c.words.result.now))) c.address.ensures
+          ∙ ap (λ (l : List ℕ). put_all c.loop-run.words (lacking lsns lsn (enumerate_from run.0 l))) c.words.ensures
+          ∙ ap (λ (now : List ℕ). put_all now (lacking lsns lsn (enumerate_from run.0 run.1))) c.loop-run.invariant.put
+          ∙ sym (put_on lsns lsn c.args.words.now (run_writes so_far) (enumerate_from run.0 run.1))
+          ∙ ap (λ (ws : List (ℕ × ℕ)). put_all c.args.words.now (lacking lsns lsn ws)) (sym (writes_more so_far run));
+    }
 
-pub put_writes-requires-clause-inside : goal.put_writes-requires-clause-inside
-put_writes-requires-clause-inside c =
-    let end = length c.args.words.now in
-    let here = subst (λ (r : Record). WritesBelow end r) c.in-Scan.is c.requires.inside in
-    let there = each_write (λ a. a < end) c.in-Scan.writes here in
-    subst (λ (ws : List (ℕ × ℕ)). AreBelow end ws) (sym c.as_slice-in-Scan.ensures.writes) there
-
-pub put_copies-requires-clause-inside : goal.put_copies-requires-clause-inside
-put_copies-requires-clause-inside c =
-    let end = length c.args.words.now in
-    let here = subst (λ (r : Record). WritesBelow end r) c.in-Flip.is c.requires.inside in
-    let there = each_write (λ a. a < end) (flat_map writes_of c.in-Flip.copies) here in
-    subst (λ (ks : List ObjectCopy). AreBelow end (flat_map writes_of ks)) (sym c.as_slice-in-Flip.ensures.copies) there
+pub returns : goal.returns
+returns c =
+    c.loop-run.invariant.put
+    ∙ ap (λ (ws : List (ℕ × ℕ)). put_all c.args.words.now (lacking c.args.lsns.now c.args.lsn ws)) (runs_done c.args.words.now c.args.rec.now c.loop-run.yielded (runs_left c.loop-run.run-iterator) c.loop-run.invariant.left c.in-None.ensures.steps.0)

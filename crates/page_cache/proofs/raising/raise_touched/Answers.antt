@@ -1,37 +1,45 @@
-use Rattle.std.proofs.Common.{ℕ, ◌<◌, ◌*◌, List, length, sym, subst}
-use Rattle.std.specs.List.{enumerate_from, flat_map}
-use Rattle.log_records.specs.declared.Record.{Record}
-use Rattle.log_records.specs.declared.copies.ObjectCopy.{ObjectCopy}
-use Rattle.log_machine.specs.Machine.{copy_writes, writes_of}
-use Rattle.log_machine.specs.Effect.{WritesBelow}
-use Rattle.log_machine.proofs.Addresses.{each_write}
-use Rattle.page_cache.specs.Writing.{AreBelow}
+use Rattle.std.proofs.Common.{ℕ, ◌*◌, List, [], length, ap, sym, subst, ◌∙◌}
+use Rattle.std.specs.Prelude.{map}
+use Rattle.std.specs.List.{enumerate_from}
+use Rattle.log_machine.specs.Runs.{run_writes}
+use Rattle.log_machine.specs.RunsLeft.{runs_left}
+use Rattle.log_machine.proofs.Addresses.{effect-addresses}
+use Rattle.log_machine.proofs.RunLaws.{run_below, run_taken, runs_done, writes_more}
+use Rattle.page_redo.specs.Pages.{page_of}
+use Rattle.page_redo.specs.Redo.{raised_to}
+use Rattle.page_cache.specs.Writing.{AreBelow, pages_of}
+use Rattle.page_cache.proofs.PutLaws.{raised_on}
 use Rattle.page_cache.proofs.raising.raise_touched.Goals as goal
 
 pub raise_from-requires-clause-inside : goal.raise_from-requires-clause-inside
 raise_from-requires-clause-inside c =
+    let run = c.in-Some.run' in
     let end = 64 * length c.args.lsns.now in
-    let here = subst (λ (r : Record). WritesBelow end r) c.in-Base.is c.requires.inside in
-    let there = each_write (λ a. a < end) (enumerate_from c.in-Base.address c.in-Base.words) here in
-    subst (λ (l : List ℕ). AreBelow end (enumerate_from c.in-Base.address l)) (sym c.as_slice.ensures) there
+    let below = run_below end c.args.rec.now c.loop-run.yielded (runs_left c.loop-run.run-iterator) (runs_left c.next.new.self) run c.requires.inside c.loop-run.invariant.left c.in-Some.ensures.steps in
+    let words = subst (λ (l : List ℕ). AreBelow end (enumerate_from run.0 l)) (sym c.words.ensures) below in
+    let here = subst (λ (a : ℕ). AreBelow end (enumerate_from a c.words.result.now)) (sym c.address.ensures) words in
+    subst (λ (n : ℕ). AreBelow (64 * n) (enumerate_from c.address.result c.words.result.now)) (sym c.loop-run.auto.lsns) here
 
-pub raise_copy-requires-clause-inside : goal.raise_copy-requires-clause-inside
-raise_copy-requires-clause-inside c =
-    let end = 64 * length c.args.lsns.now in
-    let here = subst (λ (r : Record). WritesBelow end r) c.in-Copy.is c.requires.inside in
-    let there = each_write (λ a. a < end) (copy_writes c.in-Copy.from c.in-Copy.to c.in-Copy.words) here in
-    subst (λ (l : List ℕ). AreBelow end (copy_writes c.in-Copy.from c.in-Copy.to l)) (sym c.as_slice-in-Copy.ensures) there
+pub loop-run-preserved : goal.loop-run-preserved
+loop-run-preserved c =
+    let run = c.in-Some.run' in
+    let lsn = c.args.lsn in
+    let so_far = c.loop-run.yielded in
+    record {
+      can_next = tt;
+      is_finite = tt;
+      left = run_taken c.args.rec.now so_far (runs_left c.loop-run.run-iterator) (runs_left c.next.new.self) run c.loop-run.invariant.left c.in-Some.ensures.steps;
+      raised =
+          c.raise_from.ensures
+          ∙ ap (λ (a : ℕ). raised_to lsn c.loop-run.lsns (pages_of (enumerate_from a c.words.result.now))) c.address.ensures
+          ∙ ap (λ (l : List ℕ). raised_to lsn c.loop-run.lsns (pages_of (enumerate_from run.0 l))) c.words.ensures
+          ∙ ap (λ (now : List ℕ). raised_to lsn now (pages_of (enumerate_from run.0 run.1))) c.loop-run.invariant.raised
+          ∙ sym (raised_on lsn c.args.lsns.now (run_writes so_far) (enumerate_from run.0 run.1))
+          ∙ ap (λ (ws : List (ℕ × ℕ)). raised_to lsn c.args.lsns.now (pages_of ws)) (sym (writes_more so_far run));
+    }
 
-pub raise_writes-requires-clause-inside : goal.raise_writes-requires-clause-inside
-raise_writes-requires-clause-inside c =
-    let end = 64 * length c.args.lsns.now in
-    let here = subst (λ (r : Record). WritesBelow end r) c.in-Scan.is c.requires.inside in
-    let there = each_write (λ a. a < end) c.in-Scan.writes here in
-    subst (λ (ws : List (ℕ × ℕ)). AreBelow end ws) (sym c.as_slice-in-Scan.ensures.writes) there
-
-pub raise_copies-requires-clause-inside : goal.raise_copies-requires-clause-inside
-raise_copies-requires-clause-inside c =
-    let end = 64 * length c.args.lsns.now in
-    let here = subst (λ (r : Record). WritesBelow end r) c.in-Flip.is c.requires.inside in
-    let there = each_write (λ a. a < end) (flat_map writes_of c.in-Flip.copies) here in
-    subst (λ (ks : List ObjectCopy). AreBelow end (flat_map writes_of ks)) (sym c.as_slice-in-Flip.ensures.copies) there
+pub returns : goal.returns
+returns c =
+    c.loop-run.invariant.raised
+    ∙ ap (λ (ws : List (ℕ × ℕ)). raised_to c.args.lsn c.args.lsns.now (pages_of ws)) (runs_done [] c.args.rec.now c.loop-run.yielded (runs_left c.loop-run.run-iterator) c.loop-run.invariant.left c.in-None.ensures.steps.0)
+    ∙ ap (λ (l : List ℕ). raised_to c.args.lsn c.args.lsns.now (map page_of l)) (effect-addresses [] c.args.rec.now)

@@ -4,10 +4,10 @@ use Rattle.gated_log.specs.Reader.{held, untaken}
 use Rattle.gated_log.proofs.Reader.{log_short, length-untaken, batch_room, batch_size, size_held}
 use Rattle.gated_log.proofs.reading.LogReader.next_length.Goals as goal
 
-pub returns-then-rest-le-BATCH_HEAD-clause-none : goal.returns-then-rest-le-BATCH_HEAD-clause-none
-returns-then-rest-le-BATCH_HEAD-clause-none g c log told is nothing has =
+pub returns-then-rest-le-BATCH_BYTES-clause-none : goal.returns-then-rest-le-BATCH_BYTES-clause-none
+returns-then-rest-le-BATCH_BYTES-clause-none g c log told is nothing has =
     let self = c.args.self.now in
-    omega (arith, batch_room (untaken self log) has, length-untaken self log (log_short log _ self.at self.room is), c.if-rest-le-BATCH_HEAD.true)
+    omega (arith, batch_room (untaken self log) has, length-untaken self log (log_short log _ self.at self.room is), c.if-rest-le-BATCH_BYTES.true)
 
 pub returns-in_default-clause-none : goal.returns-in_default-clause-none
 returns-in_default-clause-none g c log told is nothing has =
