@@ -91,6 +91,13 @@ impl Collection {
         self.gray.is_empty()
     }
 
+    /// Whether the object at the address is gray.
+    pub fn is_gray(&self, at: u32) -> bool
+        ensures { result ≡ contains self.now.gray at }
+    {
+        self.gray.contains(at)
+    }
+
     /// Whether a gray object starts in the page.
     pub fn gray_in(&self, page: u32) -> bool
         requires { page < 2 ^ 26 }
