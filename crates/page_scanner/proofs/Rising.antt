@@ -255,7 +255,7 @@ visited_all spaces k words page q r at (suc count) v is =
     subst (λ (x : ℕ). IsVisited spaces k words page x r) (omega arith)
     (visited_all spaces k words page step.0 r (at + 1) count (visited_more spaces k words page at q step.0 (is_gray k q at) refl v step.1) step.2)
 
-bounds_planned : (spaces : SpacesState) (k : Collection) (words : List ℕ) (page : ℕ) (q : Planned) → AreGrayApart spaces k words → scan spaces k words page ≡ Some q → IsSmall page q
+pub bounds_planned : (spaces : SpacesState) (k : Collection) (words : List ℕ) (page : ℕ) (q : Planned) → AreGrayApart spaces k words → scan spaces k words page ≡ Some q → IsSmall page q
 bounds_planned spaces k words page q apart is = in_page (is_current spaces page) is
   where
     first : IsVisited spaces k words page (64 * page) nothing

@@ -1,8 +1,9 @@
 -- The scan of a page of a heap can follow.
 use Rattle.std.proofs.Common.{◌≡◌, ℕ, zero, suc, ◌+◌, ◌*◌, ◌<◌, ◌≤◌, inl, inr, Bool, true, false, not, List, [], ◌∷◌, ◌++◌, length, Option, None, Some, refl, sym, ap, ◌∙◌, subst, arith}
 use Rattle.std.specs.Prelude.{nat_le, nat_lt, ◌==◌, ◌&&◌, ◌||◌, slice_index, is_some, unwrap_or, option_and_then, sum_by, Contains, if◌then◌else◌}
+use Rattle.std.specs.List.{AllByRecursion}
 use Rattle.std.specs.FinSet.{contains}
-use Rattle.std.proofs.lemmas.Bool.{and_from, le-leb, lt-ltb, eq-eqb, eqb-true, or_parts, or_from}
+use Rattle.std.proofs.lemmas.Bool.{and_from, and_parts, le-leb, lt-ltb, ltb-true, eq-eqb, eqb-true, or_parts, or_from}
 use Rattle.std.proofs.lemmas.Option.{same_Some}
 use Rattle.std.proofs.lemmas.List.Sums.{sum_by-cons}
 use Rattle.heap_words.specs.declared.Header.TheVariants.{Length}
@@ -12,13 +13,17 @@ use Rattle.heap_words.specs.Header.{header}
 use Rattle.heap_words.specs.Word.{bits, meaning}
 use Rattle.heap_spaces.specs.Collection.{Collection}
 use Rattle.heap_spaces.specs.Spaces.{SpacesState, space_words}
+use Rattle.log_records.specs.declared.Record.TheVariants.{Copy, Scan}
+use Rattle.log_records.specs.Record.{IsObjectWords, IsWrite, IsRecord}
+use Rattle.log_machine.proofs.ListLaws.{AllByRecursion-append}
 use Rattle.object_layout.specs.Layout.{whole_length, object_at, field_words}
 use Rattle.object_layout.proofs.LayoutLaws.{object_header}
 use Rattle.object_layout.proofs.WalkLaws.{Contains-cases, Contains-none}
-use Rattle.page_scanner.specs.Scan.{Planned, nothing, copied_to, copied_from, from_base, in_from_space, next_free, is_taken, object_words, is_left, has_room, can_copy, with_copy, can_write, copied, written, led, led_on, follow, follow_all, is_gray, source, visit, visit_all}
-use Rattle.page_scanner.specs.Heap.{AreFilling, moved_words, LeadsOn, AllLeadOn, IsForwarded, IsWaiting, IsCollected, TotalTheorem}
+use Rattle.page_scanner.specs.Scan.{Planned, nothing, copied_to, copied_from, from_base, in_from_space, next_free, is_taken, object_words, is_left, has_room, can_copy, with_copy, can_write, copied, written, led, led_on, follow, follow_all, is_gray, source, visit, visit_all, is_current, scan}
+use Rattle.page_scanner.specs.Heap.{AreFilling, moved_words, LeadsOn, AllLeadOn, IsForwarded, IsWaiting, IsCollected, TotalTheorem, SpelledTheorem}
 use Rattle.page_scanner.proofs.Following.{going_more}
-use Rattle.page_scanner.proofs.Rising.{IsApart, apart_copy, apart_first, coming_more}
+use Rattle.page_scanner.proofs.Rising.{IsApart, apart_copy, apart_first, coming_more, bounds_planned}
+use Rattle.page_scanner.proofs.Steps.{IsKept, kept_scan, planned_parts}
 
 -- Sums over the objects of the from-space.
 
@@ -109,6 +114,8 @@ record IsGoing (spaces : SpacesState) (k : Collection) (words : List ℕ) (h : I
   counted : weighed (gone k q) h.olds ≡ k.copied + q.size
   goes : (b to : ℕ) → copied_to q.copies b ≡ Some to → (spaces.base ≤ to) × (to < next_free spaces q)
   comes : (a b : ℕ) → copied_from q.copies a ≡ Some b → (spaces.base ≤ a) × AllLeadOn spaces h.olds (field_words words b)
+  spelled : AllByRecursion IsRecord q.copies
+  puts : AllByRecursion IsWrite q.writes
 
 -- a step that can follow
 record Goes (spaces : SpacesState) (k : Collection) (words : List ℕ) (h : IsCollected spaces k words) (q : Planned) (o : Option Planned) : Type 0 where
@@ -145,6 +152,8 @@ goes_written spaces k words h q at to g at_low at_high to_low to_high =
         counted = g.counted;
         goes = g.goes;
         comes = g.comes;
+        spelled = g.spelled;
+        puts = AllByRecursion-append IsWrite q.writes ((at, bits (word.Stable to)) ∷ []) g.puts ((omega (arith, r, at_high), (word.Stable to, omega (arith, r, to_high), refl)), tt);
       };
       more = omega arith;
     }
@@ -152,14 +161,22 @@ goes_written spaces k words h q at to g at_low at_high to_low to_high =
 -- an object of the from-space is copied
 going_copied : (spaces : SpacesState) (k : Collection) (words : List ℕ) (h : IsCollected spaces k words) (q : Planned) (b size n : ℕ) → IsGoing spaces k words h q
     → Contains h.olds (b, size) → gone k q b ≡ false → object_at words b ≡ Some n → size ≡ 2 + n → AllLeadOn spaces h.olds (field_words words b)
-    → IsGoing spaces k words h (with_copy spaces words q b n)
-going_copied spaces k words h q b size n g has none object whole lead = record {
+    → IsObjectWords (object_words words b n) → IsGoing spaces k words h (with_copy spaces words q b n)
+going_copied spaces k words h q b size n g has none object whole lead spell = record {
   apart = apart_copy spaces k words 0 nothing q b n g.apart object;
   counted =
       let more = weighed_more (gone k q) (gone k r) (from_base spaces) h.olds (from_base spaces + k.used) b size h.filled has none counts others in
       let counted = g.counted in omega (arith, more, counted, whole);
   goes = λ c to is. goes_more c to (b == c) refl is;
   comes = λ a c is. comes_more a c (next_free spaces q == a) refl is;
+  spelled =
+      let ends = (weighed_one (gone k q) (from_base spaces) h.olds (from_base spaces + k.used) b size h.filled has none).2 in
+      let high = room spaces k words h q g in
+      let few = h.few in
+      let fits = h.fits in
+      AllByRecursion-append IsRecord q.copies (Copy b (next_free spaces q) (object_words words b n) ∷ []) g.spelled
+      (record { from_fits = omega (arith, ends, few, fits, whole); to_fits = omega (arith, high); object = spell }, tt);
+  puts = g.puts;
 }
   where
     r : Planned
@@ -241,7 +258,7 @@ goes_copied spaces k words h q at b size g low high has none w =
     let one : Goes spaces k words h q (copied spaces k words q b (whole_length words b (Some (Length n)))) = record {
       next = r;
       is = ap (copied spaces k words q b) length_is ∙ ap (λ t. if t then Some r else None) can;
-      going = going_copied spaces k words h q b size n g has none w.stands w.whole w.lead;
+      going = going_copied spaces k words h q b size n g has none w.stands w.whole w.lead w.spelled;
       more = omega arith;
     } in
     goes_same spaces k words h q (led spaces k words q at b (header (slice_index words b))) (option_and_then next (copied spaces k words q b (whole_length words b (Some (Length n)))))
@@ -325,15 +342,44 @@ none_gone k (o ∷ os) =
     or_none true = refl
     or_none false = refl
 
--- the scan of a page of a heap can follow
-pub total : TotalTheorem
-total spaces k words page h current =
+-- all of a page is gone over
+run : (spaces : SpacesState) (k : Collection) (words : List ℕ) (page : ℕ) (h : IsCollected spaces k words) → Goes spaces k words h nothing (visit_all spaces k words nothing (64 * page) 64)
+run spaces k words page h =
     let apart = apart_first spaces k words h.gray_apart in
     let first : IsGoing spaces k words h nothing = record {
       apart = record { inside = apart.inside; apart = apart.apart; old = omega arith; more = λ a gray. inl gray };
       counted = let same = none_gone k h.olds in let counted = h.counted in omega (arith, same, counted);
       goes = λ b to is. cc;
       comes = λ a b is. cc;
+      spelled = tt;
+      puts = tt;
     } in
-    let goes = goes_visit_all spaces k words h nothing (64 * page) 64 first in
-    (goes.next, ap (λ t. if t then visit_all spaces k words nothing (64 * page) 64 else None) current ∙ goes.is)
+    goes_visit_all spaces k words h nothing (64 * page) 64 first
+
+scan_of_page : (spaces : SpacesState) (k : Collection) (words : List ℕ) (page : ℕ) → is_current spaces page ≡ true → scan spaces k words page ≡ visit_all spaces k words nothing (64 * page) 64
+scan_of_page spaces k words page current = ap (λ t. if t then visit_all spaces k words nothing (64 * page) 64 else None) current
+
+-- the scan of a page of a heap can follow
+pub total : TotalTheorem
+total spaces k words page h current = let goes = run spaces k words page h in (goes.next, scan_of_page spaces k words page current ∙ goes.is)
+
+-- what holds of each plan is kept
+nothing_kept : (spaces : SpacesState) (k : Collection) (words : List ℕ) → IsKept (λ q. Unit {0}) spaces k words
+nothing_kept spaces k words = record { write = λ q r at to p is. tt; copy = λ q b n p within none object can. tt }
+
+page_small : (spaces : SpacesState) (page : ℕ) → spaces.base + space_words spaces.pages ≤ 2097152 → is_current spaces page ≡ true → page < 4294967296
+page_small spaces page few current =
+    let below = ltb-true (64 * page) (spaces.base + space_words spaces.pages) (and_parts (nat_le spaces.base (64 * page)) (nat_lt (64 * page) (spaces.base + space_words spaces.pages)) current).1 in
+    omega (arith, below, few)
+
+-- its records have a spelling
+pub all_spelled : SpelledTheorem
+all_spelled spaces k words page records h is =
+    let plan = planned_parts page (scan spaces k words page) records is in
+    let current = (kept_scan (λ q. Unit {0}) spaces k words (nothing_kept spaces k words) page plan.0 tt plan.1).0 in
+    let goes = run spaces k words page h in
+    let same : goes.next ≡ plan.0 = same_Some goes.next plan.0 (sym (scan_of_page spaces k words page current ∙ goes.is) ∙ plan.1) in
+    let few = (bounds_planned spaces k words page plan.0 h.gray_apart plan.1).writes in
+    let going = subst (IsGoing spaces k words h) same goes.going in
+    let last : IsRecord (Scan page plan.0.writes) = record { page_fits = page_small spaces page h.few current; few = omega (arith, few); each = going.puts } in
+    subst (AllByRecursion IsRecord) plan.2 (AllByRecursion-append IsRecord plan.0.copies (Scan page plan.0.writes ∷ []) going.spelled (last, tt))

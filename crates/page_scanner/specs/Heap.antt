@@ -10,8 +10,10 @@ use Rattle.heap_words.specs.Word.{meaning}
 use Rattle.heap_spaces.specs.Collection.{Collection}
 use Rattle.heap_spaces.specs.Spaces.{SpacesState, space_words}
 use Rattle.object_layout.specs.Layout.{object_at, field_words}
+use Rattle.log_records.specs.declared.Record.{Record}
+use Rattle.log_records.specs.Record.{IsObjectWords, IsRecord}
 use Rattle.page_scanner.specs.Bounds.{AreGrayApart}
-use Rattle.page_scanner.specs.Scan.{Planned, from_base, in_from_space, is_current, scan}
+use Rattle.page_scanner.specs.Scan.{Planned, from_base, in_from_space, object_words, is_current, scan, scan_records}
 
 -- objects, each by its address and its number of words, fill a space end to end from one address to another
 abbrev pub AreFilling : ℕ → List (ℕ × ℕ) → ℕ → Type 0
@@ -41,12 +43,13 @@ pub record IsForwarded (spaces : SpacesState) (words : List ℕ) (b : ℕ) : Typ
   pub low : spaces.base ≤ to
   pub high : to < spaces.base + spaces.used
 
--- one that is left stands there, and its fields lead on
+-- one that is left stands there with words that a record can have, and its fields lead on
 pub record IsWaiting (spaces : SpacesState) (words : List ℕ) (olds : List (ℕ × ℕ)) (b size : ℕ) : Type 0 where
   pub fields : ℕ
   pub stands : object_at words b ≡ Some fields
   pub whole : size ≡ 2 + fields
   pub lead : AllLeadOn spaces olds (field_words words b)
+  pub spelled : IsObjectWords (object_words words b fields)
 
 -- A heap within a collection.
 pub record IsCollected (spaces : SpacesState) (k : Collection) (words : List ℕ) : Type 0 where
@@ -54,6 +57,7 @@ pub record IsCollected (spaces : SpacesState) (k : Collection) (words : List ℕ
   pub filled : AreFilling (from_base spaces) olds (from_base spaces + k.used)
   pub counted : moved_words k olds ≡ k.copied
   pub room : spaces.used + (k.used - k.copied) ≤ space_words spaces.pages
+  pub fits : k.used ≤ space_words spaces.pages
   pub few : spaces.base + space_words spaces.pages ≤ 2097152
   pub forwarded : (b size : ℕ) → Contains olds (b, size) → contains k.moved b ≡ true → IsForwarded spaces words b
   pub waiting : (b size : ℕ) → Contains olds (b, size) → contains k.moved b ≡ false → IsWaiting spaces words olds b size
@@ -64,3 +68,8 @@ pub record IsCollected (spaces : SpacesState) (k : Collection) (words : List ℕ
 -- The scan of a page of such a heap can follow.
 abbrev pub TotalTheorem : Type 0
 TotalTheorem = (spaces : SpacesState) (k : Collection) (words : List ℕ) (page : ℕ) → IsCollected spaces k words → is_current spaces page ≡ true → (q : Planned) × (scan spaces k words page ≡ Some q)
+
+-- Its records have a spelling.
+abbrev pub SpelledTheorem : Type 0
+SpelledTheorem =
+    (spaces : SpacesState) (k : Collection) (words : List ℕ) (page : ℕ) (records : List Record) → IsCollected spaces k words → scan_records spaces k words page ≡ Some records → AllByRecursion IsRecord records

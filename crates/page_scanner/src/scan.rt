@@ -1,9 +1,11 @@
 //! What a scan of a page does.
 ghost use Rattle.std.specs.Prelude.{◌≡◌, ◌≢◌, true, ◌+◌, ◌*◌, ◌≤◌, ◌<◌, IsTrue, IfOk, IfSome, IfNone, OnOk, Err, None, Some, vec_len};
 ghost use Rattle.std.specs.FinSet.{empty};
+ghost use Rattle.std.specs.List.{AllByRecursion};
 ghost use Rattle.heap_spaces.specs.Copying.{IsLeastGrayPage};
 ghost use Rattle.object_layout.specs.Read.{IsRead};
 ghost use Rattle.page_scanner.specs.declared.scan_error.ScanError.TheVariants.{Damaged};
+ghost use Rattle.log_records.specs.Record.{IsRecord};
 ghost use Rattle.log_machine.specs.Machine.{State, spaces_of};
 ghost use Rattle.page_scanner.specs.Bounds.{AreGrayApart, AreSmall};
 ghost use Rattle.page_scanner.specs.Heap.{IsCollected};
@@ -42,6 +44,7 @@ pub fn plan_scan<W: Words>(
     ensures damaged { IsTrue W.tells → result ≡ Err Damaged → scan_records spaces.now collection.now (W.content words.old) page ≡ None }
     ensures passes { IsTrue W.tells → IfOk result (λ records. (s : State) → spaces_of s ≡ spaces.now → s.collection ≡ Some collection.now → IsScanned s page records.items) }
     ensures whole { IsTrue W.tells → IsCollected spaces.now collection.now (W.content words.old) → is_page_current spaces.now page ≡ true → result ≢ Err Damaged }
+    ensures spelled { IsTrue W.tells → IsCollected spaces.now collection.now (W.content words.old) → IfOk result (λ records. AllByRecursion IsRecord records.items) }
     ensures small { IsTrue W.tells → IfOk result (λ records. AreGrayApart spaces.now collection.now (W.content words.old) → AreSmall page records.items) }
     ensures read { IsRead W.tells W.extent W.content W.keeps W.faults W.stops words.old words.new (scan_failure result) }
 {
