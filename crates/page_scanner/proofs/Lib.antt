@@ -1,0 +1,7 @@
+mod Fields
+mod Following
+mod Headers
+mod Loops
+mod Rising
+mod Steps
+mod Total

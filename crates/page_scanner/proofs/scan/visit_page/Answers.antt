@@ -1,0 +1,59 @@
+-- One address after another is visited.
+use Rattle.std.proofs.Common.{◌≡◌, ℕ, ◌+◌, ◌-◌, ◌<◌, List, Some, None, Result, Ok, Err, sym, ap, ◌∙◌, subst, arith}
+use Rattle.std.specs.Prelude.{IsErrAnd}
+use Rattle.page_scanner.specs.declared.scan_error.ScanError.{ScanError}
+use Rattle.page_scanner.specs.declared.scan_error.ScanError.TheVariants.{Damaged}
+use Rattle.page_scanner.specs.Plan.{planned}
+use Rattle.page_scanner.specs.Scan.{visit, visit_all}
+use Rattle.object_layout.proofs.ReadLaws.{not_read, read_on}
+use Rattle.page_scanner.proofs.Loops.{visit_on, visit_stop, visit_end}
+use Rattle.page_scanner.proofs.scan.visit_page.Goals as goal
+
+handed_on : {X : Type 0} (r : Result X ScanError) (e : ScanError) → IsErrAnd r (λ y. y ≡ e) → r ≡ Err Damaged → e ≡ Damaged
+handed_on (Ok done) e at is = cc
+handed_on (Err y) e at is = cc
+
+pub loop-at-init : goal.loop-at-init
+loop-at-init g c = record {
+  read = not_read _ _ _ _ _ _ _ g.met.W.Words.keeps_itself;
+  plan = c.new-plan.ensures.plan;
+  few = let none = c.new-plan.ensures.empty in omega (arith, none);
+  visited = λ told.
+      let words = g.W.Words.content c.args.words.now in
+      let all : 64 ≡ c.args.first + 64 - c.args.first = omega arith in
+      ap (λ q. visit_all c.args.spaces.now c.args.collection.now words q c.args.first 64) (sym c.new-plan.ensures.nothing)
+      ∙ ap (visit_all c.args.spaces.now c.args.collection.now words (planned c.new-plan.result) c.args.first) all;
+}
+
+pub returns-in_err-visit-clause-damaged : goal.returns-in_err-visit-clause-damaged
+returns-in_err-visit-clause-damaged g c told is =
+    let words = g.W.Words.content c.args.words.now in
+    let left = c.args.first + 64 - c.loop-at.at in
+    let some : 0 < left = omega arith in
+    let Damages : List ℕ → Type 0 = λ ws. visit c.args.spaces.now c.args.collection.now ws (planned c.loop-at.plan) c.loop-at.at ≡ None in
+    let stop : Damages words =
+    subst Damages (c.loop-at.invariant.read.same_words told) (c.in_err-visit.ensures.damaged told (ap Err (handed_on c.from_residual.result _ c.from_residual.ensures.1 is))) in
+    c.loop-at.invariant.visited told ∙ visit_stop c.args.spaces.now c.args.collection.now words (planned c.loop-at.plan) c.loop-at.at left some stop
+
+pub returns-clause-visited : goal.returns-clause-visited
+returns-clause-visited g c told =
+    let words = g.W.Words.content c.args.words.now in
+    let left = c.args.first + 64 - c.loop-at.at in
+    let none : left ≡ 0 = omega arith in
+    c.loop-at.invariant.visited told ∙ visit_end c.args.spaces.now c.args.collection.now words (planned c.loop-at.plan) c.loop-at.at left none
+
+pub loop-at-preserved : goal.loop-at-preserved
+loop-at-preserved g c = record {
+  read = read_on _ _ _ _ _ _ _ _ _ _ g.met.W.Words.keeps_on c.loop-at.invariant.read c.in_ok-visit.ensures.read;
+  plan = c.in_ok-visit.ensures.plan;
+  few = let more = c.in_ok-visit.ensures.few in let before = c.loop-at.invariant.few in omega (arith, more, before);
+  visited = λ told.
+      let words = g.W.Words.content c.args.words.now in
+      let some : 0 < c.args.first + 64 - c.loop-at.at = omega arith in
+      let less : c.args.first + 64 - c.loop-at.at - 1 ≡ c.args.first + 64 - (c.loop-at.at + 1) = omega arith in
+      let Visited : List ℕ → Type 0 = λ ws. visit c.args.spaces.now c.args.collection.now ws (planned c.loop-at.plan) c.loop-at.at ≡ Some (planned c.visit.new.self) in
+      let one : Visited words = subst Visited (c.loop-at.invariant.read.same_words told) (c.in_ok-visit.ensures.visited told) in
+      c.loop-at.invariant.visited told
+      ∙ visit_on c.args.spaces.now c.args.collection.now words (planned c.loop-at.plan) (planned c.visit.new.self) c.loop-at.at (c.args.first + 64 - c.loop-at.at) some one
+      ∙ ap (visit_all c.args.spaces.now c.args.collection.now words (planned c.visit.new.self) (c.loop-at.at + 1)) less;
+}

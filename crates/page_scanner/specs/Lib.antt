@@ -1,0 +1,6 @@
+pub mod Bounds
+pub mod Heap
+pub mod Passing
+pub mod Plan
+pub mod Scan
+pub mod ScanFailure

@@ -1,0 +1,11 @@
+//! The scan of a page in a collection: which records lead the fields of its gray objects to the current space.
+#![tactic(auto)]
+
+mod plan;
+mod reading;
+mod scan;
+mod scan_error;
+mod spaces;
+
+pub use scan::{next_gray_page, plan_scan};
+pub use scan_error::ScanError;

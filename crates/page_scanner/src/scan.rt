@@ -1,0 +1,95 @@
+//! What a scan of a page does.
+ghost use Rattle.std.specs.Prelude.{◌≡◌, ◌≢◌, true, ◌+◌, ◌*◌, ◌≤◌, ◌<◌, IsTrue, IfOk, IfSome, IfNone, OnOk, Err, None, Some, vec_len};
+ghost use Rattle.std.specs.FinSet.{empty};
+ghost use Rattle.std.specs.List.{AllByRecursion};
+ghost use Rattle.heap_spaces.specs.Copying.{IsLeastGrayPage};
+ghost use Rattle.object_layout.specs.Read.{IsRead};
+ghost use Rattle.page_scanner.specs.declared.scan_error.ScanError.TheVariants.{Damaged};
+ghost use Rattle.log_records.specs.Record.{IsRecord};
+ghost use Rattle.log_machine.specs.Machine.{State, spaces_of};
+ghost use Rattle.page_scanner.specs.Bounds.{AreGrayApart, AreSmall};
+ghost use Rattle.page_scanner.specs.Heap.{IsCollected};
+ghost use Rattle.page_scanner.specs.Passing.{IsScanned};
+ghost use Rattle.page_scanner.specs.Plan.{planned};
+ghost use Rattle.page_scanner.specs.Scan.{nothing, visit_all, is_current as is_page_current, scan_records};
+ghost use Rattle.page_scanner.specs.ScanFailure.{scan_failure};
+
+use crate::plan::Plan;
+use crate::scan_error::ScanError;
+use crate::spaces::{PAGE_WORDS, is_current};
+use heap_spaces::{Collection, Spaces};
+use log_records::{Record, Writes};
+use object_layout::Words;
+use std::alloc::Global;
+
+/// The page that is scanned next: the least one in which a gray object starts.
+pub fn next_gray_page(collection: &Collection) -> Option<u32>
+    ensures some { IfSome result (IsLeastGrayPage collection.now) }
+    ensures none { IfNone result (collection.now.gray ≡ empty) }
+{
+    collection.least_gray_page()
+}
+
+/// The records of the scan of a page of the current space: copies of the objects of the from-space to which its gray objects lead, also
+/// those that are copied into it, each copied once; and behind them the scan, with the new word of each field that led there. It only
+/// reads; its time is that of what it reads, times a logarithm.
+pub fn plan_scan<W: Words>(
+    alloc: Global,
+    words: &mut W,
+    spaces: &Spaces,
+    collection: &Collection,
+    page: u32,
+) -> Result<Vec<Record>, ScanError>
+    ensures records { IsTrue W.tells → IfOk result (λ records. scan_records spaces.now collection.now (W.content words.old) page ≡ Some records.items) }
+    ensures damaged { IsTrue W.tells → result ≡ Err Damaged → scan_records spaces.now collection.now (W.content words.old) page ≡ None }
+    ensures passes { IsTrue W.tells → IfOk result (λ records. (s : State) → spaces_of s ≡ spaces.now → s.collection ≡ Some collection.now → IsScanned s page records.items) }
+    ensures whole { IsTrue W.tells → IsCollected spaces.now collection.now (W.content words.old) → is_page_current spaces.now page ≡ true → result ≢ Err Damaged }
+    ensures spelled { IsTrue W.tells → IsCollected spaces.now collection.now (W.content words.old) → IfOk result (λ records. AllByRecursion IsRecord records.items) }
+    ensures small { IsTrue W.tells → IfOk result (λ records. AreGrayApart spaces.now collection.now (W.content words.old) → AreSmall page records.items) }
+    ensures read { IsRead W.tells W.extent W.content W.keeps W.faults W.stops words.old words.new (scan_failure result) }
+{
+    plan_records(alloc, words, spaces, collection, page)
+}
+
+// The records of the scan of a page, exactly those that can follow.
+fn plan_records<W: Words>(
+    alloc: Global,
+    words: &mut W,
+    spaces: &Spaces,
+    collection: &Collection,
+    page: u32,
+) -> Result<Vec<Record>, ScanError>
+    ensures records { IsTrue W.tells → IfOk result (λ records. scan_records spaces.now collection.now (W.content words.old) page ≡ Some records.items) }
+    ensures damaged { IsTrue W.tells → result ≡ Err Damaged → scan_records spaces.now collection.now (W.content words.old) page ≡ None }
+    ensures read { IsRead W.tells W.extent W.content W.keeps W.faults W.stops words.old words.new (scan_failure result) }
+{
+    if !is_current(spaces, page) {
+        return Err(ScanError::Damaged);
+    }
+    let plan = visit_page(alloc, words, spaces, collection, PAGE_WORDS * page)?;
+    let mut records = plan.copies;
+    let writes = Writes::new(plan.writes);
+    records.push(Record::Scan { page, writes })?;
+    Ok(records)
+}
+
+// The plan when all gray objects of the page that begins at an address were visited.
+fn visit_page<W: Words>(
+    alloc: Global,
+    words: &mut W,
+    spaces: &Spaces,
+    collection: &Collection,
+    first: u32,
+) -> Result<Plan, ScanError>
+    requires low { first + 64 < 2147483648 }
+    ensures visited { IsTrue W.tells → IfOk result (λ plan. visit_all spaces.now collection.now (W.content words.old) nothing first 64 ≡ Some (planned plan)) }
+    ensures damaged { IsTrue W.tells → result ≡ Err Damaged → visit_all spaces.now collection.now (W.content words.old) nothing first 64 ≡ None }
+    ensures few { IfOk result (λ plan. vec_len plan.writes ≤ 64 * 510) }
+    ensures read { IsRead W.tells W.extent W.content W.keeps W.faults W.stops words.old words.new (scan_failure result) }
+{
+    let mut plan = Plan::new(alloc);
+    for at in first..first + PAGE_WORDS {
+        plan.visit(words, spaces, collection, at)?;
+    }
+    Ok(plan)
+}
