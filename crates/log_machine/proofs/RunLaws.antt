@@ -11,9 +11,13 @@ use Rattle.log_records.specs.declared.Record.{Record}
 use Rattle.log_records.specs.declared.Record.TheVariants.{Update, Base, Fix, Undo, Commit, End, Copy, Scan, Flip, Collected}
 use Rattle.log_machine.specs.Machine.{effect, writes_of}
 use Rattle.log_machine.specs.Effect.{WritesBelow}
-use Rattle.log_machine.specs.Runs.{copy_runs, copies_runs, write_runs, runs, run_writes}
+use Rattle.log_machine.specs.Runs.{copy_runs, copies_runs, write_runs, runs}
 use Rattle.log_machine.proofs.ListLaws.{AllByRecursion-front, AllByRecursion-behind}
 use Rattle.log_machine.proofs.Addresses.{effect_writes}
+
+-- what runs write, word by word
+abbrev pub run_writes : List (ℕ × List ℕ) → List (ℕ × ℕ)
+run_writes runs = flat_map (λ r. enumerate_from r.0 r.1) runs
 
 -- the run at a place stands at the front of those from it on
 pub left_some : {A : Type 0} (l : List A) (i : ℕ) (x : A) → Some x ≡ slice_get l i → drop i l ≡ x ∷ drop (i + 1) l

@@ -1,6 +1,6 @@
 -- The runs of words that a record writes: each is an address and the words from it on.
 use Rattle.std.specs.Prelude.{ℕ, List, [], ◌∷◌, map}
-use Rattle.std.specs.List.{enumerate_from, flat_map}
+use Rattle.std.specs.List.{flat_map}
 use Rattle.log_records.specs.declared.copies.ObjectCopy.{ObjectCopy}
 use Rattle.log_records.specs.declared.Record.{Record}
 use Rattle.log_records.specs.declared.Record.TheVariants.{Update, Base, Fix, Undo, Commit, End, Copy, Scan, Flip, Collected}
@@ -32,7 +32,3 @@ runs (Copy from to words) = copy_runs from to words
 runs (Scan page writes) = write_runs writes
 runs (Flip copies) = copies_runs copies
 runs Collected = []
-
--- what runs write, word by word
-abbrev pub run_writes : List (ℕ × List ℕ) → List (ℕ × ℕ)
-run_writes runs = flat_map (λ r. enumerate_from r.0 r.1) runs

@@ -24,8 +24,8 @@ use Rattle.log_machine.specs.Machine.{State, spaces_of}
 use Rattle.log_machine.specs.Collecting.{other_base, is_used, can_move, can_hold, can_put, copied_in, with_copy as with_copied, with_moved, is_current_page, leads_to_used, collecting_after, scanned_in}
 use Rattle.object_layout.specs.Layout.{object_at}
 use Rattle.object_layout.proofs.LayoutLaws.{object_header}
-use Rattle.page_scanner.specs.Scan.{Planned, nothing, going, copied_to, in_from_space, from_base, next_free, object_words, is_left, has_room, can_copy, with_copy, is_taken, can_write, written, is_current, scan, records_of}
-use Rattle.page_scanner.specs.Passing.{collecting_after_all, IsScanned, ScansTheorem}
+use Rattle.page_scanner.specs.Scan.{Planned, nothing, going, copied_to, in_from_space, from_base, next_free, object_words, is_left, has_room, can_copy, with_copy, is_taken, can_write, written, is_current, scan, scan_records, records_of}
+use Rattle.page_scanner.specs.Passing.{collecting_after_all, IsScanned}
 use Rattle.page_scanner.proofs.Steps.{tested, planned_parts, IsKept, kept_scan}
 
 -- where objects go with one copy more
@@ -240,7 +240,7 @@ scanned_last s k page q current f =
     }
 
 -- the records of a scan follow one another, and nothing in the page is gray behind them
-pub scans : ScansTheorem
+pub scans : (s : State) (k : Collection) (words : List ℕ) (page : ℕ) (records : List Record) → s.collection ≡ Some k → scan_records (spaces_of s) k words page ≡ Some records → IsScanned s page records
 scans s k words page records runs is =
     let plan = planned_parts page (scan (spaces_of s) k words page) records is in
     let kept = kept_scan (IsFollowing s k) (spaces_of s) k words (following s k words) page plan.0 (at_first s k runs) plan.1 in

@@ -18,8 +18,8 @@ use Rattle.log_records.specs.declared.Record.{Record}
 use Rattle.log_records.specs.declared.Record.TheVariants.{Copy}
 use Rattle.object_layout.specs.Layout.{whole_length, object_at, field_words}
 use Rattle.object_layout.proofs.LayoutLaws.{length-field_words}
-use Rattle.page_scanner.specs.Scan.{Planned, nothing, coming, copied_to, copied_from, in_from_space, next_free, can_copy, can_write, with_copy, object_words, copied, written, led, led_on, follow, follow_all, is_gray, source, visit, visit_all, is_current, scan}
-use Rattle.page_scanner.specs.Bounds.{AreRising, AreGrayApart, IsSmall, BoundsTheorem}
+use Rattle.page_scanner.specs.Scan.{Planned, nothing, coming, copied_to, copied_from, in_from_space, next_free, can_copy, can_write, with_copy, object_words, copied, written, led, led_on, follow, follow_all, is_gray, source, visit, visit_all, is_current, scan, scan_records}
+use Rattle.page_scanner.specs.Bounds.{AreRising, AreGrayApart, IsSmall, AreSmall}
 use Rattle.page_scanner.proofs.Fields.{few_fields}
 use Rattle.page_scanner.proofs.Steps.{two_steps, tested, planned_parts, IsKept, kept_follow_all}
 
@@ -278,7 +278,7 @@ bounds_planned spaces k words page q apart is = in_page (is_current spaces page)
         record { copies = omega (arith, count, few); writes = omega (arith, count); rising = rises }
 
 -- a scan copies little, and its writes ascend
-pub bounds : BoundsTheorem
+pub bounds : (spaces : SpacesState) (k : Collection) (words : List ℕ) (page : ℕ) (records : List Record) → AreGrayApart spaces k words → scan_records spaces k words page ≡ Some records → AreSmall page records
 bounds spaces k words page records apart is =
     let plan = planned_parts page (scan spaces k words page) records is in
     (plan.0, sym plan.2, bounds_planned spaces k words page plan.0 apart plan.1)

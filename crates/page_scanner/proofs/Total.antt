@@ -19,8 +19,8 @@ use Rattle.log_machine.proofs.ListLaws.{AllByRecursion-append}
 use Rattle.object_layout.specs.Layout.{whole_length, object_at, field_words}
 use Rattle.object_layout.proofs.LayoutLaws.{object_header}
 use Rattle.object_layout.proofs.WalkLaws.{Contains-cases, Contains-none}
-use Rattle.page_scanner.specs.Scan.{Planned, nothing, copied_to, copied_from, from_base, in_from_space, next_free, is_taken, object_words, is_left, has_room, can_copy, with_copy, can_write, copied, written, led, led_on, follow, follow_all, is_gray, source, visit, visit_all, is_current, scan}
-use Rattle.page_scanner.specs.Heap.{AreFilling, moved_words, LeadsOn, AllLeadOn, IsForwarded, IsWaiting, IsCollected, TotalTheorem, SpelledTheorem}
+use Rattle.page_scanner.specs.Scan.{Planned, nothing, copied_to, copied_from, from_base, in_from_space, next_free, is_taken, object_words, is_left, has_room, can_copy, with_copy, can_write, copied, written, led, led_on, follow, follow_all, is_gray, source, visit, visit_all, is_current, scan, scan_records}
+use Rattle.page_scanner.specs.Heap.{AreFilling, moved_words, LeadsOn, AllLeadOn, IsForwarded, IsWaiting, IsCollected}
 use Rattle.page_scanner.proofs.Following.{going_more}
 use Rattle.page_scanner.proofs.Rising.{IsApart, apart_copy, apart_first, coming_more, bounds_planned}
 use Rattle.page_scanner.proofs.Steps.{IsKept, kept_scan, planned_parts}
@@ -360,7 +360,7 @@ scan_of_page : (spaces : SpacesState) (k : Collection) (words : List ℕ) (page 
 scan_of_page spaces k words page current = ap (λ t. if t then visit_all spaces k words nothing (64 * page) 64 else None) current
 
 -- the scan of a page of a heap can follow
-pub total : TotalTheorem
+pub total : (spaces : SpacesState) (k : Collection) (words : List ℕ) (page : ℕ) → IsCollected spaces k words → is_current spaces page ≡ true → (q : Planned) × (scan spaces k words page ≡ Some q)
 total spaces k words page h current = let goes = run spaces k words page h in (goes.next, scan_of_page spaces k words page current ∙ goes.is)
 
 -- what holds of each plan is kept
@@ -373,7 +373,7 @@ page_small spaces page few current =
     omega (arith, below, few)
 
 -- its records have a spelling
-pub all_spelled : SpelledTheorem
+pub all_spelled : (spaces : SpacesState) (k : Collection) (words : List ℕ) (page : ℕ) (records : List Record) → IsCollected spaces k words → scan_records spaces k words page ≡ Some records → AllByRecursion IsRecord records
 all_spelled spaces k words page records h is =
     let plan = planned_parts page (scan spaces k words page) records is in
     let current = (kept_scan (λ q. Unit {0}) spaces k words (nothing_kept spaces k words) page plan.0 tt plan.1).0 in

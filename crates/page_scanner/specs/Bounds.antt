@@ -1,11 +1,11 @@
 -- How much a scan does, and where.
-use Rattle.std.specs.Prelude.{◌≡◌, ℕ, ◌+◌, ◌*◌, ◌≤◌, ◌<◌, true, List, [], ◌∷◌, length, Some}
+use Rattle.std.specs.Prelude.{◌≡◌, ℕ, ◌+◌, ◌*◌, ◌≤◌, ◌<◌, true, List, [], ◌∷◌, length}
 use Rattle.std.specs.FinSet.{contains}
 use Rattle.heap_spaces.specs.Collection.{Collection}
 use Rattle.heap_spaces.specs.Spaces.{SpacesState}
 use Rattle.object_layout.specs.Layout.{field_words}
 use Rattle.log_records.specs.declared.Record.{Record}
-use Rattle.page_scanner.specs.Scan.{Planned, records_of, scan_records}
+use Rattle.page_scanner.specs.Scan.{Planned, records_of}
 
 -- the addresses of writes ascend, from one address on and below another
 abbrev pub AreRising : ℕ → List (ℕ × ℕ) → ℕ → Type 0
@@ -27,8 +27,3 @@ pub record IsSmall (page : ℕ) (q : Planned) : Type 0 where
 -- records of such a scan
 abbrev pub AreSmall : ℕ → List Record → Type 0
 AreSmall page records = (q : Planned) × (records ≡ records_of page q) × IsSmall page q
-
-abbrev pub BoundsTheorem : Type 0
-BoundsTheorem =
-    (spaces : SpacesState) (k : Collection) (words : List ℕ) (page : ℕ) (records : List Record) → AreGrayApart spaces k words
-    → scan_records spaces k words page ≡ Some records → AreSmall page records

@@ -64,12 +64,3 @@ pub record IsCollected (spaces : SpacesState) (k : Collection) (words : List ℕ
   pub gray_apart : AreGrayApart spaces k words
   pub gray_here : (a : ℕ) → contains k.gray a ≡ true → spaces.base ≤ a
   pub gray_lead : (a : ℕ) → contains k.gray a ≡ true → AllLeadOn spaces olds (field_words words a)
-
--- The scan of a page of such a heap can follow.
-abbrev pub TotalTheorem : Type 0
-TotalTheorem = (spaces : SpacesState) (k : Collection) (words : List ℕ) (page : ℕ) → IsCollected spaces k words → is_current spaces page ≡ true → (q : Planned) × (scan spaces k words page ≡ Some q)
-
--- Its records have a spelling.
-abbrev pub SpelledTheorem : Type 0
-SpelledTheorem =
-    (spaces : SpacesState) (k : Collection) (words : List ℕ) (page : ℕ) (records : List Record) → IsCollected spaces k words → scan_records spaces k words page ≡ Some records → AllByRecursion IsRecord records

@@ -19,9 +19,3 @@ pub record IsScanned (s : State) (page : ℕ) (records : List Record) : Type 0 w
   pub collection : Collection
   pub runs : next.collection ≡ Some collection
   pub none_gray : (at : ℕ) → page_of at ≡ page → contains collection.gray at ≡ false
-
--- Each state of these spaces in which this collection runs lets the records of a scan follow.
-abbrev pub ScansTheorem : Type 0
-ScansTheorem =
-    (s : State) (k : Collection) (words : List ℕ) (page : ℕ) (records : List Record) → s.collection ≡ Some k
-    → scan_records (spaces_of s) k words page ≡ Some records → IsScanned s page records

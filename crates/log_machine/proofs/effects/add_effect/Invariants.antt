@@ -1,5 +1,6 @@
 use Rattle.std.proofs.Common.{◌≡◌, ◌++◌}
-use Rattle.log_machine.specs.Runs.{runs, run_writes}
+use Rattle.log_machine.specs.Runs.{runs}
+use Rattle.log_machine.proofs.RunLaws.{run_writes}
 use Rattle.log_machine.specs.RunsLeft.{runs_left}
 use Rattle.log_machine.proofs.effects.add_effect.Given as goal
 

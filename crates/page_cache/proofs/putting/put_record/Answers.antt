@@ -1,7 +1,7 @@
 use Rattle.std.proofs.Common.{ℕ, List, length, ap, sym, subst, ◌∙◌}
 use Rattle.std.specs.List.{enumerate_from}
 use Rattle.log_machine.specs.Machine.{put_all}
-use Rattle.log_machine.specs.Runs.{run_writes}
+use Rattle.log_machine.proofs.RunLaws.{run_writes}
 use Rattle.log_machine.specs.RunsLeft.{runs_left}
 use Rattle.log_machine.proofs.RunLaws.{run_below, run_taken, runs_done, writes_more}
 use Rattle.page_cache.specs.Writing.{AreBelow, lacking}

@@ -1,6 +1,7 @@
 use Rattle.std.proofs.Common.{◌≡◌, ◌++◌}
 use Rattle.log_machine.specs.Machine.{put_all}
-use Rattle.log_machine.specs.Runs.{runs, run_writes}
+use Rattle.log_machine.specs.Runs.{runs}
+use Rattle.log_machine.proofs.RunLaws.{run_writes}
 use Rattle.log_machine.specs.RunsLeft.{runs_left}
 use Rattle.page_cache.specs.Writing.{lacking}
 use Rattle.page_cache.proofs.putting.put_record.Given as goal
