@@ -14,6 +14,7 @@ use Rattle.heap_words.specs.Word.{bits, meaning}
 use Rattle.heap_spaces.specs.Collection.{Collection}
 use Rattle.heap_spaces.specs.Spaces.{SpacesState, space_words}
 use Rattle.log_records.specs.declared.Record.TheVariants.{Copy, Scan}
+use Rattle.log_records.specs.declared.Record.{Record}
 use Rattle.log_records.specs.Record.{IsObjectWords, IsWrite, IsRecord}
 use Rattle.log_machine.proofs.ListLaws.{AllByRecursion-append}
 use Rattle.object_layout.specs.Layout.{whole_length, object_at, field_words}

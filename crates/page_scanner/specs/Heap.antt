@@ -11,9 +11,9 @@ use Rattle.heap_spaces.specs.Collection.{Collection}
 use Rattle.heap_spaces.specs.Spaces.{SpacesState, space_words}
 use Rattle.object_layout.specs.Layout.{object_at, field_words}
 use Rattle.log_records.specs.declared.Record.{Record}
-use Rattle.log_records.specs.Record.{IsObjectWords, IsRecord}
+use Rattle.log_records.specs.Record.{IsObjectWords}
 use Rattle.page_scanner.specs.Bounds.{AreGrayApart}
-use Rattle.page_scanner.specs.Scan.{Planned, from_base, in_from_space, object_words, is_current, scan, scan_records}
+use Rattle.page_scanner.specs.Scan.{from_base, in_from_space, object_words}
 
 -- objects, each by its address and its number of words, fill a space end to end from one address to another
 abbrev pub AreFilling : ℕ → List (ℕ × ℕ) → ℕ → Type 0

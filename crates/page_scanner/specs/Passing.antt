@@ -3,9 +3,8 @@ use Rattle.std.specs.Prelude.{◌≡◌, ℕ, List, [], ◌∷◌, Option, Some,
 use Rattle.std.specs.FinSet.{contains}
 use Rattle.heap_spaces.specs.Collection.{Collection, page_of}
 use Rattle.log_records.specs.declared.Record.{Record}
-use Rattle.log_machine.specs.Machine.{State, spaces_of}
+use Rattle.log_machine.specs.Machine.{State}
 use Rattle.log_machine.specs.Collecting.{collecting_after}
-use Rattle.page_scanner.specs.Scan.{scan_records}
 
 -- the state after these records of a collection, if each of them can follow
 abbrev pub collecting_after_all : State → List Record → Option State
