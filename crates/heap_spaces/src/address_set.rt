@@ -132,6 +132,14 @@ impl AddressSet {
         Some(*self.addresses.range(first..=last).next()?)
     }
 
+    /// The least address from this one on.
+    pub(crate) fn first_from(&self, from: u32) -> Option<u32>
+        ensures some { IfSome result (λ at. (contains self.now at ≡ true) × (from ≤ at) × ((q : ℕ) → contains self.now q ≡ true → from ≤ q → at ≤ q)) }
+        ensures none { IfNone result ((q : ℕ) → from ≤ q → contains self.now q ≡ false) }
+    {
+        Some(*self.addresses.range(from..).next()?)
+    }
+
     /// The least address.
     pub(crate) fn least(&self) -> Option<u32>
         ensures some { IfSome result (λ at. (contains self.now at ≡ true) × ((q : ℕ) → contains self.now q ≡ true → at ≤ q)) }

@@ -1,5 +1,5 @@
 //! A collection that runs.
-ghost use Rattle.std.specs.Prelude.{◌≡◌, ◌+◌, ◌≤◌, ◌<◌, ◌^◌, ◌↔◌, ℕ, true, sum_by, IfSome, IfNone, OnOk, OnErr, IsTrue};
+ghost use Rattle.std.specs.Prelude.{◌≡◌, ◌+◌, ◌≤◌, ◌<◌, ◌^◌, ◌↔◌, ℕ, true, false, sum_by, IfSome, IfNone, OnOk, OnErr, IsTrue};
 ghost use Rattle.std.specs.FinSet.{empty, contains};
 ghost use Rattle.heap_spaces.specs.Collection.{page_of};
 ghost use Rattle.heap_spaces.specs.declared.collection.CopiedObject.{CopiedObject};
@@ -82,6 +82,21 @@ impl Collection {
         ensures { result ≡ contains self.now.moved from }
     {
         self.moved.contains(from)
+    }
+
+    /// Whether the object at the address is gray.
+    pub fn is_gray(&self, at: u32) -> bool
+        ensures { result ≡ contains self.now.gray at }
+    {
+        self.gray.contains(at)
+    }
+
+    /// The least address of a gray object from this one on.
+    pub fn first_gray_from(&self, from: u32) -> Option<u32>
+        ensures some { IfSome result (λ at. (contains self.now.gray at ≡ true) × (from ≤ at) × ((q : ℕ) → contains self.now.gray q ≡ true → from ≤ q → at ≤ q)) }
+        ensures none { IfNone result ((q : ℕ) → from ≤ q → contains self.now.gray q ≡ false) }
+    {
+        self.gray.first_from(from)
     }
 
     /// Whether no object is gray.

@@ -1,3 +1,4 @@
+pub mod CollectionWalk
 pub mod Layout
 pub mod Read
 pub mod ReadFailure

@@ -36,7 +36,7 @@ pub fn walk<W: Words>(alloc: Global, words: &mut W, base: u32, used: u32) -> Res
 }
 
 // The addresses of the objects that fill the words from the base up to an end.
-fn find_starts<W: Words>(
+pub(crate) fn find_starts<W: Words>(
     alloc: Global,
     words: &mut W,
     base: u32,
@@ -110,7 +110,7 @@ fn check_fields<W: Words>(words: &mut W, starts: &[u32], end: u32) -> Result<(),
 }
 
 // Whether the words from an address up to an end are fields that lead to none but these objects.
-fn are_inside<W: Words>(
+pub(crate) fn are_inside<W: Words>(
     words: &mut W,
     starts: &[u32],
     from: u32,
@@ -131,7 +131,7 @@ fn are_inside<W: Words>(
 }
 
 // Whether a field with this word is null, a number or a reference to one of these objects.
-fn is_inside(starts: &[u32], word: u64) -> bool
+pub(crate) fn is_inside(starts: &[u32], word: u64) -> bool
     ensures { AreAscending starts.now → MatchBool result (IsInside starts.now (meaning word)) (IsInside starts.now (meaning word) → ⊥) }
 {
     match heap_words::decode(word) {
