@@ -1,12 +1,12 @@
 -- The words after the record of a flip: forwarding words where objects stood, and the objects where their copies stand.
-use Rattle.std.proofs.Common.{◌≡◌, ◌≢◌, ℕ, suc, ◌+◌, ◌*◌, ◌<◌, ◌≤◌, ◌⊎◌, inl, inr, List, [], ◌∷◌, ◌++◌, length, drop, get_or, set, None, Some, refl, sym, ap, ◌∙◌, subst, arith, length-set, get_or-set_same, get_or-set_other}
+use Rattle.std.proofs.Common.{◌≡◌, ◌≢◌, ℕ, ◌+◌, ◌<◌, ◌≤◌, ◌⊎◌, inl, inr, List, [], ◌∷◌, ◌++◌, length, drop, get_or, set, None, Some, refl, sym, ap, ◌∙◌, subst, arith, length-set, get_or-set_same, get_or-set_other}
 use Rattle.std.specs.Prelude.{Contains, if◌then◌else◌}
 use Rattle.std.specs.List.{AllByRecursion, enumerate_from, flat_map}
 use Rattle.std.proofs.lemmas.Bool.{le-leb}
 use Rattle.std.proofs.lemmas.List.{get_or-take, get_or-drop}
 use Rattle.heap_words.specs.Header.{header, header_bits}
 use Rattle.heap_words.specs.declared.Header.TheVariants.{Forward}
-use Rattle.heap_spaces.specs.Spaces.{SpacesState, IsSpaces, flipped, space_words}
+use Rattle.heap_spaces.specs.Spaces.{SpacesState, IsSpaces, flipped}
 use Rattle.log_machine.specs.Machine.{writes_of, put_all, put_record, words_in}
 use Rattle.log_machine.proofs.WordsFrom.{put_from-before, put_from-at, put_from-behind}
 use Rattle.log_machine.proofs.WordsLaws.{length-put_all}

@@ -1,5 +1,5 @@
 -- What words show of objects that were copied.
-use Rattle.std.specs.Prelude.{◌≡◌, ℕ, ◌+◌, ◌<◌, List, length, slice_index, Contains}
+use Rattle.std.specs.Prelude.{◌≡◌, ℕ, ◌+◌, ◌<◌, List, length, slice_index}
 use Rattle.heap_words.specs.Header.{header_bits}
 use Rattle.heap_words.specs.declared.Header.TheVariants.{Forward}
 use Rattle.log_records.specs.declared.copies.ObjectCopy.{ObjectCopy}
