@@ -1,5 +1,5 @@
 -- The copies of a flip part the objects: the chosen ones are copied, and the others stay.
-use Rattle.std.proofs.Common.{◌≡◌, ◌≢◌, ◌⊎◌, ℕ, suc, ◌+◌, ◌-◌, ◌*◌, ◌<◌, ◌≤◌, inl, inr, Bool, true, false, cond, List, [], ◌∷◌, ◌++◌, length, get_or, None, Some, is_some, refl, sym, ap, ◌∙◌, subst, arith}
+use Rattle.std.proofs.Common.{◌≡◌, ◌⊎◌, ℕ, suc, ◌+◌, ◌<◌, ◌≤◌, inl, inr, Bool, true, false, cond, List, [], ◌∷◌, ◌++◌, length, get_or, Some, is_some, refl, sym, ap, ◌∙◌, subst, arith}
 use Rattle.std.specs.Prelude.{Contains, slice_index}
 use Rattle.std.proofs.lemmas.Bool.{and_from, le-leb, lt-ltb}
 use Rattle.std.proofs.lemmas.Option.{same_Some}
@@ -13,17 +13,14 @@ use Rattle.object_layout.specs.Walk.{AreEndToEnd}
 use Rattle.object_layout.proofs.ObjectLaws.{end_to_end_apart, end_to_end_begins}
 use Rattle.object_layout.proofs.WalkLaws.{Contains-cases, Contains-head, Contains-none, Contains-rest}
 use Rattle.log_machine.specs.Collecting.{other_base}
-use Rattle.log_machine.specs.Machine.{State, field_at, space_words, words_in}
-use Rattle.log_machine.specs.Sound.{IsSpaced}
+use Rattle.log_machine.specs.Machine.{State, field_at, space_words}
 use Rattle.log_machine.proofs.WordsLaws.{length-put_all}
 use Rattle.graph_words.specs.Places.{Places, address_of, addresses}
 use Rattle.graph_words.proofs.Places.Addresses.{address_of-Contains, some_address}
 use Rattle.graph_words.proofs.Stands.Objects.{word_at_field}
-use Rattle.collection_words.specs.Completed.{IsMade, in_other_space, moves_from, places_from, taken_at, taken_by}
+use Rattle.collection_words.specs.Completed.{IsMade, moves_from, places_from, taken_at, taken_by}
 use Rattle.collection_words.specs.Copying.{object_words_at}
 use Rattle.collection_words.specs.Flipped.{HasFlipped, HasStayed, HaveParted, IsFlipping, WasCopied, flipped_words}
-use Rattle.collection_words.specs.LaidOut.{IsLaidOut}
-use Rattle.collection_words.specs.Relocated.{HaveSameIds}
 use Rattle.collection_words.specs.Placed.{Ascend}
 use Rattle.collection_words.proofs.Copy.Ascending.{ascend_low}
 use Rattle.collection_words.proofs.Copy.Words.{kept_made}
@@ -158,14 +155,14 @@ other_stayed {s} {places} {chosen} {remaining} {words} flip id at placed is neve
       fields = object.fields;
       left = is;
       same = kept_made words (flipped_words s words (addresses chosen)) at object.fields object.object (length-put_all (flipping words (addresses chosen) to) words) (λ j few.
-      flip_kept words (addresses chosen) words to (at + j) (λ root.
-      let start = flip.starts (at + j) root in
-      let there = start_within flip.laid (at + j) start in
-      elim (end_to_end_apart words s.base (addresses places) (s.base + s.used) at object.fields (at + j) there.fields (here_ends flip.laid) has object.object start there.object) [
-        | inl one ↦ never (subst (λ (x : ℕ). Contains (addresses chosen) x) (sym one) root)
-        | inr (inl before) ↦ omega arith
-        | inr (inr behind) ↦ omega arith
-      ]) (used_apart flip (at + j) (omega arith) (omega arith)));
+          flip_kept words (addresses chosen) words to (at + j) (λ root.
+          let start = flip.starts (at + j) root in
+          let there = start_within flip.laid (at + j) start in
+          elim (end_to_end_apart words s.base (addresses places) (s.base + s.used) at object.fields (at + j) there.fields (here_ends flip.laid) has object.object start there.object) [
+            | inl one ↦ never (subst (λ (x : ℕ). Contains (addresses chosen) x) (sym one) root)
+            | inr (inl before) ↦ omega arith
+            | inr (inr behind) ↦ omega arith
+          ]) (used_apart flip (at + j) (omega arith) (omega arith)));
     }
 
 both_some : (chosen remaining : Places) (words : List ℕ) (to : ℕ) (id : Id) → is_some (address_of (chosen ++ remaining) id) ≡ is_some (address_of (places_from words chosen to ++ remaining) id)
