@@ -1,5 +1,5 @@
 -- The copies of a flip part the objects: the chosen ones are copied, and the others stay.
-use Rattle.std.proofs.Common.{◌≡◌, ◌≢◌, ◌⊎◌, ℕ, suc, ◌+◌, ◌-◌, ◌*◌, ◌<◌, ◌≤◌, inl, inr, Bool, true, false, cond, List, [], ◌∷◌, ◌++◌, length, get_or, None, Some, is_some, refl, sym, ap, ◌∙◌, subst, arith}
+use Rattle.std.proofs.Common.{◌≡◌, ◌⊎◌, ℕ, suc, ◌+◌, ◌<◌, ◌≤◌, inl, inr, Bool, true, false, cond, List, [], ◌∷◌, ◌++◌, length, get_or, Some, is_some, refl, sym, ap, ◌∙◌, subst, arith}
 use Rattle.std.specs.Prelude.{Contains, slice_index}
 use Rattle.std.proofs.lemmas.Bool.{and_from, le-leb, lt-ltb}
 use Rattle.std.proofs.lemmas.Option.{same_Some}
@@ -13,17 +13,14 @@ use Rattle.object_layout.specs.Walk.{AreEndToEnd}
 use Rattle.object_layout.proofs.ObjectLaws.{end_to_end_apart, end_to_end_begins}
 use Rattle.object_layout.proofs.WalkLaws.{Contains-cases, Contains-head, Contains-none, Contains-rest}
 use Rattle.log_machine.specs.Collecting.{other_base}
-use Rattle.log_machine.specs.Machine.{State, field_at, space_words, words_in}
-use Rattle.log_machine.specs.Sound.{IsSpaced}
+use Rattle.log_machine.specs.Machine.{State, field_at, space_words}
 use Rattle.log_machine.proofs.WordsLaws.{length-put_all}
 use Rattle.graph_words.specs.Places.{Places, address_of, addresses}
 use Rattle.graph_words.proofs.Places.Addresses.{address_of-Contains, some_address}
 use Rattle.graph_words.proofs.Stands.Objects.{word_at_field}
-use Rattle.collection_words.specs.Completed.{IsMade, in_other_space, moves_from, places_from, taken_at, taken_by}
+use Rattle.collection_words.specs.Completed.{IsMade, moves_from, places_from, taken_at, taken_by}
 use Rattle.collection_words.specs.Copying.{object_words_at}
 use Rattle.collection_words.specs.Flipped.{HasFlipped, HasStayed, HaveParted, IsFlipping, WasCopied, flipped_words}
-use Rattle.collection_words.specs.LaidOut.{IsLaidOut}
-use Rattle.collection_words.specs.Relocated.{HaveSameIds}
 use Rattle.collection_words.specs.Placed.{Ascend}
 use Rattle.collection_words.proofs.Copy.Ascending.{ascend_low}
 use Rattle.collection_words.proofs.Copy.Words.{kept_made}
@@ -70,7 +67,7 @@ taken_some words from (a ∷ rest) end (r ∷ rs) (n, same, object, more) up ins
           omega arith
     ]
 
-chosen_taken : {s : State} {places chosen remaining : Places} {words : List ℕ} → IsFlipping s places chosen remaining words → taken_by words (addresses chosen) ≤ s.used
+pub chosen_taken : {s : State} {places chosen remaining : Places} {words : List ℕ} → IsFlipping s places chosen remaining words → taken_by words (addresses chosen) ≤ s.used
 chosen_taken {s} {places} {chosen} {words = words} flip =
     let all = taken_some words s.base (addresses places) (s.base + s.used) (addresses chosen) (here_ends flip.laid) flip.up flip.starts in omega arith
 
@@ -82,12 +79,12 @@ used_apart {s} flip i above below =
     let room = flip.spaced.room in
     elim flip.spaced.first [ inl low ↦ inl (omega arith) | inr high ↦ inr (omega arith) ]
 
-chosen_apart : {s : State} {places chosen remaining : Places} {words : List ℕ} → IsFlipping s places chosen remaining words → LieApart (addresses chosen) (other_base s) (other_base s + taken_by words (addresses chosen))
+pub chosen_apart : {s : State} {places chosen remaining : Places} {words : List ℕ} → IsFlipping s places chosen remaining words → LieApart (addresses chosen) (other_base s) (other_base s + taken_by words (addresses chosen))
 chosen_apart flip r has =
     let within = start_within flip.laid r (flip.starts r has) in
     let below = within.below in used_apart flip r within.above (omega arith)
 
-chosen_fit : {s : State} {places chosen remaining : Places} {words : List ℕ} → IsFlipping s places chosen remaining words → other_base s + taken_by words (addresses chosen) ≤ length words
+pub chosen_fit : {s : State} {places chosen remaining : Places} {words : List ℕ} → IsFlipping s places chosen remaining words → other_base s + taken_by words (addresses chosen) ≤ length words
 chosen_fit {s} flip =
     let taken = chosen_taken flip in
     let room = flip.spaced.room in
@@ -95,7 +92,7 @@ chosen_fit {s} flip =
 
 -- Objects.
 
-chosen_made : {s : State} {places chosen remaining : Places} {words : List ℕ} → IsFlipping s places chosen remaining words → (at there n : ℕ) → object_at words at ≡ Some n
+pub chosen_made : {s : State} {places chosen remaining : Places} {words : List ℕ} → IsFlipping s places chosen remaining words → (at there n : ℕ) → object_at words at ≡ Some n
     → Contains (moves_from words (addresses chosen) (other_base s)) (at, there) → IsMade (λ w. w) words (flipped_words s words (addresses chosen)) at there n
 chosen_made {s} {chosen = chosen} {words = words} flip at there n object move =
     let to = other_base s in
@@ -146,27 +143,31 @@ chosen_copied {s} {n} {places} {chosen} {remaining} {words} flip flipped id at p
       same = chosen_made flip at some.0 object.fields object.object move;
     }
 
+-- an object that is not chosen stays
+pub stayed_made : {s : State} {places chosen remaining : Places} {words : List ℕ} → IsFlipping s places chosen remaining words → (at n : ℕ) → Contains (addresses places) at → object_at words at ≡ Some n
+    → (Contains (addresses chosen) at → ⊥) → IsMade (λ w. w) words (flipped_words s words (addresses chosen)) at at n
+stayed_made {s} {places} {chosen} {words = words} flip at n has object never =
+    let to = other_base s in
+    let within = start_within flip.laid at has in
+    let same = same_Some within.fields n (sym within.object ∙ object) in
+    let above = within.above in
+    let below = within.below in
+    kept_made words (flipped_words s words (addresses chosen)) at n object (length-put_all (flipping words (addresses chosen) to) words) (λ j few.
+    flip_kept words (addresses chosen) words to (at + j) (λ chosen_too.
+    let start = flip.starts (at + j) chosen_too in
+    let there = start_within flip.laid (at + j) start in
+    elim (end_to_end_apart words s.base (addresses places) (s.base + s.used) at n (at + j) there.fields (here_ends flip.laid) has object start there.object) [
+      | inl one ↦ never (subst (λ (x : ℕ). Contains (addresses chosen) x) (sym one) chosen_too)
+      | inr (inl before) ↦ omega arith
+      | inr (inr behind) ↦ omega arith
+    ]) (used_apart flip (at + j) (omega arith) (omega arith)))
+
 other_stayed : {s : State} {places chosen remaining : Places} {words : List ℕ} → IsFlipping s places chosen remaining words → (id : Id) (at : ℕ) → address_of places id ≡ Some at
     → address_of remaining id ≡ Some at → (Contains (addresses chosen) at → ⊥) → HasStayed remaining words (flipped_words s words (addresses chosen)) id at
-other_stayed {s} {places} {chosen} {remaining} {words} flip id at placed is never =
-    let to = other_base s in
+other_stayed {places = places} flip id at placed is never =
     let has = address_of-Contains places id at placed in
     let object = start_within flip.laid at has in
-    let above = object.above in
-    let below = object.below in
-    record {
-      fields = object.fields;
-      left = is;
-      same = kept_made words (flipped_words s words (addresses chosen)) at object.fields object.object (length-put_all (flipping words (addresses chosen) to) words) (λ j few.
-      flip_kept words (addresses chosen) words to (at + j) (λ root.
-      let start = flip.starts (at + j) root in
-      let there = start_within flip.laid (at + j) start in
-      elim (end_to_end_apart words s.base (addresses places) (s.base + s.used) at object.fields (at + j) there.fields (here_ends flip.laid) has object.object start there.object) [
-        | inl one ↦ never (subst (λ (x : ℕ). Contains (addresses chosen) x) (sym one) root)
-        | inr (inl before) ↦ omega arith
-        | inr (inr behind) ↦ omega arith
-      ]) (used_apart flip (at + j) (omega arith) (omega arith)));
-    }
+    record { fields = object.fields; left = is; same = stayed_made flip at object.fields has object.object never }
 
 both_some : (chosen remaining : Places) (words : List ℕ) (to : ℕ) (id : Id) → is_some (address_of (chosen ++ remaining) id) ≡ is_some (address_of (places_from words chosen to ++ remaining) id)
 both_some [] remaining words to id = refl

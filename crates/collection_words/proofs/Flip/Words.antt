@@ -1,5 +1,5 @@
 -- The words behind the copies of a flip: each copy has its object's words, where that stood is a forwarding word, and all else is as before.
-use Rattle.std.proofs.Common.{◌≡◌, ◌≢◌, ◌⊎◌, ℕ, suc, ◌+◌, ◌<◌, ◌≤◌, inl, inr, List, [], ◌∷◌, ◌++◌, length, map, get_or, refl, sym, ap, ◌∙◌, subst, arith}
+use Rattle.std.proofs.Common.{◌≡◌, ◌≢◌, ◌⊎◌, ℕ, suc, ◌+◌, ◌<◌, ◌≤◌, inl, inr, List, [], ◌∷◌, length, get_or, refl, sym, ap, ◌∙◌, subst, arith}
 use Rattle.std.specs.Prelude.{Contains, slice_index, slice_set}
 use Rattle.std.specs.List.{enumerate_from, flat_map}
 use Rattle.std.proofs.lemmas.List.{get_or-set_other, get_or-set_same}
@@ -14,7 +14,6 @@ use Rattle.collection_words.specs.Copying.{object_words_at}
 use Rattle.collection_words.specs.Flipped.{flip_copies}
 use Rattle.collection_words.specs.Placed.{Ascend}
 use Rattle.collection_words.proofs.Copy.Ascending.{ascend_low}
-use Rattle.collection_words.proofs.Moves.Ends.{move_within}
 use Rattle.collection_words.proofs.Words.Put.{put_all-append}
 
 -- The writes of one copy.
