@@ -8,12 +8,13 @@ ghost use Rattle.object_layout.specs.Read.{IsRead, disk_failure};
 ghost use Rattle.object_layout.specs.WalkFailure.{walk_failure};
 
 use crate::from_space::{FromSpace, find_old_starts, old_end};
-use crate::object::{FIELDS_AT, object_before};
+use crate::object::object_before;
 use crate::space::{are_inside, find_starts, is_inside, walk};
 use crate::walk_error::WalkError;
 use crate::words::Words;
 use disk_model::DiskError;
 use heap_spaces::Collection;
+use heap_words::FIELDS_AT;
 use std::alloc::Global;
 
 /// Walks the space whose used words begin at `base` as [`walk`] does, and the from-space too where a collection runs. Then these are tried,

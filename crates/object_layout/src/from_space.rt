@@ -6,12 +6,12 @@ ghost use Rattle.object_layout.specs.CollectionWalk.{given, copy_length, ending,
 ghost use Rattle.object_layout.specs.Read.{IsRead, disk_failure};
 ghost use Rattle.object_layout.specs.WalkFailure.{walk_failure};
 
-use crate::object::{FIELDS_AT, object_at, object_before};
+use crate::object::{object_at, object_before};
 use crate::walk_error::WalkError;
 use crate::words::Words;
 use disk_model::DiskError;
 use heap_spaces::Collection;
-use heap_words::{Header, header_of};
+use heap_words::{FIELDS_AT, Header, header_of};
 use std::alloc::Global;
 
 /// The space that a collection empties.

@@ -12,14 +12,11 @@ use crate::reading::{fields_of, header_at, read_words};
 use crate::scan_error::ScanError;
 use crate::spaces::{is_in_from_space, is_left, space_words};
 use heap_spaces::{Collection, Spaces};
-use heap_words::{Header, STABLE_WORDS, Word, decode, encode};
+use heap_words::{FIELDS_AT, Header, STABLE_WORDS, Word, decode, encode};
 use log_records::{ObjectWords, Record};
 use object_layout::{Words, object_at};
 use std::alloc::Global;
 use std::collections::BTreeMap;
-
-/// The words in front of an object's fields: its header and its birth.
-const FIELDS_AT: u32 = 2;
 
 /// What a scan has planned so far.
 #[derive(Drop)]

@@ -16,8 +16,9 @@ ghost use Rattle.page_scanner.specs.ScanFailure.{scan_failure};
 
 use crate::plan::Plan;
 use crate::scan_error::ScanError;
-use crate::spaces::{PAGE_WORDS, is_current};
+use crate::spaces::is_current;
 use heap_spaces::{Collection, Spaces};
+use heap_words::PAGE_WORDS;
 use log_records::{Record, Writes};
 use object_layout::Words;
 use std::alloc::Global;

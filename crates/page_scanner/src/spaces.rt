@@ -4,9 +4,7 @@ ghost use Rattle.heap_spaces.specs.Spaces.{space_words as words_of};
 ghost use Rattle.page_scanner.specs.Scan.{from_base as base_of, in_from_space as lies_in_from_space, is_current as is_page_current, is_left as is_object_left};
 
 use heap_spaces::{Collection, Spaces};
-
-/// The words of a page.
-pub(crate) const PAGE_WORDS: u32 = 64;
+use heap_words::PAGE_WORDS;
 
 /// How many words each of the spaces has.
 pub(crate) fn space_words(spaces: &Spaces) -> u32

@@ -9,15 +9,14 @@ ghost use Rattle.log_machine.specs.Collecting.{other_base, can_move, can_hold, c
 
 use crate::copy_index::CopyIndex;
 use crate::log_state::{AfterError, LogState};
-use heap_words::PAGE_WORDS;
 use crate::undo_lists::UndoLists;
 use heap_spaces::{Collection, CopiedObject};
-use heap_words::{Word, decode};
+use heap_words::{FIELDS_AT, PAGE_WORDS, Word, decode};
 use log_records::{ObjectCopy, Record};
 use std::alloc::{AllocError, Global};
 
-/// The words of each object before its fields: its header and its birth.
-const FRONT_WORDS: usize = 2;
+/// The words of each object before its fields.
+const FRONT_WORDS: usize = FIELDS_AT as usize;
 
 impl LogState {
     /// Takes one record of a collection more, or tells that it can't follow, as no other record can. After any error the state is as before.
