@@ -22,7 +22,7 @@ use Rattle.log_machine.specs.Sound.{IsSpaced, IsWithin}
 use Rattle.log_machine.proofs.WordsLaws.{length-put_all}
 use Rattle.graph_words.specs.Places.{Places, address_of, addresses}
 use Rattle.collection_words.specs.Completed.{IsMade, moves_from, places_from, taken_at, taken_by}
-use Rattle.collection_words.specs.Flipped.{HasFlipped, IsFlipping, flipped_words}
+use Rattle.collection_words.specs.Flipped.{HasBegun, IsFlipping, flipped_words}
 use Rattle.collection_words.specs.LaidOut.{AreOldEndToEnd, EachField, IsForwarded, IsFromSpace, IsLaidOut, IsUnderway, LeadsHere, MayLeadBack, is_gray, old_length}
 use Rattle.collection_words.proofs.Flip.Parted.{chosen_apart, chosen_fit, chosen_made, chosen_taken, stayed_made}
 use Rattle.collection_words.proofs.Flip.Words.{flip_forward, flipping}
@@ -34,20 +34,6 @@ use Rattle.collection_words.proofs.Moves.Ends.{move_within, taken_object, taken_
 use Rattle.collection_words.proofs.Moves.Sources.{move_source}
 use Rattle.collection_words.proofs.Words.Cover.{move_here}
 use Rattle.collection_words.proofs.Words.Objects.{placed_ends}
-
--- What the state behind a flip says of its collection: these were copied and are gray, and all else is left.
-pub record HasBegun (s n : State) (k : Collection) (places chosen remaining : Places) (words : List ℕ) : Type 0 where
-  pub flipped : HasFlipped s n
-  pub used : n.used ≡ taken_by words (addresses chosen)
-  pub run : n.collection ≡ Some k
-  pub words_left : k.used ≡ s.used
-  pub copied : k.copied ≡ taken_by words (addresses chosen)
-  pub moved : addresses chosen ≡ filter (λ at. contains k.moved at) (addresses places)
-  pub left : addresses remaining ≡ filter (λ at. not (contains k.moved at)) (addresses places)
-  pub grays : (at : ℕ) → contains k.gray at ≡ true → Contains (addresses (places_from words chosen (other_base s))) at
-  pub gray : (at : ℕ) → Contains (addresses (places_from words chosen (other_base s))) at → contains k.gray at ≡ true
-  pub first : Contains (moves_from words (addresses chosen) (other_base s)) (s.base, other_base s)
-  pub plain : (at : ℕ) → Contains (addresses remaining) at → EachField words at (λ i w. is_volatile w ≡ false)
 
 -- Moves.
 
