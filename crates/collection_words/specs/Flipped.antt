@@ -1,11 +1,13 @@
 -- What a flip does to objects: some are copied, and the others stay in what is the from-space then.
-use Rattle.std.specs.Prelude.{◌≡◌, ◌⊎◌, ℕ, ◌≤◌, ◌++◌, List, [], length, Contains, map, slice_index, Option, Some, true}
+use Rattle.std.specs.Prelude.{◌≡◌, ◌⊎◌, ℕ, ◌≤◌, ◌++◌, List, [], length, Contains, map, slice_index, Option, Some, true, filter, not, false}
 use Rattle.std.specs.List.{AllByRecursion, flat_map}
+use Rattle.std.specs.FinSet.{contains}
 use Rattle.heap_words.specs.declared.Header.TheVariants.{Forward}
 use Rattle.heap_words.specs.declared.Word.{Word}
 use Rattle.heap_words.specs.declared.Word.TheVariants as word
 use Rattle.heap_words.specs.Header.{header}
-use Rattle.heap_words.specs.Word.{meaning}
+use Rattle.heap_words.specs.Word.{is_volatile, meaning}
+use Rattle.heap_spaces.specs.Collection.{Collection}
 use Rattle.graph_model.specs.declared.id.Id.{Id}
 use Rattle.relocation.specs.Relocation.{moved_to}
 use Rattle.log_machine.specs.declared.UndoEntry.{UndoEntry}
@@ -14,9 +16,9 @@ use Rattle.log_machine.specs.Collecting.{other_base}
 use Rattle.log_machine.specs.Machine.{State, put_all, words_in, writes_of}
 use Rattle.log_machine.specs.Sound.{IsSpaced}
 use Rattle.graph_words.specs.Places.{Places, address_of, addresses}
-use Rattle.collection_words.specs.Completed.{IsMade, in_other_space, moves_from}
+use Rattle.collection_words.specs.Completed.{IsMade, in_other_space, moves_from, places_from, taken_by}
 use Rattle.collection_words.specs.Copying.{object_words_at}
-use Rattle.collection_words.specs.LaidOut.{IsLaidOut}
+use Rattle.collection_words.specs.LaidOut.{EachField, IsLaidOut}
 use Rattle.collection_words.specs.Placed.{Ascend}
 use Rattle.collection_words.specs.Relocated.{HaveSameIds}
 
@@ -76,3 +78,17 @@ pub record IsFlipping (s : State) (places chosen remaining : Places) (words : Li
 pub record HasFlipped (s n : State) : Type 0 where
   pub base : n.base ≡ other_base s
   pub pages : n.pages ≡ s.pages
+
+-- What the state behind a flip says of its collection: these were copied and are gray, and all else is left.
+pub record HasBegun (s n : State) (k : Collection) (places chosen remaining : Places) (words : List ℕ) : Type 0 where
+  pub flipped : HasFlipped s n
+  pub used : n.used ≡ taken_by words (addresses chosen)
+  pub run : n.collection ≡ Some k
+  pub words_left : k.used ≡ s.used
+  pub copied : k.copied ≡ taken_by words (addresses chosen)
+  pub moved : addresses chosen ≡ filter (λ at. contains k.moved at) (addresses places)
+  pub left : addresses remaining ≡ filter (λ at. not (contains k.moved at)) (addresses places)
+  pub grays : (at : ℕ) → contains k.gray at ≡ true → Contains (addresses (places_from words chosen (other_base s))) at
+  pub gray : (at : ℕ) → Contains (addresses (places_from words chosen (other_base s))) at → contains k.gray at ≡ true
+  pub first : Contains (moves_from words (addresses chosen) (other_base s)) (s.base, other_base s)
+  pub plain : (at : ℕ) → Contains (addresses remaining) at → EachField words at (λ i w. is_volatile w ≡ false)

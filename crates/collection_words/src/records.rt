@@ -14,7 +14,7 @@ ghost use Rattle.graph_words.specs.Places.{Places, address_of, addresses};
 ghost use Rattle.collection_words.specs.Completed.{StandsCompleted, completed, places_from, without};
 ghost use Rattle.collection_words.specs.Copying.{copied_words, next_copy, object_words_at, with_place};
 ghost use Rattle.log_machine.specs.Translation.{translated_list};
-ghost use Rattle.collection_words.specs.Flipped.{HasFlipped, HaveParted, IsFlipping, WereTranslated, flipped_words};
+ghost use Rattle.collection_words.specs.Flipped.{HasBegun, HasFlipped, HaveParted, IsFlipping, WereTranslated, flipped_words};
 ghost use Rattle.collection_words.specs.Placed.{HaveOwnNames};
 ghost use Rattle.collection_words.specs.LaidOut.{EachField, IsLaidOut, IsUnderway, LeadsHere};
 ghost use Rattle.collection_words.specs.Writes.{AreBacked, IsCurrentField, IsScanWrite};
@@ -56,4 +56,9 @@ pub fn graphs_stand_where_objects_parted()
 /// each other one stays as it is.
 pub fn flips_part_objects()
     ensures { (s n : State) (places chosen remaining : Places) (words : List ℕ) → IsFlipping s places chosen remaining words → HasFlipped s n → HaveParted n places (places_from words chosen (other_base s)) remaining words (flipped_words s words (addresses chosen)) }
+{}
+
+/// Behind the copies of a flip the words are laid out, with the copies as the current objects, all of them gray.
+pub fn flips_leave_words_laid_out()
+    ensures { (s n : State) (k : Collection) (places chosen remaining : Places) (words : List ℕ) → s.collection ≡ None → IsFlipping s places chosen remaining words → HasBegun s n k places chosen remaining words → IsUnderway n k (places_from words chosen (other_base s)) remaining (flipped_words s words (addresses chosen)) }
 {}

@@ -1,5 +1,5 @@
 -- The words behind a flip are laid out: all copies are gray, and the others remain.
-use Rattle.std.proofs.Common.{◌≡◌, ◌⊎◌, ℕ, ◌+◌, ◌-◌, ◌*◌, ◌<◌, ◌≤◌, inl, inr, Bool, true, false, not, List, [], ◌∷◌, ◌++◌, length, Option, None, Some, refl, sym, ap, ◌∙◌, subst, arith}
+use Rattle.std.proofs.Common.{◌≡◌, ℕ, ◌+◌, ◌*◌, ◌<◌, inl, inr, Bool, true, false, not, List, [], ◌∷◌, Option, None, Some, refl, sym, ap, ◌∙◌, subst, arith}
 use Rattle.std.specs.Prelude.{Contains, MatchOption, filter, slice_index, if◌then◌else◌}
 use Rattle.std.specs.FinSet.{contains}
 use Rattle.std.proofs.lemmas.Option.{same_Some}
@@ -7,23 +7,22 @@ use Rattle.heap_words.specs.declared.Header.TheVariants.{Forward}
 use Rattle.heap_words.specs.declared.Word.{Word}
 use Rattle.heap_words.specs.declared.Word.TheVariants as word
 use Rattle.heap_words.specs.Header.{header}
-use Rattle.heap_words.specs.Word.{is_volatile, meaning, refers_to_volatile}
+use Rattle.heap_words.specs.Word.{meaning, refers_to_volatile}
 use Rattle.heap_words.proofs.HeaderLaws.{header-header_bits}
 use Rattle.heap_spaces.specs.Collection.{Collection, owed_by}
-use Rattle.graph_model.specs.Graph.{root}
 use Rattle.object_layout.specs.Layout.{led, object_at}
 use Rattle.object_layout.specs.Walk.{AreEndToEnd, IsInside}
 use Rattle.object_layout.proofs.LayoutLaws.{object_header}
 use Rattle.object_layout.proofs.WalkLaws.{Contains-cases, Contains-head, Contains-none, Contains-rest}
 use Rattle.stability_tracker.proofs.ListLaws.{Contains-filter, Contains-from_filter}
 use Rattle.log_machine.specs.Collecting.{other_base}
-use Rattle.log_machine.specs.Machine.{State, field_at, owed, space_words}
-use Rattle.log_machine.specs.Sound.{IsSpaced, IsWithin}
+use Rattle.log_machine.specs.Machine.{State, field_at, space_words}
+use Rattle.log_machine.specs.Sound.{IsWithin}
 use Rattle.log_machine.proofs.WordsLaws.{length-put_all}
-use Rattle.graph_words.specs.Places.{Places, address_of, addresses}
+use Rattle.graph_words.specs.Places.{Places, addresses}
 use Rattle.collection_words.specs.Completed.{IsMade, moves_from, places_from, taken_at, taken_by}
-use Rattle.collection_words.specs.Flipped.{HasFlipped, IsFlipping, flipped_words}
-use Rattle.collection_words.specs.LaidOut.{AreOldEndToEnd, EachField, IsForwarded, IsFromSpace, IsLaidOut, IsUnderway, LeadsHere, MayLeadBack, is_gray, old_length}
+use Rattle.collection_words.specs.Flipped.{HasBegun, IsFlipping, flipped_words}
+use Rattle.collection_words.specs.LaidOut.{AreOldEndToEnd, IsForwarded, IsFromSpace, IsUnderway, LeadsHere, MayLeadBack, is_gray, old_length}
 use Rattle.collection_words.proofs.Flip.Parted.{chosen_apart, chosen_fit, chosen_made, chosen_taken, stayed_made}
 use Rattle.collection_words.proofs.Flip.Words.{flip_forward, flipping}
 use Rattle.collection_words.proofs.Laid.Filled.{AreFilling, filled_by, filling}
@@ -32,22 +31,7 @@ use Rattle.collection_words.proofs.Laid.Sources.{here_ends, here_taken}
 use Rattle.collection_words.proofs.Laid.Within.{start_within}
 use Rattle.collection_words.proofs.Moves.Ends.{move_within, taken_object, taken_same}
 use Rattle.collection_words.proofs.Moves.Sources.{move_source}
-use Rattle.collection_words.proofs.Words.Cover.{move_here}
 use Rattle.collection_words.proofs.Words.Objects.{placed_ends}
-
--- What the state behind a flip says of its collection: these were copied and are gray, and all else is left.
-pub record HasBegun (s n : State) (k : Collection) (places chosen remaining : Places) (words : List ℕ) : Type 0 where
-  pub flipped : HasFlipped s n
-  pub used : n.used ≡ taken_by words (addresses chosen)
-  pub run : n.collection ≡ Some k
-  pub words_left : k.used ≡ s.used
-  pub copied : k.copied ≡ taken_by words (addresses chosen)
-  pub moved : addresses chosen ≡ filter (λ at. contains k.moved at) (addresses places)
-  pub left : addresses remaining ≡ filter (λ at. not (contains k.moved at)) (addresses places)
-  pub grays : (at : ℕ) → contains k.gray at ≡ true → Contains (addresses (places_from words chosen (other_base s))) at
-  pub gray : (at : ℕ) → Contains (addresses (places_from words chosen (other_base s))) at → contains k.gray at ≡ true
-  pub first : Contains (moves_from words (addresses chosen) (other_base s)) (s.base, other_base s)
-  pub plain : (at : ℕ) → Contains (addresses remaining) at → EachField words at (λ i w. is_volatile w ≡ false)
 
 -- Moves.
 
