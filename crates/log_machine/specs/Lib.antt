@@ -4,6 +4,7 @@ pub mod Effect
 pub mod Entries
 pub mod Kept
 pub mod Machine
+pub mod Origin
 pub mod Replay
 pub mod Seen
 pub mod Sound

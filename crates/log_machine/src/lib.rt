@@ -10,7 +10,7 @@ mod undo_lists;
 
 pub use abort::abort_records;
 pub use effects::{effect, forwarding_word};
-pub use log_state::{AfterError, LAST_NUMBER, LogState};
+pub use log_state::{AfterError, FIRST_LSN, LAST_NUMBER, LogState};
 pub use page_words::{FIELDS_AT, PAGE_WORDS, PageWords, ROOT_WORDS};
 pub use replaying::{ReplayError, replay};
 pub use undo_lists::end_bytes;
