@@ -33,11 +33,10 @@ use Rattle.graph_model.specs.Transaction.{serial, serial_replies}
 use Rattle.gated_log.specs.Log.{records_of}
 use Rattle.image_plan.specs.declared.superblock.Super.{Super}
 use Rattle.log_records.specs.declared.Record.{Record}
-use Rattle.log_machine.specs.Machine as machine
 use Rattle.page_redo.specs.Pages.{Pages}
 use Rattle.page_redo.specs.Prefix.{EachHoldsPrefix}
 use Rattle.commit_order.specs.Heard.{replies_of_commits}
-use Rattle.heap_model.specs.Core.{Core, words_refusal, log_refusal, answer, IsRun}
+use Rattle.heap_model.specs.Core.{Core, log_origin, commits_on_disk, words_refusal, log_refusal, answer, IsRun}
 use Rattle.heap_model.specs.CoreCrash.{HasLogWords, IsOnDisk, IsSuperOf, IsCommitPrefix, StandsForFirst}
 use Rattle.heap_model.specs.Image.{IsShapedLog, IsLegal, Holds}
 use Rattle.heap_model.specs.Opening.{next_behind, opened, IsFound}
@@ -59,7 +58,7 @@ AnswersTheorem =
 -- stored pages need not have the LSNs that the core knows: a crash while a page is stored leaves the old page or the new one.
 abbrev pub CrashTheorem : Type 0
 CrashTheorem =
-    (c : Core) (s : Super) (batches : List (List Record)) (stored : Pages) → IsSound c → IsTrue c.born → HasLogWords c → EachHoldsPrefix c.pages (records_of batches) stored
+    (c : Core) (s : Super) (batches : List (List Record)) (stored : Pages) → IsSound c → IsTrue c.born → HasLogWords c → EachHoldsPrefix (log_origin c) (records_of batches) stored
     → IsOnDisk c batches → IsSuperOf s c
     → (image : List ℕ) → Holds s batches stored image → IsCommitPrefix c image
 
@@ -85,7 +84,7 @@ pub record GoesOnFrom (c : Core) (k : ℕ) (d : Core) : Type 0 where
   pub graph : canon d.g0 ≡ canon (serial c.g0 (take k (commits c.history)))
   pub before : d.before ≡ c.before + k
   pub kept : acknowledged c.history ≤ k
-  pub forced : machine.commits (records_of c.batches) ≤ c.before + k
+  pub forced : commits_on_disk c ≤ c.before + k
   pub some : k ≤ length (commits c.history)
 
 -- A heap that is opened on an image which stands for the first k commits of a core, as each image that a crash leaves does for some k, goes

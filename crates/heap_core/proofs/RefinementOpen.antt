@@ -14,8 +14,9 @@ use Rattle.graph_model.specs.History.{account, nothing_yet}
 use Rattle.heap_spaces.specs.Spaces.{SpacesState}
 use Rattle.image_plan.specs.declared.superblock.Super.{Super}
 use Rattle.log_records.specs.declared.Record.{Record}
-use Rattle.log_machine.specs.Machine.{State, settled, spaces_of, start, words_in, commits}
-use Rattle.log_machine.proofs.StateLaws.{leads_after_all, commits-start}
+use Rattle.log_machine.specs.Machine.{State, settled, spaces_of, start, words_in}
+use Rattle.log_machine.proofs.StateLaws.{leads_after_all}
+use Rattle.log_machine.proofs.WordsLaws.{length-first_contents}
 use Rattle.page_redo.specs.Pages.{Pages, pages_in, lsn_of}
 use Rattle.page_redo.proofs.PrefixLaws.{redone-words}
 use Rattle.page_redo.specs.Redo.{EachLacks, last_lsn}
@@ -26,10 +27,10 @@ use Rattle.page_store.specs.Gates.{open_gates}
 use Rattle.page_store.specs.StoreState.{store_plan, stored_lsn, has_failed, Knows}
 use Rattle.graph_words.specs.Places.{Places}
 use Rattle.heap_model.specs.CoreCrash.{IsLogged}
-use Rattle.heap_model.proofs.Opening.Rolled.{next_is, rolled_reached, redone_words-rolled_back, length-rolled_words, rolled_behind, rolled_prefixes}
+use Rattle.heap_model.proofs.Opening.Rolled.{next_is, commits_are, rolled_reached, redone_words-rolled_back, length-rolled_words, rolled_behind, rolled_prefixes}
 use Rattle.heap_model.specs.Core.{state_behind}
-use Rattle.heap_model.specs.Image.{IsShapedLog, IsLegalLog, Holds}
-use Rattle.heap_model.specs.Opening.{rolled_back, rolled_words, opened}
+use Rattle.heap_model.specs.Image.{origin_of, IsShapedLog, IsLegalLog, Holds}
+use Rattle.heap_model.specs.Opening.{rolled_back, rolled_words, commits_of, opened}
 use Rattle.heap_recovery.specs.declared.recovery.Recovered.{Recovered}
 use Rattle.heap_recovery.specs.Recovered.{IsRecovered}
 use Rattle.heap_memory.specs.Memory.{Memory}
@@ -48,10 +49,10 @@ use Rattle.heap_core.specs.Refinement.{DiskHolds}
 state_found : (s : Super) (batches : List (List Record)) (stored : Pages) (found : Recovered) (shaped : IsShapedLog s batches stored) → IsRecovered s batches stored found → found.state ≡ settled shaped.state
 state_found s batches stored found shaped recovered = some_one _ _ (sym recovered.state ∙ rolled_reached s batches stored shaped)
 
--- as many transactions are committed as the log has commits
-pub commits_found : (s : Super) (batches : List (List Record)) (stored : Pages) (found : Recovered) (shaped : IsShapedLog s batches stored) → IsRecovered s batches stored found → found.state.commits ≡ commits (records_of batches)
+-- as many transactions are committed as the log says
+pub commits_found : (s : Super) (batches : List (List Record)) (stored : Pages) (found : Recovered) (shaped : IsShapedLog s batches stored) → IsRecovered s batches stored found → found.state.commits ≡ commits_of s batches
 commits_found s batches stored found shaped recovered =
-    ap (λ (x : State). x.commits) (state_found s batches stored found shaped recovered) ∙ commits-start s.pages s.first shaped.state (records_of batches) shaped.reached
+    ap (λ (x : State). x.commits) (state_found s batches stored found shaped recovered) ∙ sym (commits_are s batches stored shaped)
 
 -- the words in memory are those behind the opening
 words_found : (s : Super) (batches : List (List Record)) (stored : Pages) (found : Recovered) → IsShapedLog s batches stored → IsRecovered s batches stored found
@@ -73,7 +74,7 @@ lsn_found s batches stored found shaped recovered p lt =
 next_is_new : (s : Super) (batches : List (List Record)) (stored : Pages) (found : Recovered) → IsShapedLog s batches stored → IsRecovered s batches stored found
     → EachLacks (log_count found.log + 1) (cached found.cache)
 next_is_new s batches stored found shaped recovered p =
-    let lacking = EachLacks-redone (records_of (rolled_back s batches)) stored (rolled_behind s batches stored shaped) p in
+    let lacking = EachLacks-redone (origin_of s) (records_of (rolled_back s batches)) stored (rolled_behind s batches stored shaped) p in
     let same = ap (λ (at : Pages). lsn_of at p) recovered.cached in
     let count = recovered.log.count in
     omega arith
@@ -167,7 +168,7 @@ opened_logged : (s : Super) (batches : List (List Record)) (stored : Pages) → 
 opened_logged s batches stored legal gates places g =
     let prefixes = rolled_prefixes s batches stored legal in
     record {
-      words = sym (redone_words-rolled_back s batches stored legal.shaped) ∙ redone-words s.pages (records_of (rolled_back s batches)) stored prefixes;
+      words = sym (redone_words-rolled_back s batches stored legal.shaped) ∙ redone-words (origin_of s) (length-first_contents s.pages) (records_of (rolled_back s batches)) stored prefixes;
       prefixes = prefixes;
       lsns = λ p lt. refl;
     }

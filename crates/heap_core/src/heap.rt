@@ -46,7 +46,7 @@ pub struct Heap<D: Disk> {
     disk: D,
     engine: Engine,
     history: History,
-    // How many commits the log held when the heap was opened.
+    // How many transactions were committed when the heap was opened.
     before: u64,
     // Where the disk failed or stopped.
     failed: Option<Failure>,
@@ -233,7 +233,7 @@ impl<D: Disk> Heap<D> {
         }
     }
 
-    /// How many commits the log has from its first record on, as far as 64 bits count.
+    /// How many transactions are committed since the heap was made, as far as 64 bits count.
     pub fn commits(&self) -> u64
         ensures { (c : Core) → IsCore c self.now → result ≡ min (c.before + length (sealed c.history)) greatest }
     {

@@ -13,7 +13,7 @@ use Rattle.page_redo.proofs.RedoLaws.{EachLacks-later, EachLacks-redo_all}
 pub still_lacking : (count lsn now : ℕ) (at after : Pages) (records : List Record) → EachLacks (count + 1) at → lsn ≡ count + 1 → now ≡ count + length records → after ≡ redo_all lsn at records
     → EachLacks (now + 1) after
 still_lacking count lsn now at after records lacking first last is p =
-    let redone = EachLacks-redo_all count at records (EachLacks-later (count + 1) (count + length records + 1) at (omega arith) lacking) p in
+    let redone = EachLacks-redo_all (count + 1) at records (EachLacks-later (count + 1) (length records + (count + 1)) at (omega arith) lacking) p in
     let same = ap (λ (x : Pages). lsn_of x p) (is ∙ ap (λ (n : ℕ). redo_all n at records) first) in
     omega (arith, redone, same)
 

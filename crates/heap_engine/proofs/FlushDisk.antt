@@ -8,6 +8,8 @@ use Rattle.gated_log.specs.Log.{records_of, HoldsBatches}
 use Rattle.image_plan.specs.declared.superblock.Super.{Super}
 use Rattle.image_plan.specs.Plan.{log_offset}
 use Rattle.log_records.specs.declared.Record.{Record}
+use Rattle.log_machine.specs.Origin.{Origin, heap_origin, next_lsn}
+use Rattle.log_machine.proofs.WordsLaws.{length-first_contents}
 use Rattle.page_cache.specs.Stored.{stored_pages}
 use Rattle.page_cache.proofs.StoredLaws.{EachHoldsPrefix-storing, flushed_stored}
 use Rattle.page_redo.specs.Pages.{Pages, pages_in, page_words, lsn_of}
@@ -16,11 +18,11 @@ use Rattle.page_redo.proofs.PrefixLaws.{redone-present, HoldsPrefix-own, HoldsPr
 use Rattle.page_redo.specs.Redo.{last_lsn, redone}
 use Rattle.page_redo.proofs.RedoLaws.{lsn-redone}
 use Rattle.page_store.specs.Page.{HasPage, SamePage, SameButPage, IsStoring}
-use Rattle.heap_model.specs.Core.{Core, all_records, all_words, present_lsn, forced_if, page_stored}
+use Rattle.heap_model.specs.Core.{Core, log_origin, all_records, all_words, present_lsn, forced_if, page_stored}
 use Rattle.heap_model.specs.CoreCrash.{IsLogged, IsSuperOf, IsOnDisk}
-use Rattle.heap_model.proofs.Step.Logged.{all_logged, logged_forced}
+use Rattle.heap_model.proofs.Step.Logged.{super_origin, all_logged, logged_forced}
 use Rattle.heap_model.proofs.Step.Room.{forced-with_batch, records_of-with_batch}
-use Rattle.heap_model.specs.Image.{Holds}
+use Rattle.heap_model.specs.Image.{origin_of, Holds}
 
 -- what holds where a call came through
 pub on_ok : {T E P Q : Type 0} (result : Result T E) → (P → Q) → OnOk result P → OnOk result Q
@@ -59,6 +61,10 @@ pub present_forced : (c d : Core) (p : ℕ) → IsForced c d → present_lsn d p
 present_forced c d p same =
     ap (λ (f : ℕ → ℕ). max (f p) (last_lsn p 1 (all_records d))) same.stored_lsns ∙ ap (λ (rs : List Record). max (c.stored_lsns p) (last_lsn p 1 rs)) same.records
 
+-- its log begins where it did
+pub origin_forced : (c d : Core) → IsForced c d → log_origin d ≡ log_origin c
+origin_forced c d same = ap (λ (pages : ℕ). heap_origin pages d.first_number) same.pages ∙ ap (heap_origin c.pages) same.first_number
+
 -- and the superblock is that of its heap
 pub super_forced : (s : Super) (c d : Core) → IsForced c d → IsSuperOf s c → IsSuperOf s d
 super_forced s c d same of = record { limits = of.limits; pages = of.pages ∙ sym same.pages; room = of.room ∙ sym same.room; first = of.first ∙ sym same.first_number }
@@ -69,30 +75,32 @@ logged_if true c stored logged = logged_forced c stored c.pending logged
 logged_if false c stored logged = logged
 
 -- The store of a page that is not ahead of the log.
-module _ (s : Super) (d : Core) (p : ℕ) (of : IsSuperOf s d) (lt : p < pages_in d.pages) (behind : present_lsn d p ≤ length (records_of d.batches)) (stored : Pages) (logged : IsLogged d stored) where
+module _ (s : Super) (d : Core) (p : ℕ) (of : IsSuperOf s d) (lt : p < pages_in d.pages) (behind : present_lsn d p < next_lsn (log_origin d) (records_of d.batches)) (stored : Pages) (logged : IsLogged d stored) where
   -- it holds as many records of those on the disk as its LSN says
-  holds_prefix : HoldsPrefix d.pages (records_of d.batches) p (present_lsn d p) (page_words (all_words d) p)
+  holds_prefix : HoldsPrefix (log_origin d) (records_of d.batches) p (present_lsn d p) (page_words (all_words d) p)
   holds_prefix =
+      let o : Origin = log_origin d in
       let records : List Record = records_of d.batches in
       let all : List Record = all_records d in
-      let legal = EachHoldsPrefix-append d.pages records d.pending stored logged.prefixes in
-      let lsn : lsn_of (redone stored all) p ≡ present_lsn d p = lsn-redone d.pages all stored p legal lt ∙ ap (λ (n : ℕ). max n (last_lsn p 1 all)) (logged.lsns p lt) in
-      let own = HoldsPrefix-own d.pages all (redone stored all) p (redone-present d.pages all stored legal) lt in
-      let words = subst (λ (ws : List ℕ). HoldsPrefix d.pages all p (lsn_of (redone stored all) p) (page_words ws p)) (sym (all_logged d logged.words)) own in
-      let here : HoldsPrefix d.pages all p (present_lsn d p) (page_words (all_words d) p) = subst (λ (n : ℕ). HoldsPrefix d.pages all p n (page_words (all_words d) p)) lsn words in
-      subst (λ (rs : List Record). HoldsPrefix d.pages rs p (present_lsn d p) (page_words (all_words d) p)) (take_at records d.pending (length records) refl)
-      (HoldsPrefix-take d.pages all (length records) p (present_lsn d p) (page_words (all_words d) p) here behind)
+      let legal = EachHoldsPrefix-append o records d.pending stored logged.prefixes in
+      let lsn : lsn_of (redone o stored all) p ≡ present_lsn d p = lsn-redone o all stored p legal lt ∙ ap (λ (n : ℕ). max n (last_lsn p o.lsn all)) (logged.lsns p lt) in
+      let own = HoldsPrefix-own o all (redone o stored all) p (redone-present o (length-first_contents d.pages) all stored legal) lt in
+      let words = subst (λ (ws : List ℕ). HoldsPrefix o all p (lsn_of (redone o stored all) p) (page_words ws p)) (sym (all_logged d logged.words)) own in
+      let here : HoldsPrefix o all p (present_lsn d p) (page_words (all_words d) p) = subst (λ (n : ℕ). HoldsPrefix o all p n (page_words (all_words d) p)) lsn words in
+      subst (λ (rs : List Record). HoldsPrefix o rs p (present_lsn d p) (page_words (all_words d) p)) (take_at records d.pending (length records) refl)
+      (HoldsPrefix-take o all (length records) p (present_lsn d p) (page_words (all_words d) p) here behind)
 
   module _ (old new : List ℕ) (held : Holds s d.batches stored old) where
     -- a crash leaves pages that may stand beside the log
-    pub storing_prefixes : IsStoring s.log_bytes p (present_lsn d p) (page_words (all_words d) p) old new → EachHoldsPrefix d.pages (records_of d.batches) (stored_pages s.pages s.log_bytes new)
+    pub storing_prefixes : IsStoring s.log_bytes p (present_lsn d p) (page_words (all_words d) p) old new → EachHoldsPrefix (log_origin d) (records_of d.batches) (stored_pages s.pages s.log_bytes new)
     storing_prefixes storing =
         let records : List Record = records_of d.batches in
-        let before = subst (λ (at : Pages). EachHoldsPrefix d.pages records at) (sym held.pages) logged.prefixes in
-        subst (λ (n : ℕ). EachHoldsPrefix n records (stored_pages s.pages s.log_bytes new)) of.pages
-        (EachHoldsPrefix-storing s.pages s.log_bytes records p (present_lsn d p) (page_words (all_words d) p) old new
-        (subst (λ (n : ℕ). EachHoldsPrefix n records (stored_pages s.pages s.log_bytes old)) (sym of.pages) before)
-        (subst (λ (n : ℕ). HoldsPrefix n records p (present_lsn d p) (page_words (all_words d) p)) (sym of.pages) holds_prefix) storing)
+        let same = super_origin s d of in
+        let before = subst (λ (at : Pages). EachHoldsPrefix (log_origin d) records at) (sym held.pages) logged.prefixes in
+        subst (λ (o : Origin). EachHoldsPrefix o records (stored_pages s.pages s.log_bytes new)) same
+        (EachHoldsPrefix-storing (origin_of s) s.log_bytes records p (present_lsn d p) (page_words (all_words d) p) old new
+        (subst (λ (o : Origin). EachHoldsPrefix o records (stored_pages s.pages s.log_bytes old)) (sym same) before)
+        (subst (λ (o : Origin). HoldsPrefix o records p (present_lsn d p) (page_words (all_words d) p)) (sym same) holds_prefix) storing)
 
     -- and the superblock and the log as they were
     pub storing_held : SameButPage s.log_bytes p old new → Holds s d.batches (stored_pages s.pages s.log_bytes new) new

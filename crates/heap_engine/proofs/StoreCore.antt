@@ -1,7 +1,7 @@
 -- The store of a page of an open heap is the flush of a core, in memory and on the disk.
-use Rattle.std.proofs.Common.{◌≡◌, ◌≢◌, ℕ, ◌+◌, ◌*◌, ◌<◌, ◌≤◌, min, lit<, Bool, true, false, cond, List, length, Result, Ok, Err, refl, sym, ap, ◌∙◌, subst, arith}
+use Rattle.std.proofs.Common.{◌≡◌, ◌≢◌, ℕ, ◌+◌, ◌*◌, ◌<◌, ◌≤◌, inl, inr, min, lit<, Bool, true, false, cond, List, length, Result, Ok, Err, refl, sym, ap, ◌∙◌, subst, arith}
 use Rattle.std.specs.Prelude.{◌==◌, ◌&&◌, not, nat_lt, OnOk, IsTrue, IsFalse, if◌then◌else◌}
-use Rattle.std.proofs.lemmas.Bool.{lt-ltb, eqb-true, eqb-false}
+use Rattle.std.proofs.lemmas.Bool.{cases_lt, lt-ltb, le-ltb, eqb-true, eqb-false}
 use Rattle.counts.specs.Count.{counted}
 use Rattle.disk_model.specs.Disk.{part, Only, SameOutside}
 use Rattle.disk_model.specs.declared.disk.DiskError.{DiskError}
@@ -22,10 +22,11 @@ use Rattle.page_redo.specs.Pages.{pages_in, page_words}
 use Rattle.page_redo.specs.Prefix.{EachHoldsPrefix}
 use Rattle.page_store.specs.declared.frame.Stored.{Stored}
 use Rattle.page_store.specs.Gates.{open_gates}
+use Rattle.log_machine.specs.Origin.{Origin, next_lsn}
 use Rattle.page_store.specs.Page.{HasPage, SamePage, SameButPage, IsStoring}
 use Rattle.page_store.specs.StoreState.{store_plan, stored_entry, stored_lsn, has_failed, Knows}
 use Rattle.heap_memory.specs.Memory.{Memory}
-use Rattle.heap_model.specs.Core.{Core, all_words, present_lsn, is_dirty, is_ahead, forced_if, page_stored, flushed, force_calls, store_calls, flush_calls}
+use Rattle.heap_model.specs.Core.{Core, log_origin, all_words, present_lsn, is_dirty, is_ahead, forced_if, page_stored, flushed, force_calls, store_calls, flush_calls}
 use Rattle.heap_model.specs.CoreCrash.{IsCommitPrefix, IsLogged, IsSuperOf}
 use Rattle.heap_model.proofs.Opening.Held.{held_with}
 use Rattle.heap_model.proofs.Step.Room.{forced-with_batch}
@@ -35,7 +36,7 @@ use Rattle.core_laws.specs.Valid.{IsSound}
 use Rattle.memory_laws.specs.CoreMemory.{IsMemory}
 use Rattle.memory_laws.proofs.Step.Disk.{HasSameWork, forced_memory, stored_memory}
 use Rattle.heap_engine.specs.Refinement.{OnDisk, KnowsPages}
-use Rattle.heap_engine.proofs.FlushDisk.{IsForced, is_forced, present_forced, super_forced, logged_if, storing_prefixes, storing_held, stored_logged}
+use Rattle.heap_engine.proofs.FlushDisk.{IsForced, is_forced, origin_forced, present_forced, super_forced, logged_if, storing_prefixes, storing_held, stored_logged}
 use Rattle.heap_engine.proofs.ForceCore.{frames_forced, gates_still}
 use Rattle.heap_engine.proofs.DeviceCalls.{hand_calls}
 use Rattle.heap_engine.specs.declared.engine.Engine.{Engine}
@@ -84,6 +85,13 @@ some_store gates = by_test (nat_lt gates 2)
     by_test true = lit< tt
     by_test false = lit< tt
 
+-- a number is past another one, or below the one that follows
+past_or_below : (a b : ℕ) → nat_lt a b ≡ not (nat_lt b (a + 1))
+past_or_below a b = elim (cases_lt a b) [
+  | inl past ↦ lt-ltb a b past ∙ ap not (sym (le-ltb b (a + 1) (omega (arith, past))))
+  | inr below ↦ le-ltb a b below ∙ ap not (sym (lt-ltb b (a + 1) (omega (arith, below))))
+]
+
 -- the core when what waits is forced if a page is ahead
 abbrev pub ready : Core → ℕ → Core
 ready c p = forced_if (is_ahead c p) c
@@ -108,7 +116,9 @@ module _ (c : Core) (w : Engine) (p : ℕ) (works : IsMemory (memory w) (account
 
   -- and whether it is ahead of the log
   pub ahead_is : (n : ℕ) → n ≡ cached_lsn w.cache p → nat_lt (log_forced w.log) n ≡ is_ahead c p
-  ahead_is n is = ap (λ (k : ℕ). nat_lt k n) works.log.forced ∙ ap (λ (k : ℕ). nat_lt (length (records_of c.batches)) k) (is ∙ lsn)
+  ahead_is n is =
+      ap (λ (k : ℕ). nat_lt k n) works.log.forced ∙ ap (λ (k : ℕ). nat_lt (length (records_of c.batches)) k) (is ∙ lsn)
+      ∙ past_or_below (length (records_of c.batches)) (present_lsn c p)
 
   pub flushed_is : IsTrue (cache.is_dirty w.cache p) → flushed c p ≡ page_stored (ready c p) p
   flushed_is dirty = ap (λ (b : Bool). cond b (page_stored (ready c p) p) c) (sym dirty_is ∙ dirty)
@@ -120,7 +130,7 @@ module _ (c : Core) (w : Engine) (p : ℕ) (works : IsMemory (memory w) (account
   there = subst (λ (n : ℕ). p < pages_in n) (sym same.pages) within
 
   -- no page is ahead once what waits is forced
-  pub not_ahead : (log : Log) (n : ℕ) → n ≡ cached_lsn w.cache p → n ≤ log_forced log → Keeps log (ready c p).batches (ready c p).pending → present_lsn (ready c p) p ≤ length (records_of (ready c p).batches)
+  pub not_ahead : (log : Log) (n : ℕ) → n ≡ cached_lsn w.cache p → n ≤ log_forced log → Keeps log (ready c p).batches (ready c p).pending → present_lsn (ready c p) p < next_lsn (log_origin (ready c p)) (records_of (ready c p).batches)
   not_ahead log n is le keeps = omega (arith, le, is, lsn, present_forced c (ready c p) p same, keeps.forced)
 
   -- What is in memory.
@@ -164,7 +174,7 @@ module _ (c : Core) (w : Engine) (p : ℕ) (works : IsMemory (memory w) (account
 
   -- What is on the disk.
   module _ (s : Super) (old mid : List ℕ) (may_leave : List ℕ → Type 0) (disk : OnDisk s c old may_leave) (outside : SameOutside (log_place w.log) (log_place w.log + log_room w.log) old mid)
-      (forced : HoldsBatches (part mid (log_place w.log) (log_room w.log)) (ready c p).batches) (behind : present_lsn (ready c p) p ≤ length (records_of (ready c p).batches)) where
+      (forced : HoldsBatches (part mid (log_place w.log) (log_room w.log)) (ready c p).batches) (behind : present_lsn (ready c p) p < next_lsn (log_origin (ready c p)) (records_of (ready c p).batches)) where
     in_log : (P : ℕ → ℕ → Type 0) → P (log_place w.log) (log_room w.log) → P log_offset s.log_bytes
     in_log P h = subst (P log_offset) (works.room ∙ sym disk.of.room) (let Q : ℕ → Type 0 = λ n. P n (log_room w.log) in subst Q works.place h)
 
@@ -192,7 +202,7 @@ module _ (c : Core) (w : Engine) (p : ℕ) (works : IsMemory (memory w) (account
         let here = as_core (λ n k ws. IsStoring n p k ws mid image) storing in
         let beside = storing_prefixes s (ready c p) p super_is there behind disk.stored logged mid image held here in
         crash_law c s (ready c p).batches (stored_pages s.pages s.log_bytes image) sound disk.born disk.logged.words
-        (subst (λ (n : ℕ). EachHoldsPrefix n (records_of (ready c p).batches) (stored_pages s.pages s.log_bytes image)) same.pages beside) same.on disk.of image
+        (subst (λ (o : Origin). EachHoldsPrefix o (records_of (ready c p).batches) (stored_pages s.pages s.log_bytes image)) (origin_forced c (ready c p) same) beside) same.on disk.of image
         (storing_held s (ready c p) p super_is there behind disk.stored logged mid image held here.outside)
 
     -- behind it the disk holds the core with that page stored
@@ -225,6 +235,18 @@ module _ (c : Core) (w : Engine) (p : ℕ) (works : IsMemory (memory w) (account
   force_part n is =
       ap (λ (b : Bool). cond b (cond (is_waiting w.log) 4 0) 0) (ahead_is n is)
       ∙ ap (λ (k : ℕ). cond (is_ahead c p) k 0) (hand_calls (buffer_size w.log) c.pending (buffer_size-Keeps w.log c.batches c.pending works.log))
+
+  -- where it fails the page is not stored
+  pub cut_passes : (n before now : ℕ) (e : DiskError) → n ≡ cached_lsn w.cache p → IsTrue (cache.is_dirty w.cache p)
+      → Passes (if nat_lt (log_forced w.log) n then (if is_waiting w.log then 4 else 0) else 0) before now (Err e) → Passes (flush_calls c p) before now (Err e)
+  cut_passes n before now e is dirty first =
+      let made : Passes first_calls before now (Err e) = subst (λ (k : ℕ). Passes k before now (Err e)) (force_part n is) first in
+      let some = some_store (c.gates p) in
+      subst (λ (k : ℕ). Passes k before now (Err e)) (sym (calls_are dirty)) (record {
+        ok = tt;
+        some = (made.some.0, omega (arith, made.some.1), made.some.2);
+        stopped = λ told any. (made.some.0, omega (arith, made.some.1, some), made.some.2);
+      })
 
   -- and those of both
   pub flush_passes : (n before mid now : ℕ) (old image : List ℕ) (result : Result (Unit {0}) DiskError) → n ≡ cached_lsn w.cache p → IsTrue (cache.is_dirty w.cache p) → KnowsPages c (memory w) old

@@ -1,7 +1,8 @@
 //! The engine of an open heap: what it keeps in memory, and its one call, which makes an event.
 ghost use Rattle.std.specs.Prelude.{◌≡◌, ◌+◌, ◌≤◌, length, Ok, IfOk, IsTrue, IsSome, ◌↔◌};
 ghost use Rattle.disk_model.specs.Keeps.{KeepsDisk};
-ghost use Rattle.gated_log.specs.LogState.{log_count, log_room, log_used, is_waiting};
+ghost use Rattle.gated_log.specs.LogState.{log_room, log_used, is_waiting};
+ghost use Rattle.heap_model.specs.Lsns.{log_next_lsn};
 ghost use Rattle.graph_model.specs.History.{account};
 ghost use Rattle.graph_model.specs.History.{IsOfSession};
 ghost use Rattle.log_machine.specs.Machine.{words_in};
@@ -48,7 +49,7 @@ pub struct Engine {
     ghost sized: { length (cached cache).words ≡ words_in spaces.pages },
     ghost few: { length (cached cache).words ≤ 2097152 },
     // No page has a record that the log lacks: the next record is new to each of them.
-    ghost logged: { EachLacks (log_count log + 1) (cached cache) },
+    ghost logged: { EachLacks (log_next_lsn log) (cached cache) },
 }
 
 /// The answer of an event that is refused.
@@ -68,7 +69,7 @@ impl Engine {
         requires idle { table ≡ new_table table.next }
         requires sized { length (cached cache).words ≡ words_in spaces.pages }
         requires few { spaces.pages ≤ 16384 }
-        requires new { EachLacks (log_count log + 1) (cached cache) }
+        requires new { EachLacks (log_next_lsn log) (cached cache) }
         ensures { memory result ≡ opened log cache spaces table.next }
     {
         Engine {

@@ -2,6 +2,7 @@
 ghost use Rattle.std.specs.Prelude.{◌≡◌, ◌+◌, ◌++◌, ◌≤◌, List, length, fold};
 ghost use Rattle.gated_log.specs.LogState.{log_count, log_room, log_used, log_used_with, HasSpare, IsPlaced, Keeps};
 ghost use Rattle.heap_memory.specs.Leaves.{Adds};
+ghost use Rattle.heap_model.specs.Lsns.{log_next_lsn};
 ghost use Rattle.log_machine.specs.Effect.{EachWritesBelow};
 ghost use Rattle.log_machine.specs.Machine.{put_record};
 ghost use Rattle.log_records.specs.declared.Record.{Record};
@@ -10,6 +11,7 @@ ghost use Rattle.page_cache.specs.CacheState.{cached, cache_store};
 ghost use Rattle.page_redo.specs.Redo.{EachLacks, redo_all};
 
 use gated_log::Log;
+use log_machine::FIRST_LSN;
 use log_records::Record;
 use page_cache::PageCache;
 
@@ -19,16 +21,16 @@ pub(crate) fn carry_out(log: &mut Log, cache: &mut PageCache, records: &[Record]
     requires memory { HasSpare log.old (length (spellings records.now)) }
     requires room { log_used_with log.old (length (spellings records.now)) ≤ log_room log.old }
     requires inside { EachWritesBelow (length (cached cache.old).words) records.now }
-    requires new { EachLacks (log_count log.old + 1) (cached cache.old) }
+    requires new { EachLacks (log_next_lsn log.old) (cached cache.old) }
     ensures log { Adds log.old log.new records.now }
     ensures used { log_used log.new ≡ log_used_with log.old (length (spellings records.now)) }
     ensures words { (cached cache.new).words ≡ fold put_record (cached cache.old).words records.now }
-    ensures lsns { (cached cache.new).lsns ≡ (redo_all (log_count log.old + 1) (cached cache.old) records.now).lsns }
+    ensures lsns { (cached cache.new).lsns ≡ (redo_all (log_next_lsn log.old) (cached cache.old) records.now).lsns }
     ensures store { cache_store cache.new ≡ cache_store cache.old }
     ensures size { length (cached cache.new).words ≡ length (cached cache.old).words }
-    ensures logged { EachLacks (log_count log.new + 1) (cached cache.new) }
+    ensures logged { EachLacks (log_next_lsn log.new) (cached cache.new) }
 {
-    let first = log.records() + 1;
+    let first = log.records() + FIRST_LSN;
     append_each(log, records);
     cache.apply_all(first, records);
 }

@@ -2,7 +2,7 @@
 use Rattle.std.specs.Prelude.{◌≡◌, ℕ, ◌+◌, List, [], ◌∷◌, ◌++◌, length, Option, Some, Ok, slice_set, slice_index, fold}
 use Rattle.std.specs.FinSet as set
 use Rattle.gated_log.specs.declared.log.Log.{Log}
-use Rattle.gated_log.specs.LogState.{IsPlaced, IsSameLog, Keeps, log_count}
+use Rattle.gated_log.specs.LogState.{IsPlaced, IsSameLog, Keeps}
 use Rattle.heap_words.specs.declared.Word.{Word}
 use Rattle.heap_words.specs.declared.Word.TheVariants as word
 use Rattle.heap_words.specs.Word.{bits}
@@ -11,6 +11,7 @@ use Rattle.log_records.specs.declared.Record.TheVariants.{Update}
 use Rattle.log_machine.specs.Machine.{field_at, put_record, abort_records}
 use Rattle.page_redo.specs.Pages.{Pages}
 use Rattle.page_redo.specs.Redo.{redo_all}
+use Rattle.heap_model.specs.Lsns.{log_next_lsn}
 use Rattle.volatile_area.specs.Area as area
 use Rattle.volatile_area.specs.Area.{with_object}
 use Rattle.heap_spaces.specs.Spaces.{SpacesState, with_taken}
@@ -38,7 +39,7 @@ pages_of m = record { words = m.words; lsns = m.lsns }
 pub record Leaves (old new : Memory) (records : List Record) (transactions : TableState) (held : Holdings) (current : SpacesState) (count : ℕ) : Type 0 where
   pub log : Adds old.log new.log records
   pub words : new.words ≡ fold put_record old.words records
-  pub lsns : new.lsns ≡ (redo_all (log_count old.log + 1) (pages_of old) records).lsns
+  pub lsns : new.lsns ≡ (redo_all (log_next_lsn old.log) (pages_of old) records).lsns
   pub store : new.store ≡ old.store
   pub table : new.table ≡ transactions
   pub locks : new.locks ≡ held

@@ -18,7 +18,8 @@ use Rattle.log_records.specs.declared.Record.{Record}
 use Rattle.log_records.specs.declared.Record.TheVariants.{Update}
 use Rattle.log_records.specs.Record.{spellings}
 use Rattle.log_machine.specs.declared.UndoEntry.{UndoEntry}
-use Rattle.log_machine.specs.Machine.{State, start, owed, after_all, put_record, undo_of, undo_bytes, abort_records}
+use Rattle.log_machine.specs.Machine.{State, owed, put_record, undo_of, undo_bytes, abort_records}
+use Rattle.log_machine.specs.Origin.{Origin, heap_origin, next_lsn, state_from, commits_in}
 use Rattle.page_redo.specs.Pages.{pages_in}
 use Rattle.page_redo.specs.Redo.{last_lsn}
 use Rattle.gated_log.specs.Log.{records_of, batches_bytes, pending_batch}
@@ -37,7 +38,7 @@ pub record Core : Type 0 where
   pub first : ℕ  -- the next transaction's number at the opening
   pub g0 : Graph  -- the graph at the opening
   pub born : Bool  -- whether its objects are named by their births
-  pub before : ℕ  -- how many commits the log had at the opening
+  pub before : ℕ  -- how many transactions were committed at the opening
   pub history : List Entry  -- the events since then and their replies
   pub batches : List (List Record)  -- the log's batches on the disk
   pub words : List ℕ  -- the words of both spaces behind these
@@ -58,9 +59,13 @@ all_records c = records_of c.batches ++ c.pending
 abbrev pub all_words : Core → List ℕ
 all_words c = fold put_record c.words c.pending
 
+-- where the log begins
+abbrev pub log_origin : Core → Origin
+log_origin c = heap_origin c.pages c.first_number
+
 -- the LSN of a page as it is now: that of the last record that touches it, or that with which it is stored
 abbrev pub present_lsn : Core → ℕ → ℕ
-present_lsn c p = max (c.stored_lsns p) (last_lsn p 1 (all_records c))
+present_lsn c p = max (c.stored_lsns p) (last_lsn p (log_origin c).lsn (all_records c))
 
 -- whether there is a page of that number, which has changed since it was stored
 abbrev pub is_dirty : Core → ℕ → Bool
@@ -68,11 +73,15 @@ is_dirty c p = nat_lt p (pages_in c.pages) && not (present_lsn c p == c.stored_l
 
 -- the state with which the log begins
 abbrev pub log_start : Core → State
-log_start c = start c.pages c.first_number
+log_start c = (log_origin c).state
 
 -- what records say of a core's heap, if they follow one another
 abbrev pub state_behind : Core → List Record → Option State
-state_behind c records = after_all (log_start c) records
+state_behind c records = state_from (log_origin c) records
+
+-- how many transactions are committed in what the disk holds
+abbrev pub commits_on_disk : Core → ℕ
+commits_on_disk c = commits_in (state_behind c (records_of c.batches))
 
 abbrev pub undo_with : Option State → ℕ → List UndoEntry
 undo_with None t = []
@@ -247,7 +256,7 @@ forced c (r ∷ rs) = record c { batches = c.batches ++ (r ∷ rs) ∷ []; words
 
 -- whether a page is ahead of the log on the disk: it has a record that waits
 abbrev pub is_ahead : Core → ℕ → Bool
-is_ahead c p = nat_lt (length (records_of c.batches)) (present_lsn c p)
+is_ahead c p = not (nat_lt (present_lsn c p) (next_lsn (log_origin c) (records_of c.batches)))
 
 -- what waits is forced first if a page that is to be stored is ahead
 abbrev pub forced_if : Bool → Core → Core

@@ -6,22 +6,21 @@ use Rattle.image_plan.specs.declared.superblock.Super.{Super}
 use Rattle.image_plan.specs.Super.{IsSuper}
 use Rattle.log_records.specs.declared.Record.{Record}
 use Rattle.gated_log.specs.Log.{with_batch, records_of}
-use Rattle.log_machine.specs.Machine as machine
-use Rattle.log_machine.specs.Machine.{words}
+use Rattle.log_machine.specs.Origin.{words_from}
 use Rattle.page_redo.specs.Pages.{Pages, pages_in, lsn_of}
 use Rattle.page_redo.specs.Prefix.{EachHoldsPrefix}
-use Rattle.heap_model.specs.Core.{Core}
+use Rattle.heap_model.specs.Core.{Core, log_origin, commits_on_disk}
 use Rattle.heap_model.specs.Image.{StandsFor}
 use Rattle.heap_model.specs.Opening.{next_of}
 
 -- A core's words are those that its log leaves.
 abbrev pub HasLogWords : Core → Type 0
-HasLogWords c = c.words ≡ words c.pages (records_of c.batches)
+HasLogWords c = c.words ≡ words_from (log_origin c) (records_of c.batches)
 
--- So they are, and each page that is stored beside it has the LSN that the core knows, and holds as many of its records as that says.
+-- So they are, and each page that is stored beside it has the LSN that the core knows, and holds the effects of its records up to that.
 pub record IsLogged (c : Core) (stored : Pages) : Type 0 where
   pub words : HasLogWords c
-  pub prefixes : EachHoldsPrefix c.pages (records_of c.batches) stored
+  pub prefixes : EachHoldsPrefix (log_origin c) (records_of c.batches) stored
   pub lsns : (p : ℕ) → p < pages_in c.pages → lsn_of stored p ≡ c.stored_lsns p
 
 -- The disk holds the batches that were forced, or those that wait as one more.
@@ -42,7 +41,7 @@ pub record StandsForFirst (c : Core) (k : ℕ) (image : List ℕ) : Type 0 where
   pub of : IsSuperOf stands.super c
   pub next : c.first ≤ next_of stands.super stands.batches
   pub kept : acknowledged c.history ≤ k
-  pub forced : machine.commits (records_of c.batches) ≤ c.before + k
+  pub forced : commits_on_disk c ≤ c.before + k
   pub some : k ≤ length (commits c.history)
 
 -- The image stands for first commits, and all that was acknowledged is among them.

@@ -9,7 +9,8 @@ use Rattle.log_records.specs.declared.Record.{Record}
 use Rattle.image_plan.specs.Plan.{log_offset, image_size}
 use Rattle.image_plan.specs.Super.{IsSuper, superblock}
 use Rattle.log_records.specs.Record.{IsRecord}
-use Rattle.log_machine.specs.Machine.{State, words_in, start, after_all, each_taken_back, losing_in, commits, reserve}
+use Rattle.log_machine.specs.Machine.{State, words_in, each_taken_back, losing_in, reserve}
+use Rattle.log_machine.specs.Origin.{Origin, heap_origin, next_lsn, state_from}
 use Rattle.page_redo.specs.Pages.{Pages, pages_in}
 use Rattle.page_redo.specs.Redo.{EachLacks, redone}
 use Rattle.page_redo.specs.Prefix.{EachHoldsPrefix}
@@ -18,17 +19,17 @@ use Rattle.object_layout.specs.Layout.{IsSeen}
 use Rattle.object_layout.specs.Walk.{IsWalked, HaveOwnBirths, AreBornBefore}
 use Rattle.gated_log.specs.Log.{HoldsBatches, batches_bytes, records_of}
 
--- the state with which the log of a heap with these numbers begins
-abbrev pub first_state : Super → State
-first_state s = start s.pages s.first
+-- where the log of a heap with these numbers begins
+abbrev pub origin_of : Super → Origin
+origin_of s = heap_origin s.pages s.first
 
 -- the words when each record of these batches is redone on the stored pages that lack it
-abbrev pub redone_words : List (List Record) → Pages → List ℕ
-redone_words batches stored = (redone stored (records_of batches)).words
+abbrev pub redone_words : Super → List (List Record) → Pages → List ℕ
+redone_words s batches stored = (redone (origin_of s) stored (records_of batches)).words
 
 -- and then the writes of transactions that have not ended are taken back
 abbrev pub words_of : Super → List (List Record) → Pages → List ℕ
-words_of s batches stored = each_taken_back (losing_in (after_all (first_state s) (records_of batches))) (redone_words batches stored)
+words_of s batches stored = each_taken_back (losing_in (state_from (origin_of s) (records_of batches))) (redone_words s batches stored)
 
 -- What a shaped log of a heap with these numbers says beside stored pages: its records follow one another; it has room for those that
 -- take back what transactions wrote that have not ended; no page is ahead of it; and when it is redone on the pages, and these writes are
@@ -37,18 +38,18 @@ pub record IsShapedLog (s : Super) (batches : List (List Record)) (stored : Page
   pub limits : IsSuper s
   pub good : AllByRecursion IsRecord (records_of batches)
   pub state : State
-  pub reached : after_all (first_state s) (records_of batches) ≡ Some state
+  pub reached : state_from (origin_of s) (records_of batches) ≡ Some state
   pub room : length (batches_bytes batches) + 1 + reserve state ≤ s.log_bytes
   pub size : length stored.words ≡ words_in s.pages
   pub lsns_size : length stored.lsns ≡ pages_in s.pages
-  pub behind : EachLacks (length (records_of batches) + 1) stored
+  pub behind : EachLacks (next_lsn (origin_of s) (records_of batches)) stored
   pub walked : IsWalked (words_of s batches stored) state.base state.used
 
--- A legal log: a shaped one beside pages that each hold the effects of as many of its records as their LSN says, in which births differ and
+-- A legal log: a shaped one beside pages that each hold the effects of its records up to their LSN, in which births differ and
 -- come from transactions below the next one. An opening does not look at births, nor at what pages hold.
 pub record IsLegalLog (s : Super) (batches : List (List Record)) (stored : Pages) : Type 0 where
   pub shaped : IsShapedLog s batches stored
-  pub prefixes : EachHoldsPrefix s.pages (records_of batches) stored
+  pub prefixes : EachHoldsPrefix (origin_of s) (records_of batches) stored
   pub own_births : HaveOwnBirths (words_of s batches stored) shaped.walked.starts
   pub born_before : AreBornBefore shaped.state.next (words_of s batches stored) shaped.state.base shaped.walked.starts
 
@@ -79,7 +80,7 @@ pub record Says (g : Graph) (k : ℕ) (s : Super) (batches : List (List Record))
   pub seen : Graph
   pub shows : Shows s batches stored legal seen
   pub graph : canon seen ≡ canon g
-  pub count : commits (records_of batches) ≡ k
+  pub count : legal.shaped.state.commits ≡ k
 
 -- An image stands for a graph, up to the names of objects, and a number of commits.
 pub record StandsFor (g : Graph) (k : ℕ) (image : List ℕ) : Type 0 where

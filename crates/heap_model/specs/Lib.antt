@@ -4,6 +4,7 @@ pub mod CoreRuns
 pub mod CoreTold
 pub mod Ending
 pub mod Image
+pub mod Lsns
 pub mod NewHeap
 pub mod Opening
 pub mod Theorems

@@ -4,16 +4,17 @@ use Rattle.graph_model.specs.Graph.{Graph}
 use Rattle.image_plan.specs.declared.superblock.Super.{Super}
 use Rattle.log_records.specs.declared.Record.{Record}
 use Rattle.gated_log.specs.Log.{records_of, with_batch}
-use Rattle.log_machine.specs.Machine.{State, after_all, put_record, number_of, next_with, commits, rollback}
+use Rattle.log_machine.specs.Machine.{State, put_record, number_of, next_with, rollback}
+use Rattle.log_machine.specs.Origin.{state_from, commits_in}
 use Rattle.page_redo.specs.Pages.{Pages, lsn_of}
 use Rattle.graph_words.specs.Places.{Places, AreOld}
 use Rattle.graph_words.specs.Stands.{StandsCommitted, ArePlaced, AreNamedByBirth}
 use Rattle.heap_model.specs.Core.{Core, force_calls}
-use Rattle.heap_model.specs.Image.{first_state, redone_words, words_of, IsShapedLog, Holds}
+use Rattle.heap_model.specs.Image.{origin_of, redone_words, words_of, IsShapedLog, Holds}
 
 -- what the records of these batches say
 abbrev pub state_of : Super → List (List Record) → Option State
-state_of s batches = after_all (first_state s) (records_of batches)
+state_of s batches = state_from (origin_of s) (records_of batches)
 
 abbrev pub rollback_in : Option State → List Record
 rollback_in None = []
@@ -29,7 +30,7 @@ rolled_back s batches = with_batch batches (rollback_of s batches)
 
 -- the words behind an opening
 abbrev pub rolled_words : Super → List (List Record) → Pages → List ℕ
-rolled_words s batches stored = fold put_record (redone_words batches stored) (rollback_of s batches)
+rolled_words s batches stored = fold put_record (redone_words s batches stored) (rollback_of s batches)
 
 -- the writes and syncs of an opening
 abbrev pub opening_calls : Super → List (List Record) → ℕ
@@ -42,6 +43,10 @@ next_in (Some state) = state.next
 -- the number of the first transaction behind an opening
 abbrev pub next_of : Super → List (List Record) → ℕ
 next_of s batches = next_in (state_of s batches)
+
+-- how many transactions are committed in what these batches say
+abbrev pub commits_of : Super → List (List Record) → ℕ
+commits_of s batches = commits_in (state_of s batches)
 
 -- the greater of a heap's first number and one more than the greatest among these records
 abbrev pub next_behind : ℕ → List Record → ℕ
@@ -58,7 +63,7 @@ opened s batches stored gates born places g =
       first = next_of s batches;
       g0 = g;
       born = born;
-      before = commits (records_of batches);
+      before = commits_of s batches;
       history = [];
       batches = rolled_back s batches;
       words = rolled_words s batches stored;

@@ -9,13 +9,11 @@
 use Rattle.std.specs.Prelude.{◌≡◌, ℕ, true, List}
 use Rattle.graph_model.specs.Canon.{canon}
 use Rattle.graph_model.specs.Graph.{Graph}
-use Rattle.gated_log.specs.Log.{records_of}
 use Rattle.image_plan.specs.declared.superblock.Super.{Super}
 use Rattle.log_records.specs.declared.Record.{Record}
-use Rattle.log_machine.specs.Machine as machine
 use Rattle.page_redo.specs.Pages.{Pages}
 use Rattle.heap_model.specs.Image.{IsLegalLog, Shows, Says, StandsFor}
-use Rattle.heap_model.specs.Opening.{rolled_back, IsFound}
+use Rattle.heap_model.specs.Opening.{rolled_back, commits_of, IsFound}
 use Rattle.graph_words.specs.Places.{Places}
 
 -- An image stands for one graph, up to the names of objects, and for one number of commits.
@@ -24,8 +22,8 @@ OneMeaningTheorem = (g h : Graph) (k j : ℕ) (image : List ℕ) → StandsFor g
 
 -- A legal log and the one behind its opening say the same.
 pub record SaysOn (g : Graph) (s : Super) (batches : List (List Record)) (stored : Pages) : Type 0 where
-  pub found : Says g (machine.commits (records_of batches)) s batches stored
-  pub left : Says g (machine.commits (records_of batches)) s (rolled_back s batches) stored
+  pub found : Says g (commits_of s batches) s batches stored
+  pub left : Says g (commits_of s batches) s (rolled_back s batches) stored
 
 -- The graph that stands in what a legal log leaves is the one that it says, and it stands there under the names of births.
 abbrev pub SayingTheorem : Type 0

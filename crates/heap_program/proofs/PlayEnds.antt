@@ -8,7 +8,6 @@ use Rattle.disk_model.specs.declared.disk.DiskError.TheVariants as device
 use Rattle.disk_model.specs.Disk.{Only}
 use Rattle.disk_model.specs.Moments.{LeavesOnly}
 use Rattle.disk_model.proofs.MomentLaws.{begins}
-use Rattle.gated_log.specs.Log.{records_of}
 use Rattle.graph_model.specs.declared.event.Event.{Event}
 use Rattle.graph_model.specs.declared.reply.Entry.{Entry}
 use Rattle.graph_model.specs.declared.reply.Refusal.TheVariants.{DiskFault, Stopped}
@@ -25,7 +24,7 @@ use Rattle.heap_program.specs.declared.status.Status.{Status}
 use Rattle.heap_program.specs.declared.status.Status.TheVariants as status
 use Rattle.heap_program.specs.Causes.{DiskRose, Unharmed}
 use Rattle.heap_core.specs.Causes.{reply_device}
-use Rattle.heap_model.specs.Core.{Core, with_entry, IsRun}
+use Rattle.heap_model.specs.Core.{Core, commits_on_disk, with_entry, IsRun}
 use Rattle.heap_model.specs.CoreCrash.{IsCommitPrefix}
 use Rattle.heap_model.proofs.Step.Calls.{total_calls-append}
 use Rattle.core_laws.proofs.Crash.Image.{commits-sealed}
@@ -36,7 +35,7 @@ use Rattle.core_laws.proofs.Step.Sound.{reached_agrees}
 use Rattle.commit_order.specs.Heard.{replies_of_commits}
 use Rattle.heap_model.specs.CoreRuns.{after_events, total_calls}
 use Rattle.core_laws.specs.Valid.{IsReached}
-use Rattle.log_machine.proofs.StateLaws.{commits-start}
+use Rattle.log_machine.specs.Origin.{commits_in}
 use Rattle.command_words.specs.declared.commands.Stop.{Stop}
 use Rattle.heap_program.specs.Headline.{lasting, graph_text, end_text, stop_after, let_through, HasMade, StopsLast, IsExact, StopsInPlace, IsEndOfPlay, IsOfDisk, MakesEvents, KeepsThroughout, IsFollowed, Reopens, StartsAgain, EndsUnopened, Prints, IsPlayed}
 use Rattle.heap_program.proofs.Playable.{IsPlayable}
@@ -94,7 +93,7 @@ module _ {D : Type 0} {g : Ghosts D} (s : Super) (c : Core) (running : IsRunning
   least : lasting core ≤ all
   least =
       let agrees = reached_agrees core run_reached.1 in
-      let commits = commits-start core.pages core.first_number agrees.disk.state (records_of core.batches) agrees.disk.told.reached in
+      let commits : commits_on_disk core ≡ agrees.disk.state.commits = ap commits_in agrees.disk.told.reached in
       omega (arith, agrees.disk.acknowledged_last, agrees.disk.sealed_first, agrees.disk.told.count, commits)
 
   most : all ≤ length (commits core.history)

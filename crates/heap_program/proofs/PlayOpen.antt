@@ -15,7 +15,7 @@ use Rattle.graph_model.specs.History.{account}
 use Rattle.heap_core.specs.Causes.{IsFromOutside}
 use Rattle.heap_core.specs.declared.errors.OpenError.{OpenError}
 use Rattle.heap_core.specs.declared.errors.OpenError.TheVariants as opening
-use Rattle.heap_model.specs.Core.{Core}
+use Rattle.heap_model.specs.Core.{Core, commits_on_disk}
 use Rattle.heap_program.specs.declared.status.Status.{Status}
 use Rattle.heap_program.specs.declared.status.Status.TheVariants.{Done, NoMemory}
 use Rattle.heap_model.specs.CoreCrash.{IsCommitPrefix}
@@ -182,7 +182,7 @@ module _ {D : Type 0} (g : Ghosts D) {bytes : List ℕ} (stored : IsStored bytes
         replies = refl;
         prints = record {
           count = 0;
-          least = let same = rolled_commits stored.super stored.batches stored.pages stored.legal.log.shaped in omega (arith, same);
+          least = let same : commits_on_disk c ≡ c.before = rolled_commits stored.super stored.batches stored.pages stored.legal.log.shaped in omega (arith, same);
           most = omega arith;
           all = λ none. refl;
           behind = nothing_follows g stop c final by told before early;

@@ -21,6 +21,7 @@ use Rattle.log_records.specs.Record.{spelling, spellings}
 use Rattle.log_records.proofs.RecordLaws.{some_spelling}
 use Rattle.log_machine.specs.Machine.{commits}
 use Rattle.log_machine.proofs.MachineLaws.{commits-append}
+use Rattle.log_machine.proofs.StateLaws.{commits-start}
 use Rattle.heap_core.specs.Causes.{IsFromOutside, ErrorPasses, error_device}
 use Rattle.heap_core.specs.declared.errors.OpenError.{OpenError}
 use Rattle.heap_core.specs.declared.errors.OpenError.TheVariants as opening
@@ -32,7 +33,8 @@ use Rattle.heap_model.specs.CoreCrash.{StandsForFirst, IsCommitPrefix}
 use Rattle.page_redo.specs.Pages.{Pages}
 use Rattle.heap_model.specs.Image.{IsLegalLog, IsLegal}
 use Rattle.heap_model.proofs.Opening.Held.{left_first}
-use Rattle.heap_model.specs.Opening.{IsLeftByOpening}
+use Rattle.heap_model.proofs.Opening.Rolled.{commits_are}
+use Rattle.heap_model.specs.Opening.{commits_of, IsLeftByOpening}
 use Rattle.heap_program.specs.Causes.{DiskRose}
 use Rattle.heap_program.specs.Headline.{recovered_line, graph_text, IsEndOfPlay, IsOfDisk, KeepsFirst, calls_to_open, Reopens, FailsToOpen, Restarts, IsCutBefore, StartsAgain, EndsUnopened}
 use Rattle.heap_program.specs.Output.{IsBefore, commits_since, WroteText, Recovers, WroteRecovered, WroteNothing, status_after}
@@ -70,9 +72,11 @@ few_in_batches (b ∷ bs) =
     let inside = length-append (to_le_bytes w32 (length (spellings b))) (spellings b) in
     omega arith
 
-pub few_commits : (s : Super) (bs : List (List Record)) (stored : Pages) → IsLegalLog s bs stored → commits (records_of bs) ≤ 1073741824
+pub few_commits : (s : Super) (bs : List (List Record)) (stored : Pages) → IsLegalLog s bs stored → commits_of s bs ≤ 1073741824
 few_commits s bs stored legal =
     let few = few_in_batches bs in
+    let are = commits_are s bs stored legal.shaped in
+    let all = commits-start s.pages s.first legal.shaped.state (records_of bs) legal.shaped.reached in
     let room = legal.shaped.room in
     let small = legal.shaped.limits.small_log in
     omega arith

@@ -16,8 +16,10 @@ use Rattle.graph_model.specs.declared.reply.Reply.TheVariants.{Begun, Sealed, Ab
 use Rattle.graph_model.specs.History.{Account, account, done, cut_short, answered, acknowledged, IsOfSession}
 use Rattle.graph_model.proofs.Runs.History.{account-append}
 use Rattle.log_machine.specs.Machine as machine
+use Rattle.log_machine.specs.Origin.{commits_in}
 use Rattle.log_machine.proofs.MachineLaws.{commits-append}
-use Rattle.heap_model.specs.Core.{Core, core_refusal, is_dirty, is_ahead, forced, forced_if, page_stored, after_refusal, IsStep, IsRun}
+use Rattle.log_machine.proofs.StateLaws.{commits-start}
+use Rattle.heap_model.specs.Core.{Core, commits_on_disk, core_refusal, is_dirty, is_ahead, forced, forced_if, page_stored, after_refusal, IsStep, IsRun}
 use Rattle.heap_model.specs.Core as model
 use Rattle.heap_model.proofs.Step.Room.{forced-with_batch, records_of-with_batch}
 use Rattle.heap_model.specs.CoreCrash.{IsCommitPrefix, HasAtLeast}
@@ -25,7 +27,8 @@ use Rattle.core_laws.proofs.Crash.Grow.{has_at_least_on}
 use Rattle.heap_model.proofs.Step.Grow.{has_fewer}
 use Rattle.heap_model.proofs.Run.Calls.{step_history, same_run}
 use Rattle.core_laws.proofs.Run.Events.{run_reached}
-use Rattle.core_laws.specs.Valid.{IsReached}
+use Rattle.core_laws.proofs.Step.Sound.{sound_agrees}
+use Rattle.core_laws.specs.Valid.{IsSound, IsReached}
 use Rattle.heap_program.specs.CrashSafe.{LastingStep}
 use Rattle.heap_program.specs.Headline.{lasting}
 use Rattle.heap_program.specs.Steps.{Step, AreSteps}
@@ -63,9 +66,15 @@ run_acknowledges c d (event ∷ events) run =
     let rest = run_acknowledges run.1 d events run.3 in
     omega (arith, first, rest)
 
--- how many commits the log on the disk holds
+-- how many records of commits the log on the disk holds
 abbrev on_disk : Core → ℕ
 on_disk c = machine.commits (records_of c.batches)
+
+-- they are as many as the transactions that are committed there
+disk_commits : (c : Core) → IsSound c → commits_on_disk c ≡ on_disk c
+disk_commits c h =
+    let b = sound_agrees c h in
+    ap commits_in b.disk_told.reached ∙ commits-start c.pages c.first_number b.on_disk (records_of c.batches) b.disk_told.reached
 
 forced_commits : (c : Core) → on_disk c ≤ on_disk (forced c c.pending)
 forced_commits c =
@@ -100,12 +109,12 @@ run_commits c d (event ∷ events) run =
     omega (arith, first, rest)
 
 -- so what lasts does
-pub run_lasting : (c d : Core) (events : List Event) → IsRun c events d → lasting c ≤ lasting d
-run_lasting c d events run =
+pub run_lasting : (c d : Core) (events : List Event) → IsSound c → IsSound d → IsRun c events d → lasting c ≤ lasting d
+run_lasting c d events from to run =
     let more = run_acknowledges c d events run in
     let added = run_commits c d events run in
     let same = (same_run c d events run).before in
-    omega (arith, more, added, same)
+    omega (arith, more, added, same, disk_commits c from, disk_commits d to)
 
 -- an image that keeps first commits has as many as last
 keeps_lasting : (c : Core) (image : List ℕ) → IsCommitPrefix c image → HasAtLeast c (lasting c) image
@@ -142,7 +151,7 @@ module _ {D : Type 0} (g : Ghosts D) (stop : Option ℕ) (start final : D) where
         let one : IsRun c (event ∷ []) mid = (step.reply, mid, step.step, refl) in
         let at_mid = run_reached c mid (event ∷ []) reached (sessions.0, tt) one in
         let at_end = run_reached c d (event ∷ events) reached sessions run in
-        let more = run_lasting c mid (event ∷ []) one in
+        let more = run_lasting c mid (event ∷ []) reached.sound at_mid.sound one in
         let rest = steps_last mid d between new events at_mid sessions.1 step.kept steps.3 in
         let least = lasting c in
         weaker g.moment g.left_since old new _ (HasAtLeast d least)
@@ -157,7 +166,8 @@ module _ {D : Type 0} (g : Ghosts D) (stop : Option ℕ) (start final : D) where
         → AreSteps (Step g stop start) c old events d new → LeavesOnly g.moment g.left_since new final (IsCommitPrefix d) → LeavesOnly g.moment g.left_since old final (HasAtLeast d (lasting c))
     last_until c d old new events reached sessions here steps rest =
         let least = lasting c in
-        let more = run_lasting c d events (steps_run c d old new events steps) in
+        let run = steps_run c d old new events steps in
+        let more = run_lasting c d events reached.sound (run_reached c d events reached sessions run).sound run in
         weaker g.moment g.left_since old final _ (HasAtLeast d least)
         (joined g.moment g.left_since old new final (HasAtLeast d least) (IsCommitPrefix d) (steps_last c d old new events reached sessions here steps) rest)
         (λ image either. ⊎_elim

@@ -6,7 +6,6 @@ use Rattle.disk_model.specs.declared.disk.Disk.{Ghosts}
 use Rattle.disk_model.specs.declared.disk.DiskError.{DiskError}
 use Rattle.disk_model.specs.Disk.{SameOutside, Only, HasCause}
 use Rattle.disk_model.specs.Moments.{LeavesOnly}
-use Rattle.gated_log.specs.Log.{records_of}
 use Rattle.gate_slot.specs.Passing.{Passes}
 use Rattle.graph_model.specs.declared.event.Event.{Event}
 use Rattle.graph_model.specs.declared.reply.Entry.{Entry}
@@ -21,14 +20,13 @@ use Rattle.graph_model.specs.Text.{canon_text}
 use Rattle.image_plan.specs.declared.superblock.Super.{Super}
 use Rattle.image_plan.specs.Plan.{image_size}
 use Rattle.heap_core.specs.Format.{IsEmptyHeap, IsFormatting, format_calls}
-use Rattle.heap_model.specs.Core.{Core, with_entry, IsRun}
+use Rattle.heap_model.specs.Core.{Core, commits_on_disk, with_entry, IsRun}
 use Rattle.heap_model.specs.CoreCrash.{StandsForFirst, IsCommitPrefix}
 use Rattle.heap_model.specs.NewHeap.{root_place}
 use Rattle.commit_order.specs.Heard.{replies_of_commits}
 use Rattle.heap_model.specs.CoreRuns.{after_events, total_calls, StopsAt}
 use Rattle.heap_model.specs.Ending.{all_events}
 use Rattle.graph_words.specs.Places.{Places}
-use Rattle.log_machine.specs.Machine as machine
 use Rattle.log_records.specs.declared.Record.{Record}
 use Rattle.page_redo.specs.Pages.{Pages, first_pages}
 use Rattle.page_store.specs.Gates.{open_gates}
@@ -51,7 +49,7 @@ OfTold tells bytes may_leave claim = IsTrue tells → Only bytes may_leave → c
 -- how many commits since its opening last: those that were acknowledged, or that the batches of events that were not cut short hold, also
 -- where no reply has told so
 abbrev pub lasting : Core → ℕ
-lasting c = max (acknowledged c.history) (machine.commits (records_of c.batches) - c.before)
+lasting c = max (acknowledged c.history) (commits_on_disk c - c.before)
 
 -- the superblock of the heap that a run makes, with so many pages
 abbrev pub made_super : ℕ → Super

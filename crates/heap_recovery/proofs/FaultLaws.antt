@@ -16,6 +16,7 @@ use Rattle.log_machine.specs.Machine.{settled, State, start, after_all, losing_i
 use Rattle.log_machine.specs.declared.UndoEntry.{UndoEntry}
 use Rattle.log_machine.proofs.MapLaws.{entries_empty}
 use Rattle.log_machine.proofs.MachineLaws.{after_all-append2}
+use Rattle.log_machine.specs.Origin.{Origin, next_lsn}
 use Rattle.log_machine.specs.Replay.{IsFirstUnshaped}
 use Rattle.log_machine.proofs.ReplayLaws.{none_follow}
 use Rattle.log_machine.proofs.AbortLaws.{rollback_reaches, rollback_good}
@@ -33,7 +34,7 @@ use Rattle.object_layout.proofs.WalkLaws.{walked_fault, fault_one}
 use Rattle.heap_model.specs.Core.{need}
 use Rattle.heap_model.proofs.Opening.Rolled.{rollback_need, settled_reserve}
 use Rattle.heap_model.proofs.Step.Room.{records_of-with_batch, length-with_batch, length-pending_batch-append}
-use Rattle.heap_model.specs.Image.{redone_words, words_of, IsShaped}
+use Rattle.heap_model.specs.Image.{origin_of, redone_words, words_of, IsShaped}
 use Rattle.heap_model.specs.Opening.{rollback_in, rollback_of, rolled_back, opening_calls}
 use Rattle.heap_recovery.specs.declared.at.At.{At}
 use Rattle.heap_recovery.specs.declared.at.At.TheVariants.{Batch, Rec, Reserve, Page, Address}
@@ -77,24 +78,24 @@ take_front (suc a) (suc b) [] le = refl
 take_front (suc a) (suc b) (r ∷ rs) le = ap (λ (l : List Record). r ∷ l) (take_front a b rs (omega arith))
 
 -- none is stuck behind one that is
-never_later : (s : State) (rs : List Record) (a b : ℕ) → a < b → IsFirstUnshaped s rs a → IsFirstUnshaped s rs b → ⊥
-never_later s rs a b less first other =
-    let Stuck : List Record → Type 0 = λ l. after_all s l ≡ None in
-    let Goes : List Record → Type 0 = λ l. is_some (after_all s l) ≡ true in
-    let front : IsFirstUnshaped s (take (b - 1) rs) a = record {
-      before = subst Goes (sym (take_front (a - 1) (b - 1) rs (omega arith))) first.before;
-      stuck = subst Stuck (sym (take_front a (b - 1) rs (omega arith))) first.stuck;
+never_later : (o : Origin) (rs : List Record) (a b : ℕ) → a < b → IsFirstUnshaped o rs a → IsFirstUnshaped o rs b → ⊥
+never_later o rs a b less first other =
+    let Stuck : List Record → Type 0 = λ l. after_all o.state l ≡ None in
+    let Goes : List Record → Type 0 = λ l. is_some (after_all o.state l) ≡ true in
+    let front : IsFirstUnshaped o (take (b - o.lsn) rs) a = record {
+      before = subst Goes (sym (take_front (a - o.lsn) (b - o.lsn) rs (omega (arith, less)))) first.before;
+      stuck = subst Stuck (sym (take_front (a + 1 - o.lsn) (b - o.lsn) rs (omega (arith, less)))) first.stuck;
     } in
-    let none = none_follow s (take (b - 1) rs) a front in
+    let none = none_follow o (take (b - o.lsn) rs) a front in
     let never = sym (ap is_some none) ∙ other.before in
     cc never
 
 -- one record is the first that can't follow
-pub one_unshaped : (s : State) (rs : List Record) (a b : ℕ) → IsFirstUnshaped s rs a → IsFirstUnshaped s rs b → a ≡ b
-one_unshaped s rs a b first other = elim (cases_order a b) [
+pub one_unshaped : (o : Origin) (rs : List Record) (a b : ℕ) → IsFirstUnshaped o rs a → IsFirstUnshaped o rs b → a ≡ b
+one_unshaped o rs a b first other = elim (cases_order a b) [
   | inl same ↦ same
-  | inr (inl less) ↦ absurd (never_later s rs a b less first other)
-  | inr (inr more) ↦ absurd (never_later s rs b a more other first)
+  | inr (inl less) ↦ absurd (never_later o rs a b less first other)
+  | inr (inr more) ↦ absurd (never_later o rs b a more other first)
 ]
 
 module _ (s : Super) (image : List ℕ) where
@@ -113,7 +114,7 @@ module _ (s : Super) (image : List ℕ) where
 -- where all records follow one another none is told
 pub replayed_unstuck : (s : Super) (batches : List (List Record)) (state : State) (image : List ℕ) (lsn : ℕ) → IsReplayed s batches state image → IsFaultAt (Rec lsn) image → ⊥
 replayed_unstuck s batches state image lsn replayed (r, bs, log, first) =
-    let stuck = none_follow (start r.pages r.first) (records_of bs) lsn first in
+    let stuck = none_follow (origin_of r) (records_of bs) lsn first in
     let never : None ≡ Some state = sym stuck ∙ reached_on r image s bs batches state log replayed in
     cc never
 
@@ -138,13 +139,13 @@ one_first lsn at p q first other = elim (cases_order p q) [
 ]
 
 -- what is told of the pages is told of those that are stored beside the image's log
-first_ahead : (s : Super) (batches : List (List Record)) (image : List ℕ) (page : ℕ) → HoldsLog s batches image → IsFaultAt (Page page) image → IsFirstPast (length (records_of batches)) page (stored_in s image)
+first_ahead : (s : Super) (batches : List (List Record)) (image : List ℕ) (page : ℕ) → HoldsLog s batches image → IsFaultAt (Page page) image → IsFirstPast (next_lsn (origin_of s) (records_of batches) - 1) page (stored_in s image)
 first_ahead s batches image page log (r, bs, n, roomy, first) =
     let other = roomy.replayed.log in
     let numbers = one_numbers r s image other.super log.super in
-    let P : Super → Type 0 = λ x. HoldsLog x bs image × IsFirstPast (length (records_of bs)) page (stored_in x image) in
+    let P : Super → Type 0 = λ x. HoldsLog x bs image × IsFirstPast (next_lsn (origin_of x) (records_of bs) - 1) page (stored_in x image) in
     let mine = subst P numbers (other, first) in
-    let Q : List (List Record) → Type 0 = λ l. IsFirstPast (length (records_of l)) page (stored_in s image) in
+    let Q : List (List Record) → Type 0 = λ l. IsFirstPast (next_lsn (origin_of s) (records_of l) - 1) page (stored_in s image) in
     subst Q (one_batches s bs batches image mine.0 log) mine.1
 
 -- where no page is ahead none is told
@@ -213,7 +214,7 @@ shaped_log s batches stored image shaped = record { super = record { limits = sh
 pub shaped_readable : (s : Super) (batches : List (List Record)) (stored : Pages) (image : List ℕ) (shaped : IsShaped s batches stored image) → IsReadable s batches shaped.log.state image
 shaped_readable s batches stored image shaped = record {
   roomy = record { replayed = record { log = shaped_log s batches stored image shaped; reached = shaped.log.reached }; room = shaped.log.room };
-  behind = subst (EachLacks (length (records_of batches) + 1)) (sym shaped.held.pages) shaped.log.behind;
+  behind = subst (EachLacks (next_lsn (origin_of s) (records_of batches))) (sym shaped.held.pages) shaped.log.behind;
 }
 
 -- it has no fault
@@ -235,10 +236,10 @@ one_fault image (Batch a) (Address b) fault (s, bs, m, readable, walk) = absurd 
 one_fault image (Rec a) (Batch b) (s, bs, log, first) other = absurd (log_unbroken s bs image b log other)
 one_fault image (Rec a) (Rec b) (s, bs, log, first) (r, cs, log', first') =
     let numbers = one_numbers r s image log'.super log.super in
-    let P : Super → Type 0 = λ x. IsFirstUnshaped (start x.pages x.first) (records_of cs) b in
-    let Q : List (List Record) → Type 0 = λ l. IsFirstUnshaped (start s.pages s.first) (records_of l) b in
+    let P : Super → Type 0 = λ x. IsFirstUnshaped (origin_of x) (records_of cs) b in
+    let Q : List (List Record) → Type 0 = λ l. IsFirstUnshaped (origin_of s) (records_of l) b in
     let mine = subst Q (one_batches s cs bs image (log_on s r cs image log.super log') log) (subst P numbers first') in
-    ap Rec (one_unshaped (start s.pages s.first) (records_of bs) a b first mine)
+    ap Rec (one_unshaped (origin_of s) (records_of bs) a b first mine)
 one_fault image (Rec a) Reserve fault (s, bs, m, replayed, lack) = absurd (replayed_unstuck s bs m image a replayed fault)
 one_fault image (Rec a) (Page b) fault (s, bs, m, roomy, first) = absurd (replayed_unstuck s bs m image a roomy.replayed fault)
 one_fault image (Rec a) (Address b) fault (s, bs, m, readable, walk) = absurd (replayed_unstuck s bs m image a readable.roomy.replayed fault)
@@ -251,7 +252,7 @@ one_fault image (Page a) (Batch b) (s, bs, m, roomy, first) other = absurd (log_
 one_fault image (Page a) (Rec b) (s, bs, m, roomy, first) other = absurd (replayed_unstuck s bs m image b roomy.replayed other)
 one_fault image (Page a) Reserve (s, bs, m, roomy, first) other = absurd (room_enough s bs m image roomy other)
 one_fault image (Page a) (Page b) (s, bs, m, roomy, first) other =
-    ap Page (one_first (length (records_of bs)) (stored_in s image) a b first (first_ahead s bs image b roomy.replayed.log other))
+    ap Page (one_first (next_lsn (origin_of s) (records_of bs) - 1) (stored_in s image) a b first (first_ahead s bs image b roomy.replayed.log other))
 one_fault image (Page a) (Address b) fault (s, bs, m, readable, walk) = absurd (pages_behind s bs m image a readable fault)
 one_fault image (Address a) (Batch b) (s, bs, m, readable, walk) other = absurd (log_unbroken s bs image b readable.roomy.replayed.log other)
 one_fault image (Address a) (Rec b) (s, bs, m, readable, walk) other = absurd (replayed_unstuck s bs m image b readable.roomy.replayed other)
@@ -308,11 +309,11 @@ module _ (s : Super) (batches : List (List Record)) (state : State) (image : Lis
   -- it leaves the words as they are
   rolled_words : words_of s (rolled_back s batches) stored ≡ words_of s batches stored
   rolled_words =
-      ap (λ (o : Option State). each_taken_back (losing_in o) (redone_words (rolled_back s batches) stored)) rolled_reached
-      ∙ ap (λ (l : List Record). all_taken_back (settled state) (redone stored l).words) rolled_records
-      ∙ ap (all_taken_back (settled state)) (redone_words-append stored rs (rollback state) is.behind)
-      ∙ taken_back-rollback state (redone_words batches stored)
-      ∙ sym (ap (λ (o : Option State). each_taken_back (losing_in o) (redone_words batches stored)) reached)
+      ap (λ (o : Option State). each_taken_back (losing_in o) (redone_words s (rolled_back s batches) stored)) rolled_reached
+      ∙ ap (λ (l : List Record). all_taken_back (settled state) (redone (origin_of s) stored l).words) rolled_records
+      ∙ ap (all_taken_back (settled state)) (redone_words-append (origin_of s) stored rs (rollback state) is.behind)
+      ∙ taken_back-rollback state (redone_words s batches stored)
+      ∙ sym (ap (λ (o : Option State). each_taken_back (losing_in o) (redone_words s batches stored)) reached)
 
   -- its records have spellings
   pub rolled_spelled : AllByRecursion IsRecord (records_of (rolled_back s batches))
@@ -328,10 +329,10 @@ module _ (s : Super) (batches : List (List Record)) (state : State) (image : Lis
       omega arith
 
   -- no page is ahead of them
-  rolled_behind : EachLacks (length (records_of (rolled_back s batches)) + 1) stored
+  rolled_behind : EachLacks (next_lsn (origin_of s) (records_of (rolled_back s batches))) stored
   rolled_behind =
       let more : length (records_of (rolled_back s batches)) ≡ length rs + length (rollback state) = ap length rolled_records ∙ length-append rs (rollback state) in
-      EachLacks-later (length rs + 1) (length (records_of (rolled_back s batches)) + 1) stored (omega (arith, more)) is.behind
+      EachLacks-later (next_lsn (origin_of s) rs) (next_lsn (origin_of s) (records_of (rolled_back s batches))) stored (omega (arith, more)) is.behind
 
   -- An image in which the same pages are stored.
   module _ (new : List ℕ) (same : stored_in s new ≡ stored) where
@@ -342,14 +343,14 @@ module _ (s : Super) (batches : List (List Record)) (state : State) (image : Lis
         let none = settled_reserve state in
         record {
           roomy = record { replayed = record { log = holds; reached = rolled_reached }; room = omega arith };
-          behind = subst (EachLacks (length (records_of (rolled_back s batches)) + 1)) (sym same) rolled_behind;
+          behind = subst (EachLacks (next_lsn (origin_of s) (records_of (rolled_back s batches)))) (sym same) rolled_behind;
         }
 
     -- or the same log
     kept_readable : HoldsLog s batches new → IsReadable s batches state new
     kept_readable holds = record {
       roomy = record { replayed = record { log = holds; reached = reached }; room = is.roomy.room };
-      behind = subst (EachLacks (length rs + 1)) (sym same) is.behind;
+      behind = subst (EachLacks (next_lsn (origin_of s) rs)) (sym same) is.behind;
     }
 
     -- and has a fault at an address where the image has it

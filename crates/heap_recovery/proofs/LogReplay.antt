@@ -14,6 +14,7 @@ use Rattle.gated_log.specs.LogState.{log_place, log_room, log_used, log_count, K
 use Rattle.image_plan.specs.declared.superblock.Super.{Super}
 use Rattle.log_records.specs.declared.Record.{Record}
 use Rattle.log_machine.specs.Machine.{State, start, after, after_all, reserve}
+use Rattle.log_machine.specs.Origin.{next_lsn}
 use Rattle.log_machine.proofs.MachineLaws.{after_all-append}
 use Rattle.log_machine.specs.Replay.{Bounds}
 use Rattle.log_machine.proofs.ReplayLaws.{bounds_on}
@@ -23,11 +24,12 @@ use Rattle.page_redo.proofs.RedoLaws.{redo_all-append, lsn-redo_all, last_lsn-re
 use Rattle.page_store.specs.declared.store.PageStore.{PageStore}
 use Rattle.page_store.specs.StoreState.{store_plan, stored_lsn, has_failed}
 use Rattle.page_cache.specs.CacheState.{cached, cache_store, cache_failed, flushed_lsn, IsFirstPast}
+use Rattle.heap_model.specs.Image.{origin_of}
 use Rattle.heap_recovery.specs.declared.at.At.TheVariants.{Reserve, Page}
 use Rattle.heap_recovery.specs.declared.reading.Reading.{Reading}
 use Rattle.heap_recovery.specs.declared.replaying.Replay.{Replay}
 use Rattle.heap_recovery.specs.Faults.{stored_in, HoldsLog, IsReplayed, HasRoom, IsReadable, IsFaultAt, IsToldOfLog}
-use Rattle.heap_recovery.specs.Recovered.{plan_of, IsRedone, IsRead, log_error}
+use Rattle.heap_recovery.specs.Recovered.{IsRedone, IsRead, log_error}
 use Rattle.heap_recovery.specs.Replayed.{OneStuck, HasReplayed, HasReplayedLog}
 use Rattle.heap_recovery.proofs.Opening.{used_of}
 
@@ -52,7 +54,7 @@ stuck_on s rs lsn r is =
       reached = omega (arith, is.reached, one_more rs r);
       first = record {
         before = subst P (sym (take-append-le (lsn - 1) rs (r ∷ []) (omega (arith, is.reached)))) is.first.before;
-        stuck = subst Q (sym (take-append-le lsn rs (r ∷ []) is.reached)) is.first.stuck;
+        stuck = subst Q (sym (take-append-le (lsn + 1 - 1) rs (r ∷ []) (omega (arith, is.reached)))) is.first.stuck;
       };
     }
 
@@ -113,7 +115,7 @@ module _ (s : Super) (stored : Pages) (rs : List Record) (r : Record) (old new :
       let P : List Record → Type 0 = λ l. is_some (after_all from l) ≡ true in
       let Q : List Record → Type 0 = λ l. after_all from l ≡ None in
       let before : take (lsn - 1) (rs ++ r ∷ []) ≡ rs = take_at rs (r ∷ []) (lsn - 1) (omega (arith, next)) in
-      let whole : take lsn (rs ++ r ∷ []) ≡ rs ++ r ∷ [] = take_all lsn (rs ++ r ∷ []) (omega (arith, next, one_more rs r)) in
+      let whole : take (lsn + 1 - 1) (rs ++ r ∷ []) ≡ rs ++ r ∷ [] = take_all (lsn + 1 - 1) (rs ++ r ∷ []) (omega (arith, next, one_more rs r)) in
       let first : OneStuck s (rs ++ r ∷ []) lsn = record {
         reached = omega (arith, next, one_more rs r);
         first = record {
@@ -138,33 +140,34 @@ module _ (s : Super) (stored : Pages) (rs : List Record) (r : Record) (old new :
 -- The end of the log.
 
 -- no page is raised past it
-lsn_reached : (stored : Pages) (rs : List Record) (p : ℕ) → p < length stored.lsns → (lsn_of stored p ≤ lsn_of (redone stored rs) p) × (lsn_of (redone stored rs) p ≤ max (lsn_of stored p) (length rs))
-lsn_reached stored rs p lt =
+lsn_reached : (s : Super) (stored : Pages) (rs : List Record) (p : ℕ) → p < length stored.lsns
+    → (lsn_of stored p ≤ lsn_of (redone (origin_of s) stored rs) p) × (lsn_of (redone (origin_of s) stored rs) p ≤ max (lsn_of stored p) (length rs))
+lsn_reached s stored rs p lt =
     let is = lsn-redo_all 1 stored rs p lt in
-    let most = last_lsn-reached p 0 rs in
+    let most = last_lsn-reached p 1 rs in
     (omega (arith, is), omega (arith, is, most))
 
 -- so where none is past it none was stored so
-pub none_ahead : (stored : Pages) (rs : List Record) (count : ℕ) → count ≡ length rs → EachLacks (count + 1) (redone stored rs) → EachLacks (length rs + 1) stored
-none_ahead stored rs count same lacking p = elim (cases_lt p (length stored.lsns)) [
-  | inl lt ↦ omega (arith, (lsn_reached stored rs p lt).0, lacking p, same)
+pub none_ahead : (s : Super) (stored : Pages) (rs : List Record) (count : ℕ) → count ≡ length rs → EachLacks (count + 1) (redone (origin_of s) stored rs) → EachLacks (next_lsn (origin_of s) rs) stored
+none_ahead s stored rs count same lacking p = elim (cases_lt p (length stored.lsns)) [
+  | inl lt ↦ omega (arith, (lsn_reached s stored rs p lt).0, lacking p, same)
   | inr past ↦ omega (arith, get_or_past stored.lsns p 0 past)
 ]
 
 -- and the first that is past it was stored as the first
-pub first_ahead : (stored : Pages) (rs : List Record) (count page : ℕ) → count ≡ length rs → IsFirstPast count page (redone stored rs) → IsFirstPast (length rs) page stored
-first_ahead stored rs count page same first =
-    let size : length (redone stored rs).lsns ≡ length stored.lsns = lsns-redo_all 1 stored rs in
+pub first_ahead : (s : Super) (stored : Pages) (rs : List Record) (count page : ℕ) → count ≡ length rs → IsFirstPast count page (redone (origin_of s) stored rs) → IsFirstPast (next_lsn (origin_of s) rs - 1) page stored
+first_ahead s stored rs count page same first =
+    let size : length (redone (origin_of s) stored rs).lsns ≡ length stored.lsns = lsns-redo_all 1 stored rs in
     let here : page < length stored.lsns = omega (arith, first.page, size) in
-    let raised = lsn_reached stored rs page here in
+    let raised = lsn_reached s stored rs page here in
     record {
       page = here;
       past = omega (arith, first.past, raised.1, same);
-      before = λ q lt. omega (arith, first.before q lt, (lsn_reached stored rs q (omega (arith, lt, here))).0, same);
+      before = λ q lt. omega (arith, first.before q lt, (lsn_reached s stored rs q (omega (arith, lt, here))).0, same);
     }
 
 -- what is in memory behind a log whose records all follow
-pub redone_log : (s : Super) (stored : Pages) (rs : List Record) (replay : Replay) (count : ℕ) → HasReplayed s stored rs replay → replay.unshaped ≡ None → count ≡ length rs → EachLacks (count + 1) (cached replay.cache) → IsRedone (plan_of s) rs stored replay.cache
+pub redone_log : (s : Super) (stored : Pages) (rs : List Record) (replay : Replay) (count : ℕ) → HasReplayed s stored rs replay → replay.unshaped ≡ None → count ≡ length rs → EachLacks (count + 1) (cached replay.cache) → IsRedone s rs stored replay.cache
 redone_log s stored rs replay count is none same lacking =
     let all = is.all none in
     record {
@@ -172,7 +175,7 @@ redone_log s stored rs replay count is none same lacking =
       unfailed = is.unfailed;
       size = is.size;
       lsns_size = is.lsns_size;
-      behind = none_ahead stored rs count same (subst (EachLacks (count + 1)) all.pages lacking);
+      behind = none_ahead s stored rs count same (subst (EachLacks (count + 1)) all.pages lacking);
       pages = all.pages;
       flushed = is.flushed;
     }
@@ -189,7 +192,7 @@ module _ (s : Super) (batches : List (List Record)) (stored : Pages) (log : Log)
   count = omega (arith, is.keeps.count)
 
   -- no page lacks less than the next record
-  pub lacks_next : replay.unshaped ≡ None → EachLacks (log_count log + 1) (cached replay.cache) → IsRedone (plan_of s) (records_of batches) stored replay.cache
+  pub lacks_next : replay.unshaped ≡ None → EachLacks (log_count log + 1) (cached replay.cache) → IsRedone s (records_of batches) stored replay.cache
   lacks_next none lacking = redone_log s stored (records_of batches) replay (log_count log) is.replayed none count lacking
 
   -- where all records follow one another they were read
@@ -201,7 +204,7 @@ module _ (s : Super) (batches : List (List Record)) (stored : Pages) (log : Log)
     log = subst (λ (x : Log). Keeps x batches []) (sym same_log) is.keeps;
     place = ap log_place same_log ∙ is.place;
     room = ap log_room same_log ∙ is.room;
-    cache = subst (IsRedone (plan_of s) (records_of batches) stored) (sym same_cache) (lacks_next none lacking);
+    cache = subst (IsRedone s (records_of batches) stored) (sym same_cache) (lacks_next none lacking);
     state = (is.replayed.all none).reached ∙ ap (λ (x : State). Some x) (sym same_state);
   }
 
@@ -220,7 +223,7 @@ module _ (s : Super) (batches : List (List Record)) (image : List ℕ) (log : Lo
   pub page_told : (page : ℕ) → replay.unshaped ≡ None → log_used log + reserve replay.state ≤ log_room log → IsFirstPast (log_count log) page (cached replay.cache) → IsFaultAt (Page page) image
   page_told page none enough first =
       let pages = (is.replayed.all none).pages in
-      (s, batches, replay.state, roomy none enough, first_ahead (stored_in s image) (records_of batches) (log_count log) page (omega (arith, is.keeps.count)) (subst (IsFirstPast (log_count log) page) pages first))
+      (s, batches, replay.state, roomy none enough, first_ahead s (stored_in s image) (records_of batches) (log_count log) page (omega (arith, is.keeps.count)) (subst (IsFirstPast (log_count log) page) pages first))
 
   -- or none of these
   pub all_readable : (state : State) → state ≡ replay.state → replay.unshaped ≡ None → log_used log + reserve replay.state ≤ log_room log → EachLacks (log_count log + 1) (cached replay.cache) → IsReadable s batches state image

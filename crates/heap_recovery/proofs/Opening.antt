@@ -35,7 +35,7 @@ use Rattle.object_layout.specs.Walk.{IsWalked, IsWalkFault}
 use Rattle.object_layout.proofs.WalkLaws.{walked_fault}
 use Rattle.heap_model.proofs.Step.Room.{records_of-with_batch}
 use Rattle.heap_model.proofs.Opening.Held.{held_with}
-use Rattle.heap_model.specs.Image.{first_state, redone_words, words_of, IsShapedLog, Holds}
+use Rattle.heap_model.specs.Image.{origin_of, redone_words, words_of, IsShapedLog, Holds}
 use Rattle.heap_model.specs.Core.{force_calls}
 use Rattle.heap_model.specs.Opening.{state_of, IsLeftByOpening, opening_calls, rollback_in, rollback_of, rolled_back}
 use Rattle.heap_recovery.specs.declared.error.RecoverError.{RecoverError}
@@ -124,17 +124,17 @@ module _ (s : Super) (batches : List (List Record)) (stored : Pages) (read : Rea
   pub committed : all_taken_back read.state (cached read.cache).words ≡ words_of s batches stored
   committed =
       ap (λ (pages : Pages). all_taken_back read.state pages.words) is.cache.pages
-      ∙ sym (ap (λ (o : Option State). each_taken_back (losing_in o) (redone_words batches stored)) is.state)
+      ∙ sym (ap (λ (o : Option State). each_taken_back (losing_in o) (redone_words s batches stored)) is.state)
 
   -- the records that roll back are redone behind those of the log
-  pub rolled_pages : redo_all (log_count read.log + 1) (cached read.cache) (rollback read.state) ≡ redone stored (records_of (rolled_back s batches))
+  pub rolled_pages : redo_all (log_count read.log + 1) (cached read.cache) (rollback read.state) ≡ redone (origin_of s) stored (records_of (rolled_back s batches))
   rolled_pages =
       let first : log_count read.log + 1 ≡ 1 + length (records_of batches) = omega (arith, is.log.count) in
       ap (λ (n : ℕ). redo_all n (cached read.cache) (rollback read.state)) first
       ∙ ap (λ (pages : Pages). redo_all (1 + length (records_of batches)) pages (rollback read.state)) is.cache.pages
       ∙ sym (redo_all-append 1 stored (records_of batches) (rollback read.state))
-      ∙ ap (λ (rs : List Record). redone stored (records_of batches ++ rs)) (sym same_rollback)
-      ∙ ap (redone stored) (sym (records_of-with_batch batches (rollback_of s batches)))
+      ∙ ap (λ (rs : List Record). redone (origin_of s) stored (records_of batches ++ rs)) (sym same_rollback)
+      ∙ ap (redone (origin_of s) stored) (sym (records_of-with_batch batches (rollback_of s batches)))
 
   -- the pages that are stored are known still where only bytes of the log were written
   pub known_still : (cache : PageCache) (image now new : List ℕ) → cache_store cache ≡ cache_store read.cache → Knows (cache_store read.cache) image → now ≡ image
@@ -172,8 +172,8 @@ module _ (s : Super) (batches : List (List Record)) (stored : Pages) (read : Rea
   -- what the log says once it is rolled back
   rolled_state : state_of s (rolled_back s batches) ≡ Some (settled read.state)
   rolled_state =
-      ap (λ (rs : List Record). after_all (first_state s) rs) (records_of-with_batch batches (rollback_of s batches) ∙ ap (λ (rs : List Record). records_of batches ++ rs) same_rollback)
-      ∙ after_all-append2 (first_state s) read.state (records_of batches) (rollback read.state) is.state
+      ap (λ (rs : List Record). after_all (origin_of s).state rs) (records_of-with_batch batches (rollback_of s batches) ∙ ap (λ (rs : List Record). records_of batches ++ rs) same_rollback)
+      ∙ after_all-append2 (origin_of s).state read.state (records_of batches) (rollback read.state) is.state
       ∙ rollback_reaches read.state (can_roll_back s.pages s.first read.state (records_of batches) is.good is.state).sound
 
   -- what is opened

@@ -1,7 +1,7 @@
 -- What is wrong with an image, and where: what an opening looks for, in this order, is numbers of a heap, batches in the log, records that follow
 -- one another, room for their rollback, pages that are not ahead of the log, and objects in the words. A frame is not checked further: what it
 -- holds is a page's LSN and words, whatever they are.
-use Rattle.std.specs.Prelude.{◌≡◌, ◌⊎◌, ℕ, ◌+◌, ◌<◌, ◌≤◌, List, length, take, Some}
+use Rattle.std.specs.Prelude.{◌≡◌, ◌⊎◌, ℕ, ◌+◌, ◌-◌, ◌<◌, ◌≤◌, List, length, take, Some}
 use Rattle.std.specs.List.{AllByRecursion}
 use Rattle.disk_model.specs.Disk.{part, SameOutside}
 use Rattle.gated_log.specs.Log.{HoldsBatches, BreaksAt, batches_bytes, records_of}
@@ -10,14 +10,15 @@ use Rattle.image_plan.specs.Plan.{log_offset, image_size}
 use Rattle.image_plan.specs.Super.{IsSuper, superblock}
 use Rattle.log_records.specs.declared.Record.{Record}
 use Rattle.log_records.specs.Record.{IsRecord}
-use Rattle.log_machine.specs.Machine.{State, start, after_all, reserve}
+use Rattle.log_machine.specs.Machine.{State, reserve}
+use Rattle.log_machine.specs.Origin.{next_lsn, state_from}
 use Rattle.log_machine.specs.Replay.{IsFirstUnshaped}
 use Rattle.page_redo.specs.Pages.{Pages}
 use Rattle.page_redo.specs.Redo.{EachLacks}
 use Rattle.page_cache.specs.CacheState.{IsFirstPast}
 use Rattle.page_cache.specs.Stored.{stored_pages}
 use Rattle.object_layout.specs.Walk.{IsWalkFault}
-use Rattle.heap_model.specs.Image.{words_of}
+use Rattle.heap_model.specs.Image.{origin_of, words_of}
 use Rattle.heap_model.specs.Opening.{rolled_back}
 use Rattle.heap_recovery.specs.declared.at.At.{At}
 use Rattle.heap_recovery.specs.declared.at.At.TheVariants.{Batch, Rec, Reserve, Page, Address}
@@ -48,7 +49,7 @@ pub record HoldsLog (s : Super) (batches : List (List Record)) (image : List ℕ
 -- Their records follow one another, and leave this state.
 pub record IsReplayed (s : Super) (batches : List (List Record)) (state : State) (image : List ℕ) : Type 0 where
   pub log : HoldsLog s batches image
-  pub reached : after_all (start s.pages s.first) (records_of batches) ≡ Some state
+  pub reached : state_from (origin_of s) (records_of batches) ≡ Some state
 
 -- And the log has room for the rollback of what has not ended.
 pub record HasRoom (s : Super) (batches : List (List Record)) (state : State) (image : List ℕ) : Type 0 where
@@ -58,15 +59,15 @@ pub record HasRoom (s : Super) (batches : List (List Record)) (state : State) (i
 -- And no page is ahead of it.
 pub record IsReadable (s : Super) (batches : List (List Record)) (state : State) (image : List ℕ) : Type 0 where
   pub roomy : HasRoom s batches state image
-  pub behind : EachLacks (length (records_of batches) + 1) (stored_in s image)
+  pub behind : EachLacks (next_lsn (origin_of s) (records_of batches)) (stored_in s image)
 
 -- Where an image is damaged: what comes first in the order in which it is checked.
 abbrev pub IsFaultAt : At → List ℕ → Type 0
 IsFaultAt (Batch offset) image = (s : Super) × HasSuper s image × BreaksAt (part image log_offset s.log_bytes) offset
-IsFaultAt (Rec lsn) image = (s : Super) × (batches : List (List Record)) × HoldsLog s batches image × IsFirstUnshaped (start s.pages s.first) (records_of batches) lsn
+IsFaultAt (Rec lsn) image = (s : Super) × (batches : List (List Record)) × HoldsLog s batches image × IsFirstUnshaped (origin_of s) (records_of batches) lsn
 IsFaultAt Reserve image = (s : Super) × (batches : List (List Record)) × (state : State) × IsReplayed s batches state image × (s.log_bytes < length (batches_bytes batches) + 1 + reserve state)
 IsFaultAt (Page page) image =
-    (s : Super) × (batches : List (List Record)) × (state : State) × HasRoom s batches state image × IsFirstPast (length (records_of batches)) page (stored_in s image)
+    (s : Super) × (batches : List (List Record)) × (state : State) × HasRoom s batches state image × IsFirstPast (next_lsn (origin_of s) (records_of batches) - 1) page (stored_in s image)
 IsFaultAt (Address address) image =
     (s : Super) × (batches : List (List Record)) × (state : State) × IsReadable s batches state image × IsWalkFault (words_of s batches (stored_in s image)) state.base state.used address
 

@@ -13,6 +13,7 @@ use Rattle.image_plan.specs.Super.{IsSuper}
 use Rattle.log_records.specs.declared.Record.{Record}
 use Rattle.log_records.specs.Record.{IsRecord}
 use Rattle.log_machine.specs.Machine.{words_in}
+use Rattle.log_machine.specs.Origin.{next_lsn}
 use Rattle.page_redo.specs.Pages.{Pages, pages_in, lsn_of}
 use Rattle.page_redo.specs.Redo.{EachLacks, redone}
 use Rattle.page_store.specs.declared.store.OpenError.{OpenError}
@@ -20,6 +21,7 @@ use Rattle.page_store.specs.declared.store.OpenError.TheVariants as storing
 use Rattle.page_store.specs.StoreState.{store_plan}
 use Rattle.page_cache.specs.declared.cache.PageCache.{PageCache}
 use Rattle.page_cache.specs.CacheState.{cached, cache_store, cache_failed, flushed_lsn}
+use Rattle.heap_model.specs.Image.{origin_of}
 use Rattle.heap_model.specs.Opening.{state_of, rolled_back}
 use Rattle.heap_recovery.specs.Causes.{error_device}
 use Rattle.heap_recovery.specs.declared.at.At.TheVariants.{Batch}
@@ -32,15 +34,15 @@ use Rattle.heap_recovery.specs.declared.recovery.Recovered.{Recovered}
 abbrev pub plan_of : Super → Plan
 plan_of s = record { pages = s.pages; log_bytes = s.log_bytes }
 
--- In memory are the pages of an image with this plan: these records were redone on the ones that were stored, none of which is ahead of them.
-pub record IsRedone (of : Plan) (records : List Record) (stored : Pages) (cache : PageCache) : Type 0 where
-  pub plan : store_plan (cache_store cache) ≡ of
+-- In memory are the pages of a heap with these numbers: these records were redone on the ones that were stored, none of which is ahead of them.
+pub record IsRedone (s : Super) (records : List Record) (stored : Pages) (cache : PageCache) : Type 0 where
+  pub plan : store_plan (cache_store cache) ≡ plan_of s
   pub unfailed : IsFalse (cache_failed cache)
-  pub size : length stored.words ≡ words_in of.pages
-  pub lsns_size : length stored.lsns ≡ pages_in of.pages
-  pub behind : EachLacks (length records + 1) stored
-  pub pages : cached cache ≡ redone stored records
-  pub flushed : (p : ℕ) → p < pages_in of.pages → flushed_lsn cache p ≡ lsn_of stored p
+  pub size : length stored.words ≡ words_in s.pages
+  pub lsns_size : length stored.lsns ≡ pages_in s.pages
+  pub behind : EachLacks (next_lsn (origin_of s) records) stored
+  pub pages : cached cache ≡ redone (origin_of s) stored records
+  pub flushed : (p : ℕ) → p < pages_in s.pages → flushed_lsn cache p ≡ lsn_of stored p
 
 -- What was read is the log of a heap with these numbers, which holds these batches, and its pages, which were stored so.
 pub record IsRead (s : Super) (batches : List (List Record)) (stored : Pages) (read : Reading) : Type 0 where
@@ -50,7 +52,7 @@ pub record IsRead (s : Super) (batches : List (List Record)) (stored : Pages) (r
   pub log : Keeps read.log batches []
   pub place : log_place read.log ≡ log_offset
   pub room : log_room read.log ≡ s.log_bytes
-  pub cache : IsRedone (plan_of s) (records_of batches) stored read.cache
+  pub cache : IsRedone s (records_of batches) stored read.cache
   pub state : state_of s batches ≡ Some read.state
 
 -- What was opened is a heap with these numbers, whose log held these batches and holds them now rolled back, and whose pages were stored so.
@@ -58,7 +60,7 @@ pub record IsRecovered (s : Super) (batches : List (List Record)) (stored : Page
   pub log : Keeps found.log (rolled_back s batches) []
   pub place : log_place found.log ≡ log_offset
   pub room : log_room found.log ≡ s.log_bytes
-  pub cached : cached found.cache ≡ redone stored (records_of (rolled_back s batches))
+  pub cached : cached found.cache ≡ redone (origin_of s) stored (records_of (rolled_back s batches))
   pub plan : store_plan (cache_store found.cache) ≡ plan_of s
   pub unfailed : IsFalse (cache_failed found.cache)
   pub flushed : (p : ℕ) → p < pages_in s.pages → flushed_lsn found.cache p ≡ lsn_of stored p

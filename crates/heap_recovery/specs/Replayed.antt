@@ -1,5 +1,5 @@
 -- What the records of a log leave that were replayed on pages as they were read.
-use Rattle.std.specs.Prelude.{◌≡◌, ℕ, ◌<◌, ◌≤◌, List, [], length, None, Some, IsFalse}
+use Rattle.std.specs.Prelude.{◌≡◌, ℕ, ◌<◌, List, [], length, None, Some, IsFalse}
 use Rattle.std.specs.List.{AllByRecursion}
 use Rattle.gated_log.specs.declared.log.Log.{Log}
 use Rattle.gated_log.specs.Log.{records_of}
@@ -9,24 +9,26 @@ use Rattle.image_plan.specs.Plan.{log_offset}
 use Rattle.image_plan.specs.Super.{IsSuper}
 use Rattle.log_records.specs.declared.Record.{Record}
 use Rattle.log_records.specs.Record.{IsRecord}
-use Rattle.log_machine.specs.Machine.{start, after_all, words_in}
+use Rattle.log_machine.specs.Machine.{words_in}
+use Rattle.log_machine.specs.Origin.{next_lsn, state_from}
 use Rattle.log_machine.specs.Replay.{IsFirstUnshaped, Bounds}
 use Rattle.page_redo.specs.Pages.{Pages, pages_in, lsn_of}
 use Rattle.page_redo.specs.Redo.{redone}
 use Rattle.page_store.specs.StoreState.{store_plan}
 use Rattle.page_cache.specs.CacheState.{cached, cache_store, cache_failed, flushed_lsn}
+use Rattle.heap_model.specs.Image.{origin_of}
 use Rattle.heap_recovery.specs.declared.replaying.Replay.{Replay}
 use Rattle.heap_recovery.specs.Recovered.{plan_of}
 
 -- All these records follow one another, and were redone.
 pub record AllFollow (s : Super) (stored : Pages) (records : List Record) (replay : Replay) : Type 0 where
-  pub reached : after_all (start s.pages s.first) records ≡ Some replay.state
-  pub pages : cached replay.cache ≡ redone stored records
+  pub reached : state_from (origin_of s) records ≡ Some replay.state
+  pub pages : cached replay.cache ≡ redone (origin_of s) stored records
 
 -- The record of this LSN is the first of them that can't follow.
 pub record OneStuck (s : Super) (records : List Record) (lsn : ℕ) : Type 0 where
-  pub reached : lsn ≤ length records
-  pub first : IsFirstUnshaped (start s.pages s.first) records lsn
+  pub reached : lsn < next_lsn (origin_of s) records
+  pub first : IsFirstUnshaped (origin_of s) records lsn
 
 -- These records were replayed, of a heap with these numbers, on pages that were stored so.
 pub record HasReplayed (s : Super) (stored : Pages) (records : List Record) (replay : Replay) : Type 0 where

@@ -14,6 +14,7 @@ ghost use Rattle.page_redo.specs.Redo.{EachLacks};
 ghost use Rattle.page_store.specs.StoreState.{Knows};
 ghost use Rattle.page_cache.specs.CacheState.{cached, cache_store, cache_size};
 ghost use Rattle.heap_model.specs.Image.{IsShaped};
+ghost use Rattle.heap_model.specs.Lsns.{log_next_lsn};
 ghost use Rattle.heap_recovery.specs.declared.at.At.{At};
 ghost use Rattle.heap_recovery.specs.declared.at.At.TheVariants.{Address};
 ghost use Rattle.heap_recovery.specs.declared.error.RecoverError.TheVariants.{Damaged};
@@ -38,7 +39,7 @@ pub fn read_image<D: Disk>(alloc: Global, disk: &mut D) -> Result<Reading, Recov
     ensures inside { IfOk result (λ read. log_place read.log + log_room read.log ≤ D.extent disk.new) }
     ensures pages_inside { IfOk result (λ read. cache_size read.cache ≤ D.extent disk.new) }
     ensures room { IfOk result (λ read. log_used read.log + reserve read.state ≤ log_room read.log) }
-    ensures next { IfOk result (λ read. EachLacks (log_count read.log + 1) (cached read.cache)) }
+    ensures next { IfOk result (λ read. EachLacks (log_next_lsn read.log) (cached read.cache)) }
     ensures few { IfOk result (λ read. log_count read.log < 2 ^ 32) }
 
     // They are the image's own, and an error tells what is wrong with it.
@@ -88,7 +89,7 @@ fn read_log<D: Disk>(alloc: Global, disk: &mut D, of: Super) -> Result<Reading, 
     ensures inside { IfOk result (λ read. log_place read.log + log_room read.log ≤ D.extent disk.new) }
     ensures pages_inside { IfOk result (λ read. cache_size read.cache ≤ D.extent disk.new) }
     ensures room { IfOk result (λ read. log_used read.log + reserve read.state ≤ log_room read.log) }
-    ensures next { IfOk result (λ read. EachLacks (log_count read.log + 1) (cached read.cache)) }
+    ensures next { IfOk result (λ read. EachLacks (log_next_lsn read.log) (cached read.cache)) }
     ensures few { IfOk result (λ read. log_count read.log < 2 ^ 32) }
     ensures sound { IsTrue D.tells → HasSuper of (D.bytes disk.old) → IfOk result (λ read. (batches : List (List Record)) × IsRead read.of batches (stored_in read.of (D.bytes disk.old)) read × IsReadable read.of batches read.state (D.bytes disk.old)) }
     ensures refused { IsTrue D.tells → HasSuper of (D.bytes disk.old) → IfErr result (λ e. IsToldOf e (D.bytes disk.old)) }

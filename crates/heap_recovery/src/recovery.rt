@@ -14,6 +14,7 @@ ghost use Rattle.page_store.specs.StoreState.{Knows};
 ghost use Rattle.page_cache.specs.CacheState.{cached, cache_store, cache_size};
 ghost use Rattle.object_layout.specs.Walk.{IsWalked, IsWalkFault};
 ghost use Rattle.heap_model.specs.Image.{IsShapedLog, Holds, IsShaped};
+ghost use Rattle.heap_model.specs.Lsns.{log_next_lsn};
 ghost use Rattle.heap_model.specs.Opening.{rollback_of, rolled_back, opening_calls, IsLeftByOpening};
 ghost use Rattle.heap_recovery.specs.Causes.{open_device};
 ghost use Rattle.heap_recovery.specs.declared.at.At.{At};
@@ -28,7 +29,7 @@ use crate::read_image::read_image;
 use crate::reading::Reading;
 use disk_model::Disk;
 use gated_log::Log;
-use log_machine::LogState;
+use log_machine::{FIRST_LSN, LogState};
 use object_layout::{WalkError, WordSlice, walk};
 use page_cache::PageCache;
 use std::alloc::Global;
@@ -101,11 +102,11 @@ impl Reading {
     /// them.
     fn roll_back(&mut self) -> Result<(), RecoverError>
         requires room { log_used self.old.log + reserve self.old.state ≤ log_room self.old.log }
-        requires next { EachLacks (log_count self.old.log + 1) (cached self.old.cache) }
+        requires next { EachLacks (log_next_lsn self.old.log) (cached self.old.cache) }
         requires few { log_count self.old.log < 2 ^ 32 }
 
         ensures words { OnOk result ((cached self.new.cache).words ≡ all_taken_back self.old.state (cached self.old.cache).words) }
-        ensures pages { OnOk result (cached self.new.cache ≡ redo_all (log_count self.old.log + 1) (cached self.old.cache) (rollback self.old.state)) }
+        ensures pages { OnOk result (cached self.new.cache ≡ redo_all (log_next_lsn self.old.log) (cached self.old.cache) (rollback self.old.state)) }
         ensures store { cache_store self.new.cache ≡ cache_store self.old.cache }
         ensures state { self.new.state ≡ self.old.state }
         ensures of { self.new.of ≡ self.old.of }
@@ -116,7 +117,7 @@ impl Reading {
         ensures error { IfErr result (λ e. e ≡ NoMemory) }
     {
         let records = self.state.rollback()?;
-        let first = self.log.records() + 1;
+        let first = self.log.records() + FIRST_LSN;
         self.log.append_all(&records)?;
         self.log.reserve(0)?;
         self.cache.apply_all(first, &records);

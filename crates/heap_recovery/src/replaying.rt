@@ -27,11 +27,14 @@ pub struct Replay {
 
 impl Replay {
     ghost use Rattle.std.specs.Prelude.{◌≢◌, ℕ, ◌+◌, ◌^◌, ◌<◌, ◌≤◌, List, [], ◌∷◌, ◌++◌, IsFalse, Ok, Err, IfOk, IfErr, OnOk};
-    ghost use Rattle.gated_log.specs.LogState.{log_room, log_used, log_count};
+    ghost use Rattle.gated_log.specs.LogState.{log_room, log_used};
     ghost use Rattle.image_plan.specs.declared.superblock.Super.{Super};
     ghost use Rattle.image_plan.specs.Super.{IsSuper};
     ghost use Rattle.log_records.specs.declared.Record.{Record};
     ghost use Rattle.log_machine.specs.Machine.{reserve};
+    ghost use Rattle.log_machine.specs.Origin.{next_lsn};
+    ghost use Rattle.heap_model.specs.Image.{origin_of};
+    ghost use Rattle.heap_model.specs.Lsns.{log_next_lsn};
     ghost use Rattle.page_redo.specs.Pages.{Pages, pages_in, lsn_of};
     ghost use Rattle.page_redo.specs.Redo.{EachLacks};
     ghost use Rattle.page_store.specs.StoreState.{store_plan};
@@ -65,7 +68,7 @@ impl Replay {
     pub fn take(&mut self, lsn: u64, rec: &Record) -> Result<(), RecoverError>
         requires commits { self.old.state.commits + 1 < 2 ^ 64 }
         requires room { reserve self.old.state + 29 < 2 ^ 64 }
-        ensures on { (of : Super) (stored : Pages) (records : List Record) → lsn ≡ length records + 1 → HasReplayed of stored records self.old → OnOk result (HasReplayed of stored (records ++ rec.now ∷ []) self.new) }
+        ensures on { (of : Super) (stored : Pages) (records : List Record) → lsn ≡ next_lsn (origin_of of) records → HasReplayed of stored records self.old → OnOk result (HasReplayed of stored (records ++ rec.now ∷ []) self.new) }
         ensures store { cache_store self.new.cache ≡ cache_store self.old.cache }
         ensures error { IfErr result (λ e. e ≡ NoMemory) }
     {
@@ -94,7 +97,7 @@ impl Replay {
         ensures readable { (batches : List (List Record)) (image : List ℕ) → HoldsLog of batches image → HasReplayedLog of batches (stored_in of image) log self → IfOk result (λ read. IsReadable of batches read.state image) }
         ensures refused { (batches : List (List Record)) (image : List ℕ) → HoldsLog of batches image → HasReplayedLog of batches (stored_in of image) log self → IfErr result (λ e. IsToldOf e image) }
         ensures no_address { (address : ℕ) → result ≢ Err (Damaged (Address address)) }
-        ensures next { IfOk result (λ read. EachLacks (log_count read.log + 1) (cached read.cache)) }
+        ensures next { IfOk result (λ read. EachLacks (log_next_lsn read.log) (cached read.cache)) }
         ensures room { IfOk result (λ read. log_used read.log + reserve read.state ≤ log_room read.log) }
         ensures of { IfOk result (λ read. read.of ≡ of) }
         ensures log { IfOk result (λ read. read.log ≡ log) }

@@ -1,6 +1,6 @@
 //! What bytes and images mean: one thing, or one fault.
 ghost use Rattle.std.specs.List.{AllByRecursion};
-ghost use Rattle.std.specs.Prelude.{◌≡◌, List, length, ℕ, ◌^◌, ◌<◌, false};
+ghost use Rattle.std.specs.Prelude.{◌≡◌, List, length, ℕ, ◌+◌, ◌^◌, ◌<◌, Some, false};
 ghost use Rattle.gated_log.specs.Log.{HoldsBatches, records_of, BreaksAt};
 ghost use Rattle.graph_model.specs.Graph.{Graph};
 ghost use Rattle.graph_words.specs.Places.{Places};
@@ -14,11 +14,12 @@ ghost use Rattle.heap_recovery.specs.Faults.{IsFaultAt, IsNoHeap};
 ghost use Rattle.heap_recovery.specs.declared.at.At.{At};
 ghost use Rattle.image_plan.specs.Super.{IsSuper, superblock};
 ghost use Rattle.image_plan.specs.declared.superblock.Super.{Super};
-ghost use Rattle.log_machine.specs.Machine.{words};
+ghost use Rattle.log_machine.specs.Machine.{State, commits};
+ghost use Rattle.log_machine.specs.Origin.{Origin, state_from, words_from, commits_in};
 ghost use Rattle.log_records.specs.Record.{IsRecord, spellings};
 ghost use Rattle.log_records.specs.declared.Record.{Record};
 ghost use Rattle.page_redo.specs.Pages.{Pages};
-ghost use Rattle.page_redo.specs.Prefix.{EachHoldsPrefix};
+ghost use Rattle.page_redo.specs.Prefix.{HasAllWords, EachHoldsPrefix};
 ghost use Rattle.page_redo.specs.Redo.{redone};
 
 /// A superblock spells the numbers of one heap.
@@ -61,14 +62,20 @@ pub fn no_fault_in_a_shaped_image()
     ensures { (s : Super) (batches : List (List Record)) (stored : Pages) (image : List ℕ) (at : At) → IsShaped s batches stored image → IsFaultAt at image → ⊥ }
 {}
 
-/// Redo of a log on stored pages, each of which holds as many of its records as its LSN says, leaves the words of the whole log.
+/// Redo of a log on stored pages, each of which holds its records up to its LSN, leaves the words of the whole log, wherever the log begins.
 pub fn redo_makes_pages_present()
-    ensures { (pages : ℕ) (records : List Record) (stored : Pages) → EachHoldsPrefix pages records stored → (redone stored records).words ≡ words pages records }
+    ensures { (o : Origin) → HasAllWords o → (records : List Record) (stored : Pages) → EachHoldsPrefix o records stored → (redone o stored records).words ≡ words_from o records }
 {}
 
 /// Redo of a log on stored pages, repeated, changes nothing.
 pub fn redo_repeats_without_effect()
-    ensures { (pages : ℕ) (records : List Record) (stored : Pages) → EachHoldsPrefix pages records stored → redone (redone stored records) records ≡ redone stored records }
+    ensures { (o : Origin) → HasAllWords o → (records : List Record) (stored : Pages) → EachHoldsPrefix o records stored → redone o (redone o stored records) records ≡ redone o stored records }
+{}
+
+/// Where the records of a log follow one another, the transactions that are committed behind them are those of the log's origin, and one more
+/// for each record of a commit.
+pub fn commits_of_a_log()
+    ensures { (o : Origin) (state : State) (records : List Record) → state_from o records ≡ Some state → commits_in (state_from o records) ≡ o.state.commits + commits records }
 {}
 
 /// An image that is no heap is not shaped.

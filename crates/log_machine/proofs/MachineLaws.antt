@@ -12,7 +12,8 @@ use Rattle.log_records.specs.declared.Record.TheVariants.{Update, Base, Fix, Und
 use Rattle.heap_words.specs.Word.{is_stable}
 use Rattle.log_machine.specs.declared.UndoEntry.{UndoEntry}
 use Rattle.log_machine.specs.UndoEntry.{LiesInside}
-use Rattle.log_machine.specs.Machine.{State, undo_in, undo_of, with_entries, number_of, is_number, is_number_or_none, owed, lies_inside, is_same_write, without_newest, has_none, space_words, is_next_free, is_promoted_by, turned, promoted, row_after, after, after_all, put_record, words, first_contents, is_commit, commits}
+use Rattle.log_machine.specs.Machine.{State, undo_in, undo_of, with_entries, number_of, is_number, is_number_or_none, owed, lies_inside, is_same_write, without_newest, has_none, space_words, is_next_free, is_promoted_by, turned, promoted, row_after, after, after_all, put_record, is_commit, commits}
+use Rattle.log_machine.specs.Origin.{Origin, words_from}
 use Rattle.log_machine.proofs.MapLaws.{get_inserted, get_removed, get_beside, get_kept, insert_insert, remove_insert, insert_remove, remove_remove}
 
 -- Records behind records.
@@ -39,8 +40,8 @@ pub after_all-append : (s m : State) (rs : List Record) (r : Record) → after_a
 after_all-append s m rs r e = after_all-append2 s m rs (r ∷ []) e ∙ one_after (after m r)
 
 -- the words with more records behind these
-pub words-append : (pages : ℕ) (rs more : List Record) → words pages (rs ++ more) ≡ fold put_record (words pages rs) more
-words-append pages rs more = fold-append put_record (first_contents pages) rs more
+pub words_from-append : (o : Origin) (rs more : List Record) → words_from o (rs ++ more) ≡ fold put_record (words_from o rs) more
+words_from-append o rs more = fold-append put_record o.words rs more
 
 -- and how many commits
 pub commits-append : (rs more : List Record) → commits (rs ++ more) ≡ commits rs + commits more

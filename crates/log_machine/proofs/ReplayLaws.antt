@@ -9,6 +9,7 @@ use Rattle.log_machine.proofs.MachineLaws.{after_all-append}
 use Rattle.log_machine.specs.Effect.{WritesBelow, EachWritesBelow}
 use Rattle.log_machine.proofs.StateLaws.{sound_start, sound_after, leads_after, commits_few}
 use Rattle.log_machine.proofs.ReserveLaws.{reserve-start, reserve-after}
+use Rattle.log_machine.specs.Origin.{Origin}
 use Rattle.log_machine.specs.Replay.{Bounds, IsFirstUnshaped}
 
 -- before the first record
@@ -38,10 +39,10 @@ pub below_on : (end : ℕ) (rs : List Record) (i : ℕ) (r : Record) → i < len
 below_on end rs i r lt at so_far below = subst (EachWritesBelow end) (sym (front rs i r lt at)) (AllByRecursion-append (WritesBelow end) (take i rs) (r ∷ []) so_far (below, tt))
 
 -- the record at a place is the first that can't follow, where those before it do
-pub unshaped_at : (s : State) (rs : List Record) (i : ℕ) (r : Record) (m : State) → i < length rs → r ≡ get_or rs i r → after_all s (take i rs) ≡ Some m → after m r ≡ None → IsFirstUnshaped s rs (i + 1)
-unshaped_at s rs i r m lt at so_far stuck = record {
-  before = ap (λ n. is_some (after_all s (take n rs))) (omega arith) ∙ ap is_some so_far;
-  stuck = ap (λ (l : List Record). after_all s l) (front rs i r lt at) ∙ after_all-append s m (take i rs) r so_far ∙ stuck;
+pub unshaped_at : (o : Origin) (rs : List Record) (i : ℕ) (r : Record) (m : State) → i < length rs → r ≡ get_or rs i r → after_all o.state (take i rs) ≡ Some m → after m r ≡ None → IsFirstUnshaped o rs (i + o.lsn)
+unshaped_at o rs i r m lt at so_far stuck = record {
+  before = ap (λ n. is_some (after_all o.state (take n rs))) (omega arith) ∙ ap is_some so_far;
+  stuck = ap (λ n. after_all o.state (take n rs)) (omega arith) ∙ ap (λ (l : List Record). after_all o.state l) (front rs i r lt at) ∙ after_all-append o.state m (take i rs) r so_far ∙ stuck;
 }
 
 -- records behind one that can't follow
@@ -55,5 +56,7 @@ stuck_behind s [] rest stuck = absurd (cc stuck)
 stuck_behind s (r ∷ rs) rest stuck = stuck_in (after s r) rs rest (λ n. stuck_behind n rs rest) stuck
 
 -- and then the records can't all follow one another
-pub none_follow : (s : State) (rs : List Record) (lsn : ℕ) → IsFirstUnshaped s rs lsn → after_all s rs ≡ None
-none_follow s rs lsn first = ap (λ (l : List Record). after_all s l) (sym (take-append-drop lsn rs)) ∙ stuck_behind s (take lsn rs) (drop lsn rs) first.stuck
+pub none_follow : (o : Origin) (rs : List Record) (lsn : ℕ) → IsFirstUnshaped o rs lsn → after_all o.state rs ≡ None
+none_follow o rs lsn first =
+    let n = lsn + 1 - o.lsn in
+    ap (λ (l : List Record). after_all o.state l) (sym (take-append-drop n rs)) ∙ stuck_behind o.state (take n rs) (drop n rs) first.stuck

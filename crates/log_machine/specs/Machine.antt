@@ -78,10 +78,6 @@ with_word words object field word = slice_set words (field_at object field) word
 abbrev pub put_record : List ℕ → Record → List ℕ
 put_record words rec = put_all words (effect words rec)
 
--- the words of a heap of so many pages after these records
-abbrev pub words : ℕ → List Record → List ℕ
-words pages records = fold put_record (first_contents pages) records
-
 -- the words when these writes are taken back, the newest first
 abbrev pub taken_back : List UndoEntry → List ℕ → List ℕ
 taken_back [] words = words

@@ -12,7 +12,7 @@ mod undo_lists;
 
 pub use abort::abort_records;
 pub use effects::{effect, forwarding_word};
-pub use log_state::{AfterError, LAST_NUMBER, LogState};
+pub use log_state::{AfterError, FIRST_LSN, LAST_NUMBER, LogState};
 pub use page_words::{PageWords, ROOT_WORDS};
 pub use replaying::{ReplayError, replay};
 pub use runs::{Run, Runs};

@@ -19,6 +19,9 @@ use log_records::Record;
 use std::alloc::{AllocError, Global};
 use std::marker::Model;
 
+/// The LSN of a heap's first record.
+pub const FIRST_LSN: u64 = 1;
+
 /// The greatest number of a transaction.
 pub const LAST_NUMBER: u32 = 4_294_967_294;
 

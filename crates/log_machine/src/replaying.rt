@@ -3,9 +3,10 @@ ghost use Rattle.std.specs.Prelude.{◌≡◌, ◌*◌, ◌<◌, ◌≤◌, ◌^
 ghost use Rattle.log_machine.specs.declared.replaying.ReplayError.TheVariants.{Unshaped};
 ghost use Rattle.log_machine.specs.Machine.{start, after_all, words_in, reserve};
 ghost use Rattle.log_machine.specs.Effect.{EachWritesBelow};
+ghost use Rattle.log_machine.specs.Origin.{heap_origin};
 ghost use Rattle.log_machine.specs.Replay.{IsFirstUnshaped};
 
-use crate::{AfterError, LogState};
+use crate::{AfterError, FIRST_LSN, LogState};
 use log_records::Record;
 use std::alloc::{AllocError, Global};
 
@@ -45,7 +46,7 @@ pub fn replay(
     ensures inside { IfOk result (λ state. EachWritesBelow (words_in pages) records.now) }
     ensures few_writes { IfOk result (λ state. reserve state ≤ 29 * length records.now) }
     // The record that is told is the first that can't follow.
-    ensures unshaped { IfErr result (λ e. (lsn : ℕ) → e ≡ Unshaped lsn → IsFirstUnshaped (start pages first) records.now lsn) }
+    ensures unshaped { IfErr result (λ e. (lsn : ℕ) → e ≡ Unshaped lsn → IsFirstUnshaped (heap_origin pages first) records.now lsn) }
 {
     let mut state = LogState::start(alloc, pages, first);
     for (i, record) in records.iter().enumerate() {
@@ -53,7 +54,9 @@ pub fn replay(
             Ok(()) => {}
             Err(AfterError::NoMemory) => return Err(ReplayError::NoMemory),
             Err(AfterError::Unshaped) => {
-                return Err(ReplayError::Unshaped { lsn: i as u64 + 1 });
+                return Err(ReplayError::Unshaped {
+                    lsn: i as u64 + FIRST_LSN,
+                });
             }
         }
     }

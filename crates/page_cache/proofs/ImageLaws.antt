@@ -7,6 +7,7 @@ use Rattle.disk_model.specs.Disk.{SameOutside}
 use Rattle.image_plan.specs.Plan.{log_offset}
 use Rattle.log_records.specs.declared.Record.{Record}
 use Rattle.log_machine.specs.Machine.{first_contents, words_in}
+use Rattle.log_machine.specs.Origin.{heap_origin}
 use Rattle.log_machine.proofs.WordsLaws.{length-first_contents}
 use Rattle.page_redo.specs.Pages.{Pages, pages_in, page_words, lsn_of, first_pages}
 use Rattle.page_redo.proofs.PageLaws.{alike_pages}
@@ -73,5 +74,5 @@ module _ (pages log_bytes : ℕ) where
         record { lsn_is = never.lsn_is ∙ sym (get_or-replicate (pages_in pages) p 0 0 lt); words_are = never.words_are ∙ sym (first_contents-page pages p lt) })
 
     -- so the pages of a new heap may stand beside any records
-    pub none_stored-prefixes : (records : List Record) → EachHoldsPrefix pages records (stored_pages pages log_bytes image)
-    none_stored-prefixes records = subst (EachHoldsPrefix pages records) (sym none_stored) (first_pages-prefixes pages records)
+    pub none_stored-prefixes : (first : ℕ) (records : List Record) → EachHoldsPrefix (heap_origin pages first) records (stored_pages pages log_bytes image)
+    none_stored-prefixes first records = subst (EachHoldsPrefix (heap_origin pages first) records) (sym none_stored) (first_pages-prefixes pages first records)

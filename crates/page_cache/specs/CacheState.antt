@@ -1,6 +1,7 @@
 -- A page cache, as its callers see it.
-use Rattle.std.specs.Prelude.{ℕ, ◌<◌, ◌≤◌, ◌==◌, Bool, not, List, length}
+use Rattle.std.specs.Prelude.{◌≡◌, ℕ, ◌<◌, ◌≤◌, ◌==◌, Bool, not, List, length}
 use Rattle.log_records.specs.declared.Record.{Record}
+use Rattle.log_machine.specs.Origin.{Origin}
 use Rattle.page_redo.specs.Pages.{Pages, page_words, lsn_of}
 use Rattle.page_redo.specs.Prefix.{EachHoldsPrefix, IsPresent}
 use Rattle.page_store.specs.declared.store.PageStore.{PageStore}
@@ -54,10 +55,14 @@ is_dirty cache p = not (cached_lsn cache p == flushed_lsn cache p)
 abbrev pub cache_failed : PageCache → Bool
 cache_failed cache = has_failed cache.store
 
--- the pages in memory are the present ones of these records
-abbrev pub ArePresent : PageCache → List Record → Type 0
-ArePresent cache records = IsPresent cache.store.plan.pages records cache.pages
+-- A log with this origin is one of a cache's heap: it begins with as many pages.
+abbrev pub IsOriginOf : Origin → PageCache → Type 0
+IsOriginOf o cache = o.state.pages ≡ cache.store.plan.pages
+
+-- the pages in memory are the present ones of a log's records
+abbrev pub ArePresent : PageCache → Origin → List Record → Type 0
+ArePresent cache o records = IsPresent o records cache.pages
 
 -- the pages that are stored in an image may stand beside a log of these records: none of them is ahead of it
-abbrev pub MayStandBeside : PageCache → List Record → List ℕ → Type 0
-MayStandBeside cache records image = EachHoldsPrefix cache.store.plan.pages records (stored_pages cache.store.plan.pages cache.store.plan.log_bytes image)
+abbrev pub MayStandBeside : PageCache → Origin → List Record → List ℕ → Type 0
+MayStandBeside cache o records image = EachHoldsPrefix o records (stored_pages cache.store.plan.pages cache.store.plan.log_bytes image)

@@ -1,5 +1,5 @@
 //! The page cache: the pages of a heap in memory, over those that are stored on a disk.
-ghost use Rattle.std.specs.Prelude.{◌≡◌, ◌≢◌, ℕ, ◌+◌, ◌*◌, ◌^◌, ◌<◌, ◌≤◌, List, length, fold, take, slice_index, min, nat_lt, is_err, None, Some, IsTrue, IsFalse, OnOk, OnErr, IfOk, if◌then◌else◌};
+ghost use Rattle.std.specs.Prelude.{◌≡◌, ◌≢◌, ℕ, ◌+◌, ◌*◌, ◌^◌, ◌<◌, ◌≤◌, List, length, fold, slice_index, min, nat_lt, is_err, None, Some, IsTrue, IsFalse, OnOk, OnErr, IfOk, if◌then◌else◌};
 ghost use Rattle.log_records.specs.declared.Record.{Record};
 ghost use Rattle.log_machine.specs.Machine.{put_record};
 ghost use Rattle.log_machine.specs.Effect.{WritesBelow, EachWritesBelow};
@@ -36,7 +36,8 @@ pub struct PageCache {
 
 impl PageCache {
     ghost use Rattle.page_store.specs.StoreState.{store_plan, stored_frame, Knows};
-    ghost use Rattle.page_cache.specs.CacheState.{cached, cache_store, cache_pages, cache_size, cache_log, cached_page, cached_lsn, flushed_lsn, is_dirty, cache_failed, IsFirstPast, ArePresent, MayStandBeside};
+    ghost use Rattle.page_cache.specs.CacheState.{cached, cache_store, cache_pages, cache_size, cache_log, cached_page, cached_lsn, flushed_lsn, is_dirty, cache_failed, IsFirstPast, IsOriginOf, ArePresent, MayStandBeside};
+    ghost use Rattle.log_machine.specs.Origin.{Origin, records_below};
 
     /// Reads the pages that are stored behind the log of an image.
     pub fn open<D: Disk>(alloc: Global, disk: &mut D, plan: Plan) -> Result<PageCache, OpenError>
@@ -168,7 +169,7 @@ impl PageCache {
         self.redo_all(first, records);
     }
 
-    /// Stores page `p`, which is dirty, as it is now. The log's first `forced` records are on the disk, and the page is not ahead
+    /// Stores page `p`, which is dirty, as it is now. The log's records up to the LSN `forced` are on the disk, and the page is not ahead
     /// of them. After an error the page is stored as it was or as it is now once the disk is started again, and no other flush
     /// follows before the pages are opened from that disk.
     pub fn flush<D: Disk>(&mut self, disk: &mut D, p: u32, forced: u64) -> Result<(), DiskError>
@@ -200,11 +201,11 @@ impl PageCache {
 
         // No page gets ahead of the log: pages that may stand beside the records on the disk do so after the flush, and a crash
         // at any moment of it leaves such pages.
-        ensures legal { IsTrue D.tells → Knows (cache_store self.old) (D.bytes disk.old) → (all : List Record) → ArePresent self.old all → MayStandBeside self.old (take forced all) (D.bytes disk.old)
-            → OnOk result (MayStandBeside self.old (take forced all) (D.bytes disk.new)) }
+        ensures legal { IsTrue D.tells → Knows (cache_store self.old) (D.bytes disk.old) → (o : Origin) (all : List Record) → IsOriginOf o self.old → ArePresent self.old o all → MayStandBeside self.old o (records_below o (forced + 1) all) (D.bytes disk.old)
+            → OnOk result (MayStandBeside self.old o (records_below o (forced + 1) all) (D.bytes disk.new)) }
         ensures legal_moments { IsTrue D.tells → Knows (cache_store self.old) (D.bytes disk.old) → Only (D.bytes disk.old) (D.may_leave disk.old)
-            → (all : List Record) → ArePresent self.old all → MayStandBeside self.old (take forced all) (D.bytes disk.old)
-            → LeavesOnly D.moment D.left_since disk.old disk.new (MayStandBeside self.old (take forced all)) }
+            → (o : Origin) (all : List Record) → IsOriginOf o self.old → ArePresent self.old o all → MayStandBeside self.old o (records_below o (forced + 1) all) (D.bytes disk.old)
+            → LeavesOnly D.moment D.left_since disk.old disk.new (MayStandBeside self.old o (records_below o (forced + 1) all)) }
 
         // A crash at any moment leaves the page as it was, or as it is now, and all else as it was.
         ensures moments { IsTrue D.tells → Knows (cache_store self.old) (D.bytes disk.old) → Only (D.bytes disk.old) (D.may_leave disk.old)

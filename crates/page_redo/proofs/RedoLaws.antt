@@ -6,11 +6,12 @@ use Rattle.std.proofs.lemmas.Bool.{cases_Bool, cases_lt, lt-ltb, cond-true, cond
 use Rattle.std.proofs.lemmas.List.{ext_get_or, get_or_past, take_more, length-take-le}
 use Rattle.log_records.specs.declared.Record.{Record}
 use Rattle.log_machine.specs.Machine.{effect, put_all, put_record}
+use Rattle.log_machine.specs.Origin.{Origin, next_lsn}
 use Rattle.log_machine.proofs.WordsLaws.{length-put_all}
 use Rattle.page_redo.specs.Pages.{Pages, pages_in, page_of, lsn_of, touched, touches}
 use Rattle.page_redo.specs.Redo.{lacks, EachLacks, redo_record, redo_all, redone, last_lsn}
 use Rattle.page_redo.proofs.PageLaws.{length-raised_to, raised_to-touched, raised_to-other}
-use Rattle.page_redo.specs.Prefix.{EachHoldsPrefix}
+use Rattle.page_redo.specs.Prefix.{HasAllWords, EachHoldsPrefix}
 use Rattle.page_redo.proofs.PrefixLaws.{redone-present}
 
 -- records one after another
@@ -36,8 +37,8 @@ words-redo_all lsn at [] = refl
 words-redo_all lsn at (r ∷ rs) = words-redo_all (lsn + 1) (redo_record lsn at r) rs ∙ words-redo_record lsn at r
 
 -- so they do after a whole log
-pub length-redone : (stored : Pages) (records : List Record) → length (redone stored records).words ≡ length stored.words
-length-redone stored records = words-redo_all 1 stored records
+pub length-redone : (o : Origin) (stored : Pages) (records : List Record) → length (redone o stored records).words ≡ length stored.words
+length-redone o stored records = words-redo_all o.lsn stored records
 
 filter_all : (test : ℕ × ℕ → Bool) (ws : List (ℕ × ℕ)) → ((w : ℕ × ℕ) → test w ≡ true) → filter test ws ≡ ws
 filter_all test [] each = refl
@@ -93,53 +94,54 @@ redo_all-words lsn at (r ∷ rs) lacking =
     ∙ ap (λ (l : List ℕ). fold put_record l rs) (redo_record-words lsn at r lacking)
 
 -- so have stored pages on which a whole log was redone
-pub lsn-redone : (pages : ℕ) (records : List Record) (stored : Pages) (p : ℕ) → EachHoldsPrefix pages records stored → p < pages_in pages → lsn_of (redone stored records) p ≡ max (lsn_of stored p) (last_lsn p 1 records)
-lsn-redone pages records stored p legal lt = lsn-redo_all 1 stored records p (omega (arith, legal.lsns_size))
+pub lsn-redone : (o : Origin) (records : List Record) (stored : Pages) (p : ℕ) → EachHoldsPrefix o records stored → p < pages_in o.state.pages → lsn_of (redone o stored records) p ≡ max (lsn_of stored p) (last_lsn p o.lsn records)
+lsn-redone o records stored p legal lt = lsn-redo_all o.lsn stored records p (omega (arith, legal.lsns_size))
 
 -- each page lacks all that follows a record that it lacks
 pub EachLacks-later : (lsn later : ℕ) (at : Pages) → lsn ≤ later → EachLacks lsn at → EachLacks later at
 EachLacks-later lsn later at le lacking p = omega (arith, lacking p)
 
--- no record's LSN is above that of the last one
-pub last_lsn-reached : (p lsn : ℕ) (rs : List Record) → last_lsn p (lsn + 1) rs ≤ lsn + length rs
+-- no record's LSN is above that of the last one, and a page that none touches has the LSN 0
+pub last_lsn-reached : (p lsn : ℕ) (rs : List Record) → last_lsn p lsn rs < max 1 (length rs + lsn)
 last_lsn-reached p lsn [] = omega arith
 last_lsn-reached p lsn (r ∷ rs) = elim (cases_Bool (touches r p)) [
-  | inl some ↦ omega (arith, cond-true (touches r p) (lsn + 1) 0 some, last_lsn-reached p (lsn + 1) rs)
-  | inr none ↦ omega (arith, cond-false (touches r p) (lsn + 1) 0 none, last_lsn-reached p (lsn + 1) rs)
+  | inl some ↦ omega (arith, cond-true (touches r p) lsn 0 some, last_lsn-reached p (lsn + 1) rs)
+  | inr none ↦ omega (arith, cond-false (touches r p) lsn 0 none, last_lsn-reached p (lsn + 1) rs)
 ]
 
 -- so pages that lack the record after some others lack it still once these are redone, whatever the pages hold
-pub EachLacks-redo_all : (lsn : ℕ) (at : Pages) (rs : List Record) → EachLacks (lsn + length rs + 1) at → EachLacks (lsn + length rs + 1) (redo_all (lsn + 1) at rs)
+pub EachLacks-redo_all : (lsn : ℕ) (at : Pages) (rs : List Record) → EachLacks (length rs + lsn) at → EachLacks (length rs + lsn) (redo_all lsn at rs)
 EachLacks-redo_all lsn at rs lacking p = elim (cases_lt p (length at.lsns)) [
-  | inl lt ↦ omega (arith, lsn-redo_all (lsn + 1) at rs p lt, last_lsn-reached p lsn rs, lacking p)
-  | inr past ↦ omega (arith, get_or_past (redo_all (lsn + 1) at rs).lsns p 0 (omega (arith, lsns-redo_all (lsn + 1) at rs)))
+  | inl lt ↦ omega (arith, lsn-redo_all lsn at rs p lt, last_lsn-reached p lsn rs, lacking p)
+  | inr past ↦ omega (arith, get_or_past (redo_all lsn at rs).lsns p 0 (omega (arith, lsns-redo_all lsn at rs)), get_or_past at.lsns p 0 past, lacking p)
 ]
 
 -- so do those after a whole log, if no LSN of the stored pages is above that of its last record
-pub EachLacks-redone : (records : List Record) (stored : Pages) → EachLacks (length records + 1) stored → EachLacks (length records + 1) (redone stored records)
-EachLacks-redone records stored lacking p = omega (arith, EachLacks-redo_all 0 stored records (λ q. omega (arith, lacking q)) p)
+pub EachLacks-redone : (o : Origin) (records : List Record) (stored : Pages) → EachLacks (next_lsn o records) stored → EachLacks (next_lsn o records) (redone o stored records)
+EachLacks-redone o records stored lacking = EachLacks-redo_all o.lsn stored records lacking
 
 -- then the words go on with more records as any words do
-pub redone_words-append : (stored : Pages) (records more : List Record) → EachLacks (length records + 1) stored → (redone stored (records ++ more)).words ≡ fold put_record (redone stored records).words more
-redone_words-append stored records more lacking =
-    ap (λ (at : Pages). at.words) (redo_all-append 1 stored records more)
-    ∙ redo_all-words (1 + length records) (redone stored records) more (λ p. omega (arith, EachLacks-redone records stored lacking p))
+pub redone_words-append : (o : Origin) (stored : Pages) (records more : List Record) → EachLacks (next_lsn o records) stored → (redone o stored (records ++ more)).words ≡ fold put_record (redone o stored records).words more
+redone_words-append o stored records more lacking =
+    ap (λ (at : Pages). at.words) (redo_all-append o.lsn stored records more)
+    ∙ redo_all-words (o.lsn + length records) (redone o stored records) more (λ p. omega (arith, EachLacks-redone o records stored lacking p))
 
--- each of the pages that may stand beside records lacks the next one
-pub EachLacks-prefixes : (pages : ℕ) (records : List Record) (at : Pages) → EachHoldsPrefix pages records at → EachLacks (length records + 1) at
-EachLacks-prefixes pages records at is p = elim (cases_lt p (length at.lsns)) [
+-- each of the pages that may stand beside records lacks the next one, if the first does not have the LSN 0
+pub EachLacks-prefixes : (o : Origin) (records : List Record) (at : Pages) → 1 ≤ o.lsn → EachHoldsPrefix o records at → EachLacks (next_lsn o records) at
+EachLacks-prefixes o records at some is p = elim (cases_lt p (length at.lsns)) [
   | inl lt ↦ omega (arith, (is.each p (omega (arith, is.lsns_size))).reached)
   | inr past ↦ omega (arith, get_or_past at.lsns p 0 past)
 ]
 
 -- redo is repeated without an effect
-pub redone-redone : (pages : ℕ) (records : List Record) (stored : Pages) → EachHoldsPrefix pages records stored → redone (redone stored records) records ≡ redone stored records
-redone-redone pages records stored legal =
-    let once = redone-present pages records stored legal in
-    let twice = redone-present pages records (redone stored records) once.prefixes in
-    let same_lsns : (redone (redone stored records) records).lsns ≡ (redone stored records).lsns =
-    ext_get_or 0 (redone (redone stored records) records).lsns (redone stored records).lsns (lsns-redo_all 1 (redone stored records) records)
-    (λ p lt. let within : p < length stored.lsns = omega (arith, lsns-redo_all 1 (redone stored records) records, lsns-redo_all 1 stored records) in
-    omega (arith, lsn-redo_all 1 (redone stored records) records p (omega (arith, lsns-redo_all 1 stored records)), lsn-redo_all 1 stored records p within)) in
+pub redone-redone : (o : Origin) → HasAllWords o → (records : List Record) (stored : Pages) → EachHoldsPrefix o records stored → redone o (redone o stored records) records ≡ redone o stored records
+redone-redone o whole records stored legal =
+    let now : Pages = redone o stored records in
+    let once = redone-present o whole records stored legal in
+    let twice = redone-present o whole records now once.prefixes in
+    let same_lsns : (redone o now records).lsns ≡ now.lsns =
+    ext_get_or 0 (redone o now records).lsns now.lsns (lsns-redo_all o.lsn now records)
+    (λ p lt. let within : p < length stored.lsns = omega (arith, lsns-redo_all o.lsn now records, lsns-redo_all o.lsn stored records) in
+    omega (arith, lsn-redo_all o.lsn now records p (omega (arith, lsns-redo_all o.lsn stored records)), lsn-redo_all o.lsn stored records p within)) in
     let made : List ℕ → List ℕ → Pages = λ words lsns. record { words = words; lsns = lsns } in
-    ap (λ (l : List ℕ). made l (redone (redone stored records) records).lsns) (twice.present ∙ sym once.present) ∙ ap (made (redone stored records).words) same_lsns
+    ap (λ (l : List ℕ). made l (redone o now records).lsns) (twice.present ∙ sym once.present) ∙ ap (made now.words) same_lsns

@@ -25,7 +25,7 @@ page_words words p = take 64 (drop (64 * p) words)
 abbrev pub lsn_of : Pages → ℕ → ℕ
 lsn_of at p = slice_index at.lsns p
 
--- pages that were never stored: the first contents, and no record's effect
+-- pages that were never stored: the first contents, and no record's effect, as the LSN 0 says
 abbrev pub first_pages : ℕ → Pages
 first_pages pages = record { words = first_contents pages; lsns = replicate (pages_in pages) 0 }
 

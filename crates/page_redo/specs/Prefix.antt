@@ -1,21 +1,26 @@
--- Which pages may be stored beside a log: each holds the effects of the log's first records, as many as its LSN says.
-use Rattle.std.specs.Prelude.{◌≡◌, ℕ, ◌<◌, ◌≤◌, List, length, take}
+-- Which pages may be stored beside a log: each holds the effects of the log's first records, of those up to its LSN.
+use Rattle.std.specs.Prelude.{◌≡◌, ℕ, ◌+◌, ◌<◌, List, length}
 use Rattle.log_records.specs.declared.Record.{Record}
-use Rattle.log_machine.specs.Machine.{words, words_in}
+use Rattle.log_machine.specs.Machine.{words_in}
+use Rattle.log_machine.specs.Origin.{Origin, next_lsn, records_below, words_from}
 use Rattle.page_redo.specs.Pages.{Pages, pages_in, page_words, lsn_of}
 
--- The words of page p hold the effects of the first so many records, and of no others.
-pub record HoldsPrefix (pages : ℕ) (records : List Record) (p lsn : ℕ) (page : List ℕ) : Type 0 where
-  pub reached : lsn ≤ length records
-  pub same : page ≡ page_words (words pages (take lsn records)) p
+-- the words of an origin are those of both spaces
+abbrev pub HasAllWords : Origin → Type 0
+HasAllWords o = length o.words ≡ words_in o.state.pages
 
--- Each page holds the effects of as many records as its LSN says.
-pub record EachHoldsPrefix (pages : ℕ) (records : List Record) (at : Pages) : Type 0 where
-  pub size : length at.words ≡ words_in pages
-  pub lsns_size : length at.lsns ≡ pages_in pages
-  pub each : (p : ℕ) → p < pages_in pages → HoldsPrefix pages records p (lsn_of at p) (page_words at.words p)
+-- The words of page p hold the effects of a log's records up to an LSN, and of no others.
+pub record HoldsPrefix (o : Origin) (records : List Record) (p lsn : ℕ) (page : List ℕ) : Type 0 where
+  pub reached : lsn < next_lsn o records
+  pub same : page ≡ page_words (words_from o (records_below o (lsn + 1) records)) p
+
+-- Each page holds the effects of the records up to its LSN.
+pub record EachHoldsPrefix (o : Origin) (records : List Record) (at : Pages) : Type 0 where
+  pub size : length at.words ≡ words_in o.state.pages
+  pub lsns_size : length at.lsns ≡ pages_in o.state.pages
+  pub each : (p : ℕ) → p < pages_in o.state.pages → HoldsPrefix o records p (lsn_of at p) (page_words at.words p)
 
 -- The pages hold the effects of all records, and no page has changed since the record of its LSN.
-pub record IsPresent (pages : ℕ) (records : List Record) (at : Pages) : Type 0 where
-  pub prefixes : EachHoldsPrefix pages records at
-  pub present : at.words ≡ words pages records
+pub record IsPresent (o : Origin) (records : List Record) (at : Pages) : Type 0 where
+  pub prefixes : EachHoldsPrefix o records at
+  pub present : at.words ≡ words_from o records

@@ -8,21 +8,20 @@ use Rattle.graph_model.specs.History.{Account, account, sealed, commits, acknowl
 use Rattle.image_plan.specs.declared.superblock.Super.{Super}
 use Rattle.log_records.specs.declared.Record.{Record}
 use Rattle.gated_log.specs.Log.{batches_bytes, records_of}
-use Rattle.log_machine.specs.Machine as machine
 use Rattle.log_machine.specs.Machine.{State, start, reserve}
-use Rattle.log_machine.proofs.StateLaws.{commits-start}
+use Rattle.log_machine.specs.Origin.{Origin, words_from, commits_in}
 use Rattle.page_redo.specs.Pages.{Pages}
 use Rattle.page_redo.specs.Prefix.{EachHoldsPrefix}
 use Rattle.page_redo.proofs.PrefixLaws.{EachHoldsPrefix-append}
 use Rattle.graph_words.specs.Places.{Places}
-use Rattle.heap_model.specs.Core.{Core, log_start, all_words}
+use Rattle.heap_model.specs.Core.{Core, log_origin, log_start, commits_on_disk, all_words}
 use Rattle.heap_model.specs.CoreCrash.{HasLogWords, IsLogged, IsOnDisk, IsSuperOf}
 use Rattle.heap_model.specs.CoreTold.{IsTold}
 use Rattle.heap_model.proofs.Step.Goes.{told_sound}
 use Rattle.heap_model.proofs.Opening.Legal.{told_says}
-use Rattle.heap_model.proofs.Step.Logged.{all_logged}
+use Rattle.heap_model.proofs.Step.Logged.{super_origin, all_logged}
 use Rattle.heap_model.proofs.Step.Room.{records_of-with_batch, length-with_batch}
-use Rattle.heap_model.specs.Image.{first_state, Says}
+use Rattle.heap_model.specs.Image.{origin_of, Says}
 use Rattle.heap_model.specs.Opening.{next_of, next_in}
 use Rattle.core_laws.proofs.Step.Goes.{known_on}
 use Rattle.core_laws.proofs.Step.GrantedEnds.{all_on_disk}
@@ -38,11 +37,11 @@ pub record TellFirst (c : Core) (k : ℕ) (batches : List (List Record)) : Type 
   pub places : Places
   pub words : List ℕ
   pub told : IsTold (log_start c) c.born places (serial c.g0 (take k (commits c.history))) (c.before + k) (records_of batches) words state
-  pub logged : words ≡ machine.words c.pages (records_of batches)
+  pub logged : words ≡ words_from (log_origin c) (records_of batches)
   pub room : length (batches_bytes batches) + 1 + reserve state ≤ c.room
   pub next : c.first ≤ state.next
   pub kept : acknowledged c.history ≤ k
-  pub forced : machine.commits (records_of c.batches) ≤ c.before + k
+  pub forced : commits_on_disk c ≤ c.before + k
   pub some : k ≤ length (commits c.history)
 
 -- a seal asks nothing of the disk, so the commits are the sealed transactions
@@ -52,8 +51,8 @@ commits-sealed c h =
     ap (λ (o : Option Transaction). sealed c.history ++ option_to_list o) b.certain ∙ append-nil (sealed c.history)
 
 tell_sealed : (c : Core) (k : ℕ) (batches : List (List Record)) (places : Places) (now : List ℕ) (state : State) → IsSound c
-    → IsTold (log_start c) c.born places (serial c.g0 (take k (sealed c.history))) (c.before + k) (records_of batches) now state → now ≡ machine.words c.pages (records_of batches)
-    → length (batches_bytes batches) + 1 + reserve state ≤ c.room → c.first ≤ state.next → acknowledged c.history ≤ k → machine.commits (records_of c.batches) ≤ c.before + k
+    → IsTold (log_start c) c.born places (serial c.g0 (take k (sealed c.history))) (c.before + k) (records_of batches) now state → now ≡ words_from (log_origin c) (records_of batches)
+    → length (batches_bytes batches) + 1 + reserve state ≤ c.room → c.first ≤ state.next → acknowledged c.history ≤ k → commits_on_disk c ≤ c.before + k
     → k ≤ length (sealed c.history) → TellFirst c k batches
 tell_sealed c k batches places now state h told logged room next kept forced some =
     let same = commits-sealed c h in
@@ -71,18 +70,15 @@ tell_sealed c k batches places now state h told logged room next kept forced som
     }
 
 -- so many commits of the log on the disk came before the opening, and so many since then
-forced_commits : (a : Account) (c : Core) → (b : Agrees a c) → machine.commits (records_of c.batches) ≡ c.before + b.disk.commits
-forced_commits a c b =
-    let all = commits-start c.pages c.first_number b.disk.state (records_of c.batches) b.disk.told.reached in
-    let count = b.disk.told.count in
-    omega arith
+pub forced_commits : (a : Account) (c : Core) → (b : Agrees a c) → commits_on_disk c ≡ c.before + b.disk.commits
+forced_commits a c b = ap commits_in b.disk.told.reached ∙ b.disk.told.count
 
 -- pages that may stand beside the forced records may stand beside these batches
-pub prefixes_on : (c : Core) (batches : List (List Record)) (stored : Pages) → IsLogged c stored → IsOnDisk c batches → EachHoldsPrefix c.pages (records_of batches) stored
-prefixes_on c batches stored logged (inl is) = subst (λ (bs : List (List Record)). EachHoldsPrefix c.pages (records_of bs) stored) (sym is) logged.prefixes
+pub prefixes_on : (c : Core) (batches : List (List Record)) (stored : Pages) → IsLogged c stored → IsOnDisk c batches → EachHoldsPrefix (log_origin c) (records_of batches) stored
+prefixes_on c batches stored logged (inl is) = subst (λ (bs : List (List Record)). EachHoldsPrefix (log_origin c) (records_of bs) stored) (sym is) logged.prefixes
 prefixes_on c batches stored logged (inr is) =
-    subst (λ (rs : List Record). EachHoldsPrefix c.pages rs stored) (sym (ap records_of is ∙ records_of-with_batch c.batches c.pending))
-    (EachHoldsPrefix-append c.pages (records_of c.batches) c.pending stored logged.prefixes)
+    subst (λ (rs : List Record). EachHoldsPrefix (log_origin c) rs stored) (sym (ap records_of is ∙ records_of-with_batch c.batches c.pending))
+    (EachHoldsPrefix-append (log_origin c) (records_of c.batches) c.pending stored logged.prefixes)
 
 -- the batches on the disk tell the first commits
 pub tell_first : (c : Core) (batches : List (List Record)) → IsSound c → HasLogWords c → IsOnDisk c batches → (k : ℕ) × TellFirst c k batches
@@ -99,7 +95,7 @@ tell_first c batches h logged (inr is) =
     let first = b.disk.sealed_first in
     let records = ap records_of is ∙ records_of-with_batch c.batches c.pending in
     let told = all_on_disk a c batches b records in
-    let words = all_logged c logged ∙ ap (machine.words c.pages) (sym records) in
+    let words = all_logged c logged ∙ ap (words_from (log_origin c)) (sym records) in
     let size = ap (λ (bs : List (List Record)). length (batches_bytes bs)) is in
     let whole = length-with_batch c.batches c.pending in
     let fits = reserve_reserved a b.behind b.in_sessions (told_sound b.told) b.losers in
@@ -108,31 +104,35 @@ tell_first c batches h logged (inr is) =
     let forced = forced_commits a c b in
     (all, tell_sealed c all batches c.places (all_words c) b.behind h told words (omega arith) known (omega arith) (omega arith) (omega arith))
 
-module _ (c : Core) (s : Super) (batches : List (List Record)) (stored : Pages) (h : IsSound c) (logged : HasLogWords c) (beside : EachHoldsPrefix c.pages (records_of batches) stored) (on : IsOnDisk c batches) (of : IsSuperOf s c) where
+module _ (c : Core) (s : Super) (batches : List (List Record)) (stored : Pages) (h : IsSound c) (logged : HasLogWords c) (beside : EachHoldsPrefix (log_origin c) (records_of batches) stored) (on : IsOnDisk c batches) (of : IsSuperOf s c) where
   first : (k : ℕ) × TellFirst c k batches
   first = tell_first c batches h logged on
 
-  told : IsTold (first_state s) c.born first.1.places (serial c.g0 (take first.0 (commits c.history))) (c.before + first.0) (records_of batches) first.1.words first.1.state
+  told : IsTold (origin_of s).state c.born first.1.places (serial c.g0 (take first.0 (commits c.history))) (c.before + first.0) (records_of batches) first.1.words first.1.state
   told =
       let P : ℕ → ℕ → Type 0 = λ pages first_number. IsTold (start pages first_number) c.born first.1.places (serial c.g0 (take first.0 (commits c.history))) (c.before + first.0) (records_of batches) first.1.words first.1.state in
       subst (λ pages. P pages s.first) (sym of.pages) (subst (λ first_number. P c.pages first_number) (sym of.first) first.1.told)
+
+  -- the log on the disk begins where the core's does
+  same_origin : origin_of s ≡ log_origin c
+  same_origin = super_origin s c of
 
   fits : length (batches_bytes batches) + 1 + reserve first.1.state ≤ s.log_bytes
   fits = let room = first.1.room in let same = of.room in omega arith
 
   -- the pages on the disk may stand beside the log there
-  prefixes : EachHoldsPrefix s.pages (records_of batches) stored
-  prefixes = subst (λ (pages : ℕ). EachHoldsPrefix pages (records_of batches) stored) (sym of.pages) beside
+  prefixes : EachHoldsPrefix (origin_of s) (records_of batches) stored
+  prefixes = subst (λ (o : Origin). EachHoldsPrefix o (records_of batches) stored) (sym same_origin) beside
 
-  words_are : first.1.words ≡ machine.words s.pages (records_of batches)
-  words_are = first.1.logged ∙ ap (λ (pages : ℕ). machine.words pages (records_of batches)) (sym of.pages)
+  words_are : first.1.words ≡ words_from (origin_of s) (records_of batches)
+  words_are = first.1.logged ∙ ap (λ (o : Origin). words_from o (records_of batches)) (sym same_origin)
 
   -- its next transaction number is not below the first of this opening
   disk_next : c.first ≤ next_of s batches
   disk_next = let same : next_of s batches ≡ first.1.state.next = ap next_in told.reached in let next = first.1.next in omega arith
 
   -- where births give the names it is legal, and says the first commits since the opening, with all that was acknowledged or forced
-  pub disk_says : IsTrue c.born → (k : ℕ) × Says (serial c.g0 (take k (commits c.history))) (c.before + k) s batches stored × (c.first ≤ next_of s batches) × (acknowledged c.history ≤ k) × (machine.commits (records_of c.batches) ≤ c.before + k) × (k ≤ length (commits c.history))
+  pub disk_says : IsTrue c.born → (k : ℕ) × Says (serial c.g0 (take k (commits c.history))) (c.before + k) s batches stored × (c.first ≤ next_of s batches) × (acknowledged c.history ≤ k) × (commits_on_disk c ≤ c.before + k) × (k ≤ length (commits c.history))
   disk_says by_birth = (
     first.0,
     told_says s batches stored c.born first.1.places (serial c.g0 (take first.0 (commits c.history))) (c.before + first.0) first.1.words first.1.state of.limits told words_are prefixes fits by_birth,

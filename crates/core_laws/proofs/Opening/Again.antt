@@ -2,9 +2,8 @@
 use Rattle.std.proofs.Common.{◌+◌, true, take}
 use Rattle.graph_model.specs.History.{commits}
 use Rattle.graph_model.specs.Transaction.{serial}
-use Rattle.log_machine.specs.Machine as machine
-use Rattle.gated_log.specs.Log.{records_of}
 use Rattle.heap_model.specs.Image.{StandsFor}
+use Rattle.heap_model.specs.Opening.{commits_of}
 use Rattle.heap_model.proofs.Opening.OneMeaning.{one_graph}
 use Rattle.heap_model.proofs.Opening.Opened.{next_pinned, says_found}
 use Rattle.core_laws.proofs.Opening.Opened.{opened_reached}
@@ -17,6 +16,6 @@ opening_law s batches stored shaped gates born places g found = record { reached
 -- A heap is opened again on an image of a core's first commits, and goes on from those.
 pub opened_again : AgainTheorem
 opened_again c k image first s batches stored gates places g legal found =
-    let read : StandsFor g (machine.commits (records_of batches)) image = record { super = s; batches = batches; stored = stored; says = (says_found s batches stored legal.log places g found).found; held = legal.held } in
-    let same = one_graph g (serial c.g0 (take k (commits c.history))) (machine.commits (records_of batches)) (c.before + k) image read first.stands in
+    let read : StandsFor g (commits_of s batches) image = record { super = s; batches = batches; stored = stored; says = (says_found s batches stored legal.log places g found).found; held = legal.held } in
+    let same = one_graph g (serial c.g0 (take k (commits c.history))) (commits_of s batches) (c.before + k) image read first.stands in
     record { reached = opened_reached s batches stored legal.log.shaped gates true places g found; graph = same.0; before = same.1; kept = first.kept; forced = first.forced; some = first.some }

@@ -11,9 +11,9 @@ use Rattle.graph_model.specs.ClosedGraph.{IsUnused}
 use Rattle.graph_model.specs.History.{nothing_yet, sessions}
 use Rattle.image_plan.specs.declared.superblock.Super.{Super}
 use Rattle.log_records.specs.declared.Record.{Record}
-use Rattle.log_machine.specs.Machine.{settled, start, all_taken_back, commits, undo_of}
+use Rattle.log_machine.specs.Machine.{settled, start, all_taken_back, undo_of}
 use Rattle.log_machine.proofs.MapLaws.{each_empty}
-use Rattle.log_machine.proofs.StateLaws.{leads_after_all, spaced_after_all, commits-start}
+use Rattle.log_machine.proofs.StateLaws.{leads_after_all, spaced_after_all}
 use Rattle.log_machine.proofs.TakenBackLaws.{taken_back-settled}
 use Rattle.page_redo.specs.Pages.{Pages}
 use Rattle.log_machine.specs.declared.UndoEntry.{UndoEntry}
@@ -22,11 +22,11 @@ use Rattle.commit_order.proofs.PlaceLaws.{nothing_plain, nothing_two_phase}
 use Rattle.graph_words.specs.Places.{Places}
 use Rattle.graph_words.specs.Stands.{AreNamedByBirth, StandsCommitted}
 use Rattle.graph_words.proofs.Stands.Closed.{stands_closed, placed_below}
-use Rattle.heap_model.proofs.Opening.Rolled.{next_is, rolled_reached, rolled_good, rolled_room, rolled_words-is, length-rolled_words, settled_reserve}
+use Rattle.heap_model.proofs.Opening.Rolled.{next_is, commits_are, rolled_reached, rolled_good, rolled_room, rolled_words-is, length-rolled_words, settled_reserve}
 use Rattle.heap_model.specs.CoreTold.{IsTold}
 use Rattle.heap_model.specs.Core.{kept_for}
-use Rattle.heap_model.specs.Image.{first_state, words_of, IsShapedLog}
-use Rattle.heap_model.specs.Opening.{rolled_back, rolled_words, next_of, opened, IsFound}
+use Rattle.heap_model.specs.Image.{origin_of, words_of, IsShapedLog}
+use Rattle.heap_model.specs.Opening.{rolled_back, rolled_words, next_of, commits_of, opened, IsFound}
 use Rattle.core_laws.specs.Valid.{IsActive, RunsLocked, IsValid, IsReached}
 
 -- where each object is below a number, none is of a transaction from it on
@@ -52,9 +52,9 @@ module _ (s : Super) (batches : List (List Record)) (stored : Pages) (shaped : I
   abbrev now : List ℕ
   now = rolled_words s batches stored
 
-  opened_told : IsTold (first_state s) born places g (commits (records_of batches) + 0) (records_of (rolled_back s batches)) now (settled shaped.state)
+  opened_told : IsTold (origin_of s).state born places g (commits_of s batches + 0) (records_of (rolled_back s batches)) now (settled shaped.state)
   opened_told =
-      let count = commits-start s.pages s.first shaped.state (records_of batches) shaped.reached in
+      let count = commits_are s batches stored shaped in
       let settled_now = taken_back-settled (settled shaped.state) now refl in
       let same : words_of s batches stored ≡ all_taken_back (settled shaped.state) now = sym (settled_now ∙ rolled_words-is s batches stored shaped) in
       record {
@@ -98,7 +98,7 @@ module _ (s : Super) (batches : List (List Record)) (stored : Pages) (shaped : I
           has_room = omega arith;
         };
         behind = settled shaped.state;
-        told = subst (λ rs. IsTold (first_state s) born places g (commits (records_of batches) + 0) rs now (settled shaped.state)) (sym (append-nil (records_of (rolled_back s batches)))) opened_told;
+        told = subst (λ rs. IsTold (origin_of s).state born places g (commits_of s batches + 0) rs now (settled shaped.state)) (sym (append-nil (records_of (rolled_back s batches)))) opened_told;
         next_known = omega arith;
         losers = each_empty (λ q us. IsActive nothing_yet q);
         writers = λ session. tt;

@@ -5,8 +5,9 @@ use Rattle.graph_model.specs.Graph.{Graph}
 use Rattle.image_plan.specs.declared.superblock.Super.{Super}
 use Rattle.image_plan.specs.Super.{IsSuper}
 use Rattle.log_records.specs.declared.Record.{Record}
-use Rattle.log_machine.specs.Machine.{State, words, all_taken_back, each_taken_back, losing_in, commits, reserve}
-use Rattle.log_machine.proofs.StateLaws.{commits-start}
+use Rattle.log_machine.specs.Machine.{State, all_taken_back, each_taken_back, losing_in, reserve}
+use Rattle.log_machine.specs.Origin.{words_from}
+use Rattle.log_machine.proofs.WordsLaws.{length-first_contents}
 use Rattle.gated_log.specs.Log.{batches_bytes, records_of}
 use Rattle.object_layout.specs.Walk.{IsWalked, HaveOwnBirths, AreBornBefore}
 use Rattle.page_redo.specs.Pages.{Pages}
@@ -18,19 +19,19 @@ use Rattle.graph_words.proofs.Places.Names.{name_at}
 use Rattle.graph_words.specs.Stands.{StandsCommitted, AreNamedByBirth}
 use Rattle.graph_words.proofs.Stands.Seen.{stands_walked, stands_seen, stands_own_births, stands_born_before}
 use Rattle.heap_model.specs.CoreTold.{IsTold}
-use Rattle.heap_model.specs.Image.{first_state, redone_words, words_of, IsShapedLog, IsLegalLog, Says}
+use Rattle.heap_model.specs.Image.{origin_of, redone_words, words_of, IsShapedLog, IsLegalLog, Says}
 
--- Records and the words that they leave from the first contents on tell a graph, and each page that is stored beside them holds as many of
--- them as its LSN says.
+-- Records and the words that they leave from the log's origin on tell a graph, and each page that is stored beside them holds those up to
+-- its LSN.
 module _ (s : Super) (batches : List (List Record)) (stored : Pages) (born : Bool) (places : Places) (g : Graph) (k : ℕ) (now : List ℕ) (state : State) (limits : IsSuper s)
-    (told : IsTold (first_state s) born places g k (records_of batches) now state) (logged : now ≡ words s.pages (records_of batches))
-    (prefixes : EachHoldsPrefix s.pages (records_of batches) stored) (room : length (batches_bytes batches) + 1 + reserve state ≤ s.log_bytes) where
+    (told : IsTold (origin_of s).state born places g k (records_of batches) now state) (logged : now ≡ words_from (origin_of s) (records_of batches))
+    (prefixes : EachHoldsPrefix (origin_of s) (records_of batches) stored) (room : length (batches_bytes batches) + 1 + reserve state ≤ s.log_bytes) where
   -- redone on these pages they leave the same words
-  told_redone : redone_words batches stored ≡ now
-  told_redone = redone-words s.pages (records_of batches) stored prefixes ∙ sym logged
+  told_redone : redone_words s batches stored ≡ now
+  told_redone = redone-words (origin_of s) (length-first_contents s.pages) (records_of batches) stored prefixes ∙ sym logged
 
   told_words : words_of s batches stored ≡ all_taken_back state now
-  told_words = ap (λ (o : Option State). each_taken_back (losing_in o) (redone_words batches stored)) told.reached ∙ ap (all_taken_back state) told_redone
+  told_words = ap (λ (o : Option State). each_taken_back (losing_in o) (redone_words s batches stored)) told.reached ∙ ap (all_taken_back state) told_redone
 
   -- so the graph stands there
   pub told_stands : StandsCommitted places g (words_of s batches stored) state.base state.used
@@ -50,7 +51,7 @@ module _ (s : Super) (batches : List (List Record)) (stored : Pages) (born : Boo
     room = room;
     size = prefixes.size;
     lsns_size = prefixes.lsns_size;
-    behind = EachLacks-prefixes s.pages (records_of batches) stored prefixes;
+    behind = EachLacks-prefixes (origin_of s) (records_of batches) stored (omega arith) prefixes;
     walked = stands_walked told_stands;
   }
 
@@ -63,10 +64,6 @@ module _ (s : Super) (batches : List (List Record)) (stored : Pages) (born : Boo
     born_before = stands_born_before told_stands (told_births by_birth) state.next told.old;
   }
 
-  -- so many are commits
-  pub told_commits : commits (records_of batches) ≡ k
-  told_commits = let all = commits-start s.pages s.first state (records_of batches) told.reached in let count = told.count in omega arith
-
   -- and the log says the graph
   pub told_says : IsTrue born → Says g k s batches stored
-  told_says by_birth = record { legal = told_legal by_birth; seen = g; shows = stands_seen told_stands (told_births by_birth); graph = refl; count = told_commits }
+  told_says by_birth = record { legal = told_legal by_birth; seen = g; shows = stands_seen told_stands (told_births by_birth); graph = refl; count = told.count }

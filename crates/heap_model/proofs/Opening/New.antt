@@ -23,7 +23,7 @@ use Rattle.graph_words.proofs.Places.Addresses.{address_of-cases}
 use Rattle.graph_words.specs.Stands.{StandsAt, StandsCommitted, ArePlaced, AreNamedByBirth}
 use Rattle.graph_words.proofs.Stands.Seen.{stands_walked, stands_own_births, stands_born_before}
 use Rattle.graph_words.proofs.Stands.Visible.{nulls_visible}
-use Rattle.heap_model.specs.Image.{words_of, IsLegalLog}
+use Rattle.heap_model.specs.Image.{origin_of, words_of, IsLegalLog}
 use Rattle.heap_model.specs.Opening.{IsFound}
 use Rattle.heap_model.specs.NewHeap.{root_place}
 
@@ -105,7 +105,7 @@ module _ (s : Super) (limits : IsSuper s) where
   new_legal =
       let some = limits.some_log in
       let none = reserve-start s.pages s.first in
-      let prefixes = first_pages-prefixes s.pages [] in
+      let prefixes = first_pages-prefixes s.pages s.first [] in
       record {
         shaped = record {
           limits = limits;
@@ -115,7 +115,7 @@ module _ (s : Super) (limits : IsSuper s) where
           room = omega arith;
           size = prefixes.size;
           lsns_size = prefixes.lsns_size;
-          behind = EachLacks-prefixes s.pages [] (first_pages s.pages) prefixes;
+          behind = EachLacks-prefixes (origin_of s) [] (first_pages s.pages) (omega arith) prefixes;
           walked = stands_walked new_stand;
         };
         prefixes = prefixes;

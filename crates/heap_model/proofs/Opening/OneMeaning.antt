@@ -1,5 +1,5 @@
 -- An image stands for one graph, up to the names of objects, and for one number of commits.
-use Rattle.std.proofs.Common.{◌≡◌, ℕ, List, Some, sym, ◌∙◌, subst, arith}
+use Rattle.std.proofs.Common.{◌≡◌, ℕ, List, Some, sym, ap, ◌∙◌, subst, arith}
 use Rattle.disk_model.specs.Disk.{part}
 use Rattle.gate_slot.proofs.ImageLaws.{length_part}
 use Rattle.graph_model.specs.Graph.{Graph}
@@ -8,6 +8,7 @@ use Rattle.image_plan.specs.declared.superblock.Super.{Super}
 use Rattle.image_plan.specs.Plan.{log_offset}
 use Rattle.image_plan.proofs.SuperLaws.{one_super}
 use Rattle.log_records.specs.declared.Record.{Record}
+use Rattle.log_machine.specs.Machine.{State}
 use Rattle.gated_log.proofs.LogLaws.{holds_once}
 use Rattle.page_redo.specs.Pages.{Pages}
 use Rattle.object_layout.specs.Layout.{id_at, IsSeen}
@@ -32,17 +33,18 @@ one_pages : (s : Super) (bs cs : List (List Record)) (at to : Pages) (image : Li
 one_pages s bs cs at to image held other = sym held.pages ∙ other.pages
 
 -- a log says one state
-one_base : (s : Super) (bs : List (List Record)) (at : Pages) (legal other : IsLegalLog s bs at) → legal.shaped.state.base ≡ other.shaped.state.base
-one_base s bs at legal other = let same : Some legal.shaped.state ≡ Some other.shaped.state = sym legal.shaped.reached ∙ other.shaped.reached in cc
+one_state : (s : Super) (bs : List (List Record)) (at : Pages) (legal other : IsLegalLog s bs at) → legal.shaped.state ≡ other.shaped.state
+one_state s bs at legal other = let same : Some legal.shaped.state ≡ Some other.shaped.state = sym legal.shaped.reached ∙ other.shaped.reached in cc
 
 -- one graph, up to names, and one number of commits
 pub one_said : (g h : Graph) (k j : ℕ) (s : Super) (bs : List (List Record)) (at : Pages) → Says g k s bs at → Says h j s bs at → (canon g ≡ canon h) × (k ≡ j)
 one_said g h k j s bs at says other =
-    let base = one_base s bs at says.legal other.legal in
+    let state = one_state s bs at says.legal other.legal in
+    let base = ap (λ (x : State). x.base) state in
     let words = words_of s bs at in
     let there = subst (λ n. IsSeen words n says.seen) base says.shows in (
       sym says.graph ∙ seen_canon (id_at words) (id_at words) words other.legal.shaped.state.base says.seen other.seen there other.shows ∙ other.graph,
-      sym says.count ∙ other.count,
+      sym says.count ∙ ap (λ (x : State). x.commits) state ∙ other.count,
     )
 
 stands_at : (g h : Graph) (k j : ℕ) (image : List ℕ) (s r : Super) (bs cs : List (List Record)) (at to : Pages) → s ≡ r → Says g k s bs at → Holds s bs at image → Says h j r cs to

@@ -4,7 +4,7 @@ use Rattle.std.proofs.lemmas.Option.{option_and_then_some}
 use Rattle.graph_model.specs.Graph.{Graph}
 use Rattle.image_plan.specs.declared.superblock.Super.{Super}
 use Rattle.log_records.specs.declared.Record.{Record}
-use Rattle.log_machine.specs.Machine.{State, start, after, after_all, number_of, next_with, commits}
+use Rattle.log_machine.specs.Machine.{State, start, after, after_all, number_of, next_with}
 use Rattle.log_machine.proofs.StateLaws.{turns, leads_after_all, spaced_after_all, spaced_ends}
 use Rattle.gated_log.specs.Log.{records_of}
 use Rattle.page_redo.specs.Pages.{Pages}
@@ -15,10 +15,10 @@ use Rattle.graph_words.proofs.Places.Names.{named_places, address_name}
 use Rattle.graph_words.proofs.Stands.Seen.{stands_seen, stands_canon}
 use Rattle.graph_words.proofs.Stands.Walked.{gathered_placed, address_name-AreOld, address_name-KeepApart, id_at-KeepApart, walked_stands_by_address, walked_stands_by_birth, id_at-AreNamedByBirth, id_at-AreOld}
 use Rattle.heap_model.specs.CoreCrash.{IsCommitPrefix}
-use Rattle.heap_model.proofs.Opening.Rolled.{next_is, rolled_shaped, rolled_says}
+use Rattle.heap_model.proofs.Opening.Rolled.{next_is, commits_are, rolled_commits, rolled_shaped, rolled_says}
 use Rattle.heap_model.specs.Theorems.{SayingTheorem, SaysOn}
 use Rattle.heap_model.specs.Image.{words_of, IsShapedLog, IsLegalLog, Holds, Shows, Says}
-use Rattle.heap_model.specs.Opening.{rolled_back, next_of, next_behind, opened, IsFound}
+use Rattle.heap_model.specs.Opening.{rolled_back, next_of, commits_of, next_behind, opened, IsFound}
 
 -- The number of the next transaction.
 
@@ -38,12 +38,12 @@ next_pinned s batches stored shaped = next_is s batches stored shaped ∙ next_a
 
 module _ (s : Super) (batches : List (List Record)) (stored : Pages) (legal : IsLegalLog s batches stored) (g : Graph) (shows : Shows s batches stored legal g) where
   -- the log that was found says the graph
-  pub found_says : Says g (commits (records_of batches)) s batches stored
-  found_says = record { legal = legal; seen = g; shows = shows; graph = refl; count = refl }
+  pub found_says : Says g (commits_of s batches) s batches stored
+  found_says = record { legal = legal; seen = g; shows = shows; graph = refl; count = sym (commits_are s batches stored legal.shaped) }
 
   -- so does the one behind the opening
-  pub left_says : Says g (commits (records_of batches)) s (rolled_back s batches) stored
-  left_says = rolled_says g (commits (records_of batches)) s batches stored found_says
+  pub left_says : Says g (commits_of s batches) s (rolled_back s batches) stored
+  left_says = rolled_says g (commits_of s batches) s batches stored found_says
 
 -- what a graph that stands under the names of births is said of
 pub says_found : (s : Super) (batches : List (List Record)) (stored : Pages) (legal : IsLegalLog s batches stored) (places : Places) (g : Graph) → IsFound s batches stored legal.shaped true places g → SaysOn g s batches stored
@@ -95,12 +95,12 @@ saying_law s batches stored legal g shows =
     (places, h, found, sym (stands_canon stands (id_at words) g shows), says_found s batches stored legal places h found)
 
 module _ (s : Super) (batches : List (List Record)) (stored : Pages) (legal : IsLegalLog s batches stored) (places : Places) (g : Graph) (found : IsFound s batches stored legal.shaped true places g) where
-  none_since : (log : List (List Record)) → Says g (commits (records_of batches)) s log stored → Says g (commits (records_of batches) + 0) s log stored
+  none_since : (log : List (List Record)) → Says g (commits_of s batches) s log stored → Says g (commits_of s batches + 0) s log stored
   none_since log says = record { legal = says.legal; seen = says.seen; shows = says.shows; graph = says.graph; count = omega (arith, says.count) }
 
   -- an opening rolls transactions back, and commits none
-  same_commits : commits (records_of (rolled_back s batches)) ≡ commits (records_of batches)
-  same_commits = (says_found s batches stored legal places g found).left.count
+  same_commits : commits_of s (rolled_back s batches) ≡ commits_of s batches
+  same_commits = rolled_commits s batches stored legal.shaped
 
   -- an image of the log that was found or of the one behind the opening keeps all commits, wherever the opening was stopped
   pub opened_keeps : (gates : ℕ → ℕ) (image : List ℕ) → Holds s batches stored image ⊎ Holds s (rolled_back s batches) stored image → IsCommitPrefix (opened s batches stored gates true places g) image

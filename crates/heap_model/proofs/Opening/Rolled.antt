@@ -7,13 +7,14 @@ use Rattle.image_plan.specs.declared.superblock.Super.{Super}
 use Rattle.log_records.specs.declared.Record.{Record}
 use Rattle.log_records.specs.Record.{spellings, IsRecord}
 use Rattle.log_machine.specs.declared.UndoEntry.{UndoEntry}
-use Rattle.log_machine.specs.Machine.{settled, State, Loser, start, after_all, put_record, words_in, all_taken_back, each_taken_back, losing_in, commits, losing, abort_each, rollback, reserve, undo_bytes}
+use Rattle.log_machine.specs.Machine.{settled, State, Loser, start, after_all, put_record, words_in, all_taken_back, each_taken_back, losing_in, losing, abort_each, rollback, reserve, undo_bytes}
 use Rattle.log_machine.proofs.ListLaws.{AllByRecursion-append}
 use Rattle.log_machine.proofs.MapLaws.{entries_empty}
-use Rattle.log_machine.proofs.MachineLaws.{after_all-append2, commits-append}
+use Rattle.log_machine.specs.Origin.{next_lsn, commits_in}
+use Rattle.log_machine.proofs.MachineLaws.{after_all-append2}
 use Rattle.log_machine.proofs.StateLaws.{can_roll_back}
 use Rattle.log_machine.proofs.Bounds.{CanRollBack}
-use Rattle.log_machine.proofs.AbortLaws.{rollback_reaches, rollback_words, rollback_commits, rollback_fits, rollback_good}
+use Rattle.log_machine.proofs.AbortLaws.{rollback_reaches, rollback_words, rollback_fits, rollback_good}
 use Rattle.log_machine.proofs.TakenBackLaws.{taken_back-rollback}
 use Rattle.page_redo.specs.Pages.{Pages}
 use Rattle.page_redo.specs.Prefix.{EachHoldsPrefix}
@@ -25,8 +26,8 @@ use Rattle.object_layout.specs.Layout.{IsSeen}
 use Rattle.object_layout.specs.Walk.{IsWalked, HaveOwnBirths, AreBornBefore}
 use Rattle.heap_model.specs.Core.{need}
 use Rattle.heap_model.proofs.Step.Room.{records_of-with_batch, length-with_batch, length-pending_batch-append}
-use Rattle.heap_model.specs.Image.{redone_words, words_of, IsShapedLog, IsLegalLog, Shows, Says}
-use Rattle.heap_model.specs.Opening.{rollback_in, rollback_of, rolled_back, rolled_words, next_in, next_of}
+use Rattle.heap_model.specs.Image.{origin_of, redone_words, words_of, IsShapedLog, IsLegalLog, Shows, Says}
+use Rattle.heap_model.specs.Opening.{rollback_in, rollback_of, rolled_back, rolled_words, next_in, next_of, commits_of}
 
 need_most : (rs : List Record) → need [] rs ≤ length (spellings rs) + 5
 need_most [] = omega arith
@@ -80,7 +81,7 @@ module _ (s : Super) (batches : List (List Record)) (stored : Pages) (shaped : I
 
   -- the words as the log leaves them of the pages
   abbrev now : List ℕ
-  now = redone_words batches stored
+  now = redone_words s batches stored
 
   -- the words without the writes of transactions that have not ended, where the state is known
   pub words_of-is : words_of s batches stored ≡ all_taken_back shaped.state now
@@ -91,36 +92,37 @@ module _ (s : Super) (batches : List (List Record)) (stored : Pages) (shaped : I
   rolled_words-is = ap (fold put_record now) rollback_is ∙ rollback_words shaped.state now ∙ sym words_of-is
 
   -- redone on the pages, the log behind the opening gives them too
-  pub redone_words-rolled_back : redone_words (rolled_back s batches) stored ≡ rolled_words s batches stored
+  pub redone_words-rolled_back : redone_words s (rolled_back s batches) stored ≡ rolled_words s batches stored
   redone_words-rolled_back =
-      ap (λ (l : List Record). (redone stored l).words) rolled_records
-      ∙ redone_words-append stored rs taken shaped.behind
+      ap (λ (l : List Record). (redone (origin_of s) stored l).words) rolled_records
+      ∙ redone_words-append (origin_of s) stored rs taken shaped.behind
       ∙ ap (fold put_record now) (sym rollback_is)
 
   -- and no writes are to be taken back from it any more
   pub words_of-rolled_back : words_of s (rolled_back s batches) stored ≡ words_of s batches stored
   words_of-rolled_back =
-      ap (λ (o : Option State). each_taken_back (losing_in o) (redone_words (rolled_back s batches) stored)) rolled_reached
+      ap (λ (o : Option State). each_taken_back (losing_in o) (redone_words s (rolled_back s batches) stored)) rolled_reached
       ∙ ap (all_taken_back (settled shaped.state)) (redone_words-rolled_back ∙ ap (fold put_record now) rollback_is)
       ∙ taken_back-rollback shaped.state now
       ∙ sym words_of-is
 
   -- there are as many as both spaces have
   pub length-rolled_words : length (rolled_words s batches stored) ≡ words_in s.pages
-  length-rolled_words = ap length (sym redone_words-rolled_back) ∙ length-redone stored (records_of (rolled_back s batches)) ∙ shaped.size
+  length-rolled_words = ap length (sym redone_words-rolled_back) ∙ length-redone (origin_of s) stored (records_of (rolled_back s batches)) ∙ shaped.size
 
   -- no page is ahead of the log behind the opening
-  pub rolled_behind : EachLacks (length (records_of (rolled_back s batches)) + 1) stored
+  pub rolled_behind : EachLacks (next_lsn (origin_of s) (records_of (rolled_back s batches))) stored
   rolled_behind =
       let more : length (records_of (rolled_back s batches)) ≡ length rs + length taken = ap length rolled_records ∙ length-append rs taken in
-      EachLacks-later (length rs + 1) (length (records_of (rolled_back s batches)) + 1) stored (omega (arith, more)) shaped.behind
+      EachLacks-later (next_lsn (origin_of s) rs) (next_lsn (origin_of s) (records_of (rolled_back s batches))) stored (omega (arith, more)) shaped.behind
 
-  -- the commits stay
-  pub rolled_commits : commits (records_of (rolled_back s batches)) ≡ commits (records_of batches)
-  rolled_commits =
-      let all = ap commits rolled_records ∙ commits-append rs taken in
-      let none = rollback_commits shaped.state in
-      omega arith
+  -- the commits, where the state is known
+  pub commits_are : commits_of s batches ≡ shaped.state.commits
+  commits_are = ap commits_in shaped.reached
+
+  -- they stay
+  pub rolled_commits : commits_of s (rolled_back s batches) ≡ commits_of s batches
+  rolled_commits = ap commits_in rolled_reached ∙ sym commits_are
 
   -- each record has a spelling
   pub rolled_good : AllByRecursion IsRecord (records_of (rolled_back s batches))
@@ -171,10 +173,10 @@ module _ (s : Super) (batches : List (List Record)) (stored : Pages) (legal : Is
   rolled_walks = subst (Walks (settled legal.shaped.state)) (sym (words_of-rolled_back s batches stored legal.shaped)) (legal.shaped.walked, legal.own_births, legal.born_before)
 
   -- each page holds as many of its records as its LSN says
-  pub rolled_prefixes : EachHoldsPrefix s.pages (records_of (rolled_back s batches)) stored
+  pub rolled_prefixes : EachHoldsPrefix (origin_of s) (records_of (rolled_back s batches)) stored
   rolled_prefixes =
-      subst (λ (l : List Record). EachHoldsPrefix s.pages l stored) (sym (rolled_records s batches stored legal.shaped))
-      (EachHoldsPrefix-append s.pages (records_of batches) (rollback legal.shaped.state) stored legal.prefixes)
+      subst (λ (l : List Record). EachHoldsPrefix (origin_of s) l stored) (sym (rolled_records s batches stored legal.shaped))
+      (EachHoldsPrefix-append (origin_of s) (records_of batches) (rollback legal.shaped.state) stored legal.prefixes)
 
   -- the batches behind an opening of a legal log are a legal log
   abbrev pub rolled_legal : IsLegalLog s (rolled_back s batches) stored
@@ -208,5 +210,5 @@ rolled_says g k s batches stored says = record {
   seen = says.seen;
   shows = rolled_shows s batches stored says.legal says.seen says.shows;
   graph = says.graph;
-  count = rolled_commits s batches stored says.legal.shaped ∙ says.count;
+  count = says.count;
 }

@@ -6,27 +6,34 @@ use Rattle.graph_model.specs.declared.event.Event.{Event}
 use Rattle.graph_model.specs.declared.event.Event.TheVariants.{Force, Flush}
 use Rattle.graph_model.specs.declared.reply.Refusal.{Refusal}
 use Rattle.graph_model.specs.declared.reply.Reply.{Reply}
+use Rattle.image_plan.specs.declared.superblock.Super.{Super}
 use Rattle.log_records.specs.declared.Record.{Record}
-use Rattle.log_machine.specs.Machine.{words, put_record}
-use Rattle.log_machine.proofs.MachineLaws.{words-append}
+use Rattle.log_machine.specs.Machine.{put_record}
+use Rattle.log_machine.specs.Origin.{heap_origin, words_from}
+use Rattle.log_machine.proofs.MachineLaws.{words_from-append}
 use Rattle.gated_log.specs.Log.{records_of}
 use Rattle.page_redo.specs.Pages.{Pages}
 use Rattle.page_redo.specs.Prefix.{EachHoldsPrefix}
 use Rattle.page_redo.proofs.PrefixLaws.{EachHoldsPrefix-append}
-use Rattle.heap_model.specs.Core.{Core, all_words, all_records, answer, core_refusal, with_entry, is_dirty, is_ahead, forced, forced_if, page_stored, done, after_refusal, after, IsStep, IsRun}
-use Rattle.heap_model.specs.CoreCrash.{HasLogWords, IsLogged}
+use Rattle.heap_model.specs.Core.{Core, log_origin, all_words, all_records, answer, core_refusal, with_entry, is_dirty, is_ahead, forced, forced_if, page_stored, done, after_refusal, after, IsStep, IsRun}
+use Rattle.heap_model.specs.CoreCrash.{HasLogWords, IsLogged, IsSuperOf}
+use Rattle.heap_model.specs.Image.{origin_of}
 use Rattle.heap_model.proofs.Step.Room.{records_of-append}
 
+-- the log of a core begins where that of its superblock does
+pub super_origin : (s : Super) (c : Core) → IsSuperOf s c → origin_of s ≡ log_origin c
+super_origin s c of = ap (λ (pages : ℕ). heap_origin pages s.first) of.pages ∙ ap (heap_origin c.pages) of.first
+
 -- the words behind all records are those that all of them leave
-pub all_logged : (c : Core) → HasLogWords c → all_words c ≡ words c.pages (all_records c)
-all_logged c logged = ap (λ (ws : List ℕ). fold put_record ws c.pending) logged ∙ sym (words-append c.pages (records_of c.batches) c.pending)
+pub all_logged : (c : Core) → HasLogWords c → all_words c ≡ words_from (log_origin c) (all_records c)
+all_logged c logged = ap (λ (ws : List ℕ). fold put_record ws c.pending) logged ∙ sym (words_from-append (log_origin c) (records_of c.batches) c.pending)
 
 words_forced : (c : Core) (p : List Record) → HasLogWords c → HasLogWords (forced c p)
 words_forced c [] logged = logged
 words_forced c (r ∷ rs) logged =
     ap (λ (ws : List ℕ). fold put_record ws (r ∷ rs)) logged
-    ∙ sym (words-append c.pages (records_of c.batches) (r ∷ rs))
-    ∙ ap (words c.pages) (sym (records_of-append c.batches (r ∷ rs)))
+    ∙ sym (words_from-append (log_origin c) (records_of c.batches) (r ∷ rs))
+    ∙ ap (words_from (log_origin c)) (sym (records_of-append c.batches (r ∷ rs)))
 
 words_flushed : (c : Core) (p : ℕ) (dirty ahead : Bool) → HasLogWords c → HasLogWords (if dirty then page_stored (forced_if ahead c) p else c)
 words_flushed c p true true logged = words_forced c c.pending logged
@@ -54,7 +61,7 @@ logged_forced c stored (r ∷ rs) logged =
     let all = records_of-append c.batches (r ∷ rs) in
     record {
       words = words_forced c (r ∷ rs) logged.words;
-      prefixes = subst (λ (l : List Record). EachHoldsPrefix c.pages l stored) (sym all) (EachHoldsPrefix-append c.pages (records_of c.batches) (r ∷ rs) stored logged.prefixes);
+      prefixes = subst (λ (l : List Record). EachHoldsPrefix (log_origin c) l stored) (sym all) (EachHoldsPrefix-append (log_origin c) (records_of c.batches) (r ∷ rs) stored logged.prefixes);
       lsns = logged.lsns;
     }
 

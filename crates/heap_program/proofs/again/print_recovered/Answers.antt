@@ -4,14 +4,13 @@ use Rattle.counts.specs.Count.{counted, greatest}
 use Rattle.disk_model.specs.Disk.{Only}
 use Rattle.disk_model.specs.Moments.{LeavesOnly}
 use Rattle.disk_model.proofs.MomentLaws.{weaker}
-use Rattle.gated_log.specs.Log.{records_of}
 use Rattle.graph_model.specs.Text.{canon_text}
-use Rattle.log_machine.specs.Machine as machine
 use Rattle.heap_model.specs.CoreCrash.{StandsForFirst}
 use Rattle.heap_model.proofs.Opening.Held.{left_first}
 use Rattle.core_laws.proofs.Opening.Opened.{opened_reached}
 use Rattle.heap_model.proofs.Opening.Opened.{saying_law}
-use Rattle.heap_model.specs.Opening.{opened, opening_calls, IsLeftByOpening}
+use Rattle.heap_model.proofs.Opening.Rolled.{commits_are}
+use Rattle.heap_model.specs.Opening.{commits_of, opened, opening_calls, IsLeftByOpening}
 use Rattle.heap_model.proofs.Shaped.{shaped_image}
 use Rattle.page_store.specs.Gates.{open_gates}
 use Rattle.heap_program.specs.Headline.{recovered_line, graph_text, Reopens, FailsToOpen}
@@ -67,8 +66,8 @@ returns-clause-recovers g c = λ tells core k first only same.
     let heap = c.in-Ok.ensures.holds tells s batches stored legal only found.0 found.1 found.2 in
     let reached = opened_reached s batches stored says.legal.shaped gates true found.0 found.1 found.2 in
     let few = few_commits s batches stored says.legal in
-    let count = says.count in
-    let since : commits_since c.args.before (min (machine.commits (records_of batches) + 0) greatest) ≡ k = since_before c.args.before core (machine.commits (records_of batches)) k same count first.some few in
+    let count = commits_are s batches stored says.legal.shaped ∙ says.count in
+    let since : commits_since c.args.before (min (commits_of s batches + 0) greatest) ≡ k = since_before c.args.before core (commits_of s batches) k same count first.some few in
     let moments = subst (λ x. LeavesOnly d.moment d.left_since c.args.disk x (IsLeftByOpening s batches stored)) (sym c.close.ensures) (c.in-Ok.ensures.moments tells only s batches stored (shaped_image legal)) in
     let leaves = λ (left : List ℕ) (may : d.may_leave final left). c.in-Ok.ensures.crash tells only s batches stored (shaped_image legal) left (subst (λ x. d.may_leave x left) c.close.ensures may) in
     let keeps = keeps_first d core k c.args.disk final first moments leaves (ap d.restarts c.close.ensures ∙ c.in-Ok.ensures.disk.restarts tells) in

@@ -1,6 +1,7 @@
 use Rattle.std.proofs.Common.{◌≡◌, ◌+◌, Err, Some, ap, sym, ◌∙◌, subst}
 use Rattle.log_machine.specs.Machine.{start, words_in}
 use Rattle.log_machine.specs.Effect.{WritesBelow}
+use Rattle.log_machine.specs.Origin.{heap_origin}
 use Rattle.log_machine.specs.Replay.{IsFirstUnshaped, Bounds}
 use Rattle.log_machine.proofs.ReplayLaws.{bounds_start, bounds_on, state_on, below_on, unshaped_at}
 use Rattle.log_machine.proofs.replaying.replay.Goals as goal
@@ -15,8 +16,8 @@ loop-i-init c = record {
 pub returns-in-Err-Unshaped-clause-unshaped : goal.returns-in-Err-Unshaped-clause-unshaped
 returns-in-Err-Unshaped-clause-unshaped c lsn is =
     let same : c.loop-i.i + 1 ≡ lsn = cc is in
-    subst (λ n. IsFirstUnshaped (start c.args.pages c.args.first) c.args.records.now n) same
-    (unshaped_at (start c.args.pages c.args.first) c.args.records.now c.loop-i.i c.index-records-i.result c.loop-i.state c.loop-i-test.true c.index-records-i.is c.loop-i.invariant.state (c.after.ensures.unshaped.0 (c.in-Err-Unshaped.is ∙ ap (λ e. Err e) c.in-Err-Unshaped.field-0-is)))
+    subst (λ n. IsFirstUnshaped (heap_origin c.args.pages c.args.first) c.args.records.now n) same
+    (unshaped_at (heap_origin c.args.pages c.args.first) c.args.records.now c.loop-i.i c.index-records-i.result c.loop-i.state c.loop-i-test.true c.index-records-i.is c.loop-i.invariant.state (c.after.ensures.unshaped.0 (c.in-Err-Unshaped.is ∙ ap (λ e. Err e) c.in-Err-Unshaped.field-0-is)))
 
 pub loop-i-preserved : goal.loop-i-preserved
 loop-i-preserved c =

@@ -1,14 +1,15 @@
-use Rattle.std.proofs.Common.{Bool, refl, ap, ◌∙◌, subst, ⊎_elim}
+use Rattle.std.proofs.Common.{rules, ◌≡◌, Bool, Err, refl, sym, ap, ◌∙◌, subst, ⊎_elim}
 use Rattle.std.specs.Prelude.{is_err}
 use Rattle.disk_model.specs.Disk.{part}
 use Rattle.disk_model.proofs.MomentLaws.{joined, weaker}
+use Rattle.gate_slot.specs.Passing.{Passes}
 use Rattle.gated_log.specs.Log.{HoldsBatches}
 use Rattle.gated_log.specs.LogState.{log_place, log_room, Keeps}
-use Rattle.heap_model.specs.Core.{forced_if}
+use Rattle.heap_model.specs.Core.{forced_if, flush_calls}
 use Rattle.heap_model.specs.CoreCrash.{IsCommitPrefix}
 use Rattle.page_redo.specs.Pages.{Pages}
 use Rattle.heap_engine.proofs.ForceCore.{force_keeps}
-use Rattle.heap_engine.proofs.StoreCore.{when_ok, its, same_log, log_held, ahead_is, not_ahead, flushed_memory, knows_mid, flushed_knows, store_keeps, flushed_on, flush_passes}
+use Rattle.heap_engine.proofs.StoreCore.{when_ok, its, same_log, log_held, ahead_is, not_ahead, flushed_memory, knows_mid, flushed_knows, store_keeps, flushed_on, cut_passes, flush_passes}
 use Rattle.heap_engine.proofs.engine.Engine.store.Goals as goal
 
 pub returns-in_err-force_up_to-clause-moments : goal.returns-in_err-force_up_to-clause-moments
@@ -81,6 +82,13 @@ returns-clause-moments g c tells s core works pages disk sound =
     weaker d.moment d.left_since c.args.disk.now c.flush.new.disk _ (IsCommitPrefix core)
     (joined d.moment d.left_since c.args.disk.now c.force_up_to.new.disk c.flush.new.disk (IsCommitPrefix core) (IsCommitPrefix core) first second)
     (λ image either. ⊎_elim (λ left. left) (λ left. left) either)
+
+pub returns-in_err-force_up_to-clause-passes : goal.returns-in_err-force_up_to-clause-passes
+returns-in_err-force_up_to-clause-passes g c tells core works pages =
+    let d = g.D.Disk in
+    let err : c.from_residual.result ≡ Err c.in_err-force_up_to.field-0.0 = search rules in
+    subst (Passes (flush_calls core c.args.p) (d.passed c.args.disk.now) (d.passed c.force_up_to.new.disk)) (sym err)
+    (cut_passes core c.args.self.now c.args.p works c.requires.page c.lsn.result _ _ _ c.lsn.ensures.value c.requires.dirty (c.in_err-force_up_to.ensures.passes tells))
 
 pub returns-clause-passes : goal.returns-clause-passes
 returns-clause-passes g c tells core works pages =
