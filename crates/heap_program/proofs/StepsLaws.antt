@@ -74,7 +74,7 @@ on_disk c = machine.commits (records_of c.batches)
 disk_commits : (c : Core) → IsSound c → commits_on_disk c ≡ on_disk c
 disk_commits c h =
     let b = sound_agrees c h in
-    ap commits_in b.disk_told.reached ∙ commits-start c.pages c.first_number b.on_disk (records_of c.batches) b.disk_told.reached
+    ap commits_in b.disk.told.reached ∙ commits-start c.pages c.first_number b.disk.state (records_of c.batches) b.disk.told.reached
 
 forced_commits : (c : Core) → on_disk c ≤ on_disk (forced c c.pending)
 forced_commits c =
