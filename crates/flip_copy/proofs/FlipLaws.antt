@@ -67,14 +67,14 @@ below_insert set from bound next below after far q is =
 abbrev with_all_copied : State → Collection → List ObjectCopy → State
 with_all_copied s k copies = record s { used = s.used + size_of copies; collection = Some (with_copies k (moved_objects copies)) }
 
-can_copy : (s : State) (k : Collection) (behind : ℕ) (copy : ObjectCopy) → behind ≤ copy.from → copy.from + length copy.words ≤ other_base s + k.used → copy.to ≡ s.base + s.used
+can_copy : (s : State) (k : Collection) (behind : ℕ) (copy : ObjectCopy) → 2 ≤ length copy.words → behind ≤ copy.from → copy.from + length copy.words ≤ other_base s + k.used → copy.to ≡ s.base + s.used
     → other_base s + k.copied ≤ behind → s.used ≡ k.copied → k.used ≤ space_words s.pages → AreBelow k.moved behind
     → (can_move s k copy.from (length copy.words) && can_hold s copy.to (length copy.words)) ≡ true
-can_copy s k behind copy after within here covered even few below =
+can_copy s k behind copy least after within here covered even few below =
     let size = length copy.words in
     let fresh : contains k.moved copy.from ≡ false = is_false (contains k.moved copy.from) (λ has. let less = below copy.from has in omega arith) in
     both_true _ _
-    (both_true _ _ (both_true _ _ (both_true _ _ (le-leb (other_base s) copy.from (omega arith)) (le-leb (copy.from + size) (other_base s + k.used) within))
+    (both_true _ _ (both_true _ _ (both_true _ _ (le-leb 2 size least) (both_true _ _ (le-leb (other_base s) copy.from (omega arith)) (le-leb (copy.from + size) (other_base s + k.used) within)))
     (le-leb (k.copied + size) k.used (omega arith))) (not_false (contains k.moved copy.from) fresh))
     (both_true _ _ (eq-eqb copy.to (s.base + s.used) here) (le-leb (s.used + size) (space_words s.pages) (omega arith)))
 
@@ -96,7 +96,7 @@ all_copied (copy ∷ copies) s k behind runs sized ordered together covered even
     let size = length copy.words in
     let least = sized.0.least in
     let fits = ordered_size (copy.from + size) (other_base s + k.used) copies ordered.1 in
-    let test = can_copy s k behind copy ordered.0 (omega arith) together.0 covered even few below in
+    let test = can_copy s k behind copy least ordered.0 (omega arith) together.0 covered even few below in
     let first : copy_after s copy ≡ Some (with_copy s k copy) =
     ap (copied_in s copy) runs ∙ copied_one s k copy (can_move s k copy.from size && can_hold s copy.to size) test in
     let k' = with_moved k copy.from copy.to copy.words in

@@ -174,12 +174,15 @@ following_copy s k words q b n f within none object can =
     let e = leb-true (k.copied + (q.size + (2 + n))) k.used fits.0 in let a = f.all in let c = f.copied in omega (arith, e, a, c, size) in
     let stays : not (contains f.now.moved b) ≡ true = ap not (f.moved b (not_true (contains k.moved b) left.1) none) in
     let moves : can_move f.next f.now b (length ws) ≡ true =
-    let whole_there = nat_le (other_base f.next) b && nat_le (b + length ws) (other_base f.next + f.now.used) in
+    let inside = nat_le (other_base f.next) b && nat_le (b + length ws) (other_base f.next + f.now.used) in
+    let whole_there = nat_le 2 (length ws) && inside in
     let one_more = nat_le (f.now.copied + length ws) f.now.used in
+    let some : 2 ≤ length ws = omega (arith, size) in
     and_from (whole_there && one_more) (not (contains f.now.moved b))
     (and_from whole_there one_more
+    (and_from (nat_le 2 (length ws)) inside (le-leb 2 (length ws) some)
     (and_from (nat_le (other_base f.next) b) (nat_le (b + length ws) (other_base f.next + f.now.used)) (le-leb (other_base f.next) b begins)
-    (le-leb (b + length ws) (other_base f.next + f.now.used) ends))
+    (le-leb (b + length ws) (other_base f.next + f.now.used) ends)))
     (le-leb (f.now.copied + length ws) f.now.used counted))
     stays in
     let place : to ≡ f.next.base + f.next.used = let bb = f.base in let u = f.used in omega (arith, bb, u) in

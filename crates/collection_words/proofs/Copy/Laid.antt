@@ -61,7 +61,9 @@ copy_row {s} {k} {places} {remaining} {words} {id} {from} copying =
     let free = room.room in
     let long = length (object_words_at words from) in
     let moves : can_move s k from long ≡ true =
-    and_from _ _ (and_from _ _ (and_from _ _ (le-leb (other_base s) from room.above) (le-leb (from + long) (other_base s + k.used) (omega arith))) (le-leb (k.copied + long) k.used (omega arith)))
+    and_from _ _
+    (and_from _ _ (and_from _ _ (le-leb 2 long (omega arith)) (and_from _ _ (le-leb (other_base s) from room.above) (le-leb (from + long) (other_base s + k.used) (omega arith))))
+    (le-leb (k.copied + long) k.used (omega arith)))
     (ap not left.unmoved) in
     let holds : can_hold s (s.base + s.used) long ≡ true = and_from _ _ (eq-eqb (s.base + s.used) (s.base + s.used) refl) (le-leb (s.used + long) (space_words s.pages) (omega arith)) in
     ap (copied_in s (next_copy s words from)) is.run
