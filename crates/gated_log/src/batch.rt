@@ -42,7 +42,7 @@ fn put_length(buffer: &mut [u8], size: u32)
     buffer[..4].copy_from_slice(&size.to_le_bytes());
 }
 
-/// The length that the batch tells whose gate comes first, if these bytes have it.
+/// The length field of the batch that begins with these bytes, if they reach that far.
 pub(crate) fn told_length(bytes: &[u8]) -> Option<u32>
     ensures length { IfSome result (λ n. (n < 2 ^ 32) × (5 ≤ length bytes.now) × (take 4 (drop 1 bytes.now) ≡ to_le_bytes w32 n)) }
     ensures none { result ≡ None → length bytes.now < 5 }

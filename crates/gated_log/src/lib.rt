@@ -1,4 +1,4 @@
-//! A log in a part of a disk: batches of records, each behind its gate, and the records that wait to be forced.
+//! A log in a part of a disk: batches of records, each behind its gate, and the pending records.
 #![tactic(auto)]
 
 mod batch;

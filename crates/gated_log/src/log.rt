@@ -1,4 +1,4 @@
-//! The open log: what was forced is on the disk, and what was appended since waits in memory.
+//! The open log: what was forced is on the disk, and what was appended since is pending, in memory alone.
 ghost use Rattle.std.specs.Prelude.{◌≡◌, ◌≢◌, ◌⊎◌, ℕ, ◌+◌, ◌^◌, ◌<◌, ◌≤◌, ◌++◌, List, [], ◌∷◌, length, vec_len, IsTrue, is_ok, IsOk, IsErr, OnOk, OnErr, IfOk, Ok, Err, if◌then◌else◌};
 ghost use Rattle.std.specs.List.{AllByRecursion};
 ghost use Rattle.disk_model.specs.Disk.{part, Only, SameOutside};
@@ -19,7 +19,7 @@ use gate_slot::fill_and_open;
 use log_records::{BATCH_BYTES, Record};
 use std::alloc::{AllocError, Global};
 
-/// A log that lies in a part of a disk. What was forced is there after a crash; a record that waits is in memory alone.
+/// A log that lies in a part of a disk. What was forced is there after a crash; a pending record is in memory alone.
 #[derive(Debug, Drop)]
 pub struct Log {
     // Where the log begins on the disk.
@@ -31,7 +31,7 @@ pub struct Log {
     // How many records are in these batches, and how many wait.
     forced: u64,
     waiting: u64,
-    // Room for the length of a batch, and the records that wait, spelled.
+    // Room for the length of a batch, and the pending records, encoded.
     buffer: Vec<u8>,
     pub ghost small: { room < 2 ^ 32 },
     ghost has_head: { 4 ≤ vec_len buffer },
@@ -61,12 +61,12 @@ impl Log {
         ensures good { IfOk result (λ found. AllByRecursion IsRecord found.1.items) }
         ensures few { IfOk result (λ found. vec_len found.1 ≤ room) }
 
-        // It finds batches and their records: those that the log holds, on a disk that tells.
+        // It finds batches and their records: those that the log holds, on a modelled disk.
         ensures found { IfOk result (λ found. (batches : List (List Record)) × Keeps found.0 batches [] × (found.1.items ≡ records_of batches) × (IsTrue D.tells → HoldsBatches (part (D.bytes disk.old) at room) batches)) }
         ensures held { IsTrue D.tells → (batches : List (List Record)) → HoldsBatches (part (D.bytes disk.old) at room) batches → AllByRecursion IsRecord (records_of batches) → IfOk result (λ found. Keeps found.0 batches [] × (found.1.items ≡ records_of batches)) }
         ensures whole { IsTrue D.tells → (batches : List (List Record)) → HoldsBatches (part (D.bytes disk.old) at room) batches → AllByRecursion IsRecord (records_of batches) → (offset : ℕ) → result ≢ Err (BadBatch offset) }
 
-        // A bad batch is told exactly where the batch rule fails.
+        // A bad batch is reported exactly where the batch rule fails.
         ensures bad { IsTrue D.tells → (offset : ℕ) → result ≡ Err (BadBatch offset) → BreaksAt (part (D.bytes disk.old) at room) offset }
         ensures broken { IsTrue D.tells → (offset : ℕ) → BreaksAt (part (D.bytes disk.old) at room) offset → IsErr result }
 
@@ -80,7 +80,7 @@ impl Log {
         Ok((reader.into_log(), records))
     }
 
-    /// A log in which no record waits, with so many records up to the closed gate at that offset. The buffer has room for the length
+    /// A log with no pending record, with so many records up to the closed gate at that offset. The buffer has room for the length
     /// of a batch alone.
     pub(crate) fn of(at: u64, room: u32, tail: u32, forced: u64, buffer: Vec<u8>) -> Log
         requires inside { at + room < 2 ^ 64 }
@@ -104,14 +104,14 @@ impl Log {
         }
     }
 
-    /// Whether records wait to be forced.
+    /// Whether records are pending.
     pub fn pending(&self) -> bool
         ensures { result ≡ is_waiting self.now }
     {
         self.buffer.len() > NO_LENGTH.len()
     }
 
-    /// How many records it has, forced or waiting: the LSN of the last one.
+    /// How many records it has, forced or pending: the LSN of the last one.
     pub fn records(&self) -> u64
         ensures { result ≡ log_count self.now }
     {
@@ -125,7 +125,7 @@ impl Log {
         self.forced
     }
 
-    /// The bytes that are used: the forced batches, a gate, and a batch of the records that wait.
+    /// The bytes that are used: the forced batches, a gate, and a batch of the pending records.
     pub fn used(&self) -> u64
         ensures value { result ≡ log_used self.now }
         ensures fits { result ≤ log_room self.now }
@@ -157,7 +157,7 @@ impl Log {
         }
     }
 
-    /// Takes the memory for records of that many bytes more, and for a force of all that wait then. A log has room for fewer
+    /// Takes the memory for records of that many bytes more, and for a force of all records then pending. A log has room for fewer
     /// than 2^32 bytes.
     pub fn reserve(&mut self, bytes: usize) -> Result<(), AllocError>
         requires { bytes < 2 ^ 32 }
@@ -167,7 +167,7 @@ impl Log {
         self.buffer.reserve(bytes + 1)
     }
 
-    /// Adds a record behind those that wait, where the log has room for it. An `Err` changes nothing.
+    /// Adds a record after the pending ones, where the log has room for it. An `Err` changes nothing.
     pub fn append(&mut self, rec: &Record) -> Result<(), AllocError>
         requires { log_used self.old + log_need self.old (length (spelling rec.now)) ≤ log_room self.old }
 
@@ -186,7 +186,7 @@ impl Log {
         Ok(())
     }
 
-    /// Adds the records behind those that wait, where the log has room for them: all of them, or after an `Err` none.
+    /// Adds the records after the pending ones, where the log has room for them: all of them, or after an `Err` none.
     pub fn append_all(&mut self, records: &[Record]) -> Result<(), AllocError>
         requires { log_used_with self.old (length (spellings records.now)) ≤ log_room self.old }
 
@@ -203,8 +203,8 @@ impl Log {
         Ok(())
     }
 
-    /// Writes all records that wait as one batch, in four device calls. Without any it makes none. After an error it isn't known
-    /// whether they are on the disk: they wait as before, and the log is of no use before it is opened again.
+    /// Writes all pending records as one batch, in four device calls. Without any it makes none. After an error it isn't known
+    /// whether they are on the disk: they stay pending, and the log can't be used until it is reopened.
     pub fn force<D: Disk>(&mut self, disk: &mut D) -> Result<(), DiskError>
         requires inside { log_place self.old + log_room self.old ≤ D.extent disk.old }
         requires ready { IsReady self.old }
@@ -241,7 +241,7 @@ impl Log {
         close_batch(&mut self.buffer);
         let size = self.buffer.len() as u32;
         let written = fill_and_open(disk, gate, gate + 1, &self.buffer);
-        // Without the next gate the buffer holds what waited, and it goes on to wait where the disk failed.
+        // Without the next gate the buffer holds the pending records, which stay pending if the disk failed.
         self.buffer.truncate(size as usize - 1);
         written?;
         self.buffer.truncate(NO_LENGTH.len());

@@ -139,7 +139,7 @@ impl LogReader {
         self.left == 0
     }
 
-    /// The next record, or none behind the last batch. After an error the reader is of no use.
+    /// The next record, or none after the last batch. After an error the reader can't be used.
     pub fn next<D: Disk>(&mut self, alloc: Global, disk: &mut D) -> Result<Option<Record>, LogError>
         requires inside { reader_place self.old + reader_room self.old ≤ D.extent disk.old }
 
@@ -156,7 +156,7 @@ impl LogReader {
         // Each stands in its batch.
         ensures batch { (log : List ℕ) (batches : List (List Record)) (begun : List Record) → (IsTrue D.tells → log ≡ part (D.bytes disk.old) (reader_place self.old) (reader_room self.old)) → HasRead D.tells log self.old batches begun → IfOk result (λ found. IfSome found (IsGiven D.tells log self.new batches begun)) }
 
-        // A bad batch is told exactly where the batch rule fails.
+        // A bad batch is reported exactly where the batch rule fails.
         ensures bad { IsTrue D.tells → (log : List ℕ) (given : List Record) → log ≡ part (D.bytes disk.old) (reader_place self.old) (reader_room self.old) → HasGiven D.tells log self.old given → (offset : ℕ) → result ≡ Err (BadBatch offset) → BreaksAt log offset }
         ensures disk { OnlyReads D.Disk disk.old disk.new (log_device_result result) }
     {
@@ -208,7 +208,7 @@ impl LogReader {
         Ok(true)
     }
 
-    /// How many bytes of records the batch at the next gate tells, if these lie in the log with a gate behind them.
+    /// How many bytes of records the batch at the next gate claims, if these lie in the log with a gate behind them.
     fn next_length<D: Disk>(&mut self, disk: &mut D) -> Result<Option<u32>, LogError>
         requires inside { reader_place self.old + reader_room self.old ≤ D.extent disk.old }
 

@@ -16,7 +16,7 @@ IsToldOf e image = ⊤
 abbrev pub IsErrorOrOutside : OpenError → OpenError → Type 0
 IsErrorOrOutside this e = (e ≡ this) ⊎ IsFromOutside e
 
--- An error that comes before a write. Damage at an address is told behind the rollback.
+-- An error that comes before a write. Damage at an address is reported after the rollback.
 abbrev pub ComesBeforeWrites : OpenError → Type 0
 ComesBeforeWrites (Damaged (Address address)) = ⊥
 ComesBeforeWrites DiskFault = ⊥

@@ -105,7 +105,7 @@ impl<D: Disk> Heap<D> {
     ghost use Rattle.log_machine.specs.Machine.{State};
 
     /// Opens the heap on the disk. An error gives the disk back. `NotHeap` and `Damaged` tell the first fault of its image, and the disk is then as it
-    /// was, but for a fault at an address: that is told after the rollback was forced.
+    /// was, but for a fault at an address: that is reported after the rollback was forced.
     pub fn open(alloc: Global, mut disk: D) -> Result<Heap<D>, (OpenError, D)>
         ensures disk { KeepsDisk D.Disk disk (opened_disk result) (opened_device result) }
 
@@ -115,7 +115,7 @@ impl<D: Disk> Heap<D> {
 
         ensures unfailed { IfOk result (λ heap. failed_at heap ≡ None) }
 
-        // Of a disk that tells they are those of its image. An error tells what is wrong with the image, and what is wrong is told.
+        // On a modelled disk they are those of its image. An error tells what is wrong with the image, and what is wrong is told.
         ensures sound { IsTrue D.tells → IfOk result (λ heap. (s : Super) × (batches : List (List Record)) × (stored : Pages) × (shaped : IsShaped s batches stored (D.bytes disk)) × ((born : Bool) (places : Places) (g : Graph) → IsFound s batches stored shaped.log born places g → IsCore (opened s batches stored (open_gates s.log_bytes (D.bytes disk)) born places g) heap)) }
         ensures refused { IsTrue D.tells → IfErr result (λ e. IsToldOf e.0 (D.bytes disk)) }
         ensures not_heap { IsTrue D.tells → IsNoHeap (D.bytes disk) → IsErrAnd result (λ e. IsErrorOrOutside NotHeap e.0) }
@@ -182,7 +182,7 @@ impl<D: Disk> Heap<D> {
         ensures kept { (c : Core) → IsCore c self.old → OnErr result (IsCore c self.new) }
         ensures untouched { OnErr result (self.new.disk ≡ self.old.disk) }
 
-        // So is what a disk that tells holds.
+        // So is what a modelled disk holds.
         ensures holds { IsTrue D.tells → (s : Super) (c : Core) → IsHeap s c self.old → IsReached c → IfOk result (λ reply. (d : Core) × IsStep c event reply d × IsHeap s d self.new) }
         // At each moment of it a crash leaves first commits, among them all that were acknowledged or forced before.
         ensures moments { IsTrue D.tells → (s : Super) (c : Core) → IsHeap s c self.old → IsReached c → LeavesOnly D.moment D.left_since self.old.disk self.new.disk (IsCommitPrefix c) }
@@ -241,7 +241,7 @@ impl<D: Disk> Heap<D> {
     }
 
     /// Whether records have been appended that are not known to be on the disk. Where it stopped or failed in an event, they are those
-    /// that waited before it.
+    /// that were pending before it.
     pub fn pending(&self) -> bool
         ensures { (c : Core) → IsCore c self.now → IsTrue result ↔ (c.pending ≢ []) }
     {

@@ -91,7 +91,7 @@ impl Engine {
     }
 
     /// What is in field `i` of the object that handle `h` of the transaction holds. Where it is a reference, `h2` holds what it refers
-    /// to from then on. An object of the current space is locked for those that read it.
+    /// to from then on. An object of the current space gets a shared lock.
     pub(crate) fn get(&mut self, session: u32, h: u64, i: u64, h2: u64) -> Result<Reply, AllocError>
         ensures reply { IfOk result (λ reply. reply ≡ reply_of (get_refusal (memory self.old) session h i h2) (get_reply (memory self.old) session h i)) }
         ensures got { IfOk result (λ reply. IsGranted reply → Gets (memory self.old) (memory self.new) session h i h2) }

@@ -45,7 +45,7 @@ pub(crate) fn lock_refusal(locks: &LockTable, lock: Holding) -> Option<Refusal>
     Some(busy(holder))
 }
 
-/// Transaction `t` locks the object at an address to read it, or is told who stands in the way. An error changes nothing.
+/// Transaction `t` locks the object at an address to read it, or gets a busy refusal. An error changes nothing.
 fn read_lock(locks: &mut LockTable, t: u32, at: u32) -> Result<Option<Refusal>, AllocError>
     ensures why { IfOk result (λ why. why ≡ busy_with (holder_of locks.old (asked t Shared at))) }
     ensures locked { result ≡ Ok None → locks.new ≡ set.insert locks.old (asked t Shared at) }

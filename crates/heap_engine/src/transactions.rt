@@ -19,7 +19,7 @@ impl Engine {
     ghost use Rattle.heap_memory.specs.Leaves.{IsAsItWas, Begins, Aborts};
     ghost use Rattle.heap_engine.specs.EngineState.{memory};
 
-    /// Begins a transaction of the session, a number from 1 to 32, and tells its number. The log keeps room for its end.
+    /// Begins a transaction of the session, a number from 1 to 32, and returns its number. The log keeps room for its end.
     pub(crate) fn begin(&mut self, session: u32) -> Reply
         requires first { 1 ≤ session }
         requires last { session ≤ 32 }

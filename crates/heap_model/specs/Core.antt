@@ -42,7 +42,7 @@ pub record Core : Type 0 where
   pub history : List Entry  -- the events since then and their replies
   pub batches : List (List Record)  -- the log's batches on the disk
   pub words : List ℕ  -- the words of both spaces behind these
-  pub pending : List Record  -- the records behind them that wait to be forced
+  pub pending : List Record  -- the pending records after them
   pub stored_lsns : ℕ → ℕ  -- the LSN with which each page is stored, or 0
   pub gates : ℕ → ℕ  -- how many gates of each page's two frames are open
   pub places : Places  -- the objects that stand in the current space behind all of these, with their addresses
@@ -166,7 +166,7 @@ places_for ground g0 a event = []
 abbrev pub event_places : Core → Event → Places
 event_places c event = places_for (ground c) c.g0 (account c.history) event
 
--- the log's bytes that are used: the forced batches, a gate, and the batch that waits
+-- the log's bytes that are used: the forced batches, a gate, and the pending batch
 abbrev pub used : Core → ℕ
 used c = length (batches_bytes c.batches) + 1 + length (pending_batch c.pending)
 
@@ -254,11 +254,11 @@ abbrev pub forced : Core → List Record → Core
 forced c [] = c
 forced c (r ∷ rs) = record c { batches = c.batches ++ (r ∷ rs) ∷ []; words = fold put_record c.words (r ∷ rs); pending = [] }
 
--- whether a page is ahead of the log on the disk: it has a record that waits
+-- whether a page is ahead of the log on the disk: it has a pending record
 abbrev pub is_ahead : Core → ℕ → Bool
 is_ahead c p = not (nat_lt (present_lsn c p) (next_lsn (log_origin c) (records_of c.batches)))
 
--- what waits is forced first if a page that is to be stored is ahead
+-- pending records are forced first if a page that is to be stored is ahead
 abbrev pub forced_if : Bool → Core → Core
 forced_if ahead c = if ahead then forced c c.pending else c
 
@@ -288,7 +288,7 @@ after_refusal (Some why) c event = c
 abbrev pub after : Core → Event → Core
 after c event = with_entry (after_refusal (core_refusal c event) c event) event (answer c event)
 
--- the writes and syncs of a force of what waits
+-- the writes and syncs of a force of the pending records
 abbrev pub force_calls : List Record → ℕ
 force_calls [] = 0
 force_calls (r ∷ rs) = 4

@@ -1,4 +1,4 @@
--- The events that end a run: what is active is aborted, and then what waits is forced.
+-- The events that end a run: what is active is aborted, and then pending records are forced.
 use Rattle.std.specs.Prelude.{ℕ, List, [], ◌∷◌, ◌++◌, Option, None, Some}
 use Rattle.std.specs.List.{flat_map}
 use Rattle.graph_model.specs.declared.event.Event.{Event}

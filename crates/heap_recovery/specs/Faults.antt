@@ -87,7 +87,7 @@ IsToldOfLog log e = IsFromOutside e
 abbrev pub IsErrorOrOutside : RecoverError → RecoverError → Type 0
 IsErrorOrOutside this e = (e ≡ this) ⊎ IsFromOutside e
 
--- An error that comes before a write. Damage at an address is told behind the rollback.
+-- An error that comes before a write. Damage at an address is reported after the rollback.
 abbrev pub ComesBeforeWrites : RecoverError → Type 0
 ComesBeforeWrites (Damaged (Address address)) = ⊥
 ComesBeforeWrites (Disk e) = ⊥

@@ -103,7 +103,7 @@ fn read_log<D: Disk>(alloc: Global, disk: &mut D, of: Super) -> Result<Reading, 
     replay.finish(of, log)
 }
 
-/// Reads the log of a heap with these numbers to its end, and replays its records. A batch that is bad is told before a record that
+/// Reads the log of a heap with these numbers to its end, and replays its records. A bad batch is reported before a record that
 /// can't follow, wherever they stand.
 fn replay_log<D: Disk>(
     alloc: Global,

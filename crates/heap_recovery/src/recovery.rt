@@ -37,7 +37,7 @@ use std::alloc::Global;
 /// A heap that was opened, in which no writes may be taken back any more.
 #[derive(Debug, Drop)]
 pub struct Recovered {
-    /// The log, in which no record waits.
+    /// The log, with no pending record.
     pub log: Log,
     /// The pages of both spaces in memory, as they are after the log's records.
     pub cache: PageCache,
@@ -47,7 +47,7 @@ pub struct Recovered {
 
 /// Opens the image on the disk. The writes of unfinished transactions are rolled back, ascending by number and each newest
 /// first, by one forced batch of compensation records (repeating history as in ARIES, 1992); where there are none the disk is only read.
-/// `NotHeap` and `Damaged` tell the first fault of the image. The disk is then as it was, but for a fault at an address: that is told
+/// `NotHeap` and `Damaged` tell the first fault of the image. The disk is then as it was, but for a fault at an address: that is reported
 /// after the rollback was forced.
 pub fn recover<D: Disk>(alloc: Global, disk: &mut D) -> Result<Recovered, RecoverError>
     // On every disk what is opened is a log that is shaped beside some pages, rolled back.
@@ -56,7 +56,7 @@ pub fn recover<D: Disk>(alloc: Global, disk: &mut D) -> Result<Recovered, Recove
     ensures pages_inside { IfOk result (λ found. cache_size found.cache ≤ D.extent disk.new) }
     ensures disk { KeepsDisk D.Disk disk.old disk.new (open_device result) }
 
-    // They are the log and the pages of the image. An error tells what is wrong with the image, and what is wrong is told.
+    // They are the log and the pages of the image. An error tells what is wrong with the image, and every fault is reported.
     ensures sound { IsTrue D.tells → IfOk result (λ found. (s : Super) × (batches : List (List Record)) × (stored : Pages) × IsShaped s batches stored (D.bytes disk.old) × IsRecovered s batches stored found) }
     ensures refused { IsTrue D.tells → IfErr result (λ e. IsToldOf e (D.bytes disk.old)) }
     ensures not_heap { IsTrue D.tells → IsNoHeap (D.bytes disk.old) → IsErrAnd result (IsErrorOrOutside NotHeap) }
@@ -91,14 +91,14 @@ pub fn recover<D: Disk>(alloc: Global, disk: &mut D) -> Result<Recovered, Recove
 {
     let mut read = read_image(alloc, disk)?;
     read.roll_back()?;
-    // The walk takes its memory before the disk is written; what it finds is told afterwards.
+    // The walk takes its memory before the disk is written; what it finds is reported afterwards.
     let fault = read.walk_fault(alloc)?;
     read.log.force(disk)?;
     read.finish(alloc, fault)
 }
 
 impl Reading {
-    /// Rolls back the writes of unfinished transactions in memory. The records that do so wait to be forced, and their pages have
+    /// Rolls back the writes of unfinished transactions in memory. The records that do so are pending, and their pages have
     /// them.
     fn roll_back(&mut self) -> Result<(), RecoverError>
         requires room { log_used self.old.log + reserve self.old.state ≤ log_room self.old.log }

@@ -1,4 +1,4 @@
-//! The log's records are replayed as they are read: each is taken by the record machine, redone on the pages, and let go.
+//! The log's records are replayed as they are read: each is taken by the record machine, redone on the pages, and dropped.
 ghost use Rattle.std.specs.Prelude.{◌≡◌, length};
 ghost use Rattle.log_machine.specs.Machine.{words_in};
 ghost use Rattle.page_cache.specs.CacheState.{cached};
@@ -20,7 +20,7 @@ pub struct Replay {
     pub state: LogState,
     /// The pages, on each of which those records were redone that it lacked.
     pub cache: PageCache,
-    /// The LSN of the first record that can't follow those before it. Nothing is done with it, nor with those behind it.
+    /// The LSN of the first record that can't follow those before it. Nothing is done with it, nor with those after it.
     pub unshaped: Option<u64>,
     ghost sized: { length (cached cache).words ≡ words_in state.pages },
 }

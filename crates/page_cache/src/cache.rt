@@ -120,7 +120,7 @@ impl PageCache {
         self.pages.lsn(p) != self.store.stored_lsn(p)
     }
 
-    /// Whether a flush has failed. Then no other one follows before the disk is started and the pages are opened again.
+    /// Whether a flush has failed. Then no other one follows before the disk is restarted and the pages are opened again.
     pub fn failed(&self) -> bool
         ensures { result ≡ cache_failed self.now }
     {
@@ -170,7 +170,7 @@ impl PageCache {
     }
 
     /// Stores page `p`, which is dirty, as it is now. The log's records up to the LSN `forced` are on the disk, and the page is not ahead
-    /// of them. After an error the page is stored as it was or as it is now once the disk is started again, and no other flush
+    /// of them. After an error the page is stored as it was or as it is now once the disk is restarted, and no other flush
     /// follows before the pages are opened from that disk.
     pub fn flush<D: Disk>(&mut self, disk: &mut D, p: u32, forced: u64) -> Result<(), DiskError>
         requires page { p < cache_pages self.old }

@@ -42,7 +42,7 @@ impl Frame {
         }
     }
 
-    /// The frame that a store writes, where that one counts or none does.
+    /// The spare frame, given the one that counts, if any.
     pub(crate) fn spare(counts: Option<Frame>) -> Frame
         ensures { result ≡ spare counts }
     {

@@ -117,7 +117,7 @@ impl PageStore {
         self.entry(p).lsn
     }
 
-    /// Whether a store has failed. Then no page is loaded or stored before the disk is started and the pages are opened again.
+    /// Whether a store has failed. Then no page is loaded or stored before the disk is restarted and the pages are opened again.
     pub fn failed(&self) -> bool
         ensures { result ≡ has_failed self.now }
     {
@@ -149,8 +149,8 @@ impl PageStore {
 
     /// Writes page `p` into the frame that doesn't count, which counts from then on, since its LSN is the greater one: in four
     /// device calls, and two more where that frame's gate is open and has to be closed first. After an error the page is the old
-    /// one or the new one once the disk is started again. Until then a gate that was closed in vain seems to be closed, and no
-    /// page may be written behind it: so no other store follows before the disk is started and the pages are opened again.
+    /// one or the new one once the disk is restarted. Until then a gate whose closing failed may read as closed, and no
+    /// page may be written behind it: so no other store follows before the disk is restarted and the pages are opened again.
     pub fn store<D: Disk>(
         &mut self,
         disk: &mut D,

@@ -27,7 +27,7 @@ use std::alloc::Global;
 const MOST_TURNS: u64 = u64::MAX - 1;
 
 /// Opens the heap that is there, and answers the lines that `source` gives, each before the next one is read. Behind the last one the
-/// sessions that have a transaction abort, ascending, and what waits is forced.
+/// sessions that have a transaction abort, ascending, and pending records are forced.
 pub fn serve<D: Disk, S: Source, K: Sink>(
     alloc: Global,
     disk: D,
