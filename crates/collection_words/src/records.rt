@@ -58,7 +58,7 @@ pub fn flips_part_objects()
     ensures { (s n : State) (places chosen remaining : Places) (words : List ℕ) → IsFlipping s places chosen remaining words → HasFlipped s n → HaveParted n places (places_from words chosen (other_base s)) remaining words (flipped_words s words (addresses chosen)) }
 {}
 
-/// Behind the copies of a flip the words are laid out, with the copies as the current objects, all of them gray.
+/// After the copies of a flip the words are laid out, with the copies as the current objects.
 pub fn flips_leave_words_laid_out()
     ensures { (s n : State) (k : Collection) (places chosen remaining : Places) (words : List ℕ) → s.collection ≡ None → IsFlipping s places chosen remaining words → HasBegun s n k places chosen remaining words → IsUnderway n k (places_from words chosen (other_base s)) remaining (flipped_words s words (addresses chosen)) }
 {}

@@ -7,7 +7,7 @@ use std::alloc::{AllocError, AllocFailed};
 /// Why a flip was not planned. Nothing has changed.
 #[derive(Clone, Copy, Debug, PartialEq, Eq)]
 pub enum FlipError {
-    /// No object of the current space's used words stands at this root, behind the objects of the roots before it.
+    /// The roots are not ascending starts of objects in the current space's used words: this one is the first found not to be.
     NoObject { address: u32 },
     /// The disk failed, or had stopped.
     Disk(DiskError),

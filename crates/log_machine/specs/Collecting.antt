@@ -1,4 +1,4 @@
--- Which records of a collection can follow, and the state after them. No state of the machine lets them follow yet.
+-- Which records of a collection can follow, and the state after them. `after` of the machine lets none of them follow yet.
 use Rattle.std.specs.Prelude.{ℕ, ◌+◌, ◌-◌, ◌*◌, ◌==◌, nat_lt, nat_le, List, [], ◌∷◌, length, map, slice_index, Bool, true, false, not, ◌&&◌, Option, None, Some, is_some, option_and_then, if◌then◌else◌}
 use Rattle.std.specs.List.{list_all}
 use Rattle.std.specs.Option.{option_map}

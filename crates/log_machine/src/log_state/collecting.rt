@@ -20,7 +20,7 @@ const FRONT_WORDS: usize = FIELDS_AT as usize;
 
 impl LogState {
     /// Takes one record of a collection more, or tells that it can't follow, as no other record can. After any error the state is as before.
-    /// Only a `Copy` and a `Flip` may lack memory; whether such a `Flip` can follow is not told.
+    /// Only a `Copy` and a `Flip` may lack memory; whether such a record can follow is not reported then.
     pub fn collecting_after(&mut self, alloc: Global, rec: &Record) -> Result<(), AfterError>
         ensures ok { OnOk result (collecting_after self.old rec.now ≡ Some self.new) }
         ensures inside { OnOk result (WritesBelow (words_in self.old.pages) rec.now) }
