@@ -1,6 +1,6 @@
 //! One play on a new heap.
-ghost use Rattle.std.specs.Prelude.{◌≡◌, ◌≢◌, ◌⊎◌, ◌++◌, ℕ, List, None, Some, Ok, map, string_bytes, IsTrue};
-ghost use Rattle.black_box.specs.Told.{TellsRun, text_of};
+ghost use Rattle.std.specs.Prelude.{◌≡◌, ◌⊎◌, ◌++◌, ℕ, List, None, Some, Ok, map, string_bytes, IsTrue};
+ghost use Rattle.black_box.specs.Told.{TellsRun, MakesNone, text_of};
 ghost use Rattle.command_words.specs.Command.{command};
 ghost use Rattle.command_words.specs.declared.commands.Command.TheVariants as asked;
 ghost use Rattle.disk_model.specs.Disk.{Only};
@@ -25,12 +25,12 @@ pub fn play_then_graph<D: Disk, S: Source, K: Sink>(
     lines: &mut K,
     text: &mut K,
 ) -> (Status, Status, D)
-    // Of a play on a new heap, and a graph that was printed: the play wrote nothing, or there is one history of both.
+    // Of a play on a new heap, and a graph that was printed: the play made no heap and wrote nothing, or there is one history of both.
     ensures one_history { IsTrue D.tells → Only (D.bytes disk) (D.may_leave disk) → IsTrue S.tells → IsTrue K.tells
         → (pages : ℕ) → command (map string_bytes play.now) ≡ Some (asked.Play (Some pages) None) → command (map string_bytes graph.now) ≡ Some asked.Graph → result.1 ≡ Status.Done
-        → ((result.0 ≢ Status.Done) × (K.written lines.new ≡ K.written lines.old))
+        → (MakesNone result.0 × (K.written lines.new ≡ K.written lines.old))
         ⊎ ((read : List Line) × (script (S.left source.old) ≡ Ok read)
-        × (kept : Graph) × TellsRun new_graph read (K.written lines.old) (K.written lines.new) kept × (K.written text.new ≡ K.written text.old ++ text_of kept)) }
+        × (kept : Graph) × TellsRun new_graph read result.0 (K.written lines.old) (K.written lines.new) kept × (K.written text.new ≡ K.written text.old ++ text_of kept)) }
 {
     let (played, mut disk) = run(alloc, play, disk, source, lines);
     disk.restart();

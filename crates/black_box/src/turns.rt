@@ -1,7 +1,7 @@
 //! Any number of plays, one after another.
 ghost use Rattle.std.specs.Prelude.{◌≡◌, ◌⊎◌, ◌++◌, ℕ, List, None, Some, Ok, map, string_bytes, IsTrue};
 ghost use Rattle.black_box.specs.Stores.{Stores};
-ghost use Rattle.black_box.specs.Told.{TellsRun, text_of};
+ghost use Rattle.black_box.specs.Told.{TellsRun, MakesNone, text_of};
 ghost use Rattle.black_box.specs.Tales.{TellsTurn, TellTurns};
 ghost use Rattle.command_words.specs.Command.{command};
 ghost use Rattle.command_words.specs.declared.commands.Command.TheVariants as asked;
@@ -71,14 +71,16 @@ pub fn plays_then_graph<D: Disk, S: Source + Drop, K: Sink + Drop>(
     turns: &mut [Turn<S, K>],
     text: &mut K,
 ) -> (Status, D)
-    // Of a play on a new heap, plays on what each left, and a graph that was printed: the first wrote nothing, or one history of all of them was told.
+    // Of a play on a new heap, plays on what each left, and a graph that was printed: the first made no heap and wrote nothing, or one
+    // history of all of them was told.
     ensures one_history { IsTrue D.tells → Only (D.bytes disk) (D.may_leave disk) → IsTrue S.tells → IsTrue K.tells
         → (pages : ℕ) → command (map string_bytes fresh.now) ≡ Some (asked.Play (Some pages) None) → command (map string_bytes play.now) ≡ Some (asked.Play None None)
         → command (map string_bytes graph.now) ≡ Some asked.Graph → result.0 ≡ Status.Done
-        → (K.written first.new.sink ≡ K.written first.old.sink)
+        → (status : Status) × (first.new.status ≡ Some status)
+        × ((MakesNone status × (K.written first.new.sink ≡ K.written first.old.sink))
         ⊎ ((read : List Line) × (script (S.left first.old.source) ≡ Ok read)
-        × (made : Graph) × TellsRun new_graph read (K.written first.old.sink) (K.written first.new.sink) made
-        × (kept : Graph) × TellTurns S.left K.written made turns.old turns.new kept × (K.written text.new ≡ K.written text.old ++ text_of kept)) }
+        × (made : Graph) × TellsRun new_graph read status (K.written first.old.sink) (K.written first.new.sink) made
+        × (kept : Graph) × TellTurns S.left K.written made turns.old turns.new kept × (K.written text.new ≡ K.written text.old ++ text_of kept))) }
 {
     let (status, mut disk) = run(alloc, fresh, disk, &mut first.source, &mut first.sink);
     first.status = Some(status);

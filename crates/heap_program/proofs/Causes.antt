@@ -4,7 +4,7 @@ use Rattle.counts.specs.Count.{Rose}
 use Rattle.disk_model.specs.declared.disk.DiskError.{DiskError}
 use Rattle.disk_model.specs.declared.disk.DiskError.TheVariants.{Failed, Stopped}
 use Rattle.disk_model.specs.Disk.{HasCause}
-use Rattle.disk_model.proofs.KeepsLaws.{rose_since, rose_until}
+use Rattle.disk_model.proofs.KeepsLaws.{rose_since}
 use Rattle.heap_program.specs.Causes.{DiskRose}
 
 -- counts of two kinds together

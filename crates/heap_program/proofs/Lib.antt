@@ -17,6 +17,7 @@ pub mod PlayOpen
 mod PlayPrints
 pub mod Playable
 mod PrintRecovered
+pub mod PrintedImage
 pub mod Ready
 pub mod RefusalLaws
 mod Reopened

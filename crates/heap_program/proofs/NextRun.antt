@@ -10,6 +10,7 @@ use Rattle.graph_model.specs.History.{commits}
 use Rattle.graph_model.specs.Transaction.{serial}
 use Rattle.heap_model.specs.Core.{Core}
 use Rattle.heap_model.proofs.Opening.Opened.{saying_law}
+use Rattle.heap_model.proofs.Opening.Rolled.{commits_are}
 use Rattle.script_text.specs.declared.line.Line.{Line}
 use Rattle.command_words.specs.declared.commands.Stop.{Stop}
 use Rattle.heap_program.specs.declared.status.Status.{Status}
@@ -49,7 +50,7 @@ module _ {D : Type 0} (g : Ghosts D) (stop : Option Stop) (at_opening : ℕ) (c 
         most = keeps.1.some;
         stored = record { super = stands.super; batches = stands.batches; pages = stands.stored; legal = record { log = says.legal; held = stands.held }; places = found.0; graph = found.1; found = found.2 };
         graph = found.3 ∙ says.graph;
-        before = says.count;
+        before = commits_are stands.super stands.batches stands.stored says.legal.shaped ∙ says.count;
       }
 
   -- What the next run promises of a told disk on which nothing is unsynced, it promises of this one, with the heap that was left.

@@ -8,7 +8,6 @@ use Rattle.disk_model.specs.declared.disk.Disk.{Ghosts}
 use Rattle.disk_model.specs.Disk.{SameOutside, Only}
 use Rattle.disk_model.specs.Moments.{LeavesOnly}
 use Rattle.disk_model.proofs.MomentLaws.{begins, joined, weaker}
-use Rattle.graph_model.specs.declared.event.Event.{Event}
 use Rattle.graph_model.specs.History.{acknowledged, IsOfSession}
 use Rattle.heap_model.specs.Core.{Core}
 use Rattle.heap_model.specs.CoreCrash.{IsCommitPrefix, HasAtLeast}
@@ -24,7 +23,9 @@ use Rattle.heap_program.proofs.CoreSteps.{made_limits, made_reached, script_is, 
 use Rattle.heap_program.specs.CrashSafe.{IsCrashSafe, RunsSafely}
 use Rattle.heap_program.specs.Playable.{IsReadFrom}
 use Rattle.heap_program.specs.Stored.{stored_core, stored_calls}
+use Rattle.core_laws.specs.Ended.{IsUnfailed}
 use Rattle.heap_program.proofs.PlayOpen.{stored_running}
+use Rattle.heap_program.proofs.PrintedImage.{printed_image}
 use Rattle.heap_program.proofs.StepsLaws.{steps_run, last_until, lasting_steps}
 use Rattle.image_plan.specs.declared.superblock.Super.{Super}
 use Rattle.image_plan.specs.Plan.{image_size}
@@ -105,9 +106,10 @@ module _ {D : Type 0} (g : Ghosts D) (disk : D) (only : Only (g.bytes disk) (g.m
 
 -- What a run says of crashes in short.
 module _ {D : Type 0} (g : Ghosts D) (now : (disk : D) (image : List ℕ) → g.left_since disk (g.moment disk) image → g.may_leave disk image) (start final : D) where
-  pub crash_safe : (stop : Option Stop) (at_opening : ℕ) (c : Core) (events : List Event) (result : Status) (told : Bool) (before after : List ℕ) → IsReached c → AllByRecursion IsOfSession events
-      → IsPlayed g stop at_opening c events start final result told before after → IsCrashSafe g (stop_after stop) at_opening c start final result told before after
-  crash_safe stop at_opening c events result told before after reached sessions played =
+  pub crash_safe : (stop : Option Stop) (is_script : List Line → Type 0) (at_opening : ℕ) (c : Core) (script : List Line) (result : Status) (told : Bool) (before after : List ℕ) → IsReached c → IsUnfailed c → is_script script
+      → AllByRecursion IsOfSession (events script) → AllByRecursion IsOfSession (all_events (stop_after stop) c (events script))
+      → IsPlayed g stop at_opening c (all_events (stop_after stop) c (events script)) start final result told before after → IsCrashSafe g (stop_after stop) is_script at_opening c start final result told before after
+  crash_safe stop is_script at_opening c script result told before after reached unfailed read own sessions played =
       let made = played.run.made in
       let core = played.run.core in
       let disk = played.disk in
@@ -117,8 +119,13 @@ module _ {D : Type 0} (g : Ghosts D) (now : (disk : D) (image : List ℕ) → g.
       let least = acknowledged c.history in
       let since = last_until g (stop_after stop) start final now c core disk.opened disk.stopped made reached one disk.here disk.steps disk.rest in
       record {
+        script = script;
+        read = read;
         made = made;
+        unmade = played.run.behind;
+        asked = played.run.parts;
         core = core;
+        all = played.run.done;
         each = weaker g.moment g.left_since start final _ (HasAtLeast core least)
             (joined g.moment g.left_since start disk.opened final (IsCommitPrefix c) (HasAtLeast core (lasting c)) disk.opening since)
             (λ image either. ⊎_elim
@@ -132,25 +139,26 @@ module _ {D : Type 0} (g : Ghosts D) (now : (disk : D) (image : List ℕ) → g.
         replies = played.replies;
         lines = λ t. (played.prints.written t).lines;
         front = λ t. (played.prints.count, (played.prints.written t).front);
-        printed = λ done t. (played.prints.count, played.prints.least, played.prints.most, (played.prints.written t).whole done);
+        printed = λ done t. (played.prints.count, played.prints.least, played.prints.most, (played.prints.written t).whole done, printed_image g at_opening c (events script) start final result told before after reached unfailed own stop played at_end done);
       }
 
 -- So it says in short of a play on a new heap and on one that was there, once the script is read.
 module _ {D : Type 0} (g : Ghosts D) (now : (disk : D) (image : List ℕ) → g.left_since disk (g.moment disk) image → g.may_leave disk image) (reads : Bool) (left : List ℕ) where
-  script_safe : (start final : D) (stop : Option Stop) (at_opening : ℕ) (c : Core) (result : Status) (told : Bool) (before after : List ℕ) → IsReached c
-      → PlaysScript g stop (IsReadFrom reads left) at_opening c start final result told before after → IsCrashSafe g (stop_after stop) at_opening c start final result told before after
-  script_safe start final stop at_opening c result told before after reached plays =
-      let sessions = (all_playable (stop_after stop) c plays.lines (script_is plays.script.bytes plays.lines plays.script.script)).sessions in
-      crash_safe g now start final stop at_opening c (all_events (stop_after stop) c (events plays.lines)) result told before after reached sessions plays.played
+  script_safe : (start final : D) (stop : Option Stop) (at_opening : ℕ) (c : Core) (result : Status) (told : Bool) (before after : List ℕ) → IsReached c → IsUnfailed c
+      → PlaysScript g stop (IsReadFrom reads left) at_opening c start final result told before after → IsCrashSafe g (stop_after stop) (IsReadFrom reads left) at_opening c start final result told before after
+  script_safe start final stop at_opening c result told before after reached unfailed plays =
+      let is = script_is plays.script.bytes plays.lines plays.script.script in
+      let sessions = (all_playable (stop_after stop) c plays.lines is).sessions in
+      crash_safe g now start final stop (IsReadFrom reads left) at_opening c plays.lines result told before after reached unfailed plays.script is.sessions sessions plays.played
 
   pub runs_safely : (fresh : Option ℕ) (stop : Option Stop) (old new : D) (result : Status) (told : Bool) (before after : List ℕ) → IfSome fresh IsPages
-      → Runs g fresh stop (IsReadFrom reads left) old new result told before after → RunsSafely g fresh stop old new result told before after
+      → Runs g fresh stop (IsReadFrom reads left) old new result told before after → RunsSafely g fresh stop (IsReadFrom reads left) old new result told before after
   runs_safely (Some pages) stop old new result told before after within (inl none) = inl none
   runs_safely (Some pages) stop old new result told before after within (inr plays) =
-      inr (plays.made, plays.format, script_safe plays.made new stop 0 (made_core pages (g.bytes plays.made)) result told before after (made_reached pages (g.bytes plays.made) (made_limits pages within.0 within.1)) plays.plays)
+      inr (plays.made, plays.format, script_safe plays.made new stop 0 (made_core pages (g.bytes plays.made)) result told before after (made_reached pages (g.bytes plays.made) (made_limits pages within.0 within.1)) refl plays.plays)
   runs_safely None stop old new result told before after within (inl none) = inl none
   runs_safely None stop old new result told before after within (inr plays) =
-      inr (λ stored. script_safe old new stop (stored_calls stored) (stored_core stored) result told before after (stored_running g stored).reached (plays stored))
+      inr (λ stored. script_safe old new stop (stored_calls stored) (stored_core stored) result told before after (stored_running g stored).reached (stored_running g stored).unfailed (plays stored))
 
 -- How often a run that was asked to has started the disk again.
 pub restarts_none : (asked : ℕ) (result : Status) (before now : ℕ) → (result ≡ status.Done → asked ≡ 0) → now ≡ before → RestartsDisk asked result before now

@@ -6,7 +6,7 @@ use Rattle.heap_program.specs.declared.output.WriteError.TheVariants as writing
 use Rattle.heap_program.specs.declared.play.Halt.{Halt}
 use Rattle.heap_program.specs.declared.play.Halt.TheVariants as halt
 use Rattle.heap_program.specs.declared.status.Status.{Status}
-use Rattle.heap_program.specs.declared.status.Status.TheVariants.{Done, DiskFault}
+use Rattle.heap_program.specs.declared.status.Status.TheVariants.{Done}
 use Rattle.disk_model.specs.declared.disk.DiskError.TheVariants as device
 use Rattle.disk_model.specs.Disk.{HasCause}
 use Rattle.heap_program.specs.Causes.{DiskRose}

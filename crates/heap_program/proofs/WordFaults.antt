@@ -1,5 +1,5 @@
 -- An image that is damaged at an address, and is left alone.
-use Rattle.std.proofs.Common.{◌≡◌, ℕ, List, sym, subst}
+use Rattle.std.proofs.Common.{ℕ, List, sym, subst}
 use Rattle.disk_model.specs.declared.disk.Disk.{Ghosts}
 use Rattle.disk_model.specs.Disk.{Only}
 use Rattle.disk_model.specs.Moments.{LeavesOnly}

@@ -42,7 +42,7 @@ use Rattle.heap_program.specs.Play.{lines_text, WroteFront, WroteLines, MadeAll,
 use Rattle.heap_program.specs.Steps.{Step, AreSteps}
 use Rattle.heap_program.specs.Stored.{IsStored, stored_core, stored_calls}
 
--- A claim of a disk that tells its bytes and keeps the disk model, and on which nothing waits.
+-- A claim of a modelled disk on which nothing is unsynced.
 abbrev pub OfTold : Bool → List ℕ → (List ℕ → Type 0) → Type 0 → Type 0
 OfTold tells bytes may_leave claim = IsTrue tells → Only bytes may_leave → claim
 

@@ -35,7 +35,7 @@ EndsRefused expected status.NoMemory = Unit {0}
 EndsRefused expected status.DiskFault = Unit {0}
 EndsRefused expected result = result ≡ expected
 
--- The statuses against an image that come before anything is written. Damage at an address is told behind the rollback.
+-- The statuses against an image that come before anything is written. Damage at an address is reported after the rollback.
 abbrev pub IsLeftAlone : Status → Type 0
 IsLeftAlone status.NotHeap = Unit {0}
 IsLeftAlone (status.Damaged (Address address)) = ⊥

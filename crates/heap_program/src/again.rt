@@ -1,4 +1,4 @@
-//! A disk that was stopped is started again: the heap is opened once more, and what came back is printed.
+//! A stopped disk is restarted: the heap is reopened, and what came back is printed.
 ghost use Rattle.std.specs.Prelude.{◌≡◌, ℕ, List, min, MatchResult, IsTrue};
 ghost use Rattle.counts.specs.Count.{Rose};
 ghost use Rattle.disk_model.specs.Disk.{Only};
@@ -19,7 +19,7 @@ use heap_core::{Heap, OpenError};
 use heap_io::Sink;
 use std::alloc::Global;
 
-/// Starts the disk behind the fuse again, and prints what came back: how many commits the log then holds more than `before`, which is left out if
+/// Restarts the disk inside the fuse, and prints what came back: how many commits the log then holds more than `before`, which is left out if
 /// the disk was stopped before the first event. If it is to stop once more, it does so in an opening before.
 pub fn start_again<D: Disk, K: Sink>(
     alloc: Global,
@@ -54,7 +54,7 @@ pub fn start_again<D: Disk, K: Sink>(
     }
 }
 
-/// The disk, started again.
+/// The restarted disk.
 fn restart<D: Disk>(mut disk: D) -> D
     ensures disk { RunsDisk D.Disk disk result ⊥ }
     ensures restarts { IsTrue D.tells → Restarts D.Disk disk result }

@@ -68,7 +68,7 @@ pub fn run<D: Disk, S: Source, K: Sink>(
 
     // A crash at any moment keeps what was acknowledged or forced by then.
     ensures crash_safe { OfTold D.tells (D.bytes disk) (D.may_leave disk) ((fresh : Option ℕ) (stop : Option Stop) → command (map string_bytes words.now) ≡ Some (asked.Play fresh stop)
-        → RunsSafely D.Disk fresh stop disk result.1 result.0 K.tells (K.written sink.old) (K.written sink.new)) }
+        → RunsSafely D.Disk fresh stop (IsReadFrom S.tells (S.left source.old)) disk result.1 result.0 K.tells (K.written sink.old) (K.written sink.new)) }
     // The sentence that the stable heap is for, whole: the script was played on a heap, a new one or the one that was there.
     ensures headline { OfTold D.tells (D.bytes disk) (D.may_leave disk) ((fresh : Option ℕ) (stop : Option Stop) → command (map string_bytes words.now) ≡ Some (asked.Play fresh stop)
         → Runs D.Disk fresh stop (IsReadFrom S.tells (S.left source.old)) disk result.1 result.0 K.tells (K.written sink.old) (K.written sink.new)) }
@@ -91,7 +91,7 @@ pub fn run<D: Disk, S: Source, K: Sink>(
     ensures unwritten { (asked : Command) → command (map string_bytes words.now) ≡ Some asked → restarts_of asked ≡ 0 → ¬ BlamesNoImage result.0 → sink.new ≡ sink.old }
 
     // Which images are no heap or damaged, and where: such an image gives its own status, with nothing written. Each status against an image tells
-    // what is so, unless the disk was started again, which only a stop asks for. A heap that the run makes is never refused.
+    // what is so, unless the disk was restarted, which only a stop asks for. A heap that the run makes is never refused.
     ensures refuses { OfTold D.tells (D.bytes disk) (D.may_leave disk) ((asked : Command) (expected : Status) → command (map string_bytes words.now) ≡ Some asked → makes asked ≡ None
         → IsFault expected (D.bytes disk) → EndsRefused expected result.0 × (sink.new ≡ sink.old)) }
     // At each moment a crash leaves such an image with the same fault.
@@ -115,7 +115,7 @@ pub fn run<D: Disk, S: Source, K: Sink>(
         → (IsPlay asked → IsTrue S.tells × ((lines : List Line) × (script (S.left source.old) ≡ Ok lines)))
         → ¬ Rose (S.faults source.old) (S.faults source.new) → ¬ Rose (K.faults sink.old) (K.faults sink.new) → ¬ DiskRose (D.faults disk) (D.stops disk) (D.faults result.1) (D.stops result.1)
         → (result.0 ≡ Status.Done) ⊎ (result.0 ≡ Status.NoMemory)) }
-    // How often the disk was started again, however it ends.
+    // How often the disk was restarted, however it ends.
     ensures restarts { IsTrue D.tells → (asked : Command) → command (map string_bytes words.now) ≡ Some asked → RestartsDisk (restarts_of asked) result.0 (D.restarts disk) (D.restarts result.1) }
 {
     let command = match read_command(alloc, words) {

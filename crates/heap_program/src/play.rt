@@ -56,7 +56,7 @@ impl From<WriteError> for Halt {
     }
 }
 
-/// Whether a play goes on behind that reply.
+/// Why a play ends at that reply, if it does.
 fn ended_by(reply: Reply) -> Result<(), Halt>
     ensures { result ≡ ended_by reply }
 {
@@ -107,7 +107,7 @@ pub fn play_all<D: Disk, K: Sink>(
     play_ending(alloc, heap, sink)
 }
 
-/// Makes the events that end a run: each session that has a transaction aborts, ascending, and then what waits is forced.
+/// Makes the events that end a run: each session that has a transaction aborts, ascending, and then pending records are forced.
 pub fn play_ending<D: Disk, K: Sink>(
     alloc: Global,
     heap: &mut Heap<D>,
@@ -158,7 +158,7 @@ fn play_abort<D: Disk, K: Sink>(
     play_event(alloc, heap, Event::Abort { s }, sink)
 }
 
-/// Forces what waits, if something does.
+/// Forces the pending records, if there are any.
 fn play_force<D: Disk, K: Sink>(alloc: Global, heap: &mut Heap<D>, sink: &mut K) -> Result<(), Halt>
     ensures disk { KeepsDisk D.Disk (heap_disk heap.old) (heap_disk heap.new) (played_device result) }
     ensures sink { StreamCause (K.faults sink.old) (K.faults sink.new) (result ≡ Err Halt.WriteFault) }

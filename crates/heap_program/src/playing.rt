@@ -66,7 +66,7 @@ pub fn run_play<D: Disk, S: Source, K: Sink>(
     // Where a heap is there, or one was to be made on a disk that is large enough, and the script is good, the run ends as a play.
     ensures complete { OfTold D.tells (D.bytes disk) (D.may_leave disk) (CanPlay fresh (D.extent disk) (D.bytes disk)
         → IsTrue S.tells → (lines : List Line) → script (S.left source.old) ≡ Ok lines → ¬ Rose (S.faults source.old) (S.faults source.new) → IsEndOfPlay result.0) }
-    // An image that can't be opened gives its own status, and nothing is written then; each status against it tells what is so, unless the disk was started again.
+    // An image that can't be opened gives its own status, and nothing is written then; each status against it tells what is so, unless the disk was restarted.
     ensures refused { IsTrue D.tells → fresh ≡ None → (Rose (D.restarts disk) (D.restarts result.1) → stop ≡ None) → IsToldOf result.0 (D.bytes disk) }
     ensures refused_at_end { OfTold D.tells (D.bytes disk) (D.may_leave disk) (IsToldOfEach result.0 (D.may_leave result.1)) }
     ensures refuses { OfTold D.tells (D.bytes disk) (D.may_leave disk) (fresh ≡ None → (expected : Status) → IsFault expected (D.bytes disk) → EndsRefused expected result.0 × (sink.new ≡ sink.old)) }
@@ -107,7 +107,7 @@ fn play_script<D: Disk, K: Sink>(
     ensures prints { IsTrue K.tells → PrintsSome (IsOfImage D.tells (D.bytes disk)) (stop_after stop) script.now result.0 (K.written sink.old) (K.written sink.new) }
     ensures played { IsTrue D.tells → (stored : IsStored (D.bytes disk)) → Only (D.bytes disk) (D.may_leave disk)
         → IsPlayed D.Disk stop (stored_calls stored) (stored_core stored) (all_events (stop_after stop) (stored_core stored) (events script.now)) disk result.1 result.0 K.tells (K.written sink.old) (K.written sink.new) }
-    // An image that can't be opened gives its own status, and nothing is written then; each status against it tells what is so, unless the disk was started again.
+    // An image that can't be opened gives its own status, and nothing is written then; each status against it tells what is so, unless the disk was restarted.
     ensures refused { IsTrue D.tells → (Rose (D.restarts disk) (D.restarts result.1) → stop ≡ None) → IsToldOf result.0 (D.bytes disk) }
     ensures refused_at_end { IsTrue D.tells → Only (D.bytes disk) (D.may_leave disk) → IsToldOfEach result.0 (D.may_leave result.1) }
     ensures refuses { IsTrue D.tells → Only (D.bytes disk) (D.may_leave disk) → (expected : Status) → IsFault expected (D.bytes disk) → EndsRefused expected result.0 × (sink.new ≡ sink.old) }

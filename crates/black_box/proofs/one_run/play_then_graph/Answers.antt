@@ -1,10 +1,9 @@
-use Rattle.std.proofs.Common.{◌≡◌, ◌≢◌, inl, inr, ⊎_elim, List, Some, Ok, None}
+use Rattle.std.proofs.Common.{◌≡◌, inl, inr, ⊎_elim, List, Some, Ok, None}
 use Rattle.graph_model.specs.Graph.{Graph, new_graph}
-use Rattle.heap_program.specs.declared.status.Status.TheVariants as status
 use Rattle.script_text.specs.declared.line.Line.{Line}
 use Rattle.script_text.specs.Script.{script}
 use Rattle.black_box.specs.Stores.{Stores}
-use Rattle.black_box.specs.Told.{TellsRun}
+use Rattle.black_box.specs.Told.{TellsRun, MakesNone}
 use Rattle.black_box.proofs.Runs.{tells_new, prints_stored}
 use Rattle.black_box.proofs.one_run.play_then_graph.Goals as goal
 
@@ -20,8 +19,8 @@ returns g c = record {
       let leaves = c.restart.ensures.left tells in
       let still = c.restart.ensures.durable tells in
       ⊎_elim
-      (λ (none : (c.run-played.result.0 ≢ status.Done) × (after ≡ before)). inl none)
-      (λ (told : (read : List Line) × (script left ≡ Ok read) × (kept : Graph) × Stores d kept again × TellsRun new_graph read before after kept).
+      (λ (none : MakesNone c.run-played.result.0 × (after ≡ before)). inl none)
+      (λ (told : (read : List Line) × (script left ≡ Ok read) × (kept : Graph) × Stores d kept again × TellsRun new_graph read c.run-played.result.0 before after kept).
       inr (
         told.0,
         told.1,

@@ -1,10 +1,11 @@
-use Rattle.std.proofs.Common.{None}
+use Rattle.std.proofs.Common.{refl, None}
 use Rattle.black_box.proofs.Runs.{tells_stored}
 use Rattle.black_box.proofs.turns.play_turn.Goals as goal
 
 pub returns : goal.returns
 returns g c = record {
   tells = λ tells source sink play begins stores.
-      tells_stored g.D.Disk begins g.S.Source.tells (g.S.Source.left c.args.turn.now.source) c.args.disk c.run-status.result.1 c.restart.new.self c.run-status.result.0 g.K.Sink.tells (g.K.Sink.written c.args.turn.now.sink) (g.K.Sink.written c.run-status.new.sink)
-      source sink stores (c.run-status.ensures.headline tells stores.only None None play) (c.restart.ensures.left tells) (c.restart.ensures.durable tells);
+      let tale = tells_stored g.D.Disk begins g.S.Source.tells (g.S.Source.left c.args.turn.now.source) c.args.disk c.run-status.result.1 c.restart.new.self c.run-status.result.0 g.K.Sink.tells (g.K.Sink.written c.args.turn.now.sink) (g.K.Sink.written c.run-status.new.sink)
+      source sink stores (c.run-status.ensures.headline tells stores.only None None play) (c.restart.ensures.left tells) (c.restart.ensures.durable tells) in
+      (tale.0, tale.1, (c.run-status.result.0, refl, tale.2));
 }
