@@ -1,6 +1,6 @@
 -- One line is answered.
-use Rattle.std.proofs.Common.{◌≡◌, inl, ℕ, ◌<◌, Bool, List, [], ◌∷◌, ◌++◌, length, Option, Some, Result, Ok, Err, refl, sym, ap, ◌∙◌, subst, arith}
-use Rattle.std.specs.Prelude.{IsTrue}
+use Rattle.std.proofs.Common.{◌≡◌, inl, ℕ, ◌<◌, Bool, false, List, [], ◌∷◌, ◌++◌, length, Option, Some, Result, Ok, Err, refl, sym, ap, ◌∙◌, subst, arith}
+use Rattle.std.specs.Prelude.{IsTrue, ◌==◌}
 use Rattle.std.proofs.lemmas.List.{append-nil}
 use Rattle.disk_model.specs.declared.disk.Disk.{Ghosts}
 use Rattle.graph_model.specs.declared.event.Event.{Event}
@@ -19,6 +19,11 @@ use Rattle.script_text.specs.declared.line.Line.{Line}
 use Rattle.script_text.specs.Line.{read_text, line_events}
 use Rattle.session_program.specs.Lines.{named, fault_of, fault_line, found_events, found_fault}
 use Rattle.session_program.specs.Session.{Answers, Wrote}
+
+-- a text of some bytes
+pub some_text : (text : List ℕ) → (length text == 0) ≡ false → 0 < length text
+some_text [] e = absurd (cc e)
+some_text (b ∷ text) e = omega arith
 
 pub empty_text : (text : List ℕ) → length text ≡ 0 → text ≡ []
 empty_text [] is = refl

@@ -5,7 +5,7 @@ use Rattle.heap_program.specs.StatusOf.{write_halt}
 use Rattle.script_text.specs.Line.{read_text}
 use Rattle.script_text.proofs.ScriptLaws.{text_sessions}
 use Rattle.session_program.specs.Session.{Answers}
-use Rattle.session_program.proofs.OneLine.{empty_text, names, faults, line_played, line_nothing, line_empty, line_refused, line_part}
+use Rattle.session_program.proofs.OneLine.{empty_text, some_text, names, faults, line_played, line_nothing, line_empty, line_refused, line_part}
 use Rattle.session_program.proofs.answer.answer.Goals as goal
 
 pub returns-then-is_empty-clause-core : goal.returns-then-is_empty-clause-core
@@ -31,7 +31,7 @@ returns-in_err-refuse-in-None-clause-core g c core is running =
     let k = g.K.Sink in
     let text = c.args.text.now in
     let found : read_text text ≡ None = sym c.in_ok-line.ensures ∙ c.in-None.is in
-    let some : 0 < length text = search rules in
+    let some : 0 < length text = some_text text (sym c.if-is_empty.ensures) in
     let e = c.in_err-refuse-in-None.field-0.0 in
     let err : c.from_residual-in_err-refuse-in-None.result ≡ Err (write_halt e) = search rules in
     rw err (line_part core c.args.number (Some text) c.args.heap.now k.tells (k.written c.args.sink.now) (k.written c.refuse.new.sink) is (names text None some found) (faults c.args.number text None some found) e c.in_err-refuse-in-None.ensures.wrote)
@@ -41,7 +41,7 @@ returns-in_ok-refuse-in-None-clause-core g c core is running =
     let k = g.K.Sink in
     let text = c.args.text.now in
     let found : read_text text ≡ None = sym c.in_ok-line.ensures ∙ c.in-None.is in
-    let some : 0 < length text = search rules in
+    let some : 0 < length text = some_text text (sym c.if-is_empty.ensures) in
     line_refused core c.args.number (Some text) c.args.heap.now k.tells (k.written c.args.sink.now) (k.written c.refuse.new.sink) is (names text None some found) (faults c.args.number text None some found) c.in_ok-refuse-in-None.ensures.wrote
 
 pub returns-in-Some-clause-core : goal.returns-in-Some-clause-core
@@ -50,6 +50,6 @@ returns-in-Some-clause-core g c core is running =
     let text = c.args.text.now in
     let line = c.in-Some.line in
     let found : read_text text ≡ Some line = sym c.in_ok-line.ensures ∙ c.in-Some.is in
-    let some : 0 < length text = search rules in
+    let some : 0 < length text = some_text text (sym c.if-is_empty.ensures) in
     line_played core c.args.number (Some text) c.play_line.new.heap k.tells (k.written c.args.sink.now) (k.written c.play_line.new.sink) line c.play_line.result (names text (Some line) some found) (faults c.args.number text (Some line) some found)
     (c.play_line.ensures.core core is running)
