@@ -1,0 +1,5 @@
+pub mod Copies
+pub mod Heap
+pub mod Lists
+pub mod Parts
+pub mod Roots
