@@ -102,7 +102,7 @@ flip_underway {s} {places} {words} {roots} can =
     (flip_laid can.none (flip_flipping can) (flip_begun can))
 
 -- A graph that stands in words without a collection stands in the used words.
-plain_stands : (s : State) (places : Places) (words : List ℕ) {t made : ℕ} {g : Graph} (us : List UndoEntry) → s.collection ≡ None → StandsCompleted t made places [] g us words s
+pub plain_stands : (s : State) (places : Places) (words : List ℕ) {t made : ℕ} {g : Graph} (us : List UndoEntry) → s.collection ≡ None → StandsCompleted t made places [] g us words s
     → Stands t made places g (taken_back us words) s.base s.used
 plain_stands s places words {t} {made} {g} us none stands =
     let used : s.used + owed s ≡ s.used = omega (arith, ap owed_by none) in

@@ -3,3 +3,4 @@ pub mod Heap
 pub mod Lists
 pub mod Parts
 pub mod Roots
+pub mod Written

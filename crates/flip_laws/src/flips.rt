@@ -1,5 +1,7 @@
 //! What a flip from roots of a heap without a collection leaves.
-ghost use Rattle.std.specs.Prelude.{◌≡◌, ◌++◌, ℕ, List, [], Contains, Some, true};
+ghost use Rattle.std.specs.Prelude.{◌≡◌, ◌++◌, ℕ, List, [], Contains, None, Some, true};
+ghost use Rattle.std.specs.List.{AllByRecursion};
+ghost use Rattle.heap_words.specs.Word.{is_volatile};
 ghost use Rattle.std.specs.FinSet.{contains};
 ghost use Rattle.graph_model.specs.Graph.{Graph};
 ghost use Rattle.log_machine.specs.Collecting.{collecting_after, pairs_of};
@@ -10,9 +12,15 @@ ghost use Rattle.flip_copy.specs.Copied.{flip_record, with_base};
 ghost use Rattle.flip_copy.specs.Flipped.{IsPlanned};
 ghost use Rattle.collection_words.specs.Completed.{StandsCompleted};
 ghost use Rattle.collection_words.specs.Flipped.{HasBegun, IsFlipping, WereTranslated};
-ghost use Rattle.collection_words.specs.LaidOut.{IsUnderway};
+ghost use Rattle.collection_words.specs.LaidOut.{EachField, IsLaidOut, IsUnderway};
 ghost use Rattle.collection_words.specs.Placed.{HaveOwnNames};
-ghost use Rattle.flip_laws.specs.Flip.{AreEntriesOf, CanFlip, collection_begun, copies_of, copy_places, entries_behind, left_places, root_places, state_behind, words_behind};
+ghost use Rattle.collection_words.specs.Writes.{IsCurrentField};
+ghost use Rattle.flip_laws.specs.Flip.{AreEntriesOf, CanFlip, HasEntry, collection_begun, copies_of, copy_places, entries_behind, left_places, root_places, state_behind, words_behind};
+
+/// Where a committed graph stands when undo entries are taken back, only the objects of these have fields that lead to volatile objects.
+pub fn volatile_fields_have_entries()
+    ensures { (s : State) (places : Places) (words : List ℕ) (g : Graph) (us : List UndoEntry) → s.collection ≡ None → IsLaidOut s places [] words → AllByRecursion (λ u. IsCurrentField places words u.object u.field) us → AreEntriesOf s us → StandsCompleted 0 0 places [] g us words s → (at : ℕ) → Contains (addresses places) at → EachField words at (λ i w. is_volatile w ≡ true → HasEntry s at) }
+{}
 
 /// The copies of the roots are a plan.
 pub fn flips_are_planned()
