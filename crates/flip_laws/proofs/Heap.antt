@@ -62,7 +62,7 @@ root_goes {s} {places} {words} {roots} can id at placed has =
     ap (λ (ps : List (ℕ × ℕ)). moved_to ps at) (pairs_are can) ∙ ap (λ (o : Option ℕ). unwrap_or o at) (sym goes ∙ some.1) in
     some.1 ∙ ap Some (sym moved)
 
-went_along : {s : State} {places : Places} {words roots : List ℕ} → CanFlip s places words roots → HaveOwnNames places → (at : ℕ) → Contains (with_base s.base roots) at
+pub went_along : {s : State} {places : Places} {words roots : List ℕ} → CanFlip s places words roots → HaveOwnNames places → (at : ℕ) → Contains (with_base s.base roots) at
     → WentAlong (pairs_of (copies_of s words roots)) places (copy_places s words roots places) at
 went_along {places = places} can own at has =
     let object = named places at own (root_start can at has) in (object.0, object.1, root_goes can object.0 at object.1 has)

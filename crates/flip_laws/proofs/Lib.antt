@@ -1,3 +1,4 @@
+pub mod Backed
 pub mod Copies
 pub mod Heap
 pub mod Lists

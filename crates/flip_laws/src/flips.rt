@@ -14,7 +14,7 @@ ghost use Rattle.collection_words.specs.Completed.{StandsCompleted};
 ghost use Rattle.collection_words.specs.Flipped.{HasBegun, IsFlipping, WereTranslated};
 ghost use Rattle.collection_words.specs.LaidOut.{EachField, IsLaidOut, IsUnderway};
 ghost use Rattle.collection_words.specs.Placed.{HaveOwnNames};
-ghost use Rattle.collection_words.specs.Writes.{IsCurrentField};
+ghost use Rattle.collection_words.specs.Writes.{AreBacked, IsCurrentField};
 ghost use Rattle.flip_laws.specs.Flip.{AreEntriesOf, CanFlip, HasEntry, collection_begun, copies_of, copy_places, entries_behind, left_places, root_places, state_behind, words_behind};
 
 /// Where a committed graph stands when undo entries are taken back, only the objects of these have fields that lead to volatile objects.
@@ -50,6 +50,11 @@ pub fn flips_keep_names()
 /// The objects of undo entries went along, and what these would put back leads to such.
 pub fn flips_translate_entries()
     ensures { (s : State) (places : Places) (words roots : List ℕ) (us : List UndoEntry) → CanFlip s places words roots → HaveOwnNames places → AreEntriesOf s us → WereTranslated (pairs_of (copies_of s words roots)) places (copy_places s words roots places) us }
+{}
+
+/// Translated entries are of fields of the copies, and put back words that lead to copies, where entries put back words that led to objects.
+pub fn flips_keep_entries_backed()
+    ensures { (s : State) (places : Places) (words roots : List ℕ) (us : List UndoEntry) → CanFlip s places words roots → HaveOwnNames places → AreEntriesOf s us → AreBacked places words us → AreBacked (copy_places s words roots places) (words_behind s words roots) (entries_behind s words roots us) }
 {}
 
 /// The record of the flip can follow. Behind it a collection is under way with the words laid out and all copies gray, and each graph that
