@@ -1,0 +1,5 @@
+//! What the scan of a page does to a heap in a collection: that its words are such as a scan goes over. It has laws alone. Its functions do
+//! nothing: each names a law by its contract, since a law that a contract names can't be lost.
+#![tactic(auto)]
+
+pub mod heap;
