@@ -68,7 +68,8 @@ inside_field : (starts : List ℕ) (w : ℕ) (meant : Option Word) → meaning w
 inside_field starts w None is inside = absurd inside
 inside_field starts w (Some m) is inside = let word = bits-meaning w m is in (m, word.0, word.1)
 
-object_parts : (words : List ℕ) (at n : ℕ) → object_at words at ≡ Some n → object_words words at n ≡ get_or words at 0 ∷ get_or words (suc at) 0 ∷ field_words words at
+-- the words of an object are its header, its birth and its fields
+pub object_parts : (words : List ℕ) (at n : ℕ) → object_at words at ≡ Some n → object_words words at n ≡ get_or words at 0 ∷ get_or words (suc at) 0 ∷ field_words words at
 object_parts words at n is =
     let within = (object_header words at n is).1 in
     let there : suc (suc at) ≡ at + 2 = omega arith in
