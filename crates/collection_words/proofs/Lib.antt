@@ -1,5 +1,6 @@
 pub mod Copy
 pub mod Flip
+pub mod Heap
 pub mod Laid
 pub mod Moves
 pub mod Relocated

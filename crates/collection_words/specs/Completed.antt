@@ -42,6 +42,10 @@ places_from words (p ∷ ps) to = (p.0, to) ∷ places_from words ps (to + taken
 abbrev pub future : State → List ℕ → Places → Places
 future s words remaining = places_from words remaining (s.base + s.used)
 
+-- where all objects stand in the completed words: the current ones where they do, and those that remain behind the used words
+abbrev pub completed_places : State → Places → Places → List ℕ → Places
+completed_places s places remaining words = places ++ future s words remaining
+
 -- the places but the one at an address
 abbrev pub without : Places → ℕ → Places
 without places from = filter (λ p. not (p.1 == from)) places

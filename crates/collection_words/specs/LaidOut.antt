@@ -75,3 +75,10 @@ pub record IsUnderway (s : State) (k : Collection) (places remaining : Places) (
   pub long : length words ≡ words_in s.pages
   pub small : words_in s.pages ≤ 2097152
   pub laid : IsLaidOut s places remaining words
+
+-- The words of a heap, whether a collection is under way or not: the spaces have room for what it owes, and the words are laid out.
+pub record AreHeapWords (s : State) (places remaining : Places) (words : List ℕ) : Type 0 where
+  pub spaced : IsSpaced s
+  pub long : length words ≡ words_in s.pages
+  pub small : words_in s.pages ≤ 2097152
+  pub laid : IsLaidOut s places remaining words

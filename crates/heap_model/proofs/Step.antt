@@ -5,5 +5,6 @@ pub mod Granted
 pub mod Grow
 pub mod Handles
 pub mod Logged
+pub mod Plain
 pub mod Room
 pub mod Step

@@ -46,6 +46,7 @@ pub record Core : Type 0 where
   pub stored_lsns : ℕ → ℕ  -- the LSN with which each page is stored, or 0
   pub gates : ℕ → ℕ  -- how many gates of each page's two frames are open
   pub places : Places  -- the objects that stand in the current space behind all of these, with their addresses
+  pub remaining : Places  -- those that a collection has not copied yet, with their addresses in the from-space
 
 -- the next transaction's number
 abbrev pub next_number : Core → ℕ

@@ -71,6 +71,7 @@ opened s batches stored gates born places g =
       stored_lsns = lsn_of stored;
       gates = gates;
       places = places;
+      remaining = [];
     }
 
 -- A graph stands in what a shaped log leaves, and each of its objects at one of these places; no name of theirs is one that a transaction

@@ -14,6 +14,7 @@ pub mod Lists
 pub mod MachineLaws
 pub mod MapLaws
 pub mod Mapped
+pub mod NoCollection
 pub mod Promotion
 pub mod PromotionLaws
 pub mod ReplayLaws

@@ -113,7 +113,7 @@ write_followed {s} {places = places} {remaining = remaining} {words = words} {ob
 
 -- The words stay laid out.
 
-write_filled : {s : State} {places remaining : Places} {words : List ℕ} {object field word : ℕ} → IsLaidOut s places remaining words → IsHereWrite places words object field word
+pub write_filled : {s : State} {places remaining : Places} {words : List ℕ} {object field word : ℕ} → IsLaidOut s places remaining words → IsHereWrite places words object field word
     → IsFilled (with_word words object field word) s.base s.used (addresses places)
 write_filled {s} {places} {words = words} {object = object} {field = field} {word = word} laid write =
     let all = filling words s.base s.used (addresses places) laid.filled in

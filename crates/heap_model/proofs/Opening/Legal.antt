@@ -19,12 +19,13 @@ use Rattle.graph_words.proofs.Places.Names.{name_at}
 use Rattle.graph_words.specs.Stands.{StandsCommitted, AreNamedByBirth}
 use Rattle.graph_words.proofs.Stands.Seen.{stands_walked, stands_seen, stands_own_births, stands_born_before}
 use Rattle.heap_model.specs.CoreTold.{IsTold}
+use Rattle.heap_model.proofs.Step.Plain.{plain_births, plain_old, plain_stands}
 use Rattle.heap_model.specs.Image.{origin_of, redone_words, words_of, IsShapedLog, IsLegalLog, Says}
 
 -- Records and the words that they leave from the log's origin on tell a graph, and each page that is stored beside them holds those up to
 -- its LSN.
-module _ (s : Super) (batches : List (List Record)) (stored : Pages) (born : Bool) (places : Places) (g : Graph) (k : ℕ) (now : List ℕ) (state : State) (limits : IsSuper s)
-    (told : IsTold (origin_of s).state born places g k (records_of batches) now state) (logged : now ≡ words_from (origin_of s) (records_of batches))
+module _ (s : Super) (batches : List (List Record)) (stored : Pages) (born : Bool) (places remaining : Places) (g : Graph) (k : ℕ) (now : List ℕ) (state : State) (limits : IsSuper s)
+    (told : IsTold (origin_of s).state born places remaining g k (records_of batches) now state) (logged : now ≡ words_from (origin_of s) (records_of batches))
     (prefixes : EachHoldsPrefix (origin_of s) (records_of batches) stored) (room : length (batches_bytes batches) + 1 + reserve state ≤ s.log_bytes) where
   -- redone on these pages they leave the same words
   told_redone : redone_words s batches stored ≡ now
@@ -35,11 +36,11 @@ module _ (s : Super) (batches : List (List Record)) (stored : Pages) (born : Boo
 
   -- so the graph stands there
   pub told_stands : StandsCommitted places g (words_of s batches stored) state.base state.used
-  told_stands = subst (λ (ws : List ℕ). StandsCommitted places g ws state.base state.used) (sym told_words) told.stands
+  told_stands = subst (λ (ws : List ℕ). StandsCommitted places g ws state.base state.used) (sym told_words) (plain_stands told)
 
   -- under the names of births where it did so before
   pub told_births : IsTrue born → AreNamedByBirth places (words_of s batches stored)
-  told_births by_birth = subst (AreNamedByBirth places) (sym told_words) (told.births by_birth)
+  told_births by_birth = subst (AreNamedByBirth places) (sym told_words) (plain_births told by_birth)
 
   -- the records are a shaped log
   abbrev pub told_shaped : IsShapedLog s batches stored
@@ -61,7 +62,7 @@ module _ (s : Super) (batches : List (List Record)) (stored : Pages) (born : Boo
     shaped = told_shaped;
     prefixes = prefixes;
     own_births = stands_own_births told_stands (told_births by_birth);
-    born_before = stands_born_before told_stands (told_births by_birth) state.next told.old;
+    born_before = stands_born_before told_stands (told_births by_birth) state.next (plain_old told);
   }
 
   -- and the log says the graph

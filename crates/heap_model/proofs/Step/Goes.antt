@@ -13,7 +13,7 @@ use Rattle.heap_model.specs.CoreTold.{IsTold}
 -- What the active transaction wrote and what is kept for it.
 
 -- a state that records reach is sound
-pub told_sound : {pages first_number : ℕ} {born : Bool} {places : Places} {g : Graph} {k : ℕ} {records : List Record} {words : List ℕ} {state : State} → IsTold (start pages first_number) born places g k records words state → AreLosers state
+pub told_sound : {pages first_number : ℕ} {born : Bool} {places remaining : Places} {g : Graph} {k : ℕ} {records : List Record} {words : List ℕ} {state : State} → IsTold (start pages first_number) born places remaining g k records words state → AreLosers state
 told_sound {pages} {first_number} {records = records} {state = state} told = sound_after_all (start pages first_number) state records (sound_start pages first_number) told.reached
 
 -- Another history, or more records that wait.
