@@ -4,3 +4,4 @@ pub mod Apart
 pub mod OtherWrites
 pub mod Stays
 pub mod TakenBack
+pub mod Whole

@@ -13,12 +13,13 @@ use Rattle.commit_order.specs.SerialOrder.{EachEntry, EndsWithFailure, IsTwoPhas
 use Rattle.log_records.specs.declared.Record.{Record}
 use Rattle.log_machine.specs.declared.UndoEntry.{UndoEntry}
 use Rattle.log_machine.specs.Apart.{others_taken_back}
-use Rattle.log_machine.specs.Machine.{State, undo_of, reserve}
+use Rattle.log_machine.specs.Machine.{State, owed, undo_of, reserve}
 use Rattle.log_machine.specs.Entries as maps
 use Rattle.gated_log.specs.Log.{records_of, batches_bytes}
-use Rattle.graph_words.specs.Places.{Places, address_of}
+use Rattle.graph_words.specs.Places.{Places, address_of, made_by}
 use Rattle.graph_words.specs.Area.{HasMade}
 use Rattle.graph_words.specs.Stands.{Stands, AreWritten, AreOfFields}
+use Rattle.collection_words.specs.Completed.{completed, completed_places}
 use Rattle.heap_model.specs.Core.{Core, log_start, all_records, all_words, used, reserved}
 use Rattle.heap_model.specs.CoreTold.{IsTold, HoldsAtHand, IsNumbered}
 
@@ -32,19 +33,21 @@ pub record IsLocked (places : Places) (locks : List Lock) (u : UndoEntry) : Type
 abbrev pub AreLocked : Places → List Lock → List UndoEntry → Type 0
 AreLocked places locks undo = AllByRecursion (IsLocked places locks) undo
 
--- What a transaction with these locks sees stands in the words when the writes of all others are taken back, and in its area.
-pub record IsWriting (places : Places) (v : View) (t : ℕ) (locks : List Lock) (words : List ℕ) (state : State) : Type 0 where
-  pub stands : Stands t v.made places v.graph (others_taken_back state t words) state.base state.used
+-- What a transaction with these locks sees stands in its area, and in the completed words when the writes of all others are taken back. It
+-- made no object that remains, and what it holds, wrote and made leads to current objects and to its own.
+pub record IsWriting (places remaining : Places) (v : View) (t : ℕ) (locks : List Lock) (words : List ℕ) (state : State) : Type 0 where
+  pub stands : Stands t v.made (completed_places state places remaining words) v.graph (others_taken_back state t (completed state places remaining words)) state.base (state.used + owed state)
   pub made : HasMade places v.graph t v.made
-  pub written : AreWritten places v.graph (undo_of state t)
+  pub apart : (k : ℕ) → address_of remaining (made_by t k) ≡ None
+  pub written : AreWritten (completed_places state places remaining words) v.graph (undo_of state t)
   pub fields : AreOfFields places v.graph (undo_of state t)
   pub locked : AreLocked places locks (undo_of state t)
   pub handles : AllByRecursion (HoldsAtHand places t v.made) v.registers
 
 -- so does what a session's transaction sees, if it has one
-abbrev pub IsWriter : Places → Graph → Account → Option Transaction → List ℕ → State → Type 0
-IsWriter places g0 a None words state = Unit {0}
-IsWriter places g0 a (Some t) words state = IsWriting places (view g0 a t) t.number (locks_of (serial g0 a.sealed) t) words state
+abbrev pub IsWriter : Places → Places → Graph → Account → Option Transaction → List ℕ → State → Type 0
+IsWriter places remaining g0 a None words state = Unit {0}
+IsWriter places remaining g0 a (Some t) words state = IsWriting places remaining (view g0 a t) t.number (locks_of (serial g0 a.sealed) t) words state
 
 -- A transaction of that number is active.
 pub record IsActive (a : Account) (n : ℕ) : Type 0 where
@@ -66,7 +69,8 @@ pub record IsDurable (from : State) (born : Bool) (g0 : Graph) (before first roo
   pub acknowledged_last : acknowledged ≤ commits  -- what was answered `durable` is
   pub state : State
   pub places : Places
-  pub told : IsTold from born places (serial g0 (take commits sealed)) (before + commits) (records_of batches) words state
+  pub remaining : Places
+  pub told : IsTold from born places remaining (serial g0 (take commits sealed)) (before + commits) (records_of batches) words state
   pub first_known : first ≤ state.next  -- an opening of it goes on with no number below the first of this one
   pub has_room : length (batches_bytes batches) + 1 + reserve state ≤ room  -- and has room to take back what else it holds
 
@@ -84,10 +88,10 @@ pub record Agrees (a : Account) (c : Core) : Type 0 where
   pub numbered : (s : ℕ) → IsNumbered (c.first + a.begun) (a.active s)
   pub disk : DiskAgrees a c
   pub behind : State
-  pub told : IsTold (log_start c) c.born c.places (serial c.g0 a.sealed) (c.before + length a.sealed) (all_records c) (all_words c) behind  -- all records tell all that was sealed
+  pub told : IsTold (log_start c) c.born c.places c.remaining (serial c.g0 a.sealed) (c.before + length a.sealed) (all_records c) (all_words c) behind  -- all records tell all that was sealed
   pub next_known : behind.next ≤ c.first + a.begun  -- no transaction to come has written yet
   pub losers : maps.EachKeyed (λ q us. IsActive a q) behind.undo  -- only active transactions have writes that may be taken back
-  pub writers : (s : ℕ) → IsWriter c.places c.g0 a (a.active s) (all_words c) behind  -- and each sees what it wrote
+  pub writers : (s : ℕ) → IsWriter c.places c.remaining c.g0 a (a.active s) (all_words c) behind  -- and each sees what it wrote
   pub room : used c + reserved (undo_of behind) a ≤ c.room  -- the log has room for the ends of all active transactions
 
 -- A valid core agrees with its own history.

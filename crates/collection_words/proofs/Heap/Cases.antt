@@ -1,13 +1,21 @@
 -- The words of a heap, by whether a collection is under way.
 use Rattle.std.proofs.Common.{◌≡◌, ◌⊎◌, ℕ, ◌+◌, ◌<◌, ◌≤◌, inl, inr, false, List, [], ◌++◌, length, Option, None, Some, refl, sym, ap, ◌∙◌, subst, arith}
-use Rattle.std.specs.Prelude.{Contains, MatchOption, slice_index}
+use Rattle.std.specs.Prelude.{Contains, MatchOption, slice_index, slice_index_or}
+use Rattle.std.proofs.lemmas.Option.{same_Some}
 use Rattle.std.proofs.lemmas.List.{append-nil}
 use Rattle.heap_spaces.specs.Collection.{Collection, owed_by}
+use Rattle.heap_words.specs.Word.{meaning}
+use Rattle.graph_model.specs.declared.val.Val.TheVariants.{Null}
+use Rattle.graph_model.specs.Graph.{Graph, fields}
 use Rattle.object_layout.specs.Layout.{birth_at, object_at}
 use Rattle.log_machine.specs.Machine.{State, field_at, owed, words_in}
-use Rattle.graph_words.specs.Places.{Places, addresses}
+use Rattle.graph_words.specs.Area.{HasMade}
+use Rattle.graph_words.specs.Places.{IsVisible, Places, addresses}
+use Rattle.graph_words.specs.Stands.{Stands}
+use Rattle.graph_words.proofs.Stands.Objects.{stands_field, stands_object, stands_placed}
 use Rattle.collection_words.specs.Completed.{completed, completed_places, future}
-use Rattle.collection_words.specs.LaidOut.{AreHeapWords, IsFromSpace, IsLaidOut, is_gray}
+use Rattle.collection_words.specs.LaidOut.{AreHeapWords, IsFromSpace, IsLaidOut, LeadsHere, is_gray}
+use Rattle.collection_words.proofs.Heap.Front.{all_at, visible_leads_all}
 use Rattle.collection_words.proofs.Laid.Completed.{completed_none, move_made}
 use Rattle.collection_words.proofs.Laid.Followed.{move_placed, raw_word}
 use Rattle.collection_words.proofs.Laid.Sources.{IsCollecting, collecting}
@@ -69,3 +77,20 @@ heap_word {s} {places} {remaining} {words} heap at n i has object below black = 
   | inl none ↦ ap (λ (ws : List ℕ). slice_index ws (field_at at i)) (completed_none s places remaining words none.none)
   | inr runs ↦ raw_word runs.1 at n i has object below black
 ]
+
+abbrev nothing : Places
+nothing = []
+
+-- Where a graph stands in the words of a heap without a collection, as a transaction sees it, the words are laid out.
+pub stands_laid : (s : State) {t made : ℕ} {places : Places} {g : Graph} {words : List ℕ} → s.collection ≡ None → Stands t made places g words s.base s.used → HasMade places g t made → IsLaidOut s places [] words
+stands_laid s {t} {made} {places} {g} {words} none stands has = record {
+  filled = record { root = stands.root_object; objects = stands.ends };
+  here = λ at start n i there below black.
+      let one = stands_placed stands at start in
+      let id = one.0 in
+      let same = same_Some (length (fields g id)) n (sym (stands_object stands id at one.1) ∙ there) in
+      let within : i < length (fields g id) = omega arith in
+      let seen = all_at (IsVisible places t made) (fields g id) i Null tt (stands.visible id at one.1) in
+      subst (λ (w : ℕ). LeadsHere (addresses places) (meaning w)) (sym (stands_field stands id at i one.1 within)) (visible_leads_all stands has (slice_index_or (fields g id) i Null) seen);
+  from = subst (λ (o : Option Collection). MatchOption o (nothing ≡ []) (λ k. IsFromSpace s k places nothing words)) (sym none) (refl {0});
+}

@@ -103,3 +103,10 @@ heap_turned {s} {places} {remaining} {words} t undo more heap = record {
   small = heap.small;
   laid = record { filled = heap.laid.filled; here = heap.laid.here; from = from_turned s t undo more places remaining words s.collection heap.laid.from };
 }
+
+-- other writes put back such words behind these that are taken back
+pub backed_taken_back : (us : List UndoEntry) {s : State} {places remaining : Places} {words : List ℕ} → AreHeapWords s places remaining words → AreBacked places words us
+    → (vs : List UndoEntry) → AreBacked places words vs → AreBacked places (taken_back us words) vs
+backed_taken_back [] heap all vs others = others
+backed_taken_back (u ∷ us) heap all vs others =
+    backed_taken_back us (heap_write heap all.0).heap (backed_write heap all.0 us all.1) vs (backed_write heap all.0 vs others)

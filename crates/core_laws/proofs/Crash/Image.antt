@@ -35,8 +35,9 @@ use Rattle.core_laws.specs.Valid.{Agrees, IsSound}
 pub record TellFirst (c : Core) (k : ℕ) (batches : List (List Record)) : Type 0 where
   pub state : State
   pub places : Places
+  pub remaining : Places
   pub words : List ℕ
-  pub told : IsTold (log_start c) c.born places (serial c.g0 (take k (commits c.history))) (c.before + k) (records_of batches) words state
+  pub told : IsTold (log_start c) c.born places remaining (serial c.g0 (take k (commits c.history))) (c.before + k) (records_of batches) words state
   pub logged : words ≡ words_from (log_origin c) (records_of batches)
   pub room : length (batches_bytes batches) + 1 + reserve state ≤ c.room
   pub next : c.first ≤ state.next
@@ -50,17 +51,18 @@ commits-sealed c h =
     let b = sound_agrees c h in
     ap (λ (o : Option Transaction). sealed c.history ++ option_to_list o) b.certain ∙ append-nil (sealed c.history)
 
-tell_sealed : (c : Core) (k : ℕ) (batches : List (List Record)) (places : Places) (now : List ℕ) (state : State) → IsSound c
-    → IsTold (log_start c) c.born places (serial c.g0 (take k (sealed c.history))) (c.before + k) (records_of batches) now state → now ≡ words_from (log_origin c) (records_of batches)
+tell_sealed : (c : Core) (k : ℕ) (batches : List (List Record)) (places remaining : Places) (now : List ℕ) (state : State) → IsSound c
+    → IsTold (log_start c) c.born places remaining (serial c.g0 (take k (sealed c.history))) (c.before + k) (records_of batches) now state → now ≡ words_from (log_origin c) (records_of batches)
     → length (batches_bytes batches) + 1 + reserve state ≤ c.room → c.first ≤ state.next → acknowledged c.history ≤ k → commits_on_disk c ≤ c.before + k
     → k ≤ length (sealed c.history) → TellFirst c k batches
-tell_sealed c k batches places now state h told logged room next kept forced some =
+tell_sealed c k batches places remaining now state h told logged room next kept forced some =
     let same = commits-sealed c h in
     record {
       state = state;
       places = places;
+      remaining = remaining;
       words = now;
-      told = subst (λ (ts : List Transaction). IsTold (log_start c) c.born places (serial c.g0 (take k ts)) (c.before + k) (records_of batches) now state) (sym same) told;
+      told = subst (λ (ts : List Transaction). IsTold (log_start c) c.born places remaining (serial c.g0 (take k ts)) (c.before + k) (records_of batches) now state) (sym same) told;
       logged = logged;
       room = room;
       next = next;
@@ -86,7 +88,7 @@ tell_first c batches h logged (inl is) =
     let b = sound_agrees c h in
     let forced = forced_commits (record (account c.history) { failed = None }) c b in
     let P : List (List Record) → Type 0 = λ bs. TellFirst c b.disk.commits bs in
-    (b.disk.commits, subst P (sym is) (tell_sealed c b.disk.commits c.batches b.disk.places c.words b.disk.state h b.disk.told logged b.disk.has_room b.disk.first_known b.disk.acknowledged_last (omega arith) b.disk.sealed_first))
+    (b.disk.commits, subst P (sym is) (tell_sealed c b.disk.commits c.batches b.disk.places b.disk.remaining c.words b.disk.state h b.disk.told logged b.disk.has_room b.disk.first_known b.disk.acknowledged_last (omega arith) b.disk.sealed_first))
 tell_first c batches h logged (inr is) =
     let b = sound_agrees c h in
     let a = record (account c.history) { failed = None } in
@@ -102,15 +104,15 @@ tell_first c batches h logged (inr is) =
     let room = b.room in
     let known = known_on a c b in
     let forced = forced_commits a c b in
-    (all, tell_sealed c all batches c.places (all_words c) b.behind h told words (omega arith) known (omega arith) (omega arith) (omega arith))
+    (all, tell_sealed c all batches c.places c.remaining (all_words c) b.behind h told words (omega arith) known (omega arith) (omega arith) (omega arith))
 
 module _ (c : Core) (s : Super) (batches : List (List Record)) (stored : Pages) (h : IsSound c) (logged : HasLogWords c) (beside : EachHoldsPrefix (log_origin c) (records_of batches) stored) (on : IsOnDisk c batches) (of : IsSuperOf s c) where
   first : (k : ℕ) × TellFirst c k batches
   first = tell_first c batches h logged on
 
-  told : IsTold (origin_of s).state c.born first.1.places (serial c.g0 (take first.0 (commits c.history))) (c.before + first.0) (records_of batches) first.1.words first.1.state
+  told : IsTold (origin_of s).state c.born first.1.places first.1.remaining (serial c.g0 (take first.0 (commits c.history))) (c.before + first.0) (records_of batches) first.1.words first.1.state
   told =
-      let P : ℕ → ℕ → Type 0 = λ pages first_number. IsTold (start pages first_number) c.born first.1.places (serial c.g0 (take first.0 (commits c.history))) (c.before + first.0) (records_of batches) first.1.words first.1.state in
+      let P : ℕ → ℕ → Type 0 = λ pages first_number. IsTold (start pages first_number) c.born first.1.places first.1.remaining (serial c.g0 (take first.0 (commits c.history))) (c.before + first.0) (records_of batches) first.1.words first.1.state in
       subst (λ pages. P pages s.first) (sym of.pages) (subst (λ first_number. P c.pages first_number) (sym of.first) first.1.told)
 
   -- the log on the disk begins where the core's does
@@ -135,7 +137,7 @@ module _ (c : Core) (s : Super) (batches : List (List Record)) (stored : Pages) 
   pub disk_says : IsTrue c.born → (k : ℕ) × Says (serial c.g0 (take k (commits c.history))) (c.before + k) s batches stored × (c.first ≤ next_of s batches) × (acknowledged c.history ≤ k) × (commits_on_disk c ≤ c.before + k) × (k ≤ length (commits c.history))
   disk_says by_birth = (
     first.0,
-    told_says s batches stored c.born first.1.places (serial c.g0 (take first.0 (commits c.history))) (c.before + first.0) first.1.words first.1.state of.limits told words_are prefixes fits by_birth,
+    told_says s batches stored c.born first.1.places first.1.remaining (serial c.g0 (take first.0 (commits c.history))) (c.before + first.0) first.1.words first.1.state of.limits told words_are prefixes fits by_birth,
     disk_next,
     first.1.kept,
     first.1.forced,

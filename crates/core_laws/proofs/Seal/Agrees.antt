@@ -53,9 +53,9 @@ module _ (a : Account) (c : Core) (h : Agrees a c) {numbers : List ℕ} {heard :
       let same = ap (λ x. length (a.sealed ++ option_to_list x)) e in
       omega arith
 
-  told : IsTold (log_start c) c.born later (serial c.g0 b.sealed) (c.before + length b.sealed) all words (seal.last a c h o s t e)
+  told : IsTold (log_start c) c.born later c.remaining (serial c.g0 b.sealed) (c.before + length b.sealed) all words (seal.last a c h o s t e)
   told =
-      let Told : Graph → ℕ → Type 0 = λ g k. IsTold (log_start c) c.born later g k all words (seal.last a c h o s t e) in
+      let Told : Graph → ℕ → Type 0 = λ g k. IsTold (log_start c) c.born later c.remaining g k all words (seal.last a c h o s t e) in
       subst (λ (k : ℕ). Told (serial c.g0 b.sealed) k) count (subst (λ (g : Graph). Told g (c.before + length a.sealed + 1)) left (seal.sealed_told a c h o s t e space))
 
   -- those left whose writes may be taken back are active
@@ -63,21 +63,21 @@ module _ (a : Account) (c : Core) (h : Agrees a c) {numbers : List ℕ} {heard :
   losers = each_other (λ q us. IsActive b q) h.behind.undo t.number (λ q us some differs. ended_actives a b s t e refl q differs (h.losers q us some))
 
   -- and each of the others goes on
-  writers : (r : ℕ) → IsWriter later c.g0 b (b.active r) words (seal.last a c h o s t e)
+  writers : (r : ℕ) → IsWriter later c.remaining c.g0 b (b.active r) words (seal.last a c h o s t e)
   writers r =
       let last = seal.last a c h o s t e in
-      let P : ℕ → Option Transaction → Type 0 = λ q x. IsWriter later c.g0 b x words last in
-      each_session P a.active s None tt (λ q other. writer_by later c.g0 b (a.active q) words last (λ u also.
+      let P : ℕ → Option Transaction → Type 0 = λ q x. IsWriter later c.remaining c.g0 b x words last in
+      each_session P a.active s None tt (λ q other. writer_by later c.remaining c.g0 b (a.active q) words last (λ u also.
       let stays = stays_beside a c h o s t e space q u (λ same. other (sym same)) also in
-      subst (λ (ws : List ℕ). IsWriting later (view c.g0 b u) u.number (locks_of (serial c.g0 b.sealed) u) ws last) (sym (seal.words_behind a c h o s t e space))
-      (subst (λ (g : Graph). IsWriting later (run g u) u.number (locks_of g u) (fold put_record (seal.now a c h o s t e) (seal.promotion a c h o s t e)) last) left stays))) r
+      subst (λ (ws : List ℕ). IsWriting later c.remaining (view c.g0 b u) u.number (locks_of (serial c.g0 b.sealed) u) ws last) (sym (seal.words_behind a c h o s t e space))
+      (subst (λ (g : Graph). IsWriting later c.remaining (run g u) u.number (locks_of g u) (fold put_record (seal.now a c h o s t e) (seal.promotion a c h o s t e)) last) left stays))) r
 
   goes : HasRoom c (seal.records a c h o s t e) b → Agrees b (record c { pending = c.pending ++ seal.records a c h o s t e; places = later })
   goes room =
       let below = (number_below a c s t e h).1 in
       let known = h.next_known in
       let kept = reserved_told c (seal.records a c h o s t e) b told in
-      goes_on a c b (seal.records a c h o s t e) later h (record {
+      goes_on a c b (seal.records a c h o s t e) later c.remaining h (record {
         unfailed = h.unfailed;
         certain = h.certain;
         acknowledged = refl;

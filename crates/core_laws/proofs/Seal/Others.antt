@@ -33,7 +33,9 @@ use Rattle.graph_words.proofs.Seal.Values.{later_cases}
 use Rattle.graph_words.proofs.Seal.Words.{length-records}
 use Rattle.graph_words.specs.Stands.{Stands, AreWritten, AreOfFields}
 use Rattle.graph_words.proofs.Stands.Objects.{stands_get, stands_object, stands_within}
+use Rattle.collection_words.proofs.Heap.Cases.{IsPlain, plain}
 use Rattle.heap_model.specs.Core.{Core}
+use Rattle.heap_model.proofs.Step.Plain.{as_plain, of_plain, plain_stands}
 use Rattle.heap_model.proofs.Step.Goes.{told_sound}
 use Rattle.heap_model.specs.CoreTold.{HoldsAtHand}
 use Rattle.core_laws.proofs.Sessions.Apart.{away_birth, away_field, away_header, free_shared, own_apart, own_free, same_length}
@@ -102,8 +104,18 @@ module _ (a : Account) (c : Core) (h : Agrees a c) {numbers : List ℕ} {heard :
     committed = seal.settled a c h o s t e;
   }
 
-  w : IsWriting c.places before u.number (locks_of left u) (seal.now a c h o s t e) h.behind
+  w : IsWriting c.places c.remaining before u.number (locks_of left u) (seal.now a c h o s t e) h.behind
   w = writing_of a c r u also h
+
+  -- what it sees stands in the words, as no collection is under way
+  its_stands : Stands u.number before.made c.places before.graph its_words h.behind.base h.behind.used
+  its_stands = as_plain (λ ps ws n. Stands u.number before.made ps before.graph (others_taken_back h.behind u.number ws) h.behind.base n) (seal.seal_plain a c h o s t e) w.stands
+
+  its_written : AreWritten c.places before.graph (undo_of h.behind u.number)
+  its_written = as_plain (λ ps ws n. AreWritten ps before.graph (undo_of h.behind u.number)) (seal.seal_plain a c h o s t e) w.written
+
+  left_plain : IsPlain (seal.last a c h o s t e) later c.remaining then
+  left_plain = plain (seal.last a c h o s t e) later c.remaining then (seal.behind_none a c h o s t e space)
 
   differ : t.number ≢ u.number
   differ = (o.beside s r t u apart e also).differ
@@ -114,7 +126,7 @@ module _ (a : Account) (c : Core) (h : Agrees a c) {numbers : List ℕ} {heard :
   alike = runs_alike left t u o.closed (λ same. differ (sym same)) (o.unused s t e) (o.beside s r t u apart e also).apart
 
   there_left : (id : Id) (at : ℕ) → address_of c.places id ≡ Some at → IsThere left id
-  there_left id at there = (fields left id, stands_get h.told.stands id at there)
+  there_left id at there = (fields left id, stands_get (plain_stands h.told) id at there)
 
   there_after : (id : Id) (at : ℕ) → address_of later id ≡ Some at → IsThere after id
   there_after id at there = (fields after id, stands_get (seal_stands (seal.can a c h o s t e space) (seal.room a c h o s t e space)) id at there)
@@ -195,10 +207,10 @@ module _ (a : Account) (c : Core) (h : Agrees a c) {numbers : List ℕ} {heard :
   its_fields : (id : Id) (at : ℕ) → address_of c.places id ≡ Some at → Contains (locks_of left u) (id, Exclusive) → field_words its_later_words at ≡ field_words its_words at
   its_fields id at there holds =
       let n = length (fields before.graph id) in
-      let lies = stands_within w.stands id at there in
+      let lies = stands_within its_stands id at there in
       let below = lies.below in
       let free = free_shared c.g0 a u.number id (own_free a c h o r u also id holds) in
-      changed_field_words (λ x. x) its_words its_later_words at n (stands_object w.stands id at there) (record {
+      changed_field_words (λ x. x) its_words its_later_words at n (stands_object its_stands id at there) (record {
         same = its_length;
         header_same = word_same at (omega arith) (away_header a c h o u.number id at there);
         birth_same = word_same (at + 1) (omega arith) (away_birth a c h o u.number id at there);
@@ -226,9 +238,9 @@ module _ (a : Account) (c : Core) (h : Agrees a c) {numbers : List ℕ} {heard :
   is_bystander : IsBystander bystander
   unfolding bystander
   is_bystander = record {
-    stands = w.stands;
+    stands = its_stands;
     has = w.made;
-    written = w.written;
+    written = its_written;
     of_fields = w.fields;
     locked = w.locked;
     settled = seal_stands (seal.can a c h o s t e space) (seal.room a c h o s t e space);
@@ -244,15 +256,17 @@ module _ (a : Account) (c : Core) (h : Agrees a c) {numbers : List ℕ} {heard :
   }
 
   -- What it sees stands behind the seal.
-  pub stays_beside : IsWriting later behind u.number (locks_of after u) then (seal.last a c h o s t e)
+  pub stays_beside : IsWriting later c.remaining behind u.number (locks_of after u) then (seal.last a c h o s t e)
   unfolding bystander
   stays_beside =
       let last = seal.last a c h o s t e in
       let own = sym same_undo in
       record {
-        stands = subst (λ m. Stands u.number m later behind.graph its_later_words last.base last.used) alike.views.made (beside_stands bystander is_bystander);
+        stands = of_plain (λ ps ws n. Stands u.number behind.made ps behind.graph (others_taken_back last u.number ws) last.base n) left_plain
+            (subst (λ m. Stands u.number m later behind.graph its_later_words last.base last.used) alike.views.made (beside_stands bystander is_bystander));
         made = subst (λ m. HasMade later behind.graph u.number m) alike.views.made (beside_made bystander is_bystander);
-        written = subst (λ us. AreWritten later behind.graph us) own (beside_written bystander is_bystander);
+        apart = w.apart;
+        written = of_plain (λ ps ws n. AreWritten ps behind.graph (undo_of last u.number)) left_plain (subst (λ us. AreWritten later behind.graph us) own (beside_written bystander is_bystander));
         fields = subst (λ us. AreOfFields later behind.graph us) own (beside_fields bystander is_bystander);
         locked = subst (λ us. AreLocked later (locks_of after u) us) own
             (subst (λ ls. AreLocked later ls (undo_of h.behind u.number)) alike.locks (beside_locked bystander is_bystander));

@@ -43,10 +43,10 @@ sessions_with a s x own all r t is =
     elim (changed a.active s x r t is) [ inl now ↦ subst IsSession (sym now.0) (own t now.1) | inr was ↦ all r t was.1 ]
 
 -- what a session's transaction sees stands, if it does where there is one
-pub writer_by : (places : Places) (g0 : Graph) (a : Account) (x : Option Transaction) (words : List ℕ) (state : State)
-    → ((t : Transaction) → x ≡ Some t → IsWriting places (view g0 a t) t.number (locks_of (serial g0 a.sealed) t) words state) → IsWriter places g0 a x words state
-writer_by places g0 a None words state each = tt
-writer_by places g0 a (Some t) words state each = each t refl
+pub writer_by : (places remaining : Places) (g0 : Graph) (a : Account) (x : Option Transaction) (words : List ℕ) (state : State)
+    → ((t : Transaction) → x ≡ Some t → IsWriting places remaining (view g0 a t) t.number (locks_of (serial g0 a.sealed) t) words state) → IsWriter places remaining g0 a x words state
+writer_by places remaining g0 a None words state each = tt
+writer_by places remaining g0 a (Some t) words state each = each t refl
 
 -- A call.
 

@@ -1,11 +1,12 @@
 -- Transactions side by side write fields of different objects: each holds exclusively what it writes. So what a transaction sees of an
 -- object that no other holds exclusively stands in the words.
-use Rattle.std.proofs.Common.{◌≡◌, ◌≢◌, inl, inr, ℕ, ◌+◌, ◌<◌, List, [], ◌∷◌, length, map, get_or, Some, None, refl, sym, ap, ◌∙◌, subst, arith, slice_index_or, unwrap_or}
+use Rattle.std.proofs.Common.{◌≡◌, ◌≢◌, inl, inr, ℕ, zero, suc, ◌+◌, ◌<◌, List, [], ◌∷◌, length, map, get_or, Some, None, refl, sym, ap, ◌∙◌, subst, arith, slice_index_or, unwrap_or, false}
 use Rattle.std.specs.List.{AllByRecursion, Contains}
 use Rattle.std.specs.FinMap.{get}
 use Rattle.std.proofs.lemmas.List.{ext_get_or, get_or-map, length-map}
 use Rattle.std.proofs.lemmas.Option.{same_Some}
 use Rattle.graph_model.specs.declared.id.Id.{Id}
+use Rattle.graph_model.specs.declared.val.Val.{Val}
 use Rattle.graph_model.specs.declared.val.Val.TheVariants.{Null}
 use Rattle.graph_model.specs.Graph.{Graph, fields}
 use Rattle.graph_model.specs.Transaction.{Transaction, serial}
@@ -23,13 +24,23 @@ use Rattle.log_machine.specs.Machine.{State, field_at, undo_of}
 use Rattle.log_machine.proofs.Fields.{written, IsApart}
 use Rattle.log_machine.specs.Apart.{others_taken_back}
 use Rattle.log_machine.proofs.ListLaws.{AllByRecursion-map}
-use Rattle.graph_words.specs.Places.{Places, address_of, bits_of, place_of}
+use Rattle.graph_words.specs.Places.{IsAtHand, IsVisible, Places, address_of, bits_of, place_of}
 use Rattle.graph_words.specs.Stands.{IsOfField}
-use Rattle.graph_words.proofs.Stands.Objects.{stands_object, stands_one, stands_field, stands_field_apart, stands_field_one, word_at_field}
+use Rattle.graph_words.proofs.Area.Made.{own_visible}
+use Rattle.graph_words.proofs.Places.Addresses.{address_of-Contains, some_address}
+use Rattle.graph_words.proofs.Seal.Places.{address_of-append_left}
+use Rattle.graph_words.proofs.Stands.Objects.{stands_object, stands_one, stands_field_apart, stands_field_one, word_at_field}
+use Rattle.collection_words.specs.Completed.{completed, completed_places, future}
+use Rattle.collection_words.specs.LaidOut.{is_gray}
+use Rattle.collection_words.proofs.Heap.Cases.{stands_alike}
+use Rattle.collection_words.proofs.Laid.Within.{placed_within}
+use Rattle.heap_model.proofs.ListLaws.{AllByRecursion-at}
 use Rattle.heap_model.specs.Core.{Core, all_words}
+use Rattle.heap_model.proofs.Step.Plain.{told_none}
 use Rattle.core_laws.specs.Valid.{IsLocked, IsWriting, Agrees}
 use Rattle.core_laws.proofs.Step.Goes.{writing_of}
 use Rattle.core_laws.proofs.Sessions.OtherWrites.{IsAway, others_at, length-others}
+use Rattle.core_laws.proofs.Sessions.Whole.{value_here, word_here}
 
 -- Locks.
 
@@ -47,6 +58,11 @@ both_hold : {X : Type 0} (P Q R : X → Type 0) (xs : List X) → ((x : X) → P
 both_hold P Q R [] f p q = tt
 both_hold P Q R (x ∷ xs) f p q = (f x p.0 q.0, both_hold P Q R xs f p.1 q.1)
 
+at_or_null : (P : Val → Type 0) (vs : List Val) (i : ℕ) → P Null → (i < length vs → P (slice_index_or vs i Null)) → P (slice_index_or vs i Null)
+at_or_null P [] i none some = none
+at_or_null P (v ∷ vs) zero none some = some (omega arith)
+at_or_null P (v ∷ vs) (suc i) none some = at_or_null P vs i none (λ within. some (omega arith))
+
 -- writes to addresses that no other transaction has written are apart from those of the others
 pub apart_of : (s : State) (t : ℕ) (us : List UndoEntry) → AllByRecursion (λ u. IsAway s t (written u)) us → IsApart s t us
 apart_of s t [] away q vs some other = tt
@@ -59,7 +75,7 @@ pub record IsWrittenBy (a : Account) (c : Core) (state : State) (q : ℕ) (vs : 
   pub active : a.active session ≡ Some transaction
   pub number : transaction.number ≡ q
   pub own : vs ≡ undo_of state q
-  pub writing : IsWriting c.places (view c.g0 a transaction) transaction.number (locks_of (serial c.g0 a.sealed) transaction) (all_words c) state
+  pub writing : IsWriting c.places c.remaining (view c.g0 a transaction) transaction.number (locks_of (serial c.g0 a.sealed) transaction) (all_words c) state
 
 -- A write of a field of an object that these locks hold exclusively.
 record IsHeldField (places : Places) (g : Graph) (locks : List Lock) (v : UndoEntry) : Type 0 where
@@ -69,6 +85,14 @@ record IsHeldField (places : Places) (g : Graph) (locks : List Lock) (v : UndoEn
   lock : Contains locks (id, Exclusive)
 
 module _ (a : Account) (c : Core) (h : Agrees a c) {numbers : List ℕ} {heard : Heard} (o : IsOrdered c.g0 numbers a heard) where
+  -- all objects of the completed words
+  abbrev all_places : Places
+  all_places = completed_places h.behind c.places c.remaining (all_words c)
+
+  -- a current object is one of them
+  among_all : (id : Id) (at : ℕ) → address_of c.places id ≡ Some at → address_of all_places id ≡ Some at
+  among_all id at is = address_of-append_left c.places (future h.behind (all_words c) c.remaining) id at is
+
   -- a write of a field of an object that a transaction holds exclusively
   abbrev IsHeldBy : Transaction → UndoEntry → Type 0
   IsHeldBy t v = IsHeldField c.places (serial c.g0 a.sealed) (locks_of (serial c.g0 a.sealed) t) v
@@ -100,7 +124,7 @@ module _ (a : Account) (c : Core) (h : Agrees a c) {numbers : List ℕ} {heard :
   held_field : (s : ℕ) (t : Transaction) → a.active s ≡ Some t → (v : UndoEntry) → IsOfField c.places (view c.g0 a t).graph v → IsLocked c.places (locks_of (serial c.g0 a.sealed) t) v
       → IsHeldBy t v
   held_field s t e v field locked =
-      let same : locked.id ≡ field.id = stands_one h.told.stands locked.id field.id v.object locked.object field.object in
+      let same : locked.id ≡ field.id = stands_one h.told.stands locked.id field.id v.object (among_all locked.id v.object locked.object) (among_all field.id v.object field.object) in
       record {
         id = field.id;
         object = field.object;
@@ -121,7 +145,7 @@ module _ (a : Account) (c : Core) (h : Agrees a c) {numbers : List ℕ} {heard :
   field_free : (t u : Transaction) (r : ℕ) → a.active r ≡ Some u → u.number ≢ t.number → (id : Id) (at i : ℕ) → address_of c.places id ≡ Some at → i < length (fields (serial c.g0 a.sealed) id)
       → IsFree c.g0 a t.number (Some (id, Shared)) → (v : UndoEntry) → IsHeldBy u v → field_at at i ≢ written v
   field_free t u r also differ id at i is within free v held same =
-      let one = stands_field_one h.told.stands id held.id at v.object i v.field is held.object within held.within same in
+      let one = stands_field_one h.told.stands id held.id at v.object i v.field (among_all id at is) (among_all held.id v.object held.object) within held.within same in
       free u.number (record {
         differs = differ;
         mode = Exclusive;
@@ -145,7 +169,7 @@ module _ (a : Account) (c : Core) (h : Agrees a c) {numbers : List ℕ} {heard :
       (field_free t w.transaction w.session w.active (λ same. other (sym w.number ∙ same)) id at i is (omega arith) free) (others_held q vs some w)
 
   head_free : (id : Id) (at : ℕ) → address_of c.places id ≡ Some at → (u : Transaction) (v : UndoEntry) → IsHeldBy u v → (at ≢ written v) × (at + 1 ≢ written v)
-  head_free id at is u v held = elim (stands_field_apart h.told.stands held.id id v.object at v.field held.object is held.within) [
+  head_free id at is u v held = elim (stands_field_apart h.told.stands held.id id v.object at v.field (among_all held.id v.object held.object) (among_all id at is) held.within) [
     | inl same ↦
         let place : v.object ≡ at = same_Some v.object at (sym held.object ∙ ap (address_of c.places) same ∙ is) in
         (λ here. omega arith, λ here. omega arith)
@@ -201,26 +225,44 @@ module _ (a : Account) (c : Core) (h : Agrees a c) {numbers : List ℕ} {heard :
   pub object_now : (s : ℕ) (t : Transaction) → a.active s ≡ Some t → (id : Id) (at : ℕ) → address_of c.places id ≡ Some at
       → object_at (all_words c) at ≡ Some (length (fields (view c.g0 a t).graph id))
   object_now s t e id at is =
-      let now = all_words c in
+      let now = completed h.behind c.places c.remaining (all_words c) in
       let seen = others_taken_back h.behind t.number now in
       let n = length (fields (view c.g0 a t).graph id) in
-      let object = stands_object (writing_of a c s t e h).stands id at is in
+      let object = stands_object (writing_of a c s t e h).stands id at (among_all id at is) in
       let fits = (object_header seen at n object).1 in
       let long = length-others h.behind t.number now in
-      object_same seen now at n object (sym (others_at h.behind t.number now at (away_header t.number id at is))) (omega arith)
+      let there = object_same seen now at n object (sym (others_at h.behind t.number now at (away_header t.number id at is))) (omega arith) in
+      let within = placed_within h.told.heap.laid id at is in
+      let alike = stands_alike h.told.heap at within.fields (address_of-Contains c.places id at is) within.object in
+      within.object ∙ sym alike.object ∙ there
 
   -- as many fields stand there as the transaction sees
   pub length_now : (s : ℕ) (t : Transaction) → a.active s ≡ Some t → (id : Id) (at : ℕ) → address_of c.places id ≡ Some at
       → length (field_words (all_words c) at) ≡ length (fields (view c.g0 a t).graph id)
   length_now s t e id at is = length-field_words (all_words c) at (length (fields (view c.g0 a t).graph id)) (object_now s t e id at is)
 
-  -- the word of a field of an object that no other transaction holds exclusively
-  pub word_now : (s : ℕ) (t : Transaction) → a.active s ≡ Some t → (id : Id) (at i : ℕ) → address_of c.places id ≡ Some at → i < length (fields (view c.g0 a t).graph id)
-      → IsFree c.g0 a t.number (Some (id, Shared))
-      → get_or (all_words c) (field_at at i) 0 ≡ bits_of (place_of c.places (view c.g0 a t).graph) (slice_index_or (fields (view c.g0 a t).graph id) i Null)
-  word_now s t e id at i is within free =
-      sym (others_at h.behind t.number (all_words c) (field_at at i) (away_field s t e id at i is within free))
-      ∙ stands_field (writing_of a c s t e h).stands id at i is within
+  -- no field is gray, as no collection is under way
+  pub all_black : (at i : ℕ) → is_gray h.behind.collection at i ≡ false
+  all_black at i = ap (λ o. is_gray o at i) (told_none h.told).none
+
+  module _ (s : ℕ) (t : Transaction) (e : a.active s ≡ Some t) (id : Id) (at i : ℕ) (is : address_of c.places id ≡ Some at) (within : i < length (fields (view c.g0 a t).graph id))
+      (free : IsFree c.g0 a t.number (Some (id, Shared))) where
+    -- the value of a field of an object that no other transaction holds exclusively is seen among the current objects
+    pub value_now : IsVisible c.places t.number (view c.g0 a t).made (slice_index_or (fields (view c.g0 a t).graph id) i Null)
+    value_now = value_here (writing_of a c s t e h) h.told.heap id at is (object_now s t e id at is) i within (away_field s t e id at i is within free) (all_black at i)
+
+    -- and its word stands in the words
+    pub word_now : get_or (all_words c) (field_at at i) 0 ≡ bits_of (place_of c.places (view c.g0 a t).graph) (slice_index_or (fields (view c.g0 a t).graph id) i Null)
+    word_now = word_here (writing_of a c s t e h) h.told.heap id at is (object_now s t e id at is) i within (away_field s t e id at i is within free) (all_black at i)
+
+  -- so is that of any field of an object at hand, and of one past its last
+  pub value_at_hand : (s : ℕ) (t : Transaction) → a.active s ≡ Some t → (id : Id) → IsAtHand c.places t.number (view c.g0 a t).made id → (i : ℕ) → IsFree c.g0 a t.number (Some (id, Shared))
+      → IsVisible c.places t.number (view c.g0 a t).made (slice_index_or (fields (view c.g0 a t).graph id) i Null)
+  value_at_hand s t e id (inl there) i free =
+      let place = some_address (address_of c.places id) there in
+      at_or_null (IsVisible c.places t.number (view c.g0 a t).made) (fields (view c.g0 a t).graph id) i tt (λ within. value_now s t e id place.0 i place.1 within free)
+  value_at_hand s t e id (inr own) i free =
+      AllByRecursion-at (IsVisible c.places t.number (view c.g0 a t).made) (fields (view c.g0 a t).graph id) i Null tt (own_visible (writing_of a c s t e h).made own)
 
   -- all of its fields
   pub fields_now : (s : ℕ) (t : Transaction) → a.active s ≡ Some t → (id : Id) (at : ℕ) → address_of c.places id ≡ Some at → IsFree c.g0 a t.number (Some (id, Shared))

@@ -1,6 +1,6 @@
 -- Each step of a valid core whose transactions run under two-phase locking leaves a valid core.
 use Rattle.std.proofs.Common.{◌≡◌, ℕ, ◌+◌, Bool, true, false, List, [], ◌∷◌, ◌++◌, length, Option, Some, None, is_some, refl, sym, ap, ◌∙◌, subst, arith}
-use Rattle.std.specs.Prelude.{◌==◌, if◌then◌else◌}
+use Rattle.std.specs.Prelude.{◌==◌, if◌then◌else◌, slice_index_or}
 use Rattle.std.proofs.lemmas.Bool.{eqb-false}
 use Rattle.std.proofs.lemmas.List.{append-nil}
 use Rattle.graph_model.specs.declared.event.Event.{Event}
@@ -14,11 +14,11 @@ use Rattle.graph_model.specs.declared.reply.Refusal.TheVariants.{AlreadyActive, 
 use Rattle.graph_model.specs.declared.reply.Reply.{Reply}
 use Rattle.graph_model.specs.declared.reply.Reply.TheVariants.{Aborted, Begun, Durable, Flushed, Clean, Refused}
 use Rattle.graph_model.specs.Graph.{Graph}
-use Rattle.graph_model.specs.Transaction.{Transaction, IsCall, held, put_value, reference_to, call}
+use Rattle.graph_model.specs.Transaction.{Transaction, IsCall, fields_of, held, put_value, reference_to, call}
 use Rattle.graph_model.specs.History.{Account, IsSession, account, account_after, session_of, IsOfSession}
 use Rattle.graph_model.specs.Replies.{IsCallReply}
 use Rattle.graph_model.proofs.Runs.History.{account-append, account_after-call}
-use Rattle.graph_model.specs.Locking.{Exclusive, lock_on, lock_of, IsFree}
+use Rattle.graph_model.specs.Locking.{Mode, Exclusive, Shared, lock_on, lock_of, IsFree}
 use Rattle.graph_model.specs.Plain.{view, no_number, field_refusal, call_refusal, event_refusal, call_conflict, conflict_refusal, model_refusal, first_of_two, refusal_of, granted, reply_of}
 use Rattle.graph_model.proofs.Refusals.Plain.{IsNoFault, HasNoFault, call_reply-IsCallReply, event_refusal-call, granted-call, account_after-refused}
 use Rattle.graph_model.proofs.Refusals.Granted.{new_granted}
@@ -29,6 +29,7 @@ use Rattle.log_machine.specs.Machine.{State, undo_of, abort_records}
 use Rattle.graph_words.specs.Places.{Places, IsVisible}
 use Rattle.heap_model.specs.Core.{Core, ground, all_records, next_number, undo_with, undo_behind, kept_for, view_records, call_records, event_records, event_places, sealed_places, used, need, reserved, reserved_after, room_refusal, words_refusal, log_refusal, core_refusal, granted_by, with_entry, is_dirty, done, after_refusal, after}
 use Rattle.heap_model.proofs.Step.Goes.{need_nothing}
+use Rattle.heap_model.proofs.Step.Handles.{ReadsVisible, held_at_hand}
 use Rattle.heap_model.proofs.Step.Room.{full_log-none, full_log-room}
 use Rattle.heap_model.proofs.Step.Step.{core_refusal-HasNoFault, done_history}
 use Rattle.core_laws.proofs.Step.Forms.{is_write, quiet_records, call_places, is_new, quiet_call, done_records, no_call, two_tests, not_active, has_transaction, area_fits, put_bounds, reference_visible, link_field}
@@ -39,6 +40,7 @@ use Rattle.core_laws.proofs.Step.GrantedEnds.{abort_room, abort_agrees, force_ag
 use Rattle.core_laws.proofs.Step.Reserved.{reserved_same}
 use Rattle.core_laws.proofs.Seal.Agrees.{seal_agrees}
 use Rattle.core_laws.proofs.Sessions.Actives.{called, called_reserved}
+use Rattle.core_laws.proofs.Sessions.Apart.{value_at_hand}
 use Rattle.core_laws.proofs.Step.Sound.{agrees_entry}
 use Rattle.core_laws.proofs.Step.TwoPhase.{model_granted, free_call}
 use Rattle.core_laws.specs.Valid.{RunsLocked, Agrees, IsValid}
@@ -174,11 +176,40 @@ call_left c event more is records go =
     let there = subst (λ (d : Core). Agrees (called a (session_of event) event) d) (sym left) go in
     subst (λ (b : Account). Agrees b (done c event)) (sym (call_account (next_number c) c.g0 a event is)) there
 
-quiet_goes : (c : Core) (event : Event) → IsValid c → IsCall event → is_write event ≡ false → is_new event ≡ false → IsGranted c event → Goes c event
-quiet_goes c event valid is quiet old may =
+-- a transaction that uses what a handle holds in a mode finds it free
+held_free : (c : Core) (event : Event) (t : Transaction) (hd : ℕ) (mode : Mode) → IsValid c → (account c.history).active (session_of event) ≡ Some t → conflict_refusal c.g0 (account c.history) event ≡ None
+    → lock_of (view c.g0 (account c.history) t).registers event ≡ lock_on (view c.g0 (account c.history) t).registers hd mode
+    → (id : Id) → held (view c.g0 (account c.history) t).registers hd ≡ Some id → IsFree c.g0 (account c.history) t.number (Some (id, mode))
+held_free c event t hd mode valid e free lock id holds =
+    let a = account c.history in
+    let all = free_call c.g0 a t event valid.in_sessions (ap (λ (o : Option Transaction). call_conflict c.g0 a o event) (sym e) ∙ free) in
+    subst (IsFree c.g0 a t.number) (lock ∙ lock_on-held (view c.g0 a t).registers hd mode id holds) all
+
+-- what the call of a session's transaction reads is seen among the current objects
+abbrev ReadsHere : Core → Event → Type 0
+ReadsHere c event =
+    (t : Transaction) → (account c.history).active (session_of event) ≡ Some t → ReadsVisible c.places t.number (view c.g0 (account c.history) t).made (view c.g0 (account c.history) t) event
+
+quiet_goes : (c : Core) (event : Event) → IsValid c → IsCall event → is_write event ≡ false → is_new event ≡ false → ReadsHere c event → IsGranted c event → Goes c event
+quiet_goes c event valid is quiet old reads may =
     let a = account c.history in
     let t = call_transaction c event is may.asks in
-    call_left c event [] is (quiet_records c event is quiet) (quiet_agrees a c (session_of event) t.0 event valid t.1 (quiet_call (view c.g0 a t.0) t.0.number event quiet old))
+    call_left c event [] is (quiet_records c event is quiet)
+    (quiet_agrees a c (session_of event) t.0 event valid t.1 (quiet_call (view c.g0 a t.0) t.0.number event quiet old) (reads t.0 t.1))
+
+-- what a get reads, of an object that no other transaction holds exclusively
+get_reads : (c : Core) (s h i h2 : ℕ) → IsValid c → RunsLocked c.g0 c.first c.history → IsGranted c (Get s h i h2) → ReadsHere c (Get s h i h2)
+get_reads c s h i h2 valid runs may t e =
+    let a = account c.history in
+    read_here (held (view c.g0 a t).registers h) refl
+  where
+    read_here : (o : Option Id) → held (view c.g0 (account c.history) t).registers h ≡ o
+        → IsVisible c.places t.number (view c.g0 (account c.history) t).made (slice_index_or (fields_of (view c.g0 (account c.history) t).graph o) i Null)
+    read_here None none = tt
+    read_here (Some id) holds =
+        value_at_hand (account c.history) c valid (two_phase_ordered c.g0 c.history runs.plain runs.two_phase) s t e id
+        (held_at_hand c.places t.number (view c.g0 (account c.history) t).made (view c.g0 (account c.history) t).registers h id (writing_of (account c.history) c s t e valid).handles holds) i
+        (held_free c (Get s h i h2) t h Shared valid e may.free refl id holds)
 
 new_goes : (c : Core) (s h len : ℕ) → IsValid c → IsGranted c (New s h len) → Goes c (New s h len)
 new_goes c s h len valid may =
@@ -189,15 +220,6 @@ new_goes c s h len valid may =
     let room = ap (λ (o : Option Transaction). room_refusal (ground c) c.g0 a o event) (sym t.1) ∙ may.words in
     call_left c event [] tt (quiet_records c event tt refl) (new_agrees a c s t.0 h len valid t.1 bounds.1 (area_fits (view c.g0 a t.0) t.0.number len room))
 
--- a transaction that writes into what a handle holds finds it free
-write_free : (c : Core) (event : Event) (t : Transaction) (hd : ℕ) → IsValid c → (account c.history).active (session_of event) ≡ Some t → conflict_refusal c.g0 (account c.history) event ≡ None
-    → lock_of (view c.g0 (account c.history) t).registers event ≡ lock_on (view c.g0 (account c.history) t).registers hd Exclusive
-    → (id : Id) → held (view c.g0 (account c.history) t).registers hd ≡ Some id → IsFree c.g0 (account c.history) t.number (Some (id, Exclusive))
-write_free c event t hd valid e free lock id holds =
-    let a = account c.history in
-    let all = free_call c.g0 a t event valid.in_sessions (ap (λ (o : Option Transaction). call_conflict c.g0 a o event) (sym e) ∙ free) in
-    subst (IsFree c.g0 a t.number) (lock ∙ lock_on-held (view c.g0 a t).registers hd Exclusive id holds) all
-
 -- a call that writes a value into a field
 write_goes : (c : Core) (t : Transaction) (event : Event) (hd i : ℕ) (v : Val) → (valid : IsValid c) → RunsLocked c.g0 c.first c.history → IsCall event → IsGranted c event
     → (account c.history).active (session_of event) ≡ Some t
@@ -206,13 +228,14 @@ write_goes : (c : Core) (t : Transaction) (event : Event) (hd i : ℕ) (v : Val)
     → IsVisible c.places t.number (view c.g0 (account c.history) t).made v
     → field_refusal (view c.g0 (account c.history) t).graph (held (view c.g0 (account c.history) t).registers hd) i ≡ None
     → lock_of (view c.g0 (account c.history) t).registers event ≡ lock_on (view c.g0 (account c.history) t).registers hd Exclusive
+    → ReadsVisible c.places t.number (view c.g0 (account c.history) t).made (view c.g0 (account c.history) t) event
     → event_records c event ≡ view_records c.places t.number (view c.g0 (account c.history) t) hd i v → Goes c event
-write_goes c t event hd i v valid runs is may e graph made seen within lock records =
+write_goes c t event hd i v valid runs is may e graph made seen within lock reads records =
     let a = account c.history in
     let s = session_of event in
     let room = subst (HasRoom c (event_records c event)) (call_account (next_number c) c.g0 a event is) (log_has_room c event may.log) in
     call_left c event (event_records c event) is refl
-    (write_agrees a c (two_phase_ordered c.g0 c.history runs.plain runs.two_phase) s t event hd i v (event_records c event) valid e graph made seen within lock (write_free c event t hd valid e may.free lock) records room)
+    (write_agrees a c (two_phase_ordered c.g0 c.history runs.plain runs.two_phase) s t event hd i v (event_records c event) valid e graph made seen within lock (held_free c event t hd Exclusive valid e may.free lock) reads records room)
 
 put_goes : (c : Core) (s h i v : ℕ) → IsValid c → RunsLocked c.g0 c.first c.history → IsGranted c (Put s h i v) → Goes c (Put s h i v)
 put_goes c s h i v valid runs may =
@@ -220,14 +243,14 @@ put_goes c s h i v valid runs may =
     let event : Event = Put s h i v in
     let t = call_transaction c event tt may.asks in
     let bounds = put_bounds (view c.g0 a t.0).graph (held (view c.g0 a t.0).registers h) i v t.2 in
-    write_goes c t.0 event h i (Int v) valid runs tt may t.1 refl refl bounds.0 bounds.1 refl (ap (λ (o : Option Transaction). call_records (ground c) c.g0 a o event) t.1)
+    write_goes c t.0 event h i (Int v) valid runs tt may t.1 refl refl bounds.0 bounds.1 refl tt (ap (λ (o : Option Transaction). call_records (ground c) c.g0 a o event) t.1)
 
 clear_goes : (c : Core) (s h i : ℕ) → IsValid c → RunsLocked c.g0 c.first c.history → IsGranted c (Clear s h i) → Goes c (Clear s h i)
 clear_goes c s h i valid runs may =
     let a = account c.history in
     let event : Event = Clear s h i in
     let t = call_transaction c event tt may.asks in
-    write_goes c t.0 event h i Null valid runs tt may t.1 refl refl tt t.2 refl (ap (λ (o : Option Transaction). call_records (ground c) c.g0 a o event) t.1)
+    write_goes c t.0 event h i Null valid runs tt may t.1 refl refl tt t.2 refl tt (ap (λ (o : Option Transaction). call_records (ground c) c.g0 a o event) t.1)
 
 link_goes : (c : Core) (s h i h2 : ℕ) → IsValid c → RunsLocked c.g0 c.first c.history → IsGranted c (Link s h i h2) → Goes c (Link s h i h2)
 link_goes c s h i h2 valid runs may =
@@ -239,7 +262,7 @@ link_goes c s h i h2 valid runs may =
     let within = link_field v.graph (held v.registers h) i (held v.registers h2) t.2 in
     write_goes c t.0 event h i (reference_to (held v.registers h2)) valid runs tt may t.1 refl refl
     (reference_visible c.places t.0.number v.made v.registers h2 (held v.registers h2) w.handles refl)
-    within refl (ap (λ (o : Option Transaction). call_records (ground c) c.g0 a o event) t.1)
+    within refl tt (ap (λ (o : Option Transaction). call_records (ground c) c.g0 a o event) t.1)
 
 seal_goes : (c : Core) (s : ℕ) → IsValid c → RunsLocked c.g0 c.first c.history → IsGranted c (Seal s) → Goes c (Seal s)
 seal_goes c s valid runs may =
@@ -259,15 +282,15 @@ abort_goes c s valid runs may =
 -- an event that isn't refused, by its form
 pub goes : (c : Core) (event : Event) → IsValid c → RunsLocked c.g0 c.first c.history → IsOfSession event → IsGranted c event → Goes c event
 goes c (Begin s) valid runs session may = begin_goes c s valid session may
-goes c (Root s h) valid runs session may = quiet_goes c (Root s h) valid tt refl refl may
+goes c (Root s h) valid runs session may = quiet_goes c (Root s h) valid tt refl refl (λ t e. tt) may
 goes c (New s h len) valid runs session may = new_goes c s h len valid may
 goes c (Put s h i v) valid runs session may = put_goes c s h i v valid runs may
 goes c (Clear s h i) valid runs session may = clear_goes c s h i valid runs may
 goes c (Link s h i h2) valid runs session may = link_goes c s h i h2 valid runs may
-goes c (Drop s h) valid runs session may = quiet_goes c (Drop s h) valid tt refl refl may
-goes c (Get s h i h2) valid runs session may = quiet_goes c (Get s h i h2) valid tt refl refl may
-goes c (Same s h h2) valid runs session may = quiet_goes c (Same s h h2) valid tt refl refl may
-goes c (Len s h) valid runs session may = quiet_goes c (Len s h) valid tt refl refl may
+goes c (Drop s h) valid runs session may = quiet_goes c (Drop s h) valid tt refl refl (λ t e. tt) may
+goes c (Get s h i h2) valid runs session may = quiet_goes c (Get s h i h2) valid tt refl refl (get_reads c s h i h2 valid runs may) may
+goes c (Same s h h2) valid runs session may = quiet_goes c (Same s h h2) valid tt refl refl (λ t e. tt) may
+goes c (Len s h) valid runs session may = quiet_goes c (Len s h) valid tt refl refl (λ t e. tt) may
 goes c (Seal s) valid runs session may = seal_goes c s valid runs may
 goes c (Abort s) valid runs session may = abort_goes c s valid runs may
 goes c Force valid runs session may = force_agrees (account c.history) c valid

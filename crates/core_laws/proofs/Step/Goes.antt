@@ -28,8 +28,8 @@ words_with c more = fold put_record (all_words c) more
 
 -- what the transaction of a session sees stands in the words
 pub writing_of : (a : Account) (c : Core) (s : ℕ) (t : Transaction) → a.active s ≡ Some t → (h : Agrees a c)
-    → IsWriting c.places (view c.g0 a t) t.number (locks_of (serial c.g0 a.sealed) t) (all_words c) h.behind
-writing_of a c s t e h = let P : Option Transaction → Type 0 = λ o. IsWriter c.places c.g0 a o (all_words c) h.behind in subst P e (h.writers s)
+    → IsWriting c.places c.remaining (view c.g0 a t) t.number (locks_of (serial c.g0 a.sealed) t) (all_words c) h.behind
+writing_of a c s t e h = let P : Option Transaction → Type 0 = λ o. IsWriter c.places c.remaining c.g0 a o (all_words c) h.behind in subst P e (h.writers s)
 
 -- its number is below the next one
 pub number_below : (a : Account) (c : Core) (s : ℕ) (t : Transaction) → a.active s ≡ Some t → Agrees a c → (1 ≤ t.number) × (t.number < c.first + a.begun)
@@ -73,8 +73,8 @@ agrees_history a c history h = record {
 }
 
 -- What an event leaves of a core that agrees with its history: what the history says of the transactions, and what all records tell
--- with those that it appends, where these objects stand in the current space then.
-pub record Goes (a : Account) (c : Core) (b : Account) (more : List Record) (places : Places) : Type 0 where
+-- with those that it appends, where these objects stand in the current space then, and these remain.
+pub record Goes (a : Account) (c : Core) (b : Account) (more : List Record) (places remaining : Places) : Type 0 where
   pub unfailed : b.failed ≡ None
   pub certain : b.in_doubt ≡ None
   pub acknowledged : b.acknowledged ≡ a.acknowledged
@@ -84,10 +84,10 @@ pub record Goes (a : Account) (c : Core) (b : Account) (more : List Record) (pla
   pub later : List Transaction
   pub sealed : b.sealed ≡ a.sealed ++ later
   pub behind : State
-  pub told : IsTold (log_start c) c.born places (serial c.g0 b.sealed) (c.before + length b.sealed) (all_records c ++ more) (words_with c more) behind
+  pub told : IsTold (log_start c) c.born places remaining (serial c.g0 b.sealed) (c.before + length b.sealed) (all_records c ++ more) (words_with c more) behind
   pub next_known : behind.next ≤ c.first + b.begun
   pub losers : EachKeyed (λ q us. IsActive b q) behind.undo
-  pub writers : (s : ℕ) → IsWriter places c.g0 b (b.active s) (words_with c more) behind
+  pub writers : (s : ℕ) → IsWriter places remaining c.g0 b (b.active s) (words_with c more) behind
   pub room : used c + need c.pending more + reserved (undo_of behind) b ≤ c.room
 
 -- the disk tells the same where more is sealed and no more acknowledged
@@ -104,15 +104,16 @@ disk_on a b c later sealed acknowledged disk =
       acknowledged_last = omega arith;
       state = disk.state;
       places = disk.places;
-      told = subst (λ (g : Graph). IsTold (log_start c) c.born disk.places g (c.before + k) (records_of c.batches) c.words disk.state) (sym graph) disk.told;
+      remaining = disk.remaining;
+      told = subst (λ (g : Graph). IsTold (log_start c) c.born disk.places disk.remaining g (c.before + k) (records_of c.batches) c.words disk.state) (sym graph) disk.told;
       first_known = disk.first_known;
       has_room = disk.has_room;
     }
 
 -- so a core is left that agrees with its history
-pub goes_on : (a : Account) (c : Core) (b : Account) (more : List Record) (places : Places) → Agrees a c → Goes a c b more places
-    → Agrees b (record c { pending = c.pending ++ more; places = places })
-goes_on a c b more places h go =
+pub goes_on : (a : Account) (c : Core) (b : Account) (more : List Record) (places remaining : Places) → Agrees a c → Goes a c b more places remaining
+    → Agrees b (record c { pending = c.pending ++ more; places = places; remaining = remaining })
+goes_on a c b more places remaining h go =
     let all = used-append c more in
     let room = go.room in
     let records = append_assoc (records_of c.batches) c.pending more in
@@ -127,19 +128,19 @@ goes_on a c b more places h go =
       disk = disk_on a b c go.later go.sealed go.acknowledged h.disk;
       behind = go.behind;
       told =
-          let told = subst (λ (rs : List Record). IsTold (log_start c) c.born places (serial c.g0 b.sealed) (c.before + length b.sealed) rs (words_with c more) go.behind) records go.told in
-          subst (λ (ws : List ℕ). IsTold (log_start c) c.born places (serial c.g0 b.sealed) (c.before + length b.sealed) (records_of c.batches ++ (c.pending ++ more)) ws go.behind) words told;
+          let told = subst (λ (rs : List Record). IsTold (log_start c) c.born places remaining (serial c.g0 b.sealed) (c.before + length b.sealed) rs (words_with c more) go.behind) records go.told in
+          subst (λ (ws : List ℕ). IsTold (log_start c) c.born places remaining (serial c.g0 b.sealed) (c.before + length b.sealed) (records_of c.batches ++ (c.pending ++ more)) ws go.behind) words told;
       next_known = go.next_known;
       losers = go.losers;
-      writers = λ s. subst (λ (ws : List ℕ). IsWriter places c.g0 b (b.active s) ws go.behind) words (go.writers s);
+      writers = λ s. subst (λ (ws : List ℕ). IsWriter places remaining c.g0 b (b.active s) ws go.behind) words (go.writers s);
       room = omega arith;
     }
 
 -- no more records tell the same
 pub as_told : (a : Account) (c : Core) → (h : Agrees a c)
-    → IsTold (log_start c) c.born c.places (serial c.g0 a.sealed) (c.before + length a.sealed) (all_records c ++ []) (words_with c []) h.behind
+    → IsTold (log_start c) c.born c.places c.remaining (serial c.g0 a.sealed) (c.before + length a.sealed) (all_records c ++ []) (words_with c []) h.behind
 as_told a c h =
-    subst (λ (rs : List Record). IsTold (log_start c) c.born c.places (serial c.g0 a.sealed) (c.before + length a.sealed) rs (all_words c) h.behind) (sym (append-nil (all_records c))) h.told
+    subst (λ (rs : List Record). IsTold (log_start c) c.born c.places c.remaining (serial c.g0 a.sealed) (c.before + length a.sealed) rs (all_words c) h.behind) (sym (append-nil (all_records c))) h.told
 
 -- no more places are those that there are
 pub places_still : (c : Core) (more : List Record) → record c { pending = c.pending ++ more; places = c.places ++ [] } ≡ record c { pending = c.pending ++ more }

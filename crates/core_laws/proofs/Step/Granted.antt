@@ -1,5 +1,5 @@
 -- A transaction that begins, and a call that appends no record, leave a core that agrees with its history.
-use Rattle.std.proofs.Common.{◌≡◌, ◌≢◌, inr, ℕ, ◌+◌, ◌≤◌, List, [], ◌++◌, length, Option, Some, None, unwrap_or, refl, sym, ap, subst, arith}
+use Rattle.std.proofs.Common.{◌≡◌, ◌≢◌, inr, ℕ, ◌+◌, ◌≤◌, List, [], ◌++◌, length, Option, Some, None, unwrap_or, is_some, refl, sym, ap, subst, arith}
 use Rattle.std.specs.List.{AllByRecursion}
 use Rattle.std.specs.Option.{option_to_list}
 use Rattle.std.proofs.lemmas.List.{append-nil}
@@ -17,22 +17,27 @@ use Rattle.graph_model.specs.Transaction.{Transaction, View, call, fresh_view, r
 use Rattle.commit_order.proofs.LockingLaws.{locks_of_calls-append}
 use Rattle.log_records.specs.declared.Record.{Record}
 use Rattle.log_machine.specs.Apart.{others_taken_back}
-use Rattle.log_machine.specs.Machine.{State, undo_of}
+use Rattle.log_machine.specs.Machine.{State, owed, undo_of}
 use Rattle.log_machine.specs.declared.UndoEntry.{UndoEntry}
 use Rattle.graph_words.specs.Area.{HasMade}
-use Rattle.graph_words.specs.Places.{Places, area_used}
+use Rattle.graph_words.specs.Places.{IsOld, Places, area_used, made_by}
 use Rattle.graph_words.specs.Stands.{Stands, StandsCommitted, AreWritten, AreOfFields}
+use Rattle.graph_words.proofs.Places.Addresses.{old_apart}
 use Rattle.graph_words.proofs.Stands.Own.{new_stands, new_made, new_written, new_kept}
 use Rattle.graph_words.proofs.Stands.Write.{committed_stands, begin_made_next, begin_written}
+use Rattle.collection_words.specs.Completed.{completed, completed_places, future}
+use Rattle.collection_words.specs.LaidOut.{AreHeapWords}
+use Rattle.collection_words.proofs.Heap.Front.{all_front}
 use Rattle.heap_model.specs.Core.{Core, log_start, all_records, all_words, undo_with, undo_behind, used, need, reserved}
 use Rattle.heap_model.proofs.Step.Goes.{told_sound, need_nothing}
 use Rattle.heap_model.proofs.Step.Granted.{IsQuiet}
-use Rattle.heap_model.proofs.Step.Handles.{call_at_hand, none_at_hand, more_handles}
+use Rattle.heap_model.proofs.Step.Handles.{ReadsVisible, call_at_hand, none_at_hand, more_handles}
 use Rattle.heap_model.proofs.Opening.Told.{of_fields_kept}
 use Rattle.heap_model.specs.CoreTold.{HoldsAtHand, IsTold, IsNumbered}
 use Rattle.heap_model.proofs.ListLaws.{AllByRecursion-set, AllByRecursion-map}
 use Rattle.core_laws.proofs.Step.Goes.{words_with, writing_of, goes_on, as_told}
 use Rattle.core_laws.proofs.Sessions.Actives.{each_session, sessions_with, after_call, called, called_sessions, called_numbered, called_actives, begun_actives, called_reserved}
+use Rattle.core_laws.proofs.Sessions.Whole.{none_left, rooted, whole_made}
 use Rattle.core_laws.proofs.Step.Told.{none_yet, others_all}
 use Rattle.core_laws.specs.Valid.{IsLocked, AreLocked, IsWriting, IsWriter, Agrees}
 
@@ -43,24 +48,28 @@ abbrev pub HasRoom : Core → List Record → Account → Type 0
 HasRoom c more b = used c + need c.pending more + reserved (undo_behind c (all_records c ++ more)) b ≤ c.room
 
 -- what is kept, where the state behind them is known
-pub reserved_told : (c : Core) (more : List Record) (b : Account) {places : Places} {g : Graph} {k : ℕ} {state : State} → IsTold (log_start c) c.born places g k (all_records c ++ more) (words_with c more) state
+pub reserved_told : (c : Core) (more : List Record) (b : Account) {places remaining : Places} {g : Graph} {k : ℕ} {state : State} → IsTold (log_start c) c.born places remaining g k (all_records c ++ more) (words_with c more) state
     → reserved (undo_behind c (all_records c ++ more)) b ≡ reserved (undo_of state) b
 reserved_told c more b told = ap (λ o. reserved (undo_with o) b) told.reached
 
 -- A transaction begins.
 
 begin_writing : (a : Account) (c : Core) (n : ℕ) (h : Agrees a c) → h.behind.next ≤ n → 1 ≤ n
-    → IsWriting c.places (view c.g0 a (record { number = n; calls = [] })) n [] (all_words c) h.behind
+    → IsWriting c.places c.remaining (view c.g0 a (record { number = n; calls = [] })) n [] (all_words c) h.behind
 begin_writing a c n h above some =
-    let now = all_words c in
+    let whole = completed_places h.behind c.places c.remaining (all_words c) in
+    let now = completed h.behind c.places c.remaining (all_words c) in
+    let later = future h.behind (all_words c) c.remaining in
     let none = none_yet h.behind n (told_sound h.told) above in
     let nothing : undo_of h.behind n ≡ [] = ap (λ o. unwrap_or o []) none in
     let all = sym (others_all h.behind n now none) in
-    let seen = subst (λ ws. StandsCommitted c.places (serial c.g0 a.sealed) ws h.behind.base h.behind.used) all h.told.stands in
+    let seen = subst (λ ws. StandsCommitted whole (serial c.g0 a.sealed) ws h.behind.base (h.behind.used + owed h.behind)) all h.told.stands in
+    let old = all_front (λ p. IsOld h.behind.next p.0) c.places later h.told.old in
     record {
       stands = committed_stands seen n 0;
-      made = begin_made_next c.places (serial c.g0 a.sealed) h.behind.next n h.told.old above some;
-      written = subst (AreWritten c.places (serial c.g0 a.sealed)) (sym nothing) (begin_written seen);
+      made = begin_made_next c.places (serial c.g0 a.sealed) h.behind.next n old.0 above some;
+      apart = λ k. none_left h.behind (all_words c) c.remaining (made_by n k) (old_apart h.behind.next later n k old.1 above some);
+      written = subst (AreWritten whole (serial c.g0 a.sealed)) (sym nothing) (begin_written seen);
       fields = subst (AreOfFields c.places (serial c.g0 a.sealed)) (sym nothing) tt;
       locked = subst (AreLocked c.places []) (sym nothing) tt;
       handles = none_at_hand c.places n 0 64;
@@ -84,8 +93,8 @@ begin_agrees a c s h session none fits room =
     let b : Account = account_after a (record { event = Begin s; reply = Begun n }) in
     let own = begin_writing a c n h (omega arith) (omega arith) in
     let kept = reserved_told c [] b (as_told a c h) in
-    let P : ℕ → Option Transaction → Type 0 = λ r o. IsWriter c.places c.g0 b o (all_words c) h.behind in
-    goes_on a c b [] c.places h (record {
+    let P : ℕ → Option Transaction → Type 0 = λ r o. IsWriter c.places c.remaining c.g0 b o (all_words c) h.behind in
+    goes_on a c b [] c.places c.remaining h (record {
       unfailed = h.unfailed;
       certain = h.certain;
       acknowledged = refl;
@@ -106,18 +115,18 @@ begin_agrees a c s h session none fits room =
 
 -- a call that appends no record, where what its transaction sees stands behind it
 pub quiet_goes : (a : Account) (c : Core) (s : ℕ) (t : Transaction) (event : Event) → (h : Agrees a c) → a.active s ≡ Some t
-    → IsWriting c.places (call (view c.g0 a t) t.number event).view t.number (locks_of (serial c.g0 a.sealed) (after_call t event)) (all_words c) h.behind
+    → IsWriting c.places c.remaining (call (view c.g0 a t) t.number event).view t.number (locks_of (serial c.g0 a.sealed) (after_call t event)) (all_words c) h.behind
     → Agrees (called a s event) (record c { pending = c.pending ++ [] })
 quiet_goes a c s t event h e writes =
     let now = all_words c in
     let b = called a s event in
-    let P : ℕ → Option Transaction → Type 0 = λ r o. IsWriter c.places c.g0 b o now h.behind in
-    let Q : View → Type 0 = λ v. IsWriting c.places v t.number (locks_of (serial c.g0 a.sealed) (after_call t event)) now h.behind in
+    let P : ℕ → Option Transaction → Type 0 = λ r o. IsWriter c.places c.remaining c.g0 b o now h.behind in
+    let Q : View → Type 0 = λ v. IsWriting c.places c.remaining v t.number (locks_of (serial c.g0 a.sealed) (after_call t event)) now h.behind in
     let own = subst (λ o. P s (with_call o event)) (sym e) (subst Q (sym (run-append (serial c.g0 a.sealed) t event)) writes) in
     let nothing = need_nothing c.pending in
     let kept = called_reserved (undo_of h.behind) a s event in
     let room = h.room in
-    goes_on a c b [] c.places h (record {
+    goes_on a c b [] c.places c.remaining h (record {
       unfailed = h.unfailed;
       certain = h.certain;
       acknowledged = refl;
@@ -142,19 +151,23 @@ locked_on places g t event undo all =
     (AllByRecursion-map (IsLocked places (locks_of g t)) (IsLocked places (locks_of g t ++ more)) undo
     (λ u is. record { id = is.id; object = is.object; lock = Contains-append_left (locks_of g t) more (is.id, Exclusive) is.lock }) all)
 
-quiet_writing : (places : Places) (g : Graph) (t : Transaction) (event : Event) (now : List ℕ) (state : State) → IsQuiet (run g t) t.number event → IsWriting places (run g t) t.number (locks_of g t) now state
-    → IsWriting places (call (run g t) t.number event).view t.number (locks_of g (after_call t event)) now state
-quiet_writing places g t event now state quiet w =
+quiet_writing : (places remaining : Places) (g : Graph) (t : Transaction) (event : Event) (now : List ℕ) (state : State) → AreHeapWords state places remaining now → IsQuiet (run g t) t.number event
+    → ReadsVisible places t.number (run g t).made (run g t) event → IsWriting places remaining (run g t) t.number (locks_of g t) now state
+    → IsWriting places remaining (call (run g t) t.number event).view t.number (locks_of g (after_call t event)) now state
+quiet_writing places remaining g t event now state heap quiet reads w =
     let v = run g t in
     let n = t.number in
+    let all = completed_places state places remaining now in
+    let seen = others_taken_back state n (completed state places remaining now) in
     let graph = sym quiet.graph in
     let made = sym quiet.made in
-    let handles = call_at_hand v w.stands w.made w.handles event quiet.made in
+    let handles = call_at_hand places n v.made v (ap is_some (rooted w heap)) w.handles event reads quiet.made in
     record {
-      stands = subst (λ m. Stands n m places (call v n event).view.graph (others_taken_back state n now) state.base state.used) made
-          (subst (λ k. Stands n v.made places k (others_taken_back state n now) state.base state.used) graph w.stands);
+      stands = subst (λ m. Stands n m all (call v n event).view.graph seen state.base (state.used + owed state)) made
+          (subst (λ k. Stands n v.made all k seen state.base (state.used + owed state)) graph w.stands);
       made = subst (λ m. HasMade places (call v n event).view.graph n m) made (subst (λ k. HasMade places k n v.made) graph w.made);
-      written = subst (λ k. AreWritten places k (undo_of state n)) graph w.written;
+      apart = w.apart;
+      written = subst (λ k. AreWritten all k (undo_of state n)) graph w.written;
       fields = subst (λ k. AreOfFields places k (undo_of state n)) graph w.fields;
       locked = locked_on places g t event (undo_of state n) w.locked;
       handles = subst (λ m. AllByRecursion (HoldsAtHand places n m) (call v n event).view.registers) made handles;
@@ -162,9 +175,9 @@ quiet_writing places g t event now state quiet w =
 
 -- a call that leaves the graph as it is
 pub quiet_agrees : (a : Account) (c : Core) (s : ℕ) (t : Transaction) (event : Event) → Agrees a c → a.active s ≡ Some t → IsQuiet (view c.g0 a t) t.number event
-    → Agrees (called a s event) (record c { pending = c.pending ++ [] })
-quiet_agrees a c s t event h e quiet =
-    quiet_goes a c s t event h e (quiet_writing c.places (serial c.g0 a.sealed) t event (all_words c) h.behind quiet (writing_of a c s t e h))
+    → ReadsVisible c.places t.number (view c.g0 a t).made (view c.g0 a t) event → Agrees (called a s event) (record c { pending = c.pending ++ [] })
+quiet_agrees a c s t event h e quiet reads =
+    quiet_goes a c s t event h e (quiet_writing c.places c.remaining (serial c.g0 a.sealed) t event (all_words c) h.behind h.told.heap quiet reads (writing_of a c s t e h))
 
 -- a call that makes an object
 pub new_agrees : (a : Account) (c : Core) (s : ℕ) (t : Transaction) (i len : ℕ) → Agrees a c → a.active s ≡ Some t → len ≤ 510
@@ -175,9 +188,10 @@ new_agrees a c s t i len h e small few =
     let w = writing_of a c s t e h in
     let id : Id = record { t = t.number; k = v.made + 1 } in
     quiet_goes a c s t (New s i len) h e (record {
-      stands = new_stands w.stands w.made len;
+      stands = new_stands w.stands (whole_made w) len;
       made = new_made w.made len small few;
-      written = new_written w.made (undo_of h.behind t.number) w.written len;
+      apart = w.apart;
+      written = new_written (whole_made w) (undo_of h.behind t.number) w.written len;
       fields = of_fields_kept c.places v.graph (call v t.number (New s i len)).view.graph (undo_of h.behind t.number)
           (λ q at is. ap (λ o. length (unwrap_or o [])) (new_kept w.made len q at is)) w.fields;
       locked = locked_on c.places (serial c.g0 a.sealed) t (New s i len) (undo_of h.behind t.number) w.locked;

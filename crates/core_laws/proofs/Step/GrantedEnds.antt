@@ -14,6 +14,8 @@ use Rattle.log_machine.proofs.AbortLaws.{abort_words}
 use Rattle.log_machine.specs.Machine.{State, undo_of, with_entries, turned, taken_back, abort_records}
 use Rattle.log_machine.proofs.MachineLaws.{undo_beside}
 use Rattle.log_machine.proofs.MapLaws.{each_other}
+use Rattle.log_machine.proofs.StateLaws.{each_at}
+use Rattle.collection_words.specs.Writes.{AreBacked}
 use Rattle.gated_log.specs.Log.{records_of, batches_bytes, pending_batch, with_batch}
 use Rattle.heap_model.specs.Core.{Core, log_start, all_records, all_words, used, is_dirty, is_ahead, forced, forced_if, page_stored, flushed}
 use Rattle.heap_model.proofs.Step.Goes.{told_sound}
@@ -44,19 +46,23 @@ module _ (a : Account) (c : Core) (h : Agrees a c) {numbers : List ℕ} {heard :
   abbrev aborted : Account
   aborted = account_after a (record { event = Abort s; reply = Aborted })
 
-  end_told : IsTold (log_start c) c.born c.places (serial c.g0 a.sealed) (c.before + length a.sealed) (all_records c ++ ends) (words_with c ends) last
-  end_told = abort_told c.pages c.first_number c.born c.places (serial c.g0 a.sealed) (c.before + length a.sealed) t.number (all_records c) (all_words c) h.behind h.told (numbered_as a c s t e h) (own_apart a c h o s t e)
+  end_told : IsTold (log_start c) c.born c.places c.remaining (serial c.g0 a.sealed) (c.before + length a.sealed) (all_records c ++ ends) (words_with c ends) last
+  end_told = abort_told c.pages c.first_number c.born c.places c.remaining (serial c.g0 a.sealed) (c.before + length a.sealed) t.number (all_records c) (all_words c) h.behind h.told (numbered_as a c s t e h) (own_apart a c h o s t e)
 
   end_words : words_with c ends ≡ taken_back (undo_of h.behind t.number) (all_words c)
   end_words = abort_words t.number (undo_of h.behind t.number) (all_words c)
 
+  -- what would take it back leads to current objects
+  end_backed : AreBacked c.places (all_words c) (undo_of h.behind t.number)
+  end_backed = each_at (λ q us. AreBacked c.places (all_words c) us) h.behind.undo t.number tt h.told.backed
+
   -- the others see what they saw
-  end_others : (r : ℕ) → r ≢ s → IsWriter c.places c.g0 a (a.active r) (words_with c ends) last
+  end_others : (r : ℕ) → r ≢ s → IsWriter c.places c.remaining c.g0 a (a.active r) (words_with c ends) last
   end_others r other =
-      subst (λ ws. IsWriter c.places c.g0 a (a.active r) ws last) (sym end_words)
-      (writer_by c.places c.g0 a (a.active r) _ _ (λ u also.
+      subst (λ ws. IsWriter c.places c.remaining c.g0 a (a.active r) ws last) (sym end_words)
+      (writer_by c.places c.remaining c.g0 a (a.active r) _ _ (λ u also.
       let beside = o.beside r s u t other also e in
-      stays_abort (writing_of a c r u also h) t.number beside.differ (told_sound h.told) (own_apart a c h o s t e)))
+      stays_abort (writing_of a c r u also h) h.told.heap t.number beside.differ end_backed (told_sound h.told) (own_apart a c h o s t e)))
 
   -- what takes the transaction back has room in what is kept for it
   end_room : HasRoom c ends aborted
@@ -71,12 +77,12 @@ module _ (a : Account) (c : Core) (h : Agrees a c) {numbers : List ℕ} {heard :
 
   end_agrees : Agrees aborted (record c { pending = c.pending ++ ends })
   end_agrees =
-      let P : ℕ → Option Transaction → Type 0 = λ r x. IsWriter c.places c.g0 aborted x (words_with c ends) last in
+      let P : ℕ → Option Transaction → Type 0 = λ r x. IsWriter c.places c.remaining c.g0 aborted x (words_with c ends) last in
       let below = (number_below a c s t e h).1 in
       let known = h.next_known in
       let kept = reserved_told c ends aborted end_told in
       let room = end_room in
-      goes_on a c aborted ends c.places h (record {
+      goes_on a c aborted ends c.places c.remaining h (record {
         unfailed = h.unfailed;
         certain = h.certain;
         acknowledged = refl;
@@ -110,10 +116,10 @@ abort_agrees a c o s t more h e is =
 
 -- batches with all records tell all that was sealed
 pub all_on_disk : (a : Account) (c : Core) (bs : List (List Record)) → (h : Agrees a c) → records_of bs ≡ all_records c
-    → IsTold (log_start c) c.born c.places (serial c.g0 (take (length a.sealed) a.sealed)) (c.before + length a.sealed) (records_of bs) (all_words c) h.behind
+    → IsTold (log_start c) c.born c.places c.remaining (serial c.g0 (take (length a.sealed) a.sealed)) (c.before + length a.sealed) (records_of bs) (all_words c) h.behind
 all_on_disk a c bs h same =
-    let now = subst (λ (rs : List Record). IsTold (log_start c) c.born c.places (serial c.g0 a.sealed) (c.before + length a.sealed) rs (all_words c) h.behind) (sym same) h.told in
-    subst (λ (ts : List Transaction). IsTold (log_start c) c.born c.places (serial c.g0 ts) (c.before + length a.sealed) (records_of bs) (all_words c) h.behind) (sym (take-length a.sealed)) now
+    let now = subst (λ (rs : List Record). IsTold (log_start c) c.born c.places c.remaining (serial c.g0 a.sealed) (c.before + length a.sealed) rs (all_words c) h.behind) (sym same) h.told in
+    subst (λ (ts : List Transaction). IsTold (log_start c) c.born c.places c.remaining (serial c.g0 ts) (c.before + length a.sealed) (records_of bs) (all_words c) h.behind) (sym (take-length a.sealed)) now
 
 -- batches with all records agree with what was sealed, however much of that is acknowledged
 force_all : (a : Account) (c : Core) (bs : List (List Record)) (acknowledged entries : ℕ) → Agrees a c → records_of bs ≡ all_records c
@@ -137,12 +143,13 @@ force_all a c bs acknowledged entries h same size last =
         acknowledged_last = last;
         state = h.behind;
         places = c.places;
+        remaining = c.remaining;
         told = all_on_disk a c bs h same;
         first_known = known_on a c h;
         has_room = omega arith;
       };
       behind = h.behind;
-      told = subst (λ (rs : List Record). IsTold (log_start c) c.born c.places (serial c.g0 a.sealed) (c.before + length a.sealed) rs (all_words c) h.behind) (sym records) h.told;
+      told = subst (λ (rs : List Record). IsTold (log_start c) c.born c.places c.remaining (serial c.g0 a.sealed) (c.before + length a.sealed) rs (all_words c) h.behind) (sym records) h.told;
       next_known = h.next_known;
       losers = λ q us is. same_actives a b refl q (h.losers q us is);
       writers = h.writers;

@@ -1,5 +1,5 @@
 -- What a sound core agrees with.
-use Rattle.std.proofs.Common.{◌≡◌, inl, inr, ℕ, None, refl}
+use Rattle.std.proofs.Common.{◌≡◌, inl, inr, ℕ, None, Some, refl, sym, ◌∙◌}
 use Rattle.graph_model.specs.History.{Account, account}
 use Rattle.heap_model.specs.Core.{Core}
 use Rattle.core_laws.proofs.Sessions.Actives.{same_actives}
@@ -35,4 +35,4 @@ reached_agrees c reached = sound_agrees c reached.sound
 -- a sound core is valid until the disk stops or fails
 pub sound_valid : (c : Core) → IsSound c → (account c.history).failed ≡ None → IsValid c
 sound_valid c (inl valid) none = valid
-sound_valid c (inr failed) none = let is = failed.failed in cc
+sound_valid c (inr failed) none = let never : None ≡ Some failed.entry = sym none ∙ failed.failed in absurd (cc never)

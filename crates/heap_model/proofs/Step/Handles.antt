@@ -1,5 +1,5 @@
 -- The handles of a transaction hold objects at hand: those that stand in the current space, and those that it has made.
-use Rattle.std.proofs.Common.{◌≡◌, inl, inr, ℕ, zero, suc, ◌≤◌, List, [], ◌∷◌, replicate, Option, Some, None, is_some, refl, ap, subst, arith}
+use Rattle.std.proofs.Common.{◌≡◌, inl, inr, ℕ, zero, suc, true, ◌≤◌, List, [], ◌∷◌, replicate, Option, Some, None, is_some, refl, ap, subst, arith}
 use Rattle.std.specs.Prelude.{slice_index_or}
 use Rattle.std.specs.List.{AllByRecursion}
 use Rattle.graph_model.specs.declared.id.Id.{Id}
@@ -59,22 +59,25 @@ referred_at_hand places t made registers h Null seen all = all
 referred_at_hand places t made registers h (Int n) seen all = all
 referred_at_hand places t made registers h (Ref id) seen all = AllByRecursion-set (HoldsAtHand places t made) registers h (Some id) all seen
 
+-- what a call reads is seen: the value of the field that a get reads
+abbrev pub ReadsVisible : Places → ℕ → ℕ → View → Event → Type 0
+ReadsVisible places t made v (Get s h i h2) = IsVisible places t made (slice_index_or (fields_of v.graph (held v.registers h)) i Null)
+ReadsVisible places t made v event = Unit {0}
+
 -- a call that makes nothing leaves objects at hand in the handles
-pub call_at_hand : {t made : ℕ} {places : Places} {words : List ℕ} {base used : ℕ} → (v : View) → Stands t made places v.graph words base used → HasMade places v.graph t made
-    → HoldAllAtHand places t made v.registers → (event : Event) → (call v t event).view.made ≡ v.made → HoldAllAtHand places t made (call v t event).view.registers
-call_at_hand v stands has all (Begin s) same = all
-call_at_hand {t} {made} {places} v stands has all (Root s h) same = AllByRecursion-set (HoldsAtHand places t made) v.registers h (Some root) all (inl (ap is_some stands.root_place))
-call_at_hand v stands has all (New s h len) same = absurd (omega arith)
-call_at_hand v stands has all (Put s h i n) same = all
-call_at_hand v stands has all (Clear s h i) same = all
-call_at_hand v stands has all (Link s h i h2) same = all
-call_at_hand {t} {made} {places} v stands has all (Drop s h) same = AllByRecursion-set (HoldsAtHand places t made) v.registers h None all tt
-call_at_hand {t} {made} {places} v stands has all (Get s h i h2) same =
-    referred_at_hand places t made v.registers h2 (slice_index_or (fields_of v.graph (held v.registers h)) i Null)
-    (AllByRecursion-at (IsVisible places t made) (fields_of v.graph (held v.registers h)) i Null tt (held_visible stands has v.registers h all (held v.registers h) refl)) all
-call_at_hand v stands has all (Same s h h2) same = all
-call_at_hand v stands has all (Len s h) same = all
-call_at_hand v stands has all (Seal s) same = all
-call_at_hand v stands has all (Abort s) same = all
-call_at_hand v stands has all Force same = all
-call_at_hand v stands has all (Flush p) same = all
+pub call_at_hand : (places : Places) (t made : ℕ) (v : View) → is_some (address_of places root) ≡ true → HoldAllAtHand places t made v.registers → (event : Event) → ReadsVisible places t made v event
+    → (call v t event).view.made ≡ v.made → HoldAllAtHand places t made (call v t event).view.registers
+call_at_hand places t made v rooted all (Begin s) reads same = all
+call_at_hand places t made v rooted all (Root s h) reads same = AllByRecursion-set (HoldsAtHand places t made) v.registers h (Some root) all (inl rooted)
+call_at_hand places t made v rooted all (New s h len) reads same = absurd (omega arith)
+call_at_hand places t made v rooted all (Put s h i n) reads same = all
+call_at_hand places t made v rooted all (Clear s h i) reads same = all
+call_at_hand places t made v rooted all (Link s h i h2) reads same = all
+call_at_hand places t made v rooted all (Drop s h) reads same = AllByRecursion-set (HoldsAtHand places t made) v.registers h None all tt
+call_at_hand places t made v rooted all (Get s h i h2) reads same = referred_at_hand places t made v.registers h2 (slice_index_or (fields_of v.graph (held v.registers h)) i Null) reads all
+call_at_hand places t made v rooted all (Same s h h2) reads same = all
+call_at_hand places t made v rooted all (Len s h) reads same = all
+call_at_hand places t made v rooted all (Seal s) reads same = all
+call_at_hand places t made v rooted all (Abort s) reads same = all
+call_at_hand places t made v rooted all Force reads same = all
+call_at_hand places t made v rooted all (Flush p) reads same = all
