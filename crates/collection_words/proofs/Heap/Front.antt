@@ -60,24 +60,21 @@ of_fields_front places more g us all =
 
 -- The words of values.
 
--- an object at hand stands where it does among the first places
-pub place_front : (places more : Places) (g : Graph) (t made : ℕ) → ((k : ℕ) → address_of places (made_by t k) ≡ None) → ((k : ℕ) → address_of more (made_by t k) ≡ None)
-    → (id : Id) → IsAtHand places t made id → place_of (places ++ more) g id ≡ place_of places g id
-place_front places more g t made none also id (inl there) =
-    let place = some_address (address_of places id) there in
-    ap (λ o. standing o (index_of g id)) (address_of-append_left places more id place.0 place.1 ∙ sym place.1)
-place_front places more g t made none also id (inr own) =
-    let maker = own_made t made id own in
-    let here : address_of places id ≡ None = ap (address_of places) maker ∙ none id.k in
-    let behind : address_of more id ≡ None = ap (address_of more) maker ∙ also id.k in
-    ap (λ o. standing o (index_of g id)) (apart_behind places more id here behind ∙ sym here)
+module _ (places more : Places) (t made : ℕ) (none : (k : ℕ) → address_of places (made_by t k) ≡ None) (also : (k : ℕ) → address_of more (made_by t k) ≡ None) where
+  -- an object at hand has the address that it has among the first places
+  pub same_address : (id : Id) → IsAtHand places t made id → address_of (places ++ more) id ≡ address_of places id
+  same_address id (inl there) = let place = some_address (address_of places id) there in address_of-append_left places more id place.0 place.1 ∙ sym place.1
+  same_address id (inr own) =
+      let maker = own_made t made id own in
+      let here : address_of places id ≡ None = ap (address_of places) maker ∙ none id.k in
+      let behind : address_of more id ≡ None = ap (address_of more) maker ∙ also id.k in
+      apart_behind places more id here behind ∙ sym here
 
--- so a value that is seen has the same word
-pub word_front : (places more : Places) (g : Graph) (t made : ℕ) → ((k : ℕ) → address_of places (made_by t k) ≡ None) → ((k : ℕ) → address_of more (made_by t k) ≡ None)
-    → (v : Val) → IsVisible places t made v → bits_of (place_of (places ++ more) g) v ≡ bits_of (place_of places g) v
-word_front places more g t made none also Null seen = refl
-word_front places more g t made none also (Int n) seen = refl
-word_front places more g t made none also (Ref id) seen = ap (λ w. bits w) (place_front places more g t made none also id seen)
+  -- so a value that is seen has the same word
+  pub word_front : (g : Graph) (v : Val) → IsVisible places t made v → word_of (place_of (places ++ more) g) v ≡ word_of (place_of places g) v
+  word_front g Null seen = refl
+  word_front g (Int n) seen = refl
+  word_front g (Ref id) seen = ap (λ o. standing o (index_of g id)) (same_address id seen)
 
 -- Names.
 

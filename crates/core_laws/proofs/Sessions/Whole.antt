@@ -2,7 +2,7 @@
 use Rattle.std.proofs.Common.{◌≡◌, ℕ, ◌+◌, ◌<◌, inl, inr, true, false, List, length, Option, None, Some, is_some, refl, sym, ap, ◌∙◌, subst, slice_index_or, arith}
 use Rattle.std.specs.List.{AllByRecursion}
 use Rattle.std.specs.Prelude.{slice_index}
-use Rattle.heap_words.specs.Word.{meaning}
+use Rattle.heap_words.specs.Word.{bits, meaning}
 use Rattle.graph_model.specs.declared.id.Id.{Id}
 use Rattle.graph_model.specs.declared.val.Val.{Val}
 use Rattle.graph_model.specs.declared.val.Val.TheVariants.{Null}
@@ -13,16 +13,16 @@ use Rattle.object_layout.specs.Layout.{object_at}
 use Rattle.log_machine.specs.Apart.{others_taken_back}
 use Rattle.log_machine.specs.Machine.{State, field_at, undo_of}
 use Rattle.graph_words.specs.Area.{HasMade}
-use Rattle.graph_words.specs.Places.{IsVisible, Places, address_of, addresses, bits_of, made_by, place_of}
+use Rattle.graph_words.specs.Places.{IsAtHand, IsVisible, Places, address_of, addresses, bits_of, made_by, place_of, word_of}
 use Rattle.graph_words.specs.Stands.{AreOfFields}
 use Rattle.graph_words.proofs.Places.Addresses.{address_of-Contains, none_or_some}
 use Rattle.graph_words.proofs.Seal.Places.{address_of-append_left}
-use Rattle.graph_words.proofs.Stands.Objects.{stands_field, stands_object}
+use Rattle.graph_words.proofs.Stands.Objects.{stands_field, visible_meaning}
 use Rattle.collection_words.specs.Completed.{completed, completed_places, future}
 use Rattle.collection_words.specs.LaidOut.{AreHeapWords, LeadsHere, is_gray}
 use Rattle.collection_words.proofs.Copy.Stands.{root_current}
 use Rattle.collection_words.proofs.Heap.Cases.{heap_word, stands_alike}
-use Rattle.collection_words.proofs.Heap.Front.{has_front, of_fields_front, visible_front, visible_here, visible_leads, word_front}
+use Rattle.collection_words.proofs.Heap.Front.{has_front, same_address, of_fields_front, visible_front, visible_here, visible_leads, word_front}
 use Rattle.collection_words.proofs.Laid.Within.{placed_within}
 use Rattle.collection_words.proofs.Moves.Sources.{put_same}
 use Rattle.heap_model.proofs.ListLaws.{AllByRecursion-at}
@@ -66,7 +66,18 @@ module _ {places remaining : Places} {v : View} {t : ℕ} {locks : List Lock} {w
 
   -- a value that is seen among the current ones has one word
   pub same_word : (x : Val) → IsVisible places t v.made x → bits_of (place_of whole v.graph) x ≡ bits_of (place_of places v.graph) x
-  same_word x seen = word_front places (future state words remaining) v.graph t v.made w.made.apart apart_to_come x seen
+  same_word x seen = ap (λ y. bits y) (word_front places (future state words remaining) t v.made w.made.apart apart_to_come v.graph x seen)
+
+  -- and is read as that
+  pub meaning_here : (x : Val) → IsVisible places t v.made x → meaning (bits_of (place_of places v.graph) x) ≡ Some (word_of (place_of places v.graph) x)
+  meaning_here x seen =
+      ap meaning (sym (same_word x seen))
+      ∙ visible_meaning w.stands whole_made x (visible_front places (future state words remaining) t v.made x seen)
+      ∙ ap Some (word_front places (future state words remaining) t v.made w.made.apart apart_to_come v.graph x seen)
+
+  -- an object at hand has one address
+  pub address_here : (id : Id) → IsAtHand places t v.made id → address_of whole id ≡ address_of places id
+  address_here id at_hand = same_address places (future state words remaining) t v.made w.made.apart apart_to_come id at_hand
 
   -- which leads to current objects, or to none
   pub seen_leads : (x : Val) → IsVisible places t v.made x → LeadsHere (addresses places) (meaning (bits_of (place_of places v.graph) x))

@@ -22,8 +22,10 @@ use Rattle.txn_table.specs.Table.{TransactionState}
 use Rattle.graph_words.proofs.Area.Made.{own_apart}
 use Rattle.graph_words.specs.Places.{Places, address_of, IsAtHand}
 use Rattle.graph_words.proofs.Places.Addresses.{some_address}
+use Rattle.graph_words.proofs.Seal.Places.{address_of-append_left}
 use Rattle.graph_words.proofs.Stands.Objects.{stands_one}
-use Rattle.heap_model.specs.Core.{Core}
+use Rattle.collection_words.specs.Completed.{completed_places, future}
+use Rattle.heap_model.specs.Core.{Core, all_words}
 use Rattle.core_laws.proofs.Step.Goes.{writing_of}
 use Rattle.core_laws.specs.Valid.{IsValid, RunsLocked}
 use Rattle.heap_memory.specs.Memory.{Memory}
@@ -120,8 +122,11 @@ module _ (m : Memory) (c : Core) (valid : IsValid c) (runs : RunsLocked c.g0 c.f
   abbrev v : View
   v = view c.g0 a t
 
+  among : (id : Id) (at : ℕ) → address_of c.places id ≡ Some at → address_of (completed_places valid.behind c.places c.remaining (all_words c)) id ≡ Some at
+  among id at there = address_of-append_left c.places (future valid.behind (all_words c) c.remaining) id at there
+
   table_of : IsLockTable m.locks c.places c.g0 a
-  table_of = record { held = is.sessions.locks; one = λ id q at here there. stands_one valid.told.stands id q at here there; within = valid.in_sessions }
+  table_of = record { held = is.sessions.locks; one = λ id q at here there. stands_one valid.told.stands id q at (among id at here) (among q at there); within = valid.in_sessions }
 
   -- memory finds the holder that the model finds
   pub same_holder : (id : Id) (at : ℕ) (mode : table.Mode) → address_of c.places id ≡ Some at → holder_of m.locks (asked t.number mode at) ≡ busy_holder c.g0 a t.number (Some (lock_in mode id))

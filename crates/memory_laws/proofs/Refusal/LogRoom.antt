@@ -6,7 +6,7 @@ use Rattle.graph_model.specs.declared.id.Id.{Id}
 use Rattle.graph_model.specs.declared.val.Val.{Val}
 use Rattle.graph_model.specs.Graph.{fields}
 use Rattle.graph_model.specs.History.{Account, account, session_of, sessions}
-use Rattle.graph_model.specs.Locking.{Exclusive, IsFree}
+use Rattle.graph_model.specs.Locking.{Exclusive, IsFree, locks_of}
 use Rattle.graph_model.specs.Plain.{view}
 use Rattle.graph_model.specs.Transaction.{Transaction, View, IsCall, serial, held}
 use Rattle.commit_order.proofs.OrderLaws.{two_phase_ordered}
@@ -92,10 +92,10 @@ module _ (m : Memory) (c : Core) (valid : IsValid c) (runs : RunsLocked c.g0 c.f
   behind id at i = written valid.behind t.number (entry_at id at i)
 
   written_told : (id : Id) (at i : ℕ) (x : Val) → IsWritten id at i x
-      → IsTold (log_start c) c.born c.places (serial c.g0 a.sealed) (c.before + length a.sealed) (all_records c ++ record_at id at i x ∷ []) (words_with c (record_at id at i x ∷ [])) (behind id at i)
+      → IsTold (log_start c) c.born c.places c.remaining (serial c.g0 a.sealed) (c.before + length a.sealed) (all_records c ++ record_at id at i x ∷ []) (words_with c (record_at id at i x ∷ [])) (behind id at i)
   written_told id at i x w =
       let o = two_phase_ordered c.g0 c.history runs.plain runs.two_phase in
-      write_told c.pages c.first_number c.born c.places (serial c.g0 a.sealed) v.graph (c.before + length a.sealed) t.number v.made (all_records c) (all_words c) valid.behind id at i x
+      write_told c.pages c.first_number c.born c.places c.remaining (serial c.g0 a.sealed) v (c.before + length a.sealed) t.number (locks_of (serial c.g0 a.sealed) t) (all_records c) (all_words c) valid.behind id at i x
       (writes_at a c valid o s t active id at i x w.place w.within w.seen w.free)
 
   -- the bytes of one write more are kept

@@ -122,7 +122,7 @@ module _ (m n : Memory) (c : Core) (valid : IsValid c) (runs : RunsLocked c.g0 c
       let more = abort_records t.number undo in
       let table = with_ended m.table s in
       let left = subst (λ (y : TransactionState). Leaves m n (abort_records y.number y.undo) table (without m.locks y.number) m.spaces m.sealed) x aborts.left in
-      let told = abort_told c.pages c.first_number c.born c.places (serial c.g0 a.sealed) (c.before + length a.sealed) t.number (all_records c) (all_words c) behind valid.told (numbered_as a c s t e valid)
+      let told = abort_told c.pages c.first_number c.born c.places c.remaining (serial c.g0 a.sealed) (c.before + length a.sealed) t.number (all_records c) (all_words c) behind valid.told (numbered_as a c s t e valid)
       (own_apart a c valid (two_phase_ordered c.g0 c.history runs.plain runs.two_phase) s t e) in
       let P : ℕ → Option Transaction → Type 0 = λ r o. transaction_of table r ≡ kept_of (ground_in c c.places (ended t.number)) c.g0 a o in
       let others = others_kept m n c valid is s table (ended t.number) (with_ended_other m.table s) (ended_others t e) in

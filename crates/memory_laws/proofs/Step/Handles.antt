@@ -21,6 +21,7 @@ use Rattle.log_machine.specs.Machine.{State, undo_of}
 use Rattle.txn_table.specs.declared.place.Place.{Place}
 use Rattle.graph_words.specs.Places.{Places}
 use Rattle.heap_model.specs.Core.{Core, core_refusal}
+use Rattle.core_laws.proofs.Sessions.Whole.{rooted}
 use Rattle.core_laws.proofs.Step.Goes.{writing_of}
 use Rattle.core_laws.specs.Valid.{IsValid}
 use Rattle.core_laws.proofs.Step.Forms.{is_write, quiet_records}
@@ -66,7 +67,7 @@ module _ (m n : Memory) (c : Core) (valid : IsValid c) (is : IsMemory m (account
   root_stands : (t : Transaction) → a.active s ≡ Some t → Some (root_place m) ≡ option_map (place_in c.places (view c.g0 a t).graph) (Some root)
   root_stands t e =
       let w = writing_of a c s t e valid in
-      ap (λ (p : Place). Some p) (sym (place_in-placed c.places (view c.g0 a t).graph root m.spaces.base (w.stands.root_place ∙ ap (λ (x : SpacesState). Some x.base) (sym (spaces_are m n c valid is)))))
+      ap (λ (p : Place). Some p) (sym (place_in-placed c.places (view c.g0 a t).graph root m.spaces.base (rooted w valid.told.heap ∙ ap (λ (x : SpacesState). Some x.base) (sym (spaces_are m n c valid is)))))
 
   -- a root is answered as the core answers it, and a handle holds the root then
   pub root_does : (h : ℕ) → core_refusal c (Root s h) ≡ handle_refusal (own m s) h → (reply : Reply) → reply ≡ reply_of (handle_refusal (own m s) h) answer.Done

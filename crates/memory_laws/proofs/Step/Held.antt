@@ -19,10 +19,11 @@ use Rattle.log_machine.specs.Machine.{State, undo_of}
 use Rattle.heap_words.specs.Word.{meaning}
 use Rattle.txn_table.specs.declared.place.Place.{Place}
 use Rattle.txn_table.specs.Table.{TransactionState}
-use Rattle.graph_words.proofs.Stands.Hand.{read_visible}
 use Rattle.graph_words.specs.Places.{Places, IsAtHand, place_of, word_of, bits_of}
-use Rattle.graph_words.proofs.Stands.Objects.{visible_meaning}
 use Rattle.heap_model.specs.Core.{Core, area_in, core_refusal}
+use Rattle.commit_order.proofs.OrderLaws.{two_phase_ordered}
+use Rattle.core_laws.proofs.Sessions.Apart.{value_at_hand}
+use Rattle.core_laws.proofs.Sessions.Whole.{meaning_here}
 use Rattle.heap_model.proofs.Step.Handles.{held_at_hand}
 use Rattle.core_laws.proofs.Step.Goes.{writing_of}
 use Rattle.core_laws.proofs.Step.TwoPhase.{free_call, model_granted}
@@ -140,7 +141,8 @@ module _ (m : Memory) (c : Core) (valid : IsValid c) (runs : RunsLocked c.g0 c.f
       let w = writing_of a c s t e valid in
       ap (λ (ws : List ℕ). meaning (slice_index ws i)) (held_fields t e h p there one free)
       ∙ ap meaning (get_or-map (bits_of (place_of c.places v.graph)) (fields v.graph one.id) i Null 0 within)
-      ∙ visible_meaning w.stands w.made (slice_index_or (fields v.graph one.id) i Null) (read_visible w.stands w.made one.id i one.at_hand)
+      ∙ meaning_here w (slice_index_or (fields v.graph one.id) i Null)
+      (value_at_hand a c valid (two_phase_ordered c.g0 c.history runs.plain runs.two_phase) s t e one.id one.at_hand i free)
 
   -- a call that isn't refused finds free what it needs
   pub call_free : (t : Transaction) → a.active s ≡ Some t → (event : Event) → session_of event ≡ s → core_refusal c event ≡ None → IsFree c.g0 a t.number (lock_of (view c.g0 a t).registers event)

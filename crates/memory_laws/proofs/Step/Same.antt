@@ -16,17 +16,20 @@ use Rattle.log_machine.specs.Machine.{undo_of}
 use Rattle.txn_table.specs.declared.place.Place.{Place}
 use Rattle.txn_table.specs.declared.place.Place.TheVariants.{Stable, Volatile}
 use Rattle.graph_words.specs.Area.{HasMade}
-use Rattle.graph_words.specs.Places.{Places, IsAtHand}
+use Rattle.graph_words.specs.Places.{Places, IsAtHand, index_of}
 use Rattle.graph_words.specs.Stands.{Stands}
 use Rattle.graph_words.proofs.Stands.Objects.{place_of-one}
-use Rattle.heap_model.specs.Core.{Core, core_refusal}
+use Rattle.collection_words.specs.Completed.{future}
+use Rattle.collection_words.proofs.Heap.Front.{at_hand_front}
+use Rattle.heap_model.specs.Core.{Core, all_words, core_refusal}
+use Rattle.core_laws.proofs.Sessions.Whole.{address_here, whole, whole_made}
 use Rattle.core_laws.proofs.Step.Goes.{writing_of}
 use Rattle.core_laws.specs.Valid.{IsValid, RunsLocked}
 use Rattle.core_laws.proofs.Step.Forms.{is_write, quiet_records}
 use Rattle.heap_memory.specs.Memory.{Memory, own, place_word, is_same_place, held_place}
 use Rattle.heap_memory.specs.Refusals.{and_then, same_refusal, len_refusal}
 use Rattle.heap_memory.specs.Replies.{same_reply_of, same_reply, len_reply}
-use Rattle.memory_laws.specs.CoreMemory.{place_in, kept, IsMemory}
+use Rattle.memory_laws.specs.CoreMemory.{place_in, standing_place, kept, IsMemory}
 use Rattle.memory_laws.proofs.Does.{Does}
 use Rattle.memory_laws.proofs.Kept.Held.{place_in_word}
 use Rattle.memory_laws.proofs.Step.Answered.{Goes, does}
@@ -119,7 +122,9 @@ module _ (m : Memory) (c : Core) (valid : IsValid c) (runs : RunsLocked c.g0 c.f
       ap (λ (o : Option Transaction). call_reply c.g0 b o (Same s h h2)) both.active
       ∙ ap (λ (o : Option Id). plain.same_reply o (held v.registers h2)) one.holds
       ∙ ap (plain.same_reply (Some one.id)) other.holds
-      ∙ ap (λ (x : Bool). cond x answer.Yes answer.No) (places_same w.stands w.made one.id other.id one.at_hand other.at_hand)
+      ∙ ap (λ (x : Bool). cond x answer.Yes answer.No) (places_same w.stands (whole_made w) one.id other.id (at_hand_front c.places (future valid.behind (all_words c) c.remaining) both.t.number v.made one.id one.at_hand) (at_hand_front c.places (future valid.behind (all_words c) c.remaining) both.t.number v.made other.id other.at_hand)
+      ∙ ap (λ o. is_same_place (standing_place o (index_of v.graph one.id)) (place_in (whole w) v.graph other.id)) (address_here w one.id one.at_hand)
+      ∙ ap (λ o. is_same_place (place_in c.places v.graph one.id) (standing_place o (index_of v.graph other.id))) (address_here w other.id other.at_hand))
       ∙ ap (λ (p : Place). same_reply_of (Ok p) (Ok (place_in c.places v.graph other.id))) one.place
       ∙ ap (λ (q : Place). same_reply_of (Ok both.p) (Ok q)) other.place
       ∙ ap (λ r. same_reply_of r (Ok both.q)) (sym both.here)

@@ -13,7 +13,7 @@ use Rattle.graph_model.specs.declared.reply.Refusal.TheVariants.{Range}
 use Rattle.graph_model.specs.declared.reply.Reply.{Reply}
 use Rattle.graph_model.specs.declared.reply.Reply.TheVariants.{Done, Refused}
 use Rattle.graph_model.specs.Graph.{fields, with_field}
-use Rattle.graph_model.specs.Locking.{Exclusive, IsFree, in_mode, lock_of, lock_on}
+use Rattle.graph_model.specs.Locking.{Exclusive, IsFree, in_mode, lock_of, lock_on, locks_of}
 use Rattle.graph_model.specs.Transaction.{Transaction, View, IsCall, held, put_value, reference_to, call, serial}
 use Rattle.graph_model.specs.History.{Account, account, session_of}
 use Rattle.graph_model.specs.Plain.{view, no_int, reply_of, first_of_two}
@@ -157,7 +157,7 @@ module _ (m n : Memory) (c : Core) (valid : IsValid c) (runs : RunsLocked c.g0 c
 
     -- it is one that the records can tell
     write_at : (at : ℕ) → address_of c.places id ≡ Some at
-        → IsWriteAt c.pages c.first_number c.born c.places (serial c.g0 a.sealed) v.graph (c.before + length a.sealed) t.number v.made (all_records c) now behind id at i x
+        → IsWriteAt c.pages c.first_number c.born c.places c.remaining (serial c.g0 a.sealed) v (c.before + length a.sealed) t.number (locks_of (serial c.g0 a.sealed) t) (all_records c) now behind id at i x
     write_at at place = writes_at a c valid (two_phase_ordered c.g0 c.history runs.plain runs.two_phase) s t write.active id at i x place write.within write.seen write.free
 
     -- it is no write of another session's transaction
@@ -171,14 +171,14 @@ module _ (m n : Memory) (c : Core) (valid : IsValid c) (runs : RunsLocked c.g0 c
     stable_wrote at place =
         let one = write_at at place in
         let there = place_in-placed c.places v.graph id at place in
-        let told = write_told c.pages c.first_number c.born c.places (serial c.g0 a.sealed) v.graph (c.before + length a.sealed) t.number v.made (all_records c) now behind id at i x one in
+        let told = write_told c.pages c.first_number c.born c.places c.remaining (serial c.g0 a.sealed) v (c.before + length a.sealed) t.number (locks_of (serial c.g0 a.sealed) t) (all_records c) now behind id at i x one in
         let locks = with_lock m.locks (kept c.places v t.number undo) locked.Exclusive (Stable at) in
         let L : ℕ → Type 0 = λ z. LeavesOwn m n s (Update t.number at i z w ∷ []) (kept c.places v t.number (record { object = at; field = i; was = z } ∷ undo)) locks in
         let left = subst L one.was (left_at (Stable at) there) in
         let again : undo_of (later at) t.number ≡ entry at ∷ undo = machine_undo_with behind.undo t.number (entry at ∷ undo) in
         call_goes m n c valid is s t event (update_of c.places v.graph t.number id at i x ∷ []) (later at) locks (kept c.places v t.number (entry at ∷ undo)) write.active write.called_it write.session
         (write.appends ∙ stable_records c.places t.number v h i x id at write.one.holds place) left told.reached refl (leaves_others at)
-        (ap (kept c.places v t.number) (sym again) ∙ sym (kept_write c.places v t.number (undo_of (later at) t.number) id at i x one.has place)
+        (ap (kept c.places v t.number) (sym again) ∙ sym (kept_write c.places v t.number (undo_of (later at) t.number) id at i x one.writing.made place)
         ∙ ap (λ (u : View). kept c.places u t.number (undo_of (later at) t.number)) (sym sees_field)) (locks_at (Stable at) there)
 
     -- so does each
