@@ -1,0 +1,57 @@
+//! What a seal leaves of a heap while a collection runs.
+ghost use Rattle.std.specs.Prelude.{◌≡◌, ◌+◌, ◌++◌, ℕ, List, Some, fold};
+ghost use Rattle.std.specs.List.{AllByRecursion};
+ghost use Rattle.graph_model.specs.Graph.{Graph};
+ghost use Rattle.log_records.specs.Record.{IsRecord};
+ghost use Rattle.log_machine.specs.Machine.{after_all, put_record, taken_back};
+ghost use Rattle.log_machine.specs.declared.UndoEntry.{UndoEntry};
+ghost use Rattle.graph_words.specs.Area.{area_of};
+ghost use Rattle.graph_words.specs.Places.{place_of};
+ghost use Rattle.graph_words.specs.Stands.{AreNamedByBirth, Stands};
+ghost use Rattle.collection_words.specs.Completed.{StandsCompleted, completed, future};
+ghost use Rattle.collection_words.specs.LaidOut.{IsUnderway};
+ghost use Rattle.collection_words.specs.Writes.{AreBacked};
+ghost use Rattle.seal_laws.specs.Seal.{CanSealWithin, Seal, all, area, asked, last, later_places, later_words, placed_then, records, records_then, seen_then, used_then, whole};
+
+/// The records of a seal can follow, one after another, and each has a spelling. They are where the used words end, also while a collection
+/// runs.
+pub fn seals_can_follow()
+    ensures { (c : Seal) → CanSealWithin c → (after_all c.state (records c) ≡ Some (last c)) × AllByRecursion IsRecord (records c) }
+{}
+
+/// Behind a seal the words are laid out, with what it promoted among the current objects.
+pub fn seals_leave_words_laid_out()
+    ensures { (c : Seal) → CanSealWithin c → IsUnderway (last c) c.collection (later_places c) c.remaining (later_words c) }
+{}
+
+/// Writes that could be taken back before a seal can be taken back behind it.
+pub fn seals_keep_entries_backed()
+    ensures { (c : Seal) (us : List UndoEntry) → CanSealWithin c → AreBacked c.places c.words us → AreBacked (later_places c) (later_words c) us }
+{}
+
+/// The graph that the sealed transaction saw stands committed in the completed words behind the seal, where the writes of the others are taken
+/// back.
+pub fn seals_commit_graphs()
+    ensures { (c : Seal) → CanSealWithin c → StandsCompleted 0 0 (later_places c) c.remaining c.g c.others (later_words c) (last c) }
+{}
+
+/// Births give the names of objects in the completed words behind a seal, if they did in those before.
+pub fn seals_keep_names()
+    ensures { (c : Seal) → CanSealWithin c → AreNamedByBirth (all c) (seen_then c) → AreNamedByBirth (later_places c ++ future (last c) (later_words c) c.remaining) (taken_back c.others (completed (last c) (later_places c) c.remaining (later_words c))) }
+{}
+
+/// Each graph that stands behind the seal of the completed words stands in the completed words behind the seal, where the same writes are
+/// taken back: so does what another transaction sees.
+pub fn seals_keep_what_others_see()
+    ensures { (c : Seal) (us : List UndoEntry) (t made : ℕ) (g : Graph) → CanSealWithin c → AreBacked c.places c.words us → Stands t made (all c ++ placed_then c) g (taken_back us (fold put_record (whole c) (records_then c))) c.state.base (used_then c + asked c) → StandsCompleted t made (later_places c) c.remaining g us (later_words c) (last c) }
+{}
+
+/// The seal of the completed words writes no word that others wrote: it is the same to take these writes back before it or behind it.
+pub fn seals_write_beside_others()
+    ensures { (c : Seal) → CanSealWithin c → fold put_record (seen_then c) (records_then c) ≡ taken_back c.others (fold put_record (whole c) (records_then c)) }
+{}
+
+/// The area of the sealed transaction is the same by the places of the current objects and by those of all.
+pub fn areas_lead_to_current_objects()
+    ensures { (c : Seal) → CanSealWithin c → area_of (place_of (all c) c.g) c.g c.t c.made ≡ area c }
+{}
