@@ -96,10 +96,10 @@ module _ (c : Seal) (can : CanSealWithin c) where
 
   -- Behind them.
 
-  last_is : next (promotion c) ≡ last c
+  pub last_is : next (promotion c) ≡ last c
   last_is = ap (sealed_state c.state c.t) (need_is c can)
 
-  placed_is : placed_here (promotion c) ≡ placed c
+  pub placed_is : placed_here (promotion c) ≡ placed c
   placed_is = ap (promoted_places (area c)) (sym (moves_same (area c) (seen_then c) (seen c) c.undo (agree c can) (next_free c)))
 
   abbrev final_words : List ℕ
@@ -108,7 +108,7 @@ module _ (c : Seal) (can : CanSealWithin c) where
   abbrev final_then : List ℕ
   final_then = final_there (promotion c) (is_promoting c can) (seen_then c) (written_fields c.undo) (are_fixed c can)
 
-  words_are : final_words ≡ later_words c
+  pub words_are : final_words ≡ later_words c
   words_are =
       sym (ap (fold put_record c.words) records_are
       ∙ fold-append put_record c.words (promotion_records (area c) (seen_then c) c.undo (next_free c)) (Commit c.t ∷ [])

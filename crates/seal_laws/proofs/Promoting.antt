@@ -249,3 +249,11 @@ same_objects p id =
     some_append (currents p) (future (next p) (behind p) p.remaining) id
     ∙ ap (λ b. b || is_some (address_of (future (next p) (behind p) p.remaining) id)) (some_append p.places (placed_here p) id) ∙ ap (λ b. (old || new) || b) to_come' in
     first ∙ or_swap old left new ∙ sym second
+
+-- the same objects are current behind the promotion, or remain
+pub same_left : (p : Promoting) (id : Id) → is_some (address_of (all_there p) id) ≡ is_some (address_of (currents p ++ p.remaining) id)
+same_left p id =
+    same_objects p id
+    ∙ some_append (currents p) (future (next p) (behind p) p.remaining) id
+    ∙ ap (λ b. is_some (address_of (currents p) id) || b) (put_same (behind p) p.remaining ((next p).base + (next p).used) id)
+    ∙ sym (some_append (currents p) p.remaining id)

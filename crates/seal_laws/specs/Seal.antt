@@ -1,5 +1,5 @@
 -- A seal of a transaction within a collection: where it finds the heap, and what it leaves.
-use Rattle.std.specs.Prelude.{◌≡◌, ◌≢◌, ℕ, ◌+◌, ◌≤◌, List, ◌++◌, slice_get, fold, max, None, Some, true}
+use Rattle.std.specs.Prelude.{◌≡◌, ◌≢◌, ℕ, ◌+◌, ◌≤◌, List, ◌++◌, slice_get, fold, max, Contains, None, Some, true}
 use Rattle.std.specs.List.{AllByRecursion}
 use Rattle.std.specs.FinMap as finite
 use Rattle.heap_spaces.specs.Collection.{Collection}
@@ -12,7 +12,7 @@ use Rattle.log_machine.specs.Machine.{State, field_at, is_number, owed, put_reco
 use Rattle.volatile_area.specs.Area.{AreaState}
 use Rattle.graph_words.specs.Area.{HasMade, area_of}
 use Rattle.graph_words.specs.Places.{Places, address_of, made_by, place_of}
-use Rattle.graph_words.specs.Promotion.{moves_of, promoted_need, promoted_places, promotion_records, seal_records}
+use Rattle.graph_words.specs.Promotion.{Field, moves_of, promoted_need, promoted_places, promotion_records, seal_records, written_fields}
 use Rattle.graph_words.specs.Stands.{AreOfFields, IsWritten}
 use Rattle.collection_words.specs.Completed.{StandsCompleted, completed, future}
 use Rattle.collection_words.specs.LaidOut.{IsUnderway}
@@ -127,3 +127,7 @@ pub record CanSealWithin (c : Seal) : Type 0 where
   pub beside : AreBeside c.undo c.others
   pub number : is_number c.t ≡ true
   pub room : c.state.used + asked c + owed c.state ≤ space_words c.state.pages
+
+-- no field that the transaction wrote has this word
+abbrev pub IsBesideFields : Seal → ℕ → Type 0
+IsBesideFields c x = (f : Field) → Contains (written_fields c.undo) f → field_at f.0 f.1 ≢ x

@@ -1,17 +1,17 @@
 //! What a seal leaves of a heap while a collection runs.
-ghost use Rattle.std.specs.Prelude.{◌≡◌, ◌+◌, ◌++◌, ℕ, List, Some, fold};
+ghost use Rattle.std.specs.Prelude.{◌≡◌, ◌⊎◌, ◌+◌, ◌<◌, ◌≤◌, ◌++◌, ℕ, List, Some, fold, slice_index};
 ghost use Rattle.std.specs.List.{AllByRecursion};
 ghost use Rattle.graph_model.specs.Graph.{Graph};
 ghost use Rattle.log_records.specs.Record.{IsRecord};
 ghost use Rattle.log_machine.specs.Machine.{after_all, put_record, taken_back};
 ghost use Rattle.log_machine.specs.declared.UndoEntry.{UndoEntry};
 ghost use Rattle.graph_words.specs.Area.{area_of};
-ghost use Rattle.graph_words.specs.Places.{place_of};
-ghost use Rattle.graph_words.specs.Stands.{AreNamedByBirth, Stands};
+ghost use Rattle.graph_words.specs.Places.{AreOld, place_of};
+ghost use Rattle.graph_words.specs.Stands.{AreNamedByBirth, AreOfFields, AreWritten, Stands, StandsCommitted};
 ghost use Rattle.collection_words.specs.Completed.{StandsCompleted, completed, future};
 ghost use Rattle.collection_words.specs.LaidOut.{IsUnderway};
 ghost use Rattle.collection_words.specs.Writes.{AreBacked};
-ghost use Rattle.seal_laws.specs.Seal.{CanSealWithin, Seal, all, area, asked, last, later_places, later_words, placed_then, records, records_then, seen_then, used_then, whole};
+ghost use Rattle.seal_laws.specs.Seal.{AreWrittenWithin, CanSealWithin, IsBesideFields, Seal, all, area, asked, free_then, last, later_places, later_words, next_free, placed_then, records, records_then, seen_then, used_then, whole};
 
 /// The records of a seal can follow, one after another, and each has a spelling. They are where the used words end, also while a collection
 /// runs.
@@ -54,4 +54,26 @@ pub fn seals_write_beside_others()
 /// The area of the sealed transaction is the same by the places of the current objects and by those of all.
 pub fn areas_lead_to_current_objects()
     ensures { (c : Seal) → CanSealWithin c → area_of (place_of (all c) c.g) c.g c.t c.made ≡ area c }
+{}
+
+/// The graph that the sealed transaction saw stands committed behind the seal of the completed words, where the writes of the others are taken
+/// back.
+pub fn seals_of_completed_words_commit_graphs()
+    ensures { (c : Seal) → CanSealWithin c → StandsCommitted (all c ++ placed_then c) c.g (taken_back c.others (fold put_record (whole c) (records_then c))) c.state.base (used_then c + asked c) }
+{}
+
+/// A word stays that is not free before a seal, and of no field that its transaction wrote: in all words and in the completed words.
+pub fn seals_keep_other_words()
+    ensures { (c : Seal) (x : ℕ) → CanSealWithin c → IsBesideFields c x → ((x < next_free c) ⊎ (next_free c + asked c ≤ x) → slice_index (later_words c) x ≡ slice_index c.words x) × (x < free_then c → slice_index (fold put_record (whole c) (records_then c)) x ≡ slice_index (whole c) x) }
+{}
+
+/// What another transaction has written is of fields of current objects behind a seal, and has all that lead to its own objects, if it is so
+/// behind the seal of the completed words.
+pub fn seals_keep_what_others_wrote()
+    ensures { (c : Seal) (us : List UndoEntry) (g : Graph) → CanSealWithin c → AreBacked c.places c.words us → AreOfFields (all c ++ placed_then c) g us → AreWritten (all c ++ placed_then c) g us → AreOfFields (later_places c) g us × AreWrittenWithin (later_places c) c.remaining g us }
+{}
+
+/// No transaction from a number behind that of the sealed one on can give one of the names.
+pub fn seals_leave_old_names()
+    ensures { (c : Seal) (next later : ℕ) → CanSealWithin c → AreOld next c.places → AreOld next c.remaining → c.t < later → next ≤ later → AreOld later (later_places c ++ c.remaining) }
 {}
