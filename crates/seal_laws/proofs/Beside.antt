@@ -1,18 +1,22 @@
 -- What a seal within a collection leaves of others: their words, what they have written, and names.
-use Rattle.std.proofs.Common.{◌≡◌, ◌⊎◌, ℕ, ◌<◌, ◌≤◌, ◌+◌, inl, inr, List, [], ◌∷◌, ◌++◌, map, Option, None, Some, is_some, refl, sym, ap, ◌∙◌, subst, arith}
+use Rattle.std.proofs.Common.{◌≡◌, ◌⊎◌, ℕ, ◌<◌, ◌≤◌, ◌+◌, inl, inr, List, [], ◌∷◌, ◌++◌, map, None, Some, is_some, sym, ap, ◌∙◌, subst, arith}
 use Rattle.std.specs.Prelude.{fold, slice_index}
 use Rattle.std.proofs.lemmas.List.Sums.{fold-append}
+use Rattle.std.specs.FinMap.{get}
 use Rattle.graph_model.specs.Graph.{Graph}
 use Rattle.graph_model.specs.declared.id.Id.{Id}
+use Rattle.graph_model.specs.declared.val.Val.{Val}
+use Rattle.graph_model.specs.declared.val.Val.TheVariants.{Int, Null, Ref}
 use Rattle.log_machine.specs.declared.UndoEntry.{UndoEntry}
 use Rattle.log_machine.specs.Machine.{put_record}
 use Rattle.log_machine.proofs.ListLaws.{AllByRecursion-append, AllByRecursion-map}
 use Rattle.object_layout.specs.Layout.{id_at}
-use Rattle.graph_words.specs.Places.{AreOld, IsOld, Places, address_of, index_of}
+use Rattle.graph_words.specs.Area.{HasMade}
+use Rattle.graph_words.specs.Places.{AreOld, IsOld, IsOwn, IsVisible, made_by, Places, address_of, index_of}
 use Rattle.graph_words.specs.Promotion.{Move, base_of, written_fields}
 use Rattle.graph_words.specs.Stands.{AreOfFields, AreWritten, IsOfField, IsWritten}
 use Rattle.graph_words.proofs.Area.Fields.{write_at}
-use Rattle.graph_words.proofs.Places.Addresses.{address_of-one, none_or_some}
+use Rattle.graph_words.proofs.Places.Addresses.{address_of-one, none_or_some, some_address}
 use Rattle.graph_words.proofs.Places.Moves.{moved_of, moved_to}
 use Rattle.graph_words.proofs.Promotion.Fix.{fixes, fixes_beside}
 use Rattle.graph_words.proofs.Seal.Places.{address_of-append_left, address_of-append_right}
@@ -26,14 +30,10 @@ use Rattle.seal_laws.proofs.Based.{based-before, based-behind}
 use Rattle.seal_laws.proofs.Fixed.{put_entries}
 use Rattle.seal_laws.proofs.Found.{is_promoting, need_is, promotion}
 use Rattle.seal_laws.proofs.Left.{placed_is, words_are}
-use Rattle.seal_laws.proofs.Promoting.{all_there, behind, currents, here, moves_here, moves_there, need, placed_here, promoted_at, same_left, there, whole_there}
+use Rattle.seal_laws.proofs.Promoting.{all_there, behind, currents, here, moves_here, moves_there, need, placed_here, promoted_at, same_left, there, whole_there, none_front, not_some}
 use Rattle.seal_laws.proofs.Relocated.{placed_behind, promotion_relocates}
 
 -- Words.
-
-not_some : (o q : Option ℕ) → is_some o ≡ is_some q → q ≡ None → o ≡ None
-not_some None q same none = refl
-not_some (Some a) q same none = let clash = same ∙ ap is_some none in cc
 
 module _ (c : Seal) (can : CanSealWithin c) where
   -- a word that is not free, and no field that the transaction wrote, stays
@@ -69,7 +69,7 @@ module _ (c : Seal) (can : CanSealWithin c) where
   write_low : (us : List UndoEntry) (at i : ℕ) → AreBacked c.places c.words us → IsWritten us at i → at < free_then c
   write_low us at i backed written =
       let write = write_at (λ u. IsHereWrite c.places c.words u.object u.field u.was) us at i backed written in
-      let within = start_within can.underway.laid write.0.object write.1.is.start in
+      let within = start_within can.sees.underway.laid write.0.object write.1.is.start in
       let below = within.below in
       let same = write.2 in omega arith
 
@@ -109,6 +109,52 @@ module _ (c : Seal) (can : CanSealWithin c) where
   pub fields_kept : (us : List UndoEntry) (g : Graph) → AreBacked c.places c.words us → AreOfFields (all c ++ placed_then c) g us → AreOfFields (later_places c) g us
   fields_kept [] g backed all = tt
   fields_kept (u ∷ us) g backed all = (field_kept g u all.0 backed.0, fields_kept us g backed.1 all.1)
+
+  -- Objects.
+
+  -- what has a place behind a seal had it before, or the sealed transaction made it: among the current objects
+  pub current_or_made : (id : Id) (at : ℕ) → address_of (later_places c) id ≡ Some at → (address_of c.places id ≡ Some at) ⊎ IsOwn c.t c.made id
+  current_or_made id at there = elim (none_or_some (address_of c.places id)) [
+    | inl none ↦
+        let new = ap (λ (ps : Places). address_of ps id) (placed_is c can) ∙ sym (address_of-append_right c.places (placed c) id none) ∙ there in
+        inr (promoted_at (promotion c) (is_promoting c can) (next_free c) id at new).own
+    | inr old ↦ inl (old.1 ∙ sym (address_of-append_left c.places (placed c) id old.0 old.1) ∙ there)
+  ]
+
+  -- and among the objects of the completed words
+  pub all_or_made : (id : Id) (at : ℕ) → address_of (all c ++ placed_then c) id ≡ Some at → (address_of (all c) id ≡ Some at) ⊎ IsOwn c.t c.made id
+  all_or_made id at there = elim (none_or_some (address_of (all c) id)) [
+    | inl none ↦ inr (promoted_at (promotion c) (is_promoting c can) (free_then c) id at (sym (address_of-append_right (all c) (placed_then c) id none) ∙ there)).own
+    | inr old ↦ inl (old.1 ∙ sym (address_of-append_left (all c) (placed_then c) id old.0 old.1) ∙ there)
+  ]
+
+  still_at_hand : (u made : ℕ) (v : Val) → IsVisible c.places u made v → IsVisible (later_places c) u made v
+  still_at_hand u made Null sees = tt
+  still_at_hand u made (Int n) sees = sees
+  still_at_hand u made (Ref id) (inl there) = let at = some_address (address_of c.places id) there in inl (ap is_some (address_of-append_left c.places (placed c) id at.0 at.1))
+  still_at_hand u made (Ref id) (inr own) = inr own
+
+  none_later : (id : Id) → address_of (all c ++ placed_then c) id ≡ None → address_of (later_places c) id ≡ None
+  none_later id none =
+      let p = promotion c in
+      let left = not_some (address_of (currents p ++ p.remaining) id) (address_of (all_there p) id) (sym (same_left p id)) none in
+      none_front (later_places c) c.remaining id (ap (λ (ps : Places). address_of ((c.places ++ ps) ++ c.remaining) id) (sym (placed_is c can)) ∙ left)
+
+  -- what a transaction made that goes on leads to current objects behind the seal, or to its own
+  pub made_kept : (u made : ℕ) (g h : Graph) → HasMade c.places g u made → HasMade (all c ++ placed_then c) h u made
+      → ((k : ℕ) → 1 ≤ k → k ≤ made → get h (made_by u k) ≡ get g (made_by u k)) → HasMade (later_places c) h u made
+  made_kept u made g h has then same = record {
+    each = λ k first last.
+        let one = has.each k first last in
+        record {
+          values = one.values;
+          is = same k first last ∙ one.is;
+          short = one.short;
+          visible = AllByRecursion-map (IsVisible c.places u made) (IsVisible (later_places c) u made) one.values (still_at_hand u made) one.visible;
+        };
+    apart = λ k. none_later (made_by u k) (then.apart k);
+    few = then.few;
+  }
 
   -- Names.
 

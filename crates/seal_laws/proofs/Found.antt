@@ -79,24 +79,24 @@ module _ (c : Seal) (can : CanSealWithin c) where
   ends : c.state.base + (used_then c + asked c) ≤ words_in c.state.pages
   ends =
       let room = can.room in
-      let more = spaced_more c.state (owed c.state + asked c) can.underway.spaced (omega arith) in omega arith
+      let more = spaced_more c.state (owed c.state + asked c) can.sees.underway.spaced (omega arith) in omega arith
 
   pub can_seal : (address : ℕ) → address ≤ free_then c → CanSeal (all c) c.g c.t c.made c.undo (seen_then c) c.state.base (used_then c) address
   can_seal address within = record {
-    stands = can.stands;
-    has = has_then c can;
-    written = written_then c can;
-    of_fields = of_fields_then c can;
+    stands = can.sees.stands;
+    has = has_then c can.sees;
+    written = written_then c can.sees;
+    of_fields = of_fields_then c can.sees;
     top =
-        let small = can.underway.small in
-        omega (arith, ends, ap (λ a. promoted_need a (seen_then c) c.undo) (area_same c can), asked_same c can);
+        let small = can.sees.underway.small in
+        omega (arith, ends, ap (λ a. promoted_need a (seen_then c) c.undo) (area_same c can.sees), asked_same c can.sees);
   }
 
   -- all that it has written lies in the used words
   pub undo_inside : AllByRecursion (LiesInside c.state.base c.state.used) c.undo
   undo_inside =
       AllByRecursion-map (λ u. IsHereWrite c.places c.words u.object u.field u.was) (LiesInside c.state.base c.state.used) c.undo
-      (λ u write. let within = write_within (underway can.underway).laid write in record { above = within.0; below = within.1 }) can.backed
+      (λ u write. let within = write_within (underway can.sees.underway).laid write in record { above = within.0; below = within.1 }) can.sees.backed
 
   abbrev then : Sealing
   then = sealing (all c) c.g c.t c.made c.undo (seen_then c) c.state.base (used_then c) (free_then c)
@@ -115,12 +115,12 @@ module _ (c : Seal) (can : CanSealWithin c) where
       inl (not_volatile then is_then (Int n) sees (word.Int n) refl refl, subst (LeadsHere (addresses c.places)) (sym means) tt)
   own_word (Ref id) (inl there) taken =
       let at = some_address (address_of c.places id) there in
-      let sees = visible_then c can (Ref id) (inl there) in
+      let sees = visible_then c can.sees (Ref id) (inl there) in
       let place = place_of-placed (all c) c.g id at.0 (address_of-append_left c.places (future c.state c.words c.remaining) id at.0 at.1) in
       let means = visible_meaning is_then.stands is_then.has (Ref id) sees ∙ ap Some place in
       inl (not_volatile then is_then (Ref id) sees (word.Stable at.0) place refl, subst (LeadsHere (addresses c.places)) (sym means) (address_of-Contains c.places id at.0 at.1))
   own_word (Ref id) (inr mine) taken =
-      let sees = visible_then c can (Ref id) (inr mine) in
+      let sees = visible_then c can.sees (Ref id) (inr mine) in
       let means = visible_meaning is_then.stands is_then.has (Ref id) sees ∙ ap Some (place_of-apart (all c) c.g id (own_apart is_then.has mine)) in
       inr (index_of c.g id, means, own_taken then is_then id mine taken)
 
@@ -152,31 +152,31 @@ module _ (c : Seal) (can : CanSealWithin c) where
         ∙ get_or-map (bits_of (place_of (all c) c.g)) (fields c.g id) i Null 0 inside in
         let starts = subst (λ (x : ℕ). Contains then.starts x) (sym one.index) has in
         subst (IsOwnWord c.places then.starts) (sym word)
-        (own_word v (AllByRecursion-get (IsVisible c.places c.t c.made) (fields c.g id) i v (own_visible can.has one.own) got) (own_values_taken then is_then id one.own starts i v got));
+        (own_word v (AllByRecursion-get (IsVisible c.places c.t c.made) (fields c.g id) i v (own_visible can.sees.has one.own) got) (own_values_taken then is_then id one.own starts i v got));
     fixed = λ f has at means.
-        let inside = AllByRecursion-map (IsOfField (all c) c.g) (LiesInside c.state.base (used_then c)) c.undo (stands_inside can.stands) (of_fields_then c can) in
+        let inside = AllByRecursion-map (IsOfField (all c) c.g) (LiesInside c.state.base (used_then c)) c.undo (stands_inside can.sees.stands) (of_fields_then c can.sees) in
         let goes = (fixable then is_then c.state.base (used_then c) inside f has).goes.goes at means in
         moved_given (area_then c) then.starts (free_then c) at goes.0 goes.1;
   }
 
   known : AreKnown c (area c)
-  known = subst (AreKnown c) (area_same c can) known_then
+  known = subst (AreKnown c) (area_same c can.sees) known_then
 
   pub need_is : need (promotion c) ≡ asked c
-  need_is = sym (needed-sum (area c) (promotion c).starts) ∙ asked_same c can
+  need_is = sym (needed-sum (area c) (promotion c).starts) ∙ asked_same c can.sees
 
   pub is_promoting : IsPromoting (promotion c)
   is_promoting = record {
-    is = underway can.underway;
-    small = can.underway.small;
-    own = own c can;
+    is = underway can.sees.underway;
+    small = can.sees.underway.small;
+    own = own c can.sees;
     are = known.are;
     each = known.each;
-    apart = made_apart c can;
+    apart = made_apart c can.sees;
     leads = known.leads;
     room = let room = can.room in omega (arith, need_is);
   }
 
   -- and the fields that it puts right
   pub are_fixed : AreFixed (promotion c) (seen_then c) (written_fields c.undo)
-  are_fixed f has = record { field = own_field c can f has; taken = known.fixed f has }
+  are_fixed f has = record { field = own_field c can.sees f has; taken = known.fixed f has }

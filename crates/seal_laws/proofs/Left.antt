@@ -68,7 +68,7 @@ module _ (c : Seal) (can : CanSealWithin c) where
   -- The records.
 
   records_are : records c ≡ seal_records (area c) (seen_then c) c.undo (next_free c)
-  records_are = records_same (area c) (seen_then c) (seen c) c.undo (agree c can) (next_free c)
+  records_are = records_same (area c) (seen_then c) (seen c) c.undo (agree c can.sees) (next_free c)
 
   can_here : CanSeal (all c) c.g c.t c.made c.undo (seen_then c) c.state.base (used_then c) (next_free c)
   can_here = can_seal c can (next_free c) (omega arith)
@@ -77,7 +77,7 @@ module _ (c : Seal) (can : CanSealWithin c) where
   can_there = can_seal c can (free_then c) (omega arith)
 
   asked_then : promoted_need (area_then c) (seen_then c) c.undo ≡ asked c
-  asked_then = ap (λ a. promoted_need a (seen_then c) c.undo) (area_same c can) ∙ asked_same c can
+  asked_then = ap (λ a. promoted_need a (seen_then c) c.undo) (area_same c can.sees) ∙ asked_same c can.sees
 
   -- They can follow, one after another.
   pub seal_after : after_all c.state (records c) ≡ Some (last c)
@@ -85,14 +85,14 @@ module _ (c : Seal) (can : CanSealWithin c) where
       let room = can.room in
       let follows = seal_follows c.state can_here (undo_inside c can) can.number (omega (arith, asked_then)) in
       ap (after_all c.state) records_are
-      ∙ subst (λ a. after_all c.state (seal_records a (seen_then c) c.undo (next_free c)) ≡ Some (sealed_state c.state c.t (promoted_need a (seen_then c) c.undo))) (area_same c can) follows
-      ∙ ap (λ n. Some (sealed_state c.state c.t n)) (asked_same c can)
+      ∙ subst (λ a. after_all c.state (seal_records a (seen_then c) c.undo (next_free c)) ≡ Some (sealed_state c.state c.t (promoted_need a (seen_then c) c.undo))) (area_same c can.sees) follows
+      ∙ ap (λ n. Some (sealed_state c.state c.t n)) (asked_same c can.sees)
 
   -- each has a spelling
   pub seal_good : AllByRecursion IsRecord (records c)
   seal_good =
       subst (AllByRecursion IsRecord) (sym records_are)
-      (subst (λ a. AllByRecursion IsRecord (seal_records a (seen_then c) c.undo (next_free c))) (area_same c can) (seal_spelled can_here can.number))
+      (subst (λ a. AllByRecursion IsRecord (seal_records a (seen_then c) c.undo (next_free c))) (area_same c can.sees) (seal_spelled can_here can.number))
 
   -- Behind them.
 
@@ -100,7 +100,7 @@ module _ (c : Seal) (can : CanSealWithin c) where
   last_is = ap (sealed_state c.state c.t) (need_is c can)
 
   pub placed_is : placed_here (promotion c) ≡ placed c
-  placed_is = ap (promoted_places (area c)) (sym (moves_same (area c) (seen_then c) (seen c) c.undo (agree c can) (next_free c)))
+  placed_is = ap (promoted_places (area c)) (sym (moves_same (area c) (seen_then c) (seen c) c.undo (agree c can.sees) (next_free c)))
 
   abbrev final_words : List ℕ
   final_words = final (promotion c) (is_promoting c can) (seen_then c) (written_fields c.undo) (are_fixed c can)
@@ -123,7 +123,7 @@ module _ (c : Seal) (can : CanSealWithin c) where
   pub seal_laid : IsUnderway (last c) c.collection (later_places c) c.remaining (later_words c)
   seal_laid =
       behind_seal (λ s ps ws. IsUnderway s c.collection (c.places ++ ps) c.remaining ws)
-      (still_underway can.underway.small (final_laid (promotion c) (is_promoting c can) (seen_then c) (written_fields c.undo) (are_fixed c can)))
+      (still_underway can.sees.underway.small (final_laid (promotion c) (is_promoting c can) (seen_then c) (written_fields c.undo) (are_fixed c can)))
 
   -- and what could be taken back still can
   pub seal_backed : (us : List UndoEntry) → AreBacked c.places c.words us → AreBacked (later_places c) (later_words c) us
@@ -152,7 +152,7 @@ module _ (c : Seal) (can : CanSealWithin c) where
   others_below : AllByRecursion (λ v. written v < free_then c) c.others
   others_below =
       AllByRecursion-map (λ u. IsHereWrite c.places c.words u.object u.field u.was) (λ v. written v < free_then c) c.others
-      (λ u write. let within = write_within (underway can.underway).laid write in let below = within.1 in omega arith) can.others_backed
+      (λ u write. let within = write_within (underway can.sees.underway).laid write in let below = within.1 in omega arith) can.sees.others_backed
 
   fixes_apart : AreApart (fix_entries (seen_then c) (moves_there (promotion c)) (written_fields c.undo)) c.others
   fixes_apart =
@@ -175,22 +175,22 @@ module _ (c : Seal) (can : CanSealWithin c) where
   room_then : c.state.base + used_then c + promoted_need (area_then c) (seen_then c) c.undo ≤ length (seen_then c)
   room_then =
       let room = can.room in
-      let more = spaced_more c.state (owed c.state + asked c) can.underway.spaced (omega arith) in
-      let long = can.underway.long in
+      let more = spaced_more c.state (owed c.state + asked c) can.sees.underway.spaced (omega arith) in
+      let long = can.sees.underway.long in
       omega (arith, asked_then, length-taken_back c.others (whole c), length-completed c.state c.places c.remaining c.words)
 
   -- The sealed graph stands committed behind the seal of the completed words.
   pub seal_committed_then : StandsCommitted (all c ++ placed_then c) c.g (taken_back c.others (fold put_record (whole c) (records_then c))) c.state.base (used_then c + asked c)
   seal_committed_then =
       let stands = subst (λ a. StandsCommitted (all c ++ promoted_places a (moves_of a (seen_then c) c.undo (free_then c))) c.g
-      (fold put_record (seen_then c) (promotion_records a (seen_then c) c.undo (free_then c))) c.state.base (used_then c + promoted_need a (seen_then c) c.undo)) (area_same c can)
+      (fold put_record (seen_then c) (promotion_records a (seen_then c) c.undo (free_then c))) c.state.base (used_then c + promoted_need a (seen_then c) c.undo)) (area_same c can.sees)
       (seal_stands can_there room_then) in
-      let sized = subst (λ n. StandsCommitted (all c ++ placed_then c) c.g (fold put_record (seen_then c) (records_then c)) c.state.base (used_then c + n)) (asked_same c can) stands in
+      let sized = subst (λ n. StandsCommitted (all c ++ placed_then c) c.g (fold put_record (seen_then c) (records_then c)) c.state.base (used_then c + n)) (asked_same c can.sees) stands in
       subst (λ ws. StandsCommitted (all c ++ placed_then c) c.g ws c.state.base (used_then c + asked c)) beside_then sized
 
   -- so it does in the completed words behind the seal
   pub seal_committed : StandsCompleted 0 0 (later_places c) c.remaining c.g c.others (later_words c) (last c)
-  seal_committed = seal_beside c.others 0 0 c.g can.others_backed seal_committed_then
+  seal_committed = seal_beside c.others 0 0 c.g can.sees.others_backed seal_committed_then
 
   -- Names.
 
@@ -204,7 +204,7 @@ module _ (c : Seal) (can : CanSealWithin c) where
       let before = taken_back c.others final_then in
       let after = taken_back c.others (completed (next p) (currents p) c.remaining final_words) in
       let laid = final_laid p (is_promoting c can) (seen_then c) (written_fields c.undo) (are_fixed c can) in
-      let moves = final_relocates p (is_promoting c can) (seen_then c) (written_fields c.undo) (are_fixed c can) c.others can.others_backed in
+      let moves = final_relocates p (is_promoting c can) (seen_then c) (written_fields c.undo) (are_fixed c can) c.others can.sees.others_backed in
       AllByRecursion-map (λ q. address_of P' q.0 ≡ Some q.1) (λ q. id_at after q.1 ≡ q.0) P' (λ q there.
       let at = some_address (address_of P q.0) (moves.is.same q.0 ∙ ap is_some there) in
       let object = moves.is.each q.0 at.0 q.1 (record { before = at.1; after = there }) in
@@ -215,6 +215,6 @@ module _ (c : Seal) (can : CanSealWithin c) where
       → AreNamedByBirth (later_places c ++ future (last c) (later_words c) c.remaining) (taken_back c.others (completed (last c) (later_places c) c.remaining (later_words c)))
   seal_named named =
       let births = subst (λ a. AreNamedByBirth (all c ++ promoted_places a (moves_of a (seen_then c) c.undo (free_then c)))
-      (fold put_record (seen_then c) (promotion_records a (seen_then c) c.undo (free_then c)))) (area_same c can) (seal_births can_there room_then named) in
+      (fold put_record (seen_then c) (promotion_records a (seen_then c) c.undo (free_then c)))) (area_same c can.sees) (seal_births can_there room_then named) in
       let one = subst (AreNamedByBirth (all c ++ placed_then c)) (beside_then ∙ ap (taken_back c.others) put_then) births in
       behind_seal (λ s ps ws. AreNamedByBirth ((c.places ++ ps) ++ future s ws c.remaining) (taken_back c.others (completed s (c.places ++ ps) c.remaining ws))) (named_behind one)

@@ -135,6 +135,18 @@ fits_there p is =
 
 -- Names.
 
+-- what has no place among more has none among some
+pub none_front : (ps qs : Places) (id : Id) → address_of (ps ++ qs) id ≡ None → address_of ps id ≡ None
+none_front ps qs id none = elim (none_or_some (address_of ps id)) [
+  | inl is ↦ is
+  | inr there ↦ let clash = sym none ∙ address_of-append_left ps qs id there.0 there.1 in cc
+]
+
+-- what has no place has none among places of the same objects
+pub not_some : (o q : Option ℕ) → is_some o ≡ is_some q → q ≡ None → o ≡ None
+not_some None q same none = refl
+not_some (Some a) q same none = let clash = same ∙ ap is_some none in cc
+
 -- names stay their own where places of others are put behind
 pub own_append : (ps qs : Places) → HaveOwnNames ps → HaveOwnNames qs → ((id : Id) (at : ℕ) → address_of ps id ≡ Some at → address_of qs id ≡ None) → HaveOwnNames (ps ++ qs)
 own_append [] qs one other apart = other

@@ -1,6 +1,6 @@
 -- The completed words behind a promotion are those with the promoted objects behind all others, relocated: what is promoted goes before what
 -- remains.
-use Rattle.std.proofs.Common.{◌≡◌, ℕ, ◌<◌, ◌+◌, inl, inr, List, ◌++◌, map, length, get_or, Option, None, Some, is_some, refl, sym, ap, ◌∙◌, subst, arith}
+use Rattle.std.proofs.Common.{◌≡◌, ℕ, ◌<◌, ◌+◌, inl, inr, List, ◌++◌, map, length, get_or, None, Some, is_some, refl, sym, ap, ◌∙◌, subst, arith}
 use Rattle.std.specs.Prelude.{Contains, slice_index}
 use Rattle.std.proofs.lemmas.List.{length-map}
 use Rattle.std.proofs.lemmas.Option.{same_Some}
@@ -33,7 +33,7 @@ use Rattle.collection_words.proofs.Moves.Sources.{put_same}
 use Rattle.collection_words.proofs.Relocated.Writes.{IsRelocation}
 use Rattle.seal_laws.proofs.Based.{based-before, based_ends, based_object, based_word, ends_below, length-based}
 use Rattle.seal_laws.proofs.Laid.{kept_here, kept_left, kept_old, moved_leads, new_small, promoted_laid}
-use Rattle.seal_laws.proofs.Promoting.{IsOwnWord, IsPromotedAt, IsPromoting, Promoting, all_behind, all_there, alls, behind, currents, fits_here, fits_there, here, moves_here, moves_there, need, next, none_placed, own_behind_all, placed_here, placed_there, promoted_at, same_objects, there, whole, whole_behind, whole_there}
+use Rattle.seal_laws.proofs.Promoting.{IsOwnWord, IsPromotedAt, IsPromoting, Promoting, all_behind, all_there, alls, behind, currents, fits_here, fits_there, here, moves_here, moves_there, need, next, none_placed, own_behind_all, placed_here, placed_there, promoted_at, same_objects, there, whole, whole_behind, whole_there, none_front, not_some}
 
 -- Words.
 
@@ -66,16 +66,6 @@ old_word p is w may = elim (refers is.is is.own is.is.from w (meaning w) refl (o
 ]
 
 -- What is promoted.
-
-none_front : (ps qs : Places) (id : Id) → address_of (ps ++ qs) id ≡ None → address_of ps id ≡ None
-none_front ps qs id none = elim (none_or_some (address_of ps id)) [
-  | inl is ↦ is
-  | inr there ↦ let clash = sym none ∙ address_of-append_left ps qs id there.0 there.1 in cc
-]
-
-not_some : (o q : Option ℕ) → is_some o ≡ is_some q → q ≡ None → o ≡ None
-not_some None q same none = refl
-not_some (Some a) q same none = let clash = same ∙ ap is_some none in cc
 
 -- it is none of the objects of the completed words
 none_whole : (p : Promoting) → IsPromoting p → (id : Id) → IsOwn p.t p.made id → address_of (alls p) id ≡ None

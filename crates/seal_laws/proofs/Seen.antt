@@ -45,17 +45,14 @@ use Rattle.collection_words.proofs.Laid.Sources.{all_places}
 use Rattle.collection_words.proofs.Laid.TakenBack.{IsTakenBack, completed_taken_back}
 use Rattle.collection_words.proofs.Laid.Underway.{underway}
 use Rattle.collection_words.proofs.Moves.Sources.{put_same}
-use Rattle.seal_laws.specs.Seal.{CanSealWithin, Seal, all, area, asked, seen, seen_then, used_then}
+use Rattle.seal_laws.specs.Seal.{IsSeenWithin, Seal, all, area, asked, seen, seen_then, used_then}
 use Rattle.seal_laws.proofs.Based.{ends_below}
 use Rattle.seal_laws.proofs.Fixed.{backed_behind}
+use Rattle.seal_laws.proofs.Promoting.{not_some}
 
 -- Places.
 
-not_some : (o q : Option ℕ) → is_some o ≡ is_some q → q ≡ None → o ≡ None
-not_some None q same none = refl
-not_some (Some a) q same none = let clash = same ∙ ap is_some none in cc
-
-module _ (c : Seal) (can : CanSealWithin c) where
+module _ (c : Seal) (can : IsSeenWithin c) where
   -- the same objects have places in the completed words
   all_same : (id : Id) → is_some (address_of (all c) id) ≡ is_some (address_of (c.places ++ c.remaining) id)
   all_same id =

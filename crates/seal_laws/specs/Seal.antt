@@ -18,7 +18,7 @@ use Rattle.collection_words.specs.Completed.{StandsCompleted, completed, future}
 use Rattle.collection_words.specs.LaidOut.{IsUnderway}
 use Rattle.collection_words.specs.Writes.{AreBacked}
 
--- A seal, and where it finds the heap.
+-- An active transaction and the heap, where it may be sealed.
 pub record Seal : Type 0 where
   pub state : State
   pub collection : Collection
@@ -113,9 +113,9 @@ AreWrittenWithin places remaining g undo =
 abbrev pub AreBeside : List UndoEntry → List UndoEntry → Type 0
 AreBeside us vs = AllByRecursion (λ u. AllByRecursion (λ v. field_at u.object u.field ≢ field_at v.object v.field) vs) us
 
--- A transaction can be sealed within a collection: the graph stands in the completed words as it sees it, what it made leads to current
--- objects or to its own, and there is room for what it promotes beside what is owed to the collection.
-pub record CanSealWithin (c : Seal) : Type 0 where
+-- What an active transaction sees within a collection: its graph stands in the completed words, what it made leads to current objects or to
+-- its own, and what it has written is of fields of current objects.
+pub record IsSeenWithin (c : Seal) : Type 0 where
   pub underway : IsUnderway c.state c.collection c.places c.remaining c.words
   pub stands : StandsCompleted c.t c.made c.places c.remaining c.g c.others c.words c.state
   pub has : HasMade c.places c.g c.t c.made
@@ -124,6 +124,11 @@ pub record CanSealWithin (c : Seal) : Type 0 where
   pub of_fields : AreOfFields c.places c.g c.undo
   pub backed : AreBacked c.places c.words c.undo
   pub others_backed : AreBacked c.places c.words c.others
+
+-- Such a transaction can be sealed: the others have written other fields, and there is room for what it promotes beside what is owed to the
+-- collection.
+pub record CanSealWithin (c : Seal) : Type 0 where
+  pub sees : IsSeenWithin c
   pub beside : AreBeside c.undo c.others
   pub number : is_number c.t ≡ true
   pub room : c.state.used + asked c + owed c.state ≤ space_words c.state.pages

@@ -1,20 +1,21 @@
 //! What a seal leaves of a heap while a collection runs.
 ghost use Rattle.std.specs.Prelude.{◌≡◌, ◌⊎◌, ◌+◌, ◌<◌, ◌≤◌, ◌++◌, ℕ, List, Some, fold, slice_index};
 ghost use Rattle.std.specs.List.{AllByRecursion};
+ghost use Rattle.std.specs.FinMap.{get};
 ghost use Rattle.graph_model.specs.Graph.{Graph};
+ghost use Rattle.graph_model.specs.declared.id.Id.{Id};
 ghost use Rattle.log_records.specs.Record.{IsRecord};
 ghost use Rattle.log_machine.specs.Machine.{after_all, put_record, taken_back};
 ghost use Rattle.log_machine.specs.declared.UndoEntry.{UndoEntry};
-ghost use Rattle.graph_words.specs.Area.{area_of};
-ghost use Rattle.graph_words.specs.Places.{AreOld, place_of};
+ghost use Rattle.graph_words.specs.Area.{HasMade, area_of};
+ghost use Rattle.graph_words.specs.Places.{AreOld, IsOwn, address_of, made_by, place_of};
 ghost use Rattle.graph_words.specs.Stands.{AreNamedByBirth, AreOfFields, AreWritten, Stands, StandsCommitted};
 ghost use Rattle.collection_words.specs.Completed.{StandsCompleted, completed, future};
 ghost use Rattle.collection_words.specs.LaidOut.{IsUnderway};
 ghost use Rattle.collection_words.specs.Writes.{AreBacked};
-ghost use Rattle.seal_laws.specs.Seal.{AreWrittenWithin, CanSealWithin, IsBesideFields, Seal, all, area, asked, free_then, last, later_places, later_words, next_free, placed_then, records, records_then, seen_then, used_then, whole};
+ghost use Rattle.seal_laws.specs.Seal.{AreWrittenWithin, CanSealWithin, IsBesideFields, IsSeenWithin, Seal, all, area, asked, free_then, last, later_places, later_words, next_free, placed_then, records, records_then, seen_then, used_then, whole};
 
-/// The records of a seal can follow, one after another, and each has a spelling. They are where the used words end, also while a collection
-/// runs.
+/// The records of a seal can follow, one after another, and each has a spelling: they put what is promoted where the used words end.
 pub fn seals_can_follow()
     ensures { (c : Seal) → CanSealWithin c → (after_all c.state (records c) ≡ Some (last c)) × AllByRecursion IsRecord (records c) }
 {}
@@ -51,15 +52,23 @@ pub fn seals_write_beside_others()
     ensures { (c : Seal) → CanSealWithin c → fold put_record (seen_then c) (records_then c) ≡ taken_back c.others (fold put_record (whole c) (records_then c)) }
 {}
 
-/// The area of the sealed transaction is the same by the places of the current objects and by those of all.
-pub fn areas_lead_to_current_objects()
-    ensures { (c : Seal) → CanSealWithin c → area_of (place_of (all c) c.g) c.g c.t c.made ≡ area c }
+/// What an active transaction sees within a collection it sees in the completed words too: what it made leads to objects of these or to its own,
+/// what it wrote is of their fields, and all that lead to its own objects. The area is the same by the places of the current objects and by
+/// those of all.
+pub fn views_are_views_of_completed_words()
+    ensures { (c : Seal) → IsSeenWithin c → HasMade (all c) c.g c.t c.made × AreOfFields (all c) c.g c.undo × AreWritten (all c) c.g c.undo × (area_of (place_of (all c) c.g) c.g c.t c.made ≡ area c) }
 {}
 
 /// The graph that the sealed transaction saw stands committed behind the seal of the completed words, where the writes of the others are taken
 /// back.
 pub fn seals_of_completed_words_commit_graphs()
     ensures { (c : Seal) → CanSealWithin c → StandsCommitted (all c ++ placed_then c) c.g (taken_back c.others (fold put_record (whole c) (records_then c))) c.state.base (used_then c + asked c) }
+{}
+
+/// What has a place behind a seal had it before, or the sealed transaction made it: among the current objects, and among those of the completed
+/// words.
+pub fn seals_promote_what_was_made()
+    ensures { (c : Seal) (id : Id) (at : ℕ) → CanSealWithin c → (address_of (later_places c) id ≡ Some at → (address_of c.places id ≡ Some at) ⊎ IsOwn c.t c.made id) × (address_of (all c ++ placed_then c) id ≡ Some at → (address_of (all c) id ≡ Some at) ⊎ IsOwn c.t c.made id) }
 {}
 
 /// A word stays that is not free before a seal, and of no field that its transaction wrote: in all words and in the completed words.
@@ -71,6 +80,12 @@ pub fn seals_keep_other_words()
 /// behind the seal of the completed words.
 pub fn seals_keep_what_others_wrote()
     ensures { (c : Seal) (us : List UndoEntry) (g : Graph) → CanSealWithin c → AreBacked c.places c.words us → AreOfFields (all c ++ placed_then c) g us → AreWritten (all c ++ placed_then c) g us → AreOfFields (later_places c) g us × AreWrittenWithin (later_places c) c.remaining g us }
+{}
+
+/// What another transaction made leads to current objects behind a seal or to its own, if it stays as it was and leads to objects of the
+/// completed words behind the seal of these.
+pub fn seals_keep_what_others_made()
+    ensures { (c : Seal) (u made : ℕ) (g h : Graph) → CanSealWithin c → HasMade c.places g u made → HasMade (all c ++ placed_then c) h u made → ((k : ℕ) → 1 ≤ k → k ≤ made → get h (made_by u k) ≡ get g (made_by u k)) → HasMade (later_places c) h u made }
 {}
 
 /// No transaction from a number behind that of the sealed one on can give one of the names.
