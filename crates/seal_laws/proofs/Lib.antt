@@ -1,4 +1,5 @@
 pub mod Based
+pub mod Begun
 pub mod Beside
 pub mod Fixed
 pub mod Found

@@ -1,5 +1,5 @@
 -- A seal of a transaction within a collection: where it finds the heap, and what it leaves.
-use Rattle.std.specs.Prelude.{◌≡◌, ◌≢◌, ℕ, ◌+◌, ◌≤◌, List, ◌++◌, slice_get, fold, max, Contains, None, Some, true}
+use Rattle.std.specs.Prelude.{◌≡◌, ◌≢◌, ℕ, ◌+◌, ◌≤◌, List, [], ◌++◌, slice_get, fold, max, Contains, None, Some, true}
 use Rattle.std.specs.List.{AllByRecursion}
 use Rattle.std.specs.FinMap as finite
 use Rattle.heap_spaces.specs.Collection.{Collection}
@@ -30,6 +30,21 @@ pub record Seal : Type 0 where
   pub made : ℕ  -- how many objects it has made
   pub undo : List UndoEntry  -- what it has written
   pub others : List UndoEntry  -- what the other active transactions have written
+
+-- a transaction that begins, where all others have written this
+abbrev pub begun : State → Collection → Places → Places → List ℕ → Graph → ℕ → List UndoEntry → Seal
+begun s k places remaining words g t others = record {
+  state = s;
+  collection = k;
+  places = places;
+  remaining = remaining;
+  words = words;
+  g = g;
+  t = t;
+  made = 0;
+  undo = [];
+  others = others;
+}
 
 -- The seal.
 

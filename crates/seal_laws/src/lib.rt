@@ -4,3 +4,4 @@
 #![tactic(auto)]
 
 pub mod seals;
+pub mod views;

@@ -52,13 +52,6 @@ pub fn seals_write_beside_others()
     ensures { (c : Seal) → CanSealWithin c → fold put_record (seen_then c) (records_then c) ≡ taken_back c.others (fold put_record (whole c) (records_then c)) }
 {}
 
-/// What an active transaction sees within a collection it sees in the completed words too: what it made leads to objects of these or to its own,
-/// what it wrote is of their fields, and all that lead to its own objects. The area is the same by the places of the current objects and by
-/// those of all.
-pub fn views_are_views_of_completed_words()
-    ensures { (c : Seal) → IsSeenWithin c → HasMade (all c) c.g c.t c.made × AreOfFields (all c) c.g c.undo × AreWritten (all c) c.g c.undo × (area_of (place_of (all c) c.g) c.g c.t c.made ≡ area c) }
-{}
-
 /// The graph that the sealed transaction saw stands committed behind the seal of the completed words, where the writes of the others are taken
 /// back.
 pub fn seals_of_completed_words_commit_graphs()
