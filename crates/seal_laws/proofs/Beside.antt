@@ -25,11 +25,11 @@ use Rattle.collection_words.specs.Completed.{future}
 use Rattle.collection_words.specs.Writes.{AreBacked, IsHereWrite}
 use Rattle.collection_words.proofs.Copy.Named.{named, own_front}
 use Rattle.collection_words.proofs.Laid.Within.{start_within}
-use Rattle.seal_laws.specs.Seal.{AreWrittenWithin, CanSealWithin, IsBesideFields, Seal, all, area, asked, free_then, later_places, later_words, next_free, placed, placed_then, records_then, seen_then, whole}
+use Rattle.seal_laws.specs.Seal.{AreWrittenWithin, CanSealWithin, IsBesideFields, IsSeenThen, IsSeenWithin, Seal, all, area, asked, free_then, later_places, later_words, next_free, placed, placed_then, records_then, seen_then, whole, seen_behind, seen_by}
 use Rattle.seal_laws.proofs.Based.{based-before, based-behind}
 use Rattle.seal_laws.proofs.Fixed.{put_entries}
 use Rattle.seal_laws.proofs.Found.{is_promoting, need_is, promotion}
-use Rattle.seal_laws.proofs.Left.{placed_is, words_are}
+use Rattle.seal_laws.proofs.Left.{placed_is, seal_backed, seal_beside, seal_laid, words_are}
 use Rattle.seal_laws.proofs.Promoting.{all_there, behind, currents, here, moves_here, moves_there, need, placed_here, promoted_at, same_left, there, whole_there, none_front, not_some}
 use Rattle.seal_laws.proofs.Relocated.{placed_behind, promotion_relocates}
 
@@ -154,6 +154,20 @@ module _ (c : Seal) (can : CanSealWithin c) where
         };
     apart = λ k. none_later (made_by u k) (then.apart k);
     few = then.few;
+  }
+
+  -- So what another transaction saw it sees behind the seal, if it does so in the completed words.
+  pub view_kept : (u made : ℕ) (g h : Graph) (undo before after : List UndoEntry) → IsSeenWithin (seen_by c u made g undo before) → AreBacked c.places c.words after
+      → ((k : ℕ) → 1 ≤ k → k ≤ made → get h (made_by u k) ≡ get g (made_by u k)) → IsSeenThen c u made h undo after → IsSeenWithin (seen_behind c u made h undo after)
+  view_kept u made g h undo before after sees backed same then = record {
+    underway = seal_laid c can;
+    stands = seal_beside c can after u made h backed then.stands;
+    has = made_kept u made g h sees.has then.has same;
+    none_left = sees.none_left;
+    written = written_kept undo h sees.backed then.written;
+    of_fields = fields_kept undo h sees.backed then.of_fields;
+    backed = seal_backed c can undo sees.backed;
+    others_backed = seal_backed c can after backed;
   }
 
   -- Names.

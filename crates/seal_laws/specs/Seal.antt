@@ -13,7 +13,7 @@ use Rattle.volatile_area.specs.Area.{AreaState}
 use Rattle.graph_words.specs.Area.{HasMade, area_of}
 use Rattle.graph_words.specs.Places.{Places, address_of, made_by, place_of}
 use Rattle.graph_words.specs.Promotion.{Field, moves_of, promoted_need, promoted_places, promotion_records, seal_records, written_fields}
-use Rattle.graph_words.specs.Stands.{AreOfFields, IsWritten}
+use Rattle.graph_words.specs.Stands.{AreOfFields, AreWritten, IsWritten, Stands}
 use Rattle.collection_words.specs.Completed.{StandsCompleted, completed, future}
 use Rattle.collection_words.specs.LaidOut.{IsUnderway}
 use Rattle.collection_words.specs.Writes.{AreBacked}
@@ -147,6 +147,22 @@ pub record CanSealWithin (c : Seal) : Type 0 where
   pub beside : AreBeside c.undo c.others
   pub number : is_number c.t ≡ true
   pub room : c.state.used + asked c + owed c.state ≤ space_words c.state.pages
+
+-- What another transaction sees behind the seal of the completed words, as the law of a seal without a collection says it.
+pub record IsSeenThen (c : Seal) (u made : ℕ) (g : Graph) (undo others : List UndoEntry) : Type 0 where
+  pub stands : Stands u made (all c ++ placed_then c) g (taken_back others (fold put_record (whole c) (records_then c))) c.state.base (used_then c + asked c)
+  pub has : HasMade (all c ++ placed_then c) g u made
+  pub written : AreWritten (all c ++ placed_then c) g undo
+  pub of_fields : AreOfFields (all c ++ placed_then c) g undo
+
+-- the heap, with what another transaction sees of it
+abbrev pub seen_by : Seal → ℕ → ℕ → Graph → List UndoEntry → List UndoEntry → Seal
+seen_by c u made g undo others = record c { g = g; t = u; made = made; undo = undo; others = others }
+
+-- the heap behind the seal, with what it sees then
+abbrev pub seen_behind : Seal → ℕ → ℕ → Graph → List UndoEntry → List UndoEntry → Seal
+seen_behind c u made g undo others =
+    record c { state = last c; places = later_places c; words = later_words c; g = g; t = u; made = made; undo = undo; others = others }
 
 -- no field that the transaction wrote has this word
 abbrev pub IsBesideFields : Seal → ℕ → Type 0

@@ -7,13 +7,13 @@ ghost use Rattle.graph_model.specs.declared.id.Id.{Id};
 ghost use Rattle.log_records.specs.Record.{IsRecord};
 ghost use Rattle.log_machine.specs.Machine.{after_all, put_record, taken_back};
 ghost use Rattle.log_machine.specs.declared.UndoEntry.{UndoEntry};
-ghost use Rattle.graph_words.specs.Area.{HasMade, area_of};
-ghost use Rattle.graph_words.specs.Places.{AreOld, IsOwn, address_of, made_by, place_of};
+ghost use Rattle.graph_words.specs.Area.{HasMade};
+ghost use Rattle.graph_words.specs.Places.{AreOld, IsOwn, address_of, made_by};
 ghost use Rattle.graph_words.specs.Stands.{AreNamedByBirth, AreOfFields, AreWritten, Stands, StandsCommitted};
 ghost use Rattle.collection_words.specs.Completed.{StandsCompleted, completed, future};
 ghost use Rattle.collection_words.specs.LaidOut.{IsUnderway};
 ghost use Rattle.collection_words.specs.Writes.{AreBacked};
-ghost use Rattle.seal_laws.specs.Seal.{AreWrittenWithin, CanSealWithin, IsBesideFields, IsSeenWithin, Seal, all, area, asked, free_then, last, later_places, later_words, next_free, placed_then, records, records_then, seen_then, used_then, whole};
+ghost use Rattle.seal_laws.specs.Seal.{AreWrittenWithin, CanSealWithin, IsBesideFields, Seal, all, asked, free_then, last, later_places, later_words, next_free, placed_then, records, records_then, seen_then, used_then, whole};
 
 /// The records of a seal can follow, one after another, and each has a spelling: they put what is promoted where the used words end.
 pub fn seals_can_follow()

@@ -1,5 +1,6 @@
 //! What active transactions see while a collection runs.
-ghost use Rattle.std.specs.Prelude.{◌≡◌, ◌++◌, ℕ, List, [], None};
+ghost use Rattle.std.specs.Prelude.{◌≡◌, ◌++◌, ◌≤◌, ℕ, List, None};
+ghost use Rattle.std.specs.FinMap.{get};
 ghost use Rattle.heap_spaces.specs.Collection.{Collection};
 ghost use Rattle.graph_model.specs.Graph.{Graph};
 ghost use Rattle.log_machine.specs.Machine.{State};
@@ -10,7 +11,7 @@ ghost use Rattle.graph_words.specs.Stands.{AreOfFields, AreWritten};
 ghost use Rattle.collection_words.specs.Completed.{StandsCompleted};
 ghost use Rattle.collection_words.specs.LaidOut.{IsUnderway};
 ghost use Rattle.collection_words.specs.Writes.{AreBacked};
-ghost use Rattle.seal_laws.specs.Seal.{IsSeenWithin, Seal, all, area, begun};
+ghost use Rattle.seal_laws.specs.Seal.{CanSealWithin, IsSeenThen, IsSeenWithin, Seal, all, area, begun, seen_behind, seen_by};
 
 /// A transaction that begins sees the graph that stands committed, where no object has a name that it can give.
 pub fn new_transactions_see_graphs()
@@ -22,4 +23,10 @@ pub fn new_transactions_see_graphs()
 /// those of all.
 pub fn views_are_views_of_completed_words()
     ensures { (c : Seal) → IsSeenWithin c → HasMade (all c) c.g c.t c.made × AreOfFields (all c) c.g c.undo × AreWritten (all c) c.g c.undo × (area_of (place_of (all c) c.g) c.g c.t c.made ≡ area c) }
+{}
+
+/// What another active transaction saw before a seal it sees behind it, if it sees it behind the seal of the completed words and what it made is
+/// as it was.
+pub fn seals_keep_views()
+    ensures { (c : Seal) (u made : ℕ) (g h : Graph) (undo before behind : List UndoEntry) → CanSealWithin c → IsSeenWithin (seen_by c u made g undo before) → AreBacked c.places c.words behind → ((i : ℕ) → 1 ≤ i → i ≤ made → get h (made_by u i) ≡ get g (made_by u i)) → IsSeenThen c u made h undo behind → IsSeenWithin (seen_behind c u made h undo behind) }
 {}
