@@ -1,0 +1,11 @@
+pub mod Based
+pub mod Begun
+pub mod Beside
+pub mod Fixed
+pub mod Found
+pub mod Laid
+pub mod Left
+pub mod Promoting
+pub mod Relocated
+pub mod Sealed
+pub mod Seen
