@@ -184,7 +184,7 @@ old_gone {s} {k} {places} {remaining} {words} {id} {from} copying room small =
     let is : old_length others from ≡ Some room.fields = ap (λ h. object_at others (led from h)) head ∙ (copied_made copying room).is in
     ((to, head, place_new s places id), is ∙ sym (old_length-object words from room.fields room.object))
 
-old_each : {s : State} {k : Collection} {places remaining : Places} {words : List ℕ} {id : Id} {from : ℕ} (copying : IsCopying s k places remaining words id from) (room : CopyRoom s k places remaining words from)
+pub old_each : {s : State} {k : Collection} {places remaining : Places} {words : List ℕ} {id : Id} {from : ℕ} (copying : IsCopying s k places remaining words id from) (room : CopyRoom s k places remaining words from)
     → s.base + s.used < 2097152 → (at : ℕ) → Contains copying.is.from.starts at
     → IsForwarded (copied_words s words from) (addresses (with_place s places id)) at (contains (insert k.moved from) at) × (old_length (copied_words s words from) at ≡ old_length words at)
 old_each {s} {k} {places} {remaining} {words} {id} {from} copying room small at has =

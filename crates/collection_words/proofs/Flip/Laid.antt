@@ -42,7 +42,7 @@ move_of words (x ∷ xs) to at has = elim (Contains-cases x xs at has) [
   | inr later ↦ let rest = move_of words xs (to + taken_at words x) at later in (rest.0, Contains-rest (x, to) (moves_from words xs (to + taken_at words x)) (at, rest.0) rest.1)
 ]
 
-move_to : (words : List ℕ) (ps : Places) (to there : ℕ) → Contains (addresses (places_from words ps to)) there → (at : ℕ) × Contains (moves_from words (addresses ps) to) (at, there)
+pub move_to : (words : List ℕ) (ps : Places) (to there : ℕ) → Contains (addresses (places_from words ps to)) there → (at : ℕ) × Contains (moves_from words (addresses ps) to) (at, there)
 move_to words [] to there has = absurd (Contains-none there has)
 move_to words (p ∷ ps) to there has = elim (Contains-cases to (addresses (places_from words ps (to + taken_at words p.1))) there has) [
   | inl here ↦ (p.1, subst (λ (y : ℕ). Contains (moves_from words (addresses (p ∷ ps)) to) (p.1, y)) here (Contains-head (p.1, to) (moves_from words (addresses ps) (to + taken_at words p.1))))
@@ -66,7 +66,7 @@ taken_split words p [] = refl
 taken_split words p (x ∷ xs) =
     split_one words x (taken_by words (filter p xs)) (taken_by words (filter (λ at. not (p at)) xs)) (taken_by words xs) (filter p xs) (filter (λ at. not (p at)) xs) (p x) refl refl (taken_split words p xs)
 
-old_ends : (words others : List ℕ) (from : ℕ) (starts : List ℕ) (end : ℕ) → ((at n : ℕ) → Contains starts at → object_at words at ≡ Some n → old_length others at ≡ Some n) → AreEndToEnd words from starts end
+pub old_ends : (words others : List ℕ) (from : ℕ) (starts : List ℕ) (end : ℕ) → ((at n : ℕ) → Contains starts at → object_at words at ≡ Some n → old_length others at ≡ Some n) → AreEndToEnd words from starts end
     → AreOldEndToEnd others from starts end
 old_ends words others from [] end each ends = ends
 old_ends words others from (a ∷ rest) end each (n, same, object, more) =
@@ -75,7 +75,7 @@ old_ends words others from (a ∷ rest) end each (n, same, object, more) =
 -- The from-space.
 
 -- a start is forwarded to its copy, or stays
-start_kind : {s n : State} {k : Collection} {places chosen remaining : Places} {words : List ℕ} → IsFlipping s places chosen remaining words → HasBegun s n k places chosen remaining words
+pub start_kind : {s n : State} {k : Collection} {places chosen remaining : Places} {words : List ℕ} → IsFlipping s places chosen remaining words → HasBegun s n k places chosen remaining words
     → (at m : ℕ) → Contains (addresses places) at → object_at words at ≡ Some m → (b : Bool) → contains k.moved at ≡ b
     → IsForwarded (flipped_words s words (addresses chosen)) (addresses (places_from words chosen (other_base s))) at b × (old_length (flipped_words s words (addresses chosen)) at ≡ Some m)
 start_kind {s} {n} {k} {places} {chosen} {remaining} {words} flip begun at m has object true moved =

@@ -18,7 +18,7 @@ pub record IsTakenBack (s : State) (k : Collection) (places remaining : Places) 
   pub same : completed s places remaining (taken_back us words) ≡ taken_back us (completed s places remaining words)
   pub future : future s (taken_back us words) remaining ≡ future s words remaining
 
-backed_left : {s : State} {k : Collection} {places remaining : Places} {words : List ℕ} → IsCollecting s k places remaining words → (u : UndoEntry) (us : List UndoEntry) → AreBacked places words (u ∷ us)
+pub backed_left : {s : State} {k : Collection} {places remaining : Places} {words : List ℕ} → IsCollecting s k places remaining words → (u : UndoEntry) (us : List UndoEntry) → AreBacked places words (u ∷ us)
     → AreBacked places (with_word words u.object u.field u.was) us
 backed_left {s} {places = places} {words = words} is u us all =
     AllByRecursion-map (λ v. IsHereWrite places words v.object v.field v.was) (λ v. IsHereWrite places (with_word words u.object u.field u.was) v.object v.field v.was) us

@@ -1,0 +1,3 @@
+mod Birth
+mod Graph
+mod Walk
