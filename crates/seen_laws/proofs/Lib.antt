@@ -1,0 +1,4 @@
+pub mod Kept
+pub mod Over
+pub mod Referred
+pub mod Seen
