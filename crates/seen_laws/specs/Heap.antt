@@ -1,12 +1,15 @@
 -- The words of a heap as they stand, whether a collection runs or none.
-use Rattle.std.specs.Prelude.{◌≡◌, ◌≢◌, ℕ, ◌++◌, List, length, Some}
+use Rattle.std.specs.Prelude.{◌≡◌, ◌≢◌, ℕ, List, length, slice_index, slice_index_or, Some}
 use Rattle.std.specs.List.{AllByRecursion}
+use Rattle.heap_words.specs.Word.{meaning}
 use Rattle.graph_model.specs.declared.id.Id.{Id}
+use Rattle.graph_model.specs.declared.val.Val.TheVariants.{Null}
+use Rattle.graph_model.specs.Graph.{Graph, fields}
 use Rattle.log_machine.specs.declared.UndoEntry.{UndoEntry}
 use Rattle.log_machine.specs.Machine.{State, field_at, words_in}
 use Rattle.log_machine.specs.Sound.{IsSpaced}
-use Rattle.graph_words.specs.Places.{Places, address_of}
-use Rattle.collection_words.specs.LaidOut.{IsLaidOut}
+use Rattle.graph_words.specs.Places.{IsVisible, Places, address_of, addresses, bits_of, place_of}
+use Rattle.collection_words.specs.LaidOut.{IsLaidOut, LeadsHere}
 
 -- The words of a heap are those of its spaces, and they are laid out.
 pub record IsHeap (s : State) (places remaining : Places) (words : List ℕ) : Type 0 where
@@ -21,3 +24,9 @@ AreNames name places = (id : Id) (at : ℕ) → address_of places id ≡ Some at
 -- none of these writes wrote the word at an address
 abbrev pub IsUnwritten : List UndoEntry → ℕ → Type 0
 IsUnwritten us at = AllByRecursion (λ u. at ≢ field_at u.object u.field) us
+
+-- A field of an object has the word of its value, which leads to current objects, or to the transaction's own.
+pub record IsFieldHere (t made : ℕ) (places : Places) (g : Graph) (words : List ℕ) (id : Id) (at i : ℕ) : Type 0 where
+  pub word : slice_index words (field_at at i) ≡ bits_of (place_of places g) (slice_index_or (fields g id) i Null)
+  pub visible : IsVisible places t made (slice_index_or (fields g id) i Null)
+  pub leads : LeadsHere (addresses places) (meaning (slice_index words (field_at at i)))

@@ -2,4 +2,6 @@
 //! definitions and laws alone. Its functions do nothing: each names a law by its contract, since a law that a contract names can't be lost.
 #![tactic(auto)]
 
+pub mod born;
 pub mod graphs;
+pub mod reads;
