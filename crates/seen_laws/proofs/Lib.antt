@@ -5,3 +5,4 @@ pub mod Over
 pub mod Reading
 pub mod Referred
 pub mod Seen
+pub mod Writes

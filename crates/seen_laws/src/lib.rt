@@ -5,3 +5,4 @@
 pub mod born;
 pub mod graphs;
 pub mod reads;
+pub mod records;
