@@ -1,16 +1,16 @@
 -- What stays in words when writes of fields of current objects are taken back.
-use Rattle.std.proofs.Common.{◌≡◌, ◌≢◌, ◌⊎◌, ℕ, ◌+◌, inl, inr, true, List, [], ◌∷◌, ◌++◌, Option, None, Some, refl, sym, ap, ◌∙◌, subst, arith}
+use Rattle.std.proofs.Common.{◌≡◌, ◌≢◌, ◌⊎◌, ℕ, ◌+◌, inl, inr, true, List, [], ◌∷◌, ◌++◌, Option, None, Some, refl, sym, ◌∙◌, subst, arith}
 use Rattle.std.specs.Prelude.{Contains, MatchOption, slice_index}
-use Rattle.std.specs.List.{AllByRecursion}
+use Rattle.std.specs.List.{AllByRecursion, flat_map}
 use Rattle.std.proofs.lemmas.List.{get_or-set_other}
 use Rattle.std.proofs.lemmas.List.Elements.{Contains-append_cases}
 use Rattle.heap_spaces.specs.Collection.{Collection}
 use Rattle.graph_model.specs.Graph.{Graph}
 use Rattle.object_layout.specs.Layout.{birth_at, object_at}
 use Rattle.object_layout.specs.Walk.{AreEndToEnd}
-use Rattle.log_machine.proofs.ListLaws.{AllByRecursion-map}
+use Rattle.log_machine.proofs.ListLaws.{AllByRecursion-append, AllByRecursion-map}
 use Rattle.log_machine.specs.declared.UndoEntry.{UndoEntry}
-use Rattle.log_machine.specs.Machine.{State, field_at, owed, taken_back, with_word}
+use Rattle.log_machine.specs.Machine.{Loser, State, field_at, owed, taken_back, with_word}
 use Rattle.graph_words.specs.Places.{Places, addresses}
 use Rattle.graph_words.specs.Stands.{Stands}
 use Rattle.graph_words.proofs.Area.Field.{AreFields, birth_taken_back, ends_with_word, field_with_word, object_with_word}
@@ -59,6 +59,11 @@ pub unwritten_word : (us : List UndoEntry) (words : List ℕ) (at : ℕ) → IsU
 unwritten_word [] words at all = refl
 unwritten_word (u ∷ us) words at all =
     unwritten_word us (with_word words u.object u.field u.was) at all.1 ∙ get_or-set_other words (field_at u.object u.field) at u.was 0 all.0
+
+-- nor did the writes of several transactions, as one list, where none of them wrote it
+pub none_wrote : (es : List Loser) (at : ℕ) → AllByRecursion (λ (e : Loser). IsUnwritten e.1 at) es → IsUnwritten (flat_map (λ (e : Loser). e.1) es) at
+none_wrote [] at all = tt
+none_wrote (e ∷ es) at all = AllByRecursion-append (λ (u : UndoEntry). at ≢ field_at u.object u.field) e.1 (flat_map (λ (e : Loser). e.1) es) all.0 (none_wrote es at all.1)
 
 -- no write is one of a word of the other space
 pub other_unwritten : {s : State} {k : Collection} {places remaining : Places} {words : List ℕ} (us : List UndoEntry) → IsCollecting s k places remaining words → AreBacked places words us → (at : ℕ)

@@ -5,4 +5,5 @@ pub mod Over
 pub mod Reading
 pub mod Referred
 pub mod Seen
+pub mod Still
 pub mod Writes

@@ -1,7 +1,6 @@
 -- The graph of a heap is seen in its words as they stand without some writes, whether a collection runs or none.
-use Rattle.std.proofs.Common.{ℕ, ◌+◌, arith, inl, inr, List, [], ◌++◌, ◌≡◌, None, sym, subst, ap, ◌∙◌}
+use Rattle.std.proofs.Common.{ℕ, ◌+◌, arith, inl, inr, List, [], ◌++◌, ◌≡◌, None, subst, ap, ◌∙◌}
 use Rattle.std.proofs.lemmas.List.{append-nil}
-use Rattle.heap_spaces.specs.Collection.{Collection}
 use Rattle.graph_model.specs.Graph.{Graph}
 use Rattle.graph_model.specs.declared.id.Id.{Id}
 use Rattle.object_layout.specs.Layout.{IsSeenAs}

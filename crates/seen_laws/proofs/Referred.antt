@@ -1,6 +1,6 @@
 -- Which object a field leads to in the words of a heap in a collection, as they stand: forwarding words are followed.
-use Rattle.std.proofs.Common.{◌≡◌, ◌⊎◌, ℕ, ◌+◌, ◌<◌, inl, inr, false, List, [], ◌++◌, Option, None, Some, is_some, refl, sym, ap, ◌∙◌, subst, arith}
-use Rattle.std.specs.Prelude.{Contains, slice_index, if◌then◌else◌}
+use Rattle.std.proofs.Common.{◌≡◌, ℕ, inl, inr, false, List, ◌++◌, Option, None, Some, is_some, refl, sym, ap, ◌∙◌, subst}
+use Rattle.std.specs.Prelude.{Contains, if◌then◌else◌}
 use Rattle.std.proofs.lemmas.List.Elements.{Contains-append_cases}
 use Rattle.std.proofs.lemmas.Option.{same_Some}
 use Rattle.heap_words.specs.declared.Word.{Word}
@@ -8,7 +8,7 @@ use Rattle.heap_words.specs.declared.Word.TheVariants as word
 use Rattle.heap_words.specs.Word.{meaning, refers_to_stable}
 use Rattle.heap_spaces.specs.Collection.{Collection}
 use Rattle.graph_model.specs.declared.id.Id.{Id}
-use Rattle.object_layout.specs.Layout.{led, object_at, referred, stand, standing}
+use Rattle.object_layout.specs.Layout.{led, referred, stand, standing}
 use Rattle.object_layout.specs.Walk.{IsInside}
 use Rattle.object_layout.proofs.LayoutLaws.{stand_object}
 use Rattle.log_machine.specs.Machine.{State}

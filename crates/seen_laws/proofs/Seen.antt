@@ -1,7 +1,6 @@
 -- The graph of a heap in a collection is seen in its words as they stand.
-use Rattle.std.proofs.Common.{◌≡◌, ℕ, ◌+◌, ◌<◌, inl, inr, false, List, [], ◌++◌, length, map, get_or, Option, None, Some, refl, sym, ap, ◌∙◌, subst, arith, ext_get_or}
+use Rattle.std.proofs.Common.{◌≡◌, ℕ, ◌+◌, ◌<◌, inl, inr, false, List, ◌++◌, length, map, None, Some, refl, sym, ap, ◌∙◌, subst, arith, ext_get_or}
 use Rattle.std.specs.Prelude.{Contains, slice_get, slice_index, slice_index_or, option_and_then}
-use Rattle.std.specs.List.{AllByRecursion}
 use Rattle.std.specs.FinMap.{get}
 use Rattle.std.proofs.lemmas.List.{get_or-map, length-map}
 use Rattle.std.proofs.lemmas.List.Elements.{Contains-append_left}
@@ -34,7 +33,6 @@ use Rattle.collection_words.proofs.Copy.Stands.{root_current}
 use Rattle.collection_words.proofs.Laid.Filled.{filling}
 use Rattle.collection_words.proofs.Laid.Old.{old_in_other}
 use Rattle.collection_words.proofs.Laid.Sources.{IsCollecting, source_object}
-use Rattle.collection_words.proofs.Laid.Within.{start_within}
 use Rattle.collection_words.proofs.Moves.Ends.{addresses-append}
 use Rattle.seen_laws.specs.Heap.{AreNames}
 use Rattle.seen_laws.proofs.Referred.{field_leads, plain_leads, refers_leads, stored}
@@ -149,18 +147,18 @@ stored_known {s} {places = places} {remaining = remaining} {words = words} {g = 
       fields = vs;
       is = ap (get g) (names id at there) ∙ stands_get c.stands id object.to object.there;
       values = ext_get_or None (values name words at) (map Some vs) (length-map ws (λ w. value name words (meaning w)) ∙ many ∙ size ∙ sym (length-map vs Some)) (λ i lt.
-      let count = length-map ws (λ w. value name words (meaning w)) in
-      let below : i < object.fields = omega arith in
-      let within : i < length vs = omega arith in
-      let v = slice_index_or vs i Null in
-      let w = slice_index words (field_at at i) in
-      let becomes : followed s words remaining w ≡ bits_of (place_of P g) v = sym (made.fields i below) ∙ stands_field c.stands id object.to i object.there within in
-      let seen : IsVisible P 0 0 v = AllByRecursion-at (IsVisible P 0 0) vs i Null within (c.stands.visible id object.to object.there) in
-      let may = field_leads c.is at (address_of-Contains (places ++ remaining) id at there) object.fields i made.was below in
-      get_or-map (λ w. value name words (meaning w)) ws i 0 None (omega arith)
-      ∙ ap (λ x. value name words (meaning x)) (sym (word_at_field words at object.fields i made.was below))
-      ∙ followed_value name c names w v seen becomes may
-      ∙ sym (get_or-map Some vs i Null None within));
+          let count = length-map ws (λ w. value name words (meaning w)) in
+          let below : i < object.fields = omega arith in
+          let within : i < length vs = omega arith in
+          let v = slice_index_or vs i Null in
+          let w = slice_index words (field_at at i) in
+          let becomes : followed s words remaining w ≡ bits_of (place_of P g) v = sym (made.fields i below) ∙ stands_field c.stands id object.to i object.there within in
+          let seen : IsVisible P 0 0 v = AllByRecursion-at (IsVisible P 0 0) vs i Null within (c.stands.visible id object.to object.there) in
+          let may = field_leads c.is at (address_of-Contains (places ++ remaining) id at there) object.fields i made.was below in
+          get_or-map (λ w. value name words (meaning w)) ws i 0 None (omega arith)
+          ∙ ap (λ x. value name words (meaning x)) (sym (word_at_field words at object.fields i made.was below))
+          ∙ followed_value name c names w v seen becomes may
+          ∙ sym (get_or-map Some vs i Null None within));
     }
 
 -- The graph is seen, by names of the objects at their addresses, whether they are current or remain.

@@ -1,36 +1,34 @@
 -- No record writes a word of the from-space but forwarding words.
-use Rattle.std.proofs.Common.{◌≡◌, ◌≢◌, ◌⊎◌, ℕ, ◌+◌, ◌<◌, ◌≤◌, inl, inr, Bool, true, false, List, [], ◌∷◌, ◌++◌, length, set, get_or, Option, None, Some, refl, sym, ap, ◌∙◌, subst, arith, get_or-set_same, get_or-set_other}
-use Rattle.std.specs.Prelude.{◌-◌, ◌&&◌, map, nat_le, nat_lt, option_and_then, slice_index, if◌then◌else◌}
+use Rattle.std.proofs.Common.{◌≡◌, ℕ, ◌+◌, ◌≤◌, inl, inr, Bool, true, false, List, [], ◌∷◌, length, Option, None, Some, refl, sym, ap, ◌∙◌, subst, arith}
+use Rattle.std.specs.Prelude.{◌-◌, ◌&&◌, nat_le, nat_lt, option_and_then, if◌then◌else◌}
 use Rattle.std.specs.List.{AllByRecursion, enumerate_from, flat_map, list_all}
-use Rattle.std.proofs.lemmas.Bool.{and_from, and_parts, cases_lt, cases_order, le-leb, leb-true, lt-ltb, ltb-true}
-use Rattle.std.proofs.lemmas.List.{get_or_past, length-set}
+use Rattle.std.proofs.lemmas.Bool.{and_from, and_parts, le-leb, leb-true, lt-ltb, ltb-true}
 use Rattle.std.proofs.lemmas.Option.{cond_some, option_and_then_some}
 use Rattle.heap_words.specs.declared.Header.TheVariants.{Forward}
 use Rattle.heap_words.specs.Header.{header_bits}
-use Rattle.heap_words.specs.Word.{is_stable, meaning}
+use Rattle.heap_words.specs.Word.{meaning}
 use Rattle.heap_spaces.specs.Collection.{Collection}
 use Rattle.log_records.specs.declared.Record.{Record}
 use Rattle.log_records.specs.declared.Record.TheVariants.{Update, Base, Fix, Undo, Commit, End, Copy, Scan, Flip, Collected}
 use Rattle.log_records.specs.declared.copies.ObjectCopy.{ObjectCopy}
 use Rattle.log_machine.specs.UndoEntry.{LiesInside}
-use Rattle.log_machine.specs.Collecting.{can_put, collecting_after, copies_after, copy_after, flipped_in, is_used, leads_to_used, other_base, scanned_in, with_roles_changed}
-use Rattle.log_machine.specs.Machine.{State, after, effect, field_at, is_next_free, is_number_or_none, is_promoted_by, lies_inside, number_of, put_all, put_record, row_after, settled, space_words, turned, promoted, undo_of, with_entries, without_newest, writes_of}
-use Rattle.log_machine.specs.Sound.{IsConsistent, IsSpaced}
+use Rattle.log_machine.specs.Collecting.{can_put, collecting_after, copies_after, copy_after, is_used, leads_to_used, other_base, scanned_in, with_roles_changed}
+use Rattle.log_machine.specs.Machine.{State, after, field_at, is_number_or_none, lies_inside, number_of, row_after, settled, space_words, turned, undo_of, with_entries, without_newest, writes_of}
+use Rattle.log_machine.specs.Sound.{IsConsistent}
 use Rattle.log_machine.specs.declared.UndoEntry.{UndoEntry}
-use Rattle.log_machine.proofs.Addresses.{each_address, each_write}
+use Rattle.log_machine.proofs.Addresses.{each_address}
 use Rattle.log_machine.proofs.CopyRows.{consistent_copied, copy_told, within}
 use Rattle.log_machine.proofs.FlipLaws.{consistent_roles, flip_copies}
 use Rattle.log_machine.proofs.ListLaws.{AllByRecursion-append, AllByRecursion-map}
 use Rattle.log_machine.proofs.MachineLaws.{free_told, inside_told, newest_told}
 use Rattle.log_machine.proofs.StateLaws.{all_inside}
 use Rattle.collection_words.specs.Completed.{in_other_space}
-use Rattle.collection_words.proofs.Laid.Old.{apart_spaces, other_bounds}
-use Rattle.seen_laws.specs.Writing.{IsCopyWrite, IsForwardingWord, IsFreeWord, IsUsedWord, WritesInPlace}
+use Rattle.seen_laws.specs.Writing.{IsCopyWrite, IsFreeWord, IsUsedWord, WritesInPlace}
 
 -- Records of transactions.
 
 -- what follows if a test passes follows
-passed : (b : Bool) (o : Option State) (n : State) → (if b then o else None) ≡ Some n → o ≡ Some n
+pub passed : (b : Bool) (o : Option State) (n : State) → (if b then o else None) ≡ Some n → o ≡ Some n
 passed true o n e = e
 passed false o n e = cc e
 
