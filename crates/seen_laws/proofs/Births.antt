@@ -15,6 +15,7 @@ use Rattle.graph_words.proofs.Stands.Seen.{births_name}
 use Rattle.collection_words.specs.Completed.{StandsCompleted, completed, future, moves_from, places_from, taken_at}
 use Rattle.collection_words.specs.Writes.{AreBacked}
 use Rattle.collection_words.proofs.Laid.Completed.{completed_none, move_made}
+use Rattle.collection_words.proofs.Laid.TakenBack.{completed_taken_back}
 use Rattle.collection_words.proofs.Laid.Sources.{IsCollecting, all_places, here_ends, source_object}
 use Rattle.collection_words.proofs.Moves.Sources.{move_source}
 use Rattle.seen_laws.specs.Heap.{IsHeap}
@@ -59,23 +60,6 @@ collecting_births {s} {places = places} {remaining = remaining} {words = words} 
       λ born. subst (λ (ps : Places). AreNamedByBirth ps V) (sym (all_places is.laid)) (named_there words V all s.base same born),
     )
 
-plain_births : (s : State) (places remaining : Places) (words : List ℕ) → s.collection ≡ None → remaining ≡ []
-    → AreNamedByBirth (places ++ future s words remaining) (completed s places remaining words) ↔ AreNamedByBirth (places ++ remaining) words
-plain_births s places remaining words none nothing =
-    let there : AreNamedByBirth (places ++ future s words remaining) (completed s places remaining words) ≡ AreNamedByBirth (places ++ remaining) words =
-    ap (λ (ws : List ℕ). AreNamedByBirth (places ++ future s words remaining) ws) (completed_none s places remaining words none)
-    ∙ ap (λ (ps : Places). AreNamedByBirth (places ++ future s words ps) words) nothing
-    ∙ ap (λ (ps : Places). AreNamedByBirth (places ++ ps) words) (sym nothing) in
-    (λ born. subst (λ (X : Type 0). X) there born, λ born. subst (λ (X : Type 0). X) (sym there) born)
-
--- Births give the names in the completed words exactly where they do so in the words as they stand.
-pub completed_births : {s : State} {places remaining : Places} {words : List ℕ} → IsHeap s places remaining words
-    → AreNamedByBirth (places ++ future s words remaining) (completed s places remaining words) ↔ AreNamedByBirth (places ++ remaining) words
-completed_births {s} {places} {remaining} {words} heap = elim (heap_cases heap) [
-  | inl none ↦ plain_births s places remaining words none.0 none.1
-  | inr run ↦ collecting_births run.1
-]
-
 -- Writes that are taken back.
 
 -- no birth is written
@@ -97,8 +81,32 @@ births_kept {places = places} {remaining = remaining} {words = words} us heap ba
   λ born. named_still words (taken_back us words) (places ++ remaining) (birth_kept us heap backed) born,
 )
 
--- A graph is seen by births in the words as they stand without some writes.
+-- Both.
+
+-- births give the names in the completed words, when writes are taken back, exactly where they do so in the words as they stand
+pub back_births : {s : State} {places remaining : Places} {words : List ℕ} (us : List UndoEntry) → IsHeap s places remaining words → AreBacked places words us
+    → AreNamedByBirth (places ++ future s words remaining) (taken_back us (completed s places remaining words)) ↔ AreNamedByBirth (places ++ remaining) words
+back_births {s} {places} {remaining} {words} us heap backed = elim (heap_cases heap) [
+  | inl none ↦
+      let there : AreNamedByBirth (places ++ future s words remaining) (taken_back us (completed s places remaining words)) ≡ AreNamedByBirth (places ++ remaining) (taken_back us words) =
+      ap (λ (ws : List ℕ). AreNamedByBirth (places ++ future s words remaining) (taken_back us ws)) (completed_none s places remaining words none.0)
+      ∙ ap (λ (ps : Places). AreNamedByBirth (places ++ future s words ps) (taken_back us words)) none.1
+      ∙ ap (λ (ps : Places). AreNamedByBirth (places ++ ps) (taken_back us words)) (sym none.1) in
+      let kept = births_kept us heap backed in (λ born. kept.0 (subst (λ (X : Type 0). X) there born), λ born. subst (λ (X : Type 0). X) (sym there) (kept.1 born))
+  | inr run ↦
+      let left = completed_taken_back us run.1 backed in
+      let there : AreNamedByBirth (places ++ future s words remaining) (taken_back us (completed s places remaining words))
+      ≡ AreNamedByBirth (places ++ future s (taken_back us words) remaining) (completed s places remaining (taken_back us words)) =
+      ap (λ (ws : List ℕ). AreNamedByBirth (places ++ future s words remaining) ws) (sym left.same)
+      ∙ ap (λ (ps : Places). AreNamedByBirth (places ++ ps) (completed s places remaining (taken_back us words))) (sym left.future) in
+      let kept = births_kept us heap backed in
+      let same = collecting_births left.is in
+      (λ born. kept.0 (same.0 (subst (λ (X : Type 0). X) there born)), λ born. subst (λ (X : Type 0). X) (sym there) (same.1 (kept.1 born)))
+]
+
+-- A graph is seen by births in the words as they stand without some writes, where births give the names in the words in which it stands.
 pub over_born : {s : State} {places remaining : Places} {words : List ℕ} {g : Graph} (us : List UndoEntry) → IsHeap s places remaining words → AreBacked places words us
-    → StandsCompleted 0 0 places remaining g us words s → AreNamedByBirth (places ++ remaining) words → IsSeen (taken_back us words) s.base g
+    → StandsCompleted 0 0 places remaining g us words s → AreNamedByBirth (places ++ future s words remaining) (taken_back us (completed s places remaining words)) → IsSeen (taken_back us words) s.base g
 over_born {places = places} {remaining = remaining} {words = words} us heap backed stands born =
-    over_seen us (id_at (taken_back us words)) heap backed stands (births_name (places ++ remaining) (taken_back us words) ((births_kept us heap backed).1 born))
+    let raw = (back_births us heap backed).0 born in
+    over_seen us (id_at (taken_back us words)) heap backed stands (births_name (places ++ remaining) (taken_back us words) ((births_kept us heap backed).1 raw))

@@ -5,5 +5,6 @@ pub mod Over
 pub mod Reading
 pub mod Referred
 pub mod Seen
+pub mod States
 pub mod Still
 pub mod Writes

@@ -7,7 +7,7 @@ ghost use Rattle.log_machine.specs.Machine.{State, taken_back};
 ghost use Rattle.log_machine.specs.declared.UndoEntry.{UndoEntry};
 ghost use Rattle.graph_words.specs.Places.{Places};
 ghost use Rattle.graph_words.specs.Stands.{AreNamedByBirth};
-ghost use Rattle.collection_words.specs.Completed.{StandsCompleted};
+ghost use Rattle.collection_words.specs.Completed.{StandsCompleted, completed, future};
 ghost use Rattle.collection_words.specs.Writes.{AreBacked};
 ghost use Rattle.seen_laws.specs.Heap.{AreNames, IsHeap};
 
@@ -22,7 +22,7 @@ pub fn objects_are_named_by_their_addresses()
     ensures { (s : State) (places remaining : Places) (words : List ℕ) → IsHeap s places remaining words → (name : ℕ → Id) × AreNames name (places ++ remaining) }
 {}
 
-/// It is seen by births where these give the names.
+/// It is seen by births where these give the names in the words in which it stands.
 pub fn graphs_are_seen_by_birth()
-    ensures { (s : State) (places remaining : Places) (words : List ℕ) (g : Graph) (us : List UndoEntry) → IsHeap s places remaining words → AreBacked places words us → StandsCompleted 0 0 places remaining g us words s → AreNamedByBirth (places ++ remaining) words → IsSeen (taken_back us words) s.base g }
+    ensures { (s : State) (places remaining : Places) (words : List ℕ) (g : Graph) (us : List UndoEntry) → IsHeap s places remaining words → AreBacked places words us → StandsCompleted 0 0 places remaining g us words s → AreNamedByBirth (places ++ future s words remaining) (taken_back us (completed s places remaining words)) → IsSeen (taken_back us words) s.base g }
 {}

@@ -6,3 +6,4 @@ pub mod born;
 pub mod graphs;
 pub mod reads;
 pub mod records;
+pub mod transactions;
