@@ -1,5 +1,5 @@
 -- Births: each object has its birth in the words as they stand, and the same one where it stands in the completed words.
-use Rattle.std.proofs.Common.{◌≡◌, ℕ, ◌+◌, inl, inr, List, [], ◌∷◌, ◌++◌, None, sym, ap, ◌∙◌, subst}
+use Rattle.std.proofs.Common.{◌≡◌, ℕ, ◌+◌, inl, inr, List, [], ◌∷◌, ◌++◌, Some, sym, ap, ◌∙◌, subst}
 use Rattle.std.specs.Prelude.{◌↔◌, Contains}
 use Rattle.std.proofs.lemmas.List.{append-nil}
 use Rattle.heap_spaces.specs.Collection.{Collection}
@@ -8,7 +8,9 @@ use Rattle.object_layout.specs.Layout.{IsSeen, birth_at, id_at, id_of}
 use Rattle.object_layout.proofs.WalkLaws.{Contains-head, Contains-rest}
 use Rattle.log_machine.specs.declared.UndoEntry.{UndoEntry}
 use Rattle.log_machine.specs.Machine.{State, taken_back}
-use Rattle.graph_words.specs.Places.{Places, addresses}
+use Rattle.log_machine.proofs.ListLaws.{AllByRecursion-append, AllByRecursion-behind, AllByRecursion-front}
+use Rattle.graph_model.specs.declared.id.Id.{Id}
+use Rattle.graph_words.specs.Places.{AreOld, IsOld, Places, address_of, addresses}
 use Rattle.graph_words.specs.Stands.{AreNamedByBirth}
 use Rattle.graph_words.proofs.Area.Field.{birth_taken_back}
 use Rattle.graph_words.proofs.Stands.Seen.{births_name}
@@ -21,6 +23,7 @@ use Rattle.collection_words.proofs.Moves.Sources.{move_source}
 use Rattle.seen_laws.specs.Heap.{IsHeap}
 use Rattle.seen_laws.proofs.Kept.{backed_are_fields, birth_back, heap_cases}
 use Rattle.seen_laws.proofs.Over.{over_seen}
+use Rattle.seen_laws.proofs.Referred.{stored}
 
 -- Where objects keep their births they keep their names.
 
@@ -58,6 +61,38 @@ collecting_births {s} {places = places} {remaining = remaining} {words = words} 
     let object = source_object is at (move_source words (addresses all) s.base at there move) in (move_made is at there object.0 move object.1).birth in (
       λ born. named_here words V all s.base same (subst (λ (ps : Places). AreNamedByBirth ps V) (all_places is.laid) born),
       λ born. subst (λ (ps : Places). AreNamedByBirth ps V) (sym (all_places is.laid)) (named_there words V all s.base same born),
+    )
+
+-- each object has its birth where it stands in the completed words
+pub heap_birth : {s : State} {places remaining : Places} {words : List ℕ} → IsHeap s places remaining words → (id : Id) (at : ℕ) → address_of (places ++ remaining) id ≡ Some at
+    → (to : ℕ) × (address_of (places ++ future s words remaining) id ≡ Some to) × (birth_at (completed s places remaining words) to ≡ birth_at words at)
+heap_birth {s} {places} {remaining} {words} heap id at there = elim (heap_cases heap) [
+  | inl none ↦
+      let nothing : future s words remaining ≡ remaining = ap (λ (ps : Places). future s words ps) none.1 ∙ sym none.1 in (
+        at,
+        ap (λ (ps : Places). address_of (places ++ ps) id) nothing ∙ there,
+        ap (λ (ws : List ℕ). birth_at ws at) (completed_none s places remaining words none.0),
+      )
+  | inr run ↦ let object = stored run.1 id at there in (object.to, object.there, object.made.birth)
+]
+
+-- Names of old transactions.
+
+old_put : (next : ℕ) (words : List ℕ) (ps : Places) (to : ℕ) → AreOld next ps → AreOld next (places_from words ps to)
+old_put next words [] to old = tt
+old_put next words (p ∷ ps) to old = (old.0, old_put next words ps (to + taken_at words p.1) old.1)
+
+put_old : (next : ℕ) (words : List ℕ) (ps : Places) (to : ℕ) → AreOld next (places_from words ps to) → AreOld next ps
+put_old next words [] to old = tt
+put_old next words (p ∷ ps) to old = (old.0, put_old next words ps (to + taken_at words p.1) old.1)
+
+-- the names are old exactly where they are so in the completed words
+pub completed_old : (next : ℕ) (s : State) (places remaining : Places) (words : List ℕ) → AreOld next (places ++ future s words remaining) ↔ AreOld next (places ++ remaining)
+completed_old next s places remaining words =
+    let P : Id × ℕ → Type 0 = λ p. IsOld next p.0 in
+    let to = s.base + s.used in (
+      λ old. AllByRecursion-append P places remaining (AllByRecursion-front P places (future s words remaining) old) (put_old next words remaining to (AllByRecursion-behind P places (future s words remaining) old)),
+      λ old. AllByRecursion-append P places (future s words remaining) (AllByRecursion-front P places remaining old) (old_put next words remaining to (AllByRecursion-behind P places remaining old)),
     )
 
 -- Writes that are taken back.

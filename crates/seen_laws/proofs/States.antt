@@ -1,5 +1,5 @@
 -- The same of the writes that a state says may be taken back: of all transactions, or of all others.
-use Rattle.std.proofs.Common.{◌≡◌, ◌≢◌, ℕ, ◌+◌, ◌<◌, false, List, [], ◌∷◌, ◌++◌, length, Some, sym, ap, subst}
+use Rattle.std.proofs.Common.{◌≡◌, ℕ, ◌+◌, ◌<◌, false, List, [], ◌∷◌, ◌++◌, length, Some, sym, subst}
 use Rattle.std.specs.List.{AllByRecursion, flat_map}
 use Rattle.std.specs.FinMap.{entries, remove}
 use Rattle.graph_model.specs.Graph.{Graph, fields}
@@ -7,9 +7,8 @@ use Rattle.graph_model.specs.declared.id.Id.{Id}
 use Rattle.object_layout.specs.Layout.{IsSeen, IsSeenAs, object_at}
 use Rattle.log_machine.proofs.ListLaws.{AllByRecursion-append}
 use Rattle.log_machine.proofs.MapLaws.{each_entry, each_other, each_remove}
-use Rattle.log_machine.specs.Entries.{EachKeyed}
 use Rattle.log_machine.specs.declared.UndoEntry.{UndoEntry}
-use Rattle.log_machine.specs.Machine.{Loser, State, all_taken_back, each_taken_back, field_at, losing, owed, taken_back}
+use Rattle.log_machine.specs.Machine.{Loser, State, all_taken_back, field_at, losing, owed}
 use Rattle.graph_words.specs.Places.{Places, address_of}
 use Rattle.graph_words.specs.Stands.{AreNamedByBirth, Stands}
 use Rattle.collection_words.specs.Completed.{StandsCompleted, completed, future}
