@@ -65,7 +65,7 @@ collected_laid is none = record {
 -- Values.
 
 -- a reference to an object that is placed now or to come is one to an object of places, where its word leads here
-here_placed : {s : State} {k : Collection} {places remaining : Places} {words : List ℕ} {t made : ℕ} {g : Graph} → IsCollecting s k places remaining words → HaveOwnNames places
+pub here_placed : {s : State} {k : Collection} {places remaining : Places} {words : List ℕ} {t made : ℕ} {g : Graph} → IsCollecting s k places remaining words → HaveOwnNames places
     → Stands t made (places ++ future s words remaining) g (completed s places remaining words) s.base (s.used + owed s) → (id : Id) (at : ℕ) → address_of (places ++ future s words remaining) id ≡ Some at
     → LeadsHere (addresses places) (meaning (bits (word.Stable at))) → address_of places id ≡ Some at
 here_placed {s} {places = places} {remaining = remaining} {words = words} is own stands id at there leads =
@@ -84,7 +84,7 @@ none_front ps qs id none = elim (none_or_some (address_of ps id)) [
 ]
 
 -- the word of a value that leads here is its word where only current objects are placed
-here_value : {s : State} {k : Collection} {places remaining : Places} {words : List ℕ} {t made : ℕ} {g : Graph} → IsCollecting s k places remaining words → HaveOwnNames places
+pub here_value : {s : State} {k : Collection} {places remaining : Places} {words : List ℕ} {t made : ℕ} {g : Graph} → IsCollecting s k places remaining words → HaveOwnNames places
     → Stands t made (places ++ future s words remaining) g (completed s places remaining words) s.base (s.used + owed s) → (v : Val)
     → LeadsHere (addresses places) (meaning (bits_of (place_of (places ++ future s words remaining) g) v)) → bits_of (place_of (places ++ future s words remaining) g) v ≡ bits_of (place_of places g) v
 here_value is own stands Null leads = refl
@@ -100,7 +100,7 @@ here_value {s} {places = places} {remaining = remaining} {words = words} {g = g}
     ]
 
 -- and it is seen there
-here_visible : {s : State} {k : Collection} {places remaining : Places} {words : List ℕ} {t made : ℕ} {g : Graph} → IsCollecting s k places remaining words → HaveOwnNames places
+pub here_visible : {s : State} {k : Collection} {places remaining : Places} {words : List ℕ} {t made : ℕ} {g : Graph} → IsCollecting s k places remaining words → HaveOwnNames places
     → Stands t made (places ++ future s words remaining) g (completed s places remaining words) s.base (s.used + owed s) → (v : Val)
     → LeadsHere (addresses places) (meaning (bits_of (place_of (places ++ future s words remaining) g) v)) → IsVisible (places ++ future s words remaining) t made v → IsVisible places t made v
 here_visible is own stands Null leads seen = tt
@@ -118,7 +118,7 @@ record IsHereField (s : State) (places remaining : Places) (words : List ℕ) (g
   raw : slice_index words (field_at at i) ≡ bits_of (place_of (places ++ future s words remaining) g) (slice_index_or (fields g id) i Null)
   leads : LeadsHere (addresses places) (meaning (bits_of (place_of (places ++ future s words remaining) g) (slice_index_or (fields g id) i Null)))
 
-here_length : {s : State} {k : Collection} {places remaining : Places} {words : List ℕ} {t made : ℕ} {g : Graph} → IsCollecting s k places remaining words
+pub here_length : {s : State} {k : Collection} {places remaining : Places} {words : List ℕ} {t made : ℕ} {g : Graph} → IsCollecting s k places remaining words
     → Stands t made (places ++ future s words remaining) g (completed s places remaining words) s.base (s.used + owed s) → (id : Id) (at : ℕ) → address_of places id ≡ Some at
     → object_at words at ≡ Some (length (fields g id))
 here_length {s} {places = places} {remaining = remaining} {words = words} {g = g} is stands id at there =

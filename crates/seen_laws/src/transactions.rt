@@ -1,0 +1,31 @@
+//! The same of the writes that the state behind records says may be taken back: the sealed graph is seen, and each transaction reads its own view.
+ghost use Rattle.std.specs.Prelude.{◌≡◌, ◌<◌, ◌++◌, ℕ, List, length, Some, false};
+ghost use Rattle.graph_model.specs.Graph.{Graph, fields};
+ghost use Rattle.graph_model.specs.declared.id.Id.{Id};
+ghost use Rattle.object_layout.specs.Layout.{IsSeen, IsSeenAs, object_at};
+ghost use Rattle.log_machine.specs.Machine.{State, all_taken_back, field_at};
+ghost use Rattle.graph_words.specs.Places.{Places, address_of};
+ghost use Rattle.graph_words.specs.Stands.{AreNamedByBirth};
+ghost use Rattle.collection_words.specs.Completed.{completed, future};
+ghost use Rattle.collection_words.specs.LaidOut.{is_gray};
+ghost use Rattle.seen_laws.specs.Heap.{AreAllBacked, AreNames, IsFieldHere, IsHeap, IsUnwrittenByOthers, StandsSealed, StandsViewed};
+
+/// The graph of the transactions that have ended is seen in the words as they stand without the writes of the others.
+pub fn sealed_graphs_are_seen()
+    ensures { (s : State) (places remaining : Places) (words : List ℕ) (g : Graph) (name : ℕ → Id) → IsHeap s places remaining words → AreAllBacked s places words → StandsSealed places remaining g words s → AreNames name (places ++ remaining) → IsSeenAs name (all_taken_back s words) s.base g }
+{}
+
+/// It is seen by births where these give the names in the completed words.
+pub fn sealed_graphs_are_seen_by_birth()
+    ensures { (s : State) (places remaining : Places) (words : List ℕ) (g : Graph) → IsHeap s places remaining words → AreAllBacked s places words → StandsSealed places remaining g words s → AreNamedByBirth (places ++ future s words remaining) (all_taken_back s (completed s places remaining words)) → IsSeen (all_taken_back s words) s.base g }
+{}
+
+/// A current object stands in the words with the length that a transaction sees.
+pub fn transactions_find_lengths()
+    ensures { (s : State) (places remaining : Places) (words : List ℕ) (t made : ℕ) (g : Graph) (id : Id) (at : ℕ) → IsHeap s places remaining words → AreAllBacked s places words → StandsViewed t made places remaining g words s → address_of places id ≡ Some at → object_at words at ≡ Some (length (fields g id)) }
+{}
+
+/// A field of it that is not gray, and that no other transaction wrote, has the word of the value that the transaction sees.
+pub fn transactions_find_fields()
+    ensures { (s : State) (places remaining : Places) (words : List ℕ) (t made : ℕ) (g : Graph) (id : Id) (at i : ℕ) → IsHeap s places remaining words → AreAllBacked s places words → StandsViewed t made places remaining g words s → address_of places id ≡ Some at → i < length (fields g id) → is_gray s.collection at i ≡ false → IsUnwrittenByOthers s t (field_at at i) → IsFieldHere t made places g words id at i }
+{}
