@@ -7,5 +7,6 @@ mod RefinementGraph
 pub mod RefinementLeft
 mod RefinementOpen
 mod StepCore
+pub mod StepsLaws
 mod Undamaged
 mod Zeros

@@ -28,3 +28,7 @@ failed_at heap = entry_of heap.failed
 -- the entries of a history
 abbrev pub entries_of : Recorded → List Entry
 entries_of history = history.entries
+
+-- those of a heap, since it was opened
+abbrev pub history_of : {D : Type 0} {g : Ghosts D} → Heap D g → List Entry
+history_of heap = entries_of heap.history

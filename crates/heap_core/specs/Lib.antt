@@ -4,3 +4,4 @@ pub mod GivenBack
 pub mod HeapState
 pub mod Refinement
 pub mod Refusals
+pub mod Steps

@@ -1,5 +1,5 @@
 //! The heap: events on an image, each of them one step.
-ghost use Rattle.std.specs.Prelude.{◌≡◌, ◌≢◌, ◌⊎◌, ◌↔◌, ◌+◌, ◌≤◌, ◌^◌, ◌<◌, ℕ, List, [], ◌∷◌, ◌++◌, length, min, is_some, Bool, true, None, Some, Ok, Err, IsTrue, IfOk, IfErr, IsErrAnd, OnErr};
+ghost use Rattle.std.specs.Prelude.{◌≡◌, ◌≢◌, ◌⊎◌, ◌↔◌, ◌+◌, ◌≤◌, ◌^◌, ◌<◌, ℕ, List, [], ◌∷◌, ◌++◌, length, min, is_some, Bool, true, None, Some, Ok, Err, IsTrue, IfOk, IfErr, MatchResult, IsErrAnd, OnErr};
 ghost use Rattle.counts.specs.Count.{greatest};
 ghost use Rattle.disk_model.specs.Disk.{Only};
 ghost use Rattle.disk_model.specs.Keeps.{KeepsDisk, OnlyReads};
@@ -96,7 +96,7 @@ fn print(alloc: Global, words: &PageWords, root: u32) -> Result<Vec<u8>, GraphEr
 }
 
 impl<D: Disk> Heap<D> {
-    ghost use Rattle.heap_core.specs.HeapState.{opened_disk, heap_disk, failed_at, entries_of};
+    ghost use Rattle.heap_core.specs.HeapState.{opened_disk, heap_disk, failed_at, entries_of, history_of};
     ghost use Rattle.heap_core.specs.Refinement.{IsCore, IsHeap};
     ghost use Rattle.heap_core.specs.Refusals.{IsToldOf, IsErrorOrOutside, ComesBeforeWrites};
     ghost use Rattle.heap_core.specs.declared.errors.OpenError.TheVariants.{NotHeap, Damaged};
@@ -176,6 +176,8 @@ impl<D: Disk> Heap<D> {
     pub fn step(&mut self, event: Event) -> Result<Reply, AllocError>
         requires { IsOfSession event }
         ensures disk { KeepsDisk D.Disk self.old.disk self.new.disk (step_device result) }
+        // On every disk an answer adds the entry of this event and reply, and an error adds none.
+        ensures recorded { MatchResult result (λ reply. history_of self.new ≡ history_of self.old ++ record { event = event; reply = reply } ∷ []) (λ _. history_of self.new ≡ history_of self.old) }
 
         // Each event is a step of the core that the heap is.
         ensures core { (c : Core) → IsCore c self.old → IsReached c → IfOk result (λ reply. (d : Core) × IsStep c event reply d × IsCore d self.new) }
@@ -211,6 +213,7 @@ impl<D: Disk> Heap<D> {
 
     /// The entries since the heap was opened.
     pub fn history(&self) -> &History
+        ensures value { entries_of result.now ≡ history_of self.now }
         ensures entries { (c : Core) → IsCore c self.now → entries_of result.now ≡ c.history }
 
         // However the sessions' events interleave, each sealed transaction had the replies of the run in which these follow one another in the

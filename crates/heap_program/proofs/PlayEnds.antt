@@ -44,7 +44,7 @@ use Rattle.heap_program.proofs.Ready.{AreReady}
 use Rattle.heap_program.specs.StatusOf.{halt_status}
 use Rattle.heap_program.proofs.Causes.{disk_rose}
 use Rattle.heap_program.proofs.Counts.{counted-sum, counted_mono}
-use Rattle.heap_program.proofs.PlayEvent.{heap_leaves}
+use Rattle.heap_core.proofs.StepsLaws.{heap_leaves}
 use Rattle.heap_program.proofs.Lines as lines
 use Rattle.heap_program.proofs.PlayFaults.{cut_reply, fault_not_whole, stop_not_whole, fault_not_stopped}
 use Rattle.heap_program.proofs.PlayFuse.{rose_some, own_steps}

@@ -21,17 +21,14 @@ use Rattle.heap_program.specs.declared.output.WriteError.{WriteError}
 use Rattle.heap_core.specs.Causes.{reply_device}
 use Rattle.heap_model.specs.Core.{Core, next_number, is_dirty, granted_by, answer, with_entry, after, IsCutShort, IsStep, calls}
 use Rattle.heap_model.specs.CoreCrash.{IsCommitPrefix}
-use Rattle.core_laws.proofs.Run.Events.{step_reached}
 use Rattle.heap_model.proofs.Run.Calls.{step_history}
 use Rattle.heap_model.proofs.Step.Step.{core_refusal-HasNoFault}
-use Rattle.core_laws.specs.Valid.{IsReached}
 use Rattle.heap_core.specs.Refinement.{DiskHolds, IsCore, IsHeap}
 use Rattle.heap_program.proofs.Ready.{AreReady}
 use Rattle.heap_program.specs.Play.{MakesAll, MakesShort, Makes, Ends, Plays, ended_by, WroteFront}
 use Rattle.heap_program.specs.StatusOf.{write_halt}
-use Rattle.heap_program.specs.Steps.{HeapStep, AreSteps}
 use Rattle.heap_program.specs.declared.output.WriteError.TheVariants as writing
-use Rattle.heap_core.proofs.CrashLaws.{heap_keeps}
+use Rattle.heap_core.proofs.StepsLaws.{one_steps}
 use Rattle.heap_program.proofs.Lines.{nothing_since, one_since, part_since}
 
 -- a reply that tells no fault of the disk
@@ -58,10 +55,6 @@ whole_reply c event reply is = (sound_device reply (subst IsSoundReply (sym is) 
 
 one_call : (n m k : ℕ) → n ≡ counted m k → n ≡ counted (m + 0) k
 one_call n m k e = let same : m ≡ m + 0 = omega arith in e ∙ ap (λ (i : ℕ). counted i k) same
-
--- what a crash leaves of a heap
-pub heap_leaves : {D : Type 0} {g : Ghosts D} (s : Super) (c : Core) (heap : Heap D g) → IsHeap s c heap → IsReached c → (image : List ℕ) → g.may_leave heap.disk image → IsCommitPrefix c image
-heap_leaves {g = g} s c heap is reached = heap_keeps s c (g.bytes heap.disk) (g.may_leave heap.disk) is.disk reached.sound
 
 module _ {D : Type 0} {g : Ghosts D} (s : Super) (c d : Core) (event : Event) (reply : Reply) (old new : Heap D g) (ready : AreReady c (event ∷ [])) (step : IsStep c event reply d)
     (keeps : KeepsDisk g old.disk new.disk (reply_device reply)) (passes : Passes (calls c event) (g.passed old.disk) (g.passed new.disk) (reply_device reply))
@@ -117,14 +110,6 @@ module _ {D : Type 0} {g : Ghosts D} (s : Super) (c d : Core) (event : Event) (r
       (λ (cut : IsCutShort c event reply × (d ≡ with_entry c event reply)). inr (reply, short_ends cut.0 cut.1))
       step
 
-  -- it is a step on the heap's disk
-  pub one_steps : AreSteps (HeapStep g) c old.disk one d new.disk
-  one_steps =
-      let next = step_reached c d event reply ready.running.reached ready.sessions.0 step in
-      let made : HeapStep g c old.disk event d new.disk =
-      record { reply = reply; step = step; moments = moments; kept = heap_leaves s d new heap next; passes = passes; disk = keeps } in
-      (d, new.disk, made, (refl, refl))
-
   -- the event was made and its line written
   pub plays_one : (told : Bool) (before after : List ℕ) → (IsTrue told → after ≡ before ++ own) → Plays s c one old new told before after (ended_by reply)
   plays_one told before after wrote = record {
@@ -132,7 +117,7 @@ module _ {D : Type 0} {g : Ghosts D} (s : Super) (c d : Core) (event : Event) (r
     behind = [];
     parts = refl;
     core = d;
-    steps = one_steps;
+    steps = one_steps s c d event reply old new ready.running.reached ready.sessions.0 step keeps passes moments heap;
     ends = one_ends;
     heap = heap;
     written = λ t. one_since c.history d.history event reply before after (step_history c d event reply step) (wrote t);
@@ -149,7 +134,7 @@ module _ {D : Type 0} {g : Ghosts D} (s : Super) (c d : Core) (event : Event) (r
     behind = [];
     parts = refl;
     core = d;
-    steps = one_steps;
+    steps = one_steps s c d event reply old new ready.running.reached ready.sessions.0 step keeps passes moments heap;
     ends = unwritten_ends e;
     heap = heap;
     written = λ t. part_since c.history d.history event reply before after (step_history c d event reply step) e (wrote t);

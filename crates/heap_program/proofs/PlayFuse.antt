@@ -17,7 +17,8 @@ use Rattle.heap_core.specs.Causes.{reply_device}
 use Rattle.heap_model.specs.Core.{Core, calls}
 use Rattle.heap_model.specs.CoreCrash.{IsCommitPrefix}
 use Rattle.heap_program.specs.Causes.{DiskRose}
-use Rattle.heap_program.specs.Steps.{StopCause, Step, HeapStep, AreSteps}
+use Rattle.heap_core.specs.Steps.{HeapStep, AreSteps}
+use Rattle.heap_program.specs.Steps.{StopCause, Step}
 use Rattle.heap_program.proofs.Causes.{rose_sum_stops}
 use Rattle.heap_program.proofs.Counts.{counted-counted, counted_mono}
 

@@ -21,8 +21,8 @@ use Rattle.heap_program.proofs.Lines.{none_since, then_since}
 use Rattle.heap_core.specs.Refinement.{IsHeap}
 use Rattle.heap_program.proofs.Ready.{AreReady}
 use Rattle.heap_program.specs.Play.{MakesAll, MakesShort, Makes, Ends, Plays}
-use Rattle.heap_program.specs.Steps.{HeapStep, AreSteps}
-use Rattle.heap_program.proofs.StepsLaws.{steps_append}
+use Rattle.heap_core.specs.Steps.{HeapStep, AreSteps}
+use Rattle.heap_core.proofs.StepsLaws.{steps_append}
 use Rattle.heap_program.proofs.Causes.{cause_on}
 
 -- the passes of two runs, one after the other

@@ -1,6 +1,6 @@
 -- Laws of steps on a disk: they are a run of the core, and no moment of them loses what had been acknowledged or forced.
 use Rattle.std.specs.Prelude.{if◌then◌else◌}
-use Rattle.std.proofs.Common.{◌≡◌, inl, inr, ℕ, ◌+◌, ◌≤◌, ⊎_elim, Bool, true, false, List, [], ◌∷◌, ◌++◌, Option, Some, None, refl, sym, ap, ◌∙◌, subst, arith}
+use Rattle.std.proofs.Common.{◌≡◌, inl, inr, ℕ, ◌+◌, ◌≤◌, ⊎_elim, Bool, true, false, List, [], ◌∷◌, Option, Some, None, refl, sym, ap, ◌∙◌, subst, arith}
 use Rattle.std.specs.List.{AllByRecursion}
 use Rattle.disk_model.specs.declared.disk.Disk.{Ghosts}
 use Rattle.disk_model.specs.Moments.{LeavesOnly}
@@ -31,7 +31,8 @@ use Rattle.core_laws.proofs.Step.Sound.{sound_agrees}
 use Rattle.core_laws.specs.Valid.{IsSound, IsReached}
 use Rattle.heap_program.specs.CrashSafe.{LastingStep}
 use Rattle.heap_program.specs.Headline.{lasting}
-use Rattle.heap_program.specs.Steps.{Step, AreSteps}
+use Rattle.heap_core.specs.Steps.{AreSteps}
+use Rattle.heap_program.specs.Steps.{Step}
 
 done_acknowledges : (a : Account) (event : Event) (reply : Reply) → a.acknowledged ≤ (done a event reply).acknowledged
 done_acknowledges a event (Begun n) = omega arith
@@ -119,15 +120,6 @@ run_lasting c d events from to run =
 -- an image that keeps first commits has as many as last
 keeps_lasting : (c : Core) (image : List ℕ) → IsCommitPrefix c image → HasAtLeast c (lasting c) image
 keeps_lasting c image keeps = record { count = keeps.0; stands = keeps.1.stands; enough = omega (arith, keeps.1.kept, keeps.1.forced); some = keeps.1.some }
-
--- Steps behind steps.
-pub steps_append : {D : Type 0} (step : Core → D → Event → Core → D → Type 0) (c mid d : Core) (old between new : D) (before behind : List Event) → AreSteps step c old before mid between → AreSteps step mid between behind d new
-    → AreSteps step c old (before ++ behind) d new
-steps_append {D} step c mid d old between new [] behind first second =
-    let P : Core → D → Type 0 = λ x disk. AreSteps step x disk behind d new in
-    subst (λ (x : Core). P x old) first.0 (subst (λ disk. P mid disk) first.1 second)
-steps_append step c mid d old between new (event ∷ before) behind first second =
-    (first.0, first.1, first.2, steps_append step first.0 mid d first.1 between new before behind first.3 second)
 
 module _ {D : Type 0} (g : Ghosts D) (stop : Option ℕ) (start final : D) where
   -- Steps are a run of the core.

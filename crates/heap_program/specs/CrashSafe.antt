@@ -13,7 +13,8 @@ use Rattle.heap_program.specs.declared.status.Status.{Status}
 use Rattle.heap_program.specs.declared.status.Status.TheVariants as status
 use Rattle.heap_program.specs.Headline.{lasting, made_super, made_core, end_text, stop_after, HasMade, StopsOpening, IsFormatted, IsNotMade, IsNotBegun}
 use Rattle.heap_program.specs.Play.{lines_text, WroteFront, WroteLines}
-use Rattle.heap_program.specs.Steps.{Step, AreSteps}
+use Rattle.heap_core.specs.Steps.{AreSteps}
+use Rattle.heap_program.specs.Steps.{Step}
 use Rattle.heap_program.specs.Stored.{IsStored, stored_core, stored_calls}
 use Rattle.heap_model.specs.CoreCrash.{HasAtLeast}
 use Rattle.heap_model.specs.Ending.{all_events}

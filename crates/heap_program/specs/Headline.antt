@@ -39,7 +39,8 @@ use Rattle.command_words.specs.declared.commands.Stop.{Stop}
 use Rattle.heap_program.specs.declared.status.Status.{Status}
 use Rattle.heap_program.specs.declared.status.Status.TheVariants as status
 use Rattle.heap_program.specs.Play.{lines_text, WroteFront, WroteLines, MadeAll, IsCutBy}
-use Rattle.heap_program.specs.Steps.{Step, AreSteps}
+use Rattle.heap_core.specs.Steps.{AreSteps}
+use Rattle.heap_program.specs.Steps.{Step}
 use Rattle.heap_program.specs.Stored.{IsStored, stored_core, stored_calls}
 
 -- A claim of a modelled disk on which nothing is unsynced.

@@ -20,7 +20,7 @@ use Rattle.heap_model.specs.Core.{Core, with_entry, IsCutShort, IsRun, calls}
 use Rattle.heap_model.specs.CoreRuns.{after_events, total_calls}
 use Rattle.core_laws.specs.Valid.{IsReached}
 use Rattle.heap_core.specs.Refinement.{IsCore, IsHeap}
-use Rattle.heap_program.specs.Steps.{HeapStep, AreSteps}
+use Rattle.heap_core.specs.Steps.{HeapStep, AreSteps}
 
 -- the lines of a history
 abbrev pub lines_text : List Entry → List ℕ

@@ -1,9 +1,8 @@
--- A run of steps on a disk, each with the core and the disk before and after it.
-use Rattle.std.specs.Prelude.{◌≡◌, ℕ, ◌+◌, ◌≤◌, List, [], ◌∷◌, Option, None, Some}
+-- The steps of a run on a disk, which may stop by itself.
+use Rattle.std.specs.Prelude.{◌≡◌, ℕ, ◌+◌, ◌≤◌, List, Option, None, Some}
 use Rattle.counts.specs.Count.{Rose, counted}
 use Rattle.disk_model.specs.declared.disk.Disk.{Ghosts}
 use Rattle.disk_model.specs.Disk.{HasCause}
-use Rattle.disk_model.specs.Keeps.{KeepsDisk}
 use Rattle.disk_model.specs.Moments.{LeavesOnly}
 use Rattle.gate_slot.specs.Passing.{Passes}
 use Rattle.graph_model.specs.declared.event.Event.{Event}
@@ -40,17 +39,3 @@ pub record Step {D : Type 0} (g : Ghosts D) (stop : Option ℕ) (start : D) (c :
   -- without a fault by then it made the writes and syncs of the core's step, or fewer where it was stopped
   pub passes : Unharmed g start after → Passes (calls c event) (g.passed before) (g.passed after) (reply_device reply)
   pub restarts : g.restarts after ≡ g.restarts before
-
--- A step of a heap on its own disk.
-pub record HeapStep {D : Type 0} (g : Ghosts D) (c : Core) (before : D) (event : Event) (d : Core) (after : D) : Type 0 where
-  pub reply : Reply
-  pub step : IsStep c event reply d
-  pub moments : LeavesOnly g.moment g.left_since before after (IsCommitPrefix c)
-  pub kept : (image : List ℕ) → g.may_leave after image → IsCommitPrefix d image
-  pub passes : Passes (calls c event) (g.passed before) (g.passed after) (reply_device reply)
-  pub disk : KeepsDisk g before after (reply_device reply)
-
--- These events were made by such steps, one after another: each begins with the core and the disk that the one before it left.
-abbrev pub AreSteps : {D : Type 0} (step : Core → D → Event → Core → D → Type 0) → Core → D → List Event → Core → D → Type 0
-AreSteps step c old [] d new = (d ≡ c) × (new ≡ old)
-AreSteps {D} step c old (event ∷ events) d new = (mid : Core) × (between : D) × step c old event mid between × AreSteps step mid between events d new
