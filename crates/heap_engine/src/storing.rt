@@ -67,7 +67,6 @@ impl Engine {
         ensures core { Steps D.Disk Force self.old disk.old self.new disk.new result }
         ensures holds { IsTrue D.tells → StepsOn D.Disk Force self.old disk.old self.new disk.new result }
     {
-        self.log.reserve(0)?;
         self.log.force(disk)?;
         Ok(Reply::Durable { n: self.sealed })
     }
@@ -91,7 +90,6 @@ impl Engine {
         if !self.cache.dirty(page) {
             return Ok(Reply::Clean { page: p });
         }
-        self.log.reserve(0)?;
         self.store(disk, page)?;
         Ok(Reply::Flushed { page: p })
     }
