@@ -1,3 +1,4 @@
+mod Appending
 mod LogBytes
 mod LogForce
 pub mod LogLaws

@@ -1,5 +1,5 @@
 -- A log in memory, as its callers see it, and what it stands for.
-use Rattle.std.specs.Prelude.{◌≡◌, ℕ, ◌+◌, ◌<◌, Bool, List, ◌++◌, length, nat_lt, vec_len, vec_capacity}
+use Rattle.std.specs.Prelude.{◌≡◌, ℕ, ◌+◌, ◌<◌, ◌≤◌, Bool, List, ◌++◌, length, nat_lt, vec_len, vec_capacity}
 use Rattle.log_records.specs.declared.Record.{Record}
 use Rattle.log_records.specs.Record.{spellings}
 use Rattle.gated_log.specs.declared.log.Log.{Log}
@@ -42,9 +42,9 @@ log_memory log = vec_capacity log.buffer
 abbrev pub HasSpare : Log → ℕ → Type 0
 HasSpare log more = buffer_size log + more < log_memory log
 
--- the memory that a force needs was taken
-abbrev pub IsReady : Log → Type 0
-IsReady log = buffer_size log < log_memory log
+-- What was reserved is there still: no memory was given back.
+abbrev pub KeepsMemory : Log → Log → Type 0
+KeepsMemory old new = log_memory old ≤ log_memory new
 
 -- how many records were forced
 abbrev pub log_forced : Log → ℕ

@@ -1,24 +1,24 @@
 //! The bytes of a batch.
-ghost use Rattle.std.specs.Prelude.{◌≡◌, ◌+◌, ◌-◌, ◌^◌, ◌<◌, ◌≤◌, ◌++◌, [], ◌∷◌, length, take, drop, slice_index, vec_len, vec_capacity, IfOk, IfSome, None};
+ghost use Rattle.std.specs.Prelude.{◌≡◌, ◌+◌, ◌-◌, ◌^◌, ◌<◌, ◌≤◌, ◌++◌, [], ◌∷◌, length, take, drop, slice_index, vec_len, vec_capacity, IfSome, None};
 ghost use Rattle.std.specs.Int.{w32, from_le_bytes, to_le_bytes};
 ghost use Rattle.log_records.specs.Record.{spellings};
 
 use gate_slot::CLOSED;
 use log_records::{BATCH_BYTES, Record};
-use std::alloc::{AllocError, Global};
 
 /// Where the length of a batch will stand.
 pub(crate) const NO_LENGTH: [u8; 4] = [0; 4];
 
-/// The spellings of the records, one after another.
-pub(crate) fn spell(alloc: Global, records: &[Record]) -> Result<Vec<u8>, AllocError>
-    ensures { IfOk result (λ bytes. bytes.items ≡ spellings records.now) }
+/// The bytes of the records' spellings.
+pub(crate) fn bytes_of(records: &[Record]) -> u64
+    requires { length (spellings records.now) < 2 ^ 32 }
+    ensures { result ≡ length (spellings records.now) }
 {
-    let mut bytes = Vec::new(alloc);
+    let mut bytes = 0;
     for rec in records {
-        log_records::encode(rec, &mut bytes)?;
+        bytes += log_records::length(rec);
     }
-    Ok(bytes)
+    bytes
 }
 
 /// Makes a batch of the records: puts their length in front, and the next closed gate behind.
@@ -28,6 +28,7 @@ pub(crate) fn close_batch(buffer: &mut Vec<u8>)
     requires room { vec_len buffer.old < vec_capacity buffer.old }
     ensures items { buffer.new.items ≡ to_le_bytes w32 (vec_len buffer.old - 4) ++ drop 4 buffer.old.items ++ 0 ∷ [] }
     ensures len { vec_len buffer.new ≡ vec_len buffer.old + 1 }
+    ensures capacity { vec_capacity buffer.new ≡ vec_capacity buffer.old }
 {
     let size = (buffer.len() - NO_LENGTH.len()) as u32;
     put_length(buffer, size);

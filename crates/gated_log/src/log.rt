@@ -1,5 +1,5 @@
 //! The open log: what was forced is on the disk, and what was appended since is pending, in memory alone.
-ghost use Rattle.std.specs.Prelude.{◌≡◌, ◌≢◌, ◌⊎◌, ℕ, ◌+◌, ◌^◌, ◌<◌, ◌≤◌, ◌++◌, List, [], ◌∷◌, length, vec_len, IsTrue, is_ok, IsOk, IsErr, OnOk, OnErr, IfOk, Ok, Err, if◌then◌else◌};
+ghost use Rattle.std.specs.Prelude.{◌≡◌, ◌≢◌, ◌⊎◌, ℕ, ◌+◌, ◌^◌, ◌<◌, ◌≤◌, ◌++◌, List, [], ◌∷◌, length, vec_len, vec_capacity, IsTrue, is_ok, IsOk, IsErr, OnOk, OnErr, IfOk, Ok, Err, if◌then◌else◌};
 ghost use Rattle.std.specs.List.{AllByRecursion};
 ghost use Rattle.disk_model.specs.Disk.{part, Only, SameOutside};
 ghost use Rattle.disk_model.specs.Keeps.{KeepsDisk, OnlyReads};
@@ -12,7 +12,7 @@ ghost use Rattle.gated_log.specs.declared.reading.LogError.TheVariants.{BadBatch
 ghost use Rattle.gated_log.specs.LogCause.{log_device_result};
 ghost use Rattle.gated_log.specs.LogRoom.{used_bytes};
 
-use crate::batch::{NO_LENGTH, close_batch, spell};
+use crate::batch::{NO_LENGTH, bytes_of, close_batch};
 use crate::reading::{LogError, LogReader};
 use disk_model::{Disk, DiskError};
 use gate_slot::fill_and_open;
@@ -37,13 +37,15 @@ pub struct Log {
     ghost has_head: { 4 ≤ vec_len buffer },
     ghost fits: { used_bytes tail (vec_len buffer) ≤ room },
     ghost inside: { at + room < 2 ^ 64 },
+    // A force finds memory for the gate that it adds.
+    ghost ready: { vec_len buffer < vec_capacity buffer },
     // A record takes a byte at least.
     ghost few_forced: { forced ≤ tail },
     ghost few_waiting: { waiting + 4 ≤ vec_len buffer },
 }
 
 impl Log {
-    ghost use Rattle.gated_log.specs.LogState.{log_place, log_room, log_tail, log_buffer, is_waiting, IsBufferEmpty, IsReady, HasSpare, log_memory, log_used, log_used_with, log_need, log_forced, log_count, Keeps, IsPlaced, IsSameLog};
+    ghost use Rattle.gated_log.specs.LogState.{log_place, log_room, log_tail, log_buffer, is_waiting, IsBufferEmpty, HasSpare, KeepsMemory, log_used, log_used_with, log_need, log_forced, log_count, Keeps, IsPlaced, IsSameLog};
 
     /// Reads the log of `room` bytes from byte `at` of the disk on, and the records of its batches in order. All of them are in
     /// memory then; a `LogReader` keeps none.
@@ -87,6 +89,7 @@ impl Log {
         requires gate { tail < room }
         requires few { forced ≤ tail }
         requires head { vec_len buffer ≡ 4 }
+        requires ready { 4 < vec_capacity buffer }
         ensures at { result.at ≡ at }
         ensures same_room { result.room ≡ room }
         ensures tail { result.tail ≡ tail }
@@ -157,12 +160,13 @@ impl Log {
         }
     }
 
-    /// Takes the memory for records of that many bytes more, and for a force of all records then pending. A log has room for fewer
-    /// than 2^32 bytes.
+    /// Takes the memory for records of that many bytes more. A log has room for fewer than 2^32 bytes.
     pub fn reserve(&mut self, bytes: usize) -> Result<(), AllocError>
         requires { bytes < 2 ^ 32 }
         ensures spare { OnOk result (HasSpare self.new bytes) }
+        ensures in_room { HasSpare self.old bytes → IsOk result }
         ensures same { IsSameLog self.old self.new }
+        ensures memory { KeepsMemory self.old self.new }
     {
         self.buffer.reserve(bytes + 1)
     }
@@ -179,8 +183,9 @@ impl Log {
         ensures place { IsPlaced self.old self.new }
         // Where `reserve` took the memory, it takes none.
         ensures in_room { HasSpare self.old (length (spelling rec.now)) → IsOk result }
-        ensures memory { log_memory self.old ≤ log_memory self.new }
+        ensures memory { KeepsMemory self.old self.new }
     {
+        self.buffer.reserve(log_records::length(rec) as usize + 1)?;
         log_records::encode(rec, &mut self.buffer)?;
         self.waiting += 1;
         Ok(())
@@ -196,10 +201,14 @@ impl Log {
         ensures count { OnOk result (log_count self.new ≡ log_count self.old + length records.now) }
         ensures err { OnErr result (IsSameLog self.old self.new) }
         ensures place { IsPlaced self.old self.new }
+        // Where `reserve` took the memory, it takes none.
+        ensures in_room { HasSpare self.old (length (spellings records.now)) → IsOk result }
+        ensures memory { KeepsMemory self.old self.new }
     {
-        let bytes = spell(*self.buffer.allocator(), records)?;
-        self.buffer.extend_from_slice(&bytes)?;
-        self.waiting += records.len() as u64;
+        self.reserve(bytes_of(records) as usize)?;
+        for rec in records {
+            self.append(rec).unwrap();
+        }
         Ok(())
     }
 
@@ -207,7 +216,6 @@ impl Log {
     /// whether they are on the disk: they stay pending, and the log can't be used until it is reopened.
     pub fn force<D: Disk>(&mut self, disk: &mut D) -> Result<(), DiskError>
         requires inside { log_place self.old + log_room self.old ≤ D.extent disk.old }
-        requires ready { IsReady self.old }
 
         ensures disk { KeepsDisk D.Disk disk.old disk.new result }
 
@@ -230,6 +238,7 @@ impl Log {
         ensures used { log_used self.new ≤ log_used self.old }
         ensures at { log_place self.new ≡ log_place self.old }
         ensures same_room { log_room self.new ≡ log_room self.old }
+        ensures memory { KeepsMemory self.old self.new }
         ensures err { OnErr result (log_tail self.new ≡ log_tail self.old) }
         ensures forced { log_forced self.new ≡ (if is_ok result then log_count self.old else log_forced self.old) }
     {

@@ -1,5 +1,5 @@
 //! A log is read record by record, through a window of fixed size.
-ghost use Rattle.std.specs.Prelude.{◌≡◌, ◌≢◌, ℕ, ◌+◌, ◌-◌, ◌^◌, ◌<◌, ◌≤◌, ◌++◌, Bool, List, [], ◌∷◌, length, take, drop, slice_index, vec_len, IsTrue, IsFalse, ◌↔◌, OnOk, IfOk, IfSome, Some, None, Ok, Err};
+ghost use Rattle.std.specs.Prelude.{◌≡◌, ◌≢◌, ℕ, ◌+◌, ◌-◌, ◌^◌, ◌<◌, ◌≤◌, ◌++◌, Bool, List, [], ◌∷◌, length, take, drop, slice_index, vec_len, vec_capacity, IsTrue, IsFalse, ◌↔◌, OnOk, IfOk, IfSome, Some, None, Ok, Err};
 ghost use Rattle.std.specs.Int.{w32, to_le_bytes};
 ghost use Rattle.disk_model.specs.Disk.{part};
 ghost use Rattle.disk_model.specs.Keeps.{OnlyReads};
@@ -78,7 +78,7 @@ pub struct LogReader {
     // Bytes that were read, of which the first so many were taken.
     window: Vec<u8>,
     taken: usize,
-    // Room for the length of a batch in the log that is opened at the end.
+    // Room for the length of a batch in the log that is opened at the end, and memory for a gate behind it.
     buffer: Vec<u8>,
     ghost small: { room < 2 ^ 32 },
     ghost inside: { at + room < 2 ^ 64 },
@@ -89,6 +89,7 @@ pub struct LogReader {
     // A record takes a byte at least.
     ghost few: { given ≤ next },
     ghost head: { vec_len buffer ≡ 4 },
+    ghost ready: { 4 < vec_capacity buffer },
 }
 
 impl LogReader {
@@ -104,6 +105,8 @@ impl LogReader {
         ensures none { (tells : Bool) (log : List ℕ) → IfOk result (λ reader. HasRead tells log reader [] []) }
         ensures given { (tells : Bool) (log : List ℕ) → IfOk result (λ reader. HasGiven tells log reader []) }
     {
+        let mut buffer = Vec::with_capacity(alloc, NO_LENGTH.len() + 1)?;
+        buffer.extend_from_slice(&NO_LENGTH)?;
         Ok(LogReader {
             at,
             room,
@@ -114,7 +117,7 @@ impl LogReader {
             given: 0,
             window: Vec::new(alloc),
             taken: 0,
-            buffer: Vec::from_array(alloc, NO_LENGTH)?,
+            buffer,
         })
     }
 
@@ -308,6 +311,8 @@ impl LogReader {
 /// them; for any other they are bounded, whatever an image tells.
 fn most_bytes(first: u8, left: usize) -> usize
     ensures most { result ≤ left }
+    ensures few { first ≢ 9 → result ≤ 786427 }
+    ensures short { first ≢ 8 → first ≢ 9 → result ≤ 4105 }
     ensures room { (rec : Record) → IsRecord rec → slice_index (spelling rec) 0 ≡ first → length (spelling rec) ≤ left → length (spelling rec) ≤ result }
 {
     if first == FLIP {

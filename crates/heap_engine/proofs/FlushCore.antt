@@ -1,8 +1,6 @@
 -- A flush is a step of the core that an engine is.
 use Rattle.std.proofs.Common.{◌≡◌, ℕ, ◌+◌, ◌*◌, ◌<◌, ◌≤◌, Bool, true, false, cond, List, Option, Ok, refl, sym, ap, ◌∙◌, subst, arith}
 use Rattle.disk_model.specs.declared.disk.Disk.{Ghosts}
-use Rattle.gated_log.specs.declared.log.Log.{Log}
-use Rattle.gated_log.specs.LogState.{IsSameLog}
 use Rattle.graph_model.specs.declared.event.Event.TheVariants.{Flush}
 use Rattle.graph_model.specs.declared.reply.Refusal.{Refusal}
 use Rattle.graph_model.specs.declared.reply.Reply.{Reply}
@@ -17,7 +15,6 @@ use Rattle.core_laws.specs.Valid.{IsValid}
 use Rattle.heap_memory.specs.Memory.{Memory}
 use Rattle.heap_model.specs.CoreCrash.{IsCommitPrefix}
 use Rattle.heap_model.specs.Core.{Core, core_refusal, answer, with_entry, is_dirty, is_ahead, page_stored, flushed, force_calls, store_calls, calls_if, calls, after_refusal, after}
-use Rattle.memory_laws.proofs.Step.Answered.{as_it_was}
 use Rattle.memory_laws.specs.CoreMemory.{IsMemory}
 use Rattle.memory_laws.proofs.Does.{Does}
 use Rattle.heap_engine.specs.Refinement.{OnDisk, KnowsPages, Steps, StepsOn}
@@ -33,11 +30,6 @@ past c w p n works is le = subst (λ (k : ℕ). k ≤ p) (is ∙ ap (λ (of : Pl
 
 pub is_there : (w : Engine) (p n : ℕ) → n ≡ cache_pages w.cache → p < n → p < cache_pages w.cache
 is_there w p n is lt = subst (λ (k : ℕ). p < k) is lt
-
--- memory that was taken for a force changes nothing
-pub works_again : (c : Core) (w : Engine) (log : Log) → IsMemory (memory w) (account c.history) c → IsSameLog w.log log → IsMemory (record (memory w) { log = log }) (account c.history) c
-works_again c w log works same =
-    as_it_was (memory w) (record (memory w) { log = log }) c works (record { log = same; words = refl; lsns = refl; store = refl; table = refl; locks = refl; spaces = refl; sealed = refl })
 
 -- What a flush leaves of a core but for its entry: nothing else where it is refused,
 pub left_refused : (c : Core) (p : ℕ) → IsValid c → pages_in c.pages ≤ p → after_refusal (core_refusal c (Flush p)) c (Flush p) ≡ c

@@ -42,6 +42,10 @@ use Rattle.heap_engine.specs.declared.engine.Engine.{Engine}
 use Rattle.heap_engine.specs.EngineState.{memory}
 use Rattle.heap_engine.proofs.EventCore.{of_same, logged_after, knows_after, cut_short}
 
+-- a log is the same as itself
+pub same_log : (log : Log) → IsSameLog log log
+same_log log = record { place = record { at = refl; room = refl; tail = refl; forced = refl }; buffer = refl; size = refl; count = refl }
+
 -- what waited is on the disk
 pub force_does : (m new : Memory) (c : Core) (reply : Reply) → IsValid c → IsMemory m (account c.history) c → Keeps new.log (with_batch c.batches c.pending) []
     → log_place new.log ≡ log_place m.log → log_room new.log ≡ log_room m.log → HasSameWork m new → new.store ≡ m.store → reply ≡ Durable m.sealed

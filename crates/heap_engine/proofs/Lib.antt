@@ -1,4 +1,3 @@
-pub mod Appending
 pub mod Applied
 pub mod CallsCore
 pub mod DeviceCalls

@@ -1,6 +1,6 @@
 //! Records are appended to the log, and then put on their pages: no page has a record that the log lacks.
-ghost use Rattle.std.specs.Prelude.{◌≡◌, ◌+◌, ◌++◌, ◌≤◌, List, length, fold};
-ghost use Rattle.gated_log.specs.LogState.{log_count, log_room, log_used, log_used_with, HasSpare, IsPlaced, Keeps};
+ghost use Rattle.std.specs.Prelude.{◌≡◌, ◌≤◌, length, fold};
+ghost use Rattle.gated_log.specs.LogState.{log_room, log_used, log_used_with, HasSpare};
 ghost use Rattle.heap_memory.specs.Leaves.{Adds};
 ghost use Rattle.heap_model.specs.Lsns.{log_next_lsn};
 ghost use Rattle.log_machine.specs.Effect.{EachWritesBelow};
@@ -31,21 +31,6 @@ pub(crate) fn carry_out(log: &mut Log, cache: &mut PageCache, records: &[Record]
     ensures logged { EachLacks (log_next_lsn log.new) (cached cache.new) }
 {
     let first = log.records() + FIRST_LSN;
-    append_each(log, records);
+    log.append_all(records).unwrap();
     cache.apply_all(first, records);
-}
-
-/// Appends these records to the log, which has room and memory for them.
-fn append_each(log: &mut Log, records: &[Record])
-    requires memory { HasSpare log.old (length (spellings records.now)) }
-    requires room { log_used_with log.old (length (spellings records.now)) ≤ log_room log.old }
-    ensures added { (batches : List (List Record)) (pending : List Record) → Keeps log.old batches pending → Keeps log.new batches (pending ++ records.now) }
-    ensures used { log_used log.new ≡ log_used_with log.old (length (spellings records.now)) }
-    ensures count { log_count log.new ≡ log_count log.old + length records.now }
-    ensures place { IsPlaced log.old log.new }
-{
-    for rec in records {
-        let appended = log.append(rec);
-        appended.unwrap();
-    }
 }

@@ -5,7 +5,7 @@ ghost use Rattle.disk_model.specs.Keeps.{KeepsDisk};
 ghost use Rattle.disk_model.specs.Moments.{LeavesOnly};
 ghost use Rattle.gate_slot.specs.Passing.{Passes};
 ghost use Rattle.gated_log.specs.Log.{HoldsBatches, with_batch};
-ghost use Rattle.gated_log.specs.LogState.{log_place, log_room, log_forced, log_count, log_used, is_waiting, IsReady, Keeps};
+ghost use Rattle.gated_log.specs.LogState.{log_place, log_room, log_forced, log_count, log_used, is_waiting, Keeps};
 ghost use Rattle.graph_model.specs.declared.event.Event.TheVariants.{Force, Flush};
 ghost use Rattle.graph_model.specs.History.{account};
 ghost use Rattle.image_plan.specs.declared.superblock.Super.{Super};
@@ -27,7 +27,6 @@ use graph_model::{Refusal, Reply};
 fn force_up_to<D: Disk>(log: &mut Log, disk: &mut D, lsn: u64) -> Result<(), DiskError>
     requires known { lsn ≤ log_count log.old }
     requires inside { log_place log.old + log_room log.old ≤ D.extent disk.old }
-    requires ready { IsReady log.old }
 
     ensures disk { KeepsDisk D.Disk disk.old disk.new result }
     ensures forced { OnOk result (lsn ≤ log_forced log.new) }
@@ -68,7 +67,6 @@ impl Engine {
         ensures core { Steps D.Disk Force self.old disk.old self.new disk.new result }
         ensures holds { IsTrue D.tells → StepsOn D.Disk Force self.old disk.old self.new disk.new result }
     {
-        self.log.reserve(0)?;
         self.log.force(disk)?;
         Ok(Reply::Durable { n: self.sealed })
     }
@@ -92,7 +90,6 @@ impl Engine {
         if !self.cache.dirty(page) {
             return Ok(Reply::Clean { page: p });
         }
-        self.log.reserve(0)?;
         self.store(disk, page)?;
         Ok(Reply::Flushed { page: p })
     }
@@ -103,7 +100,6 @@ impl Engine {
         requires dirty { IsTrue (is_dirty self.old.cache p) }
         requires inside { LiesWithin self.old (D.extent disk.old) }
         requires works { HasNotFailed self.old }
-        requires ready { IsReady self.old.log }
 
         ensures disk { KeepsDisk D.Disk disk.old disk.new result }
         ensures at { log_place self.new.log ≡ log_place self.old.log }

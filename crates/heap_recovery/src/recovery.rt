@@ -3,7 +3,7 @@ ghost use Rattle.std.specs.Prelude.{◌≡◌, ◌+◌, ◌^◌, ◌<◌, ◌≤
 ghost use Rattle.disk_model.specs.Disk.{Only};
 ghost use Rattle.disk_model.specs.Keeps.{KeepsDisk, OnlyReads};
 ghost use Rattle.disk_model.specs.Moments.{LeavesOnly};
-ghost use Rattle.gated_log.specs.LogState.{log_place, log_room, log_used, log_count, IsReady, Keeps};
+ghost use Rattle.gated_log.specs.LogState.{log_place, log_room, log_used, log_count, Keeps};
 ghost use Rattle.image_plan.specs.declared.superblock.Super.{Super};
 ghost use Rattle.log_records.specs.declared.Record.{Record};
 ghost use Rattle.log_machine.specs.Machine.{State, settled, rollback, all_taken_back, reserve};
@@ -113,13 +113,11 @@ impl Reading {
         ensures place { log_place self.new.log ≡ log_place self.old.log }
         ensures same_room { log_room self.new.log ≡ log_room self.old.log }
         ensures kept { (batches : List (List Record)) → Keeps self.old.log batches [] → OnOk result (Keeps self.new.log batches (rollback self.old.state)) }
-        ensures ready { OnOk result (IsReady self.new.log) }
         ensures error { IfErr result (λ e. e ≡ NoMemory) }
     {
         let records = self.state.rollback()?;
         let first = self.log.records() + FIRST_LSN;
         self.log.append_all(&records)?;
-        self.log.reserve(0)?;
         self.cache.apply_all(first, &records);
         Ok(())
     }

@@ -80,7 +80,6 @@ fn records_appended_together_are_one_batch(rt: HostRuntime) -> Result<(), Fail> 
     let (mut log, _) = Log::open(alloc, &mut disk, 4, 40)?;
     assert_eq!(rt; log.used(), 1);
     log.append_all(&RECORDS)?;
-    log.reserve(0)?;
     log.force(&mut disk)?;
     same(&rt, disk.contents(), FORCED.as_slice());
     Ok(())

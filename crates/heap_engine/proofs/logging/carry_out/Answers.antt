@@ -1,4 +1,4 @@
-use Rattle.std.proofs.Common.{◌+◌, length, ap, ◌∙◌, arith}
+use Rattle.std.proofs.Common.{◌≡◌, ◌+◌, length, ap, ◌∙◌, arith, rules}
 use Rattle.gated_log.specs.LogState.{log_count}
 use Rattle.log_machine.proofs.WordsLaws.{length-put_records}
 use Rattle.page_cache.specs.CacheState.{cached}
@@ -11,5 +11,6 @@ returns-clause-size c = ap length c.apply_all.ensures.words ∙ length-put_recor
 pub returns-clause-logged : goal.returns-clause-logged
 returns-clause-logged c =
     let log = c.args.log.now in
-    still_lacking (log_count log) (c.records-first.result + 1) (log_count c.append_each.new.log) (cached c.args.cache.now) (cached c.apply_all.new.self) c.args.records.now c.requires.new (omega (arith, c.records-first.ensures))
-    c.append_each.ensures.count c.apply_all.ensures.redone
+    let count : log_count c.append_all.new.self ≡ log_count log + length c.args.records.now = search rules in
+    still_lacking (log_count log) (c.records-first.result + 1) (log_count c.append_all.new.self) (cached c.args.cache.now) (cached c.apply_all.new.self) c.args.records.now c.requires.new (omega (arith, c.records-first.ensures))
+    count c.apply_all.ensures.redone

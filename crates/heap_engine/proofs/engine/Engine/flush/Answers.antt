@@ -9,11 +9,11 @@ use Rattle.memory_laws.specs.CoreMemory.{IsMemory}
 use Rattle.core_laws.proofs.Step.Flush.{calls-flushed}
 use Rattle.core_laws.proofs.Step.Events.{valid_after}
 use Rattle.memory_laws.proofs.Step.Flush.{flush_no_page, flush_clean, flush_done}
-use Rattle.heap_engine.specs.declared.step_error.StepError.TheVariants.{NoMemory, Disk}
+use Rattle.heap_engine.specs.declared.step_error.StepError.TheVariants.{Disk}
 use Rattle.heap_engine.specs.EngineState.{memory}
 use Rattle.heap_engine.specs.Refinement.{IsEngine}
-use Rattle.heap_engine.proofs.EventCore.{lack_leaves, engine_valid, engine_after, knows_as, cut_short}
-use Rattle.heap_engine.proofs.FlushCore.{past, is_there, works_again, left_refused, left_flushed, left_clean, refused_calls, clean_calls, dirty_calls, knows_left, disk_left, idle_steps, idle_on}
+use Rattle.heap_engine.proofs.EventCore.{engine_valid, engine_after, knows_as, cut_short}
+use Rattle.heap_engine.proofs.FlushCore.{past, is_there, left_refused, left_flushed, left_clean, refused_calls, clean_calls, dirty_calls, knows_left, disk_left, idle_steps, idle_on}
 use Rattle.heap_engine.proofs.StoreCore.{within, dirty_is}
 use Rattle.heap_engine.proofs.engine.Engine.flush.Goals as goal
 
@@ -52,17 +52,6 @@ returns-then-not-dirty-clause-holds g c tells =
     (λ core works valid. left_clean core p valid (within core e p works page) (clean core works)) (λ core works valid. clean_calls core p valid (within core e p works page) (clean core works))
     (g.met.D.Disk.only_now tells c.args.disk.now)
 
-pub returns-in_err-reserve-clause-core : goal.returns-in_err-reserve-clause-core
-returns-in_err-reserve-clause-core g c =
-    let err : c.from_residual.result ≡ Err NoMemory = search rules in
-    rw err (lack_leaves g.D.Disk (Flush c.args.p) c.args.self.now _ c.args.disk.now (record { log = c.reserve.ensures.same; words = refl; lsns = refl; store = refl; table = refl; locks = refl; spaces = refl; sealed = refl })).core
-
-pub returns-in_err-reserve-clause-holds : goal.returns-in_err-reserve-clause-holds
-returns-in_err-reserve-clause-holds g c tells =
-    let err : c.from_residual.result ≡ Err NoMemory = search rules in
-    rw err ((lack_leaves g.D.Disk (Flush c.args.p) c.args.self.now _ c.args.disk.now (record { log = c.reserve.ensures.same; words = refl; lsns = refl; store = refl; table = refl; locks = refl; spaces = refl; sealed = refl })).holds
-    (g.met.D.Disk.only_now tells c.args.disk.now))
-
 pub returns-clause-core : goal.returns-clause-core
 returns-clause-core g c =
     let d = g.D.Disk in
@@ -74,11 +63,10 @@ returns-clause-core g c =
           let valid = engine_valid d core e c.args.disk.now is reached in
           let lt = within core e p is.memory page in
           let dirty = sym (dirty_is core e p is.memory page) ∙ sym c.dirty.ensures ∙ c.if-not-dirty.false in
-          let again = works_again core e c.reserve.new.self is.memory c.reserve.ensures.same in
-          let does = flush_done _ core p (Flushed p) valid lt dirty (c.in_ok-store.ensures.memory core again) refl in (
+          let does = flush_done _ core p (Flushed p) valid lt dirty (c.in_ok-store.ensures.memory core is.memory) refl in (
             does.replied,
             engine_after d core (Flush p) (Flushed p) _ c.store.new.disk (valid_after core (Flush p) valid reached.locked tt) does
-                (λ told. knows_left core _ p (left_flushed core p valid lt) _ _ (c.in_ok-store.ensures.pages told core again (knows_as core (memory e) _ _ refl (is.pages told)))),
+                (λ told. knows_left core _ p (left_flushed core p valid lt) _ _ (c.in_ok-store.ensures.pages told core is.memory (knows_as core (memory e) _ _ refl (is.pages told)))),
           );
       still = λ core is reached no_calls.
           let valid = engine_valid d core e c.args.disk.now is reached in
@@ -97,16 +85,13 @@ returns-clause-holds g c tells =
     record {
       holds = λ s core is reached disk.
           let valid = engine_valid d core e c.args.disk.now is reached in
-          let again = works_again core e c.reserve.new.self is.memory c.reserve.ensures.same in
-          disk_left core _ p (left_flushed core p valid (within core e p is.memory page)) s _ _ (c.in_ok-store.ensures.holds tells s core again (knows_as core (memory e) _ _ refl (is.pages tells)) disk);
+          disk_left core _ p (left_flushed core p valid (within core e p is.memory page)) s _ _ (c.in_ok-store.ensures.holds tells s core is.memory (knows_as core (memory e) _ _ refl (is.pages tells)) disk);
       moments = λ s core is reached disk.
-          let again = works_again core e c.reserve.new.self is.memory c.reserve.ensures.same in
-          c.store.ensures.moments tells s core again (knows_as core (memory e) _ _ refl (is.pages tells)) disk reached.sound;
+          c.store.ensures.moments tells s core is.memory (knows_as core (memory e) _ _ refl (is.pages tells)) disk reached.sound;
       passes = λ core is reached.
           let valid = engine_valid d core e c.args.disk.now is reached in
-          let again = works_again core e c.reserve.new.self is.memory c.reserve.ensures.same in
           subst (λ (n : ℕ). Passes n (d.passed c.args.disk.now) (d.passed c.store.new.disk) (Ok tt)) (sym (calls-flushed core p valid (within core e p is.memory page)))
-          (c.in_ok-store.ensures.passes tells core again (knows_as core (memory e) _ _ refl (is.pages tells)));
+          (c.in_ok-store.ensures.passes tells core is.memory (knows_as core (memory e) _ _ refl (is.pages tells)));
     }
 
 pub returns-in_err-store-clause-core : goal.returns-in_err-store-clause-core
@@ -115,7 +100,7 @@ returns-in_err-store-clause-core g c =
     let old = c.args.self.now in
     let p = c.args.p in
     let e = c.in_err-store.field-0.0 in
-    let err : c.from_residual-in_err-store.result ≡ Err (Disk e) = search rules in
+    let err : c.from_residual.result ≡ Err (Disk e) = search rules in
     let page = is_there old p c.from.result (c.from.ensures ∙ c.pages.ensures.value) c.if-p-from.false in
     let some = λ (core : Core) (is : IsEngine d core old c.args.disk.now) (reached : IsReached core).
     let valid = engine_valid d core old c.args.disk.now is reached in
@@ -134,16 +119,14 @@ returns-in_err-store-clause-holds g c tells =
     let old = c.args.self.now in
     let p = c.args.p in
     let e = c.in_err-store.field-0.0 in
-    let err : c.from_residual-in_err-store.result ≡ Err (Disk e) = search rules in
+    let err : c.from_residual.result ≡ Err (Disk e) = search rules in
     let page = is_there old p c.from.result (c.from.ensures ∙ c.pages.ensures.value) c.if-p-from.false in
     rw err (record {
       holds = λ s core is reached disk. tt;
       moments = λ s core is reached disk.
-          let again = works_again core old c.reserve.new.self is.memory c.reserve.ensures.same in
-          c.store.ensures.moments tells s core again (knows_as core (memory old) _ _ refl (is.pages tells)) disk reached.sound;
+          c.store.ensures.moments tells s core is.memory (knows_as core (memory old) _ _ refl (is.pages tells)) disk reached.sound;
       passes = λ core is reached.
           let valid = engine_valid d core old c.args.disk.now is reached in
-          let again = works_again core old c.reserve.new.self is.memory c.reserve.ensures.same in
           subst (λ (n : ℕ). Passes n (d.passed c.args.disk.now) (d.passed c.store.new.disk) (Err e)) (sym (calls-flushed core p valid (within core old p is.memory page)))
-          (c.in_err-store.ensures.passes tells core again (knows_as core (memory old) _ _ refl (is.pages tells)));
+          (c.in_err-store.ensures.passes tells core is.memory (knows_as core (memory old) _ _ refl (is.pages tells)));
     })

@@ -2,13 +2,15 @@
 use Rattle.std.proofs.Common.{◌≡◌, ◌+◌, ◌≤◌, List, [], ◌++◌, length, refl, sym, subst, arith}
 use Rattle.std.proofs.lemmas.List.{append-nil}
 use Rattle.gated_log.specs.declared.log.Log.{Log}
-use Rattle.gated_log.specs.LogState.{buffer_size, log_room, log_count, log_used_with, HasSpare, IsPlaced, Keeps}
+use Rattle.gated_log.specs.LogState.{log_buffer, buffer_size, log_room, log_count, log_used_with, HasSpare, KeepsMemory, IsPlaced, Keeps}
 use Rattle.log_records.specs.declared.Record.{Record}
 use Rattle.log_records.specs.Record.{spellings}
 
 -- The log has got these records, and has room and memory for the rest.
 pub record IsAppending (old now : Log) (done rest : List Record) : Type 0 where
   pub place : IsPlaced old now
+  pub memory : KeepsMemory old now
+  pub buffer : log_buffer now ≡ log_buffer old ++ spellings done
   pub size : buffer_size now ≡ buffer_size old + length (spellings done)
   pub count : log_count now ≡ log_count old + length done
   pub spare : HasSpare now (length (spellings rest))
@@ -19,6 +21,8 @@ pub record IsAppending (old now : Log) (done rest : List Record) : Type 0 where
 pub none_appended : (old : Log) (rest : List Record) → HasSpare old (length (spellings rest)) → log_used_with old (length (spellings rest)) ≤ log_room old → IsAppending old old [] rest
 none_appended old rest spare room = record {
   place = record { at = refl; room = refl; tail = refl; forced = refl };
+  memory = omega arith;
+  buffer = sym (append-nil (log_buffer old));
   size = omega arith;
   count = omega arith;
   spare = spare;
