@@ -12,6 +12,7 @@ use Rattle.log_machine.proofs.WordsLaws.{length-taken_back}
 use Rattle.object_layout.specs.Layout.{IsSeenAs}
 use Rattle.graph_words.proofs.Places.Names.{name_at}
 use Rattle.graph_words.proofs.Stands.Seen.{stands_seen_at}
+use Rattle.heap_model.proofs.Step.Plain.{plain_stands}
 use Rattle.heap_model.specs.Core.{Core, Ground, ground, all_words, undo_with}
 use Rattle.heap_spaces.specs.Spaces.{SpacesState}
 use Rattle.memory_laws.specs.CoreMemory.{IsMemory, kept_of}
@@ -49,7 +50,7 @@ memory_seen c w valid runs is =
     let now = all_taken_back valid.behind (all_words c) in
     let g = serial c.g0 (sealed c.history) in
     let here : valid.behind.base ≡ (memory w).spaces.base = ap (λ (x : SpacesState). x.base) (sym (spaces_are (memory w) (memory w) c valid is)) in
-    let there : IsSeenAs (name_at c.places) now (memory w).spaces.base g = subst (λ (base : ℕ). IsSeenAs (name_at c.places) now base g) here (stands_seen_at valid.told.stands) in
+    let there : IsSeenAs (name_at c.places) now (memory w).spaces.base g = subst (λ (base : ℕ). IsSeenAs (name_at c.places) now base g) here (stands_seen_at (plain_stands valid.told)) in
     subst (λ (ws : List ℕ). IsSeenAs (name_at c.places) ws (memory w).spaces.base g) (sym (memory_committed c w valid runs is)) there
 
 -- taking back changes words where they are
