@@ -17,16 +17,17 @@ use Rattle.graph_model.proofs.Refusals.Plain.{account_after-refused}
 use Rattle.core_laws.proofs.Step.Sound.{sound_valid}
 use Rattle.core_laws.specs.Valid.{IsValid, IsReached}
 use Rattle.image_plan.specs.declared.superblock.Super.{Super}
+use Rattle.image_plan.specs.Plan.{image_size}
 use Rattle.heap_model.specs.Core.{Core, granted_by, answer, with_entry, after, AsksDisk, calls_if, calls, IsStep}
-use Rattle.heap_model.specs.CoreCrash.{IsCommitPrefix}
 use Rattle.heap_model.proofs.Run.Calls.{failed_refusal, failed_after, calls-asks, calls-unfailed, after_history, step_history}
+use Rattle.heap_model.proofs.Outside.{outside_between}
 use Rattle.heap_core.specs.Causes.{reply_device}
 use Rattle.heap_core.specs.declared.heap.Failure.{Failure}
 use Rattle.heap_core.specs.HeapState.{entry_of}
 use Rattle.heap_core.specs.Refinement.{Remembers, DiskHolds}
 use Rattle.heap_core.proofs.RefinementLeft.{keeps_refused, cut_account, keeps_cut}
 use Rattle.heap_engine.specs.declared.engine.Engine.{Engine}
-use Rattle.heap_engine.specs.Refinement.{OnDisk, IsEngine, WasCutShort}
+use Rattle.heap_engine.specs.Refinement.{OnDisk, IsLeftByStep, IsEngine, WasCutShort}
 use Rattle.heap_engine.specs.EngineState.{memory}
 use Rattle.heap_engine.proofs.DeviceCalls.{none_pass}
 use Rattle.heap_engine.proofs.EventCore.{born_after}
@@ -133,12 +134,15 @@ pub whole_on : (s : Super) (c : Core) (event : Event) (image : List ℕ) (may_le
     → DiskHolds s (after c event) image may_leave
 whole_on s c event image may_leave none born on = record { born = born_after c event born; unfailed = λ still. on; failed = λ some. absurd (some none) }
 
-pub cut_on : (s : Super) (c : Core) (event : Event) (reply : Reply) (image : List ℕ) (may_leave : List ℕ → Type 0) (entries : ℕ) → IsTrue c.born → 0 < calls c event → (reply ≡ Refused DiskFault) ⊎ (reply ≡ Refused Stopped)
-    → Some entries ≡ (account (with_entry c event reply).history).failed → ((d : List ℕ) → may_leave d → IsCommitPrefix c d) → DiskHolds s (with_entry c event reply) image may_leave
-cut_on s c event reply image may_leave entries born some told fails left = record {
+pub cut_on : (s : Super) (c : Core) (event : Event) (reply : Reply) (old image : List ℕ) (may_leave : List ℕ → Type 0) (entries : ℕ) → IsTrue c.born → 0 < calls c event → (reply ≡ Refused DiskFault) ⊎ (reply ≡ Refused Stopped)
+    → Some entries ≡ (account (with_entry c event reply).history).failed → may_leave image → ((d : List ℕ) → may_leave d → IsLeftByStep c old d) → DiskHolds s (with_entry c event reply) image may_leave
+cut_on s c event reply old image may_leave entries born some told fails reads left = record {
   born = born;
   unfailed = λ none. let never : None ≡ Some entries = sym none ∙ sym fails in cc;
-  failed = λ any d leaves. keeps_cut c event reply d (calls-asks c event some).0 told (left d leaves);
+  failed = λ any d leaves. record {
+    commits = keeps_cut c event reply d (calls-asks c event some).0 told (left d leaves).commits;
+    outside = outside_between 0 (image_size c.pages c.room) old image d (left image reads).outside (left d leaves).outside;
+  };
 }
 
 -- the disk of a heap that has failed is left alone
@@ -153,7 +157,7 @@ failed_on s c next event reply entry image may_leave fails holds step =
     let here : DiskHolds s (with_entry c event (Refused (Failed entry))) image may_leave = record {
       born = holds.born;
       unfailed = λ none. absurd (some (ap (λ (b : Account). b.failed) (sym said) ∙ none));
-      failed = λ e d leaves. keeps_refused c event (Failed entry) d tt (holds.failed some d leaves);
+      failed = λ e d leaves. let left = holds.failed some d leaves in record { commits = keeps_refused c event (Failed entry) d tt left.commits; outside = left.outside };
     } in
     subst (λ (x : Core). DiskHolds s x image may_leave) (sym next_is) here
 

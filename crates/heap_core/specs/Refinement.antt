@@ -9,9 +9,9 @@ use Rattle.heap_core.specs.HeapState.{entry_of}
 use Rattle.heap_engine.specs.declared.engine.Engine.{Engine}
 use Rattle.heap_engine.specs.EngineState.{memory}
 use Rattle.heap_engine.specs.Refinement.{IsEngine, OnDisk}
+pub use Rattle.heap_engine.specs.Refinement.{SameBehind, IsLeftByStep}
 use Rattle.heap_memory.specs.Memory.{own}
 use Rattle.heap_model.specs.Core.{Core}
-use Rattle.heap_model.specs.CoreCrash.{IsCommitPrefix}
 
 -- What a heap remembers of a core, also after the disk stopped or failed: at which entry that was, whether records were pending before it, how
 -- many transactions were sealed, and which sessions have one.
@@ -21,12 +21,12 @@ pub record Remembers (c : Core) (e : Engine) (failed : Option Failure) : Type 0 
   pub sealed : e.sealed ≡ length (account c.history).sealed
   pub active : (s : ℕ) → is_some (own (memory e) s) ≡ is_some ((account c.history).active s)
 
--- The disk holds a core, until it stops or fails at an entry. From then on a crash leaves a commit prefix of the core. The names of its objects
--- are their births.
+-- The disk holds a core, until it stops or fails at an entry. From then on a crash leaves a commit prefix of the core, and each byte behind the plan as
+-- a read gives it. The names of its objects are their births.
 pub record DiskHolds (s : Super) (c : Core) (image : List ℕ) (may_leave : List ℕ → Type 0) : Type 0 where
   pub born : IsTrue c.born
   pub unfailed : (account c.history).failed ≡ None → OnDisk s c image may_leave
-  pub failed : (account c.history).failed ≢ None → (image : List ℕ) → may_leave image → IsCommitPrefix c image
+  pub failed : (account c.history).failed ≢ None → (left : List ℕ) → may_leave left → IsLeftByStep c image left
 
 module _ {D : Type 0} {g : Ghosts D} where
   -- An open heap is a core, on every disk: its history, the commits at the opening, at which entry the disk stopped or failed, and until then its
@@ -38,7 +38,7 @@ module _ {D : Type 0} {g : Ghosts D} where
     pub engine : heap.failed ≡ None → IsEngine g c heap.engine heap.disk
 
   -- The disk of an open heap holds a core's image, and a crash leaves nothing else; of a core whose disk stopped or failed a
-  -- crash leaves a commit prefix.
+  -- crash leaves a commit prefix, and the bytes behind the plan.
   abbrev pub HoldsCore : Super → Core → Heap D g → Type 0
   HoldsCore s c heap = DiskHolds s c (g.bytes heap.disk) (g.may_leave heap.disk)
 

@@ -23,9 +23,9 @@ ghost use Rattle.heap_model.specs.Opening.{opened, rolled_back, rollback_of, ope
 ghost use Rattle.heap_core.specs.Causes.{step_device, reply_device, opened_device, IsFromOutside, OpenedPasses};
 ghost use Rattle.heap_model.specs.Core.{Core, IsStep, calls, is_dirty};
 ghost use Rattle.page_store.specs.Gates.{open_gates};
-ghost use Rattle.heap_model.specs.CoreCrash.{IsCommitPrefix};
 ghost use Rattle.core_laws.specs.Valid.{IsReached};
 ghost use Rattle.heap_engine.specs.EngineState.{LiesWithin, HasNotFailed};
+ghost use Rattle.heap_engine.specs.Refinement.{IsLeftByStep};
 ghost use Rattle.commit_order.specs.Heard.{replies_of_commits};
 ghost use Rattle.commit_order.specs.SerialOrder.{IsCommitOrdered};
 
@@ -186,8 +186,8 @@ impl<D: Disk> Heap<D> {
 
         // So is what a modelled disk holds.
         ensures holds { IsTrue D.tells → (s : Super) (c : Core) → IsHeap s c self.old → IsReached c → IfOk result (λ reply. (d : Core) × IsStep c event reply d × IsHeap s d self.new) }
-        // At each moment of it a crash leaves first commits, among them all that were acknowledged or forced before.
-        ensures moments { IsTrue D.tells → (s : Super) (c : Core) → IsHeap s c self.old → IsReached c → LeavesOnly D.moment D.left_since self.old.disk self.new.disk (IsCommitPrefix c) }
+        // At each moment of it a crash leaves first commits, among them all that were acknowledged or forced before, and each byte behind the plan as it was.
+        ensures moments { IsTrue D.tells → (s : Super) (c : Core) → IsHeap s c self.old → IsReached c → LeavesOnly D.moment D.left_since self.old.disk self.new.disk (IsLeftByStep c (D.bytes self.old.disk)) }
         ensures passes { IsTrue D.tells → (c : Core) → IsCore c self.old → IsReached c → IfOk result (λ reply. Passes (calls c event) (D.passed self.old.disk) (D.passed self.new.disk) (reply_device reply)) }
         // An event that makes no write or sync leaves the disk alone, and does not read it either.
         ensures still { (c : Core) → IsCore c self.old → IsReached c → calls c event ≡ 0 → self.new.disk ≡ self.old.disk }

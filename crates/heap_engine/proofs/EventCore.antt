@@ -16,6 +16,7 @@ use Rattle.core_laws.proofs.Step.Sound.{sound_valid}
 use Rattle.core_laws.proofs.Step.Events.{valid_after}
 use Rattle.core_laws.specs.Valid.{RunsLocked, IsValid, IsReached, IsSound}
 use Rattle.image_plan.specs.declared.superblock.Super.{Super}
+use Rattle.image_plan.specs.Plan.{image_size}
 use Rattle.log_records.specs.declared.Record.{Record}
 use Rattle.page_redo.specs.Pages.{Pages}
 use Rattle.page_cache.specs.CacheState.{cache_store}
@@ -27,6 +28,7 @@ use Rattle.heap_model.specs.CoreCrash.{IsLogged, IsSuperOf, IsCommitPrefix}
 use Rattle.heap_model.proofs.Step.Logged.{logged_step}
 use Rattle.heap_model.proofs.Run.Calls.{same_step}
 use Rattle.heap_model.specs.Image.{Holds}
+use Rattle.heap_model.proofs.Outside.{untouched}
 use Rattle.heap_memory.specs.Leaves.{IsAsItWas}
 use Rattle.heap_memory.specs.Memory.{Memory}
 use Rattle.memory_laws.specs.CoreMemory.{IsMemory}
@@ -36,7 +38,7 @@ use Rattle.heap_engine.specs.declared.engine.Engine.{Engine}
 use Rattle.heap_engine.specs.declared.step_error.StepError.{StepError}
 use Rattle.heap_engine.specs.declared.step_error.StepError.TheVariants.{NoMemory}
 use Rattle.heap_engine.specs.EngineState.{memory, LiesWithin, HasNotFailed}
-use Rattle.heap_engine.specs.Refinement.{OnDisk, KnowsPages, WasCutShort, IsEngine, Steps, StepsOn}
+use Rattle.heap_engine.specs.Refinement.{OnDisk, SameBehind, IsLeftByStep, KnowsPages, WasCutShort, IsEngine, Steps, StepsOn}
 use Rattle.txn_table.specs.Table.{TableState, transaction_of}
 use Rattle.heap_engine.proofs.DeviceCalls.{stays, quiet_passes}
 use Rattle.heap_engine.proofs.SessionsCore.{is_some_own}
@@ -122,6 +124,13 @@ disk_keeps s c image may_leave disk sound d left =
     crash_law c s c.batches disk.stored sound disk.born disk.logged.words (prefixes_on c c.batches disk.stored disk.logged (inl refl)) (inl refl) disk.of d
     (subst (λ (x : List ℕ). Holds s c.batches disk.stored x) (sym (disk.only d left)) disk.held)
 
+-- and the bytes behind its plan
+pub disk_leaves : (s : Super) (c : Core) (image : List ℕ) (may_leave : List ℕ → Type 0) → OnDisk s c image may_leave → IsSound c → (d : List ℕ) → may_leave d → IsLeftByStep c image d
+disk_leaves s c image may_leave disk sound d left = record {
+  commits = disk_keeps s c image may_leave disk sound d left;
+  outside = subst (SameBehind c image) (sym (disk.only d left)) (untouched 0 (image_size c.pages c.room) image);
+}
+
 -- the sessions of an event that the disk cut short are as they were
 pub cut_short : (c : Core) (event : Event) (old new : Engine) → IsMemory (memory old) (account c.history) c → 0 < calls c event → new.sealed ≡ old.sealed → new.table ≡ old.table → WasCutShort c event new
 cut_short c event old new is some sealed table = record {
@@ -193,8 +202,8 @@ module _ {D : Type 0} (g : Ghosts D) where
   module _ (event : Event) (old new : Engine) (disk : D) where
     -- at each moment of it a crash leaves what it left before
     alone : ((image : List ℕ) → g.left_since disk (g.moment disk) image → g.may_leave disk image) → (s : Super) (c : Core) → IsReached c → OnDisk s c (g.bytes disk) (g.may_leave disk)
-        → LeavesOnly g.moment g.left_since disk disk (IsCommitPrefix c)
-    alone now s c reached held = stays g.moment g.left_since disk (g.may_leave disk) (IsCommitPrefix c) now (disk_keeps s c (g.bytes disk) (g.may_leave disk) held reached.sound)
+        → LeavesOnly g.moment g.left_since disk disk (IsLeftByStep c (g.bytes disk))
+    alone now s c reached held = stays g.moment g.left_since disk (g.may_leave disk) (IsLeftByStep c (g.bytes disk)) now (disk_leaves s c (g.bytes disk) (g.may_leave disk) held reached.sound)
 
     -- a call of a session, or a begin
     pub call_leaves : (reply : Reply) → IsOfSession event → (AsksDisk event → ⊥) → LeavesStored old new

@@ -1,5 +1,5 @@
 -- A force: what it leaves of an engine and on the disk, whole or cut short.
-use Rattle.std.proofs.Common.{lit<, ◌<◌, ◌≡◌, ◌≢◌, ◌⊎◌, inl, inr, ℕ, ◌+◌, max, Bool, true, List, [], ◌∷◌, length, Option, Some, None, Result, Ok, Err, refl, sym, ap, ◌∙◌, subst, ⊎_elim}
+use Rattle.std.proofs.Common.{lit<, ◌<◌, ◌≡◌, ◌≢◌, ◌⊎◌, inl, inr, ℕ, ◌+◌, max, Bool, true, List, [], ◌∷◌, length, Option, Some, None, Result, Ok, Err, refl, sym, ap, ◌∙◌, subst, ⊎_elim, arith}
 use Rattle.std.specs.Prelude.{IsTrue, ◌↔◌}
 use Rattle.disk_model.specs.Disk.{part, Only, SameOutside}
 use Rattle.disk_model.specs.declared.disk.DiskError.{DiskError}
@@ -19,7 +19,7 @@ use Rattle.core_laws.proofs.Step.Events.{valid_after}
 use Rattle.core_laws.specs.Valid.{RunsLocked, IsValid, IsSound}
 use Rattle.image_plan.specs.declared.plan.Plan.{Plan}
 use Rattle.image_plan.specs.declared.superblock.Super.{Super}
-use Rattle.image_plan.specs.Plan.{log_offset}
+use Rattle.image_plan.specs.Plan.{log_offset, image_size}
 use Rattle.log_records.specs.declared.Record.{Record}
 use Rattle.log_records.specs.Record.{spellings}
 use Rattle.page_cache.specs.CacheState.{cache_store}
@@ -31,7 +31,8 @@ use Rattle.heap_model.specs.Core.{Core, all_words, core_refusal, answer, with_en
 use Rattle.heap_model.specs.CoreCrash.{IsLogged, IsOnDisk, IsCommitPrefix}
 use Rattle.heap_model.proofs.Step.Room.{forced-with_batch}
 use Rattle.heap_model.proofs.Opening.Held.{held_with}
-use Rattle.heap_engine.specs.Refinement.{OnDisk, KnowsPages, WasCutShort}
+use Rattle.heap_model.proofs.Outside.{outside_within}
+use Rattle.heap_engine.specs.Refinement.{OnDisk, SameBehind, IsLeftByStep, KnowsPages, WasCutShort}
 use Rattle.memory_laws.proofs.Kept.Log.{keeps_same}
 use Rattle.heap_memory.specs.Memory.{Memory}
 use Rattle.memory_laws.specs.CoreMemory.{IsMemory}
@@ -96,6 +97,10 @@ module _ (c : Core) (w : Engine) (log : Log) (works : IsMemory (memory w) (accou
   in_core : (P : ℕ → ℕ → Type 0) → P (log_place log) (log_room log) → P log_offset c.room
   in_core P h = subst (P log_offset) room (let Q : ℕ → Type 0 = λ n. P n (log_room log) in subst Q at h)
 
+  -- which lies within the plan
+  pub within_plan : (old image : List ℕ) → SameOutside (log_place log) (log_place log + log_room log) old image → SameBehind c old image
+  within_plan old image same = outside_within (log_place log) (log_place log + log_room log) 0 (image_size c.pages c.room) old image (omega arith) (omega (arith, at, room)) same
+
   bytes : store_log (cache_store w.cache) ≡ c.room
   bytes = ap (λ (of : Plan). of.log_bytes) works.pages.plan
 
@@ -154,3 +159,8 @@ module _ (c : Core) (w : Engine) (log : Log) (works : IsMemory (memory w) (accou
         let outside = (let P : ℕ → ℕ → Type 0 = λ n m. SameOutside n (n + m) old image in in_log P found.0) in
         ⊎_elim (λ held. kept_batches c.batches image sound (inl refl) outside held)
         (λ held. kept_batches (with_batch c.batches c.pending) image sound (inr refl) outside held) found.1
+
+    -- and each byte behind the plan is as it was
+    pub force_leaves : (image : List ℕ) → IsSound c → SameOutside (log_place log) (log_place log + log_room log) old image × (HoldsBatches (part image (log_place log) (log_room log)) c.batches ⊎ HoldsBatches (part image (log_place log) (log_room log)) (with_batch c.batches c.pending))
+        → IsLeftByStep c old image
+    force_leaves image sound found = record { commits = force_keeps image sound found; outside = within_plan old image found.0 }

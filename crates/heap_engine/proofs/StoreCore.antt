@@ -14,7 +14,7 @@ use Rattle.gated_log.specs.LogState.{buffer_size, log_place, log_room, log_force
 use Rattle.graph_model.specs.History.{Account, account}
 use Rattle.image_plan.specs.declared.plan.Plan.{Plan}
 use Rattle.image_plan.specs.declared.superblock.Super.{Super}
-use Rattle.image_plan.specs.Plan.{log_offset}
+use Rattle.image_plan.specs.Plan.{log_offset, image_size, frame_offset}
 use Rattle.page_cache.specs.CacheState as cache
 use Rattle.page_cache.specs.CacheState.{cache_store, cache_pages, cache_log, cached_lsn, cached_page, flushed_lsn}
 use Rattle.page_cache.specs.Stored.{stored_pages}
@@ -29,15 +29,16 @@ use Rattle.heap_memory.specs.Memory.{Memory}
 use Rattle.heap_model.specs.Core.{Core, log_origin, all_words, present_lsn, is_dirty, is_ahead, forced_if, page_stored, flushed, force_calls, store_calls, flush_calls}
 use Rattle.heap_model.specs.CoreCrash.{IsCommitPrefix, IsLogged, IsSuperOf}
 use Rattle.heap_model.proofs.Opening.Held.{held_with}
+use Rattle.heap_model.proofs.Outside.{outside_within, outside_then}
 use Rattle.heap_model.proofs.Step.Room.{forced-with_batch}
 use Rattle.heap_model.specs.Image.{Holds}
 use Rattle.core_laws.proofs.Crash.Image.{crash_law}
 use Rattle.core_laws.specs.Valid.{IsSound}
 use Rattle.memory_laws.specs.CoreMemory.{IsMemory}
 use Rattle.memory_laws.proofs.Step.Disk.{HasSameWork, forced_memory, stored_memory}
-use Rattle.heap_engine.specs.Refinement.{OnDisk, KnowsPages}
+use Rattle.heap_engine.specs.Refinement.{OnDisk, IsLeftByStep, KnowsPages}
 use Rattle.heap_engine.proofs.FlushDisk.{IsForced, is_forced, origin_forced, present_forced, super_forced, logged_if, storing_prefixes, storing_held, stored_logged}
-use Rattle.heap_engine.proofs.ForceCore.{frames_forced, gates_still}
+use Rattle.heap_engine.proofs.ForceCore.{within_plan, frames_forced, gates_still}
 use Rattle.heap_engine.proofs.DeviceCalls.{hand_calls}
 use Rattle.heap_engine.specs.declared.engine.Engine.{Engine}
 use Rattle.heap_engine.specs.EngineState.{memory}
@@ -204,6 +205,13 @@ module _ (c : Core) (w : Engine) (p : ℕ) (works : IsMemory (memory w) (account
         crash_law c s (ready c p).batches (stored_pages s.pages s.log_bytes image) sound disk.born disk.logged.words
         (subst (λ (o : Origin). EachHoldsPrefix o (records_of (ready c p).batches) (stored_pages s.pages s.log_bytes image)) (origin_forced c (ready c p) same) beside) same.on disk.of image
         (storing_held s (ready c p) p super_is there behind disk.stored logged mid image held here.outside)
+
+    -- and the bytes behind the plan
+    pub store_leaves : (image : List ℕ) → IsSound c → IsStoring (cache_log w.cache) p (cached_lsn w.cache p) (cached_page w.cache p) mid image → IsLeftByStep c old image
+    store_leaves image sound storing =
+        let log = cache_log w.cache in
+        let stored = outside_within (frame_offset log p 0) (frame_offset log (p + 1) 0) 0 (image_size c.pages c.room) mid image (omega arith) (omega (arith, bytes, within)) storing.outside in
+        record { commits = store_keeps image sound storing; outside = outside_then 0 (image_size c.pages c.room) old mid image (within_plan c w w.log works (same_log w.log) old mid outside) stored }
 
     -- behind it the disk holds the core with that page stored
     pub flushed_on : (image : List ℕ) (leaves : List ℕ → Type 0) → IsTrue (cache.is_dirty w.cache p) → HasPage (cache_log w.cache) p (cached_lsn w.cache p) (cached_page w.cache p) image

@@ -1,12 +1,13 @@
 -- When an engine and its disk are a core, and what an event on them comes to.
 use Rattle.std.specs.Prelude.{◌≡◌, ◌<◌, IsTrue, ℕ, List, length, is_some, None, Result, Ok, Err, OnOk, ⊤}
-use Rattle.disk_model.specs.Disk.{Only}
+use Rattle.disk_model.specs.Disk.{Only, SameOutside}
 use Rattle.disk_model.specs.Moments.{LeavesOnly}
 use Rattle.disk_model.specs.declared.disk.Disk.{Ghosts}
 use Rattle.graph_model.specs.declared.event.Event.{Event}
 use Rattle.graph_model.specs.declared.reply.Reply.{Reply}
 use Rattle.graph_model.specs.History.{account}
 use Rattle.image_plan.specs.declared.superblock.Super.{Super}
+use Rattle.image_plan.specs.Plan.{image_size}
 use Rattle.core_laws.specs.Valid.{IsReached}
 use Rattle.heap_memory.specs.Memory.{Memory, own}
 use Rattle.heap_model.specs.Core.{Core, answer, after, calls}
@@ -36,6 +37,16 @@ pub record OnDisk (s : Super) (c : Core) (image : List ℕ) (may_leave : List �
   pub logged : IsLogged c stored
   pub held : Holds s c.batches stored image
   pub only : Only image may_leave
+
+-- an image that has each byte behind the plan of a core's heap as it was in another
+abbrev pub SameBehind : Core → List ℕ → List ℕ → Type 0
+SameBehind c old image = SameOutside 0 (image_size c.pages c.room) old image
+
+-- What a crash leaves of an image at a moment of an event: first commits of a core, among them all that were acknowledged or forced before, and the
+-- bytes behind its plan.
+pub record IsLeftByStep (c : Core) (old image : List ℕ) : Type 0 where
+  pub commits : IsCommitPrefix c image
+  pub outside : SameBehind c old image
 
 -- What is left of an engine whose disk failed or stopped in an event that calls it: which sessions have a transaction, and how many were sealed.
 pub record WasCutShort (c : Core) (event : Event) (e : Engine) : Type 0 where
@@ -69,6 +80,6 @@ module _ {D : Type 0} (g : Ghosts D) where
   -- So is what a modelled disk holds.
   pub record StepsOn (event : Event) (old : Engine) (before : D) (new : Engine) (now : D) (result : Result Reply StepError) : Type 0 where
     pub holds : (s : Super) (c : Core) → IsEngine c old before → IsReached c → OnDisk s c (g.bytes before) (g.may_leave before) → OnOk result (OnDisk s (after c event) (g.bytes now) (g.may_leave now))
-    -- at each moment of it a crash leaves a commit prefix, with all commits that were acknowledged or forced before
-    pub moments : (s : Super) (c : Core) → IsEngine c old before → IsReached c → OnDisk s c (g.bytes before) (g.may_leave before) → LeavesOnly g.moment g.left_since before now (IsCommitPrefix c)
+    -- at each moment of it
+    pub moments : (s : Super) (c : Core) → IsEngine c old before → IsReached c → OnDisk s c (g.bytes before) (g.may_leave before) → LeavesOnly g.moment g.left_since before now (IsLeftByStep c (g.bytes before))
     pub passes : (c : Core) → IsEngine c old before → IsReached c → StepPasses (calls c event) (g.passed before) (g.passed now) result

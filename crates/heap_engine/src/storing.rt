@@ -12,7 +12,6 @@ ghost use Rattle.image_plan.specs.declared.superblock.Super.{Super};
 ghost use Rattle.page_cache.specs.CacheState.{cache_store, cache_pages, cache_size, is_dirty};
 ghost use Rattle.page_store.specs.StoreState.{store_plan};
 ghost use Rattle.heap_model.specs.Core.{Core, forced_if, flushed, flush_calls};
-ghost use Rattle.heap_model.specs.CoreCrash.{IsCommitPrefix};
 ghost use Rattle.core_laws.specs.Valid.{IsSound};
 ghost use Rattle.memory_laws.specs.CoreMemory.{IsMemory};
 ghost use Rattle.heap_engine.specs.StepResult.{engine_device, reply_device};
@@ -53,7 +52,7 @@ fn force_up_to<D: Disk>(log: &mut Log, disk: &mut D, lsn: u64) -> Result<(), Dis
 
 impl Engine {
     ghost use Rattle.heap_engine.specs.EngineState.{memory, LiesWithin, HasNotFailed};
-    ghost use Rattle.heap_engine.specs.Refinement.{KnowsPages, OnDisk, Steps, StepsOn};
+    ghost use Rattle.heap_engine.specs.Refinement.{KnowsPages, OnDisk, IsLeftByStep, Steps, StepsOn};
 
     /// Forces what is pending.
     pub(crate) fn force<D: Disk>(&mut self, disk: &mut D) -> Result<Reply, StepError>
@@ -114,9 +113,9 @@ impl Engine {
         ensures pages { IsTrue D.tells → (c : Core) → IsMemory (memory self.old) (account c.history) c → KnowsPages c (memory self.old) (D.bytes disk.old) → OnOk result (KnowsPages (flushed c p) (memory self.new) (D.bytes disk.new)) }
         ensures holds { IsTrue D.tells → (s : Super) (c : Core) → IsMemory (memory self.old) (account c.history) c → KnowsPages c (memory self.old) (D.bytes disk.old) → OnDisk s c (D.bytes disk.old) (D.may_leave disk.old)
             → OnOk result (OnDisk s (flushed c p) (D.bytes disk.new) (D.may_leave disk.new)) }
-        // At each moment of it a crash leaves a commit prefix, with all commits that were acknowledged or forced before.
+        // At each moment of it a crash leaves a commit prefix, with all commits that were acknowledged or forced before, and each byte behind the plan as it was.
         ensures moments { IsTrue D.tells → (s : Super) (c : Core) → IsMemory (memory self.old) (account c.history) c → KnowsPages c (memory self.old) (D.bytes disk.old) → OnDisk s c (D.bytes disk.old) (D.may_leave disk.old) → IsSound c
-            → LeavesOnly D.moment D.left_since disk.old disk.new (IsCommitPrefix c) }
+            → LeavesOnly D.moment D.left_since disk.old disk.new (IsLeftByStep c (D.bytes disk.old)) }
         ensures passes { IsTrue D.tells → (c : Core) → IsMemory (memory self.old) (account c.history) c → KnowsPages c (memory self.old) (D.bytes disk.old) → Passes (flush_calls c p) (D.passed disk.old) (D.passed disk.new) result }
     {
         force_up_to(&mut self.log, disk, self.cache.lsn(p))?;

@@ -1,5 +1,6 @@
 pub mod ListLaws
 pub mod Opening
+pub mod Outside
 pub mod Run
 pub mod Shaped
 pub mod Step

@@ -1,3 +1,4 @@
+mod Behind
 pub mod Causes
 mod CommandLaws
 pub mod CoreSteps

@@ -23,6 +23,7 @@ use Rattle.heap_program.specs.declared.status.Status.{Status}
 use Rattle.heap_program.specs.declared.status.Status.TheVariants as status
 use Rattle.heap_program.specs.Causes.{DiskRose, Unharmed}
 use Rattle.heap_core.specs.Causes.{reply_device}
+use Rattle.heap_core.specs.Refinement.{SameBehind}
 use Rattle.heap_model.specs.Core.{Core, commits_on_disk, with_entry, IsRun}
 use Rattle.heap_model.specs.CoreCrash.{IsCommitPrefix}
 use Rattle.heap_model.proofs.Step.Calls.{total_calls-append}
@@ -45,6 +46,7 @@ use Rattle.heap_program.specs.StatusOf.{halt_status}
 use Rattle.heap_program.proofs.Causes.{disk_rose}
 use Rattle.heap_program.proofs.Counts.{counted-sum, counted_mono}
 use Rattle.heap_core.proofs.StepsLaws.{heap_leaves}
+use Rattle.heap_program.proofs.Behind.{HasImages, played_behind}
 use Rattle.heap_program.proofs.Lines as lines
 use Rattle.heap_program.proofs.PlayFaults.{cut_reply, fault_not_whole, stop_not_whole, fault_not_stopped}
 use Rattle.heap_program.proofs.PlayFuse.{rose_some, own_steps}
@@ -131,9 +133,9 @@ module _ {D : Type 0} {g : Ghosts D} (s : Super) (c : Core) (running : IsRunning
       makes
 
   -- What a crash leaves of the heap's own disk since it was opened.
-  abbrev pub keeps_own : IsTrue g.tells → (at_opening : ℕ) (start : D) → ((disk : D) (image : List ℕ) → g.left_since disk (g.moment disk) image → g.may_leave disk image) → LeavesOnly g.moment g.left_since start old.disk (IsCommitPrefix c)
+  abbrev pub keeps_own : IsTrue g.tells → (at_opening : ℕ) (start : D) → HasImages g → LeavesOnly g.moment g.left_since start old.disk (IsCommitPrefix c) → LeavesOnly g.moment g.left_since start old.disk (SameBehind c (g.bytes start))
       → ((image : List ℕ) → g.may_leave old.disk image → IsCommitPrefix c image) → g.passed old.disk ≡ counted at_opening (g.passed start) → g.restarts old.disk ≡ g.restarts start → KeepsThroughout g None at_opening c made core start new.disk
-  keeps_own tells at_opening start now opening here passed restarts = record {
+  keeps_own tells at_opening start has opening behind here passed restarts = record {
     opened = old.disk;
     opening = opening;
     here = here;
@@ -142,8 +144,9 @@ module _ {D : Type 0} {g : Ghosts D} (s : Super) (c : Core) (running : IsRunning
     restarts = restarts;
     stopped = new.disk;
     steps = own_steps g start tells c core old.disk new.disk made plays.steps;
-    rest = begins g.moment g.left_since new.disk (IsCommitPrefix core) (λ image since. kept image (now new.disk image since));
+    rest = begins g.moment g.left_since new.disk (IsCommitPrefix core) (λ image since. kept image (has.now new.disk image since));
     kept = kept;
+    outside = played_behind g has (g.bytes start) None start c core start old.disk new.disk made behind (own_steps g start tells c core old.disk new.disk made plays.steps);
   }
 
   -- the events that were made, as a run tells them

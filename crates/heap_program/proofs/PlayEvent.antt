@@ -20,10 +20,9 @@ use Rattle.heap_program.specs.declared.play.Halt.TheVariants as halt
 use Rattle.heap_program.specs.declared.output.WriteError.{WriteError}
 use Rattle.heap_core.specs.Causes.{reply_device}
 use Rattle.heap_model.specs.Core.{Core, next_number, is_dirty, granted_by, answer, with_entry, after, IsCutShort, IsStep, calls}
-use Rattle.heap_model.specs.CoreCrash.{IsCommitPrefix}
 use Rattle.heap_model.proofs.Run.Calls.{step_history}
 use Rattle.heap_model.proofs.Step.Step.{core_refusal-HasNoFault}
-use Rattle.heap_core.specs.Refinement.{DiskHolds, IsCore, IsHeap}
+use Rattle.heap_core.specs.Refinement.{IsLeftByStep, DiskHolds, IsCore, IsHeap}
 use Rattle.heap_program.proofs.Ready.{AreReady}
 use Rattle.heap_program.specs.Play.{MakesAll, MakesShort, Makes, Ends, Plays, ended_by, WroteFront}
 use Rattle.heap_program.specs.StatusOf.{write_halt}
@@ -58,7 +57,7 @@ one_call n m k e = let same : m ≡ m + 0 = omega arith in e ∙ ap (λ (i : ℕ
 
 module _ {D : Type 0} {g : Ghosts D} (s : Super) (c d : Core) (event : Event) (reply : Reply) (old new : Heap D g) (ready : AreReady c (event ∷ [])) (step : IsStep c event reply d)
     (keeps : KeepsDisk g old.disk new.disk (reply_device reply)) (passes : Passes (calls c event) (g.passed old.disk) (g.passed new.disk) (reply_device reply))
-    (moments : LeavesOnly g.moment g.left_since old.disk new.disk (IsCommitPrefix c)) (heap : IsHeap s d new) where
+    (moments : LeavesOnly g.moment g.left_since old.disk new.disk (IsLeftByStep c (g.bytes old.disk))) (heap : IsHeap s d new) where
   abbrev one : List Event
   one = event ∷ []
 

@@ -14,8 +14,8 @@ use Rattle.gate_slot.specs.Passing.{Passes}
 use Rattle.graph_model.specs.declared.event.Event.{Event}
 use Rattle.graph_model.specs.declared.reply.Reply.{Reply}
 use Rattle.heap_core.specs.Causes.{reply_device}
+use Rattle.heap_core.specs.Refinement.{IsLeftByStep}
 use Rattle.heap_model.specs.Core.{Core, calls}
-use Rattle.heap_model.specs.CoreCrash.{IsCommitPrefix}
 use Rattle.heap_program.specs.Causes.{DiskRose}
 use Rattle.heap_core.specs.Steps.{HeapStep, AreSteps}
 use Rattle.heap_program.specs.Steps.{StopCause, Step}
@@ -79,7 +79,8 @@ module _ {D : Type 0} {g : Ghosts D} where
   -- What the fuse says of itself as a disk is said of the disk inside.
   pub record IsFuse (h : Ghosts (FuseDisk D g)) : Type 0 where
     pub tells : IsTrue g.tells → IsTrue h.tells
-    pub moments : (c : Core) (a b : FuseDisk D g) → LeavesOnly h.moment h.left_since a b (IsCommitPrefix c) → LeavesOnly g.moment g.left_since (fuse_inner a) (fuse_inner b) (IsCommitPrefix c)
+    pub moments : (c : Core) (base : List ℕ) (a b : FuseDisk D g) → LeavesOnly h.moment h.left_since a b (IsLeftByStep c base) → LeavesOnly g.moment g.left_since (fuse_inner a) (fuse_inner b) (IsLeftByStep c base)
+    pub bytes : (fuse : FuseDisk D g) → h.bytes fuse ≡ g.bytes (fuse_inner fuse)
     pub images : (fuse : FuseDisk D g) (image : List ℕ) → g.may_leave (fuse_inner fuse) image → h.may_leave fuse image
     pub origin : (a b : FuseDisk D g) → h.origin b ≡ h.origin a → fuse_origin b ≡ fuse_origin a
     pub passed : (fuse : FuseDisk D g) → h.passed fuse ≡ fuse_passed fuse
@@ -136,7 +137,7 @@ module _ {D : Type 0} {g : Ghosts D} where
             reply = made.reply;
             step = made.step;
             cause = cause_inside old mid made.reply same_mid limit_mid made.disk.cause;
-            moments = is.moments c old mid made.moments;
+            moments = subst (λ (bytes : List ℕ). LeavesOnly g.moment g.left_since (fuse_inner old) (fuse_inner mid) (IsLeftByStep c bytes)) (is.bytes old) (is.moments c (h.bytes old) old mid made.moments);
             kept = λ image left. made.kept image (is.images mid image left);
             passes = λ u. passes_inside (calls c event) old mid (reply_device made.reply)
                 (fuse_passes old began (fuse_passed old) tells same (λ rose. u (rose_until _ _ _ low rose)) refl)

@@ -18,7 +18,7 @@ use Rattle.heap_core.specs.declared.errors.OpenError.TheVariants as opening
 use Rattle.heap_model.specs.Core.{Core, commits_on_disk}
 use Rattle.heap_program.specs.declared.status.Status.{Status}
 use Rattle.heap_program.specs.declared.status.Status.TheVariants.{Done, NoMemory}
-use Rattle.heap_model.specs.CoreCrash.{IsCommitPrefix}
+use Rattle.heap_model.specs.CoreCrash.{IsSuperOf, IsCommitPrefix}
 use Rattle.heap_model.specs.NewHeap.{root_place}
 use Rattle.heap_model.proofs.Opening.New.{new_legal, new_found}
 use Rattle.heap_program.specs.Stored.{IsStored, stored_core, stored_calls}
@@ -50,7 +50,7 @@ use Rattle.heap_model.specs.Opening.{opened, opening_calls, rollback_of, IsFound
 use Rattle.graph_words.specs.Places.{Places}
 use Rattle.heap_core.specs.declared.heap.Heap.{Heap}
 use Rattle.heap_core.specs.HeapState.{failed_at}
-use Rattle.heap_core.specs.Refinement.{IsCore}
+use Rattle.heap_core.specs.Refinement.{IsCore, SameBehind}
 use Rattle.log_records.specs.declared.Record.{Record}
 use Rattle.image_plan.specs.declared.superblock.Super.{Super}
 use Rattle.script_text.specs.declared.line.Line.{Line}
@@ -150,14 +150,18 @@ module _ {D : Type 0} (g : Ghosts D) {bytes : List ℕ} (stored : IsStored bytes
   pub stored_moments : (old new : D) → LeavesOnly g.moment g.left_since old new (IsLeftByOpening stored.super stored.batches stored.pages) → LeavesOnly g.moment g.left_since old new (IsCommitPrefix c)
   stored_moments old new moments = weaker g.moment g.left_since old new (IsLeftByOpening stored.super stored.batches stored.pages) (IsCommitPrefix c) moments stored_keeps
 
+  -- the superblock is that of its heap
+  pub stored_super : IsSuperOf stored.super c
+  stored_super = record { limits = stored.legal.log.shaped.limits; pages = refl; room = refl; first = refl }
+
   -- The heap was not opened: no event was made, and nothing was written.
   pub ends_unopened : (stop : Option Stop) (events : List Event) (e : OpenError) (by : Status) (start final : D) (told : Bool) (before : List ℕ) → by ≡ open_status e → IsFromOutside e
-      → LeavesOnly g.moment g.left_since start final (IsCommitPrefix c) → ((image : List ℕ) → g.may_leave final image → IsCommitPrefix c image)
+      → LeavesOnly g.moment g.left_since start final (IsCommitPrefix c) → LeavesOnly g.moment g.left_since start final (SameBehind c (g.bytes start)) → ((image : List ℕ) → g.may_leave final image → IsCommitPrefix c image)
       → ((image : List ℕ) → g.left_since final (g.moment final) image → g.may_leave final image) → g.restarts final ≡ g.restarts start
       → (e ≡ opening.NoMemory → g.passed final ≡ g.passed start) → (e ≢ opening.NoMemory → Unharmed g start final → ⊥)
       → g.passed final ≤ counted n (g.passed start) → g.passed final ≤ counted (let_through (stop_after stop) (n + 0)) (g.passed start) → (open_status e ≡ NoMemory → Only (g.bytes final) (g.may_leave final))
       → IsPlayed g stop n c events start final by told before before
-  ends_unopened stop events e by start final told before is outside moments left now restarts same harm few most only =
+  ends_unopened stop events e by start final told before is outside moments behind left now restarts same harm few most only =
       let early = λ (done : by ≡ Done). open_not_done e (sym is ∙ done) in
       let calls = unopened_calls (stop_after stop) n (g.passed start) (g.passed final) (Unharmed g start final) e by is outside same harm in
       record {
@@ -174,6 +178,7 @@ module _ {D : Type 0} (g : Ghosts D) {bytes : List ℕ} (stored : IsStored bytes
           steps = (refl, refl);
           rest = begins g.moment g.left_since final (IsCommitPrefix c) (λ image since. left image (now image since));
           kept = left;
+          outside = behind;
         };
         counts = calls.0;
         opens = calls.1;
@@ -232,11 +237,11 @@ module _ {D : Type 0} (g : Ghosts D) {bytes : List ℕ} (stored : IsStored bytes
 
     -- The disk stopped in the opening: no event was made.
     pub ends_stopped : (events : List Event) (start : D) → LeavesOnly g.moment g.left_since start stopped (IsCommitPrefix c) → ((image : List ℕ) → g.may_leave stopped image → IsCommitPrefix c image)
-        → LeavesOnly g.moment g.left_since stopped final (IsCommitPrefix c) → g.restarts stopped ≡ g.restarts start → stop.after < n
+        → LeavesOnly g.moment g.left_since stopped final (IsCommitPrefix c) → LeavesOnly g.moment g.left_since start final (SameBehind c (g.bytes start)) → g.restarts stopped ≡ g.restarts start → stop.after < n
         → g.passed stopped ≤ counted stop.after (g.passed start) → (Unharmed g start stopped → g.passed stopped ≡ counted stop.after (g.passed start))
         → Recovers c k opens fails (g.bytes final) (g.may_leave final) by told before after
         → IsPlayed g (Some stop) n c events start final by told before after
-    ends_stopped events start moments left rest restarts less most exact recovers =
+    ends_stopped events start moments left rest behind restarts less most exact recovers =
         let through : min stop.after (n + 0) ≡ stop.after = omega arith in
         let more = counted_mono stop.after n (g.passed start) (omega arith) in
         record {
@@ -253,6 +258,7 @@ module _ {D : Type 0} (g : Ghosts D) {bytes : List ℕ} (stored : IsStored bytes
             steps = (refl, refl);
             rest = rest;
             kept = λ image may. (k, recovers.kept image may);
+            outside = behind;
           };
           counts = n;
           opens = inl refl;

@@ -29,12 +29,13 @@ use Rattle.heap_program.specs.declared.output.WriteError.{WriteError}
 use Rattle.heap_program.specs.declared.status.Status.{Status}
 use Rattle.heap_program.specs.declared.status.Status.TheVariants.{NoMemory, DiskFault}
 use Rattle.heap_model.specs.Core.{Core, force_calls}
-use Rattle.heap_model.specs.CoreCrash.{StandsForFirst, IsCommitPrefix}
+use Rattle.heap_model.specs.CoreCrash.{StandsForFirst}
 use Rattle.page_redo.specs.Pages.{Pages}
 use Rattle.heap_model.specs.Image.{IsLegalLog, IsLegal}
 use Rattle.heap_model.proofs.Opening.Held.{left_first}
 use Rattle.heap_model.proofs.Opening.Rolled.{commits_are}
 use Rattle.heap_model.specs.Opening.{commits_of, IsLeftByOpening}
+use Rattle.heap_recovery.specs.Faults.{IsLogLeft}
 use Rattle.heap_program.specs.Causes.{DiskRose}
 use Rattle.heap_program.specs.Headline.{recovered_line, graph_text, IsEndOfPlay, IsOfDisk, KeepsFirst, calls_to_open, Reopens, FailsToOpen, Restarts, IsCutBefore, StartsAgain, EndsUnopened}
 use Rattle.heap_program.specs.Output.{IsBefore, commits_since, WroteText, Recovers, WroteRecovered, WroteNothing, status_after}
@@ -42,6 +43,7 @@ use Rattle.heap_program.specs.StatusOf.{open_status}
 use Rattle.heap_program.proofs.Causes.{disk_rose}
 use Rattle.heap_program.proofs.Counts.{counted-sum}
 use Rattle.heap_program.proofs.PlayFuse.{rose_some}
+use Rattle.heap_program.proofs.Behind.{opening_behind}
 use Rattle.heap_program.proofs.PlayOpen.{opening_then}
 use Rattle.heap_program.proofs.Reopened.{outside_memory}
 use Rattle.heap_program.proofs.Statuses.{written_end, written_sound, wrote_all, open_end, open_not_done}
@@ -120,11 +122,16 @@ module _ {D : Type 0} (g : Ghosts D) (c : Core) (k : ℕ) (old new : D) (first :
   abbrev pub Left : List ℕ → Type 0
   Left = IsLeftByOpening first.stands.super first.stands.batches first.stands.stored
 
+  -- the bytes of its log, and all others as they were
+  abbrev pub LogLeft : List ℕ → Type 0
+  LogLeft = IsLogLeft first.stands.super first.stands.batches (g.bytes old)
+
   -- it keeps the commits
-  abbrev pub keeps_first : LeavesOnly g.moment g.left_since old new Left → ((left : List ℕ) → g.may_leave new left → Left left) → g.restarts new ≡ g.restarts old → KeepsFirst g c k old new
-  keeps_first moments leaves restarts = record {
+  abbrev pub keeps_first : LeavesOnly g.moment g.left_since old new Left → LeavesOnly g.moment g.left_since old new LogLeft → ((left : List ℕ) → g.may_leave new left → Left left) → g.restarts new ≡ g.restarts old → KeepsFirst g c k old new
+  keeps_first moments log leaves restarts = record {
     first = first;
     moments = weaker g.moment g.left_since old new Left (StandsForFirst c k) moments (left_first c k (g.bytes old) first);
+    outside = opening_behind g c first.stands.super first.stands.batches (g.bytes old) old new first.of log;
     still = λ left may. left_first c k (g.bytes old) first left (leaves left may);
     restarts = restarts;
   }
@@ -263,14 +270,11 @@ module _ (m n now : ℕ) (few : n ≤ 4) (within : now ≤ m) where
       let blown = at (rose_some stops stops' cause.stops_kept (cause.stopped refl)) in
       (omega arith, λ unharmed. omega arith)
 
--- A restart leaves what the disk could leave before, and an opening what it was opened on.
-module _ {D : Type 0} (g : Ghosts D) (c : Core) where
-  pub restart_keeps : (old new : D) → Restarts g old new → ((image : List ℕ) → g.may_leave old image → IsCommitPrefix c image) → LeavesOnly g.moment g.left_since old new (IsCommitPrefix c)
-  restart_keeps old new started leaves = weaker g.moment g.left_since old new (g.may_leave old) (IsCommitPrefix c) started.moments leaves
+-- A restart leaves what the disk could leave before,
+module _ {D : Type 0} (g : Ghosts D) (P : List ℕ → Type 0) where
+  pub restart_keeps : (old new : D) → Restarts g old new → ((image : List ℕ) → g.may_leave old image → P image) → LeavesOnly g.moment g.left_since old new P
+  restart_keeps old new started leaves = weaker g.moment g.left_since old new (g.may_leave old) P started.moments leaves
 
-  pub first_keeps : (k : ℕ) (old new : D) → LeavesOnly g.moment g.left_since old new (StandsForFirst c k) → LeavesOnly g.moment g.left_since old new (IsCommitPrefix c)
-  first_keeps k old new moments = weaker g.moment g.left_since old new (StandsForFirst c k) (IsCommitPrefix c) moments (λ image first. (k, first))
-
-  -- so both leave first commits
-  pub keeps_then : (old mid new : D) → LeavesOnly g.moment g.left_since old mid (IsCommitPrefix c) → LeavesOnly g.moment g.left_since mid new (IsCommitPrefix c) → LeavesOnly g.moment g.left_since old new (IsCommitPrefix c)
-  keeps_then old mid new before behind = opening_then g.moment g.left_since old mid new (IsCommitPrefix c) (IsCommitPrefix c) before behind (λ image keep. keep)
+  -- and so does what comes behind it, where an opening keeps that.
+  pub keeps_then : (old mid new : D) → LeavesOnly g.moment g.left_since old mid P → LeavesOnly g.moment g.left_since mid new P → LeavesOnly g.moment g.left_since old new P
+  keeps_then old mid new before behind = opening_then g.moment g.left_since old mid new P P before behind (λ image keep. keep)

@@ -29,6 +29,7 @@ use Rattle.heap_model.proofs.Run.Calls.{step_history, same_run}
 use Rattle.core_laws.proofs.Run.Events.{run_reached}
 use Rattle.core_laws.proofs.Step.Sound.{sound_agrees}
 use Rattle.core_laws.specs.Valid.{IsSound, IsReached}
+use Rattle.heap_core.specs.Refinement.{IsLeftByStep}
 use Rattle.heap_program.specs.CrashSafe.{LastingStep}
 use Rattle.heap_program.specs.Headline.{lasting}
 use Rattle.heap_core.specs.Steps.{AreSteps}
@@ -147,9 +148,9 @@ module _ {D : Type 0} (g : Ghosts D) (stop : Option ℕ) (start final : D) where
         let rest = steps_last mid d between new events at_mid sessions.1 step.kept steps.3 in
         let least = lasting c in
         weaker g.moment g.left_since old new _ (HasAtLeast d least)
-        (joined g.moment g.left_since old between new (IsCommitPrefix c) (HasAtLeast d (lasting mid)) step.moments rest)
+        (joined g.moment g.left_since old between new (IsLeftByStep c (g.bytes old)) (HasAtLeast d (lasting mid)) step.moments rest)
         (λ image either. ⊎_elim
-        (λ (kept : IsCommitPrefix c image). has_at_least_on c d (event ∷ events) least image reached.sound at_end.sound run (keeps_lasting c image kept))
+        (λ (left : IsLeftByStep c (g.bytes old) image). has_at_least_on c d (event ∷ events) least image reached.sound at_end.sound run (keeps_lasting c image left.commits))
         (λ (has : HasAtLeast d (lasting mid) image). has_fewer d (lasting mid) least image more has)
         either)
 

@@ -20,6 +20,7 @@ use Rattle.graph_model.specs.Text.{canon_text}
 use Rattle.image_plan.specs.declared.superblock.Super.{Super}
 use Rattle.image_plan.specs.Plan.{image_size}
 use Rattle.heap_core.specs.Format.{IsEmptyHeap, IsFormatting, format_calls}
+use Rattle.heap_core.specs.Refinement.{SameBehind}
 use Rattle.heap_model.specs.Core.{Core, commits_on_disk, with_entry, IsRun}
 use Rattle.heap_model.specs.CoreCrash.{StandsForFirst, IsCommitPrefix}
 use Rattle.heap_model.specs.NewHeap.{root_place}
@@ -225,6 +226,8 @@ module _ {D : Type 0} (g : Ghosts D) where
     pub steps : AreSteps (Step g stop start) c opened made d stopped
     pub rest : LeavesOnly g.moment g.left_since stopped final (IsCommitPrefix d)
     pub kept : (image : List ℕ) → g.may_leave final image → IsCommitPrefix d image
+    -- and each byte behind the plan as it was at the start, at each moment of all that
+    pub outside : LeavesOnly g.moment g.left_since start final (SameBehind c (g.bytes start))
 
   -- The disk was started again, as one of the images that a crash could leave: no moment of that left another.
   pub record Restarts (old new : D) : Type 0 where
@@ -239,6 +242,8 @@ module _ {D : Type 0} (g : Ghosts D) where
   pub record KeepsFirst (c : Core) (k : ℕ) (old new : D) : Type 0 where
     pub first : StandsForFirst c k (g.bytes old)
     pub moments : LeavesOnly g.moment g.left_since old new (StandsForFirst c k)
+    -- and each byte behind the plan as it was
+    pub outside : LeavesOnly g.moment g.left_since old new (SameBehind c (g.bytes old))
     pub still : (image : List ℕ) → g.may_leave new image → StandsForFirst c k image
     pub restarts : g.restarts new ≡ g.restarts old
 

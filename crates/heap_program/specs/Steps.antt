@@ -10,6 +10,7 @@ use Rattle.graph_model.specs.declared.reply.Refusal.TheVariants.{DiskFault, Stop
 use Rattle.graph_model.specs.declared.reply.Reply.{Reply}
 use Rattle.graph_model.specs.declared.reply.Reply.TheVariants.{Refused}
 use Rattle.heap_core.specs.Causes.{reply_device}
+use Rattle.heap_core.specs.Refinement.{IsLeftByStep}
 use Rattle.heap_model.specs.Core.{Core, IsStep, calls}
 use Rattle.heap_model.specs.CoreCrash.{IsCommitPrefix}
 use Rattle.heap_program.specs.Causes.{DiskRose, Unharmed}
@@ -32,8 +33,8 @@ pub record Step {D : Type 0} (g : Ghosts D) (stop : Option ℕ) (start : D) (c :
   pub reply : Reply
   pub step : IsStep c event reply d
   pub cause : StepCause g stop start before after reply
-  -- at each moment of it a crash left first commits, and among them all that were acknowledged or forced before it
-  pub moments : LeavesOnly g.moment g.left_since before after (IsCommitPrefix c)
+  -- at each moment of it a crash left first commits, among them all that were acknowledged or forced before it, and each byte behind the plan as it was
+  pub moments : LeavesOnly g.moment g.left_since before after (IsLeftByStep c (g.bytes before))
   -- once it was answered, also those that its answer acknowledged, or that it forced
   pub kept : (image : List ℕ) → g.may_leave after image → IsCommitPrefix d image
   -- without a fault by then it made the writes and syncs of the core's step, or fewer where it was stopped

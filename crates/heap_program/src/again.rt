@@ -4,10 +4,11 @@ ghost use Rattle.counts.specs.Count.{Rose};
 ghost use Rattle.disk_model.specs.Disk.{Only};
 ghost use Rattle.disk_model.specs.Fuse.{fuse_inner};
 ghost use Rattle.disk_model.specs.Moments.{LeavesOnly};
+ghost use Rattle.heap_core.specs.Refinement.{IsLeftByStep};
 ghost use Rattle.heap_model.specs.Core.{Core};
 ghost use Rattle.heap_model.specs.CoreCrash.{StandsForFirst, IsCommitPrefix};
 ghost use Rattle.heap_program.specs.Causes.{StreamCause, RunsDisk, IsOpenedEnd, either_disk};
-ghost use Rattle.heap_program.specs.Headline.{Restarts, Reopens, FailsToOpen, IsCutOff, StartsAgain, EndsUnopened, RestartsDisk, starts_asked};
+ghost use Rattle.heap_program.specs.Headline.{Restarts, KeepsFirst, Reopens, FailsToOpen, IsCutOff, StartsAgain, EndsUnopened, RestartsDisk, starts_asked};
 ghost use Rattle.heap_program.specs.Refusals.{IsFault, IsWordFault, IsToldOfEach, EndsRefused};
 ghost use Rattle.heap_recovery.specs.Faults.{IsLeftOf};
 ghost use Rattle.heap_program.specs.Output.{IsBefore, Recovers, WroteAgain};
@@ -34,7 +35,7 @@ pub fn start_again<D: Disk, K: Sink>(
     ensures restarts { IsTrue D.tells → RestartsDisk (starts_asked again) result.0 (D.restarts (fuse_inner fuse)) (D.restarts result.1) }
     ensures started { IsTrue D.tells → Rose (D.restarts (fuse_inner fuse)) (D.restarts result.1) }
     ensures again { IsTrue K.tells → WroteAgain result.0 (K.written sink.old) (K.written sink.new) }
-    ensures moments { IsTrue D.tells → (c : Core) → ((image : List ℕ) → D.may_leave (fuse_inner fuse) image → IsCommitPrefix c image) → LeavesOnly D.moment D.left_since (fuse_inner fuse) result.1 (IsCommitPrefix c) }
+    ensures moments { IsTrue D.tells → (c : Core) (old : List ℕ) → ((image : List ℕ) → D.may_leave (fuse_inner fuse) image → IsLeftByStep c old image) → LeavesOnly D.moment D.left_since (fuse_inner fuse) result.1 (IsLeftByStep c old) }
     ensures recovers { IsTrue D.tells → (c : Core) → ((image : List ℕ) → D.may_leave (fuse_inner fuse) image → IsCommitPrefix c image) → IsBefore before c
         → (k : ℕ) × Recovers c k (StartsAgain D.Disk again c k (Reopens D.Disk c k) (fuse_inner fuse) result.1) (EndsUnopened D.Disk again c k (fuse_inner fuse) result.1 result.0) (D.bytes result.1) (D.may_leave result.1) result.0 K.tells (K.written sink.old) (K.written sink.new) }
     // A status against an image tells what is so of the disk that is given back.
@@ -99,7 +100,7 @@ fn print_recovered<D: Disk, K: Sink>(
     ensures sink { StreamCause (K.faults sink.old) (K.faults sink.new) (result.0 ≡ Status.WriteFault) }
     ensures restarts { IsTrue D.tells → D.restarts result.1 ≡ D.restarts disk }
     ensures again { IsTrue K.tells → WroteAgain result.0 (K.written sink.old) (K.written sink.new) }
-    ensures moments { IsTrue D.tells → (c : Core) (k : ℕ) → StandsForFirst c k (D.bytes disk) → Only (D.bytes disk) (D.may_leave disk) → LeavesOnly D.moment D.left_since disk result.1 (StandsForFirst c k) }
+    ensures keeps { IsTrue D.tells → (c : Core) (k : ℕ) → StandsForFirst c k (D.bytes disk) → Only (D.bytes disk) (D.may_leave disk) → KeepsFirst D.Disk c k disk result.1 }
     ensures recovers { IsTrue D.tells → (c : Core) (k : ℕ) → StandsForFirst c k (D.bytes disk) → Only (D.bytes disk) (D.may_leave disk) → IsBefore before c
         → Recovers c k (Reopens D.Disk c k disk result.1) (FailsToOpen D.Disk c k result.0 disk result.1) (D.bytes result.1) (D.may_leave result.1) result.0 K.tells (K.written sink.old) (K.written sink.new) }
     ensures refused_at_end { IsTrue D.tells → Only (D.bytes disk) (D.may_leave disk) → IsToldOfEach result.0 (D.may_leave result.1) }

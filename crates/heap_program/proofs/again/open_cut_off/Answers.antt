@@ -16,6 +16,7 @@ use Rattle.heap_program.proofs.PlayFuse.{same_disk, same_limit, fuse_since, fuse
 use Rattle.heap_program.proofs.PrintRecovered.{keeps_first, few_to_open, whole_passes, error_cut}
 use Rattle.heap_recovery.specs.declared.at.At.TheVariants.{Address}
 use Rattle.heap_recovery.specs.Faults.{IsNoHeap, IsFaultAt, IsLogLeft, IsLeftOf}
+use Rattle.heap_recovery.proofs.FaultLaws.{shaped_readable}
 use Rattle.heap_program.specs.Refusals.{IsFault, IsWordFault}
 use Rattle.heap_program.proofs.RefusalLaws.{fault_moments, left_moments, at_end}
 use Rattle.heap_program.proofs.again.open_cut_off.Goals as goal
@@ -36,7 +37,10 @@ returns-in-Ok-clause-cut g c tells core k at_first at_only =
     let origin = e.disk.origin ∙ c.new.ensures.origin in
     let began = same_disk _ _ origin ∙ sym inner in
     let within = subst (λ (m : ℕ). fuse_passed fuse ≤ m) (same_limit _ _ origin) fuse.within in
-    let keeps = keeps_first d core k start (fuse_inner fuse) first (fuse_since c.new.result fuse _ (e.moments tells only stands.super stands.batches stands.stored (shaped_image legal))) (λ left may. e.crash tells only stands.super stands.batches stands.stored (shaped_image legal) left may) (e.disk.restarts tells) in
+    let shaped = shaped_image legal in
+    let log = e.moments_readable tells only stands.super stands.batches shaped.log.state (shaped_readable stands.super stands.batches stands.stored (d.bytes start) shaped) in
+    let keeps = keeps_first d core k start (fuse_inner fuse) first (fuse_since c.new.result fuse _ (e.moments tells only stands.super stands.batches stands.stored shaped)) (fuse_since c.new.result fuse _ log)
+    (λ left may. e.crash tells only stands.super stands.batches stands.stored shaped left may) (e.disk.restarts tells) in
     let through = min c.args.calls n in
     let all : fuse_passed fuse ≡ through = whole_passes c.args.calls n (fuse_passed fuse) (few_to_open (rollback_of stands.super stands.batches)) within ((e.passes tells stands.super stands.batches stands.stored (shaped_image legal)).ok ∙ ap (counted n) c.new.ensures.passed) in
     let cut : IsCutOff d c.args.calls core k start (fuse_inner fuse) = record {
@@ -64,7 +68,10 @@ returns-else-eq-clause-cut g c tells core k at_first at_only =
     let limit = same_limit _ _ origin in
     let began = same_disk _ _ origin ∙ sym inner in
     let within = subst (λ (m : ℕ). fuse_passed fuse ≤ m) limit fuse.within in
-    let keeps = keeps_first d core k start (fuse_inner fuse) first (fuse_since c.new.result fuse _ (e.moments tells only stands.super stands.batches stands.stored (shaped_image legal))) (λ left may. e.crash tells only stands.super stands.batches stands.stored (shaped_image legal) left may) (e.disk.restarts tells) in
+    let shaped = shaped_image legal in
+    let log = e.moments_readable tells only stands.super stands.batches shaped.log.state (shaped_readable stands.super stands.batches stands.stored (d.bytes start) shaped) in
+    let keeps = keeps_first d core k start (fuse_inner fuse) first (fuse_since c.new.result fuse _ (e.moments tells only stands.super stands.batches stands.stored shaped)) (fuse_since c.new.result fuse _ log)
+    (λ left may. e.crash tells only stands.super stands.batches stands.stored shaped left may) (e.disk.restarts tells) in
     let passes = subst (λ (p : ℕ). ErrorPasses n p (fuse_passed fuse) c.in-Err.e) c.new.ensures.passed (e.passes tells stands.super stands.batches stands.stored (shaped_image legal)) in
     let all = error_cut c.args.calls n (fuse_passed fuse) (few_to_open (rollback_of stands.super stands.batches)) within _ _ _ _ c.in-Err.e (λ blown. fuse.blown blown ∙ limit) e.disk.cause (e.shaped tells stands.super stands.batches stands.stored (shaped_image legal)) other passes in
     let cut : IsCutOff d c.args.calls core k start (fuse_inner fuse) = record {
@@ -89,7 +96,10 @@ returns-then-eq-clause-cut g c tells core k at_first at_only =
     let legal : IsLegal stands.super stands.batches stands.stored (d.bytes start) = record { log = stands.says.legal; held = stands.held } in
     let n = opening_calls stands.super stands.batches in
     let began = same_disk _ _ (e.disk.origin ∙ c.new.ensures.origin) ∙ sym inner in
-    let keeps = keeps_first d core k start (fuse_inner fuse) first (fuse_since c.new.result fuse _ (e.moments tells only stands.super stands.batches stands.stored (shaped_image legal))) (λ left may. e.crash tells only stands.super stands.batches stands.stored (shaped_image legal) left may) (e.disk.restarts tells) in
+    let shaped = shaped_image legal in
+    let log = e.moments_readable tells only stands.super stands.batches shaped.log.state (shaped_readable stands.super stands.batches stands.stored (d.bytes start) shaped) in
+    let keeps = keeps_first d core k start (fuse_inner fuse) first (fuse_since c.new.result fuse _ (e.moments tells only stands.super stands.batches stands.stored shaped)) (fuse_since c.new.result fuse _ log)
+    (λ left may. e.crash tells only stands.super stands.batches stands.stored shaped left may) (e.disk.restarts tells) in
     let passes = subst (λ error. ErrorPasses n (fuse_passed c.new.result) (fuse_passed fuse) error) is (e.passes tells stands.super stands.batches stands.stored (shaped_image legal)) in
     let same = fuse_none fuse start tells began (passes ∙ c.new.ensures.passed) in
     let reads = (e.left_alone (subst ComesBeforeWrites (sym is) tt)).contents tells in

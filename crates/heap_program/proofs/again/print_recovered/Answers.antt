@@ -3,33 +3,37 @@ use Rattle.std.specs.Prelude.{IsTrue}
 use Rattle.counts.specs.Count.{counted, greatest}
 use Rattle.disk_model.specs.Disk.{Only}
 use Rattle.disk_model.specs.Moments.{LeavesOnly}
-use Rattle.disk_model.proofs.MomentLaws.{weaker}
 use Rattle.graph_model.specs.Text.{canon_text}
-use Rattle.heap_model.specs.CoreCrash.{StandsForFirst}
-use Rattle.heap_model.proofs.Opening.Held.{left_first}
 use Rattle.core_laws.proofs.Opening.Opened.{opened_reached}
 use Rattle.heap_model.proofs.Opening.Opened.{saying_law}
 use Rattle.heap_model.proofs.Opening.Rolled.{commits_are}
 use Rattle.heap_model.specs.Opening.{commits_of, opened, opening_calls, IsLeftByOpening}
 use Rattle.heap_model.proofs.Shaped.{shaped_image}
 use Rattle.page_store.specs.Gates.{open_gates}
-use Rattle.heap_program.specs.Headline.{recovered_line, graph_text, Reopens, FailsToOpen}
+use Rattle.heap_program.specs.Headline.{recovered_line, graph_text, KeepsFirst, Reopens, FailsToOpen}
 use Rattle.heap_program.specs.Output.{WroteText, commits_since}
 use Rattle.heap_program.proofs.PlayOpen.{opened_core, opened_unfailed}
 use Rattle.heap_program.proofs.PlayPrints.{wrote_again}
 use Rattle.heap_program.proofs.Statuses.{open_not_done, written_end}
-use Rattle.heap_program.proofs.PrintRecovered.{Left, legal_of, keeps_first, few_commits, since_before, recovers_nothing, recovers_first}
+use Rattle.heap_program.proofs.PrintRecovered.{legal_of, keeps_first, few_commits, since_before, recovers_nothing, recovers_first}
 use Rattle.heap_recovery.specs.declared.at.At.TheVariants.{Address}
+use Rattle.heap_recovery.specs.Faults.{IsLogLeft}
+use Rattle.heap_recovery.proofs.FaultLaws.{shaped_readable}
 use Rattle.heap_program.proofs.RefusalLaws.{told_each, end_told_each, refused_by, not_opened, fault_moments, left_moments}
 use Rattle.heap_program.proofs.Reopened.{reads_only, refused_memory}
 use Rattle.heap_program.proofs.again.print_recovered.Goals as goal
 
 -- an opening leaves the same commits at each moment
-pub returns-in-Err-clause-moments : goal.returns-in-Err-clause-moments
-returns-in-Err-clause-moments g c tells core k first only =
+pub returns-in-Err-clause-keeps : goal.returns-in-Err-clause-keeps
+returns-in-Err-clause-keeps g c tells core k first only =
     let d = g.D.Disk in
-    weaker d.moment d.left_since c.args.disk c.in-Err.disk (Left d core k c.args.disk c.in-Err.disk first) (StandsForFirst core k)
-    (c.in-Err.ensures.moments tells only first.stands.super first.stands.batches first.stands.stored (shaped_image (legal_of first))) (left_first core k (d.bytes c.args.disk) first)
+    let s = first.stands.super in
+    let batches = first.stands.batches in
+    let stored = first.stands.stored in
+    let shaped = shaped_image (legal_of first) in
+    let e = c.in-Err.ensures in
+    keeps_first d core k c.args.disk c.in-Err.disk first (e.moments tells only s batches stored shaped) (e.moments_readable tells only s batches shaped.log.state (shaped_readable s batches stored (d.bytes c.args.disk) shaped))
+    (e.crash tells only s batches stored shaped) (e.disk.restarts tells)
 
 -- a legal image is refused by the outside alone
 pub returns-in-Err-clause-recovers : goal.returns-in-Err-clause-recovers
@@ -39,16 +43,24 @@ returns-in-Err-clause-recovers g c = λ tells core k first only none.
     let batches = first.stands.batches in
     let stored = first.stands.stored in
     let legal = legal_of first in
-    let keeps = keeps_first d core k c.args.disk c.in-Err.disk first (c.in-Err.ensures.moments tells only s batches stored (shaped_image legal)) (c.in-Err.ensures.crash tells only s batches stored (shaped_image legal)) (c.in-Err.ensures.disk.restarts tells) in
+    let shaped = shaped_image legal in
+    let keeps = keeps_first d core k c.args.disk c.in-Err.disk first (c.in-Err.ensures.moments tells only s batches stored shaped)
+    (c.in-Err.ensures.moments_readable tells only s batches shaped.log.state (shaped_readable s batches stored (d.bytes c.args.disk) shaped)) (c.in-Err.ensures.crash tells only s batches stored shaped) (c.in-Err.ensures.disk.restarts tells) in
     recovers_nothing d core k c.args.disk c.in-Err.disk keeps (Reopens d core k c.args.disk c.in-Err.disk) c.in-Err.e c.from.result _ _ (c.in-Err.ensures.shaped tells s batches stored (shaped_image legal)) c.from.ensures
     c.in-Err.ensures.disk.cause (c.in-Err.ensures.passes tells s batches stored (shaped_image legal))
     (λ refused. reads_only d c.args.disk c.in-Err.disk ((c.in-Err.ensures.left_alone (refused_memory c.in-Err.e refused)).contents tells) only)
 
-pub returns-clause-moments : goal.returns-clause-moments
-returns-clause-moments g c tells core k first only =
+pub returns-clause-keeps : goal.returns-clause-keeps
+returns-clause-keeps g c tells core k first only =
     let d = g.D.Disk in
-    rw c.close.ensures (weaker d.moment d.left_since c.args.disk c.in-Ok.heap.disk (Left d core k c.args.disk c.in-Ok.heap.disk first) (StandsForFirst core k)
-    (c.in-Ok.ensures.moments tells only first.stands.super first.stands.batches first.stands.stored (shaped_image (legal_of first))) (left_first core k (d.bytes c.args.disk) first))
+    let s = first.stands.super in
+    let batches = first.stands.batches in
+    let stored = first.stands.stored in
+    let shaped = shaped_image (legal_of first) in
+    let e = c.in-Ok.ensures in
+    let keeps = keeps_first d core k c.args.disk c.in-Ok.heap.disk first (e.moments tells only s batches stored shaped) (e.moments_readable tells only s batches shaped.log.state (shaped_readable s batches stored (d.bytes c.args.disk) shaped))
+    (e.crash tells only s batches stored shaped) (e.disk.restarts tells) in
+    subst (KeepsFirst d core k c.args.disk) (sym c.close.ensures) keeps
 
 -- the heap that was opened is the core that the image stands for
 pub returns-clause-recovers : goal.returns-clause-recovers
@@ -68,9 +80,13 @@ returns-clause-recovers g c = λ tells core k first only same.
     let few = few_commits s batches stored says.legal in
     let count = commits_are s batches stored says.legal.shaped ∙ says.count in
     let since : commits_since c.args.before (min (commits_of s batches + 0) greatest) ≡ k = since_before c.args.before core (commits_of s batches) k same count first.some few in
-    let moments = subst (λ x. LeavesOnly d.moment d.left_since c.args.disk x (IsLeftByOpening s batches stored)) (sym c.close.ensures) (c.in-Ok.ensures.moments tells only s batches stored (shaped_image legal)) in
-    let leaves = λ (left : List ℕ) (may : d.may_leave final left). c.in-Ok.ensures.crash tells only s batches stored (shaped_image legal) left (subst (λ x. d.may_leave x left) c.close.ensures may) in
-    let keeps = keeps_first d core k c.args.disk final first moments leaves (ap d.restarts c.close.ensures ∙ c.in-Ok.ensures.disk.restarts tells) in
+    let shaped = shaped_image legal in
+    let e = c.in-Ok.ensures in
+    let on = λ (P : List ℕ → Type 0). subst (λ x. LeavesOnly d.moment d.left_since c.args.disk x P) (sym c.close.ensures) in
+    let moments = on (IsLeftByOpening s batches stored) (e.moments tells only s batches stored shaped) in
+    let log = on (IsLogLeft s batches (d.bytes c.args.disk)) (e.moments_readable tells only s batches shaped.log.state (shaped_readable s batches stored (d.bytes c.args.disk) shaped)) in
+    let leaves = λ (left : List ℕ) (may : d.may_leave final left). e.crash tells only s batches stored shaped left (subst (λ x. d.may_leave x left) c.close.ensures may) in
+    let keeps = keeps_first d core k c.args.disk final first moments log leaves (ap d.restarts c.close.ensures ∙ e.disk.restarts tells) in
     let calls : d.passed final ≡ counted (opening_calls s batches) (d.passed c.args.disk) =
     ap d.passed c.close.ensures ∙ (c.in-Ok.ensures.passes tells s batches stored (shaped_image legal)).ok in
     let last = subst (λ x. Only (d.bytes x) (d.may_leave x)) (sym c.close.ensures) (c.in-Ok.ensures.durable tells only) in

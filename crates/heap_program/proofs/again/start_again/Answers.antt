@@ -1,27 +1,31 @@
 use Rattle.std.proofs.Common.{Some, None, refl, ap, ◌∙◌, subst, arith}
 use Rattle.disk_model.proofs.MomentLaws.{weaker}
 use Rattle.heap_recovery.specs.Faults.{IsLeftOf}
+use Rattle.heap_core.specs.Refinement.{IsLeftByStep}
 use Rattle.heap_program.specs.Refusals.{IsFault}
+use Rattle.heap_program.proofs.Behind.{first_leaves}
 use Rattle.heap_program.proofs.RefusalLaws.{left_on, left_word_fault, at_end}
 use Rattle.heap_program.proofs.PlayOpen.{opening_then}
 use Rattle.counts.specs.Count.{raised}
 use Rattle.disk_model.specs.Fuse.{fuse_inner}
 use Rattle.heap_program.specs.Headline.{Restarts}
-use Rattle.heap_program.proofs.PrintRecovered.{recovers_again, recovers_no_memory, restart_keeps, first_keeps, keeps_then}
+use Rattle.heap_program.proofs.PrintRecovered.{recovers_again, recovers_no_memory, restart_keeps, keeps_then}
 use Rattle.heap_program.proofs.Counts.{rose_once, rose_twice}
 use Rattle.heap_program.proofs.RunLaws.{restarts_all}
 use Rattle.heap_program.proofs.again.start_again.Goals as goal
 
 -- a restart leaves one of the images that the crash could leave, and so does the opening behind it
 pub returns-in-None-clause-moments : goal.returns-in-None-clause-moments
-returns-in-None-clause-moments g c tells core leaves =
+returns-in-None-clause-moments g c tells core base leaves =
     let d = g.D.Disk in
     let old = fuse_inner c.args.fuse in
     let first = c.restart-disk.result in
     let final = c.print_recovered.result.1 in
     let started = subst (λ x. Restarts d x first) c.into_inner.ensures (c.restart-disk.ensures.restarts tells) in
     let back = leaves (d.bytes first) started.left in
-    keeps_then d core old first final (restart_keeps d core old first started leaves) (first_keeps d core back.0 first final (c.print_recovered.ensures.moments tells core back.0 back.1 started.only))
+    let P = IsLeftByStep core base in
+    let at = back.commits in
+    keeps_then d P old first final (restart_keeps d P old first started leaves) (first_leaves d core at.0 base first final back.outside (c.print_recovered.ensures.keeps tells core at.0 at.1 started.only))
 
 pub returns-in-None-clause-recovers : goal.returns-in-None-clause-recovers
 returns-in-None-clause-recovers g c tells core leaves same =
@@ -46,7 +50,7 @@ returns-in-None-clause-restarts g c tells =
 
 -- the opening that is cut off leaves the same, and so does the second restart
 pub returns-in-Ok-clause-moments : goal.returns-in-Ok-clause-moments
-returns-in-Ok-clause-moments g c tells core leaves =
+returns-in-Ok-clause-moments g c tells core base leaves =
     let d = g.D.Disk in
     let old = fuse_inner c.args.fuse in
     let first = c.restart-disk.result in
@@ -54,14 +58,18 @@ returns-in-Ok-clause-moments g c tells core leaves =
     let last = c.restart.result in
     let final = c.print_recovered-in-Ok.result.1 in
     let started = subst (λ x. Restarts d x first) c.into_inner.ensures (c.restart-disk.ensures.restarts tells) in
+    let P = IsLeftByStep core base in
     let back = leaves (d.bytes first) started.left in
-    let cut = c.in-Ok.ensures.cut tells core back.0 back.1 started.only in
+    let at = back.commits in
+    let cut = c.in-Ok.ensures.cut tells core at.0 at.1 started.only in
     let second = c.restart.ensures.restarts tells in
+    let opening = first_leaves d core at.0 base first mid back.outside cut.keeps in
+    let behind = at_end d first mid P opening (λ t image le may. g.met.D.Disk.counts_now tells mid t image le may) in
     let here = cut.keeps.still (d.bytes last) second.left in
-    keeps_then d core old first final (restart_keeps d core old first started leaves)
-    (keeps_then d core first mid final (first_keeps d core back.0 first mid cut.keeps.moments)
-    (keeps_then d core mid last final (restart_keeps d core mid last second (λ image may. (back.0, cut.keeps.still image may)))
-    (first_keeps d core back.0 last final (c.print_recovered-in-Ok.ensures.moments tells core back.0 here second.only))))
+    keeps_then d P old first final (restart_keeps d P old first started leaves)
+    (keeps_then d P first mid final opening
+    (keeps_then d P mid last final (restart_keeps d P mid last second behind)
+    (first_leaves d core at.0 base last final (behind (d.bytes last) second.left).outside (c.print_recovered-in-Ok.ensures.keeps tells core at.0 here second.only))))
 
 pub returns-in-Ok-clause-recovers : goal.returns-in-Ok-clause-recovers
 returns-in-Ok-clause-recovers g c tells core leaves same =
@@ -91,15 +99,17 @@ returns-in-Ok-clause-restarts g c tells =
 
 -- memory was refused in the opening that was to be cut off
 pub returns-in-Err-clause-moments : goal.returns-in-Err-clause-moments
-returns-in-Err-clause-moments g c tells core leaves =
+returns-in-Err-clause-moments g c tells core base leaves =
     let d = g.D.Disk in
     let old = fuse_inner c.args.fuse in
     let first = c.restart-disk.result in
     let final = c.in-Err.disk in
     let started = subst (λ x. Restarts d x first) c.into_inner.ensures (c.restart-disk.ensures.restarts tells) in
+    let P = IsLeftByStep core base in
     let back = leaves (d.bytes first) started.left in
-    let fails = c.in-Err.ensures.cut tells core back.0 back.1 started.only in
-    keeps_then d core old first final (restart_keeps d core old first started leaves) (first_keeps d core back.0 first final fails.keeps.moments)
+    let at = back.commits in
+    let fails = c.in-Err.ensures.cut tells core at.0 at.1 started.only in
+    keeps_then d P old first final (restart_keeps d P old first started leaves) (first_leaves d core at.0 base first final back.outside fails.keeps)
 
 pub returns-in-Err-clause-recovers : goal.returns-in-Err-clause-recovers
 returns-in-Err-clause-recovers g c tells core leaves same =

@@ -1,4 +1,4 @@
-use Rattle.std.proofs.Common.{◌≡◌, ◌≢◌, ◌≤◌, ◌<◌, ◌+◌, ℕ, min, inl, inr, true, List, Some, rules, arith, refl, sym, ap, ◌∙◌, subst}
+use Rattle.std.proofs.Common.{◌≡◌, ◌≢◌, ◌≤◌, ◌<◌, ◌+◌, ℕ, min, inl, inr, true, List, [], Some, rules, arith, refl, sym, ap, ◌∙◌, subst}
 use Rattle.counts.specs.Count.{Rose, greatest, counted}
 use Rattle.disk_model.specs.Disk.{Only}
 use Rattle.disk_model.specs.Fuse.{fuse_inner, fuse_passed}
@@ -7,10 +7,11 @@ use Rattle.disk_model.specs.Moments.{LeavesOnly}
 use Rattle.disk_model.proofs.MomentLaws.{begins}
 use Rattle.heap_core.specs.declared.errors.OpenError.TheVariants as opening
 use Rattle.heap_core.specs.Causes.{ErrorPasses, error_device}
-use Rattle.heap_core.specs.Refinement.{IsHeap}
+use Rattle.heap_core.specs.Refinement.{IsHeap, SameBehind, IsLeftByStep}
 use Rattle.heap_core.specs.Refusals as opening_refusals
 use Rattle.heap_model.specs.CoreCrash.{IsCommitPrefix}
 use Rattle.heap_model.proofs.Run.Calls.{same_run}
+use Rattle.heap_model.proofs.Run.Opening.{SameOpening}
 use Rattle.heap_model.specs.CoreRuns.{total_calls}
 use Rattle.heap_model.specs.Image.{IsLegal, Holds}
 use Rattle.heap_model.proofs.Shaped.{shaped_image}
@@ -24,11 +25,13 @@ use Rattle.heap_program.specs.StatusOf.{open_status, halt_status}
 use Rattle.heap_program.specs.Stored.{stored_core, stored_calls}
 use Rattle.script_text.specs.Line.{events}
 use Rattle.heap_program.proofs.PlayEnds.{run_reached, unfailed_only, kept, halt_part, halt_lines, stopped_lines, ends_early, ends_recovered, ends_made, stops_some, exact_some, passes_some, passes_within}
+use Rattle.heap_program.proofs.Behind.{HasImages, opening_behind, played_behind, leaves_both, again_behind, leaves_commits}
 use Rattle.heap_program.proofs.PlayFuse.{same_disk, same_limit, rose_some, fuse_since, fuse_passes, fuse_none, fuse_most, fuse_steps_of}
-use Rattle.heap_program.proofs.PlayOpen.{opening_then, few_calls, stored_running, stored_keeps, stored_moments, ends_unopened, ends_stopped, unstarted, opened_core}
+use Rattle.heap_program.proofs.PlayOpen.{opening_then, few_calls, stored_running, stored_keeps, stored_moments, stored_super, ends_unopened, ends_stopped, unstarted, opened_core}
 use Rattle.heap_program.proofs.PrintRecovered.{whole_count, fails_few, fails_none, no_rollback, stops_before}
 use Rattle.heap_program.proofs.Statuses.{early_none, early_some, halt_end, halt_not_done, open_not_done, open_fault}
 use Rattle.heap_recovery.specs.declared.at.At.TheVariants.{Address}
+use Rattle.heap_recovery.proofs.FaultLaws.{shaped_readable}
 use Rattle.heap_recovery.specs.Faults.{IsNoHeap, IsFaultAt, IsLogLeft, IsLeftOf}
 use Rattle.heap_program.specs.Refusals.{IsFault, IsWordFault, LeavesAlone}
 use Rattle.heap_program.proofs.RefusalLaws.{told_status, told_each, end_told, end_told_each, only_read, refused_by, not_opened, fault_moments, left_moments, at_end}
@@ -61,8 +64,10 @@ returns-in-Err-clause-played g c tells stored only =
     let few : fuse_passed fuse ≤ n = fails_few n (fuse_passed fuse) (few_calls s batches) c.in-Err.e passes in
     let moments = subst (λ x. LeavesOnly d.moment d.left_since x final (IsCommitPrefix (stored_core stored))) inner
     (stored_moments d stored (fuse_inner c.new.result) final (fuse_since c.new.result fuse _ (e.moments tells only_f s batches stored.pages shaped))) in
+    let behind = subst (λ x. LeavesOnly d.moment d.left_since x final (SameBehind (stored_core stored) (d.bytes x))) inner
+    (opening_behind d (stored_core stored) s batches (d.bytes (fuse_inner c.new.result)) (fuse_inner c.new.result) final (stored_super d stored) (fuse_since c.new.result fuse _ (e.moments_readable tells only_f s batches shaped.log.state (shaped_readable s batches stored.pages (d.bytes (fuse_inner c.new.result)) shaped)))) in
     rw c.into_inner.ensures (ends_unopened d stored (Some c.args.stop) (events c.args.script.now) c.in-Err.e c.from.result start final g.K.Sink.tells (g.K.Sink.written c.args.sink.now) c.from.ensures outside
-    moments (λ image left. stored_keeps d stored image (e.crash tells only_f s batches stored.pages shaped image left))
+    moments behind (λ image left. stored_keeps d stored image (e.crash tells only_f s batches stored.pages shaped image left))
     (λ image since. g.met.D.Disk.only_now tells final image since) (e.disk.restarts tells ∙ ap d.restarts inner)
     (λ none. fuse_none fuse start tells began (fails_none n 0 (fuse_passed fuse) c.in-Err.e (ap open_status none) passes))
     (λ some u. u (subst (λ x. Rose (d.faults x + d.stops x) (d.faults final + d.stops final)) inner (open_fault _ _ _ _ c.in-Err.e outside some other e.disk.cause)))
@@ -99,9 +104,15 @@ returns-then-eq-clause-played g c tells stored only =
     let moments = subst (λ x. LeavesOnly d.moment d.left_since x stopped (IsCommitPrefix first)) inner
     (stored_moments d stored (fuse_inner c.new.result) stopped (fuse_since c.new.result fuse _ (e.moments tells only_f s batches stored.pages shaped))) in
     let left : (image : List ℕ) → d.may_leave stopped image → IsCommitPrefix first image = λ image may. stored_keeps d stored image (e.crash tells only_f s batches stored.pages shaped image may) in
+    let behind = subst (λ x. LeavesOnly d.moment d.left_since x stopped (SameBehind first (d.bytes x))) inner
+    (opening_behind d first s batches (d.bytes (fuse_inner c.new.result)) (fuse_inner c.new.result) stopped (stored_super d stored) (fuse_since c.new.result fuse _ (e.moments_readable tells only_f s batches shaped.log.state (shaped_readable s batches stored.pages (d.bytes (fuse_inner c.new.result)) shaped)))) in
+    let images : HasImages d = record { counts = λ disk t image le may. g.met.D.Disk.counts_now tells disk t image le may; now = λ disk image since. g.met.D.Disk.only_now tells disk image since; reads = λ disk. g.met.D.Disk.reads_an_image tells disk } in
+    let base = d.bytes start in
     let back = c.start_again.ensures.recovers tells first left refl in
+    let same : SameOpening first first = same_run first first [] refl in
+    let rest = c.start_again.ensures.moments tells first base (leaves_both d images base first first start stopped same behind left) in
     ends_stopped d stored c.args.stop stopped final back.0 c.start_again.result.0 k.tells (k.written c.args.sink.now) (k.written c.start_again.new.sink) (events c.args.script.now) start moments left
-    (c.start_again.ensures.moments tells first left) (e.disk.restarts tells ∙ ap d.restarts inner) short
+    (leaves_commits d first base stopped final rest) (again_behind d images base first first start stopped final same behind rest) (e.disk.restarts tells ∙ ap d.restarts inner) short
     (fuse_most fuse start c.args.stop.after tells began (omega (arith, blown)))
     (λ u. fuse_passes fuse start c.args.stop.after tells began u blown)
     back.1
@@ -153,7 +164,6 @@ returns-in-None-clause-played g c tells stored only =
     let inside : Unharmed d start stopped → d.passed stopped ≡ counted through (d.passed start) = λ u. fuse_passes new.disk start through tells began u
     (passes_some s first running refl es playable old new k.tells before after c.play_lines-played.result plays c.args.stop.after n few passed within at_limit (unrisen u)) in
     let left : (image : List ℕ) → d.may_leave (fuse_inner c.close.result) image → IsCommitPrefix plays.core image = λ image l. keep image (subst (λ x. d.may_leave (fuse_inner x) image) closed l) in
-    let rest = subst (λ x. LeavesOnly d.moment d.left_since (fuse_inner x) final (IsCommitPrefix plays.core)) closed (c.start_again-in-None.ensures.moments tells plays.core left) in
     let plus : first.before + 0 ≡ first.before = omega arith in
     let back = c.start_again-in-None.ensures.recovers tells plays.core left (c.commits-before.ensures first heap.core ∙ ap (λ (m : ℕ). min m greatest) (plus ∙ sym opening.before)) in
     let k_back = back.0 in
@@ -162,7 +172,8 @@ returns-in-None-clause-played g c tells stored only =
     let recovers = subst (λ x. Recovers plays.core k_back (StartsAgain d again plays.core k_back (Reopens d plays.core k_back) (fuse_inner x) final) (EndsUnopened d again plays.core k_back (fuse_inner x) final by) (d.bytes final) (d.may_leave final) by k.tells after (k.written c.start_again-in-None.new.sink)) closed back.1 in
     let steps = fuse_steps_of c.play_lines-played.ensures.disk (record {
       tells = λ told. told;
-      moments = λ core a b run. fuse_since a b (IsCommitPrefix core) run;
+      moments = λ core left a b run. fuse_since a b (IsLeftByStep core left) run;
+      bytes = λ fuse. refl;
       images = λ fuse image may. may;
       origin = λ a b same. same;
       passed = λ fuse. refl;
@@ -170,6 +181,13 @@ returns-in-None-clause-played g c tells stored only =
       stops = λ fuse. refl;
       restarts = λ fuse. refl;
     }) c.args.stop.after start tells first plays.core old.disk new.disk plays.made began_old (same_limit _ _ (e.disk.origin ∙ c.new.ensures.origin)) plays.steps in
+    let behind = subst (λ x. LeavesOnly d.moment d.left_since x (fuse_inner old.disk) (SameBehind first (d.bytes x))) inner
+    (opening_behind d first s batches (d.bytes (fuse_inner c.new.result)) (fuse_inner c.new.result) (fuse_inner old.disk) (stored_super d stored) (fuse_since c.new.result old.disk _ (e.moments_readable tells only_f s batches shaped.log.state (shaped_readable s batches stored.pages (d.bytes (fuse_inner c.new.result)) shaped)))) in
+    let images : HasImages d = record { counts = λ disk t image le may. g.met.D.Disk.counts_now tells disk t image le may; now = λ disk image since. g.met.D.Disk.only_now tells disk image since; reads = λ disk. g.met.D.Disk.reads_an_image tells disk } in
+    let base = d.bytes start in
+    let played = played_behind d images base (Some c.args.stop.after) start first plays.core start (fuse_inner old.disk) stopped plays.made behind steps in
+    let bytes_left = λ (image : List ℕ) (l : d.may_leave (fuse_inner c.close.result) image). leaves_both d images base first plays.core start stopped opening played keep image (subst (λ x. d.may_leave (fuse_inner x) image) closed l) in
+    let rest = subst (λ x. LeavesOnly d.moment d.left_since (fuse_inner x) final (IsLeftByStep plays.core base)) closed (c.start_again-in-None.ensures.moments tells plays.core base bytes_left) in
     let keeps : KeepsThroughout d (Some c.args.stop.after) n first plays.made plays.core start final = record {
       opened = fuse_inner old.disk;
       opening = subst (λ x. LeavesOnly d.moment d.left_since x (fuse_inner old.disk) (IsCommitPrefix first)) inner
@@ -180,8 +198,9 @@ returns-in-None-clause-played g c tells stored only =
       restarts = e.disk.restarts tells ∙ ap d.restarts inner;
       stopped = stopped;
       steps = steps;
-      rest = rest;
+      rest = leaves_commits d plays.core base stopped final rest;
       kept = λ image may. (k_back, recovers.kept image may);
+      outside = again_behind d images base first plays.core start stopped final opening played rest;
     } in
     ends_recovered s first running refl es playable old new k.tells before after c.play_lines-played.result plays d start final c.args.stop n keeps inside most k_back by (k.written c.start_again-in-None.new.sink)
     (stopped_lines s first running refl es playable old new k.tells before after c.play_lines-played.result plays ended) recovers (ends_made s first running refl es playable old new k.tells before after c.play_lines-played.result plays c.args.stop.after ended) exact
@@ -232,7 +251,8 @@ returns-in-Some-clause-played g c tells stored only =
     (passes_some s first running refl es playable old new k.tells before after c.play_lines-played.result plays c.args.stop.after n few passed within at_limit (unrisen u)) in
     let steps = fuse_steps_of c.play_lines-played.ensures.disk (record {
       tells = λ told. told;
-      moments = λ core a b run. fuse_since a b (IsCommitPrefix core) run;
+      moments = λ core left a b run. fuse_since a b (IsLeftByStep core left) run;
+      bytes = λ fuse. refl;
       images = λ fuse image may. may;
       origin = λ a b same. same;
       passed = λ fuse. refl;
@@ -240,6 +260,10 @@ returns-in-Some-clause-played g c tells stored only =
       stops = λ fuse. refl;
       restarts = λ fuse. refl;
     }) c.args.stop.after start tells first plays.core old.disk new.disk plays.made began_old (same_limit _ _ (e.disk.origin ∙ c.new.ensures.origin)) plays.steps in
+    let behind = subst (λ x. LeavesOnly d.moment d.left_since x (fuse_inner old.disk) (SameBehind first (d.bytes x))) inner
+    (opening_behind d first s batches (d.bytes (fuse_inner c.new.result)) (fuse_inner c.new.result) (fuse_inner old.disk) (stored_super d stored) (fuse_since c.new.result old.disk _ (e.moments_readable tells only_f s batches shaped.log.state (shaped_readable s batches stored.pages (d.bytes (fuse_inner c.new.result)) shaped)))) in
+    let images : HasImages d = record { counts = λ disk t image le may. g.met.D.Disk.counts_now tells disk t image le may; now = λ disk image since. g.met.D.Disk.only_now tells disk image since; reads = λ disk. g.met.D.Disk.reads_an_image tells disk } in
+    let base = d.bytes start in
     let keeps : KeepsThroughout d (Some c.args.stop.after) n first plays.made plays.core start final = record {
       opened = fuse_inner old.disk;
       opening = subst (λ x. LeavesOnly d.moment d.left_since x (fuse_inner old.disk) (IsCommitPrefix first)) inner
@@ -252,6 +276,7 @@ returns-in-Some-clause-played g c tells stored only =
       steps = steps;
       rest = begins d.moment d.left_since final (IsCommitPrefix plays.core) (λ image since. keep image (g.met.D.Disk.only_now tells final image since));
       kept = keep;
+      outside = played_behind d images base (Some c.args.stop.after) start first plays.core start (fuse_inner old.disk) final plays.made behind steps;
     } in
     let part = halt_part s first running refl es playable old new k.tells before after c.play_lines-played.result plays halted.0 halted.1 in
     let closed = c.into_inner-in-Some.ensures ∙ ap fuse_inner c.close-in-Some.ensures in

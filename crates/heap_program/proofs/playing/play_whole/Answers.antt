@@ -13,9 +13,11 @@ use Rattle.heap_program.proofs.Causes.{disk_rose_since}
 use Rattle.gate_slot.proofs.PassingLaws.{counted-add}
 use Rattle.heap_program.proofs.Counts.{counted_mono}
 use Rattle.heap_program.proofs.PlayEnds.{run_reached, unfailed_only, lines_wrote, halt_part, halt_lines, keeps_own, ends_early, ends_whole, exact_none, exact_passes, passes_most}
-use Rattle.heap_program.proofs.PlayOpen.{stored_running, stored_keeps, stored_moments, ends_unopened, opened_core, played_unfailed}
+use Rattle.heap_program.proofs.PlayOpen.{stored_running, stored_keeps, stored_moments, stored_super, ends_unopened, opened_core, played_unfailed}
+use Rattle.heap_program.proofs.Behind.{HasImages, opening_behind}
 use Rattle.heap_program.proofs.PrintRecovered.{fails_most, fails_none}
 use Rattle.heap_recovery.specs.declared.at.At.TheVariants.{Address}
+use Rattle.heap_recovery.proofs.FaultLaws.{shaped_readable}
 use Rattle.heap_program.proofs.RefusalLaws.{told_status, told_each, end_told, end_told_each, refused_by, not_opened, only_read, alone_read, fault_moments, left_moments}
 use Rattle.heap_program.proofs.Statuses.{written_end, halt_end, halt_not_done, open_not_done, open_harm}
 use Rattle.heap_program.proofs.PlayPrints.{reached, prints_early, prints_whole}
@@ -35,6 +37,8 @@ returns-in-Err-clause-played g c tells stored only =
     let total = counted_mono few.0 (stored_calls stored + 0) (d.passed c.args.disk) (omega (arith, few.1)) in
     ends_unopened d stored None (all_events None (stored_core stored) (events c.args.script.now)) c.in-Err.e c.from.result c.args.disk c.in-Err.disk g.K.Sink.tells (g.K.Sink.written c.args.sink.now) c.from.ensures outside
     (stored_moments d stored c.args.disk c.in-Err.disk (e.moments tells only stored.super stored.batches stored.pages shaped))
+    (opening_behind d (stored_core stored) stored.super stored.batches (d.bytes c.args.disk) c.args.disk c.in-Err.disk (stored_super d stored)
+    (e.moments_readable tells only stored.super stored.batches shaped.log.state (shaped_readable stored.super stored.batches stored.pages (d.bytes c.args.disk) shaped)))
     (λ image left. stored_keeps d stored image (e.crash tells only stored.super stored.batches stored.pages shaped image left))
     (λ image since. g.met.D.Disk.only_now tells c.in-Err.disk image since) (e.disk.restarts tells)
     (λ none. fails_none (stored_calls stored) (d.passed c.args.disk) (d.passed c.in-Err.disk) c.in-Err.e (ap open_status none) passes)
@@ -61,8 +65,11 @@ returns-in-Ok-play_all-clause-played g c tells stored only =
     let plays = c.in-Ok-play_all.ensures.plays tells s first (e.holds tells s stored.batches stored.pages stored.legal only stored.places stored.graph stored.found) running in
     let whole = plays.ends in
     let passed : d.passed old.disk ≡ counted n (d.passed c.args.disk) = (e.passes tells s stored.batches stored.pages shaped).ok in
-    let keeps = keeps_own s first running refl es playable old new k.tells before after (Ok tt) plays tells n c.args.disk (λ disk image since. g.met.D.Disk.only_now tells disk image since)
-    (stored_moments d stored c.args.disk old.disk (e.moments tells only s stored.batches stored.pages shaped)) (λ image left. stored_keeps d stored image (e.crash tells only s stored.batches stored.pages shaped image left)) passed (e.disk.restarts tells) in
+    let images : HasImages d = record { counts = λ disk t image le may. g.met.D.Disk.counts_now tells disk t image le may; now = λ disk image since. g.met.D.Disk.only_now tells disk image since; reads = λ disk. g.met.D.Disk.reads_an_image tells disk } in
+    let keeps = keeps_own s first running refl es playable old new k.tells before after (Ok tt) plays tells n c.args.disk images
+    (stored_moments d stored c.args.disk old.disk (e.moments tells only s stored.batches stored.pages shaped))
+    (opening_behind d first s stored.batches (d.bytes c.args.disk) c.args.disk old.disk (stored_super d stored) (e.moments_readable tells only s stored.batches shaped.log.state (shaped_readable s stored.batches stored.pages (d.bytes c.args.disk) shaped)))
+    (λ image left. stored_keeps d stored image (e.crash tells only s stored.batches stored.pages shaped image left)) passed (e.disk.restarts tells) in
     let all = total_calls first plays.made in
     let calls : d.passed new.disk ≡ counted (n + all) (d.passed c.args.disk) = whole.1.passes ∙ ap (counted all) passed ∙ counted-add all n (d.passed c.args.disk) in
     rw (c.close.ensures, c.status_after-status.ensures) (ends_whole s first running refl es playable old new k.tells before after (Ok tt) plays d c.args.disk new.disk n keeps
@@ -92,8 +99,11 @@ returns-in-Err-play_all-clause-played g c tells stored only =
     u (disk_rose_since _ _ _ _ _ _ e.disk.cause.faults_kept e.disk.cause.stops_kept c.play_all.ensures.disk.cause.faults_kept c.play_all.ensures.disk.cause.stops_kept rose) in
     let plays = c.in-Err-play_all.ensures.plays tells s first (e.holds tells s stored.batches stored.pages stored.legal only stored.places stored.graph stored.found) running in
     let passed : d.passed old.disk ≡ counted n (d.passed c.args.disk) = (e.passes tells s stored.batches stored.pages shaped).ok in
-    let keeps = keeps_own s first running refl es playable old new k.tells before after (Err h) plays tells n c.args.disk (λ disk image since. g.met.D.Disk.only_now tells disk image since)
-    (stored_moments d stored c.args.disk old.disk (e.moments tells only s stored.batches stored.pages shaped)) (λ image left. stored_keeps d stored image (e.crash tells only s stored.batches stored.pages shaped image left)) passed (e.disk.restarts tells) in
+    let images : HasImages d = record { counts = λ disk t image le may. g.met.D.Disk.counts_now tells disk t image le may; now = λ disk image since. g.met.D.Disk.only_now tells disk image since; reads = λ disk. g.met.D.Disk.reads_an_image tells disk } in
+    let keeps = keeps_own s first running refl es playable old new k.tells before after (Err h) plays tells n c.args.disk images
+    (stored_moments d stored c.args.disk old.disk (e.moments tells only s stored.batches stored.pages shaped))
+    (opening_behind d first s stored.batches (d.bytes c.args.disk) c.args.disk old.disk (stored_super d stored) (e.moments_readable tells only s stored.batches shaped.log.state (shaped_readable s stored.batches stored.pages (d.bytes c.args.disk) shaped)))
+    (λ image left. stored_keeps d stored image (e.crash tells only s stored.batches stored.pages shaped image left)) passed (e.disk.restarts tells) in
     let all = total_calls first plays.made in
     let sum = counted-add all n (d.passed c.args.disk) in
     let whole = λ (u : Unharmed d c.args.disk new.disk). exact_passes s first running refl es playable old new k.tells before after (Err h) plays (unharmed u) ∙ ap (counted all) passed ∙ sum in

@@ -9,14 +9,13 @@ use Rattle.graph_model.specs.declared.reply.Reply.{Reply}
 use Rattle.graph_model.specs.declared.reply.Reply.TheVariants.{Refused}
 use Rattle.heap_model.specs.Core.{Core, calls}
 use Rattle.heap_model.proofs.Run.Calls.{same_step}
-use Rattle.heap_model.specs.CoreCrash.{IsCommitPrefix}
 use Rattle.memory_laws.proofs.Kept.Log.{some_waits}
-use Rattle.heap_core.proofs.CrashLaws.{heap_keeps}
+use Rattle.heap_core.proofs.CrashLaws.{heap_left}
 use Rattle.heap_core.specs.HeapState.{entry_of}
 use Rattle.heap_core.proofs.StepCore.{remembers, whole_steps, cut_steps, failed_steps, with_history, whole_on, cut_on, failed_on, failed_passes}
 use Rattle.heap_engine.specs.declared.step_error.StepError.{StepError}
 use Rattle.heap_engine.specs.declared.step_error.StepError.TheVariants.{NoMemory, Disk}
-use Rattle.heap_engine.specs.Refinement.{CameTo}
+use Rattle.heap_engine.specs.Refinement.{IsLeftByStep, CameTo}
 use Rattle.heap_engine.specs.StepResult.{engine_device, StepPasses}
 use Rattle.heap_engine.proofs.DeviceCalls.{stays}
 use Rattle.heap_core.proofs.heap.Heap.step.Goals as goal
@@ -25,7 +24,7 @@ pub returns-in_err-reserve-clause-moments : goal.returns-in_err-reserve-clause-m
 returns-in_err-reserve-clause-moments g c tells s core heap reached =
     let d = g.D.Disk in
     let disk = c.args.self.now.disk in
-    stays d.moment d.left_since disk (d.may_leave disk) (IsCommitPrefix core) (g.met.D.Disk.only_now tells disk) (heap_keeps s core _ _ heap.disk reached.sound)
+    stays d.moment d.left_since disk (d.may_leave disk) (IsLeftByStep core (d.bytes disk)) (g.met.D.Disk.only_now tells disk) (heap_left s core _ _ heap.disk reached.sound)
 
 -- The heap had failed.
 
@@ -64,7 +63,7 @@ pub returns-in-Some-clause-moments : goal.returns-in-Some-clause-moments
 returns-in-Some-clause-moments g c tells s core heap reached =
     let d = g.D.Disk in
     let disk = c.args.self.now.disk in
-    stays d.moment d.left_since disk (d.may_leave disk) (IsCommitPrefix core) (g.met.D.Disk.only_now tells disk) (heap_keeps s core _ _ heap.disk reached.sound)
+    stays d.moment d.left_since disk (d.may_leave disk) (IsLeftByStep core (d.bytes disk)) (g.met.D.Disk.only_now tells disk) (heap_left s core _ _ heap.disk reached.sound)
 
 pub returns-in-Some-clause-passes : goal.returns-in-Some-clause-passes
 returns-in-Some-clause-passes g c tells core heap reached =
@@ -193,8 +192,8 @@ returns-in-Err-Disk-clause-holds g c tells s core heap reached =
         };
         disk =
             let run = (c.step_on.ensures.holds tells).moments s core engine reached (heap.disk.unfailed engine.unfailed) in
-            cut_on s core c.args.event c.cut_short.result _ _ (length c.entries.result.now + 1) heap.disk.born cut.some c.cut_short.ensures.told steps.memory.failure
-            (λ image left. run.each image (g.met.D.Disk.counts_now tells c.step_on.new.disk _ image run.later left));
+            cut_on s core c.args.event c.cut_short.result _ _ _ (length c.entries.result.now + 1) heap.disk.born cut.some c.cut_short.ensures.told steps.memory.failure
+            (g.met.D.Disk.reads_an_image tells c.step_on.new.disk) (λ image left. run.each image (g.met.D.Disk.counts_now tells c.step_on.new.disk _ image run.later left));
       },
     )
 

@@ -6,10 +6,10 @@ use Rattle.gate_slot.specs.Passing.{Passes}
 use Rattle.gated_log.specs.Log.{HoldsBatches}
 use Rattle.gated_log.specs.LogState.{log_place, log_room, Keeps}
 use Rattle.heap_model.specs.Core.{forced_if, flush_calls}
-use Rattle.heap_model.specs.CoreCrash.{IsCommitPrefix}
 use Rattle.page_redo.specs.Pages.{Pages}
-use Rattle.heap_engine.proofs.ForceCore.{force_keeps}
-use Rattle.heap_engine.proofs.StoreCore.{when_ok, its, same_log, log_held, ahead_is, not_ahead, flushed_memory, knows_mid, flushed_knows, store_keeps, flushed_on, cut_passes, flush_passes}
+use Rattle.heap_engine.specs.Refinement.{IsLeftByStep}
+use Rattle.heap_engine.proofs.ForceCore.{force_leaves}
+use Rattle.heap_engine.proofs.StoreCore.{when_ok, its, same_log, log_held, ahead_is, not_ahead, flushed_memory, knows_mid, flushed_knows, store_leaves, flushed_on, cut_passes, flush_passes}
 use Rattle.heap_engine.proofs.engine.Engine.store.Goals as goal
 
 pub returns-in_err-force_up_to-clause-moments : goal.returns-in_err-force_up_to-clause-moments
@@ -17,9 +17,9 @@ returns-in_err-force_up_to-clause-moments g c tells s core works pages disk soun
     let d = g.D.Disk in
     let w = c.args.self.now in
     let log = w.log in
-    weaker d.moment d.left_since c.args.disk.now c.force_up_to.new.disk _ (IsCommitPrefix core)
+    weaker d.moment d.left_since c.args.disk.now c.force_up_to.new.disk _ (IsLeftByStep core (d.bytes c.args.disk.now))
     (c.force_up_to.ensures.moments tells disk.only core works.log (log_held s core w _ _ works disk))
-    (λ image. force_keeps core w log works (same_log log) s _ _ disk image sound)
+    (λ image. force_leaves core w log works (same_log log) s _ _ disk image sound)
 
 pub returns-clause-memory : goal.returns-clause-memory
 returns-clause-memory g c core works =
@@ -75,12 +75,12 @@ returns-clause-moments g c tells s core works pages disk sound =
     let keeps = subst (λ (b : Bool). Keeps log (forced_if b core).batches (forced_if b core).pending) ahead (c.in_ok-force_up_to.ensures.kept core works.log) in
     let stands = subst (λ (b : Bool). HoldsBatches (part mid (log_place w.log) (log_room w.log)) (forced_if b core).batches) ahead (c.in_ok-force_up_to.ensures.held tells core works.log held) in
     let behind = not_ahead core w p works c.requires.page log c.lsn.result c.lsn.ensures.value c.in_ok-force_up_to.ensures.forced keeps in
-    let first = weaker d.moment d.left_since c.args.disk.now c.force_up_to.new.disk _ (IsCommitPrefix core) (c.force_up_to.ensures.moments tells disk.only core works.log held)
-    (λ image. force_keeps core w w.log works (same_log w.log) s _ _ disk image sound) in
-    let second = weaker d.moment d.left_since c.force_up_to.new.disk c.flush.new.disk _ (IsCommitPrefix core) (c.flush.ensures.moments tells knows (c.in_ok-force_up_to.ensures.durable tells disk.only))
-    (λ image. store_keeps core w p works c.requires.page s old mid _ disk outside stands behind image sound) in
-    weaker d.moment d.left_since c.args.disk.now c.flush.new.disk _ (IsCommitPrefix core)
-    (joined d.moment d.left_since c.args.disk.now c.force_up_to.new.disk c.flush.new.disk (IsCommitPrefix core) (IsCommitPrefix core) first second)
+    let first = weaker d.moment d.left_since c.args.disk.now c.force_up_to.new.disk _ (IsLeftByStep core (d.bytes c.args.disk.now)) (c.force_up_to.ensures.moments tells disk.only core works.log held)
+    (λ image. force_leaves core w w.log works (same_log w.log) s _ _ disk image sound) in
+    let second = weaker d.moment d.left_since c.force_up_to.new.disk c.flush.new.disk _ (IsLeftByStep core (d.bytes c.args.disk.now)) (c.flush.ensures.moments tells knows (c.in_ok-force_up_to.ensures.durable tells disk.only))
+    (λ image. store_leaves core w p works c.requires.page s old mid _ disk outside stands behind image sound) in
+    weaker d.moment d.left_since c.args.disk.now c.flush.new.disk _ (IsLeftByStep core (d.bytes c.args.disk.now))
+    (joined d.moment d.left_since c.args.disk.now c.force_up_to.new.disk c.flush.new.disk (IsLeftByStep core (d.bytes c.args.disk.now)) (IsLeftByStep core (d.bytes c.args.disk.now)) first second)
     (λ image either. ⊎_elim (λ left. left) (λ left. left) either)
 
 pub returns-in_err-force_up_to-clause-passes : goal.returns-in_err-force_up_to-clause-passes
