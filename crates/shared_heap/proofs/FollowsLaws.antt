@@ -1,0 +1,156 @@
+-- What a heap becomes by one event more.
+use Rattle.std.proofs.Common.{◌≡◌, ℕ, List, [], ◌∷◌, ◌++◌, Result, Ok, Err, sym, refl, ap, ◌∙◌, subst, arith, append_assoc, append-nil}
+use Rattle.std.proofs.lemmas.List.{map-append}
+use Rattle.std.specs.Prelude.{IsTrue, MatchResult, IfOk, OnErr}
+use Rattle.std.specs.List.{AllByRecursion}
+use Rattle.std.specs.declared.alloc.AllocError.{AllocError}
+use Rattle.disk_model.specs.declared.disk.Disk.{Ghosts}
+use Rattle.disk_model.specs.declared.disk.DiskError.{DiskError}
+use Rattle.disk_model.specs.Disk.{HasCause}
+use Rattle.disk_model.specs.Keeps.{KeepsDisk}
+use Rattle.disk_model.specs.Moments.{LeavesOnly}
+use Rattle.disk_model.proofs.KeepsLaws.{rose_until, keeps_none, keeps_ok, keeps_on, cause_last}
+use Rattle.gate_slot.specs.Passing.{Passes}
+use Rattle.graph_model.specs.declared.event.Event.{Event}
+use Rattle.graph_model.specs.declared.reply.Entry.{Entry}
+use Rattle.graph_model.specs.declared.reply.Reply.{Reply}
+use Rattle.graph_model.specs.History.{IsOfSession}
+use Rattle.image_plan.specs.declared.superblock.Super.{Super}
+use Rattle.heap_core.specs.declared.heap.Heap.{Heap}
+use Rattle.heap_core.specs.Causes.{reply_device, step_device}
+use Rattle.heap_core.specs.HeapState.{heap_disk, history_of}
+use Rattle.heap_core.specs.Refinement.{DiskHolds, IsCore, IsHeap}
+use Rattle.heap_core.specs.Steps.{HeapStep, AreSteps}
+use Rattle.heap_core.proofs.StepsLaws.{one_steps, steps_append, heap_leaves}
+use Rattle.heap_model.specs.Core.{Core, IsStep, IsRun, calls}
+use Rattle.heap_model.specs.CoreCrash.{IsCommitPrefix}
+use Rattle.heap_model.proofs.Step.Calls.{run_step}
+use Rattle.core_laws.proofs.Run.Events.{run_reached}
+use Rattle.core_laws.specs.Valid.{IsReached}
+use Rattle.shared_heap.proofs.Lists.{all_last, all_weaker}
+use Rattle.shared_heap.specs.Follows.{events_of, Reaches, ReachesOn, IsCaused, Follows}
+use Rattle.shared_heap.specs.Shared.{Told}
+
+module _ {D : Type 0} (g : Ghosts D) where
+  -- steps on a disk are a run of the core
+  steps_run : (c d : Core) (old new : D) (events : List Event) → AreSteps (HeapStep g) c old events d new → IsRun c events d
+  steps_run c d old new [] steps = steps.0
+  steps_run c d old new (event ∷ events) steps = (steps.2.reply, steps.0, steps.2.step, steps_run steps.0 d steps.1 new events steps.3)
+
+module _ {D : Type 0} {g : Ghosts D} where
+  -- the counts of a disk that goes on
+  later : (first old new : Heap D g) → KeepsDisk {T = Unit {0}} g (heap_disk old) (heap_disk new) (Ok tt) → (entry : Entry) → IsCaused first old entry → IsCaused first new entry
+  later first old new kept entry cause = record {
+    faults_kept = omega (arith, cause.faults_kept, kept.cause.faults_kept);
+    stops_kept = omega (arith, cause.stops_kept, kept.cause.stops_kept);
+    failed = λ is. rose_until _ _ _ kept.cause.faults_kept (cause.failed is);
+    stopped = λ is. rose_until _ _ _ kept.cause.stops_kept (cause.stopped is);
+  }
+
+  -- Nothing has happened.
+  pub follows_itself : (heap : Heap D g) → Follows heap heap
+  follows_itself heap = record {
+    since = [];
+    history = sym (append-nil (history_of heap));
+    sessions = tt;
+    disk = keeps_none g (heap_disk heap) tt;
+    causes = tt;
+    core = λ c is reached. record { core = c; run = refl; is = is };
+    holds = λ tells s c is reached. record { core = c; steps = (refl, refl); is = is };
+  }
+
+  module _ (first old new : Heap D g) (event : Event) (session : IsOfSession event) (reply : Reply) (more : history_of new ≡ history_of old ++ record { event = event; reply = reply } ∷ [])
+      (kept : KeepsDisk g (heap_disk old) (heap_disk new) (reply_device reply))
+      (next : (c : Core) → IsCore c old → IsReached c → (d : Core) × IsStep c event reply d × IsCore d new)
+      (holds : IsTrue g.tells → (s : Super) (c : Core) → IsHeap s c old → IsReached c → (d : Core) × IsStep c event reply d × IsHeap s d new)
+      (moments : IsTrue g.tells → (s : Super) (c : Core) → IsHeap s c old → IsReached c → LeavesOnly g.moment g.left_since (heap_disk old) (heap_disk new) (IsCommitPrefix c))
+      (passes : IsTrue g.tells → (c : Core) → IsCore c old → IsReached c → Passes (calls c event) (g.passed (heap_disk old)) (g.passed (heap_disk new)) (reply_device reply))
+      (f : Follows first old) where
+    abbrev entry : Entry
+    entry = record { event = event; reply = reply }
+
+    abbrev all : List Entry
+    all = f.since ++ entry ∷ []
+
+    all_events : events_of all ≡ events_of f.since ++ event ∷ []
+    all_events = map-append (λ (e : Entry). e.event) f.since (entry ∷ [])
+
+    reaches : (c : Core) → IsCore c first → IsReached c → Reaches c all (λ d. IsCore d new)
+    reaches c is reached =
+        let r = f.core c is reached in
+        let n = next r.core r.is (run_reached c r.core (events_of f.since) reached f.sessions r.run) in
+        record { core = n.0; run = subst (λ l. IsRun c l n.0) (sym all_events) (run_step c r.core n.0 (events_of f.since) event reply r.run n.1); is = n.2 }
+
+    reaches_on : IsTrue g.tells → (s : Super) (c : Core) → IsHeap s c first → IsReached c → ReachesOn s c all first new
+    reaches_on tells s c is reached =
+        let r = f.holds tells s c is reached in
+        let at = run_reached c r.core (events_of f.since) reached f.sessions (steps_run g c r.core (heap_disk first) (heap_disk old) (events_of f.since) r.steps) in
+        let n = holds tells s r.core r.is at in
+        let last = one_steps s r.core n.0 event reply old new at session n.1 kept (passes tells r.core r.is.core at) (moments tells s r.core r.is at) n.2 in
+        record {
+          core = n.0;
+          steps = subst (λ l. AreSteps (HeapStep g) c (heap_disk first) l n.0 (heap_disk new)) (sym all_events)
+              (steps_append (HeapStep g) c r.core n.0 (heap_disk first) (heap_disk old) (heap_disk new) (events_of f.since) (event ∷ []) r.steps last);
+          is = n.2;
+        }
+
+    -- One event more.
+    pub follows_step : Follows first new
+    follows_step =
+        let same = keeps_ok g (heap_disk old) (heap_disk new) (reply_device reply) tt kept in
+        let device : Result (Unit {0}) DiskError = Ok tt in
+        record {
+          since = all;
+          history = more ∙ ap (λ (l : List Entry). l ++ entry ∷ []) f.history ∙ append_assoc (history_of first) f.since (entry ∷ []);
+          sessions = subst (AllByRecursion IsOfSession) (sym all_events) (all_last IsOfSession (events_of f.since) event f.sessions session);
+          disk = keeps_on g (heap_disk first) (heap_disk old) (heap_disk new) device device f.disk same;
+          causes = all_last (IsCaused first new) f.since entry (all_weaker (IsCaused first old) (IsCaused first new) (later first old new same) f.since f.causes)
+              (cause_last _ _ _ _ _ _ device (reply_device reply) f.disk.cause kept.cause);
+          core = reaches;
+          holds = reaches_on;
+        }
+
+  -- An event to which memory was refused.
+  pub follows_still : (first old new : Heap D g) → history_of new ≡ history_of old → heap_disk new ≡ heap_disk old → ((c : Core) → IsCore c old → IsCore c new) → Follows first old → Follows first new
+  follows_still first old new same still kept f = record {
+    since = f.since;
+    history = same ∙ f.history;
+    sessions = f.sessions;
+    disk = subst (λ (disk : D). KeepsDisk {T = Unit {0}} g (heap_disk first) disk (Ok tt)) (sym still) f.disk;
+    causes = all_weaker (IsCaused first old) (IsCaused first new)
+        (λ entry cause. subst (λ (disk : D). HasCause (g.faults (heap_disk first)) (g.faults disk) (g.stops (heap_disk first)) (g.stops disk) (reply_device entry.reply)) (sym still) cause) f.since f.causes;
+    core = λ c is reached. let r = f.core c is reached in record { core = r.core; run = r.run; is = kept r.core r.is };
+    holds = λ tells s c is reached.
+        let r = f.holds tells s c is reached in
+        record {
+          core = r.core;
+          steps = subst (λ (disk : D). AreSteps (HeapStep g) c (heap_disk first) (events_of f.since) r.core disk) (sym still) r.steps;
+          is = record { core = kept r.core r.is.core; disk = subst (λ (disk : D). DiskHolds s r.core (g.bytes disk) (g.may_leave disk)) (sym still) r.is.disk };
+        };
+  }
+
+  -- Whatever the event was answered.
+  pub follows_on : (first old new : Heap D g) (event : Event) → IsOfSession event → (result : Result Reply AllocError)
+      → KeepsDisk g (heap_disk old) (heap_disk new) (step_device result)
+      → MatchResult result (λ reply. history_of new ≡ history_of old ++ record { event = event; reply = reply } ∷ []) (λ _. history_of new ≡ history_of old)
+      → ((c : Core) → IsCore c old → IsReached c → IfOk result (λ reply. (d : Core) × IsStep c event reply d × IsCore d new))
+      → ((c : Core) → IsCore c old → OnErr result (IsCore c new))
+      → OnErr result (heap_disk new ≡ heap_disk old)
+      → (IsTrue g.tells → (s : Super) (c : Core) → IsHeap s c old → IsReached c → IfOk result (λ reply. (d : Core) × IsStep c event reply d × IsHeap s d new))
+      → (IsTrue g.tells → (s : Super) (c : Core) → IsHeap s c old → IsReached c → LeavesOnly g.moment g.left_since (heap_disk old) (heap_disk new) (IsCommitPrefix c))
+      → (IsTrue g.tells → (c : Core) → IsCore c old → IsReached c → IfOk result (λ reply. Passes (calls c event) (g.passed (heap_disk old)) (g.passed (heap_disk new)) (reply_device reply)))
+      → Follows first old → Follows first new
+  follows_on first old new event session (Ok reply) kept recorded core same untouched holds moments passes f = follows_step first old new event session reply recorded kept core holds moments passes f
+  follows_on first old new event session (Err e) kept recorded core same untouched holds moments passes f = follows_still first old new recorded untouched same f
+
+  -- What was seen of its history is a run.
+  pub follows_told : (first now : Heap D g) (seen : List Entry) → seen ≡ history_of now → Follows first now → Told first seen
+  follows_told first now seen same f c is reached = let r = f.core c is reached in (f.since, r.core, same ∙ f.history, r.run, sym r.is.history ∙ sym same)
+
+  -- What it has become goes on as a core that was reached, and a crash leaves first commits of it.
+  pub follows_keeps : (first now : Heap D g) → Follows first now → IsTrue g.tells → (s : Super) (c : Core) → IsHeap s c first → IsReached c
+      → (d : Core) × IsHeap s d now × IsReached d × ((image : List ℕ) → g.may_leave (heap_disk now) image → IsCommitPrefix d image)
+  follows_keeps first now f tells s c is reached =
+      let r = f.holds tells s c is reached in
+      let at = run_reached c r.core (events_of f.since) reached f.sessions (steps_run g c r.core (heap_disk first) (heap_disk now) (events_of f.since) r.steps) in
+      (r.core, r.is, at, heap_leaves s r.core now r.is at)

@@ -1,0 +1,5 @@
+pub mod FollowsLaws
+pub mod FrontLaws
+mod CallLaws
+mod CloseLaws
+mod Lists

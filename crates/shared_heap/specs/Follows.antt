@@ -1,0 +1,55 @@
+-- What a heap may become by events, one after another.
+use Rattle.std.specs.Prelude.{◌≡◌, IsTrue, ℕ, List, ◌++◌, map, Ok}
+use Rattle.std.specs.List.{AllByRecursion}
+use Rattle.disk_model.specs.declared.disk.Disk.{Ghosts}
+use Rattle.disk_model.specs.Disk.{HasCause}
+use Rattle.disk_model.specs.Keeps.{KeepsDisk}
+use Rattle.graph_model.specs.declared.event.Event.{Event}
+use Rattle.graph_model.specs.declared.reply.Entry.{Entry}
+use Rattle.graph_model.specs.declared.reply.Reply.{Reply}
+use Rattle.graph_model.specs.declared.reply.Reply.TheVariants.{Durable}
+use Rattle.graph_model.specs.History.{IsOfSession}
+use Rattle.image_plan.specs.declared.superblock.Super.{Super}
+use Rattle.heap_core.specs.declared.heap.Heap.{Heap}
+use Rattle.heap_core.specs.Causes.{reply_device}
+use Rattle.heap_core.specs.HeapState.{heap_disk, history_of}
+use Rattle.heap_core.specs.Refinement.{IsCore, IsHeap}
+use Rattle.heap_core.specs.Steps.{HeapStep, AreSteps}
+use Rattle.heap_model.specs.Core.{Core, IsRun}
+use Rattle.core_laws.specs.Valid.{IsReached}
+
+-- how many commits a reply acknowledges, 0 where it acknowledges none
+abbrev pub acknowledges : Reply → ℕ
+acknowledges (Durable n) = n
+acknowledges reply = 0
+
+-- the events of entries
+abbrev pub events_of : List Entry → List Event
+events_of entries = map (λ (entry : Entry). entry.event) entries
+
+-- On any disk: what a core becomes by the events of these entries, and that it is so now.
+pub record Reaches (c : Core) (since : List Entry) (is_now : Core → Type 0) : Type 0 where
+  pub core : Core
+  pub run : IsRun c (events_of since) core
+  pub is : is_now core
+
+module _ {D : Type 0} {g : Ghosts D} where
+  -- On a disk that tells: likewise, and each step says what it left on the disk, and what a crash left at each moment of it.
+  pub record ReachesOn (s : Super) (c : Core) (since : List Entry) (first now : Heap D g) : Type 0 where
+    pub core : Core
+    pub steps : AreSteps (HeapStep g) c (heap_disk first) (events_of since) core (heap_disk now)
+    pub is : IsHeap s core now
+
+  -- an entry is `diskfault` or `stopped` only where the disk's count of that rose between these two heaps
+  abbrev pub IsCaused : Heap D g → Heap D g → Entry → Type 0
+  IsCaused first now entry = HasCause (g.faults (heap_disk first)) (g.faults (heap_disk now)) (g.stops (heap_disk first)) (g.stops (heap_disk now)) (reply_device entry.reply)
+
+  -- What a heap has become by events, one after another.
+  pub record Follows (first now : Heap D g) : Type 0 where
+    pub since : List Entry
+    pub history : history_of now ≡ history_of first ++ since
+    pub sessions : AllByRecursion IsOfSession (events_of since)
+    pub disk : KeepsDisk {T = Unit {0}} g (heap_disk first) (heap_disk now) (Ok tt)
+    pub causes : AllByRecursion (IsCaused first now) since
+    pub core : (c : Core) → IsCore c first → IsReached c → Reaches c since (λ d. IsCore d now)
+    pub holds : IsTrue g.tells → (s : Super) (c : Core) → IsHeap s c first → IsReached c → ReachesOn s c since first now

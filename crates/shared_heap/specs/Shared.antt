@@ -1,0 +1,44 @@
+-- A heap that threads share, and their passes.
+use Rattle.std.specs.Prelude.{◌≡◌, ℕ, List, ◌++◌}
+use Rattle.disk_model.specs.declared.disk.Disk.{Ghosts}
+use Rattle.graph_model.specs.declared.event.Event.{Event}
+use Rattle.graph_model.specs.declared.event.Event.TheVariants.{Force, Flush}
+use Rattle.graph_model.specs.declared.reply.Entry.{Entry}
+use Rattle.graph_model.specs.History.{IsSession, session_of}
+use Rattle.heap_core.specs.declared.heap.Heap.{Heap}
+use Rattle.heap_core.specs.HeapState.{history_of}
+use Rattle.heap_core.specs.Refinement.{IsCore}
+use Rattle.heap_model.specs.Core.{Core, IsRun}
+use Rattle.core_laws.specs.Valid.{IsReached}
+use Rattle.shared_heap.specs.declared.turned.Turned.{Turned}
+use Rattle.shared_heap.specs.declared.shared.SharedHeap.{SharedHeap}
+use Rattle.shared_heap.specs.Follows.{events_of}
+use Rattle.turn_lock.specs.declared.pass.Pass.{Pass}
+use Rattle.turn_lock.specs.Merging.{Rise}
+use Rattle.turn_lock.specs.Passes as turns
+
+-- Which events a pass with this label sends: those of the session of that number, and each a force; with label 0 also flushes.
+abbrev pub MaySend : ℕ → Event → Type 0
+MaySend label Force = Unit {0}
+MaySend label (Flush p) = label ≡ 0
+MaySend label event = IsSession label × (session_of event ≡ label)
+
+module _ {D : Type 0} {g : Ghosts D} where
+  -- the heap that was handed in, as it was then
+  abbrev pub handed_in : SharedHeap D g → Heap D g
+  handed_in shared = (turns.first_of shared.lock).heap
+
+  -- It is a pass of this heap, or several that became one, and waits for no turn.
+  pub record IsOpen (shared : SharedHeap D g) (pass : Pass (Turned D g) Entry) : Type 0 where
+    pub of_lock : turns.IsPassOf shared.lock pass
+    pub resting : turns.IsResting pass
+
+  -- It is a pass of this heap, waits for no turn, and the places of its entries ascend.
+  pub record IsPass (shared : SharedHeap D g) (pass : Pass (Turned D g) Entry) : Type 0 where
+    pub of_lock : turns.IsPassOf shared.lock pass
+    pub resting : turns.IsResting pass
+    pub rises : Rise 0 (turns.mine_of pass)
+
+  -- What was seen of a history is a run of the core that was handed in, with just these replies.
+  abbrev pub Told : Heap D g → List Entry → Type 0
+  Told first seen = (c : Core) → IsCore c first → IsReached c → (since : List Entry) × (d : Core) × (seen ≡ history_of first ++ since) × IsRun c (events_of since) d × (d.history ≡ seen)
