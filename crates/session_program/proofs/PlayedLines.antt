@@ -18,7 +18,7 @@ use Rattle.heap_program.specs.Steps.{HeapStep, AreSteps}
 use Rattle.heap_program.proofs.PlayLaws.{all_then, makes_then, ends_makes}
 use Rattle.heap_program.proofs.StepsLaws.{steps_append}
 use Rattle.core_laws.proofs.Run.Calls.{of_session_front}
-use Rattle.line_reader.specs.Taking.{IsFirstLine, EndsTooLong, PassesPart}
+use Rattle.line_reader.specs.Taking.{IsWithinLine, IsFirstLine, EndsTooLong, PassesPart}
 use Rattle.line_reader.specs.declared.reader.LineError.{LineError}
 use Rattle.line_reader.specs.declared.reader.LineError.TheVariants as reading
 use Rattle.session_program.specs.Ending.{line_break}
@@ -126,33 +126,35 @@ module _ {D : Type 0} {g : Ghosts D} (s : Super) where
           heap = on.is;
         }
 
-    -- no line is left
-    pub done_on : (IsTrue tells → IsFalse passing × (stream ≡ [])) → ServesLinesOn s tells left c old heap told before now (Ok tt)
-    done_on end = record { lines = lines_done tells left c heap new passing passing' stream rest number told before now after so_far end; makes = still_makes (Ok tt) }
+    -- so many bytes are left in the source now
+    module _ (left' : List ℕ) where
+      -- no line is left
+      pub done_on : (IsTrue tells → IsFalse passing × (stream ≡ [])) → ServesLinesOn s tells left left' c old heap told before now (Ok tt)
+      done_on end = record { lines = lines_done tells left c heap new passing passing' stream rest number told before now after so_far left' end; makes = still_makes (Ok tt) }
 
-    -- there was no memory
-    pub memory_on : ServesLinesOn s tells left c old heap told before now (Err (Halted halt.NoMemory))
-    memory_on = record { lines = lines_nothing tells left c heap new passing passing' stream rest number told before now after so_far; makes = still_makes (Err (Halted halt.NoMemory)) }
+      -- there was no memory
+      pub memory_on : ServesLinesOn s tells left left' c old heap told before now (Err (Halted halt.NoMemory))
+      memory_on = record { lines = lines_nothing tells left c heap new passing passing' stream rest number told before now after so_far left'; makes = still_makes (Err (Halted halt.NoMemory)) }
 
-    -- no line was read
-    pub stopped_on : (e : LineError) → ServesLinesOn s tells left c old heap told before now (Err (line_break e))
-    stopped_on reading.NoMemory = memory_on
-    stopped_on reading.SourceFailed = record { lines = lines_unread tells left c heap new passing passing' stream rest number told before now after so_far; makes = still_makes (Err ReadFault) }
+      -- no line was read
+      pub stopped_on : (e : LineError) (held : List ℕ) → (IsTrue tells → stream ≡ held ++ left') → (e ≡ reading.SourceFailed → IsWithinLine held) → ServesLinesOn s tells left left' c old heap told before now (Err (line_break e))
+      stopped_on reading.NoMemory held streams within = memory_on
+      stopped_on reading.SourceFailed held streams within = record { lines = lines_unread tells left c heap new passing passing' stream rest number told before now after so_far left' held streams (within refl); makes = still_makes (Err ReadFault) }
 
-    -- the answer of the next line halted
-    module _ (faults_kept : g.faults old.disk ≤ g.faults heap.disk) (stops_kept : g.stops old.disk ≤ g.stops heap.disk) where
-      halted_on : (text : Option (List ℕ)) (h : Halt) → AnswersOn s core number text heap new told now after (Err h) → (IsTrue tells → Unread left (texts_of so_far.answered ++ text ∷ []) passing' rest)
-          → ServesLinesOn s tells left c old new told before after (Err (Halted h))
-      halted_on text h answers unread =
-          let plays = answers.plays in
-          record {
-            lines = lines_halted tells left c heap new passing passing' stream rest number told before now after so_far text h (answers_core s core number text heap new told now after (Err h) answers) unread;
-            makes = makes_behind c core (asked so_far.answered) (named text) old heap new told answers.between after on.steps on.makes (asked_sessions so_far.answered) (named_sessions text) faults_kept stops_kept
-                so_far.answered refl plays.made plays.behind plays.core plays.parts (Err (Halted h)) plays.steps (ends_makes core plays.made plays.behind plays.core heap new (Err h) plays.ends) (λ done. cc) plays.heap;
-          }
+      -- the answer of the next line halted
+      module _ (faults_kept : g.faults old.disk ≤ g.faults heap.disk) (stops_kept : g.stops old.disk ≤ g.stops heap.disk) where
+        halted_on : (text : Option (List ℕ)) (h : Halt) → AnswersOn s core number text heap new told now after (Err h) → (IsTrue tells → Unread left (texts_of so_far.answered ++ text ∷ []) passing' rest)
+            → ServesLinesOn s tells left left' c old new told before after (Err (Halted h))
+        halted_on text h answers unread =
+            let plays = answers.plays in
+            record {
+              lines = lines_halted tells left c heap new passing passing' stream rest number told before now after so_far left' text h (answers_core s core number text heap new told now after (Err h) answers) unread;
+              makes = makes_behind c core (asked so_far.answered) (named text) old heap new told answers.between after on.steps on.makes (asked_sessions so_far.answered) (named_sessions text) faults_kept stops_kept
+                  so_far.answered refl plays.made plays.behind plays.core plays.parts (Err (Halted h)) plays.steps (ends_makes core plays.made plays.behind plays.core heap new (Err h) plays.ends) (λ done. cc) plays.heap;
+            }
 
-      pub line_halted_on : (text : List ℕ) (h : Halt) → (IsTrue tells → IsFalse passing × IsFalse passing' × IsFirstLine text stream rest) → AnswersOn s core number (Some text) heap new told now after (Err h) → ServesLinesOn s tells left c old new told before after (Err (Halted h))
-      line_halted_on text h taken answers = halted_on (Some text) h answers (behind_line tells left c heap new passing passing' stream rest number told before now after so_far text taken)
+        pub line_halted_on : (text : List ℕ) (h : Halt) → (IsTrue tells → IsFalse passing × IsFalse passing' × IsFirstLine text stream rest) → AnswersOn s core number (Some text) heap new told now after (Err h) → ServesLinesOn s tells left left' c old new told before after (Err (Halted h))
+        line_halted_on text h taken answers = halted_on (Some text) h answers (behind_line tells left c heap new passing passing' stream rest number told before now after so_far text taken)
 
-      pub long_halted_on : (h : Halt) → (IsTrue tells → IsFalse passing' × EndsTooLong passing stream rest) → AnswersOn s core number None heap new told now after (Err h) → ServesLinesOn s tells left c old new told before after (Err (Halted h))
-      long_halted_on h taken answers = halted_on None h answers (behind_long tells left c heap new passing passing' stream rest number told before now after so_far taken)
+        pub long_halted_on : (h : Halt) → (IsTrue tells → IsFalse passing' × EndsTooLong passing stream rest) → AnswersOn s core number None heap new told now after (Err h) → ServesLinesOn s tells left left' c old new told before after (Err (Halted h))
+        long_halted_on h taken answers = halted_on None h answers (behind_long tells left c heap new passing passing' stream rest number told before now after so_far taken)

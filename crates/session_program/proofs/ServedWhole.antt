@@ -61,27 +61,27 @@ use Rattle.session_program.proofs.OnDisk.{makes_last, plays_core}
 use Rattle.session_program.proofs.PlayedLines.{makes_behind}
 use Rattle.session_program.proofs.Whole.{ended_as, widen, session_early, session_ended, still}
 
-module _ {D : Type 0} {g : Ghosts D} (s : Super) (tells : Bool) (left : List ℕ) (c : Core) (told : Bool) (before : List ℕ) where
+module _ {D : Type 0} {g : Ghosts D} (s : Super) (tells : Bool) (left rest : List ℕ) (c : Core) (told : Bool) (before : List ℕ) where
   -- it ended at a line
   module _ (old new : Heap D g) (after : List ℕ) where
-    early_last : (b : Break) (texts : List (Option (List ℕ))) (core : Core) (between : List ℕ) (ended : EndsLines tells left new told after (Err b) texts core between)
-        → lines_last tells left new told after (Err b) texts core between ended ≡ session_last tells left new told after (Err b) texts core between (widen tells left c told before new after b texts core between ended)
+    early_last : (b : Break) (texts : List (Option (List ℕ))) (core : Core) (between : List ℕ) (ended : EndsLines tells left rest new told after (Err b) texts core between)
+        → lines_last tells left rest new told after (Err b) texts core between ended ≡ session_last tells left rest new told after (Err b) texts core between (widen tells left rest c told before new after b texts core between ended)
     early_last ReadFault texts core between ended = refl
     early_last (Halted h) texts core between (inl there) = refl
     early_last (Halted h) texts core between (inr nothing) = refl
 
-    pub early_on : (b : Break) → ServesLinesOn s tells left c old new told before after (Err b) → ServesOn s tells left c old new told before after (Err b)
+    pub early_on : (b : Break) → ServesLinesOn s tells left rest c old new told before after (Err b) → ServesOn s tells left rest c old new told before after (Err b)
     early_on b on =
         let lines = on.lines in
         record {
-          serves = session_early tells left c told before new after b lines;
+          serves = session_early tells left rest c told before new after b lines;
           makes = subst (λ (last : List Event × Core). MakesSession s c old new lines.answered last (Err b)) (early_last b (map (λ a. a.text) lines.answered) lines.core lines.between lines.ended) on.makes;
         }
 
   -- it answered all lines
-  module _ (running : IsRunning c) (old mid new : Heap D g) (now after : List ℕ) (on : ServesLinesOn s tells left c old mid told before now (Ok tt))
+  module _ (running : IsRunning c) (old mid new : Heap D g) (now after : List ℕ) (on : ServesLinesOn s tells left rest c old mid told before now (Ok tt))
       (faults_kept : g.faults old.disk ≤ g.faults mid.disk) (stops_kept : g.stops old.disk ≤ g.stops mid.disk) where
-    abbrev lines : ServesLines tells left c mid told before now (Ok tt)
+    abbrev lines : ServesLines tells left rest c mid told before now (Ok tt)
     lines = on.lines
 
     abbrev core : Core
@@ -98,19 +98,19 @@ module _ {D : Type 0} {g : Ghosts D} (s : Super) (tells : Bool) (left : List ℕ
         (asked_sessions lines.answered) (ending_of_session core) faults_kept stops_kept lines.answered refl plays.made plays.behind plays.core plays.parts
         (ended_as result) plays.steps (ends_makes core plays.made plays.behind plays.core mid new result plays.ends) all plays.heap
 
-    pub whole_on : (result : Result (Unit {0}) Halt) → Plays s core (ending core) mid new told now after result → ServesOn s tells left c old new told before after (ended_as result)
+    pub whole_on : (result : Result (Unit {0}) Halt) → Plays s core (ending core) mid new told now after result → ServesOn s tells left rest c old new told before after (ended_as result)
     whole_on (Ok done) plays = record {
-      serves = session_ended tells left c told before running mid new now after lines (Ok tt) (plays_core s core (ending core) mid new told now after (Ok tt) plays);
+      serves = session_ended tells left rest c told before running mid new now after lines (Ok tt) (plays_core s core (ending core) mid new told now after (Ok tt) plays);
       makes = last_makes (Ok tt) plays (λ is. plays.ends.1);
     }
     whole_on (Err h) plays = record {
-      serves = session_ended tells left c told before running mid new now after lines (Err h) (plays_core s core (ending core) mid new told now after (Err h) plays);
+      serves = session_ended tells left rest c told before running mid new now after lines (Err h) (plays_core s core (ending core) mid new told now after (Err h) plays);
       makes = last_makes (Err h) plays (λ is. cc);
     }
 
 -- A session that ended so, on the heap that was opened from a stored image.
-module _ {D : Type 0} {g : Ghosts D} {bytes : List ℕ} (stored : IsStored bytes) (running : IsRunning (stored_core stored)) (tells : Bool) (left : List ℕ) (start : D) (old new : Heap D g) (told : Bool) (before after : List ℕ) (result : Result (Unit {0}) Break)
-    (on : ServesOn stored.super tells left (stored_core stored) old new told before after result) where
+module _ {D : Type 0} {g : Ghosts D} {bytes : List ℕ} (stored : IsStored bytes) (running : IsRunning (stored_core stored)) (tells : Bool) (left rest : List ℕ) (start : D) (old new : Heap D g) (told : Bool) (before after : List ℕ) (result : Result (Unit {0}) Break)
+    (on : ServesOn stored.super tells left rest (stored_core stored) old new told before after result) where
   abbrev c : Core
   c = stored_core stored
 
@@ -118,7 +118,7 @@ module _ {D : Type 0} {g : Ghosts D} {bytes : List ℕ} (stored : IsStored bytes
   n = stored_calls stored
 
   abbrev last : List Event × Core
-  last = last_of tells left c new told before after result on.serves
+  last = last_of tells left rest c new told before after result on.serves
 
   abbrev made : List Event
   made = asked on.serves.answered ++ last.0
@@ -177,7 +177,7 @@ module _ {D : Type 0} {g : Ghosts D} {bytes : List ℕ} (stored : IsStored bytes
 
   pub served_opened : IsTrue g.tells → ((disk : D) (image : List ℕ) → g.left_since disk (g.moment disk) image → g.may_leave disk image) → LeavesOnly g.moment g.left_since start old.disk (IsCommitPrefix c)
       → ((image : List ℕ) → g.may_leave old.disk image → IsCommitPrefix c image) → g.passed old.disk ≡ counted n (g.passed start) → g.restarts old.disk ≡ g.restarts start
-      → (Unharmed g start new.disk → Unharmed g old.disk new.disk) → IsServed g n tells left c start new.disk (session_status result) told before after
+      → (Unharmed g start new.disk → Unharmed g old.disk new.disk) → IsServed g n tells left rest c start new.disk (session_status result) told before after
   served_opened told_disk now opening here passed restarts unharmed =
       let sum = ap (counted (total_calls c made)) passed ∙ counted-add (total_calls c made) n (g.passed start) in
       record {
@@ -210,13 +210,13 @@ module _ {D : Type 0} {g : Ghosts D} {bytes : List ℕ} (stored : IsStored bytes
 
 -- The heap was not opened: no event was made, and nothing was written.
 module _ {D : Type 0} (g : Ghosts D) {bytes : List ℕ} (stored : IsStored bytes) where
-  pub served_none : (tells : Bool) (left : List ℕ) (start final : D) (e : OpenError) (told : Bool) (before : List ℕ) → IsFromOutside e
+  pub served_none : (tells : Bool) (left rest : List ℕ) (start final : D) (e : OpenError) (told : Bool) (before : List ℕ) → IsFromOutside e
       → LeavesOnly g.moment g.left_since start final (IsCommitPrefix (stored_core stored)) → ((image : List ℕ) → g.may_leave final image → IsCommitPrefix (stored_core stored) image)
       → ((image : List ℕ) → g.left_since final (g.moment final) image → g.may_leave final image) → g.restarts final ≡ g.restarts start
       → (e ≡ opening.NoMemory → g.passed final ≡ g.passed start) → (e ≢ opening.NoMemory → Unharmed g start final → ⊥)
       → g.passed final ≤ counted (stored_calls stored) (g.passed start) → g.passed final ≤ counted (stored_calls stored + 0) (g.passed start) → (open_status e ≡ status.NoMemory → Only (g.bytes final) (g.may_leave final))
-      → IsServed g (stored_calls stored) tells left (stored_core stored) start final (open_status e) told before before
-  served_none tells left start final e told before outside moments here now restarts same harm few most only =
+      → IsServed g (stored_calls stored) tells left rest (stored_core stored) start final (open_status e) told before before
+  served_none tells left rest start final e told before outside moments here now restarts same harm few most only =
       let c = stored_core stored in
       let calls = unopened_calls None (stored_calls stored) (g.passed start) (g.passed final) (Unharmed g start final) e (open_status e) refl outside same harm in
       record {

@@ -1,5 +1,5 @@
 -- A session between two lines.
-use Rattle.std.proofs.Common.{◌≡◌, inl, inr, ℕ, ◌+◌, Bool, false, List, [], ◌∷◌, ◌++◌, length, map, Option, None, Some, Ok, Err, refl, sym, ap, ◌∙◌, subst, arith, length-append}
+use Rattle.std.proofs.Common.{◌≡◌, inl, inr, ℕ, ◌+◌, Bool, false, List, [], ◌∷◌, ◌++◌, length, map, Option, None, Some, Ok, Err, refl, sym, ap, ◌∙◌, subst, arith, append_assoc, length-append}
 use Rattle.std.specs.Prelude.{IsTrue, IsFalse}
 use Rattle.disk_model.specs.declared.disk.Disk.{Ghosts}
 use Rattle.heap_core.specs.declared.heap.Heap.{Heap}
@@ -10,15 +10,16 @@ use Rattle.heap_program.specs.declared.play.Halt.TheVariants as halt
 use Rattle.heap_program.specs.Play.{IsRunning}
 use Rattle.heap_program.proofs.CoreSteps.{running_after}
 use Rattle.heap_program.proofs.Ready.{AreReady}
-use Rattle.line_reader.specs.Taking.{IsFirstLine, EndsTooLong, PassesPart}
+use Rattle.line_reader.specs.Taking.{IsWithinLine, IsFirstLine, EndsTooLong, PassesPart}
 use Rattle.line_reader.specs.declared.reader.LineError.{LineError}
 use Rattle.line_reader.specs.declared.reader.LineError.TheVariants as reading
+use Rattle.script_text.specs.Script.{lines}
 use Rattle.session_program.specs.Ending.{line_break}
 use Rattle.session_program.specs.declared.ending.Break.TheVariants.{Halted, ReadFault}
-use Rattle.session_program.specs.Lines.{Answered, fault_of}
-use Rattle.session_program.specs.Session.{HasAnswered, Answers, Wrote, AreFirst, ServesLines, StopsThere}
+use Rattle.session_program.specs.Lines.{Answered, as_taken, fault_of}
+use Rattle.session_program.specs.Session.{HasAnswered, Answers, Wrote, AreFirst, AnswersTaken, ServesLines, StopsThere}
 use Rattle.session_program.proofs.Answering.{named_sessions, texts_more, answered_none, answered_next, its, whole}
-use Rattle.session_program.proofs.Unread.{Unread, unread_all, unread_line, unread_long, unread_part, unread_none}
+use Rattle.session_program.proofs.Unread.{Unread, unread_all, unread_line, unread_long, unread_part, unread_none, within_both}
 
 -- their texts
 abbrev pub texts_of : List Answered → List (Option (List ℕ))
@@ -104,54 +105,66 @@ module _ {D : Type 0} {g : Ghosts D} where
     pub there : now ≡ now → StopsThere so_far.core heap told now now
     there e = record { is = so_far.is; nothing = λ t. refl }
 
-    -- no line is left
-    abbrev pub lines_done : (IsTrue tells → IsFalse passing × (stream ≡ [])) → ServesLines tells left c heap told before now (Ok tt)
-    lines_done end = record {
-      answered = so_far.answered;
-      core = so_far.core;
-      between = now;
-      answers = so_far.answers;
-      first = first;
-      ended = ((λ t. unread_none left (texts_of so_far.answered) passing passing stream stream (so_far.unread t) (end t).0 (end t).1), there refl);
-    }
+    -- so many bytes are left in the source now
+    module _ (left' : List ℕ) where
+      -- no line is left
+      abbrev pub lines_done : (IsTrue tells → IsFalse passing × (stream ≡ [])) → ServesLines tells left left' c heap told before now (Ok tt)
+      lines_done end = record {
+        answered = so_far.answered;
+        core = so_far.core;
+        between = now;
+        answers = so_far.answers;
+        first = first;
+        ended = ((λ t. unread_none left (texts_of so_far.answered) passing passing stream stream (so_far.unread t) (end t).0 (end t).1), there refl);
+      }
 
-    -- the next line could not be read
-    abbrev pub lines_unread : ServesLines tells left c heap told before now (Err ReadFault)
-    lines_unread = record { answered = so_far.answered; core = so_far.core; between = now; answers = so_far.answers; first = first; ended = there refl }
+      -- what was taken but not answered is no whole line
+      pub taken : (held : List ℕ) → (IsTrue tells → stream ≡ held ++ left') → IsWithinLine held → IsTrue tells → AnswersTaken (texts_of so_far.answered) left left'
+      taken held same within t =
+          let u = so_far.unread t in (
+            u.front ++ held,
+            within_both u.front held u.within within,
+            u.left_lines ∙ ap (λ (l : List ℕ). texts_of so_far.answered ++ map as_taken (lines (u.front ++ l))) (same t)
+                ∙ ap (λ (l : List ℕ). texts_of so_far.answered ++ map as_taken (lines l)) (sym (append_assoc u.front held left')),
+          )
 
-    -- nor was there memory
-    abbrev pub lines_nothing : ServesLines tells left c heap told before now (Err (Halted halt.NoMemory))
-    lines_nothing = record { answered = so_far.answered; core = so_far.core; between = now; answers = so_far.answers; first = first; ended = inr (refl, there refl) }
+      -- the next line could not be read
+      abbrev pub lines_unread : (held : List ℕ) → (IsTrue tells → stream ≡ held ++ left') → IsWithinLine held → ServesLines tells left left' c heap told before now (Err ReadFault)
+      lines_unread held same within = record { answered = so_far.answered; core = so_far.core; between = now; answers = so_far.answers; first = first; ended = (there refl, taken held same within) }
 
-    -- the answer of the next line halted
-    abbrev pub lines_halted : (text : Option (List ℕ)) (h : Halt) → Answers so_far.core number text new told now after (Err h) → (IsTrue tells → Unread left (texts_of so_far.answered ++ text ∷ []) passing' rest)
-        → ServesLines tells left c new told before after (Err (Halted h))
-    lines_halted text h answers unread =
-        let count : number ≡ length (texts_of so_far.answered) + 1 = so_far.count ∙ ap (λ (n : ℕ). n + 1) (sym (same_length so_far.answered)) in
-        record {
-          answered = so_far.answered;
-          core = so_far.core;
-          between = now;
-          answers = so_far.answers;
-          first = first;
-          ended = inl (record {
-            text = text;
-            next = λ t. (_, (unread t).left_lines);
-            answers = record {
-              between = answers.between;
-              fault = subst (λ (n : ℕ). IsTrue told → Wrote (Err h) now (fault_of n text) answers.between) count answers.fault;
-              plays = answers.plays;
-            };
-          });
-        }
+      -- nor was there memory
+      abbrev pub lines_nothing : ServesLines tells left left' c heap told before now (Err (Halted halt.NoMemory))
+      lines_nothing = record { answered = so_far.answered; core = so_far.core; between = now; answers = so_far.answers; first = first; ended = inr (refl, there refl) }
 
-    abbrev pub line_halted : (text : List ℕ) (h : Halt) → (IsTrue tells → IsFalse passing × IsFalse passing' × IsFirstLine text stream rest) → Answers so_far.core number (Some text) new told now after (Err h) → ServesLines tells left c new told before after (Err (Halted h))
-    line_halted text h taken answers = lines_halted (Some text) h answers (behind_line text taken)
+      -- the answer of the next line halted
+      abbrev pub lines_halted : (text : Option (List ℕ)) (h : Halt) → Answers so_far.core number text new told now after (Err h) → (IsTrue tells → Unread left (texts_of so_far.answered ++ text ∷ []) passing' rest)
+          → ServesLines tells left left' c new told before after (Err (Halted h))
+      lines_halted text h answers unread =
+          let count : number ≡ length (texts_of so_far.answered) + 1 = so_far.count ∙ ap (λ (n : ℕ). n + 1) (sym (same_length so_far.answered)) in
+          record {
+            answered = so_far.answered;
+            core = so_far.core;
+            between = now;
+            answers = so_far.answers;
+            first = first;
+            ended = inl (record {
+              text = text;
+              next = λ t. (_, (unread t).left_lines);
+              answers = record {
+                between = answers.between;
+                fault = subst (λ (n : ℕ). IsTrue told → Wrote (Err h) now (fault_of n text) answers.between) count answers.fault;
+                plays = answers.plays;
+              };
+            });
+          }
 
-    abbrev pub long_halted : (h : Halt) → (IsTrue tells → IsFalse passing' × EndsTooLong passing stream rest) → Answers so_far.core number None new told now after (Err h) → ServesLines tells left c new told before after (Err (Halted h))
-    long_halted h taken answers = lines_halted None h answers (behind_long taken)
+      abbrev pub line_halted : (text : List ℕ) (h : Halt) → (IsTrue tells → IsFalse passing × IsFalse passing' × IsFirstLine text stream rest) → Answers so_far.core number (Some text) new told now after (Err h) → ServesLines tells left left' c new told before after (Err (Halted h))
+      line_halted text h taken answers = lines_halted (Some text) h answers (behind_line text taken)
 
-    -- no line was read
-    pub lines_stopped : (e : LineError) → ServesLines tells left c heap told before now (Err (line_break e))
-    lines_stopped reading.NoMemory = lines_nothing
-    lines_stopped reading.SourceFailed = lines_unread
+      abbrev pub long_halted : (h : Halt) → (IsTrue tells → IsFalse passing' × EndsTooLong passing stream rest) → Answers so_far.core number None new told now after (Err h) → ServesLines tells left left' c new told before after (Err (Halted h))
+      long_halted h taken answers = lines_halted None h answers (behind_long taken)
+
+      -- no line was read
+      pub lines_stopped : (e : LineError) (held : List ℕ) → (IsTrue tells → stream ≡ held ++ left') → (e ≡ reading.SourceFailed → IsWithinLine held) → ServesLines tells left left' c heap told before now (Err (line_break e))
+      lines_stopped reading.NoMemory held same within = lines_nothing
+      lines_stopped reading.SourceFailed held same within = lines_unread held same (within refl)

@@ -19,15 +19,15 @@ abbrev pub ended_as : Result (Unit {0}) Halt → Result (Unit {0}) Break
 ended_as (Ok done) = Ok tt
 ended_as (Err h) = Err (Halted h)
 
-module _ {D : Type 0} {g : Ghosts D} (tells : Bool) (left : List ℕ) (c : Core) (told : Bool) (before : List ℕ) where
+module _ {D : Type 0} {g : Ghosts D} (tells : Bool) (left rest : List ℕ) (c : Core) (told : Bool) (before : List ℕ) where
   -- how it ended at a line
-  abbrev pub widen : (new : Heap D g) (after : List ℕ) (b : Break) (texts : List (Option (List ℕ))) (core : Core) (between : List ℕ) → EndsLines tells left new told after (Err b) texts core between → Ends tells left new told after (Err b) texts core between
+  abbrev pub widen : (new : Heap D g) (after : List ℕ) (b : Break) (texts : List (Option (List ℕ))) (core : Core) (between : List ℕ) → EndsLines tells left rest new told after (Err b) texts core between → Ends tells left rest new told after (Err b) texts core between
   widen new after ReadFault texts core between ended = ended
   widen new after (Halted h) texts core between (inl there) = inl there
   widen new after (Halted h) texts core between (inr nothing) = inr (inr nothing)
 
   -- it ended at a line
-  abbrev pub session_early : (new : Heap D g) (after : List ℕ) (b : Break) → ServesLines tells left c new told before after (Err b) → Serves tells left c new told before after (Err b)
+  abbrev pub session_early : (new : Heap D g) (after : List ℕ) (b : Break) → ServesLines tells left rest c new told before after (Err b) → Serves tells left rest c new told before after (Err b)
   session_early new after b lines = record {
     answered = lines.answered;
     core = lines.core;
@@ -38,7 +38,7 @@ module _ {D : Type 0} {g : Ghosts D} (tells : Bool) (left : List ℕ) (c : Core)
   }
 
   -- it answered all lines
-  module _ (running : IsRunning c) (mid new : Heap D g) (now after : List ℕ) (lines : ServesLines tells left c mid told before now (Ok tt)) where
+  module _ (running : IsRunning c) (mid new : Heap D g) (now after : List ℕ) (lines : ServesLines tells left rest c mid told before now (Ok tt)) where
     abbrev core : Core
     core = lines.core
 
@@ -54,7 +54,7 @@ module _ {D : Type 0} {g : Ghosts D} (tells : Bool) (left : List ℕ) (c : Core)
     }
 
     -- and then played the events that end it
-    abbrev pub session_ended : (result : Result (Unit {0}) Halt) → PlaysCore core (ending core) new told now after result → Serves tells left c new told before after (ended_as result)
+    abbrev pub session_ended : (result : Result (Unit {0}) Halt) → PlaysCore core (ending core) new told now after result → Serves tells left rest c new told before after (ended_as result)
     session_ended (Ok done) plays = record {
       answered = lines.answered;
       core = core;
@@ -72,5 +72,5 @@ module _ {D : Type 0} {g : Ghosts D} (tells : Bool) (left : List ℕ) (c : Core)
       ended = inr (inl (record { all = lines.ended.0; plays = plays }));
     }
 
-    pub session_whole : (result : Result (Unit {0}) Halt) → ((d : Core) → IsCore d mid → IsRunning d → PlaysCore d (ending d) new told now after result) → Serves tells left c new told before after (ended_as result)
+    pub session_whole : (result : Result (Unit {0}) Halt) → ((d : Core) → IsCore d mid → IsRunning d → PlaysCore d (ending d) new told now after result) → Serves tells left rest c new told before after (ended_as result)
     session_whole result ending_plays = session_ended result (ending_plays core lines.ended.1.is still)

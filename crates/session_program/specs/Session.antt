@@ -19,6 +19,7 @@ use Rattle.heap_program.specs.declared.status.Status.{Status}
 use Rattle.heap_program.specs.Headline.{IsOpened}
 use Rattle.heap_program.specs.Play.{MadeAll, PlaysCore, Plays, MakesAll, Makes, WroteFront}
 use Rattle.heap_program.specs.Steps.{HeapStep, AreSteps}
+use Rattle.line_reader.specs.Taking.{IsWithinLine}
 use Rattle.script_text.specs.Script.{lines}
 use Rattle.session_program.specs.declared.ending.Break.{Break}
 use Rattle.session_program.specs.declared.ending.Break.TheVariants.{Halted, ReadFault}
@@ -41,6 +42,10 @@ Wrote (Err h) before text after = WroteFront before text after
 -- These are the first lines of an input.
 abbrev pub AreFirst : List (Option (List ℕ)) → List ℕ → Type 0
 AreFirst texts left = (behind : List (Option (List ℕ))) × (map as_taken (lines left) ≡ texts ++ behind)
+
+-- All lines of an input were answered of which a whole one was taken from its source, which has the rest left: what is in hand has no newline.
+abbrev pub AnswersTaken : List (Option (List ℕ)) → List ℕ → List ℕ → Type 0
+AnswersTaken texts left rest = (hand : List ℕ) × IsWithinLine hand × (map as_taken (lines left) ≡ texts ++ map as_taken (lines (hand ++ rest)))
 
 -- Lines were answered from a core on, the first ones of an input that tells its bytes, and then it ended so.
 pub record Session (tells : Bool) (left : List ℕ) (c : Core) (told : Bool) (before : List ℕ) (ends : List (Option (List ℕ)) → Core → List ℕ → Type 0) : Type 0 where
@@ -80,17 +85,17 @@ module _ {D : Type 0} {g : Ghosts D} where
     pub is : IsCore c new
     pub nothing : IsTrue told → after ≡ before
 
-  module _ (tells : Bool) (left : List ℕ) (new : Heap D g) (told : Bool) (after : List ℕ) where
+  module _ (tells : Bool) (left rest : List ℕ) (new : Heap D g) (told : Bool) (after : List ℕ) where
     -- How the answering of lines ends.
     abbrev pub EndsLines : Result (Unit {0}) Break → List (Option (List ℕ)) → Core → List ℕ → Type 0
     EndsLines (Ok done) texts c between = (IsTrue tells → map as_taken (lines left) ≡ texts) × StopsThere c new told between after
-    EndsLines (Err ReadFault) texts c between = StopsThere c new told between after
+    EndsLines (Err ReadFault) texts c between = StopsThere c new told between after × (IsTrue tells → AnswersTaken texts left rest)
     EndsLines (Err (Halted h)) texts c between = HaltsAtLine tells left texts c new told between after h ⊎ ((h ≡ halt.NoMemory) × StopsThere c new told between after)
 
     -- How a session ends.
     abbrev pub Ends : Result (Unit {0}) Break → List (Option (List ℕ)) → Core → List ℕ → Type 0
     Ends (Ok done) texts c between = PlaysEnding tells left texts c new told between after (Ok tt)
-    Ends (Err ReadFault) texts c between = StopsThere c new told between after
+    Ends (Err ReadFault) texts c between = StopsThere c new told between after × (IsTrue tells → AnswersTaken texts left rest)
     Ends (Err (Halted h)) texts c between =
         HaltsAtLine tells left texts c new told between after h ⊎ PlaysEnding tells left texts c new told between after (Err h) ⊎ ((h ≡ halt.NoMemory) × StopsThere c new told between after)
 
@@ -109,19 +114,19 @@ module _ {D : Type 0} {g : Ghosts D} where
     session_last (Err (Halted h)) texts c between (inr (inr nothing)) = ([], c)
 
   -- On any disk: lines were answered.
-  abbrev pub ServesLines : Bool → List ℕ → Core → Heap D g → Bool → List ℕ → List ℕ → Result (Unit {0}) Break → Type 0
-  ServesLines tells left c new told before after result = Session tells left c told before (EndsLines tells left new told after result)
+  abbrev pub ServesLines : Bool → List ℕ → List ℕ → Core → Heap D g → Bool → List ℕ → List ℕ → Result (Unit {0}) Break → Type 0
+  ServesLines tells left rest c new told before after result = Session tells left c told before (EndsLines tells left rest new told after result)
 
   -- On any disk: a session was served.
-  abbrev pub Serves : Bool → List ℕ → Core → Heap D g → Bool → List ℕ → List ℕ → Result (Unit {0}) Break → Type 0
-  Serves tells left c new told before after result = Session tells left c told before (Ends tells left new told after result)
+  abbrev pub Serves : Bool → List ℕ → List ℕ → Core → Heap D g → Bool → List ℕ → List ℕ → Result (Unit {0}) Break → Type 0
+  Serves tells left rest c new told before after result = Session tells left c told before (Ends tells left rest new told after result)
 
   -- what was played last in them
-  abbrev pub last_of_lines : (tells : Bool) (left : List ℕ) (c : Core) (new : Heap D g) (told : Bool) (before after : List ℕ) (result : Result (Unit {0}) Break) → ServesLines tells left c new told before after result → List Event × Core
-  last_of_lines tells left c new told before after result lines = lines_last tells left new told after result (map (λ a. a.text) lines.answered) lines.core lines.between lines.ended
+  abbrev pub last_of_lines : (tells : Bool) (left rest : List ℕ) (c : Core) (new : Heap D g) (told : Bool) (before after : List ℕ) (result : Result (Unit {0}) Break) → ServesLines tells left rest c new told before after result → List Event × Core
+  last_of_lines tells left rest c new told before after result lines = lines_last tells left rest new told after result (map (λ a. a.text) lines.answered) lines.core lines.between lines.ended
 
-  abbrev pub last_of : (tells : Bool) (left : List ℕ) (c : Core) (new : Heap D g) (told : Bool) (before after : List ℕ) (result : Result (Unit {0}) Break) → Serves tells left c new told before after result → List Event × Core
-  last_of tells left c new told before after result serves = session_last tells left new told after result (map (λ a. a.text) serves.answered) serves.core serves.between serves.ended
+  abbrev pub last_of : (tells : Bool) (left rest : List ℕ) (c : Core) (new : Heap D g) (told : Bool) (before after : List ℕ) (result : Result (Unit {0}) Break) → Serves tells left rest c new told before after result → List Event × Core
+  last_of tells left rest c new told before after result serves = session_last tells left rest new told after result (map (λ a. a.text) serves.answered) serves.core serves.between serves.ended
 
   -- On a disk that tells: the events of the lines that were answered were made, and those that were played last, and each step says what it
   -- left on the disk.
@@ -133,17 +138,17 @@ module _ {D : Type 0} {g : Ghosts D} where
     pub heap : IsHeap s last.1 new
 
   -- Lines were answered so.
-  pub record ServesLinesOn (s : Super) (tells : Bool) (left : List ℕ) (c : Core) (old new : Heap D g) (told : Bool) (before after : List ℕ) (result : Result (Unit {0}) Break) : Type 0 where
-    pub lines : ServesLines tells left c new told before after result
-    pub makes : MakesSession s c old new lines.answered (last_of_lines tells left c new told before after result lines) result
+  pub record ServesLinesOn (s : Super) (tells : Bool) (left rest : List ℕ) (c : Core) (old new : Heap D g) (told : Bool) (before after : List ℕ) (result : Result (Unit {0}) Break) : Type 0 where
+    pub lines : ServesLines tells left rest c new told before after result
+    pub makes : MakesSession s c old new lines.answered (last_of_lines tells left rest c new told before after result lines) result
 
   -- A session was served so.
-  pub record ServesOn (s : Super) (tells : Bool) (left : List ℕ) (c : Core) (old new : Heap D g) (told : Bool) (before after : List ℕ) (result : Result (Unit {0}) Break) : Type 0 where
-    pub serves : Serves tells left c new told before after result
-    pub makes : MakesSession s c old new serves.answered (last_of tells left c new told before after result serves) result
+  pub record ServesOn (s : Super) (tells : Bool) (left rest : List ℕ) (c : Core) (old new : Heap D g) (told : Bool) (before after : List ℕ) (result : Result (Unit {0}) Break) : Type 0 where
+    pub serves : Serves tells left rest c new told before after result
+    pub makes : MakesSession s c old new serves.answered (last_of tells left rest c new told before after result serves) result
 
 -- A heap was opened, with some graph, on a shaped log beside stored pages as `from` says, and a session was served on it.
-pub record ServesHeap {D : Type 0} (g : Ghosts D) (from : Super → List (List Record) → Pages → (ℕ → ℕ) → Type 0) (tells : Bool) (left : List ℕ) (final : D) (by : Status) (told : Bool) (before after : List ℕ) : Type 0 where
+pub record ServesHeap {D : Type 0} (g : Ghosts D) (from : Super → List (List Record) → Pages → (ℕ → ℕ) → Type 0) (tells : Bool) (left rest : List ℕ) (final : D) (by : Status) (told : Bool) (before after : List ℕ) : Type 0 where
   pub first : Core
   pub opened : IsOpened first
   pub image : from opened.super opened.batches opened.stored opened.gates
@@ -151,4 +156,4 @@ pub record ServesHeap {D : Type 0} (g : Ghosts D) (from : Super → List (List R
   pub disk : final ≡ heap_disk heap
   pub result : Result (Unit {0}) Break
   pub status : by ≡ session_status result
-  pub serves : Serves tells left first heap told before after result
+  pub serves : Serves tells left rest first heap told before after result

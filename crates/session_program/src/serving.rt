@@ -46,10 +46,10 @@ pub fn serve<D: Disk, S: Source, K: Sink>(
     ensures disk_fault { RunsDisk D.Disk disk result.1 (result.0 ≡ Status.DiskFault) }
 
     // On any disk: the heap was not opened, and nothing was read or written; or the lines that were taken were answered in their order.
-    ensures serves { ((result.0 ≢ Status.Done) × (source.new ≡ source.old) × (sink.new ≡ sink.old)) ⊎ ServesHeap D.Disk (IsOfImage D.tells (D.bytes disk)) S.tells (S.left source.old) result.1 result.0 K.tells (K.written sink.old) (K.written sink.new) }
+    ensures serves { ((result.0 ≢ Status.Done) × (source.new ≡ source.old) × (sink.new ≡ sink.old)) ⊎ ServesHeap D.Disk (IsOfImage D.tells (D.bytes disk)) S.tells (S.left source.old) (S.left source.new) result.1 result.0 K.tells (K.written sink.old) (K.written sink.new) }
 
     // On a modelled disk, with the heap that is there: nothing was done to the disk but in the opening and in events, and each moment of it is told.
-    ensures served { OfTold D.tells (D.bytes disk) (D.may_leave disk) ((stored : IsStored (D.bytes disk)) → IsServed D.Disk (stored_calls stored) S.tells (S.left source.old) (stored_core stored) disk result.1 result.0 K.tells (K.written sink.old) (K.written sink.new)) }
+    ensures served { OfTold D.tells (D.bytes disk) (D.may_leave disk) ((stored : IsStored (D.bytes disk)) → IsServed D.Disk (stored_calls stored) S.tells (S.left source.old) (S.left source.new) (stored_core stored) disk result.1 result.0 K.tells (K.written sink.old) (K.written sink.new)) }
     ensures restarts { IsTrue D.tells → D.restarts result.1 ≡ D.restarts disk }
     // Without a fault it is done, if memory is there.
     ensures complete { OfTold D.tells (D.bytes disk) (D.may_leave disk) (IsStored (D.bytes disk) → ¬ Rose (S.faults source.old) (S.faults source.new) → ¬ Rose (K.faults sink.old) (K.faults sink.new)
@@ -86,8 +86,8 @@ fn serve_all<D: Disk, S: Source, K: Sink>(
     ensures disk { KeepsDisk D.Disk (heap_disk heap.old) (heap_disk heap.new) (session_device result) }
     ensures source { StreamCause (S.faults source.old) (S.faults source.new) (result ≡ Err Break.ReadFault) }
     ensures sink { StreamCause (K.faults sink.old) (K.faults sink.new) (result ≡ Err (Break.Halted halt.WriteFault)) }
-    ensures core { (c : Core) → IsCore c heap.old → IsRunning c → Serves S.tells (S.left source.old) c heap.new K.tells (K.written sink.old) (K.written sink.new) result }
-    ensures plays { IsTrue D.tells → (of : Super) (c : Core) → IsHeap of c heap.old → IsRunning c → ServesOn of S.tells (S.left source.old) c heap.old heap.new K.tells (K.written sink.old) (K.written sink.new) result }
+    ensures core { (c : Core) → IsCore c heap.old → IsRunning c → Serves S.tells (S.left source.old) (S.left source.new) c heap.new K.tells (K.written sink.old) (K.written sink.new) result }
+    ensures plays { IsTrue D.tells → (of : Super) (c : Core) → IsHeap of c heap.old → IsRunning c → ServesOn of S.tells (S.left source.old) (S.left source.new) c heap.old heap.new K.tells (K.written sink.old) (K.written sink.new) result }
 {
     serve_lines(alloc, heap, source, sink)?;
     Ok(play_ending(alloc, heap, sink)?)
@@ -103,8 +103,8 @@ fn serve_lines<D: Disk, S: Source, K: Sink>(
     ensures disk { KeepsDisk D.Disk (heap_disk heap.old) (heap_disk heap.new) (session_device result) }
     ensures source { StreamCause (S.faults source.old) (S.faults source.new) (result ≡ Err Break.ReadFault) }
     ensures sink { StreamCause (K.faults sink.old) (K.faults sink.new) (result ≡ Err (Break.Halted halt.WriteFault)) }
-    ensures core { (c : Core) → IsCore c heap.old → IsRunning c → ServesLines S.tells (S.left source.old) c heap.new K.tells (K.written sink.old) (K.written sink.new) result }
-    ensures plays { IsTrue D.tells → (of : Super) (c : Core) → IsHeap of c heap.old → IsRunning c → ServesLinesOn of S.tells (S.left source.old) c heap.old heap.new K.tells (K.written sink.old) (K.written sink.new) result }
+    ensures core { (c : Core) → IsCore c heap.old → IsRunning c → ServesLines S.tells (S.left source.old) (S.left source.new) c heap.new K.tells (K.written sink.old) (K.written sink.new) result }
+    ensures plays { IsTrue D.tells → (of : Super) (c : Core) → IsHeap of c heap.old → IsRunning c → ServesLinesOn of S.tells (S.left source.old) (S.left source.new) c heap.old heap.new K.tells (K.written sink.old) (K.written sink.new) result }
 {
     let mut reader = LineReader::new(alloc)?;
     let mut number = 1;

@@ -64,7 +64,7 @@ returns-in-Err-clause-served g c tells only stored =
     let few = fails_most (stored_calls stored) (d.passed c.args.disk) (d.passed c.in-Err.disk) c.in-Err.e passes in
     let most = counted_mono few.0 (stored_calls stored) (d.passed c.args.disk) few.1 in
     let total = counted_mono few.0 (stored_calls stored + 0) (d.passed c.args.disk) (omega (arith, few.1)) in
-    rw c.from.ensures (served_none d stored s.tells (s.left c.args.source.now) c.args.disk c.in-Err.disk c.in-Err.e k.tells (k.written c.args.sink.now) outside
+    rw c.from.ensures (served_none d stored s.tells (s.left c.args.source.now) (s.left c.args.source.now) c.args.disk c.in-Err.disk c.in-Err.e k.tells (k.written c.args.sink.now) outside
     (stored_moments d stored c.args.disk c.in-Err.disk (e.moments tells only stored.super stored.batches stored.pages shaped))
     (λ image left. stored_keeps d stored image (e.crash tells only stored.super stored.batches stored.pages shaped image left))
     (λ image since. g.met.D.Disk.only_now tells c.in-Err.disk image since) (e.disk.restarts tells)
@@ -87,7 +87,7 @@ returns-in-Ok-serve_all-clause-served g c tells only stored =
     let on = c.in-Ok-serve_all.ensures.plays tells stored.super first (e.holds tells stored.super stored.batches stored.pages stored.legal only stored.places stored.graph stored.found) running in
     let unharmed = λ (u : Unharmed d c.args.disk new.disk) (rose : DiskRose (d.faults old.disk) (d.stops old.disk) (d.faults new.disk) (d.stops new.disk)).
     u (disk_rose_since _ _ _ _ _ _ e.disk.cause.faults_kept e.disk.cause.stops_kept c.serve_all.ensures.disk.cause.faults_kept c.serve_all.ensures.disk.cause.stops_kept rose) in
-    rw (c.close.ensures) (served_opened stored running s.tells (s.left c.args.source.now) c.args.disk old new k.tells (k.written c.args.sink.now) (k.written c.serve_all.new.sink) (Ok tt) on
+    rw (c.close.ensures) (served_opened stored running s.tells (s.left c.args.source.now) (s.left c.serve_all.new.source) c.args.disk old new k.tells (k.written c.args.sink.now) (k.written c.serve_all.new.sink) (Ok tt) on
     tells (λ disk image since. g.met.D.Disk.only_now tells disk image since)
     (stored_moments d stored c.args.disk old.disk (e.moments tells only stored.super stored.batches stored.pages shaped))
     (λ image left. stored_keeps d stored image (e.crash tells only stored.super stored.batches stored.pages shaped image left))
@@ -107,7 +107,7 @@ returns-in-Err-serve_all-clause-served g c tells only stored =
     let on = c.in-Err-serve_all.ensures.plays tells stored.super first (e.holds tells stored.super stored.batches stored.pages stored.legal only stored.places stored.graph stored.found) running in
     let unharmed = λ (u : Unharmed d c.args.disk new.disk) (rose : DiskRose (d.faults old.disk) (d.stops old.disk) (d.faults new.disk) (d.stops new.disk)).
     u (disk_rose_since _ _ _ _ _ _ e.disk.cause.faults_kept e.disk.cause.stops_kept c.serve_all.ensures.disk.cause.faults_kept c.serve_all.ensures.disk.cause.stops_kept rose) in
-    rw (c.close-in-Err-serve_all.ensures, c.break_status.ensures) (served_opened stored running s.tells (s.left c.args.source.now) c.args.disk old new k.tells (k.written c.args.sink.now) (k.written c.serve_all.new.sink) (Err c.in-Err-serve_all.ended) on
+    rw (c.close-in-Err-serve_all.ensures, c.break_status.ensures) (served_opened stored running s.tells (s.left c.args.source.now) (s.left c.serve_all.new.source) c.args.disk old new k.tells (k.written c.args.sink.now) (k.written c.serve_all.new.sink) (Err c.in-Err-serve_all.ended) on
     tells (λ disk image since. g.met.D.Disk.only_now tells disk image since)
     (stored_moments d stored c.args.disk old.disk (e.moments tells only stored.super stored.batches stored.pages shaped))
     (λ image left. stored_keeps d stored image (e.crash tells only stored.super stored.batches stored.pages shaped image left))
