@@ -62,8 +62,18 @@ static sh_result fail(sh_error *error, sh_result result, const char *text) {
 
 /* ---- the process */
 
+static sh_result result_of(int status) {
+    switch (status) {
+        case 6: return SH_DISK_FAULT;
+        case 7: return SH_NOT_A_HEAP;
+        case 8: return SH_DAMAGED;
+        case 10: return SH_IN_USE;
+        default: return SH_ENDED;
+    }
+}
+
 static sh_result status_error(sh_error *error, int status) {
-    sh_result result = status == 6 ? SH_DISK_FAULT : status == 7 ? SH_NOT_A_HEAP : status == 8 ? SH_DAMAGED : SH_ENDED;
+    sh_result result = result_of(status);
     char text[64];
     snprintf(text, sizeof text, "the heap's process ended with status %d", status);
     fail(error, result, text);

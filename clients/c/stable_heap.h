@@ -30,7 +30,8 @@ typedef enum {
     SH_OUT_OF_HANDLES,  /* the transaction holds 64 objects: sh_drop frees one */
     SH_OUT_OF_SESSIONS, /* 32 transactions are active */
     /* The heap's process has ended, or has to be ended: sh_close is all that can follow. */
-    SH_DISK_FAULT, /* the file can't be read or written, or another program has it */
+    SH_DISK_FAULT, /* the file can't be read or written */
+    SH_IN_USE,     /* another program has the heap open */
     SH_NOT_A_HEAP,
     SH_DAMAGED,
     SH_ENDED,   /* for another reason: `status` is its exit status */

@@ -37,6 +37,7 @@ __all__ = [
     "Exhausted",
     "Heap",
     "HeapError",
+    "InUse",
     "LogFull",
     "NoSuchPage",
     "NotAHeap",
@@ -55,7 +56,7 @@ HANDLES = 64
 SESSIONS = 32
 LAUNCHER = pathlib.Path(__file__).resolve().parents[2] / "heap"
 
-STATUSES = {1: "out of memory", 6: "the disk failed", 7: "not a heap", 8: "damaged", 70: "the program can't be built"}
+STATUSES = {1: "out of memory", 6: "the disk failed", 7: "not a heap", 8: "damaged", 10: "in use", 70: "the program can't be built"}
 
 Result = TypeVar("Result")
 Value = Union[None, int, "Object"]
@@ -81,8 +82,12 @@ class Ended(HeapError):
         self.status = status
 
 
+class InUse(Ended):
+    """Another program has the heap open."""
+
+
 class DiskFault(Ended):
-    """The file can't be read or written, or another program has it. What is on the disk is known when the heap is opened again; after
+    """The file can't be read or written. What is on the disk is known when the heap is opened again; after
     a failed sync of a real file the safe course is to end this process too."""
 
 
@@ -164,7 +169,7 @@ REFUSALS: Dict[str, Type[Refused]] = {
     "numbersspent": NumbersSpent,
 }
 FAULTS = ("diskfault", "stopped", "failed")
-ENDS: Dict[int, Type[Ended]] = {6: DiskFault, 7: NotAHeap, 8: Damaged}
+ENDS: Dict[int, Type[Ended]] = {6: DiskFault, 7: NotAHeap, 8: Damaged, 10: InUse}
 
 
 def from_here(command: Sequence[str]) -> List[str]:

@@ -32,6 +32,7 @@ sleep 2
 note_bytes
 show graph
 show play --fresh 1 </dev/null
+show session </dev/null
 is_same
 cat <&3 >rest
 wait "$first"

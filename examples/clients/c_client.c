@@ -150,7 +150,7 @@ static void forced_later(sh_heap *heap) {
 static void heap_is_in_use(void) {
     sh_error error;
     CHECK(sh_open(folder, command, 1, 65536, &error) == NULL);
-    CHECK(error.result == SH_DISK_FAULT && error.status == 6);
+    CHECK(error.result == SH_IN_USE && error.status == 10);
 }
 
 static void what_is_no_heap_is_left_alone(void) {

@@ -175,7 +175,7 @@ class Client(unittest.TestCase):
         self.assertRaises(sh.Protocol, self.heap.force)
 
     def test_heap_in_use(self):
-        self.assertRaises(sh.DiskFault, self.open)
+        self.assertRaises(sh.InUse, self.open)
 
     def test_what_is_no_heap_is_left_alone(self):
         self.heap.close()

@@ -243,8 +243,8 @@ def main():
     try:
         session()
     except BlockingIOError:
-        print("the disk failed", file=sys.stderr)
-        return 6
+        print("in use", file=sys.stderr)
+        return 10
     except ValueError:
         print("not a heap", file=sys.stderr)
         return 7

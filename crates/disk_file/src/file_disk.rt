@@ -42,6 +42,14 @@ impl<R: Files<File = File> + Drop> FileDisk<R> {
         }
     }
 
+    /// Whether another `FileDisk` holds the file. Where none does, and it can be opened, it is held by this one from then on. No fault is
+    /// counted: a file that can't be opened for another reason is not in use, and the first call on it fails.
+    pub fn is_in_use(&mut self) -> bool
+        ensures { self.new ≡ self.old }
+    {
+        self.file.is_in_use()
+    }
+
     /// What a call of the file is as a disk's answer.
     fn answer(&mut self, done: io::Result<()>) -> Result<(), DiskError>
         ensures ok { OnOk result (self.new ≡ self.old) }

@@ -53,6 +53,14 @@ impl<R: Files<File = File> + Drop> RealFile<R> {
         synced
     }
 
+    /// Whether another holds the file, so that it can't be opened. Where none does, it is opened or made, and held from then on.
+    pub fn is_in_use(&mut self) -> bool {
+        match self.file() {
+            Ok(_) => false,
+            Err(e) => e.kind() == io::ErrorKind::WouldBlock,
+        }
+    }
+
     fn file(&mut self) -> io::Result<&File> {
         if self.open.is_none() {
             self.open = Some(open_held(&self.rt, self.path.as_str())?);

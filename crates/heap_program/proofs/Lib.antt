@@ -2,26 +2,26 @@ mod Behind
 pub mod Causes
 mod CommandLaws
 pub mod CoreSteps
-mod Counts
+pub mod Counts
 pub mod Lines
 pub mod NextRun
 mod PlayAborts
 pub mod PlayCore
 mod PlayEnding
 mod PlayEnds
-mod PlayEvent
+pub mod PlayEvent
 mod PlayFaults
-mod PlayFuse
+pub mod PlayFuse
 pub mod PlayLaws
 mod PlayLoop
 pub mod PlayOpen
 mod PlayPrints
 pub mod Playable
-mod PrintRecovered
+pub mod PrintRecovered
 pub mod PrintedImage
 pub mod Ready
 pub mod RefusalLaws
-mod Reopened
+pub mod Reopened
 mod RunLaws
 pub mod Statuses
 pub mod StepsLaws

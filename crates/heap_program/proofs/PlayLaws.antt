@@ -66,7 +66,7 @@ module _ {D : Type 0} {g : Ghosts D} where
     same_calls : (more : List Event) → total_calls c events + total_calls m more ≡ total_calls c (events ++ more)
     same_calls more = ap (λ (x : Core). total_calls c events + total_calls x more) first.reached ∙ sym (total_calls-append c events more)
 
-    all_then : (made : List Event) (d : Core) → MakesAll m made d mid new → MakesAll c (events ++ made) d old new
+    pub all_then : (made : List Event) (d : Core) → MakesAll m made d mid new → MakesAll c (events ++ made) d old new
     all_then made d second = record {
       reached = second.reached ∙ sym (same_core made);
       passes = counted_then (total_calls m made) (total_calls c events) (total_calls c (events ++ made)) (g.passed old.disk) (g.passed mid.disk) (g.passed new.disk) (same_calls made) first.passes second.passes;
@@ -93,11 +93,11 @@ module _ {D : Type 0} {g : Ghosts D} where
         );
       }
 
-      makes_then : (made : List Event) (d : Core) → Makes m made d mid new → Makes c (events ++ made) d old new
+      pub makes_then : (made : List Event) (d : Core) → Makes m made d mid new → Makes c (events ++ made) d old new
       makes_then made d (inl all) = inl (all_then made d all)
       makes_then made d (inr short) = inr (short.0, short_then made d short.0 short.1)
 
-      ends_then : (made behind : List Event) (d : Core) (result : Result (Unit {0}) Halt) → Ends m made behind d mid new result → Ends c (events ++ made) behind d old new result
+      pub ends_then : (made behind : List Event) (d : Core) (result : Result (Unit {0}) Halt) → Ends m made behind d mid new result → Ends c (events ++ made) behind d old new result
       ends_then made behind d (Ok done) ends = (ends.0, all_then made d ends.1)
       ends_then made behind d (Err halt.Stopped) ends = short_then made d (Refused Stopped) ends
       ends_then made behind d (Err halt.DiskFault) ends = short_then made d (Refused DiskFault) ends

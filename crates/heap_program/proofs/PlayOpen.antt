@@ -120,7 +120,7 @@ none_through None = refl
 none_through (Some n) = omega arith
 
 -- The calls of an opening that failed: none where memory was refused, and else the disk failed in it.
-unopened_calls : (stop : Option ℕ) (at_opening before now : ℕ) (unharmed : Type 0) (e : OpenError) (by : Status) → by ≡ open_status e → IsFromOutside e → (e ≡ opening.NoMemory → now ≡ before) → (e ≢ opening.NoMemory → unharmed → ⊥)
+pub unopened_calls : (stop : Option ℕ) (at_opening before now : ℕ) (unharmed : Type 0) (e : OpenError) (by : Status) → by ≡ open_status e → IsFromOutside e → (e ≡ opening.NoMemory → now ≡ before) → (e ≢ opening.NoMemory → unharmed → ⊥)
     → (counts : ℕ) × CountsOpening at_opening by [] counts × (unharmed → now ≡ counted (let_through stop (counts + 0)) before)
 unopened_calls stop at_opening before now unharmed opening.NoMemory by is outside same harm = (0, inr (is, refl, refl), λ u. same refl ∙ ap (λ (n : ℕ). counted n before) (sym (none_through stop)))
 unopened_calls stop at_opening before now unharmed opening.NotHeap by is outside same harm = absurd outside

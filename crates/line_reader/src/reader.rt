@@ -94,6 +94,8 @@ impl LineReader {
 
         // Where a whole line is held the source isn't asked.
         ensures held { HasLine self.old.held → source.new ≡ source.old }
+        // So none is held where a call of the source failed.
+        ensures waits { IsErrOf result LineError.SourceFailed → IsWithinLine self.new.held }
         // However long its lines are, no more bytes are held.
         ensures most { length self.new.held ≤ 1056768 }
 
@@ -131,6 +133,7 @@ impl LineReader {
         requires { length self.old.held ≤ 1048576 }
         ensures moved { IsTrue S.tells → self.new.held ++ S.left source.new ≡ self.old.held ++ S.left source.old }
         ensures end { IfOk result (λ more. IsFalse more → (self.new.held ≡ self.old.held) × (IsTrue S.tells → S.left source.new ≡ [])) }
+        ensures same { OnErr result (self.new.held ≡ self.old.held) }
         ensures grew { IfOk result (λ more. IsTrue more → length self.old.held < length self.new.held) }
         ensures most { length self.new.held ≤ 1056768 }
         ensures passing { self.new.passing ≡ self.old.passing }

@@ -47,7 +47,7 @@ run_heard c d (event ∷ events) run =
     )
 
 -- one line more
-asked_more : (answered : List Answered) (a : Answered) → asked (answered ++ a ∷ []) ≡ asked answered ++ named a.text
+pub asked_more : (answered : List Answered) (a : Answered) → asked (answered ++ a ∷ []) ≡ asked answered ++ named a.text
 asked_more answered a = flat_map-append (λ (x : Answered). named x.text) answered (a ∷ []) ∙ ap (λ (l : List Event). asked answered ++ l) (append-nil (named a.text))
 
 heard_more : (answered : List Answered) (a : Answered) → heard_of (answered ++ a ∷ []) ≡ heard_of answered ++ a.heard

@@ -4,6 +4,7 @@ use Rattle.std.specs.Prelude.{IsTrue, ◌==◌}
 use Rattle.std.proofs.lemmas.List.{append-nil}
 use Rattle.disk_model.specs.declared.disk.Disk.{Ghosts}
 use Rattle.graph_model.specs.declared.event.Event.{Event}
+use Rattle.graph_model.specs.declared.reply.Entry.{Entry}
 use Rattle.heap_core.specs.declared.heap.Heap.{Heap}
 use Rattle.heap_core.specs.Refinement.{IsCore}
 use Rattle.heap_model.specs.Core.{Core}
@@ -13,6 +14,7 @@ use Rattle.heap_program.specs.declared.play.Halt.{Halt}
 use Rattle.heap_program.specs.declared.play.Halt.TheVariants as halt
 use Rattle.heap_program.specs.Play.{PlaysCore, WroteFront, WroteLines}
 use Rattle.heap_program.specs.StatusOf.{write_halt}
+use Rattle.heap_program.proofs.Lines.{WroteSince}
 use Rattle.heap_program.proofs.PlayCore.{core_none, core_nothing}
 use Rattle.heap_program.proofs.Written.{none_written}
 use Rattle.script_text.specs.declared.line.Line.{Line}
@@ -38,9 +40,16 @@ pub faults : (number : ℕ) (text : List ℕ) (found : Option Line) → 0 < leng
 faults number [] found some is = absurd (omega arith)
 faults number (b ∷ text) found some is = ap (found_fault number) is
 
-wrote_none : (result : Result (Unit {0}) Halt) (before text : List ℕ) → text ≡ [] → Wrote result before text before
+pub wrote_none : (result : Result (Unit {0}) Halt) (before text : List ℕ) → text ≡ [] → Wrote result before text before
 wrote_none (Ok done) before text none = sym (ap (λ (l : List ℕ). before ++ l) none ∙ append-nil before)
 wrote_none (Err h) before text none = none_written before text
+
+-- nothing was made, and the sink failed
+pub stops_since : (history : List Entry) (before : List ℕ) → WroteSince (Err halt.WriteFault) history history before before
+stops_since history before =
+    let front : WroteFront before [] before = ([], [], refl, sym (append-nil before)) in
+    let lines : WroteLines before [] before = ([], [], [], refl, omega arith, sym (append-nil (before ++ []) ∙ append-nil before)) in
+    ([], sym (append-nil history), (front, lines))
 
 module _ {D : Type 0} {g : Ghosts D} (c : Core) where
   -- the sink failed before any event was made
@@ -54,10 +63,7 @@ module _ {D : Type 0} {g : Ghosts D} (c : Core) where
     run = refl;
     ends = inl refl;
     is = is;
-    written = λ t.
-        let front : WroteFront before [] before = ([], [], refl, sym (append-nil before)) in
-        let lines : WroteLines before [] before = ([], [], [], refl, omega arith, sym (append-nil (before ++ []) ∙ append-nil before)) in
-        ([], sym (append-nil c.history), (front, lines));
+    written = λ t. stops_since c.history before;
   }
 
   module _ (number : ℕ) (text : Option (List ℕ)) (heap : Heap D g) (told : Bool) (before after : List ℕ) where

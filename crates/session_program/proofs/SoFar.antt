@@ -1,5 +1,5 @@
 -- A session between two lines.
-use Rattle.std.proofs.Common.{◌≡◌, inl, inr, ℕ, ◌+◌, Bool, false, List, [], ◌∷◌, ◌++◌, length, map, Option, None, Some, Ok, Err, refl, sym, ap, ◌∙◌, subst, arith, length-append}
+use Rattle.std.proofs.Common.{◌≡◌, inl, inr, ℕ, ◌+◌, Bool, false, List, [], ◌∷◌, ◌++◌, length, map, Option, None, Some, Ok, Err, refl, sym, ap, ◌∙◌, subst, arith, append_assoc, length-append}
 use Rattle.std.specs.Prelude.{IsTrue, IsFalse}
 use Rattle.disk_model.specs.declared.disk.Disk.{Ghosts}
 use Rattle.heap_core.specs.declared.heap.Heap.{Heap}
@@ -10,21 +10,22 @@ use Rattle.heap_program.specs.declared.play.Halt.TheVariants as halt
 use Rattle.heap_program.specs.Play.{IsRunning}
 use Rattle.heap_program.proofs.CoreSteps.{running_after}
 use Rattle.heap_program.proofs.Ready.{AreReady}
-use Rattle.line_reader.specs.Taking.{IsFirstLine, EndsTooLong, PassesPart}
+use Rattle.line_reader.specs.Taking.{IsWithinLine, IsFirstLine, EndsTooLong, PassesPart}
 use Rattle.line_reader.specs.declared.reader.LineError.{LineError}
 use Rattle.line_reader.specs.declared.reader.LineError.TheVariants as reading
+use Rattle.script_text.specs.Script.{lines}
 use Rattle.session_program.specs.Ending.{line_break}
 use Rattle.session_program.specs.declared.ending.Break.TheVariants.{Halted, ReadFault}
-use Rattle.session_program.specs.Lines.{Answered}
-use Rattle.session_program.specs.Session.{HasAnswered, Answers, AreFirst, ServesLines, StopsThere}
+use Rattle.session_program.specs.Lines.{Answered, as_taken, fault_of}
+use Rattle.session_program.specs.Session.{HasAnswered, Answers, Wrote, AreFirst, AnswersTaken, ServesLines, StopsThere}
 use Rattle.session_program.proofs.Answering.{named_sessions, texts_more, answered_none, answered_next, its, whole}
-use Rattle.session_program.proofs.Unread.{Unread, unread_all, unread_line, unread_long, unread_part, unread_none}
+use Rattle.session_program.proofs.Unread.{Unread, unread_all, unread_line, unread_long, unread_part, unread_none, within_both}
 
 -- their texts
 abbrev pub texts_of : List Answered → List (Option (List ℕ))
 texts_of answered = map (λ (a : Answered). a.text) answered
 
-same_length : (answered : List Answered) → length (texts_of answered) ≡ length answered
+pub same_length : (answered : List Answered) → length (texts_of answered) ≡ length answered
 same_length [] = refl
 same_length (a ∷ answered) = let e = same_length answered in omega (arith, e)
 
@@ -39,7 +40,7 @@ module _ {D : Type 0} {g : Ghosts D} where
     pub count : number ≡ length answered + 1
     pub unread : IsTrue tells → Unread left (texts_of answered) passing stream
 
-  pub so_far_none : (tells : Bool) (left : List ℕ) (c : Core) (heap : Heap D g) (told : Bool) (before : List ℕ) → IsCore c heap → IsRunning c → SoFar tells left c heap false left 1 told before before
+  abbrev pub so_far_none : (tells : Bool) (left : List ℕ) (c : Core) (heap : Heap D g) (told : Bool) (before : List ℕ) → IsCore c heap → IsRunning c → SoFar tells left c heap false left 1 told before before
   so_far_none tells left c heap told before is running = record {
     answered = [];
     core = c;
@@ -53,7 +54,7 @@ module _ {D : Type 0} {g : Ghosts D} where
   module _ (tells : Bool) (left : List ℕ) (c : Core) (heap new : Heap D g) (passing passing' : Bool) (stream rest : List ℕ) (number : ℕ) (told : Bool) (before now after : List ℕ)
       (so_far : SoFar tells left c heap passing stream number told before now) where
     -- one line more
-    pub so_far_next : (text : Option (List ℕ)) → Answers so_far.core number text new told now after (Ok tt) → (IsTrue tells → Unread left (texts_of so_far.answered ++ text ∷ []) passing' rest)
+    abbrev pub so_far_next : (text : Option (List ℕ)) → Answers so_far.core number text new told now after (Ok tt) → (IsTrue tells → Unread left (texts_of so_far.answered ++ text ∷ []) passing' rest)
         → SoFar tells left c new passing' rest (number + 1) told before after
     so_far_next text answers unread =
         let a = its c so_far.core so_far.answered told before now after so_far.answers number so_far.count text new answers in
@@ -70,7 +71,7 @@ module _ {D : Type 0} {g : Ghosts D} where
         }
 
     -- a part of a line went
-    pub so_far_part : (IsTrue tells → Unread left (texts_of so_far.answered) passing' rest) → SoFar tells left c heap passing' rest number told before now
+    abbrev pub so_far_part : (IsTrue tells → Unread left (texts_of so_far.answered) passing' rest) → SoFar tells left c heap passing' rest number told before now
     so_far_part unread = record {
       answered = so_far.answered;
       core = so_far.core;
@@ -82,68 +83,88 @@ module _ {D : Type 0} {g : Ghosts D} where
     }
 
     -- what is unread behind the next line
-    behind_line : (text : List ℕ) → (IsTrue tells → IsFalse passing × IsFalse passing' × IsFirstLine text stream rest) → IsTrue tells → Unread left (texts_of so_far.answered ++ Some text ∷ []) passing' rest
+    pub behind_line : (text : List ℕ) → (IsTrue tells → IsFalse passing × IsFalse passing' × IsFirstLine text stream rest) → IsTrue tells → Unread left (texts_of so_far.answered ++ Some text ∷ []) passing' rest
     behind_line text taken t = let u = taken t in unread_line left (texts_of so_far.answered) passing passing' stream rest (so_far.unread t) text u.0 u.1 u.2
 
     -- and behind one that is too long
-    behind_long : (IsTrue tells → IsFalse passing' × EndsTooLong passing stream rest) → IsTrue tells → Unread left (texts_of so_far.answered ++ None ∷ []) passing' rest
+    pub behind_long : (IsTrue tells → IsFalse passing' × EndsTooLong passing stream rest) → IsTrue tells → Unread left (texts_of so_far.answered ++ None ∷ []) passing' rest
     behind_long taken t = let u = taken t in unread_long left (texts_of so_far.answered) passing passing' stream rest (so_far.unread t) u.0 u.1
 
-    pub line_next : (text : List ℕ) → (IsTrue tells → IsFalse passing × IsFalse passing' × IsFirstLine text stream rest) → Answers so_far.core number (Some text) new told now after (Ok tt) → SoFar tells left c new passing' rest (number + 1) told before after
+    abbrev pub line_next : (text : List ℕ) → (IsTrue tells → IsFalse passing × IsFalse passing' × IsFirstLine text stream rest) → Answers so_far.core number (Some text) new told now after (Ok tt) → SoFar tells left c new passing' rest (number + 1) told before after
     line_next text taken answers = so_far_next (Some text) answers (behind_line text taken)
 
-    pub long_next : (IsTrue tells → IsFalse passing' × EndsTooLong passing stream rest) → Answers so_far.core number None new told now after (Ok tt) → SoFar tells left c new passing' rest (number + 1) told before after
+    abbrev pub long_next : (IsTrue tells → IsFalse passing' × EndsTooLong passing stream rest) → Answers so_far.core number None new told now after (Ok tt) → SoFar tells left c new passing' rest (number + 1) told before after
     long_next taken answers = so_far_next None answers (behind_long taken)
 
-    pub part_next : (IsTrue tells → IsTrue passing' × PassesPart stream rest) → SoFar tells left c heap passing' rest number told before now
+    abbrev pub part_next : (IsTrue tells → IsTrue passing' × PassesPart stream rest) → SoFar tells left c heap passing' rest number told before now
     part_next taken = so_far_part (λ t. let u = taken t in unread_part left (texts_of so_far.answered) passing passing' stream rest (so_far.unread t) u.0 u.1)
 
-    first : IsTrue tells → AreFirst (texts_of so_far.answered) left
+    pub first : IsTrue tells → AreFirst (texts_of so_far.answered) left
     first t = let u = so_far.unread t in (_, u.left_lines)
 
-    there : now ≡ now → StopsThere so_far.core heap told now now
+    pub there : now ≡ now → StopsThere so_far.core heap told now now
     there e = record { is = so_far.is; nothing = λ t. refl }
 
-    -- no line is left
-    pub lines_done : (IsTrue tells → IsFalse passing × (stream ≡ [])) → ServesLines tells left c heap told before now (Ok tt)
-    lines_done end = record {
-      answered = so_far.answered;
-      core = so_far.core;
-      between = now;
-      answers = so_far.answers;
-      first = first;
-      ended = ((λ t. unread_none left (texts_of so_far.answered) passing passing stream stream (so_far.unread t) (end t).0 (end t).1), there refl);
-    }
+    -- so many bytes are left in the source now
+    module _ (left' : List ℕ) where
+      -- no line is left
+      abbrev pub lines_done : (IsTrue tells → IsFalse passing × (stream ≡ [])) → ServesLines tells left left' c heap told before now (Ok tt)
+      lines_done end = record {
+        answered = so_far.answered;
+        core = so_far.core;
+        between = now;
+        answers = so_far.answers;
+        first = first;
+        ended = ((λ t. unread_none left (texts_of so_far.answered) passing passing stream stream (so_far.unread t) (end t).0 (end t).1), there refl);
+      }
 
-    -- the next line could not be read
-    pub lines_unread : ServesLines tells left c heap told before now (Err ReadFault)
-    lines_unread = record { answered = so_far.answered; core = so_far.core; between = now; answers = so_far.answers; first = first; ended = there refl }
+      -- what was taken but not answered is no whole line
+      pub taken : (held : List ℕ) → (IsTrue tells → stream ≡ held ++ left') → IsWithinLine held → IsTrue tells → AnswersTaken (texts_of so_far.answered) left left'
+      taken held same within t =
+          let u = so_far.unread t in (
+            u.front ++ held,
+            within_both u.front held u.within within,
+            u.left_lines ∙ ap (λ (l : List ℕ). texts_of so_far.answered ++ map as_taken (lines (u.front ++ l))) (same t)
+                ∙ ap (λ (l : List ℕ). texts_of so_far.answered ++ map as_taken (lines l)) (sym (append_assoc u.front held left')),
+          )
 
-    -- nor was there memory
-    pub lines_nothing : ServesLines tells left c heap told before now (Err (Halted halt.NoMemory))
-    lines_nothing = record { answered = so_far.answered; core = so_far.core; between = now; answers = so_far.answers; first = first; ended = inr (refl, there refl) }
+      -- the next line could not be read
+      abbrev pub lines_unread : (held : List ℕ) → (IsTrue tells → stream ≡ held ++ left') → IsWithinLine held → ServesLines tells left left' c heap told before now (Err ReadFault)
+      lines_unread held same within = record { answered = so_far.answered; core = so_far.core; between = now; answers = so_far.answers; first = first; ended = (there refl, taken held same within) }
 
-    -- the answer of the next line halted
-    pub lines_halted : (text : Option (List ℕ)) (h : Halt) → Answers so_far.core number text new told now after (Err h) → (IsTrue tells → Unread left (texts_of so_far.answered ++ text ∷ []) passing' rest)
-        → ServesLines tells left c new told before after (Err (Halted h))
-    lines_halted text h answers unread =
-        let count : number ≡ length (texts_of so_far.answered) + 1 = so_far.count ∙ ap (λ (n : ℕ). n + 1) (sym (same_length so_far.answered)) in
-        record {
-          answered = so_far.answered;
-          core = so_far.core;
-          between = now;
-          answers = so_far.answers;
-          first = first;
-          ended = inl (record { text = text; next = λ t. (_, (unread t).left_lines); answers = subst (λ (n : ℕ). Answers so_far.core n text new told now after (Err h)) count answers });
-        }
+      -- nor was there memory
+      abbrev pub lines_nothing : ServesLines tells left left' c heap told before now (Err (Halted halt.NoMemory))
+      lines_nothing = record { answered = so_far.answered; core = so_far.core; between = now; answers = so_far.answers; first = first; ended = inr (refl, there refl) }
 
-    pub line_halted : (text : List ℕ) (h : Halt) → (IsTrue tells → IsFalse passing × IsFalse passing' × IsFirstLine text stream rest) → Answers so_far.core number (Some text) new told now after (Err h) → ServesLines tells left c new told before after (Err (Halted h))
-    line_halted text h taken answers = lines_halted (Some text) h answers (behind_line text taken)
+      -- the answer of the next line halted
+      abbrev pub lines_halted : (text : Option (List ℕ)) (h : Halt) → Answers so_far.core number text new told now after (Err h) → (IsTrue tells → Unread left (texts_of so_far.answered ++ text ∷ []) passing' rest)
+          → ServesLines tells left left' c new told before after (Err (Halted h))
+      lines_halted text h answers unread =
+          let count : number ≡ length (texts_of so_far.answered) + 1 = so_far.count ∙ ap (λ (n : ℕ). n + 1) (sym (same_length so_far.answered)) in
+          record {
+            answered = so_far.answered;
+            core = so_far.core;
+            between = now;
+            answers = so_far.answers;
+            first = first;
+            ended = inl (record {
+              text = text;
+              next = λ t. (_, (unread t).left_lines);
+              answers = record {
+                between = answers.between;
+                fault = subst (λ (n : ℕ). IsTrue told → Wrote (Err h) now (fault_of n text) answers.between) count answers.fault;
+                plays = answers.plays;
+              };
+            });
+          }
 
-    pub long_halted : (h : Halt) → (IsTrue tells → IsFalse passing' × EndsTooLong passing stream rest) → Answers so_far.core number None new told now after (Err h) → ServesLines tells left c new told before after (Err (Halted h))
-    long_halted h taken answers = lines_halted None h answers (behind_long taken)
+      abbrev pub line_halted : (text : List ℕ) (h : Halt) → (IsTrue tells → IsFalse passing × IsFalse passing' × IsFirstLine text stream rest) → Answers so_far.core number (Some text) new told now after (Err h) → ServesLines tells left left' c new told before after (Err (Halted h))
+      line_halted text h taken answers = lines_halted (Some text) h answers (behind_line text taken)
 
-    -- no line was read
-    pub lines_stopped : (e : LineError) → ServesLines tells left c heap told before now (Err (line_break e))
-    lines_stopped reading.NoMemory = lines_nothing
-    lines_stopped reading.SourceFailed = lines_unread
+      abbrev pub long_halted : (h : Halt) → (IsTrue tells → IsFalse passing' × EndsTooLong passing stream rest) → Answers so_far.core number None new told now after (Err h) → ServesLines tells left left' c new told before after (Err (Halted h))
+      long_halted h taken answers = lines_halted None h answers (behind_long taken)
+
+      -- no line was read
+      pub lines_stopped : (e : LineError) (held : List ℕ) → (IsTrue tells → stream ≡ held ++ left') → (e ≡ reading.SourceFailed → IsWithinLine held) → ServesLines tells left left' c heap told before now (Err (line_break e))
+      lines_stopped reading.NoMemory held same within = lines_nothing
+      lines_stopped reading.SourceFailed held same within = lines_unread held same (within refl)

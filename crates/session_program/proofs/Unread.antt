@@ -24,7 +24,7 @@ first_line text stream rest cut some = elim cut.parts [
   | inr last ↦ ap lines last.0 ∙ last_line text cut.within (subst (λ (l : List ℕ). 0 < length l) last.0 some) ∙ ap (λ (l : List ℕ). text ∷ lines l) (sym last.1)
 ]
 
-within_both : (front text : List ℕ) → IsWithinLine front → IsWithinLine text → IsWithinLine (front ++ text)
+pub within_both : (front text : List ℕ) → IsWithinLine front → IsWithinLine text → IsWithinLine (front ++ text)
 within_both [] text first second = second
 within_both (b ∷ front) text first second = (first.0, within_both front text first.1 second)
 

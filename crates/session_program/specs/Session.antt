@@ -1,20 +1,25 @@
 -- What a session promises.
 use Rattle.std.specs.Prelude.{◌≡◌, ◌⊎◌, ℕ, ◌+◌, List, [], ◌∷◌, ◌++◌, length, map, Bool, IsTrue, Option, Result, Ok, Err}
 use Rattle.std.specs.List.{AllByRecursion}
+use Rattle.std.proofs.Common.{inl, inr}
 use Rattle.disk_model.specs.declared.disk.Disk.{Ghosts}
+use Rattle.graph_model.specs.declared.event.Event.{Event}
+use Rattle.graph_model.specs.History.{IsOfSession}
 use Rattle.image_plan.specs.declared.superblock.Super.{Super}
 use Rattle.log_records.specs.declared.Record.{Record}
 use Rattle.page_redo.specs.Pages.{Pages}
 use Rattle.heap_core.specs.declared.heap.Heap.{Heap}
 use Rattle.heap_core.specs.HeapState.{heap_disk}
-use Rattle.heap_core.specs.Refinement.{IsCore}
+use Rattle.heap_core.specs.Refinement.{IsCore, IsHeap}
 use Rattle.heap_model.specs.Core.{Core}
 use Rattle.heap_model.specs.Ending.{ending}
 use Rattle.heap_program.specs.declared.play.Halt.{Halt}
 use Rattle.heap_program.specs.declared.play.Halt.TheVariants as halt
 use Rattle.heap_program.specs.declared.status.Status.{Status}
 use Rattle.heap_program.specs.Headline.{IsOpened}
-use Rattle.heap_program.specs.Play.{MadeAll, PlaysCore, WroteFront}
+use Rattle.heap_program.specs.Play.{MadeAll, PlaysCore, Plays, MakesAll, Makes, WroteFront}
+use Rattle.heap_program.specs.Steps.{HeapStep, AreSteps}
+use Rattle.line_reader.specs.Taking.{IsWithinLine}
 use Rattle.script_text.specs.Script.{lines}
 use Rattle.session_program.specs.declared.ending.Break.{Break}
 use Rattle.session_program.specs.declared.ending.Break.TheVariants.{Halted, ReadFault}
@@ -38,6 +43,10 @@ Wrote (Err h) before text after = WroteFront before text after
 abbrev pub AreFirst : List (Option (List ℕ)) → List ℕ → Type 0
 AreFirst texts left = (behind : List (Option (List ℕ))) × (map as_taken (lines left) ≡ texts ++ behind)
 
+-- All lines of an input were answered of which a whole one was taken from its source, which has the rest left: what is in hand has no newline.
+abbrev pub AnswersTaken : List (Option (List ℕ)) → List ℕ → List ℕ → Type 0
+AnswersTaken texts left rest = (hand : List ℕ) × IsWithinLine hand × (map as_taken (lines left) ≡ texts ++ map as_taken (lines (hand ++ rest)))
+
 -- Lines were answered from a core on, the first ones of an input that tells its bytes, and then it ended so.
 pub record Session (tells : Bool) (left : List ℕ) (c : Core) (told : Bool) (before : List ℕ) (ends : List (Option (List ℕ)) → Core → List ℕ → Type 0) : Type 0 where
   pub answered : List Answered
@@ -53,6 +62,12 @@ module _ {D : Type 0} {g : Ghosts D} where
     pub between : List ℕ
     pub fault : IsTrue told → Wrote result before (fault_of number text) between
     pub plays : PlaysCore c (named text) new told between after result
+
+  -- On a disk that tells: likewise, and each step says what it left on the disk.
+  pub record AnswersOn (s : Super) (c : Core) (number : ℕ) (text : Option (List ℕ)) (old new : Heap D g) (told : Bool) (before after : List ℕ) (result : Result (Unit {0}) Halt) : Type 0 where
+    pub between : List ℕ
+    pub fault : IsTrue told → Wrote result before (fault_of number text) between
+    pub plays : Plays s c (named text) old new told between after result
 
   -- The next line was taken, and its answer halted.
   pub record HaltsAtLine (tells : Bool) (left : List ℕ) (texts : List (Option (List ℕ))) (c : Core) (new : Heap D g) (told : Bool) (before after : List ℕ) (h : Halt) : Type 0 where
@@ -70,30 +85,70 @@ module _ {D : Type 0} {g : Ghosts D} where
     pub is : IsCore c new
     pub nothing : IsTrue told → after ≡ before
 
-  module _ (tells : Bool) (left : List ℕ) (new : Heap D g) (told : Bool) (after : List ℕ) where
+  module _ (tells : Bool) (left rest : List ℕ) (new : Heap D g) (told : Bool) (after : List ℕ) where
     -- How the answering of lines ends.
     abbrev pub EndsLines : Result (Unit {0}) Break → List (Option (List ℕ)) → Core → List ℕ → Type 0
     EndsLines (Ok done) texts c between = (IsTrue tells → map as_taken (lines left) ≡ texts) × StopsThere c new told between after
-    EndsLines (Err ReadFault) texts c between = StopsThere c new told between after
+    EndsLines (Err ReadFault) texts c between = StopsThere c new told between after × (IsTrue tells → AnswersTaken texts left rest)
     EndsLines (Err (Halted h)) texts c between = HaltsAtLine tells left texts c new told between after h ⊎ ((h ≡ halt.NoMemory) × StopsThere c new told between after)
 
     -- How a session ends.
     abbrev pub Ends : Result (Unit {0}) Break → List (Option (List ℕ)) → Core → List ℕ → Type 0
     Ends (Ok done) texts c between = PlaysEnding tells left texts c new told between after (Ok tt)
-    Ends (Err ReadFault) texts c between = StopsThere c new told between after
+    Ends (Err ReadFault) texts c between = StopsThere c new told between after × (IsTrue tells → AnswersTaken texts left rest)
     Ends (Err (Halted h)) texts c between =
         HaltsAtLine tells left texts c new told between after h ⊎ PlaysEnding tells left texts c new told between after (Err h) ⊎ ((h ≡ halt.NoMemory) × StopsThere c new told between after)
 
+    -- what was played behind the lines that were answered: the events that were made, and the core that they led to
+    abbrev pub lines_last : (result : Result (Unit {0}) Break) (texts : List (Option (List ℕ))) (c : Core) (between : List ℕ) → EndsLines result texts c between → List Event × Core
+    lines_last (Ok done) texts c between ended = ([], c)
+    lines_last (Err ReadFault) texts c between ended = ([], c)
+    lines_last (Err (Halted h)) texts c between (inl line) = (line.answers.plays.made, line.answers.plays.core)
+    lines_last (Err (Halted h)) texts c between (inr nothing) = ([], c)
+
+    abbrev pub session_last : (result : Result (Unit {0}) Break) (texts : List (Option (List ℕ))) (c : Core) (between : List ℕ) → Ends result texts c between → List Event × Core
+    session_last (Ok done) texts c between ended = (ended.plays.made, ended.plays.core)
+    session_last (Err ReadFault) texts c between ended = ([], c)
+    session_last (Err (Halted h)) texts c between (inl line) = (line.answers.plays.made, line.answers.plays.core)
+    session_last (Err (Halted h)) texts c between (inr (inl whole)) = (whole.plays.made, whole.plays.core)
+    session_last (Err (Halted h)) texts c between (inr (inr nothing)) = ([], c)
+
   -- On any disk: lines were answered.
-  abbrev pub ServesLines : Bool → List ℕ → Core → Heap D g → Bool → List ℕ → List ℕ → Result (Unit {0}) Break → Type 0
-  ServesLines tells left c new told before after result = Session tells left c told before (EndsLines tells left new told after result)
+  abbrev pub ServesLines : Bool → List ℕ → List ℕ → Core → Heap D g → Bool → List ℕ → List ℕ → Result (Unit {0}) Break → Type 0
+  ServesLines tells left rest c new told before after result = Session tells left c told before (EndsLines tells left rest new told after result)
 
   -- On any disk: a session was served.
-  abbrev pub Serves : Bool → List ℕ → Core → Heap D g → Bool → List ℕ → List ℕ → Result (Unit {0}) Break → Type 0
-  Serves tells left c new told before after result = Session tells left c told before (Ends tells left new told after result)
+  abbrev pub Serves : Bool → List ℕ → List ℕ → Core → Heap D g → Bool → List ℕ → List ℕ → Result (Unit {0}) Break → Type 0
+  Serves tells left rest c new told before after result = Session tells left c told before (Ends tells left rest new told after result)
+
+  -- what was played last in them
+  abbrev pub last_of_lines : (tells : Bool) (left rest : List ℕ) (c : Core) (new : Heap D g) (told : Bool) (before after : List ℕ) (result : Result (Unit {0}) Break) → ServesLines tells left rest c new told before after result → List Event × Core
+  last_of_lines tells left rest c new told before after result lines = lines_last tells left rest new told after result (map (λ a. a.text) lines.answered) lines.core lines.between lines.ended
+
+  abbrev pub last_of : (tells : Bool) (left rest : List ℕ) (c : Core) (new : Heap D g) (told : Bool) (before after : List ℕ) (result : Result (Unit {0}) Break) → Serves tells left rest c new told before after result → List Event × Core
+  last_of tells left rest c new told before after result serves = session_last tells left rest new told after result (map (λ a. a.text) serves.answered) serves.core serves.between serves.ended
+
+  -- On a disk that tells: the events of the lines that were answered were made, and those that were played last, and each step says what it
+  -- left on the disk.
+  pub record MakesSession (s : Super) (c : Core) (old new : Heap D g) (answered : List Answered) (last : List Event × Core) (result : Result (Unit {0}) Break) : Type 0 where
+    pub own : AllByRecursion IsOfSession (asked answered ++ last.0)
+    pub steps : AreSteps (HeapStep g) c old.disk (asked answered ++ last.0) last.1 new.disk
+    pub makes : Makes c (asked answered ++ last.0) last.1 old new
+    pub whole : result ≡ Ok tt → MakesAll c (asked answered ++ last.0) last.1 old new
+    pub heap : IsHeap s last.1 new
+
+  -- Lines were answered so.
+  pub record ServesLinesOn (s : Super) (tells : Bool) (left rest : List ℕ) (c : Core) (old new : Heap D g) (told : Bool) (before after : List ℕ) (result : Result (Unit {0}) Break) : Type 0 where
+    pub lines : ServesLines tells left rest c new told before after result
+    pub makes : MakesSession s c old new lines.answered (last_of_lines tells left rest c new told before after result lines) result
+
+  -- A session was served so.
+  pub record ServesOn (s : Super) (tells : Bool) (left rest : List ℕ) (c : Core) (old new : Heap D g) (told : Bool) (before after : List ℕ) (result : Result (Unit {0}) Break) : Type 0 where
+    pub serves : Serves tells left rest c new told before after result
+    pub makes : MakesSession s c old new serves.answered (last_of tells left rest c new told before after result serves) result
 
 -- A heap was opened, with some graph, on a shaped log beside stored pages as `from` says, and a session was served on it.
-pub record ServesHeap {D : Type 0} (g : Ghosts D) (from : Super → List (List Record) → Pages → (ℕ → ℕ) → Type 0) (tells : Bool) (left : List ℕ) (final : D) (by : Status) (told : Bool) (before after : List ℕ) : Type 0 where
+pub record ServesHeap {D : Type 0} (g : Ghosts D) (from : Super → List (List Record) → Pages → (ℕ → ℕ) → Type 0) (tells : Bool) (left rest : List ℕ) (final : D) (by : Status) (told : Bool) (before after : List ℕ) : Type 0 where
   pub first : Core
   pub opened : IsOpened first
   pub image : from opened.super opened.batches opened.stored opened.gates
@@ -101,4 +156,4 @@ pub record ServesHeap {D : Type 0} (g : Ghosts D) (from : Super → List (List R
   pub disk : final ≡ heap_disk heap
   pub result : Result (Unit {0}) Break
   pub status : by ≡ session_status result
-  pub serves : Serves tells left first heap told before after result
+  pub serves : Serves tells left rest first heap told before after result

@@ -1,18 +1,23 @@
 //! A session from its opening to its end.
 ghost use Rattle.std.specs.Prelude.{◌≡◌, ◌≢◌, ◌⊎◌, ℕ, ◌<◌, ◌≤◌, List, Ok, Err, IsTrue};
+ghost use Rattle.counts.specs.Count.{Rose};
 ghost use Rattle.disk_model.specs.Disk.{Only};
 ghost use Rattle.disk_model.specs.Keeps.{KeepsDisk};
 ghost use Rattle.disk_model.specs.Moments.{LeavesOnly};
 ghost use Rattle.heap_core.specs.HeapState.{heap_disk};
-ghost use Rattle.heap_core.specs.Refinement.{IsCore};
+ghost use Rattle.heap_core.specs.Refinement.{IsCore, IsHeap};
 ghost use Rattle.heap_model.specs.Core.{Core};
+ghost use Rattle.image_plan.specs.declared.superblock.Super.{Super};
 ghost use Rattle.heap_program.specs.declared.play.Halt.TheVariants as halt;
-ghost use Rattle.heap_program.specs.Causes.{StreamCause, RunsDisk};
-ghost use Rattle.heap_program.specs.Headline.{BlamesNoImage, IsOfImage};
+ghost use Rattle.heap_program.specs.Causes.{DiskRose, StreamCause, RunsDisk};
+ghost use Rattle.heap_program.specs.Headline.{OfTold, BlamesNoImage, IsOfImage};
 ghost use Rattle.heap_program.specs.Play.{IsRunning};
-ghost use Rattle.heap_program.specs.Refusals.{IsFault, IsToldOf, IsToldOfEach, EndsRefused, IsLeftAlone, LeavesAlone};
+ghost use Rattle.heap_program.specs.Stored.{IsStored, stored_core, stored_calls};
+ghost use Rattle.heap_recovery.specs.Faults.{IsLeftOf};
+ghost use Rattle.heap_program.specs.Refusals.{IsFault, IsWordFault, IsToldOf, IsToldOfEach, EndsRefused, IsLeftAlone, LeavesAlone};
 ghost use Rattle.session_program.specs.Ending.{IsSessionEnd, session_device};
-ghost use Rattle.session_program.specs.Session.{ServesLines, Serves, ServesHeap};
+ghost use Rattle.session_program.specs.Session.{ServesLines, ServesLinesOn, Serves, ServesOn, ServesHeap};
+ghost use Rattle.session_program.specs.Served.{IsServed};
 
 use crate::answer::{answer, refuse};
 use crate::ending::{Break, break_status};
@@ -41,7 +46,14 @@ pub fn serve<D: Disk, S: Source, K: Sink>(
     ensures disk_fault { RunsDisk D.Disk disk result.1 (result.0 ≡ Status.DiskFault) }
 
     // On any disk: the heap was not opened, and nothing was read or written; or the lines that were taken were answered in their order.
-    ensures serves { ((result.0 ≢ Status.Done) × (source.new ≡ source.old) × (sink.new ≡ sink.old)) ⊎ ServesHeap D.Disk (IsOfImage D.tells (D.bytes disk)) S.tells (S.left source.old) result.1 result.0 K.tells (K.written sink.old) (K.written sink.new) }
+    ensures serves { ((result.0 ≢ Status.Done) × (source.new ≡ source.old) × (sink.new ≡ sink.old)) ⊎ ServesHeap D.Disk (IsOfImage D.tells (D.bytes disk)) S.tells (S.left source.old) (S.left source.new) result.1 result.0 K.tells (K.written sink.old) (K.written sink.new) }
+
+    // On a modelled disk, with the heap that is there: nothing was done to the disk but in the opening and in events, and each moment of it is told.
+    ensures served { OfTold D.tells (D.bytes disk) (D.may_leave disk) ((stored : IsStored (D.bytes disk)) → IsServed D.Disk (stored_calls stored) S.tells (S.left source.old) (S.left source.new) (stored_core stored) disk result.1 result.0 K.tells (K.written sink.old) (K.written sink.new)) }
+    ensures restarts { IsTrue D.tells → D.restarts result.1 ≡ D.restarts disk }
+    // Without a fault it is done, if memory is there.
+    ensures complete { OfTold D.tells (D.bytes disk) (D.may_leave disk) (IsStored (D.bytes disk) → ¬ Rose (S.faults source.old) (S.faults source.new) → ¬ Rose (K.faults sink.old) (K.faults sink.new)
+        → ¬ DiskRose (D.faults disk) (D.stops disk) (D.faults result.1) (D.stops result.1) → (result.0 ≡ Status.Done) ⊎ (result.0 ≡ Status.NoMemory)) }
 
     // A status against the image tells what is so, and an image that can't be opened gives its own; nothing is read or written then.
     ensures unwritten { ¬ BlamesNoImage result.0 → (source.new ≡ source.old) × (sink.new ≡ sink.old) }
@@ -51,6 +63,8 @@ pub fn serve<D: Disk, S: Source, K: Sink>(
     ensures left_alone { IsTrue D.tells → (expected : Status) → IsFault expected (D.bytes disk) → IsLeftAlone expected → LeavesAlone D.Disk disk result.1 }
     // At each moment a crash leaves an image with the same fault.
     ensures keeps_fault { IsTrue D.tells → Only (D.bytes disk) (D.may_leave disk) → (expected : Status) → IsFault expected (D.bytes disk) → LeavesOnly D.moment D.left_since disk result.1 (IsFault expected) }
+    // One that is damaged at an address keeps its log, or has that log rolled back, and each byte outside of the log is as it was.
+    ensures keeps_log { OfTold D.tells (D.bytes disk) (D.may_leave disk) (IsWordFault (D.bytes disk) → LeavesOnly D.moment D.left_since disk result.1 (IsLeftOf (D.bytes disk))) }
 {
     let mut heap = match Heap::open(alloc, disk) {
         Ok(heap) => heap,
@@ -72,7 +86,8 @@ fn serve_all<D: Disk, S: Source, K: Sink>(
     ensures disk { KeepsDisk D.Disk (heap_disk heap.old) (heap_disk heap.new) (session_device result) }
     ensures source { StreamCause (S.faults source.old) (S.faults source.new) (result ≡ Err Break.ReadFault) }
     ensures sink { StreamCause (K.faults sink.old) (K.faults sink.new) (result ≡ Err (Break.Halted halt.WriteFault)) }
-    ensures core { (c : Core) → IsCore c heap.old → IsRunning c → Serves S.tells (S.left source.old) c heap.new K.tells (K.written sink.old) (K.written sink.new) result }
+    ensures core { (c : Core) → IsCore c heap.old → IsRunning c → Serves S.tells (S.left source.old) (S.left source.new) c heap.new K.tells (K.written sink.old) (K.written sink.new) result }
+    ensures plays { IsTrue D.tells → (of : Super) (c : Core) → IsHeap of c heap.old → IsRunning c → ServesOn of S.tells (S.left source.old) (S.left source.new) c heap.old heap.new K.tells (K.written sink.old) (K.written sink.new) result }
 {
     serve_lines(alloc, heap, source, sink)?;
     Ok(play_ending(alloc, heap, sink)?)
@@ -88,7 +103,8 @@ fn serve_lines<D: Disk, S: Source, K: Sink>(
     ensures disk { KeepsDisk D.Disk (heap_disk heap.old) (heap_disk heap.new) (session_device result) }
     ensures source { StreamCause (S.faults source.old) (S.faults source.new) (result ≡ Err Break.ReadFault) }
     ensures sink { StreamCause (K.faults sink.old) (K.faults sink.new) (result ≡ Err (Break.Halted halt.WriteFault)) }
-    ensures core { (c : Core) → IsCore c heap.old → IsRunning c → ServesLines S.tells (S.left source.old) c heap.new K.tells (K.written sink.old) (K.written sink.new) result }
+    ensures core { (c : Core) → IsCore c heap.old → IsRunning c → ServesLines S.tells (S.left source.old) (S.left source.new) c heap.new K.tells (K.written sink.old) (K.written sink.new) result }
+    ensures plays { IsTrue D.tells → (of : Super) (c : Core) → IsHeap of c heap.old → IsRunning c → ServesLinesOn of S.tells (S.left source.old) (S.left source.new) c heap.old heap.new K.tells (K.written sink.old) (K.written sink.new) result }
 {
     let mut reader = LineReader::new(alloc)?;
     let mut number = 1;

@@ -1,11 +1,13 @@
 use Rattle.std.proofs.Common.{◌+◌, ◌≤◌, ◌++◌, Ok}
-use Rattle.std.specs.Prelude.{Result}
+use Rattle.std.specs.Prelude.{Result, IsTrue}
 use Rattle.disk_model.specs.declared.disk.DiskError.{DiskError}
 use Rattle.disk_model.specs.Keeps.{KeepsDisk}
 use Rattle.heap_core.specs.HeapState.{heap_disk}
-use Rattle.heap_core.specs.Refinement.{IsCore}
+use Rattle.heap_core.specs.Refinement.{IsCore, IsHeap}
 use Rattle.heap_model.specs.Core.{Core}
+use Rattle.image_plan.specs.declared.superblock.Super.{Super}
 use Rattle.heap_program.specs.Play.{IsRunning}
+use Rattle.session_program.proofs.PlayedLines.{SoFarOn}
 use Rattle.session_program.proofs.SoFar.{SoFar}
 use Rattle.session_program.proofs.serving.serve_lines.Given as goal
 
@@ -21,4 +23,5 @@ invariant-loop-turn g l =
       sink : k.faults l.fn.sink ≤ k.faults l.sink;
       few : l.number ≤ l.turn + 1;
       core : (c : Core) → IsCore c l.fn.heap → IsRunning c → SoFar s.tells (s.left l.fn.source) c l.heap l.reader.passing (l.reader.held ++ s.left l.source) l.number k.tells (k.written l.fn.sink) (k.written l.sink);
+      plays : IsTrue g.D.Disk.tells → (of : Super) (c : Core) → IsHeap of c l.fn.heap → IsRunning c → SoFarOn of s.tells (s.left l.fn.source) c l.fn.heap l.heap l.reader.passing (l.reader.held ++ s.left l.source) l.number k.tells (k.written l.fn.sink) (k.written l.sink);
     }

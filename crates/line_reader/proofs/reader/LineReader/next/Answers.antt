@@ -1,6 +1,6 @@
 use Rattle.std.proofs.Common.{Bool, sym, subst, arith, take, drop, ◌+◌, ◌++◌, ◌∙◌}
 use Rattle.std.specs.Prelude.{IfOk}
-use Rattle.line_reader.specs.Taking.{HasLine, Holding, Takes}
+use Rattle.line_reader.specs.Taking.{HasLine, Holding, IsWithinLine, Takes}
 use Rattle.line_reader.proofs.Cuts.{not_within, line_result}
 use Rattle.line_reader.proofs.reader.LineReader.next.Goals as goal
 
@@ -13,6 +13,16 @@ pub returns-then-not-branch-clause-held : goal.returns-then-not-branch-clause-he
 returns-then-not-branch-clause-held g c has =
     let same = (c.loop-self.invariant.held has).1 in
     absurd (not_within _ (subst (λ (h : Holding). HasLine h.held) (sym same) has) (c.needs_more.ensures.0 c.loop-self-test.true).1)
+
+-- the source is asked where no whole line is held
+pub returns-in_err-refill-clause-waits : goal.returns-in_err-refill-clause-waits
+returns-in_err-refill-clause-waits g c failed = subst IsWithinLine (sym c.in_err-refill.ensures.same) (c.needs_more.ensures.0 c.loop-self-test.true).1
+
+pub returns-then-not-branch-clause-waits : goal.returns-then-not-branch-clause-waits
+returns-then-not-branch-clause-waits g c failed = absurd (c.take_rest.ensures.cause failed)
+
+pub returns-in-Some-clause-waits : goal.returns-in-Some-clause-waits
+returns-in-Some-clause-waits g c failed = absurd (c.take_line.ensures.cause failed)
 
 pub loop-self-preserved : goal.loop-self-preserved
 loop-self-preserved g c = record {
