@@ -1,6 +1,6 @@
 -- A transaction is sealed among others: what it made that has become reachable is promoted, and the core agrees with its history.
 use Rattle.std.proofs.Common.{◌≡◌, ℕ, ◌+◌, List, [], ◌∷◌, ◌++◌, length, Option, Some, None, refl, sym, ap, ◌∙◌, subst, arith, length-append}
-use Rattle.std.specs.Prelude.{fold, option_to_list}
+use Rattle.std.specs.Prelude.{option_to_list}
 use Rattle.graph_model.specs.declared.event.Event.TheVariants.{Seal}
 use Rattle.graph_model.specs.declared.reply.Reply.TheVariants.{Sealed}
 use Rattle.graph_model.specs.Graph.{Graph}
@@ -12,7 +12,6 @@ use Rattle.graph_model.specs.Plain.{view}
 use Rattle.commit_order.specs.Heard.{Heard}
 use Rattle.commit_order.proofs.OrderLaws.{IsOrdered}
 use Rattle.log_records.specs.declared.Record.{Record}
-use Rattle.log_machine.specs.Machine.{put_record}
 use Rattle.log_machine.specs.Entries.{EachKeyed}
 use Rattle.log_machine.proofs.MapLaws.{each_other}
 use Rattle.graph_words.specs.Places.{Places}
@@ -21,7 +20,7 @@ use Rattle.heap_model.specs.Core.{Core, log_start, all_records, area_in, ground,
 use Rattle.heap_model.specs.CoreTold.{IsTold, IsNumbered}
 use Rattle.core_laws.proofs.Step.Goes.{words_with, goes_on, number_below}
 use Rattle.core_laws.proofs.Step.Granted.{HasRoom, reserved_told}
-use Rattle.core_laws.proofs.Seal.Others.{stays_beside}
+use Rattle.core_laws.proofs.Seal.Cases.{sealed_told, stays_beside}
 use Rattle.core_laws.proofs.Seal.Told as seal
 use Rattle.core_laws.proofs.Sessions.Actives.{each_session, ended_actives, sessions_with, writer_by}
 use Rattle.core_laws.specs.Valid.{IsActive, IsWriter, IsWriting, Agrees}
@@ -56,7 +55,7 @@ module _ (a : Account) (c : Core) (h : Agrees a c) {numbers : List ℕ} {heard :
   told : IsTold (log_start c) c.born later c.remaining (serial c.g0 b.sealed) (c.before + length b.sealed) all words (seal.last a c h o s t e)
   told =
       let Told : Graph → ℕ → Type 0 = λ g k. IsTold (log_start c) c.born later c.remaining g k all words (seal.last a c h o s t e) in
-      subst (λ (k : ℕ). Told (serial c.g0 b.sealed) k) count (subst (λ (g : Graph). Told g (c.before + length a.sealed + 1)) left (seal.sealed_told a c h o s t e space))
+      subst (λ (k : ℕ). Told (serial c.g0 b.sealed) k) count (subst (λ (g : Graph). Told g (c.before + length a.sealed + 1)) left (sealed_told a c h o s t e space))
 
   -- those left whose writes may be taken back are active
   losers : EachKeyed (λ q us. IsActive b q) (seal.last a c h o s t e).undo
@@ -69,8 +68,7 @@ module _ (a : Account) (c : Core) (h : Agrees a c) {numbers : List ℕ} {heard :
       let P : ℕ → Option Transaction → Type 0 = λ q x. IsWriter later c.remaining c.g0 b x words last in
       each_session P a.active s None tt (λ q other. writer_by later c.remaining c.g0 b (a.active q) words last (λ u also.
       let stays = stays_beside a c h o s t e space q u (λ same. other (sym same)) also in
-      subst (λ (ws : List ℕ). IsWriting later c.remaining (view c.g0 b u) u.number (locks_of (serial c.g0 b.sealed) u) ws last) (sym (seal.words_behind a c h o s t e space))
-      (subst (λ (g : Graph). IsWriting later c.remaining (run g u) u.number (locks_of g u) (fold put_record (seal.now a c h o s t e) (seal.promotion a c h o s t e)) last) left stays))) r
+      subst (λ (g : Graph). IsWriting later c.remaining (run g u) u.number (locks_of g u) words last) left stays)) r
 
   goes : HasRoom c (seal.records a c h o s t e) b → Agrees b (record c { pending = c.pending ++ seal.records a c h o s t e; places = later })
   goes room =

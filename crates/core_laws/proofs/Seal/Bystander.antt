@@ -32,8 +32,7 @@ use Rattle.graph_words.proofs.Seal.Stands.{ends_on}
 use Rattle.graph_words.specs.Stands.{Stands, StandsAt, StandsCommitted, AreWritten, IsOfField, AreOfFields}
 use Rattle.graph_words.proofs.Stands.Objects.{stands_field_apart, stands_field_one, stands_get, stands_object, stands_one, stands_placed, stands_words}
 use Rattle.graph_words.proofs.Stands.Visible.{StandsAsBefore, area_used-same, committed_address, committed_visible, index_of-same, map_bits_of-same, place_of-apart, place_of-placed}
-use Rattle.heap_model.specs.CoreTold.{HoldsAtHand}
-use Rattle.core_laws.specs.Valid.{IsLocked, AreLocked}
+use Rattle.core_laws.specs.Valid.{AreLocked}
 
 -- A transaction that goes on while another one is sealed: what it sees, has made, holds and has written, before and behind the seal.
 pub record Bystander : Type 0 where
@@ -290,11 +289,6 @@ beside_fields c is = AllByRecursion-map (Wrote c) (IsOfField c.later_places c.h)
   field = let field = one.field in omega (arith, ap (λ o. length (unwrap_or o [])) (is.held one.id v.object one.object one.holds));
 }) (each_held c is)
 
--- of objects that it holds exclusively
-pub beside_locked : (c : Bystander) → IsBystander c → AreLocked c.later_places c.locks c.undo
-beside_locked c is = AllByRecursion-map (IsLocked c.places c.locks) (IsLocked c.later_places c.locks) c.undo
-    (λ v one. record { id = one.id; object = is.grown one.id v.object one.object; lock = one.lock }) is.locked
-
 none_before : (c : Bystander) → IsBystander c → (id : Id) → address_of c.later_places id ≡ None → address_of c.places id ≡ None
 none_before c is id none = elim (none_or_some (address_of c.places id)) [
   | inl before ↦ before
@@ -312,12 +306,3 @@ beside_written c is id target at i there got none = elim (exclusive_or_not c.loc
       let place = committed_address c.later_places target (AllByRecursion-get (IsVisible c.later_places 0 0) (fields c.sealed id) i (Ref target) (is.settled.visible id at there) was) in
       let clash = sym none ∙ place.1 in cc
 ]
-
-handle_on : (c : Bystander) → IsBystander c → (o : Option Id) → HoldsAtHand c.places c.u c.made o → HoldsAtHand c.later_places c.u c.made o
-handle_on c is None holds = tt
-handle_on c is (Some id) holds = hand_on c is id holds
-
--- its handles hold objects at hand
-pub beside_handles : (c : Bystander) → IsBystander c → (registers : List (Option Id)) → AllByRecursion (HoldsAtHand c.places c.u c.made) registers
-    → AllByRecursion (HoldsAtHand c.later_places c.u c.made) registers
-beside_handles c is registers holds = AllByRecursion-map (HoldsAtHand c.places c.u c.made) (HoldsAtHand c.later_places c.u c.made) registers (handle_on c is) holds

@@ -1,6 +1,6 @@
--- What the other active transactions see behind a seal.
-use Rattle.std.proofs.Common.{◌≡◌, ◌≢◌, ◌⊎◌, inl, inr, ℕ, ◌+◌, ◌<◌, ◌≤◌, List, [], ◌++◌, length, get_or, Some, None, unwrap_or, refl, sym, ap, ◌∙◌, subst, arith}
-use Rattle.std.specs.Prelude.{Contains, fold}
+-- What the other active transactions see behind a seal: it stands in the words behind the seal as before, whichever words these are.
+use Rattle.std.proofs.Common.{◌≡◌, ◌≢◌, ◌⊎◌, inl, inr, ℕ, ◌+◌, ◌<◌, ◌≤◌, List, [], ◌++◌, length, get_or, Option, Some, None, unwrap_or, refl, sym, ap, ◌∙◌, subst, arith}
+use Rattle.std.specs.Prelude.{Contains}
 use Rattle.std.specs.List.{AllByRecursion}
 use Rattle.std.specs.FinMap.{get}
 use Rattle.std.proofs.lemmas.List.{map-id}
@@ -18,33 +18,58 @@ use Rattle.commit_order.proofs.LockingLaws.{IsExclusive, RunAlike, fields-run, l
 use Rattle.commit_order.proofs.OrderLaws.{IsOrdered}
 use Rattle.log_machine.specs.declared.UndoEntry.{UndoEntry}
 use Rattle.log_machine.proofs.Fields.{written, AreApart, IsApart}
+use Rattle.log_machine.proofs.ListLaws.{AllByRecursion-map}
 use Rattle.log_machine.specs.Apart.{others_taken_back}
-use Rattle.log_machine.specs.Machine.{field_at, put_record, taken_back, undo_of}
+use Rattle.log_machine.specs.Machine.{State, all_taken_back, field_at, taken_back, undo_of}
+use Rattle.log_machine.specs.Sound.{AreLosers}
 use Rattle.log_machine.proofs.MapLaws.{each_remove}
 use Rattle.log_machine.proofs.StateLaws.{each_at}
 use Rattle.object_layout.specs.Layout.{field_words}
 use Rattle.graph_words.specs.Area.{HasMade}
 use Rattle.graph_words.specs.Places.{Places, address_of, made_by}
 use Rattle.graph_words.proofs.Places.Addresses.{none_or_some}
-use Rattle.graph_words.proofs.Promotion.Seal.{is_sealing, seal_stands, sealing}
-use Rattle.graph_words.proofs.Stands.ReadBack.{changed_field_words}
+use Rattle.graph_words.proofs.Promotion.Sealed.{sealed_state}
 use Rattle.graph_words.proofs.Seal.Places.{address_of-append_left}
-use Rattle.graph_words.proofs.Seal.Values.{later_cases}
-use Rattle.graph_words.proofs.Seal.Words.{length-records}
-use Rattle.graph_words.specs.Stands.{Stands, AreWritten, AreOfFields}
+use Rattle.graph_words.proofs.Stands.ReadBack.{changed_field_words}
+use Rattle.graph_words.specs.Stands.{Stands, StandsCommitted, AreWritten, AreOfFields}
 use Rattle.graph_words.proofs.Stands.Objects.{stands_get, stands_object, stands_within}
-use Rattle.collection_words.proofs.Heap.Cases.{IsPlain, plain}
-use Rattle.heap_model.specs.Core.{Core}
-use Rattle.heap_model.proofs.Step.Plain.{as_plain, of_plain, plain_stands}
-use Rattle.heap_model.proofs.Step.Goes.{told_sound}
+use Rattle.collection_words.specs.Completed.{completed_places}
+use Rattle.collection_words.proofs.Heap.Front.{at_hand_front}
+use Rattle.heap_model.specs.Core.{Core, all_words}
 use Rattle.heap_model.specs.CoreTold.{HoldsAtHand}
-use Rattle.core_laws.proofs.Sessions.Apart.{away_birth, away_field, away_header, free_shared, own_apart, own_free, same_length}
-use Rattle.core_laws.proofs.Seal.Bystander.{Bystander, IsBystander, beside_fields, beside_handles, beside_locked, beside_made, beside_stands, beside_written}
+use Rattle.core_laws.proofs.Sessions.Apart.{away_birth_all, away_field_all, away_header_all, free_shared, own_apart, own_free, same_length_all}
+use Rattle.core_laws.proofs.Seal.Bystander.{Bystander, IsBystander, beside_fields, beside_made, beside_stands, beside_written}
 use Rattle.core_laws.proofs.Step.Goes.{writing_of}
 use Rattle.core_laws.proofs.Sessions.OtherWrites.{IsAway, length-others, others_get, undo_other}
-use Rattle.core_laws.proofs.Seal.Told as seal
-use Rattle.core_laws.proofs.Seal.Words.{own_taken_back, promotion_writes, untouched}
-use Rattle.core_laws.specs.Valid.{AreLocked, IsWriting, Agrees}
+use Rattle.core_laws.proofs.Seal.Words.{own_taken_back}
+use Rattle.core_laws.specs.Valid.{AreLocked, IsLocked, Agrees}
+
+-- Words, and where objects stand in them, before a seal and behind it.
+pub record Sealed : Type 0 where
+  pub places : Places
+  pub words : List ℕ
+  pub used : ℕ
+  pub later_places : Places
+  pub later_words : List ℕ
+  pub later_used : ℕ
+
+-- The seal of a transaction leaves words so: their objects are objects of the completed words, more are only what it promotes, the words
+-- that it did not write stay, and the graph that it leaves stands committed.
+pub record IsSealed (c : Core) (state last : State) (t : ℕ) (after : Graph) (p : Sealed) : Type 0 where
+  pub among : (id : Id) (at : ℕ) → address_of p.places id ≡ Some at → address_of (completed_places state c.places c.remaining (all_words c)) id ≡ Some at
+  pub grown : (id : Id) (at : ℕ) → address_of p.places id ≡ Some at → address_of p.later_places id ≡ Some at
+  pub old_or_new : (id : Id) (at : ℕ) → address_of p.later_places id ≡ Some at → (address_of p.places id ≡ Some at) ⊎ (id.t ≡ t)
+  pub long : length p.later_words ≡ length p.words
+  pub stays : (x : ℕ) → x < state.base + p.used → AllByRecursion (λ v. x ≢ written v) (undo_of state t) → get_or p.later_words x 0 ≡ get_or p.words x 0
+  pub settled : StandsCommitted p.later_places after (all_taken_back last p.later_words) state.base p.later_used
+  pub sound : AreLosers last
+
+-- A transaction sees a graph in words, without the writes of the others, and what it made and wrote.
+pub record Sees (state : State) (v : View) (u : ℕ) (undo : List UndoEntry) (places : Places) (words : List ℕ) (used : ℕ) : Type 0 where
+  pub stands : Stands u v.made places v.graph (others_taken_back state u words) state.base used
+  pub has : HasMade places v.graph u v.made
+  pub written : AreWritten places v.graph undo
+  pub of_fields : AreOfFields places v.graph undo
 
 -- an object that is there in two graphs with the same fields is the same
 get_same : (g k : Graph) (id : Id) → IsThere g id → IsThere k id → fields g id ≡ fields k id → get g id ≡ get k id
@@ -52,224 +77,207 @@ get_same g k id here there same =
     here.1 ∙ ap Some (sym (ap (λ o. unwrap_or o []) here.1) ∙ same ∙ ap (λ o. unwrap_or o []) there.1) ∙ sym there.1
 
 module _ (a : Account) (c : Core) (h : Agrees a c) {numbers : List ℕ} {heard : Heard} (o : IsOrdered c.g0 numbers a heard) (s : ℕ) (t : Transaction) (e : a.active s ≡ Some t)
-    (space : seal.HasSpace a c h o s t e) (r : ℕ) (u : Transaction) (apart : s ≢ r) (also : a.active r ≡ Some u) where
+    (asked r : ℕ) (u : Transaction) (apart : s ≢ r) (also : a.active r ≡ Some u) where
   -- the graph that the sealed transactions left before
-  abbrev left : Graph
+  abbrev pub left : Graph
   left = serial c.g0 a.sealed
 
   -- and the one that the seal leaves
-  abbrev after : Graph
+  abbrev pub after : Graph
   after = (view c.g0 a t).graph
 
   -- what the other transaction sees before
-  abbrev before : View
+  abbrev pub before : View
   before = view c.g0 a u
 
   -- and behind the seal
-  abbrev behind : View
+  abbrev pub behind : View
   behind = run after u
 
-  -- the objects that stand in the space then
-  abbrev later : Places
-  later = c.places ++ seal.placed a c h o s t e
+  -- the state behind the seal
+  abbrev pub last : State
+  last = sealed_state h.behind t.number asked
 
-  -- all words then
-  abbrev then : List ℕ
-  then = fold put_record (seal.now a c h o s t e) (seal.promotion a c h o s t e)
+  -- what the other has written
+  abbrev pub its_undo : List UndoEntry
+  its_undo = undo_of h.behind u.number
 
-  -- the words as it sees them before
-  abbrev its_words : List ℕ
-  its_words = others_taken_back h.behind u.number (seal.now a c h o s t e)
-
-  -- and then
-  abbrev its_later_words : List ℕ
-  its_later_words = others_taken_back (seal.last a c h o s t e) u.number then
-
-  bystander : Bystander
-  bystander = record {
-    u = u.number;
-    made = before.made;
-    locks = locks_of left u;
-    undo = undo_of h.behind u.number;
-    places = c.places;
-    g = before.graph;
-    words = its_words;
-    base = h.behind.base;
-    used = h.behind.used;
-    later_places = later;
-    h = behind.graph;
-    later_words = its_later_words;
-    later_used = h.behind.used + seal.asked a c h o s t e;
-    sealed = after;
-    committed = seal.settled a c h o s t e;
-  }
-
-  w : IsWriting c.places c.remaining before u.number (locks_of left u) (seal.now a c h o s t e) h.behind
-  w = writing_of a c r u also h
-
-  -- what it sees stands in the words, as no collection is under way
-  its_stands : Stands u.number before.made c.places before.graph its_words h.behind.base h.behind.used
-  its_stands = as_plain (λ ps ws n. Stands u.number before.made ps before.graph (others_taken_back h.behind u.number ws) h.behind.base n) (seal.seal_plain a c h o s t e) w.stands
-
-  its_written : AreWritten c.places before.graph (undo_of h.behind u.number)
-  its_written = as_plain (λ ps ws n. AreWritten ps before.graph (undo_of h.behind u.number)) (seal.seal_plain a c h o s t e) w.written
-
-  left_plain : IsPlain (seal.last a c h o s t e) later c.remaining then
-  left_plain = plain (seal.last a c h o s t e) later c.remaining then (seal.behind_none a c h o s t e space)
-
-  differ : t.number ≢ u.number
+  pub differ : t.number ≢ u.number
   differ = (o.beside s r t u apart e also).differ
 
-  -- The graphs.
-  -- it runs alike on both
-  alike : RunAlike t.number (IsExclusive left t) (fresh_view left) (fresh_view after) u.number u.calls
+  -- it runs alike on both graphs
+  pub alike : RunAlike t.number (IsExclusive left t) (fresh_view left) (fresh_view after) u.number u.calls
   alike = runs_alike left t u o.closed (λ same. differ (sym same)) (o.unused s t e) (o.beside s r t u apart e also).apart
 
-  there_left : (id : Id) (at : ℕ) → address_of c.places id ≡ Some at → IsThere left id
-  there_left id at there = (fields left id, stands_get (plain_stands h.told) id at there)
-
-  there_after : (id : Id) (at : ℕ) → address_of later id ≡ Some at → IsThere after id
-  there_after id at there = (fields after id, stands_get (seal_stands (seal.can a c h o s t e space) (seal.room a c h o s t e space)) id at there)
+  pub same_undo : undo_of last u.number ≡ its_undo
+  same_undo = undo_other h.behind t.number u.number [] 0 differ
 
   -- it sees what it made as before
-  its_own : (k : ℕ) → 1 ≤ k → k ≤ before.made → get behind.graph (made_by u.number k) ≡ get before.graph (made_by u.number k)
-  its_own k first last =
+  pub its_own : (k : ℕ) → 1 ≤ k → k ≤ before.made → get behind.graph (made_by u.number k) ≡ get before.graph (made_by u.number k)
+  its_own k first final =
       let q = made_by u.number k in
       let made = alike.views.made in
-      let here = made_there left u q (record { maker = refl; from = first; to = last }) in
+      let here = made_there left u q (record { maker = refl; from = first; to = final }) in
       let there = made_there after u q (record { maker = refl; from = first; to = omega arith }) in
       let free = λ (holds : IsExclusive left t q). locks_of-other left t u.number q Exclusive o.closed differ (o.unused r u also) holds refl in
       sym (get_same before.graph behind.graph q here there (alike.views.objects q (λ same. differ (sym same)) free))
 
-  -- and what it holds
-  its_held : (id : Id) (at : ℕ) → address_of c.places id ≡ Some at → Contains (locks_of left u) (id, Exclusive) → get behind.graph id ≡ get before.graph id
-  its_held id at there holds =
-      let was = there_left id at there in
-      let free = λ (holds' : IsExclusive left t id). (o.beside s r t u apart e also).apart id Exclusive Exclusive holds' holds refl in
-      sym (get_same before.graph behind.graph id (IsThere-run left u id was) (IsThere-run after u id (IsThere-run left t id was))
-      (alike.views.objects id (there_other left t.number id (o.unused s t e) was) free))
+  -- it has locked what it wrote, with more objects in the current space
+  pub locked_beside : (more : Places) → AreLocked (c.places ++ more) (locks_of after u) (undo_of last u.number)
+  locked_beside more =
+      let w = writing_of a c r u also h in
+      subst (λ us. AreLocked (c.places ++ more) (locks_of after u) us) (sym same_undo)
+      (subst (λ ls. AreLocked (c.places ++ more) ls its_undo) alike.locks
+      (AllByRecursion-map (IsLocked c.places (locks_of left u)) (IsLocked (c.places ++ more) (locks_of left u)) its_undo
+      (λ v one. record { id = one.id; object = address_of-append_left c.places more one.id v.object one.object; lock = one.lock }) w.locked))
 
-  -- and all else as the seal left it
-  its_others : (id : Id) (at : ℕ) → address_of later id ≡ Some at → (Contains (locks_of left u) (id, Exclusive) → ⊥) → get behind.graph id ≡ get after id
-  its_others id at there free =
-      let is = there_after id at there in
-      let unused = run-IsUnused left t u.number o.closed (λ same. differ (sym same)) (o.unused r u also) in
-      get_same behind.graph after id (IsThere-run after u id is) is
-      (fields-run after u id (there_other after u.number id unused is) (λ holds. free (subst (λ (ls : List Lock). Contains ls (id, Exclusive)) (sym alike.locks) holds)))
+  handle_on : (more : Places) (x : Option Id) → HoldsAtHand c.places u.number before.made x → HoldsAtHand (c.places ++ more) u.number before.made x
+  handle_on more None holds = tt
+  handle_on more (Some id) holds = at_hand_front c.places more u.number before.made id holds
 
-  -- The places.
-  -- what stands in the space then stood there before, or the sealed transaction made it
-  old_or_new : (id : Id) (at : ℕ) → address_of later id ≡ Some at → (address_of c.places id ≡ Some at) ⊎ (id.t ≡ t.number)
-  old_or_new id at there =
-      let it = sealing c.places after t.number (view c.g0 a t).made (seal.own_undo a c h o s t e) (seal.own_words a c h o s t e) h.behind.base h.behind.used (seal.next_free a c h o s t e) in
-      elim (later_cases it (is_sealing (seal.can a c h o s t e space)) id at there) [ inl old ↦ inl old | inr to ↦ inr to.own.maker ]
+  -- and its handles hold objects at hand
+  pub handles_beside : (more : Places) → AllByRecursion (HoldsAtHand (c.places ++ more) u.number behind.made) behind.registers
+  handles_beside more =
+      let w = writing_of a c r u also h in
+      let here = AllByRecursion-map (HoldsAtHand c.places u.number before.made) (HoldsAtHand (c.places ++ more) u.number before.made) before.registers (handle_on more) w.handles in
+      subst (λ m. AllByRecursion (HoldsAtHand (c.places ++ more) u.number m) behind.registers) alike.views.made
+      (subst (λ rs. AllByRecursion (HoldsAtHand (c.places ++ more) u.number before.made) rs) alike.views.registers here)
 
-  -- what it holds stood there before
-  its_placed : (id : Id) (at : ℕ) → address_of later id ≡ Some at → Contains (locks_of left u) (id, Exclusive) → address_of c.places id ≡ Some at
-  its_placed id at there holds = elim (old_or_new id at there) [
-    | inl old ↦ old
-    | inr maker ↦ absurd (locks_of-other left u t.number id Exclusive o.closed (λ same. differ (sym same)) (o.unused s t e) holds maker)
-  ]
+  module _ (p : Sealed) (law : IsSealed c h.behind last t.number after p) (sees : Sees h.behind before u.number its_undo p.places p.words p.used)
+      (locked : AreLocked p.places (locks_of left u) its_undo) where
+    -- the words as it sees them before
+    abbrev its_words : List ℕ
+    its_words = others_taken_back h.behind u.number p.words
 
-  -- nothing that it made stands in the space
-  its_apart : (k : ℕ) → address_of later (made_by u.number k) ≡ None
-  its_apart k = elim (none_or_some (address_of later (made_by u.number k))) [
-    | inl none ↦ none
-    | inr (at, there) ↦ elim (old_or_new (made_by u.number k) at there) [
-      | inl old ↦ let none = w.made.apart k in cc
-      | inr maker ↦ absurd (differ (sym maker))
+    -- and then
+    abbrev its_later_words : List ℕ
+    its_later_words = others_taken_back last u.number p.later_words
+
+    bystander : Bystander
+    bystander = record {
+      u = u.number;
+      made = before.made;
+      locks = locks_of left u;
+      undo = its_undo;
+      places = p.places;
+      g = before.graph;
+      words = its_words;
+      base = h.behind.base;
+      used = p.used;
+      later_places = p.later_places;
+      h = behind.graph;
+      later_words = its_later_words;
+      later_used = p.later_used;
+      sealed = after;
+      committed = all_taken_back last p.later_words;
+    }
+
+    -- The graphs.
+    there_left : (id : Id) (at : ℕ) → address_of p.places id ≡ Some at → IsThere left id
+    there_left id at there = (fields left id, stands_get h.told.stands id at (law.among id at there))
+
+    there_after : (id : Id) (at : ℕ) → address_of p.later_places id ≡ Some at → IsThere after id
+    there_after id at there = (fields after id, stands_get law.settled id at there)
+
+    -- it sees what it holds as before
+    its_held : (id : Id) (at : ℕ) → address_of p.places id ≡ Some at → Contains (locks_of left u) (id, Exclusive) → get behind.graph id ≡ get before.graph id
+    its_held id at there holds =
+        let was = there_left id at there in
+        let free = λ (holds' : IsExclusive left t id). (o.beside s r t u apart e also).apart id Exclusive Exclusive holds' holds refl in
+        sym (get_same before.graph behind.graph id (IsThere-run left u id was) (IsThere-run after u id (IsThere-run left t id was))
+        (alike.views.objects id (there_other left t.number id (o.unused s t e) was) free))
+
+    -- and all else as the seal left it
+    its_others : (id : Id) (at : ℕ) → address_of p.later_places id ≡ Some at → (Contains (locks_of left u) (id, Exclusive) → ⊥) → get behind.graph id ≡ get after id
+    its_others id at there free =
+        let is = there_after id at there in
+        let unused = run-IsUnused left t u.number o.closed (λ same. differ (sym same)) (o.unused r u also) in
+        get_same behind.graph after id (IsThere-run after u id is) is
+        (fields-run after u id (there_other after u.number id unused is) (λ holds. free (subst (λ (ls : List Lock). Contains ls (id, Exclusive)) (sym alike.locks) holds)))
+
+    -- The places.
+    -- what it holds stood there before
+    its_placed : (id : Id) (at : ℕ) → address_of p.later_places id ≡ Some at → Contains (locks_of left u) (id, Exclusive) → address_of p.places id ≡ Some at
+    its_placed id at there holds = elim (law.old_or_new id at there) [
+      | inl old ↦ old
+      | inr maker ↦ absurd (locks_of-other left u t.number id Exclusive o.closed (λ same. differ (sym same)) (o.unused s t e) holds maker)
     ]
-  ]
 
-  -- The words.
-  -- a used word that no other transaction wrote stays behind the promotion
-  promotion_beside : (x : ℕ) → x < h.behind.base + h.behind.used → IsAway h.behind u.number x → get_or then x 0 ≡ get_or (seal.now a c h o s t e) x 0
-  promotion_beside x below away =
-      let Away : ℕ → List UndoEntry → Type 0 = λ q vs. q ≢ u.number → AllByRecursion (λ v. x ≢ written v) vs in
-      let none : AllByRecursion (λ v. x ≢ written v) (undo_of h.behind t.number) = each_at Away h.behind.undo t.number (λ other. tt) away differ in
-      untouched (seal.promotion a c h o s t e) (seal.now a c h o s t e) x
-      (promotion_writes (λ y. x ≢ y) (seal.own_area a c h o s t e) (seal.own_words a c h o s t e) (seal.own_undo a c h o s t e) (seal.next_free a c h o s t e) (λ y above same. omega arith) none)
+    -- nothing that it made stands in the space
+    its_apart : (k : ℕ) → address_of p.later_places (made_by u.number k) ≡ None
+    its_apart k = elim (none_or_some (address_of p.later_places (made_by u.number k))) [
+      | inl none ↦ none
+      | inr (at, there) ↦ elim (law.old_or_new (made_by u.number k) at there) [
+        | inl old ↦ let none = sees.has.apart k in cc
+        | inr maker ↦ absurd (differ (sym maker))
+      ]
+    ]
 
-  -- so it is the same as it sees it
-  word_same : (x : ℕ) → x < h.behind.base + h.behind.used → IsAway h.behind u.number x → get_or its_later_words x 0 ≡ get_or its_words x 0
-  word_same x below away =
-      let last = seal.last a c h o s t e in
-      let now = seal.now a c h o s t e in
-      let Away : ℕ → List UndoEntry → Type 0 = λ q vs. q ≢ u.number → AllByRecursion (λ v. x ≢ written v) vs in
-      others_get last u.number then x (each_remove Away h.behind.undo t.number away) ∙ promotion_beside x below away ∙ sym (others_get h.behind u.number now x away)
+    -- The words.
+    -- a used word that no other transaction wrote is the same as it sees it
+    word_same : (x : ℕ) → x < h.behind.base + p.used → IsAway h.behind u.number x → get_or its_later_words x 0 ≡ get_or its_words x 0
+    word_same x below away =
+        let Away : ℕ → List UndoEntry → Type 0 = λ q vs. q ≢ u.number → AllByRecursion (λ v. x ≢ written v) vs in
+        let none : AllByRecursion (λ v. x ≢ written v) (undo_of h.behind t.number) = each_at Away h.behind.undo t.number (λ other. tt) away differ in
+        others_get last u.number p.later_words x (each_remove Away h.behind.undo t.number away) ∙ law.stays x below none ∙ sym (others_get h.behind u.number p.words x away)
 
-  its_length : length its_later_words ≡ length its_words
-  its_length =
-      let now = seal.now a c h o s t e in
-      length-others (seal.last a c h o s t e) u.number then ∙ length-records (seal.promotion a c h o s t e) now ∙ sym (length-others h.behind u.number now)
+    its_length : length its_later_words ≡ length its_words
+    its_length = length-others last u.number p.later_words ∙ law.long ∙ sym (length-others h.behind u.number p.words)
 
-  -- what it holds has the same field words
-  its_fields : (id : Id) (at : ℕ) → address_of c.places id ≡ Some at → Contains (locks_of left u) (id, Exclusive) → field_words its_later_words at ≡ field_words its_words at
-  its_fields id at there holds =
-      let n = length (fields before.graph id) in
-      let lies = stands_within its_stands id at there in
-      let below = lies.below in
-      let free = free_shared c.g0 a u.number id (own_free a c h o r u also id holds) in
-      changed_field_words (λ x. x) its_words its_later_words at n (stands_object its_stands id at there) (record {
-        same = its_length;
-        header_same = word_same at (omega arith) (away_header a c h o u.number id at there);
-        birth_same = word_same (at + 1) (omega arith) (away_birth a c h o u.number id at there);
-        fields_changed = λ i within. word_same (field_at at i) (omega arith) (away_field a c h o r u also id at i there within free);
-      })
-      ∙ map-id (field_words its_words at)
+    -- what it holds has the same field words
+    its_fields : (id : Id) (at : ℕ) → address_of p.places id ≡ Some at → Contains (locks_of left u) (id, Exclusive) → field_words its_later_words at ≡ field_words its_words at
+    its_fields id at there holds =
+        let n = length (fields before.graph id) in
+        let lies = stands_within sees.stands id at there in
+        let below = lies.below in
+        let all = law.among id at there in
+        let free = free_shared c.g0 a u.number id (own_free a c h o r u also id holds) in
+        changed_field_words (λ x. x) its_words its_later_words at n (stands_object sees.stands id at there) (record {
+          same = its_length;
+          header_same = word_same at (omega arith) (away_header_all a c h o u.number id at all);
+          birth_same = word_same (at + 1) (omega arith) (away_birth_all a c h o u.number id at all);
+          fields_changed = λ i within. word_same (field_at at i) (omega arith) (away_field_all a c h o r u also id at i all within free);
+        })
+        ∙ map-id (field_words its_words at)
 
-  same_undo : undo_of (seal.last a c h o s t e) u.number ≡ undo_of h.behind u.number
-  same_undo = undo_other h.behind t.number u.number [] 0 differ
+    apart_behind : IsApart last u.number (undo_of last u.number)
+    apart_behind =
+        let Apart : List UndoEntry → ℕ → List UndoEntry → Type 0 = λ us q vs. q ≢ u.number → AreApart us vs in
+        subst (λ us. IsApart last u.number us) (sym same_undo) (each_remove (Apart its_undo) h.behind.undo t.number (own_apart a c h o r u also))
 
-  apart_behind : IsApart (seal.last a c h o s t e) u.number (undo_of (seal.last a c h o s t e) u.number)
-  apart_behind =
-      let Apart : List UndoEntry → ℕ → List UndoEntry → Type 0 = λ us q vs. q ≢ u.number → AreApart us vs in
-      subst (λ us. IsApart (seal.last a c h o s t e) u.number us) (sym same_undo) (each_remove (Apart (undo_of h.behind u.number)) h.behind.undo t.number (own_apart a c h o r u also))
+    -- its writes are all that is to be taken back of what it sees
+    its_back : taken_back its_undo its_later_words ≡ all_taken_back last p.later_words
+    its_back = ap (λ us. taken_back us its_later_words) (sym same_undo) ∙ own_taken_back last u.number p.later_words law.sound apart_behind
 
-  -- its writes are all that is to be taken back of what it sees
-  its_back : taken_back (undo_of h.behind u.number) its_later_words ≡ seal.settled a c h o s t e
-  its_back =
-      let last = seal.last a c h o s t e in
-      ap (λ us. taken_back us its_later_words) (sym same_undo)
-      ∙ own_taken_back last u.number then (told_sound (seal.sealed_told a c h o s t e space)) apart_behind
-      ∙ seal.settled_words a c h o s t e space
+    -- so it goes on beside the seal
+    is_bystander : IsBystander bystander
+    unfolding bystander
+    is_bystander = record {
+      stands = sees.stands;
+      has = sees.has;
+      written = sees.written;
+      of_fields = sees.of_fields;
+      locked = locked;
+      settled = law.settled;
+      back = its_back;
+      grown = law.grown;
+      apart = its_apart;
+      held_placed = its_placed;
+      lengths = λ id at there.
+          let all = law.among id at there in
+          same_length_all a c h o s t e id at all ∙ sym (same_length_all a c h o r u also id at all);
+      own = its_own;
+      held = its_held;
+      others = its_others;
+      held_words = its_fields;
+    }
 
-  -- so it goes on beside the seal
-  is_bystander : IsBystander bystander
-  unfolding bystander
-  is_bystander = record {
-    stands = its_stands;
-    has = w.made;
-    written = its_written;
-    of_fields = w.fields;
-    locked = w.locked;
-    settled = seal_stands (seal.can a c h o s t e space) (seal.room a c h o s t e space);
-    back = its_back;
-    grown = λ id at there. address_of-append_left c.places (seal.placed a c h o s t e) id at there;
-    apart = its_apart;
-    held_placed = its_placed;
-    lengths = λ id at there. same_length a c h o s t e id at there ∙ sym (same_length a c h o r u also id at there);
-    own = its_own;
-    held = its_held;
-    others = its_others;
-    held_words = its_fields;
-  }
-
-  -- What it sees stands behind the seal.
-  pub stays_beside : IsWriting later c.remaining behind u.number (locks_of after u) then (seal.last a c h o s t e)
-  unfolding bystander
-  stays_beside =
-      let last = seal.last a c h o s t e in
-      let own = sym same_undo in
-      record {
-        stands = of_plain (λ ps ws n. Stands u.number behind.made ps behind.graph (others_taken_back last u.number ws) last.base n) left_plain
-            (subst (λ m. Stands u.number m later behind.graph its_later_words last.base last.used) alike.views.made (beside_stands bystander is_bystander));
-        made = subst (λ m. HasMade later behind.graph u.number m) alike.views.made (beside_made bystander is_bystander);
-        apart = w.apart;
-        written = of_plain (λ ps ws n. AreWritten ps behind.graph (undo_of last u.number)) left_plain (subst (λ us. AreWritten later behind.graph us) own (beside_written bystander is_bystander));
-        fields = subst (λ us. AreOfFields later behind.graph us) own (beside_fields bystander is_bystander);
-        locked = subst (λ us. AreLocked later (locks_of after u) us) own
-            (subst (λ ls. AreLocked later ls (undo_of h.behind u.number)) alike.locks (beside_locked bystander is_bystander));
-        handles = subst (λ m. AllByRecursion (HoldsAtHand later u.number m) behind.registers) alike.views.made
-            (subst (λ rs. AllByRecursion (HoldsAtHand later u.number before.made) rs) alike.views.registers (beside_handles bystander is_bystander before.registers w.handles));
-      }
+    -- What it sees stands in the words behind the seal.
+    pub sees_beside : Sees last behind u.number its_undo p.later_places p.later_words p.later_used
+    unfolding bystander
+    sees_beside = record {
+      stands = subst (λ m. Stands u.number m p.later_places behind.graph its_later_words last.base p.later_used) alike.views.made (beside_stands bystander is_bystander);
+      has = subst (λ m. HasMade p.later_places behind.graph u.number m) alike.views.made (beside_made bystander is_bystander);
+      written = beside_written bystander is_bystander;
+      of_fields = beside_fields bystander is_bystander;
+    }

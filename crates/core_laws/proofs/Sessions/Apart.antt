@@ -40,7 +40,7 @@ use Rattle.heap_model.proofs.Step.Plain.{told_none}
 use Rattle.core_laws.specs.Valid.{IsLocked, IsWriting, Agrees}
 use Rattle.core_laws.proofs.Step.Goes.{writing_of}
 use Rattle.core_laws.proofs.Sessions.OtherWrites.{IsAway, others_at, length-others}
-use Rattle.core_laws.proofs.Sessions.Whole.{value_here, word_here}
+use Rattle.core_laws.proofs.Sessions.Whole.{value_here, whole_made, word_here}
 
 -- Locks.
 
@@ -110,16 +110,21 @@ module _ (a : Account) (c : Core) (h : Agrees a c) {numbers : List ℕ} {heard :
         writing = writing_of a c one.session one.transaction one.active h;
       }
 
-  not_made : (s : ℕ) (t : Transaction) → a.active s ≡ Some t → (id : Id) (at : ℕ) → address_of c.places id ≡ Some at → id.t ≢ t.number
+  not_made : (s : ℕ) (t : Transaction) → a.active s ≡ Some t → (id : Id) (at : ℕ) → address_of all_places id ≡ Some at → id.t ≢ t.number
   not_made s t e id at is maker =
-      let none = (writing_of a c s t e h).made.apart id.k in
-      let made : address_of c.places id ≡ None = ap (λ n. address_of c.places (record { t = n; k = id.k })) maker ∙ none in
+      let none = (whole_made (writing_of a c s t e h)).apart id.k in
+      let made : address_of all_places id ≡ None = ap (λ n. address_of all_places (record { t = n; k = id.k })) maker ∙ none in
       cc
 
-  -- an object that stands in the space has as many fields as any active transaction sees
+  -- an object of the completed words has as many fields as any active transaction sees
+  pub same_length_all : (s : ℕ) (t : Transaction) → a.active s ≡ Some t → (id : Id) (at : ℕ) → address_of all_places id ≡ Some at
+      → length (fields (view c.g0 a t).graph id) ≡ length (fields (serial c.g0 a.sealed) id)
+  same_length_all s t e id at is = length-fields-run (serial c.g0 a.sealed) t id (not_made s t e id at is)
+
+  -- so has one that stands in the space
   pub same_length : (s : ℕ) (t : Transaction) → a.active s ≡ Some t → (id : Id) (at : ℕ) → address_of c.places id ≡ Some at
       → length (fields (view c.g0 a t).graph id) ≡ length (fields (serial c.g0 a.sealed) id)
-  same_length s t e id at is = length-fields-run (serial c.g0 a.sealed) t id (not_made s t e id at is)
+  same_length s t e id at is = same_length_all s t e id at (among_all id at is)
 
   held_field : (s : ℕ) (t : Transaction) → a.active s ≡ Some t → (v : UndoEntry) → IsOfField c.places (view c.g0 a t).graph v → IsLocked c.places (locks_of (serial c.g0 a.sealed) t) v
       → IsHeldBy t v
@@ -142,10 +147,10 @@ module _ (a : Account) (c : Core) (h : Agrees a c) {numbers : List ℕ} {heard :
   others_held q vs some w =
       subst (AllByRecursion (IsHeldBy w.transaction)) (ap (undo_of h.behind) w.number ∙ sym w.own) (held_fields w.session w.transaction w.active)
 
-  field_free : (t u : Transaction) (r : ℕ) → a.active r ≡ Some u → u.number ≢ t.number → (id : Id) (at i : ℕ) → address_of c.places id ≡ Some at → i < length (fields (serial c.g0 a.sealed) id)
+  field_free : (t u : Transaction) (r : ℕ) → a.active r ≡ Some u → u.number ≢ t.number → (id : Id) (at i : ℕ) → address_of all_places id ≡ Some at → i < length (fields (serial c.g0 a.sealed) id)
       → IsFree c.g0 a t.number (Some (id, Shared)) → (v : UndoEntry) → IsHeldBy u v → field_at at i ≢ written v
   field_free t u r also differ id at i is within free v held same =
-      let one = stands_field_one h.told.stands id held.id at v.object i v.field (among_all id at is) (among_all held.id v.object held.object) within held.within same in
+      let one = stands_field_one h.told.stands id held.id at v.object i v.field is (among_all held.id v.object held.object) within held.within same in
       free u.number (record {
         differs = differ;
         mode = Exclusive;
@@ -160,34 +165,46 @@ module _ (a : Account) (c : Core) (h : Agrees a c) {numbers : List ℕ} {heard :
       })
 
   -- no other transaction has written a field that no other holds exclusively
-  pub away_field : (s : ℕ) (t : Transaction) → a.active s ≡ Some t → (id : Id) (at i : ℕ) → address_of c.places id ≡ Some at → i < length (fields (view c.g0 a t).graph id)
+  pub away_field_all : (s : ℕ) (t : Transaction) → a.active s ≡ Some t → (id : Id) (at i : ℕ) → address_of all_places id ≡ Some at → i < length (fields (view c.g0 a t).graph id)
       → IsFree c.g0 a t.number (Some (id, Shared)) → IsAway h.behind t.number (field_at at i)
-  away_field s t e id at i is within free q vs some other =
+  away_field_all s t e id at i is within free q vs some other =
       let w = of_another q vs some in
-      let long = same_length s t e id at is in
+      let long = same_length_all s t e id at is in
       AllByRecursion-map (IsHeldBy w.transaction) (λ v. field_at at i ≢ written v) vs
       (field_free t w.transaction w.session w.active (λ same. other (sym w.number ∙ same)) id at i is (omega arith) free) (others_held q vs some w)
 
-  head_free : (id : Id) (at : ℕ) → address_of c.places id ≡ Some at → (u : Transaction) (v : UndoEntry) → IsHeldBy u v → (at ≢ written v) × (at + 1 ≢ written v)
-  head_free id at is u v held = elim (stands_field_apart h.told.stands held.id id v.object at v.field (among_all held.id v.object held.object) (among_all id at is) held.within) [
+  -- the same of a current object
+  pub away_field : (s : ℕ) (t : Transaction) → a.active s ≡ Some t → (id : Id) (at i : ℕ) → address_of c.places id ≡ Some at → i < length (fields (view c.g0 a t).graph id)
+      → IsFree c.g0 a t.number (Some (id, Shared)) → IsAway h.behind t.number (field_at at i)
+  away_field s t e id at i is within free = away_field_all s t e id at i (among_all id at is) within free
+
+  head_free : (id : Id) (at : ℕ) → address_of all_places id ≡ Some at → (u : Transaction) (v : UndoEntry) → IsHeldBy u v → (at ≢ written v) × (at + 1 ≢ written v)
+  head_free id at is u v held = elim (stands_field_apart h.told.stands held.id id v.object at v.field (among_all held.id v.object held.object) is held.within) [
     | inl same ↦
-        let place : v.object ≡ at = same_Some v.object at (sym held.object ∙ ap (address_of c.places) same ∙ is) in
+        let place : v.object ≡ at = same_Some v.object at (sym (among_all held.id v.object held.object) ∙ ap (address_of all_places) same ∙ is) in
         (λ here. omega arith, λ here. omega arith)
     | inr (inl before) ↦ (λ here. omega arith, λ here. omega arith)
     | inr (inr later) ↦ (λ here. omega arith, λ here. omega arith)
   ]
 
   -- no transaction has written the header of an object
-  pub away_header : (n : ℕ) (id : Id) (at : ℕ) → address_of c.places id ≡ Some at → IsAway h.behind n at
-  away_header n id at is q vs some other =
+  pub away_header_all : (n : ℕ) (id : Id) (at : ℕ) → address_of all_places id ≡ Some at → IsAway h.behind n at
+  away_header_all n id at is q vs some other =
       let w = of_another q vs some in
       AllByRecursion-map (IsHeldBy w.transaction) (λ v. at ≢ written v) vs (λ v held. (head_free id at is w.transaction v held).0) (others_held q vs some w)
 
   -- or its birth
-  pub away_birth : (n : ℕ) (id : Id) (at : ℕ) → address_of c.places id ≡ Some at → IsAway h.behind n (at + 1)
-  away_birth n id at is q vs some other =
+  pub away_birth_all : (n : ℕ) (id : Id) (at : ℕ) → address_of all_places id ≡ Some at → IsAway h.behind n (at + 1)
+  away_birth_all n id at is q vs some other =
       let w = of_another q vs some in
       AllByRecursion-map (IsHeldBy w.transaction) (λ v. at + 1 ≢ written v) vs (λ v held. (head_free id at is w.transaction v held).1) (others_held q vs some w)
+
+  -- the same of a current object
+  pub away_header : (n : ℕ) (id : Id) (at : ℕ) → address_of c.places id ≡ Some at → IsAway h.behind n at
+  away_header n id at is = away_header_all n id at (among_all id at is)
+
+  pub away_birth : (n : ℕ) (id : Id) (at : ℕ) → address_of c.places id ≡ Some at → IsAway h.behind n (at + 1)
+  away_birth n id at is = away_birth_all n id at (among_all id at is)
 
   -- what a transaction holds exclusively no other one holds
   pub own_free : (s : ℕ) (t : Transaction) → a.active s ≡ Some t → (id : Id) → Contains (locks_of (serial c.g0 a.sealed) t) (id, Exclusive) → IsFree c.g0 a t.number (Some (id, Exclusive))

@@ -24,6 +24,7 @@ use Rattle.heap_model.specs.Core.{Core, ground, all_records, next_number, undo_w
 use Rattle.heap_model.proofs.Step.Goes.{told_sound, need_nothing}
 use Rattle.core_laws.proofs.Step.Granted.{reserved_told}
 use Rattle.core_laws.proofs.Step.Reserved.{reserved_with}
+use Rattle.core_laws.proofs.Seal.Cases.{sealed_told}
 use Rattle.core_laws.proofs.Seal.Told as seal
 use Rattle.core_laws.proofs.Sessions.Actives.{ended_reserved}
 use Rattle.core_laws.proofs.Step.Events.{kept_still, unfailed_refusal, log_abort}
@@ -156,7 +157,7 @@ module _ (m : Memory) (c : Core) (valid : IsValid c) (runs : RunsLocked c.g0 c.f
       let last = seal.last a c valid o s t e in
       let same : event_records c (Seal s) ≡ records = ap (λ (x : Option Transaction). call_records (ground c) c.g0 a x (Seal s)) e ∙ seal.seal_is a c valid o s t e in
       let behind : reserved_after c (Seal s) ≡ reserved (undo_of last) b =
-      ap (λ (rs : List Record). reserved (undo_behind c (all_records c ++ rs)) b) same ∙ reserved_told c records b (seal.sealed_told a c valid o s t e space) in
+      ap (λ (rs : List Record). reserved (undo_behind c (all_records c ++ rs)) b) same ∙ reserved_told c records b (sealed_told a c valid o s t e space) in
       let others = ended_reserved (undo_of valid.behind) (undo_of last) a s t (valid.in_sessions s t e) e
       (λ r u other also. ap (λ (x : Option (List UndoEntry)). unwrap_or x [])
       (get_kept valid.behind.undo t.number u.number (o.beside r s u t other also e).differ)) in

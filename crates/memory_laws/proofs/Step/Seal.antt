@@ -33,7 +33,7 @@ use Rattle.heap_model.specs.Core.{Core, ground, all_records, all_words, state_be
 use Rattle.core_laws.proofs.Sessions.Apart.{own_away}
 use Rattle.core_laws.proofs.Step.Goes.{writing_of}
 use Rattle.core_laws.proofs.Sessions.OtherWrites.{IsAway, others_at, undo_other}
-use Rattle.core_laws.proofs.Seal.Others.{stays_beside}
+use Rattle.core_laws.proofs.Seal.Cases.{old_or_new, reached, stays_beside}
 use Rattle.core_laws.proofs.Seal.Told as seal
 use Rattle.core_laws.proofs.Seal.Words.{fields_written}
 use Rattle.core_laws.proofs.Sessions.Actives.{each_session}
@@ -47,8 +47,6 @@ use Rattle.memory_laws.proofs.Kept.Locks.{held_sealed}
 use Rattle.core_laws.proofs.Step.Events.{may_go}
 use Rattle.graph_words.proofs.Places.Addresses.{none_or_some}
 use Rattle.graph_words.proofs.Promotion.Alike.{AgreeIn, need_same}
-use Rattle.graph_words.proofs.Promotion.Seal.{is_sealing, sealing}
-use Rattle.graph_words.proofs.Seal.Values.{later_cases}
 use Rattle.graph_model.specs.declared.id.Id.{Id}
 use Rattle.memory_laws.proofs.Step.Answered.{as_it_was, Goes, does}
 use Rattle.memory_laws.proofs.Step.Appended.{appended, ground_in, mine, own_kept, spaces_are}
@@ -114,7 +112,7 @@ module _ (c : Core) (valid : IsValid c) (runs : RunsLocked c.g0 c.first c.histor
 
   -- all records lead to the state behind it
   seal_reaches : state_behind c (all_records c ++ event_records c (Seal s)) ≡ Some last
-  seal_reaches = ap (λ (rs : List Record). state_behind c (all_records c ++ rs)) (appends ∙ seal.seal_is a c valid order s t e) ∙ seal.reached a c valid order s t e space
+  seal_reaches = ap (λ (rs : List Record). state_behind c (all_records c ++ rs)) (appends ∙ seal.seal_is a c valid order s t e) ∙ reached a c valid order s t e space
 
   -- and so are its places
   places_then : event_places c (Seal s) ≡ seal.placed a c valid order s t e
@@ -167,12 +165,11 @@ module _ (c : Core) (valid : IsValid c) (runs : RunsLocked c.g0 c.first c.histor
   -- only objects that the transaction made come to stand in the space
   others_stand : (id : Id) → id.t ≢ t.number → address_of later id ≡ address_of c.places id
   others_stand id other =
-      let it = sealing c.places v.graph t.number v.made undo (seal.own_words a c valid order s t e) behind.base behind.used (seal.next_free a c valid order s t e) in
       elim (none_or_some (address_of later id)) [
         | inl none ↦ none ∙ sym (none_before id none)
-        | inr there ↦ elim (later_cases it (is_sealing (seal.can a c valid order s t e space)) id there.0 there.1) [
+        | inr there ↦ elim (old_or_new a c valid order s t e space id there.0 there.1) [
           | inl old ↦ there.1 ∙ sym old
-          | inr to ↦ absurd (other to.own.maker)
+          | inr maker ↦ absurd (other maker)
         ]
       ]
 
