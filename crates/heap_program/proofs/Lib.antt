@@ -9,7 +9,7 @@ mod PlayAborts
 pub mod PlayCore
 mod PlayEnding
 mod PlayEnds
-pub mod PlayEvent
+mod PlayEvent
 mod PlayFaults
 pub mod PlayFuse
 pub mod PlayLaws

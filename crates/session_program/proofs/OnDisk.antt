@@ -17,7 +17,7 @@ use Rattle.heap_program.specs.declared.play.Halt.{Halt}
 use Rattle.heap_program.specs.declared.play.Halt.TheVariants as halt
 use Rattle.heap_program.specs.Play.{MadeAll, IsCutBy, EndsAs, MakesShort, Makes, Ends, Plays, PlaysCore, WroteFront}
 use Rattle.heap_program.specs.StatusOf.{write_halt}
-use Rattle.heap_program.specs.Steps.{HeapStep, AreSteps}
+use Rattle.heap_core.specs.Steps.{HeapStep, AreSteps}
 use Rattle.heap_program.proofs.Lines.{nothing_since}
 use Rattle.heap_program.proofs.PlayLaws.{plays_none}
 use Rattle.heap_program.proofs.Written.{none_written}

@@ -14,9 +14,9 @@ use Rattle.heap_model.specs.Core.{Core}
 use Rattle.heap_program.specs.declared.play.Halt.{Halt}
 use Rattle.heap_program.specs.declared.play.Halt.TheVariants as halt
 use Rattle.heap_program.specs.Play.{IsRunning, MakesAll, Makes, Plays}
-use Rattle.heap_program.specs.Steps.{HeapStep, AreSteps}
+use Rattle.heap_core.specs.Steps.{HeapStep, AreSteps}
 use Rattle.heap_program.proofs.PlayLaws.{all_then, makes_then, ends_makes}
-use Rattle.heap_program.proofs.StepsLaws.{steps_append}
+use Rattle.heap_core.proofs.StepsLaws.{steps_append}
 use Rattle.core_laws.proofs.Run.Calls.{of_session_front}
 use Rattle.line_reader.specs.Taking.{IsWithinLine, IsFirstLine, EndsTooLong, PassesPart}
 use Rattle.line_reader.specs.declared.reader.LineError.{LineError}

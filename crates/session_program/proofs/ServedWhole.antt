@@ -39,11 +39,11 @@ use Rattle.heap_program.specs.Headline.{KeepsThroughout, CountsOpening}
 use Rattle.heap_program.specs.Play.{IsRunning, MadeAll, IsCutBy, MakesAll, MakesShort, Makes, Plays}
 use Rattle.heap_program.specs.StatusOf.{open_status, halt_status}
 use Rattle.heap_program.specs.Stored.{IsStored, stored_core, stored_calls}
-use Rattle.heap_program.specs.Steps.{HeapStep, AreSteps}
+use Rattle.heap_core.specs.Steps.{HeapStep, AreSteps}
 use Rattle.heap_program.proofs.Causes.{disk_rose}
 use Rattle.heap_program.proofs.CoreSteps.{makes_run, running_after}
 use Rattle.heap_program.proofs.Counts.{counted_mono}
-use Rattle.heap_program.proofs.PlayEvent.{heap_leaves}
+use Rattle.heap_core.proofs.StepsLaws.{heap_leaves}
 use Rattle.heap_program.proofs.PlayFuse.{own_steps}
 use Rattle.heap_program.proofs.PlayOpen.{unopened_calls}
 use Rattle.heap_program.proofs.PlayLaws.{ends_makes}

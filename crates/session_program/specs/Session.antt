@@ -18,7 +18,7 @@ use Rattle.heap_program.specs.declared.play.Halt.TheVariants as halt
 use Rattle.heap_program.specs.declared.status.Status.{Status}
 use Rattle.heap_program.specs.Headline.{IsOpened}
 use Rattle.heap_program.specs.Play.{MadeAll, PlaysCore, Plays, MakesAll, Makes, WroteFront}
-use Rattle.heap_program.specs.Steps.{HeapStep, AreSteps}
+use Rattle.heap_core.specs.Steps.{HeapStep, AreSteps}
 use Rattle.line_reader.specs.Taking.{IsWithinLine}
 use Rattle.script_text.specs.Script.{lines}
 use Rattle.session_program.specs.declared.ending.Break.{Break}
