@@ -37,13 +37,18 @@ fn a_file_is_a_disk(rt: HostRuntime) -> Result<(), Fail> {
     assert_eq!(rt; bytes_at(&mut disk, 9)?, *b"\0abc\0");
 
     let mut other = disk_of(&rt, PATH)?;
+    assert!(rt; other.is_in_use());
+    assert!(rt; !disk.is_in_use());
     assert_eq!(rt; bytes_at(&mut other, 9), Err(DiskError::Failed));
     assert_eq!(rt; other.sync(), Err(DiskError::Failed));
     drop(disk);
+    assert!(rt; !other.is_in_use());
+    assert!(rt; disk_of(&rt, PATH)?.is_in_use());
     assert_eq!(rt; bytes_at(&mut other, 9)?, *b"\0abc\0");
 
     for path in [FOLDER, "disk_file_test/missing/heap.img"] {
         let mut none = disk_of(&rt, path)?;
+        assert!(rt; !none.is_in_use());
         assert_eq!(rt; none.write(0, b"abc"), Err(DiskError::Failed));
     }
     fs::remove_dir_all(&rt, FOLDER)?;
