@@ -47,15 +47,15 @@ heap_write {s} {places} {remaining} {words} {object} {field} {word} heap write =
     let others = with_word words object field word in
     elim (heap_cases heap) [
       | inl none ↦ record {
-          heap = none_write heap none write;
-          same = completed_none s places remaining others none.none ∙ ap (λ (ws : List ℕ). with_word ws object field word) (sym (completed_none s places remaining words none.none));
-          there = ap (λ (ps : Places). places ++ future s others ps) none.left ∙ sym (ap (λ (ps : Places). places ++ future s words ps) none.left);
-        }
+        heap = none_write heap none write;
+        same = completed_none s places remaining others none.none ∙ ap (λ (ws : List ℕ). with_word ws object field word) (sym (completed_none s places remaining words none.none));
+        there = ap (λ (ps : Places). places ++ future s others ps) none.left ∙ sym (ap (λ (ps : Places). places ++ future s words ps) none.left);
+      }
       | inr runs ↦ record {
-          heap = collecting_heap heap.small (write_laid runs.1 write);
-          same = completed_write runs.1 write;
-          there = ap (λ (ps : Places). places ++ ps) (places_taken_same words others remaining (s.base + s.used) (λ at has. write_taken runs.1 write at (has_left places remaining at has)));
-        }
+        heap = collecting_heap heap.small (write_laid runs.1 write);
+        same = completed_write runs.1 write;
+        there = ap (λ (ps : Places). places ++ ps) (places_taken_same words others remaining (s.base + s.used) (λ at has. write_taken runs.1 write at (has_left places remaining at has)));
+      }
     ]
 
 -- Writes that may be taken back.

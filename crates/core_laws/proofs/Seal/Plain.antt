@@ -100,6 +100,7 @@ leads_more ps qs (Some Null) leads = leads
 leads_more ps qs (Some (Int n)) leads = leads
 leads_more ps qs (Some (Stable at)) leads = subst (λ (xs : List ℕ). Contains xs at) (sym (addresses-append ps qs)) (Contains-append_left (addresses ps) (addresses qs) at leads)
 leads_more ps qs (Some (Volatile index)) leads = leads
+
 module _ (a : Account) (c : Core) (h : Agrees a c) {numbers : List ℕ} {heard : Heard} (o : IsOrdered c.g0 numbers a heard) (s : ℕ) (t : Transaction) (e : a.active s ≡ Some t)
     (none : HasNone h.behind c.remaining) (space : seal.HasSpace a c h o s t e) where
   abbrev seen : View

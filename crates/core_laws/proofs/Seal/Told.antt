@@ -37,6 +37,7 @@ refused_or_not false why e = refl
 
 space_fits : (s : State) (n : ℕ) → space_refusal (Some s) n ≡ None → n ≤ 64 * s.pages - s.used - owed s
 space_fits s n e = let room = ltb-false (64 * s.pages - s.used - owed s) n (refused_or_not _ (Exhausted n (64 * s.pages - s.used) (owed s)) e) in omega arith
+
 module _ (a : Account) (c : Core) (h : Agrees a c) {numbers : List ℕ} {heard : Heard} (o : IsOrdered c.g0 numbers a heard) (s : ℕ) (t : Transaction) (e : a.active s ≡ Some t) where
   -- what the transaction sees
   abbrev pub seen : View
