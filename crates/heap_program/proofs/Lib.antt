@@ -1,4 +1,4 @@
-mod Behind
+pub mod Behind
 pub mod Causes
 mod CommandLaws
 pub mod CoreSteps

@@ -30,6 +30,8 @@ use Rattle.heap_model.proofs.Step.Calls.{after_events-append, total_calls-append
 use Rattle.core_laws.specs.Valid.{IsReached}
 use Rattle.core_laws.proofs.Run.Ending.{ending_of_session}
 use Rattle.core_laws.proofs.Run.Replies.{replies_law}
+use Rattle.heap_core.specs.Refinement.{SameBehind}
+use Rattle.heap_program.proofs.Behind.{HasImages, played_behind}
 use Rattle.heap_program.specs.declared.play.Halt.{Halt}
 use Rattle.heap_program.specs.declared.play.Halt.TheVariants as halt
 use Rattle.heap_program.specs.declared.status.Status.{Status}
@@ -175,10 +177,10 @@ module _ {D : Type 0} {g : Ghosts D} {bytes : List ℕ} (stored : IsStored bytes
         (λ (some : (reply : Reply) × MakesShort c made at_end old new reply). absurd (unharmed (short_harm some.0 some.1)))
         on.makes.makes
 
-  pub served_opened : IsTrue g.tells → ((disk : D) (image : List ℕ) → g.left_since disk (g.moment disk) image → g.may_leave disk image) → LeavesOnly g.moment g.left_since start old.disk (IsCommitPrefix c)
+  pub served_opened : IsTrue g.tells → HasImages g → LeavesOnly g.moment g.left_since start old.disk (IsCommitPrefix c) → LeavesOnly g.moment g.left_since start old.disk (SameBehind c (g.bytes start))
       → ((image : List ℕ) → g.may_leave old.disk image → IsCommitPrefix c image) → g.passed old.disk ≡ counted n (g.passed start) → g.restarts old.disk ≡ g.restarts start
       → (Unharmed g start new.disk → Unharmed g old.disk new.disk) → IsServed g n tells left rest c start new.disk (session_status result) told before after
-  served_opened told_disk now opening here passed restarts unharmed =
+  served_opened told_disk has opening behind here passed restarts unharmed =
       let sum = ap (counted (total_calls c made)) passed ∙ counted-add (total_calls c made) n (g.passed start) in
       record {
         made = made;
@@ -194,8 +196,9 @@ module _ {D : Type 0} {g : Ghosts D} {bytes : List ℕ} (stored : IsStored bytes
           restarts = restarts;
           stopped = new.disk;
           steps = own_steps g start told_disk c at_end old.disk new.disk made on.makes.steps;
-          rest = begins g.moment g.left_since new.disk (IsCommitPrefix at_end) (λ image since. kept image (now new.disk image since));
+          rest = begins g.moment g.left_since new.disk (IsCommitPrefix at_end) (λ image since. kept image (has.now new.disk image since));
           kept = kept;
+          outside = played_behind g has (g.bytes start) None start c at_end start old.disk new.disk made behind (own_steps g start told_disk c at_end old.disk new.disk made on.makes.steps);
         };
         same = refl;
         exact = λ u. (exact (unharmed u)).reached;
@@ -211,12 +214,12 @@ module _ {D : Type 0} {g : Ghosts D} {bytes : List ℕ} (stored : IsStored bytes
 -- The heap was not opened: no event was made, and nothing was written.
 module _ {D : Type 0} (g : Ghosts D) {bytes : List ℕ} (stored : IsStored bytes) where
   pub served_none : (tells : Bool) (left rest : List ℕ) (start final : D) (e : OpenError) (told : Bool) (before : List ℕ) → IsFromOutside e
-      → LeavesOnly g.moment g.left_since start final (IsCommitPrefix (stored_core stored)) → ((image : List ℕ) → g.may_leave final image → IsCommitPrefix (stored_core stored) image)
+      → LeavesOnly g.moment g.left_since start final (IsCommitPrefix (stored_core stored)) → LeavesOnly g.moment g.left_since start final (SameBehind (stored_core stored) (g.bytes start)) → ((image : List ℕ) → g.may_leave final image → IsCommitPrefix (stored_core stored) image)
       → ((image : List ℕ) → g.left_since final (g.moment final) image → g.may_leave final image) → g.restarts final ≡ g.restarts start
       → (e ≡ opening.NoMemory → g.passed final ≡ g.passed start) → (e ≢ opening.NoMemory → Unharmed g start final → ⊥)
       → g.passed final ≤ counted (stored_calls stored) (g.passed start) → g.passed final ≤ counted (stored_calls stored + 0) (g.passed start) → (open_status e ≡ status.NoMemory → Only (g.bytes final) (g.may_leave final))
       → IsServed g (stored_calls stored) tells left rest (stored_core stored) start final (open_status e) told before before
-  served_none tells left rest start final e told before outside moments here now restarts same harm few most only =
+  served_none tells left rest start final e told before outside moments behind here now restarts same harm few most only =
       let c = stored_core stored in
       let calls = unopened_calls None (stored_calls stored) (g.passed start) (g.passed final) (Unharmed g start final) e (open_status e) refl outside same harm in
       record {
@@ -235,6 +238,7 @@ module _ {D : Type 0} (g : Ghosts D) {bytes : List ℕ} (stored : IsStored bytes
           steps = (refl, refl);
           rest = begins g.moment g.left_since final (IsCommitPrefix c) (λ image since. here image (now image since));
           kept = here;
+          outside = behind;
         };
         same = refl;
         exact = λ u. refl;

@@ -8,7 +8,9 @@ use Rattle.heap_program.specs.StatusOf.{open_status}
 use Rattle.heap_program.specs.Stored.{stored_core, stored_calls}
 use Rattle.heap_program.proofs.Causes.{rose_sum, rose_sum_stops, disk_rose_since}
 use Rattle.heap_program.proofs.Counts.{counted_mono}
-use Rattle.heap_program.proofs.PlayOpen.{stored_running, stored_keeps, stored_moments, opened_core}
+use Rattle.heap_recovery.proofs.FaultLaws.{shaped_readable}
+use Rattle.heap_program.proofs.Behind.{opening_behind}
+use Rattle.heap_program.proofs.PlayOpen.{stored_running, stored_keeps, stored_moments, stored_super, opened_core}
 use Rattle.heap_program.proofs.PrintRecovered.{fails_most, fails_none}
 use Rattle.heap_program.proofs.RefusalLaws.{fault_moments, left_moments}
 use Rattle.heap_program.proofs.Reopened.{outside_memory, reads_only, refused_memory}
@@ -66,6 +68,7 @@ returns-in-Err-clause-served g c tells only stored =
     let total = counted_mono few.0 (stored_calls stored + 0) (d.passed c.args.disk) (omega (arith, few.1)) in
     rw c.from.ensures (served_none d stored s.tells (s.left c.args.source.now) (s.left c.args.source.now) c.args.disk c.in-Err.disk c.in-Err.e k.tells (k.written c.args.sink.now) outside
     (stored_moments d stored c.args.disk c.in-Err.disk (e.moments tells only stored.super stored.batches stored.pages shaped))
+    (opening_behind d (stored_core stored) stored.super stored.batches (d.bytes c.args.disk) c.args.disk c.in-Err.disk (stored_super d stored) (e.moments_readable tells only stored.super stored.batches shaped.log.state (shaped_readable stored.super stored.batches stored.pages (d.bytes c.args.disk) shaped)))
     (λ image left. stored_keeps d stored image (e.crash tells only stored.super stored.batches stored.pages shaped image left))
     (λ image since. g.met.D.Disk.only_now tells c.in-Err.disk image since) (e.disk.restarts tells)
     (λ none. fails_none (stored_calls stored) (d.passed c.args.disk) (d.passed c.in-Err.disk) c.in-Err.e (ap open_status none) passes)
@@ -88,8 +91,9 @@ returns-in-Ok-serve_all-clause-served g c tells only stored =
     let unharmed = λ (u : Unharmed d c.args.disk new.disk) (rose : DiskRose (d.faults old.disk) (d.stops old.disk) (d.faults new.disk) (d.stops new.disk)).
     u (disk_rose_since _ _ _ _ _ _ e.disk.cause.faults_kept e.disk.cause.stops_kept c.serve_all.ensures.disk.cause.faults_kept c.serve_all.ensures.disk.cause.stops_kept rose) in
     rw (c.close.ensures) (served_opened stored running s.tells (s.left c.args.source.now) (s.left c.serve_all.new.source) c.args.disk old new k.tells (k.written c.args.sink.now) (k.written c.serve_all.new.sink) (Ok tt) on
-    tells (λ disk image since. g.met.D.Disk.only_now tells disk image since)
+    tells (record { counts = λ disk t image le may. g.met.D.Disk.counts_now tells disk t image le may; now = λ disk image since. g.met.D.Disk.only_now tells disk image since; reads = λ disk. g.met.D.Disk.reads_an_image tells disk })
     (stored_moments d stored c.args.disk old.disk (e.moments tells only stored.super stored.batches stored.pages shaped))
+    (opening_behind d first stored.super stored.batches (d.bytes c.args.disk) c.args.disk old.disk (stored_super d stored) (e.moments_readable tells only stored.super stored.batches shaped.log.state (shaped_readable stored.super stored.batches stored.pages (d.bytes c.args.disk) shaped)))
     (λ image left. stored_keeps d stored image (e.crash tells only stored.super stored.batches stored.pages shaped image left))
     (e.passes tells stored.super stored.batches stored.pages shaped).ok (e.disk.restarts tells) unharmed)
 
@@ -108,8 +112,9 @@ returns-in-Err-serve_all-clause-served g c tells only stored =
     let unharmed = λ (u : Unharmed d c.args.disk new.disk) (rose : DiskRose (d.faults old.disk) (d.stops old.disk) (d.faults new.disk) (d.stops new.disk)).
     u (disk_rose_since _ _ _ _ _ _ e.disk.cause.faults_kept e.disk.cause.stops_kept c.serve_all.ensures.disk.cause.faults_kept c.serve_all.ensures.disk.cause.stops_kept rose) in
     rw (c.close-in-Err-serve_all.ensures, c.break_status.ensures) (served_opened stored running s.tells (s.left c.args.source.now) (s.left c.serve_all.new.source) c.args.disk old new k.tells (k.written c.args.sink.now) (k.written c.serve_all.new.sink) (Err c.in-Err-serve_all.ended) on
-    tells (λ disk image since. g.met.D.Disk.only_now tells disk image since)
+    tells (record { counts = λ disk t image le may. g.met.D.Disk.counts_now tells disk t image le may; now = λ disk image since. g.met.D.Disk.only_now tells disk image since; reads = λ disk. g.met.D.Disk.reads_an_image tells disk })
     (stored_moments d stored c.args.disk old.disk (e.moments tells only stored.super stored.batches stored.pages shaped))
+    (opening_behind d first stored.super stored.batches (d.bytes c.args.disk) c.args.disk old.disk (stored_super d stored) (e.moments_readable tells only stored.super stored.batches shaped.log.state (shaped_readable stored.super stored.batches stored.pages (d.bytes c.args.disk) shaped)))
     (λ image left. stored_keeps d stored image (e.crash tells only stored.super stored.batches stored.pages shaped image left))
     (e.passes tells stored.super stored.batches stored.pages shaped).ok (e.disk.restarts tells) unharmed)
 
