@@ -17,7 +17,6 @@ use Rattle.log_machine.specs.Apart.{others_taken_back}
 use Rattle.log_machine.proofs.ListLaws.{AllByRecursion-map}
 use Rattle.log_machine.specs.Machine.{State, start, owed, words_in, undo_of, put_record, field_at}
 use Rattle.log_machine.proofs.StateLaws.{leads_after_all, spaced_more}
-use Rattle.log_machine.proofs.Fields.{written}
 use Rattle.volatile_area.specs.Area.{AreaState}
 use Rattle.graph_words.specs.Places.{Places}
 use Rattle.graph_words.specs.Promotion.{Field, promoted_need, moves_of, seal_records, promotion_records, promoted_places, written_fields}
