@@ -19,7 +19,7 @@ use Rattle.image_plan.specs.declared.superblock.Super.{Super}
 use Rattle.heap_core.specs.declared.heap.Heap.{Heap}
 use Rattle.heap_core.specs.Causes.{reply_device, step_device}
 use Rattle.heap_core.specs.HeapState.{heap_disk, history_of}
-use Rattle.heap_core.specs.Refinement.{DiskHolds, IsCore, IsHeap}
+use Rattle.heap_core.specs.Refinement.{DiskHolds, IsCore, IsHeap, IsLeftByStep}
 use Rattle.heap_core.specs.Steps.{HeapStep, AreSteps}
 use Rattle.heap_core.proofs.StepsLaws.{one_steps, steps_append, heap_leaves}
 use Rattle.heap_model.specs.Core.{Core, IsStep, IsRun, calls}
@@ -63,7 +63,7 @@ module _ {D : Type 0} {g : Ghosts D} where
       (kept : KeepsDisk g (heap_disk old) (heap_disk new) (reply_device reply))
       (next : (c : Core) → IsCore c old → IsReached c → (d : Core) × IsStep c event reply d × IsCore d new)
       (holds : IsTrue g.tells → (s : Super) (c : Core) → IsHeap s c old → IsReached c → (d : Core) × IsStep c event reply d × IsHeap s d new)
-      (moments : IsTrue g.tells → (s : Super) (c : Core) → IsHeap s c old → IsReached c → LeavesOnly g.moment g.left_since (heap_disk old) (heap_disk new) (IsCommitPrefix c))
+      (moments : IsTrue g.tells → (s : Super) (c : Core) → IsHeap s c old → IsReached c → LeavesOnly g.moment g.left_since (heap_disk old) (heap_disk new) (IsLeftByStep c (g.bytes (heap_disk old))))
       (passes : IsTrue g.tells → (c : Core) → IsCore c old → IsReached c → Passes (calls c event) (g.passed (heap_disk old)) (g.passed (heap_disk new)) (reply_device reply))
       (f : Follows first old) where
     abbrev entry : Entry
@@ -137,7 +137,7 @@ module _ {D : Type 0} {g : Ghosts D} where
       → ((c : Core) → IsCore c old → OnErr result (IsCore c new))
       → OnErr result (heap_disk new ≡ heap_disk old)
       → (IsTrue g.tells → (s : Super) (c : Core) → IsHeap s c old → IsReached c → IfOk result (λ reply. (d : Core) × IsStep c event reply d × IsHeap s d new))
-      → (IsTrue g.tells → (s : Super) (c : Core) → IsHeap s c old → IsReached c → LeavesOnly g.moment g.left_since (heap_disk old) (heap_disk new) (IsCommitPrefix c))
+      → (IsTrue g.tells → (s : Super) (c : Core) → IsHeap s c old → IsReached c → LeavesOnly g.moment g.left_since (heap_disk old) (heap_disk new) (IsLeftByStep c (g.bytes (heap_disk old))))
       → (IsTrue g.tells → (c : Core) → IsCore c old → IsReached c → IfOk result (λ reply. Passes (calls c event) (g.passed (heap_disk old)) (g.passed (heap_disk new)) (reply_device reply)))
       → Follows first old → Follows first new
   follows_on first old new event session (Ok reply) kept recorded core same untouched holds moments passes f = follows_step first old new event session reply recorded kept core holds moments passes f
