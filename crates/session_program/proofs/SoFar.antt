@@ -121,12 +121,14 @@ module _ {D : Type 0} {g : Ghosts D} where
       -- what was taken but not answered is no whole line
       pub taken : (held : List ℕ) → (IsTrue tells → stream ≡ held ++ left') → IsWithinLine held → IsTrue tells → AnswersTaken (texts_of so_far.answered) left left'
       taken held same within t =
-          let u = so_far.unread t in (
-            u.front ++ held,
-            within_both u.front held u.within within,
-            u.left_lines ∙ ap (λ (l : List ℕ). texts_of so_far.answered ++ map as_taken (lines (u.front ++ l))) (same t)
-                ∙ ap (λ (l : List ℕ). texts_of so_far.answered ++ map as_taken (lines l)) (sym (append_assoc u.front held left')),
-          )
+          let u = so_far.unread t in record {
+            taken = u.taken;
+            hand = u.front ++ held;
+            parts = u.parts ∙ ap (λ (l : List ℕ). u.taken ++ (u.front ++ l)) (same t) ∙ ap (λ (l : List ℕ). u.taken ++ l) (sym (append_assoc u.front held left'))
+                ∙ sym (append_assoc u.taken (u.front ++ held) left');
+            answered = u.answered;
+            within = within_both u.front held u.within within;
+          }
 
       -- the next line could not be read
       abbrev pub lines_unread : (held : List ℕ) → (IsTrue tells → stream ≡ held ++ left') → IsWithinLine held → ServesLines tells left left' c heap told before now (Err ReadFault)

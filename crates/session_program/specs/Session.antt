@@ -43,9 +43,14 @@ Wrote (Err h) before text after = WroteFront before text after
 abbrev pub AreFirst : List (Option (List ℕ)) → List ℕ → Type 0
 AreFirst texts left = (behind : List (Option (List ℕ))) × (map as_taken (lines left) ≡ texts ++ behind)
 
--- All lines of an input were answered of which a whole one was taken from its source, which has the rest left: what is in hand has no newline.
-abbrev pub AnswersTaken : List (Option (List ℕ)) → List ℕ → List ℕ → Type 0
-AnswersTaken texts left rest = (hand : List ℕ) × IsWithinLine hand × (map as_taken (lines left) ≡ texts ++ map as_taken (lines (hand ++ rest)))
+-- All lines of an input were answered of which a whole one was taken from its source, which has the rest left: what was taken is these lines and, in hand,
+-- bytes without a newline.
+pub record AnswersTaken (texts : List (Option (List ℕ))) (left rest : List ℕ) : Type 0 where
+  pub taken : List ℕ
+  pub hand : List ℕ
+  pub parts : left ≡ taken ++ hand ++ rest
+  pub answered : map as_taken (lines taken) ≡ texts
+  pub within : IsWithinLine hand
 
 -- Lines were answered from a core on, the first ones of an input that tells its bytes, and then it ended so.
 pub record Session (tells : Bool) (left : List ℕ) (c : Core) (told : Bool) (before : List ℕ) (ends : List (Option (List ℕ)) → Core → List ℕ → Type 0) : Type 0 where

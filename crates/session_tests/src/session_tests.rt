@@ -2,7 +2,7 @@
 use crate::pieces::Pieces;
 use disk_model::{Disk, FuseDisk, MemoryDisk, Pick};
 use heap_core::Heap;
-use heap_io::{MemorySink, MemorySource};
+use heap_io::{MemorySink, MemorySource, Source};
 use heap_program::Status;
 use session_program::serve;
 use std::alloc::{AllocError, Global};
@@ -97,13 +97,28 @@ fn no_line_has_no_answer(rt: HostRuntime) -> Result<(), Fail> {
     Ok(())
 }
 
-/// The source fails when the second line is asked for: the first was answered by then.
+/// The source fails when the second line is asked for.
 #[test]
-fn a_line_is_answered_before_the_next_is_read(rt: HostRuntime) -> Result<(), Fail> {
+fn a_source_that_fails_ends_the_session(rt: HostRuntime) -> Result<(), Fail> {
     let alloc = rt.alloc();
     let fails = (vec![in alloc; 2u64; 1]?, Vec::new(alloc));
     let (served, _disk) = serve_on(alloc, heap_disk(alloc)?, INPUT.as_bytes(), 8, fails)?;
     expect(&rt, &served, Status::ReadFault, "1 begin -> begun 1\n");
+    Ok(())
+}
+
+/// The sink fails at the first answer: by then no more than the piece with that line was taken.
+#[test]
+fn a_line_is_answered_before_more_is_taken(rt: HostRuntime) -> Result<(), Fail> {
+    let alloc = rt.alloc();
+    let inner = MemorySource::of(INPUT.as_bytes().to_vec(alloc)?, Vec::new(alloc));
+    let mut source = Pieces { inner, most: 8 };
+    let mut sink = MemorySink::of(alloc, SINK_BYTES, vec![in alloc; 1u64; 1]?)?;
+    let (status, _disk) = serve(alloc, heap_disk(alloc)?, &mut source, &mut sink);
+    let mut left = vec![in alloc; 0u8; 128]?;
+    let count = source.inner.take(&mut left).unwrap_or(0);
+    same(&rt, status, Status::WriteFault);
+    same(&rt, &left[..count], &INPUT.as_bytes()[8..]);
     Ok(())
 }
 
