@@ -18,10 +18,10 @@ use std::alloc::{AllocError, Global};
 use std::sync::Wait;
 use turn_lock::TurnLock;
 
-/// One caller's part of a shared heap, and what it knows of the history.
+/// One caller's part of a shared heap. What it knows of the history exists in proofs alone.
 pub type Pass<D> = turn_lock::Pass<Turned<D>>;
 
-/// A heap that threads share. It takes their events one at a time, in the order in which they came.
+/// A heap that threads share. It takes their events one at a time.
 #[derive(Drop)]
 pub struct SharedHeap<D: Disk> {
     lock: TurnLock<Turned<D>>,
@@ -94,7 +94,8 @@ impl<D: Disk> SharedHeap<D> {
         answer
     }
 
-    /// How many commits have been acknowledged so far, read without waiting, whoever has the turn.
+    /// How many commits, counted from the heap's opening, were acknowledged since it was shared: 0 before the first `Durable` since then. It is read
+    /// without waiting, whoever has the turn.
     pub fn front(&self, pass: &mut Pass<D>) -> u64
         requires { IsPass self.now pass.old }
         ensures pass { IsPass self.now pass.new × IsSamePass pass.old pass.new × HasSameTurns pass.old pass.new }
