@@ -67,11 +67,11 @@ cuts_line taken text stream rest cut some ended = elim cut.parts [
             ∙ sym (append_assoc (lines taken) (text ∷ []) (lines more)) ∙ ap (λ (l : List (List ℕ)). l ++ lines more) (sym lines_now);
       }
   | inr last ↦ record {
-      now = taken ++ text;
-      parts = ap (λ (l : List ℕ). taken ++ l) last.0 ∙ sym (append-nil (taken ++ text)) ∙ ap (λ (l : List ℕ). (taken ++ text) ++ l) (sym last.1);
-      lines_now = ended some text ∙ ap (λ (l : List (List ℕ)). lines taken ++ l) (last_line text cut.within (subst (λ (l : List ℕ). 0 < length l) last.0 some));
-      ended = λ left more. absurd (omega (arith, subst (λ (l : List ℕ). 0 < length l) last.1 left));
-    }
+    now = taken ++ text;
+    parts = ap (λ (l : List ℕ). taken ++ l) last.0 ∙ sym (append-nil (taken ++ text)) ∙ ap (λ (l : List ℕ). (taken ++ text) ++ l) (sym last.1);
+    lines_now = ended some text ∙ ap (λ (l : List (List ℕ)). lines taken ++ l) (last_line text cut.within (subst (λ (l : List ℕ). 0 < length l) last.0 some));
+    ended = λ left more. absurd (omega (arith, subst (λ (l : List ℕ). 0 < length l) last.1 left));
+  }
 ]
 
 -- The lines of an input: these were taken, and then those of the stream are left, of whose first one a front may be gone.
