@@ -1,4 +1,5 @@
 mod Answering
+mod NextSession
 mod OnDisk
 mod OneLine
 mod PlayedLines
