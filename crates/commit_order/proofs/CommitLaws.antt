@@ -7,7 +7,7 @@ use Rattle.graph_model.specs.declared.event.Event.TheVariants.{Seal}
 use Rattle.graph_model.specs.declared.reply.Entry.{Entry}
 use Rattle.graph_model.specs.declared.reply.Refusal.TheVariants.{Failed, DiskFault, Stopped}
 use Rattle.graph_model.specs.declared.reply.Reply.{Reply}
-use Rattle.graph_model.specs.declared.reply.Reply.TheVariants.{Begun, Sealed, Aborted, Durable, Flushed, Clean, Refused}
+use Rattle.graph_model.specs.declared.reply.Reply.TheVariants.{Begun, Sealed, Aborted, Durable, Flipped, Collecting, Scanned, Collected, Idle, Flushed, Clean, Refused}
 use Rattle.graph_model.specs.Graph.{Graph}
 use Rattle.graph_model.specs.Transaction.{Transaction, replies, serial, serial_replies}
 use Rattle.graph_model.specs.History.{Account, account, account_after, session_of, first_failure, cut_short}
@@ -50,6 +50,11 @@ entry_doubted g0 numbers a heard event (Sealed n) failed o d =
     }
 entry_doubted g0 numbers a heard event Aborted failed o d = record { told = d.told; certain = d.certain }
 entry_doubted g0 numbers a heard event (Durable n) failed o d = record { told = d.told; certain = d.certain }
+entry_doubted g0 numbers a heard event (Flipped objects words) failed o d = record { told = d.told; certain = d.certain }
+entry_doubted g0 numbers a heard event Collecting failed o d = record { told = d.told; certain = d.certain }
+entry_doubted g0 numbers a heard event (Scanned page objects words) failed o d = record { told = d.told; certain = d.certain }
+entry_doubted g0 numbers a heard event (Collected used) failed o d = record { told = d.told; certain = d.certain }
+entry_doubted g0 numbers a heard event Idle failed o d = record { told = d.told; certain = d.certain }
 entry_doubted g0 numbers a heard event (Flushed page) failed o d = record { told = d.told; certain = d.certain }
 entry_doubted g0 numbers a heard event (Clean page) failed o d = record { told = d.told; certain = d.certain }
 entry_doubted g0 numbers a heard event (Refused DiskFault) failed o d = let cut = cut_doubted g0 numbers a heard event o d in record { told = cut.told; certain = cut.certain }

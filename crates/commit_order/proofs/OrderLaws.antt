@@ -13,7 +13,7 @@ use Rattle.graph_model.specs.declared.event.Event.TheVariants.{Seal}
 use Rattle.graph_model.specs.declared.reply.Entry.{Entry}
 use Rattle.graph_model.specs.declared.reply.Refusal.TheVariants.{DiskFault, Stopped}
 use Rattle.graph_model.specs.declared.reply.Reply.{Reply}
-use Rattle.graph_model.specs.declared.reply.Reply.TheVariants.{Begun, Sealed, Aborted, Durable, Flushed, Clean, Refused}
+use Rattle.graph_model.specs.declared.reply.Reply.TheVariants.{Begun, Sealed, Aborted, Durable, Flipped, Collecting, Scanned, Collected, Idle, Flushed, Clean, Refused}
 use Rattle.graph_model.specs.Graph.{Graph}
 use Rattle.graph_model.specs.ClosedGraph.{IsClosed, IsUnused}
 use Rattle.graph_model.proofs.Whole.Closed.{run-SeesClosed, run-IsUnused}
@@ -276,6 +276,16 @@ entry_ordered g0 numbers a heard event Aborted asked o =
     recounted g0 (numbers ++ []) _ _ a.begun a.acknowledged (a.entries + 1) (grown g0 numbers [] _ _ (ended g0 numbers a heard (session_of event) o))
 entry_ordered g0 numbers a heard event (Durable n) asked o =
     recounted g0 (numbers ++ []) a heard a.begun (max a.acknowledged n) (a.entries + 1) (grown g0 numbers [] a heard o)
+entry_ordered g0 numbers a heard event (Flipped objects words) asked o =
+    recounted g0 (numbers ++ []) a heard a.begun a.acknowledged (a.entries + 1) (grown g0 numbers [] a heard o)
+entry_ordered g0 numbers a heard event Collecting asked o =
+    recounted g0 (numbers ++ []) a heard a.begun a.acknowledged (a.entries + 1) (grown g0 numbers [] a heard o)
+entry_ordered g0 numbers a heard event (Scanned page objects words) asked o =
+    recounted g0 (numbers ++ []) a heard a.begun a.acknowledged (a.entries + 1) (grown g0 numbers [] a heard o)
+entry_ordered g0 numbers a heard event (Collected used) asked o =
+    recounted g0 (numbers ++ []) a heard a.begun a.acknowledged (a.entries + 1) (grown g0 numbers [] a heard o)
+entry_ordered g0 numbers a heard event Idle asked o =
+    recounted g0 (numbers ++ []) a heard a.begun a.acknowledged (a.entries + 1) (grown g0 numbers [] a heard o)
 entry_ordered g0 numbers a heard event (Flushed page) asked o =
     recounted g0 (numbers ++ []) a heard a.begun a.acknowledged (a.entries + 1) (grown g0 numbers [] a heard o)
 entry_ordered g0 numbers a heard event (Clean page) asked o =

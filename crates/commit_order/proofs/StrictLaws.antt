@@ -11,7 +11,7 @@ use Rattle.graph_model.specs.declared.event.Event.{Event}
 use Rattle.graph_model.specs.declared.event.Event.TheVariants.{Seal}
 use Rattle.graph_model.specs.declared.reply.Refusal.TheVariants.{DiskFault, Stopped}
 use Rattle.graph_model.specs.declared.reply.Reply.{Reply}
-use Rattle.graph_model.specs.declared.reply.Reply.TheVariants.{Begun, Sealed, Aborted, Durable, Flushed, Clean, Refused}
+use Rattle.graph_model.specs.declared.reply.Reply.TheVariants.{Begun, Sealed, Aborted, Durable, Flipped, Collecting, Scanned, Collected, Idle, Flushed, Clean, Refused}
 use Rattle.graph_model.specs.Graph.{Graph}
 use Rattle.graph_model.specs.Transaction.{Transaction, fresh_view, serial}
 use Rattle.graph_model.specs.History.{Account, account, account_after, begins, aborts, cut_short, session_of, with_active, with_call}
@@ -118,6 +118,11 @@ module _ (g0 : Graph) (numbers : List ℕ) (a : Account) (heard : Heard) (o : Is
   still_entry event (Sealed n) anew = still_seal (session_of event) (a.entries + 1) (a.active (session_of event)) refl
   still_entry event Aborted anew = still_end (session_of event) (a.entries + 1)
   still_entry event (Durable n) anew = still_same (account_after a (record { event = event; reply = Durable n })) refl refl
+  still_entry event (Flipped objects words) anew = still_same (account_after a (record { event = event; reply = Flipped objects words })) refl refl
+  still_entry event Collecting anew = still_same (account_after a (record { event = event; reply = Collecting })) refl refl
+  still_entry event (Scanned page objects words) anew = still_same (account_after a (record { event = event; reply = Scanned page objects words })) refl refl
+  still_entry event (Collected used) anew = still_same (account_after a (record { event = event; reply = Collected used })) refl refl
+  still_entry event Idle anew = still_same (account_after a (record { event = event; reply = Idle })) refl refl
   still_entry event (Flushed page) anew = still_same (account_after a (record { event = event; reply = Flushed page })) refl refl
   still_entry event (Clean page) anew = still_same (account_after a (record { event = event; reply = Clean page })) refl refl
   still_entry event (Refused DiskFault) anew = still_cut event (a.entries + 1)

@@ -6,7 +6,7 @@ use Rattle.graph_model.specs.declared.event.Event.TheVariants.{Seal}
 use Rattle.graph_model.specs.declared.reply.Entry.{Entry}
 use Rattle.graph_model.specs.declared.reply.Refusal.TheVariants.{DiskFault, Stopped}
 use Rattle.graph_model.specs.declared.reply.Reply.{Reply}
-use Rattle.graph_model.specs.declared.reply.Reply.TheVariants.{Begun, Sealed, Aborted, Durable, Flushed, Clean, Refused}
+use Rattle.graph_model.specs.declared.reply.Reply.TheVariants.{Begun, Sealed, Aborted, Durable, Flipped, Collecting, Scanned, Collected, Idle, Flushed, Clean, Refused}
 use Rattle.graph_model.specs.History.{session_of}
 
 -- The replies to the calls of transactions.
@@ -46,6 +46,11 @@ hear heard event (Begun n) = record heard { active = with_replies heard.active (
 hear heard event (Sealed n) = hear_seal heard (session_of event)
 hear heard event Aborted = record heard { active = with_replies heard.active (session_of event) None }
 hear heard event (Durable n) = heard
+hear heard event (Flipped objects words) = heard
+hear heard event Collecting = heard
+hear heard event (Scanned page objects words) = heard
+hear heard event (Collected used) = heard
+hear heard event Idle = heard
 hear heard event (Flushed page) = heard
 hear heard event (Clean page) = heard
 hear heard event (Refused DiskFault) = hear_cut heard event

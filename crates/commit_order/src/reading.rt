@@ -43,7 +43,14 @@ impl Reading {
                 self.active.remove(&s);
                 Ok(())
             }
-            Reply::Durable { .. } | Reply::Flushed { .. } | Reply::Clean { .. } => Ok(()),
+            Reply::Durable { .. }
+            | Reply::Flipped { .. }
+            | Reply::Collecting
+            | Reply::Scanned { .. }
+            | Reply::Collected { .. }
+            | Reply::Idle
+            | Reply::Flushed { .. }
+            | Reply::Clean { .. } => Ok(()),
             Reply::Refused {
                 why: Refusal::DiskFault | Refusal::Stopped,
             } => self.cut(entry.event),

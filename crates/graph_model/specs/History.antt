@@ -3,10 +3,10 @@ use Rattle.std.specs.Prelude.{◌≡◌, ℕ, ◌+◌, ◌≤◌, ◌==◌, List
 use Rattle.std.specs.List.{range_with_len}
 use Rattle.std.specs.Option.{option_to_list}
 use Rattle.graph_model.specs.declared.event.Event.{Event}
-use Rattle.graph_model.specs.declared.event.Event.TheVariants.{Begin, Root, New, Put, Clear, Link, Drop, Get, Same, Len, Seal, Abort, Force, Flush}
+use Rattle.graph_model.specs.declared.event.Event.TheVariants.{Begin, Root, New, Put, Clear, Link, Drop, Get, Same, Len, Seal, Abort, Force, Flip, Scan, Flush}
 use Rattle.graph_model.specs.declared.reply.Refusal.TheVariants.{DiskFault, Stopped}
 use Rattle.graph_model.specs.declared.reply.Reply.{Reply}
-use Rattle.graph_model.specs.declared.reply.Reply.TheVariants.{Begun, Sealed, Aborted, Durable, Flushed, Clean, Refused}
+use Rattle.graph_model.specs.declared.reply.Reply.TheVariants.{Begun, Sealed, Aborted, Durable, Flipped, Collecting, Scanned, Collected, Idle, Flushed, Clean, Refused}
 use Rattle.graph_model.specs.declared.reply.Entry.{Entry}
 use Rattle.graph_model.specs.Transaction.{Transaction}
 
@@ -18,7 +18,7 @@ sessions = range_with_len 1 32
 abbrev pub IsSession : ℕ → Type 0
 IsSession s = (1 ≤ s) × (s ≤ 32)
 
--- the session of an event, and 0 for `force` and `flush`, which are of none
+-- the session of an event, and 0 for `force`, `flip`, `scan` and `flush`, which are of none
 abbrev pub session_of : Event → ℕ
 session_of (Begin s) = s
 session_of (Root s h) = s
@@ -33,11 +33,15 @@ session_of (Len s h) = s
 session_of (Seal s) = s
 session_of (Abort s) = s
 session_of Force = 0
+session_of Flip = 0
+session_of Scan = 0
 session_of (Flush p) = 0
 
 -- an event of a session, or of none
 abbrev pub IsOfSession : Event → Type 0
 IsOfSession Force = Unit {0}
+IsOfSession Flip = Unit {0}
+IsOfSession Scan = Unit {0}
 IsOfSession (Flush p) = Unit {0}
 IsOfSession event = IsSession (session_of event)
 
@@ -90,6 +94,11 @@ done a event (Begun n) = begins a (session_of event) n
 done a event (Sealed n) = seals a (session_of event)
 done a event Aborted = aborts a (session_of event)
 done a event (Durable n) = record a { acknowledged = max a.acknowledged n }
+done a event (Flipped objects words) = a
+done a event Collecting = a
+done a event (Scanned page objects words) = a
+done a event (Collected used) = a
+done a event Idle = a
 done a event (Flushed page) = a
 done a event (Clean page) = a
 done a event (Refused why) = a

@@ -1,12 +1,12 @@
--- What a plain heap answers, one without a log or a disk.
+-- What a plain heap answers, one without a log or a disk. It has nothing to collect, and so a collection neither begins nor runs.
 use Rattle.std.specs.Prelude.{ℕ, ◌+◌, ◌==◌, nat_lt, nat_le, length, Option, None, Some, is_some, if◌then◌else◌}
 use Rattle.graph_model.specs.declared.id.Id.{Id}
 use Rattle.graph_model.specs.declared.event.Event.{Event}
-use Rattle.graph_model.specs.declared.event.Event.TheVariants.{Begin, Root, New, Put, Clear, Link, Drop, Get, Same, Len, Seal, Abort, Force, Flush}
+use Rattle.graph_model.specs.declared.event.Event.TheVariants.{Begin, Root, New, Put, Clear, Link, Drop, Get, Same, Len, Seal, Abort, Force, Flip, Scan, Flush}
 use Rattle.graph_model.specs.declared.reply.Refusal.{Refusal}
 use Rattle.graph_model.specs.declared.reply.Refusal.TheVariants.{Failed, AlreadyActive, NotActive, NumbersSpent, BadHandle, Range, BadField, Busy}
 use Rattle.graph_model.specs.declared.reply.Reply.{Reply}
-use Rattle.graph_model.specs.declared.reply.Reply.TheVariants.{Begun, Done, Sealed, Aborted, Durable, Flushed, Refused}
+use Rattle.graph_model.specs.declared.reply.Reply.TheVariants.{Begun, Done, Sealed, Aborted, Durable, Collecting, Idle, Flushed, Refused}
 use Rattle.graph_model.specs.Graph.{Graph, fields}
 use Rattle.graph_model.specs.Transaction.{View, Transaction, held, call, run, serial}
 use Rattle.graph_model.specs.History.{Account, session_of}
@@ -83,6 +83,8 @@ call_refusal g0 a (Some t) event = view_refusal (view g0 a t) event
 abbrev pub event_refusal : ℕ → Graph → Account → Event → Option Refusal
 event_refusal next g0 a (Begin s) = if is_some (a.active s) then Some AlreadyActive else if next == no_number then Some NumbersSpent else None
 event_refusal next g0 a Force = None
+event_refusal next g0 a Flip = None
+event_refusal next g0 a Scan = None
 event_refusal next g0 a (Flush p) = None
 event_refusal next g0 a event = call_refusal g0 a (a.active (session_of event)) event
 
@@ -130,6 +132,8 @@ granted next g0 a (Begin s) = Begun next
 granted next g0 a (Seal s) = Sealed (length a.sealed + 1)
 granted next g0 a (Abort s) = Aborted
 granted next g0 a Force = Durable (length a.sealed)
+granted next g0 a Flip = Collecting
+granted next g0 a Scan = Idle
 granted next g0 a (Flush p) = Flushed p
 granted next g0 a event = call_reply g0 a (a.active (session_of event)) event
 

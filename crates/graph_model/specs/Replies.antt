@@ -1,6 +1,6 @@
 -- Which replies answer a call of a transaction.
 use Rattle.graph_model.specs.declared.reply.Reply.{Reply}
-use Rattle.graph_model.specs.declared.reply.Reply.TheVariants.{Begun, Sealed, Aborted, Durable, Flushed, Clean, Refused}
+use Rattle.graph_model.specs.declared.reply.Reply.TheVariants.{Begun, Sealed, Aborted, Durable, Flipped, Collecting, Scanned, Collected, Idle, Flushed, Clean, Refused}
 use Rattle.graph_model.specs.Transaction.{call}
 
 -- a reply to a call that was not refused
@@ -9,6 +9,11 @@ IsCallReply (Begun n) = ⊥
 IsCallReply (Sealed n) = ⊥
 IsCallReply Aborted = ⊥
 IsCallReply (Durable n) = ⊥
+IsCallReply (Flipped objects words) = ⊥
+IsCallReply Collecting = ⊥
+IsCallReply (Scanned page objects words) = ⊥
+IsCallReply (Collected used) = ⊥
+IsCallReply Idle = ⊥
 IsCallReply (Flushed page) = ⊥
 IsCallReply (Clean page) = ⊥
 IsCallReply (Refused why) = ⊥

@@ -2,11 +2,11 @@
 use Rattle.std.specs.Prelude.{ℕ, ◌+◌, List, [], ◌∷◌, ◌++◌, length, codes}
 use Rattle.std.specs.Fmt.{decimal}
 use Rattle.graph_model.specs.declared.event.Event.{Event}
-use Rattle.graph_model.specs.declared.event.Event.TheVariants.{Begin, Root, New, Put, Clear, Link, Drop, Get, Same, Len, Seal, Abort, Force, Flush}
+use Rattle.graph_model.specs.declared.event.Event.TheVariants.{Begin, Root, New, Put, Clear, Link, Drop, Get, Same, Len, Seal, Abort, Force, Flip, Scan, Flush}
 use Rattle.graph_model.specs.declared.reply.Refusal.{Refusal}
 use Rattle.graph_model.specs.declared.reply.Refusal.TheVariants.{Failed, AlreadyActive, NotActive, NumbersSpent, BadHandle, Range, BadField, NoSuchPage, Busy, VolatileFull, Exhausted, LogFull, DiskFault, Stopped}
 use Rattle.graph_model.specs.declared.reply.Reply.{Reply}
-use Rattle.graph_model.specs.declared.reply.Reply.TheVariants.{Begun, Done, Null, Int, Reference, Yes, No, Length, Sealed, Aborted, Durable, Flushed, Clean, Refused}
+use Rattle.graph_model.specs.declared.reply.Reply.TheVariants.{Begun, Done, Null, Int, Reference, Yes, No, Length, Sealed, Aborted, Durable, Flipped, Collecting, Scanned, Collected, Idle, Flushed, Clean, Refused}
 use Rattle.graph_model.specs.declared.reply.Entry.{Entry}
 use Rattle.graph_model.specs.Canon.{Shown, Nothing, Number, Object}
 
@@ -24,6 +24,8 @@ event_text (Len s h) = decimal s ++ codes " len " ++ decimal h
 event_text (Seal s) = decimal s ++ codes " seal"
 event_text (Abort s) = decimal s ++ codes " abort"
 event_text Force = codes "force"
+event_text Flip = codes "flip"
+event_text Scan = codes "scan"
 event_text (Flush p) = codes "flush " ++ decimal p
 
 abbrev pub refusal_text : Refusal → List ℕ
@@ -54,6 +56,11 @@ reply_text (Length n) = codes "len " ++ decimal n
 reply_text (Sealed n) = codes "sealed " ++ decimal n
 reply_text Aborted = codes "aborted"
 reply_text (Durable n) = codes "durable " ++ decimal n
+reply_text (Flipped objects words) = codes "flipped " ++ decimal objects ++ codes " " ++ decimal words
+reply_text Collecting = codes "collecting"
+reply_text (Scanned page objects words) = codes "scanned " ++ decimal page ++ codes " " ++ decimal objects ++ codes " " ++ decimal words
+reply_text (Collected used) = codes "collected " ++ decimal used
+reply_text Idle = codes "idle"
 reply_text (Flushed page) = codes "flushed " ++ decimal page
 reply_text (Clean page) = codes "clean " ++ decimal page
 reply_text (Refused why) = refusal_text why

@@ -5,7 +5,7 @@ use Rattle.graph_model.specs.declared.id.Id.{Id}
 use Rattle.graph_model.specs.declared.val.Val.{Val}
 use Rattle.graph_model.specs.declared.val.Val.TheVariants.{Null, Int, Ref}
 use Rattle.graph_model.specs.declared.event.Event.{Event}
-use Rattle.graph_model.specs.declared.event.Event.TheVariants.{Begin, Root, New, Put, Clear, Link, Drop, Get, Same, Len, Seal, Abort, Force, Flush}
+use Rattle.graph_model.specs.declared.event.Event.TheVariants.{Begin, Root, New, Put, Clear, Link, Drop, Get, Same, Len, Seal, Abort, Force, Flip, Scan, Flush}
 use Rattle.graph_model.specs.declared.reply.Reply.{Reply}
 use Rattle.graph_model.specs.declared.reply.Reply.TheVariants as answer
 use Rattle.graph_model.specs.Graph.{Graph, is_same_id, root, fields, with_field}
@@ -102,6 +102,8 @@ IsCall (Begin s) = ⊥
 IsCall (Seal s) = ⊥
 IsCall (Abort s) = ⊥
 IsCall Force = ⊥
+IsCall Flip = ⊥
+IsCall Scan = ⊥
 IsCall (Flush p) = ⊥
 IsCall event = Unit {0}
 

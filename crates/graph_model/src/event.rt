@@ -35,6 +35,10 @@ pub enum Event {
     Abort { s: u32 },
     /// All that was sealed is to be on the disk.
     Force,
+    /// A collection is to begin: what sessions hold is copied into the other space, which is the current one from then on.
+    Flip,
+    /// The objects of one page that may still lead to the from-space are to be scanned. A collection in which none may is to end.
+    Scan,
     /// Page `p` is to be stored as it is now.
     Flush { p: u64 },
 }
@@ -46,7 +50,7 @@ pub const FIRST_SESSION: u32 = 1;
 pub const LAST_SESSION: u32 = 32;
 
 impl Event {
-    /// The session of the event, and 0 for `force` and `flush`, which are of none.
+    /// The session of the event, and 0 for `force`, `flip`, `scan` and `flush`, which are of none.
     pub fn session(&self) -> u32
         ensures { result ≡ session_of self.now }
     {
@@ -63,7 +67,7 @@ impl Event {
             | Event::Len { s, .. }
             | Event::Seal { s }
             | Event::Abort { s } => *s,
-            Event::Force | Event::Flush { .. } => 0,
+            Event::Force | Event::Flip | Event::Scan | Event::Flush { .. } => 0,
         }
     }
 
@@ -72,7 +76,7 @@ impl Event {
         ensures { IsTrue result ↔ IsOfSession self.now }
     {
         match self {
-            Event::Force | Event::Flush { .. } => true,
+            Event::Force | Event::Flip | Event::Scan | Event::Flush { .. } => true,
             _ => FIRST_SESSION <= self.session() && self.session() <= LAST_SESSION,
         }
     }
@@ -97,6 +101,8 @@ impl fmt::Display for Event {
             Event::Seal { s } => write!(f, "{s} seal"),
             Event::Abort { s } => write!(f, "{s} abort"),
             Event::Force => f.write_str("force"),
+            Event::Flip => f.write_str("flip"),
+            Event::Scan => f.write_str("scan"),
             Event::Flush { p } => write!(f, "flush {p}"),
         }
     }

@@ -63,6 +63,16 @@ pub enum Reply {
     Aborted,
     /// All that was sealed is on the disk: that many transactions since the heap was opened.
     Durable { n: u64 },
+    /// A collection began. It copied that many objects, of that many words.
+    Flipped { objects: u64, words: u64 },
+    /// A collection runs already.
+    Collecting,
+    /// The objects of the page were scanned, and that many objects copied, of that many words.
+    Scanned { page: u64, objects: u64, words: u64 },
+    /// The collection ended. The objects of the current space take that many words.
+    Collected { used: u64 },
+    /// No collection runs.
+    Idle,
     /// The page was stored.
     Flushed { page: u64 },
     /// The page has not changed since it was stored.
@@ -121,6 +131,15 @@ impl fmt::Display for Reply {
             Reply::Sealed { n } => write!(f, "sealed {n}"),
             Reply::Aborted => f.write_str("aborted"),
             Reply::Durable { n } => write!(f, "durable {n}"),
+            Reply::Flipped { objects, words } => write!(f, "flipped {objects} {words}"),
+            Reply::Collecting => f.write_str("collecting"),
+            Reply::Scanned {
+                page,
+                objects,
+                words,
+            } => write!(f, "scanned {page} {objects} {words}"),
+            Reply::Collected { used } => write!(f, "collected {used}"),
+            Reply::Idle => f.write_str("idle"),
             Reply::Flushed { page } => write!(f, "flushed {page}"),
             Reply::Clean { page } => write!(f, "clean {page}"),
             Reply::Refused { why } => write!(f, "{why}"),

@@ -9,7 +9,7 @@ use Rattle.std.proofs.lemmas.Fmt.{decimal_nonempty, length-decimal-le, digits_de
 use Rattle.std.proofs.lemmas.List.{get_or-append-add}
 use Rattle.std.proofs.lemmas.Str.Parse.{IsNumeralModel, numerals_by_fold}
 use Rattle.graph_model.specs.declared.event.Event.{Event}
-use Rattle.graph_model.specs.declared.event.Event.TheVariants.{Begin, Root, New, Put, Clear, Link, Drop, Get, Same, Len, Seal, Abort, Force, Flush}
+use Rattle.graph_model.specs.declared.event.Event.TheVariants.{Begin, Root, New, Put, Clear, Link, Drop, Get, Same, Len, Seal, Abort, Force, Flip, Scan, Flush}
 use Rattle.graph_model.specs.History.{IsSession, IsOfSession}
 use Rattle.graph_model.specs.Text.{event_text}
 use Rattle.script_text.specs.declared.line.Line.TheVariants.{One}
@@ -161,4 +161,6 @@ read_text-event_text (Len s h) own spelled = event_read (Len s h) s (codes "len"
 read_text-event_text (Seal s) own spelled = event_read (Seal s) s (codes "seal") [] own refl refl spelled refl
 read_text-event_text (Abort s) own spelled = event_read (Abort s) s (codes "abort") [] own refl refl spelled refl
 read_text-event_text Force own spelled = refl
+read_text-event_text Flip own spelled = refl
+read_text-event_text Scan own spelled = refl
 read_text-event_text (Flush p) own spelled = flush_read p spelled.0

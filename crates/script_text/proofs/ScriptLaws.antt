@@ -3,14 +3,14 @@ use Rattle.std.proofs.Common.{◌≡◌, ℕ, ◌+◌, ◌*◌, ◌≤◌, Bool,
 use Rattle.std.specs.Prelude.{◌==◌, nat_lt, nat_le, IfSome, IfOk, option_map, option_and_then, find, bytes_eq, codes, if◌then◌else◌}
 use Rattle.std.specs.List.{AllByRecursion, onto_first}
 use Rattle.std.proofs.lemmas.Bool.{ltb-false, leb-true, and_parts}
-use Rattle.graph_model.specs.declared.event.Event.TheVariants.{Force, Flush}
+use Rattle.graph_model.specs.declared.event.Event.TheVariants.{Force, Flip, Scan, Flush}
 use Rattle.graph_model.specs.History.{IsSession, IsOfSession}
 use Rattle.script_text.specs.declared.line.Line.{Line}
 use Rattle.script_text.specs.declared.line.Line.TheVariants.{One}
 use Rattle.script_text.specs.declared.script.ScriptError.{ScriptError}
 use Rattle.script_text.specs.declared.script.ScriptError.TheVariants.{Fault}
 use Rattle.script_text.specs.Number.{number}
-use Rattle.script_text.specs.Line.{words, is_session, session, numbers, calls, call_of, session_line, flush_of, line_of, read_text, line_events, events}
+use Rattle.script_text.specs.Line.{words, is_session, session, numbers, calls, call_of, session_line, flush_of, bare_line, line_of, read_text, line_events, events}
 use Rattle.script_text.specs.Script.{lines as text_lines, Reading, start, with_line, read_line, take_line, finish, script}
 
 -- The events of a line are of sessions, and there are at most two.
@@ -64,9 +64,15 @@ call_sound (Some s) verb rest own =
 session_line_sound : (first verb : List ℕ) (rest : List (List ℕ)) → IsSoundIn (session_line first verb rest)
 session_line_sound first verb rest = call_sound (session first) verb rest (session_own first)
 
+bare_sound : (word : List ℕ) → IsSoundIn (bare_line word)
+bare_sound word =
+    if_sound (bytes_eq word (codes "force")) (Some (One Force)) _ ((tt, tt), omega arith)
+    (if_sound (bytes_eq word (codes "flip")) (Some (One Flip)) _ ((tt, tt), omega arith)
+    (if_sound (bytes_eq word (codes "scan")) (Some (One Scan)) None ((tt, tt), omega arith) tt))
+
 line_sound : (words : List (List ℕ)) → IsSoundIn (line_of words)
 line_sound [] = tt
-line_sound (word ∷ []) = if_sound (bytes_eq word (codes "force")) (Some (One Force)) None ((tt, tt), omega arith) tt
+line_sound (word ∷ []) = bare_sound word
 line_sound (word ∷ given ∷ []) =
     if_sound (bytes_eq word (codes "flush")) (flush_of given) (session_line word given []) (flush_sound (number given)) (session_line_sound word given [])
 line_sound (first ∷ verb ∷ third ∷ rest) = session_line_sound first verb (third ∷ rest)

@@ -2,7 +2,7 @@
 use Rattle.std.specs.Prelude.{ℕ, ◌-◌, ◌==◌, ◌||◌, ◌&&◌, not, nat_le, Bool, List, [], ◌∷◌, length, filter, find, slice_index, Option, None, Some, option_map, option_and_then, bytes_eq, codes, if◌then◌else◌}
 use Rattle.std.specs.List.{slice_split, flat_map}
 use Rattle.graph_model.specs.declared.event.Event.{Event}
-use Rattle.graph_model.specs.declared.event.Event.TheVariants.{Begin, Root, New, Put, Clear, Link, Drop, Get, Same, Len, Seal, Abort, Force, Flush}
+use Rattle.graph_model.specs.declared.event.Event.TheVariants.{Begin, Root, New, Put, Clear, Link, Drop, Get, Same, Len, Seal, Abort, Force, Flip, Scan, Flush}
 use Rattle.script_text.specs.declared.line.Line.{Line}
 use Rattle.script_text.specs.declared.line.Line.TheVariants.{One, Commit}
 use Rattle.script_text.specs.Number.{number}
@@ -55,10 +55,18 @@ session_line first verb rest = option_and_then (λ s. option_and_then (call_of s
 abbrev pub flush_of : List ℕ → Option Line
 flush_of page = option_map (λ p. One (Flush p)) (number page)
 
+-- the line that a single word spells
+abbrev pub bare_line : List ℕ → Option Line
+bare_line word =
+    if bytes_eq word (codes "force") then Some (One Force)
+    else if bytes_eq word (codes "flip") then Some (One Flip)
+    else if bytes_eq word (codes "scan") then Some (One Scan)
+    else None
+
 -- the line that the words spell
 abbrev pub line_of : List (List ℕ) → Option Line
 line_of [] = None
-line_of (word ∷ []) = if bytes_eq word (codes "force") then Some (One Force) else None
+line_of (word ∷ []) = bare_line word
 line_of (word ∷ given ∷ []) = if bytes_eq word (codes "flush") then flush_of given else session_line word given []
 line_of (first ∷ verb ∷ rest) = session_line first verb rest
 

@@ -123,6 +123,8 @@ fn line_of(words: &[&[u8]]) -> Option<Line>
 {
     match words {
         [b"force"] => Some(Line::One(Event::Force)),
+        [b"flip"] => Some(Line::One(Event::Flip)),
+        [b"scan"] => Some(Line::One(Event::Scan)),
         [b"flush", page] => Some(Line::One(Event::Flush {
             p: read_number(page)?,
         })),

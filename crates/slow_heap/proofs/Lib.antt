@@ -1,3 +1,4 @@
+pub mod Called
 pub mod Holders
 pub mod Kept
 pub mod RowLaws

@@ -1,8 +1,8 @@
 //! The plain heap, without a log or a disk.
-ghost use Rattle.std.specs.Prelude.{◌≡◌, ◌≤◌, ◌++◌, [], ◌∷◌, length, take, IfOk, OnErr};
+ghost use Rattle.std.specs.Prelude.{◌≡◌, ◌+◌, ◌≤◌, ◌++◌, [], ◌∷◌, length, take, IfOk, OnErr};
 ghost use Rattle.graph_model.specs.Graph.{new_graph};
 ghost use Rattle.graph_model.specs.Transaction.{IsCall, serial};
-ghost use Rattle.graph_model.specs.History.{account, sealed, IsOfSession};
+ghost use Rattle.graph_model.specs.History.{account, account_after, sealed, IsOfSession};
 ghost use Rattle.graph_model.specs.Locking.{holder_in_the_way, busy_holder, lesser};
 ghost use Rattle.graph_model.specs.Plain.{plain_reply};
 ghost use Rattle.graph_model.specs.Canon.{canon};
@@ -98,6 +98,8 @@ impl SlowHeap {
             Event::Seal { s } => self.seal(s),
             Event::Abort { s } => self.abort(s),
             Event::Force => self.force(),
+            Event::Flip => self.flip(),
+            Event::Scan => self.scan(),
             Event::Flush { p } => self.flush(p),
             _ => self.call(event),
         }
@@ -254,6 +256,29 @@ impl SlowHeap {
     {
         let event = Event::Flush { p };
         let reply = Reply::Flushed { page: p };
+        self.history.push(Entry { event, reply })?;
+        Ok(reply)
+    }
+
+    // This heap has no spaces: no collection begins, and none runs.
+    fn flip(&mut self) -> Result<Reply, AllocError>
+        ensures reply { IfOk result (λ reply. reply ≡ plain_reply 1 new_graph (account self.old) Event.Flip) }
+        ensures entry { IfOk result (λ reply. self.new ≡ self.old ++ (record { event = Event.Flip; reply = reply }) ∷ []) }
+        ensures err { OnErr result (self.new ≡ self.old) }
+    {
+        let event = Event::Flip;
+        let reply = Reply::Collecting;
+        self.history.push(Entry { event, reply })?;
+        Ok(reply)
+    }
+
+    fn scan(&mut self) -> Result<Reply, AllocError>
+        ensures reply { IfOk result (λ reply. reply ≡ plain_reply 1 new_graph (account self.old) Event.Scan) }
+        ensures entry { IfOk result (λ reply. self.new ≡ self.old ++ (record { event = Event.Scan; reply = reply }) ∷ []) }
+        ensures err { OnErr result (self.new ≡ self.old) }
+    {
+        let event = Event::Scan;
+        let reply = Reply::Idle;
         self.history.push(Entry { event, reply })?;
         Ok(reply)
     }

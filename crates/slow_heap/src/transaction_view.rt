@@ -88,6 +88,8 @@ impl TransactionView {
             | Event::Seal { .. }
             | Event::Abort { .. }
             | Event::Force
+            | Event::Flip
+            | Event::Scan
             | Event::Flush { .. } => None,
         }
     }
@@ -183,6 +185,8 @@ impl TransactionView {
             | Event::Seal { .. }
             | Event::Abort { .. }
             | Event::Force
+            | Event::Flip
+            | Event::Scan
             | Event::Flush { .. } => Ok(Reply::Done),
         }
     }

@@ -3,7 +3,7 @@ use Rattle.std.proofs.Common.{◌≡◌, ℕ, ◌+◌, Bool, true, false, Option
 use Rattle.std.specs.Prelude.{◌==◌, nat_lt, nat_le, length, is_some, if◌then◌else◌}
 use Rattle.graph_model.specs.declared.id.Id.{Id}
 use Rattle.graph_model.specs.declared.event.Event.{Event}
-use Rattle.graph_model.specs.declared.event.Event.TheVariants.{Begin, Root, New, Put, Clear, Link, Drop, Get, Same, Len, Seal, Abort, Force, Flush}
+use Rattle.graph_model.specs.declared.event.Event.TheVariants.{Begin, Root, New, Put, Clear, Link, Drop, Get, Same, Len, Seal, Abort, Force, Flip, Scan, Flush}
 use Rattle.graph_model.specs.declared.reply.Refusal.{Refusal}
 use Rattle.graph_model.specs.declared.reply.Refusal.TheVariants.{AlreadyActive, NumbersSpent, BadHandle, Range, BadField, DiskFault, Stopped}
 use Rattle.graph_model.specs.declared.reply.Reply.{Reply}
@@ -87,6 +87,8 @@ event_no_fault next g0 a (Begin s) =
     no_fault_if (is_some (a.active s)) AlreadyActive (if next == no_number then Some NumbersSpent else None) tt
     (no_fault_if (next == no_number) NumbersSpent None tt tt)
 event_no_fault next g0 a Force = tt
+event_no_fault next g0 a Flip = tt
+event_no_fault next g0 a Scan = tt
 event_no_fault next g0 a (Flush p) = tt
 event_no_fault next g0 a event = call_no_fault g0 a (a.active (session_of event)) event
 
@@ -126,6 +128,8 @@ granted_sound next g0 a (Begin s) = tt
 granted_sound next g0 a (Seal s) = tt
 granted_sound next g0 a (Abort s) = tt
 granted_sound next g0 a Force = tt
+granted_sound next g0 a Flip = tt
+granted_sound next g0 a Scan = tt
 granted_sound next g0 a (Flush p) = tt
 granted_sound next g0 a event = call_sound _ (call_reply-IsCallReply g0 a (a.active (session_of event)) event)
 
@@ -148,6 +152,8 @@ call_reply-done g0 a (Some t) event order = call-reply (view g0 a t) t.number ev
 pub event_refusal-call : (next : ℕ) (g0 : Graph) (a : Account) (event : Event) → IsCall event → event_refusal next g0 a event ≡ call_refusal g0 a (a.active (session_of event)) event
 event_refusal-call next g0 a (Begin s) never = absurd never
 event_refusal-call next g0 a Force never = absurd never
+event_refusal-call next g0 a Flip never = absurd never
+event_refusal-call next g0 a Scan never = absurd never
 event_refusal-call next g0 a (Flush p) never = absurd never
 event_refusal-call next g0 a event is = refl
 
@@ -157,6 +163,8 @@ granted-call next g0 a (Begin s) never = absurd never
 granted-call next g0 a (Seal s) never = absurd never
 granted-call next g0 a (Abort s) never = absurd never
 granted-call next g0 a Force never = absurd never
+granted-call next g0 a Flip never = absurd never
+granted-call next g0 a Scan never = absurd never
 granted-call next g0 a (Flush p) never = absurd never
 granted-call next g0 a event is = refl
 

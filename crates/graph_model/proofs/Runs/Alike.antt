@@ -7,7 +7,7 @@ use Rattle.graph_model.specs.declared.id.Id.{Id}
 use Rattle.graph_model.specs.declared.val.Val.{Val}
 use Rattle.graph_model.specs.declared.val.Val.TheVariants.{Null, Int, Ref}
 use Rattle.graph_model.specs.declared.event.Event.{Event}
-use Rattle.graph_model.specs.declared.event.Event.TheVariants.{Begin, Root, New, Put, Clear, Link, Drop, Get, Same, Len, Seal, Abort, Force, Flush}
+use Rattle.graph_model.specs.declared.event.Event.TheVariants.{Begin, Root, New, Put, Clear, Link, Drop, Get, Same, Len, Seal, Abort, Force, Flip, Scan, Flush}
 use Rattle.graph_model.specs.declared.reply.Reply.TheVariants as answer
 use Rattle.graph_model.specs.Graph.{Graph, root, fields}
 use Rattle.graph_model.proofs.Whole.Graph.{fields-insert, fields-insert_other, fields_by_insert}
@@ -231,6 +231,8 @@ module _ (R : Id → Id → Type 0) (t : ℕ) (one : IsOneToOne R) (apart : IsAp
   call_alike v w (Seal s) alike = (refl, alike)
   call_alike v w (Abort s) alike = (refl, alike)
   call_alike v w Force alike = (refl, alike)
+  call_alike v w Flip alike = (refl, alike)
+  call_alike v w Scan alike = (refl, alike)
   call_alike v w (Flush p) alike = (refl, alike)
 
   -- so are calls

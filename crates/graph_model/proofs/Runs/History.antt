@@ -6,10 +6,10 @@ use Rattle.std.proofs.lemmas.Option.{slice_get_past}
 use Rattle.std.proofs.lemmas.List.Sums.{fold-append}
 use Rattle.graph_model.specs.declared.id.Id.{Id}
 use Rattle.graph_model.specs.declared.event.Event.{Event}
-use Rattle.graph_model.specs.declared.event.Event.TheVariants.{Begin, Root, New, Put, Clear, Link, Drop, Get, Same, Len, Seal, Abort, Force, Flush}
+use Rattle.graph_model.specs.declared.event.Event.TheVariants.{Begin, Root, New, Put, Clear, Link, Drop, Get, Same, Len, Seal, Abort, Force, Flip, Scan, Flush}
 use Rattle.graph_model.specs.declared.reply.Entry.{Entry}
 use Rattle.graph_model.specs.declared.reply.Reply.{Reply}
-use Rattle.graph_model.specs.declared.reply.Reply.TheVariants.{Begun, Done, Yes, No, Sealed, Aborted, Durable, Flushed, Clean, Refused}
+use Rattle.graph_model.specs.declared.reply.Reply.TheVariants.{Begun, Done, Yes, No, Sealed, Aborted, Durable, Flipped, Collecting, Scanned, Collected, Idle, Flushed, Clean, Refused}
 use Rattle.graph_model.specs.declared.val.Val.{Val}
 use Rattle.graph_model.specs.declared.val.Val.TheVariants.{Null, Int, Ref}
 use Rattle.graph_model.specs.Graph.{Graph, is_same_id}
@@ -85,6 +85,8 @@ length-registers-call v t (Len s h) = refl
 length-registers-call v t (Seal s) = refl
 length-registers-call v t (Abort s) = refl
 length-registers-call v t Force = refl
+length-registers-call v t Flip = refl
+length-registers-call v t Scan = refl
 length-registers-call v t (Flush p) = refl
 
 -- nor do calls
@@ -125,6 +127,8 @@ call-IsCallReply v t (Len s h) = tt
 call-IsCallReply v t (Seal s) = tt
 call-IsCallReply v t (Abort s) = tt
 call-IsCallReply v t Force = tt
+call-IsCallReply v t Flip = tt
+call-IsCallReply v t Scan = tt
 call-IsCallReply v t (Flush p) = tt
 
 -- an order is an event that asks nothing
@@ -148,6 +152,11 @@ account_after-call a event (Begun n) never = absurd never
 account_after-call a event (Sealed n) never = absurd never
 account_after-call a event Aborted never = absurd never
 account_after-call a event (Durable n) never = absurd never
+account_after-call a event (Flipped objects words) never = absurd never
+account_after-call a event Collecting never = absurd never
+account_after-call a event (Scanned page objects words) never = absurd never
+account_after-call a event (Collected used) never = absurd never
+account_after-call a event Idle never = absurd never
 account_after-call a event (Flushed page) never = absurd never
 account_after-call a event (Clean page) never = absurd never
 account_after-call a event (Refused why) never = absurd never

@@ -9,7 +9,7 @@ use Rattle.graph_model.specs.declared.id.Id.{Id}
 use Rattle.graph_model.specs.declared.val.Val.{Val}
 use Rattle.graph_model.specs.declared.val.Val.TheVariants.{Null, Int, Ref}
 use Rattle.graph_model.specs.declared.event.Event.{Event}
-use Rattle.graph_model.specs.declared.event.Event.TheVariants.{Begin, Root, New, Put, Clear, Link, Drop, Get, Same, Len, Seal, Abort, Force, Flush}
+use Rattle.graph_model.specs.declared.event.Event.TheVariants.{Begin, Root, New, Put, Clear, Link, Drop, Get, Same, Len, Seal, Abort, Force, Flip, Scan, Flush}
 use Rattle.graph_model.specs.Graph.{Graph, id_cmp, root, fields, new_graph}
 use Rattle.graph_model.proofs.Whole.Graph.{same_or_other, get-insert_same, get-insert_other, fields_by_insert, get_by_insert}
 use Rattle.graph_model.specs.Canon.{at_root, along}
@@ -178,6 +178,8 @@ call-SeesClosed v t (Len s h) sees = sees
 call-SeesClosed v t (Seal s) sees = sees
 call-SeesClosed v t (Abort s) sees = sees
 call-SeesClosed v t Force sees = sees
+call-SeesClosed v t Flip sees = sees
+call-SeesClosed v t Scan sees = sees
 call-SeesClosed v t (Flush p) sees = sees
 
 -- so do calls

@@ -7,7 +7,7 @@ use Rattle.graph_model.specs.declared.id.Id.{Id}
 use Rattle.graph_model.specs.declared.val.Val.{Val}
 use Rattle.graph_model.specs.declared.val.Val.TheVariants.{Null, Int, Ref}
 use Rattle.graph_model.specs.declared.event.Event.{Event}
-use Rattle.graph_model.specs.declared.event.Event.TheVariants.{Begin, Root, New, Put, Clear, Link, Drop, Get, Same, Len, Seal, Abort, Force, Flush}
+use Rattle.graph_model.specs.declared.event.Event.TheVariants.{Begin, Root, New, Put, Clear, Link, Drop, Get, Same, Len, Seal, Abort, Force, Flip, Scan, Flush}
 use Rattle.graph_model.specs.Graph.{Graph, root, fields, new_graph}
 use Rattle.graph_model.proofs.Whole.Graph.{get-insert_same, fields_by_insert}
 use Rattle.graph_model.specs.Canon.{Reached, at_root, along}
@@ -121,6 +121,8 @@ call-SeesWhole v t (Len s h) whole = whole
 call-SeesWhole v t (Seal s) whole = whole
 call-SeesWhole v t (Abort s) whole = whole
 call-SeesWhole v t Force whole = whole
+call-SeesWhole v t Flip whole = whole
+call-SeesWhole v t Scan whole = whole
 call-SeesWhole v t (Flush p) whole = whole
 
 -- so do calls
