@@ -1,5 +1,5 @@
 -- What the steps of a collection do to what the records say of it.
-use Rattle.std.specs.Prelude.{◌≡◌, ℕ, ◌+◌, ◌≤◌, true, List, map, sum_by}
+use Rattle.std.specs.Prelude.{◌≡◌, ℕ, ◌+◌, ◌≤◌, true, false, Contains, List, map, sum_by}
 use Rattle.std.specs.List.{flat_map}
 use Rattle.std.specs.FinSet.{empty, contains}
 use Rattle.heap_spaces.specs.declared.collection.CopiedObject.{CopiedObject}
@@ -17,6 +17,11 @@ with_copies k copies = record k {
   moved = with_all k.moved (map (λ (c : CopiedObject). c.from) copies);
   gray = with_all k.gray (flat_map (λ (c : CopiedObject). gray_from c.to c.header) copies);
 }
+
+-- None of these copies is of an object that was copied before, and none stands at an address that is gray.
+pub record AreNew (k : Collection) (copies : List CopiedObject) : Type 0 where
+  pub from : (c : CopiedObject) → Contains copies c → contains k.moved c.from ≡ false
+  pub to : (c : CopiedObject) → Contains copies c → contains k.gray c.to ≡ false
 
 -- the collection when the objects that start in a page have been scanned
 abbrev pub with_scanned : Collection → ℕ → Collection

@@ -104,8 +104,8 @@ impl AddressSet {
         }
     }
 
-    // Takes the address away. It takes no memory.
-    fn remove(&mut self, at: u32)
+    /// Takes the address away. It takes no memory.
+    pub(crate) fn remove(&mut self, at: u32)
         ensures { self.new ≡ remove self.old at }
     {
         self.addresses.remove(&at);

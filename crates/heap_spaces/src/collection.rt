@@ -1,5 +1,6 @@
 //! A collection that runs.
-ghost use Rattle.std.specs.Prelude.{◌≡◌, ◌+◌, ◌≤◌, ◌<◌, ◌^◌, ◌↔◌, ℕ, true, false, sum_by, Some, IfSome, IfNone, OnOk, OnErr, IsTrue};
+ghost use Rattle.std.specs.List.{list_any};
+ghost use Rattle.std.specs.Prelude.{◌≡◌, ◌+◌, ◌≤◌, ◌<◌, ◌^◌, ◌↔◌, ◌==◌, ◌&&◌, not, ℕ, true, false, sum_by, Some, IfSome, IfNone, OnOk, OnErr, IsTrue};
 ghost use Rattle.std.specs.FinSet.{empty, contains};
 ghost use Rattle.heap_spaces.specs.Collection.{owed_by, page_of};
 ghost use Rattle.heap_spaces.specs.declared.collection.CopiedObject.{CopiedObject};
@@ -150,6 +151,21 @@ impl Collection {
         }
         self.copied = copied;
         Ok(())
+    }
+
+    /// These copies, which were the last ones added, are taken back: what was not there before them is not there any more. It takes no memory.
+    pub fn take_back(&mut self, copies: &[CopiedObject])
+        requires { sum_by (λ (c : CopiedObject). c.words) copies.now ≤ self.old.copied }
+        ensures used { self.new.used ≡ self.old.used }
+        ensures copied { self.new.copied + sum_by (λ (c : CopiedObject). c.words) copies.now ≡ self.old.copied }
+        ensures moved { (q : ℕ) → contains self.new.moved q ≡ (contains self.old.moved q && not (list_any (λ (c : CopiedObject). c.from == q) copies.now)) }
+        ensures gray { (q : ℕ) → contains self.new.gray q ≡ (contains self.old.gray q && not (list_any (λ (c : CopiedObject). c.to == q) copies.now)) }
+    {
+        for copy in copies {
+            self.moved.remove(copy.from);
+            self.gray.remove(copy.to);
+            self.copied -= copy.words;
+        }
     }
 
     /// All objects that start in the page have been scanned, so none of them is gray any more. It takes no memory.

@@ -17,7 +17,7 @@ use Rattle.log_machine.specs.Collecting.{is_used, leads_to_used, copy_after, cop
 use Rattle.log_machine.proofs.ListLaws.{AllByRecursion-append}
 use Rattle.log_machine.proofs.Addresses.{each_address}
 use Rattle.log_machine.proofs.WordsFrom as words
-use Rattle.log_machine.proofs.StateLaws.{spaced_ends}
+use Rattle.log_machine.proofs.Spaced.{spaced_ends}
 use Rattle.log_machine.proofs.CopyRows.{from_below, to_below, copy_told, consistent_copied}
 use Rattle.log_machine.proofs.FlipLaws.{flip_copies, consistent_roles}
 

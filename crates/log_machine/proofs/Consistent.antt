@@ -15,7 +15,8 @@ use Rattle.log_machine.specs.Entries.{EachKeyed}
 use Rattle.log_machine.proofs.MapLaws.{each_empty, each_remove, get_first, remove_first}
 use Rattle.log_machine.proofs.MachineLaws.{inside_told, newest_told}
 use Rattle.log_machine.specs.Sound.{IsLoser, IsSpaced, IsConsistent}
-use Rattle.log_machine.proofs.StateLaws.{all_inside, inside_on, sound_with, spaced_start, spaced_ends}
+use Rattle.log_machine.proofs.Spaced.{inside_on, spaced_start, spaced_ends}
+use Rattle.log_machine.proofs.StateLaws.{all_inside, sound_with}
 use Rattle.log_machine.specs.Effect.{WritesBelow, EachWritesBelow}
 
 -- the used words are words of the pages

@@ -15,12 +15,12 @@ use Rattle.heap_spaces.specs.declared.collection.CopiedObject.{CopiedObject}
 use Rattle.heap_spaces.specs.Copying.{begun, with_copies, with_scanned}
 use Rattle.log_machine.specs.declared.UndoEntry.{UndoEntry}
 use Rattle.log_machine.specs.Machine.{State, owed, space_words, words_in}
-use Rattle.log_machine.specs.Sound.{IsLoser, IsSpaced, IsWithin, IsConsistent}
-use Rattle.log_machine.specs.Collecting.{other_base, can_move, can_hold, with_moved, with_copy, copied_in, copy_after, copies_after, is_current_page, can_put, scanned_in, collected_in, with_undo}
+use Rattle.log_machine.specs.Sound.{IsLoser, AreLosers, IsSpaced, IsWithin, IsConsistent}
+use Rattle.log_machine.specs.Collecting.{other_base, can_move, can_hold, with_moved, with_copy, copied_in, copy_after, copies_after, is_current_page, can_put, scanned_in, collected_in, with_roles_changed, with_undo}
 use Rattle.log_machine.specs.CopyIndex.{StandInside}
 use Rattle.log_machine.proofs.ListLaws.{AllByRecursion-at}
 use Rattle.log_machine.proofs.MapLaws.{each_empty}
-use Rattle.log_machine.proofs.StateLaws.{inside_on, spaced_ends}
+use Rattle.log_machine.proofs.Spaced.{inside_on, spaced_ends}
 
 -- What it says that an object can be copied.
 pub record CanCopy (s : State) (k : Collection) (copy : ObjectCopy) : Type 0 where
@@ -78,14 +78,20 @@ spaced_copy s k copy is own can =
     let room = is.room in
     record { first = is.first; room = omega arith; within = record { copied = can.left; used = inside.used } }
 
+-- and so do the writes that may be taken back
+pub sound_copy : (s : State) (k : Collection) (copy : ObjectCopy) → AreLosers s → AreLosers (with_copy s k copy)
+sound_copy s k copy sound = λ q w some.
+    let loser = sound q w some in
+    record { some = loser.some; number = loser.number; known = loser.known; inside = inside_on s.base s.used (s.used + length copy.words) w (omega arith) loser.inside }
+
+pub spaced_copied : (s n : State) (copy : ObjectCopy) → IsSpaced s → copy_after s copy ≡ Some n → IsSpaced n
+spaced_copied s n copy is e = let told = copy_told s n copy e in subst IsSpaced told.is (spaced_copy s told.k copy is told.runs told.can)
+
+pub sound_copied : (s n : State) (copy : ObjectCopy) → AreLosers s → copy_after s copy ≡ Some n → AreLosers n
+sound_copied s n copy sound e = let told = copy_told s n copy e in subst AreLosers told.is (sound_copy s told.k copy sound)
+
 pub consistent_copy : (s : State) (k : Collection) (copy : ObjectCopy) → IsConsistent s → s.collection ≡ Some k → CanCopy s k copy → IsConsistent (with_copy s k copy)
-consistent_copy s k copy is own can = record {
-  sound = λ q w some.
-      let loser = is.sound q w some in
-      record { some = loser.some; number = loser.number; known = loser.known; inside = inside_on s.base s.used (s.used + length copy.words) w (omega arith) loser.inside };
-  addresses = is.addresses;
-  spaced = spaced_copy s k copy is.spaced own can;
-}
+consistent_copy s k copy is own can = record { sound = sound_copy s k copy is.sound; addresses = is.addresses; spaced = spaced_copy s k copy is.spaced own can }
 
 pub consistent_copied : (s n : State) (copy : ObjectCopy) → IsConsistent s → copy_after s copy ≡ Some n → IsConsistent n
 consistent_copied s n copy is e = let told = copy_told s n copy e in subst IsConsistent told.is (consistent_copy s told.k copy is told.runs told.can)
@@ -94,6 +100,11 @@ pub consistent_copies : (s n : State) (copies : List ObjectCopy) → IsConsisten
 consistent_copies s n [] is e = let same : s ≡ n = cc e in subst IsConsistent same is
 consistent_copies s n (copy ∷ copies) is e =
     option_and_then_some (λ next. copies_after next copies) (copy_after s copy) n e (λ next first rest. consistent_copies next n copies (consistent_copied s next copy is first) rest)
+
+pub spaced_copies : (s n : State) (copies : List ObjectCopy) → IsSpaced s → copies_after s copies ≡ Some n → IsSpaced n
+spaced_copies s n [] is e = let same : s ≡ n = cc e in subst IsSpaced same is
+spaced_copies s n (copy ∷ copies) is e =
+    option_and_then_some (λ next. copies_after next copies) (copy_after s copy) n e (λ next first rest. spaced_copies next n copies (spaced_copied s next copy is first) rest)
 
 -- what is said of one object that was copied
 one_words : (copied : ℕ) (object : CopiedObject) (words : List ℕ) → object.words ≡ length words → copied + sum_by (λ (x : CopiedObject). x.words) (object ∷ []) ≡ copied + length words
@@ -185,35 +196,42 @@ copies_told s n (copy ∷ copies) e =
     })
 
 -- a reference has room for where each of them stands
-inside_each : (n : State) (copies : List ObjectCopy) → IsConsistent n → AllByRecursion (Stands n.base n.used) copies → AllByRecursion (λ (copy : ObjectCopy). copy.to < 2097152) copies
-inside_each n [] is all = tt
-inside_each n (copy ∷ copies) is all =
+inside_each : (n : State) (copies : List ObjectCopy) → IsSpaced n → words_in n.pages ≤ 2097152 → AllByRecursion (Stands n.base n.used) copies → AllByRecursion (λ (copy : ObjectCopy). copy.to < 2097152) copies
+inside_each n [] is few all = tt
+inside_each n (copy ∷ copies) is few all =
     let here = all.0 in
     let front = here.front in
     let high = here.high in
-    let ends = spaced_ends n is.spaced in
-    let few = is.addresses in
-    (omega arith, inside_each n copies is all.1)
+    let ends = spaced_ends n is in
+    (omega arith, inside_each n copies is few all.1)
+
+pub copies_fit : (s n : State) (copies : List ObjectCopy) → IsSpaced s → words_in s.pages ≤ 2097152 → copies_after s copies ≡ Some n → AllByRecursion (λ (copy : ObjectCopy). copy.to < 2097152) copies
+copies_fit s n copies is few e =
+    let told = copies_told s n copies e in
+    let same = told.pages in
+    inside_each n copies (spaced_copies s n copies is e) (omega arith) told.stand
 
 pub copies_inside : (s n : State) (copies : List ObjectCopy) → IsConsistent s → copies_after s copies ≡ Some n → StandInside copies
-copies_inside s n copies is e =
-    let told = copies_told s n copies e in
-    let each = inside_each n copies (consistent_copies s n copies is e) told.stand in
-    λ k d lt. AllByRecursion-at (λ (copy : ObjectCopy). copy.to < 2097152) copies k d lt each
+copies_inside s n copies is e = λ k d lt. AllByRecursion-at (λ (copy : ObjectCopy). copy.to < 2097152) copies k d lt (copies_fit s n copies is.spaced is.addresses e)
 
 -- The other steps of a collection.
 
+-- what may be taken back is such whatever collection runs
+pub sound_beside : (s : State) (c : Option Collection) → AreLosers s → AreLosers (record s { collection = c })
+sound_beside s c sound = λ q w some. let loser = sound q w some in record { some = loser.some; number = loser.number; known = loser.known; inside = loser.inside }
+
 -- where a page was scanned
+pub spaced_scanned : (s : State) (k : Collection) (page : ℕ) → IsSpaced s → s.collection ≡ Some k → IsSpaced (record s { collection = Some (with_scanned k page) })
+spaced_scanned s k page is own =
+    let inside = within s k is own in
+    let owing : owed s ≡ k.used - k.copied = ap owed_by own in
+    let room = is.room in
+    record { first = is.first; room = omega arith; within = record { copied = inside.copied; used = inside.used } }
+
 pub consistent_scanned : (s : State) (k now : Collection) (page : ℕ) → IsConsistent s → s.collection ≡ Some k → now ≡ with_scanned k page → IsConsistent (record s { collection = Some now })
 consistent_scanned s k now page is own same =
-    let inside = within s k is.spaced own in
-    let owing : owed s ≡ k.used - k.copied = ap owed_by own in
-    let room = is.spaced.room in
-    let whole : IsConsistent (record s { collection = Some (with_scanned k page) }) = record {
-      sound = λ q w some. let loser = is.sound q w some in record { some = loser.some; number = loser.number; known = loser.known; inside = loser.inside };
-      addresses = is.addresses;
-      spaced = record { first = is.spaced.first; room = omega arith; within = record { copied = inside.copied; used = inside.used } };
-    } in
+    let whole : IsConsistent (record s { collection = Some (with_scanned k page) }) =
+    record { sound = sound_beside s (Some (with_scanned k page)) is.sound; addresses = is.addresses; spaced = spaced_scanned s k page is.spaced own } in
     subst (λ (x : Collection). IsConsistent (record s { collection = Some x })) (sym same) whole
 
 page_at : (s : State) (now : Option Collection) (page : ℕ) (c : Option Collection) → s.collection ≡ c → IsConsistent s → now ≡ option_map (λ (k : Collection). with_scanned k page) c → IsConsistent (record s { collection = now })
@@ -237,14 +255,11 @@ scan_follows s s' page writes now same runs can e =
     ∙ ap (λ (x : State). Some (record x { collection = now })) (sym same)
 
 -- where a collection has ended
+pub spaced_collected : (s : State) → IsSpaced s → IsSpaced (record s { collection = None })
+spaced_collected s is = let room = is.room in record { first = is.first; room = omega arith; within = tt }
+
 pub consistent_collected : (s : State) → IsConsistent s → IsConsistent (record s { collection = None })
-consistent_collected s is =
-    let room = is.spaced.room in
-    record {
-      sound = λ q w some. let loser = is.sound q w some in record { some = loser.some; number = loser.number; known = loser.known; inside = loser.inside };
-      addresses = is.addresses;
-      spaced = record { first = is.spaced.first; room = omega arith; within = tt };
-    }
+consistent_collected s is = record { sound = sound_beside s None is.sound; addresses = is.addresses; spaced = spaced_collected s is.spaced }
 
 -- nothing is gray where the set has no address
 none_gray : (k : Collection) (b t : Bool) → IsTrue b ↔ (k.gray ≡ empty_set) → (len k.gray == 0) ≡ t → b ≡ t
@@ -263,16 +278,22 @@ pub collected_told : (s : State) (k : Collection) (b : Bool) → s.collection �
 collected_told s k b own told =
     none_gray k b _ told refl ∙ sym (collected_of s (len k.gray == 0)) ∙ ap (λ c. is_some (collected_in s c)) (sym own)
 
--- where the spaces have changed their roles, and nothing may be taken back
+-- where the spaces have changed their roles
+pub spaced_roles : (s : State) → IsSpaced s → IsSpaced (with_roles_changed s)
+spaced_roles s is =
+    let room = is.room in
+    let first : ((other_base s ≡ 0) ⊎ (other_base s ≡ space_words s.pages)) = elim is.first [ inl low ↦ inr (omega arith) | inr top ↦ inl (omega arith) ] in
+    record { first = first; room = omega arith; within = record { copied = omega arith; used = omega arith } }
+
+-- and nothing may be taken back
 pub consistent_flip : (s : State) (undo : FinMap nat_cmp (List UndoEntry)) (k : Collection) (base : ℕ) → IsConsistent s → undo ≡ empty → k ≡ begun s.used → base ≡ other_base s
     → IsConsistent (record s { base = base; used = 0; collection = Some k; undo = undo })
 consistent_flip s undo k base is none begins other =
-    let room = is.spaced.room in
-    let first : ((other_base s ≡ 0) ⊎ (other_base s ≡ space_words s.pages)) = elim is.spaced.first [ inl low ↦ inr (omega arith) | inr top ↦ inl (omega arith) ] in
+    let roles = spaced_roles s is.spaced in
     let whole : IsConsistent (record s { base = other_base s; used = 0; collection = Some (begun s.used); undo = empty }) = record {
       sound = each_empty (IsLoser (record s { base = other_base s; used = 0; collection = Some (begun s.used); undo = empty }));
       addresses = is.addresses;
-      spaced = record { first = first; room = omega arith; within = record { copied = omega arith; used = omega arith } };
+      spaced = record { first = roles.first; room = roles.room; within = roles.within };
     } in
     subst (λ (u : FinMap nat_cmp (List UndoEntry)). IsConsistent (record s { base = base; used = 0; collection = Some k; undo = u })) (sym none)
     (subst (λ (x : Collection). IsConsistent (record s { base = base; used = 0; collection = Some x; undo = empty })) (sym begins)

@@ -1,5 +1,5 @@
 -- The writes that may be taken back, when a flip has moved their objects.
-use Rattle.std.proofs.Common.{◌≡◌, ◌≢◌, ℕ, ◌+◌, ◌<◌, Bool, true, false, cond, List, [], ◌∷◌, length, map, Option, None, Some, is_some, refl, sym, ap, ◌∙◌, subst, arith}
+use Rattle.std.proofs.Common.{◌≡◌, ◌≢◌, ℕ, ◌+◌, ◌<◌, ◌≤◌, Bool, true, false, cond, List, [], ◌∷◌, length, map, Option, None, Some, is_some, refl, sym, ap, ◌∙◌, subst, arith}
 use Rattle.std.specs.Prelude.{◌==◌, ◌&&◌, option_map, unwrap_or}
 use Rattle.std.specs.List.{AllByRecursion, list_all}
 use Rattle.std.specs.Ordering.{nat_cmp, eq_by_cmp}
@@ -9,14 +9,19 @@ use Rattle.std.proofs.lemmas.Bool.{and_parts, ltb-true}
 use Rattle.log_records.specs.declared.copies.ObjectCopy.{ObjectCopy}
 use Rattle.heap_spaces.specs.Collection.{Collection}
 use Rattle.heap_spaces.specs.Copying.{begun}
-use Rattle.relocation.specs.Relocation.{destination, moved_to}
+use Rattle.heap_words.specs.declared.Word.{Word}
+use Rattle.heap_words.specs.declared.Word.TheVariants.{Null, Int, Stable, Volatile}
+use Rattle.heap_words.specs.Word.{IsFieldWord, meaning}
+use Rattle.relocation.specs.Relocation.{destination, moved_to, translated_by}
 use Rattle.log_machine.specs.declared.UndoEntry.{UndoEntry}
 use Rattle.log_machine.specs.UndoEntry.{LiesInside}
-use Rattle.log_machine.specs.Machine.{State, settled}
-use Rattle.log_machine.specs.Sound.{IsConsistent}
+use Rattle.log_machine.specs.Machine.{State, settled, words_in}
+use Rattle.log_machine.specs.Sound.{AreLosers, IsSpaced, IsConsistent}
 use Rattle.log_machine.specs.Translation.{translated_entry, translated_list}
-use Rattle.log_machine.specs.Collecting.{other_base, copies_after, pairs_of, copy_of, has_field, can_translate, can_translate_all, translated_undo, begins_at, with_roles_changed, with_undo, flipped_in}
-use Rattle.log_machine.proofs.CopyRows.{Stands, HaveCopied, consistent_flip, copies_told, along_copies}
+use Rattle.log_machine.specs.Collecting.{other_base, copies_after, pairs_of, copy_of, has_field, follows_copies, can_translate, can_translate_all, translated_undo, begins_at, with_roles_changed, with_undo, flipped_in}
+use Rattle.log_machine.proofs.CopyRows.{Stands, HaveCopied, consistent_flip, copies_told, copies_fit, along_copies, spaced_copies, spaced_roles}
+use Rattle.log_machine.proofs.Entries.{IsEntry}
+use Rattle.log_machine.proofs.Bounds.{HaveSpellings}
 use Rattle.log_machine.proofs.MachineLaws.{told_if}
 
 -- Where objects went.
@@ -73,6 +78,40 @@ entries_inside base used copies (u ∷ us) stand can =
     let parts = and_parts (can_translate copies u) (list_all (can_translate copies) us) can in
     (entry_inside base used copies u stand parts.0, entries_inside base used copies us stand parts.1)
 
+-- a copy is found
+some_found : (o : Option ObjectCopy) → is_some o ≡ true → (copy : ObjectCopy) × (o ≡ Some copy)
+some_found None e = absurd (cc e)
+some_found (Some copy) e = (copy, refl)
+
+-- a word of this meaning that goes along is still one that a field may have
+word_spelled : (copies : List ObjectCopy) (word : ℕ) (m : Option Word) → AllByRecursion (λ (copy : ObjectCopy). copy.to < 2097152) copies → follows_copies copies m ≡ true → IsFieldWord word → IsFieldWord (translated_by (pairs_of copies) word m)
+word_spelled copies word None fit follows good = good
+word_spelled copies word (Some Null) fit follows good = good
+word_spelled copies word (Some (Int n)) fit follows good = good
+word_spelled copies word (Some (Stable address)) fit follows good =
+    let found = some_found (copy_of copies address) follows in
+    let goes : moved_to (pairs_of copies) address ≡ found.0.to = went copies address found.0 found.1 in
+    let here : found.0.to < 2097152 = copy_each (λ (copy : ObjectCopy). copy.to < 2097152) copies address found.0 fit found.1 in
+    let low : moved_to (pairs_of copies) address < 2097152 = omega arith in
+    (Stable (moved_to (pairs_of copies) address), low, refl)
+word_spelled copies word (Some (Volatile index)) fit follows good = good
+
+-- an entry that goes along has a spelling still
+entry_spelled : (copies : List ObjectCopy) (u : UndoEntry) → AllByRecursion (λ (copy : ObjectCopy). copy.to < 2097152) copies → can_translate copies u ≡ true → IsEntry u → IsEntry (translated_entry (pairs_of copies) u)
+entry_spelled copies u fit can good =
+    let parts = and_parts (has_field u.field (copy_of copies u.object)) (follows_copies copies (meaning u.was)) can in
+    let found = has_told u.field (copy_of copies u.object) parts.0 in
+    let goes : moved_to (pairs_of copies) u.object ≡ found.0.to = went copies u.object found.0 found.1 in
+    let here : found.0.to < 2097152 = copy_each (λ (copy : ObjectCopy). copy.to < 2097152) copies u.object found.0 fit found.1 in
+    record { object_fits = omega arith; field_fits = good.field_fits; was_word = word_spelled copies u.was (meaning u.was) fit parts.1 good.was_word }
+
+entries_spelled : (copies : List ObjectCopy) (us : List UndoEntry) → AllByRecursion (λ (copy : ObjectCopy). copy.to < 2097152) copies → list_all (can_translate copies) us ≡ true → AllByRecursion IsEntry us
+    → AllByRecursion IsEntry (translated_list (pairs_of copies) us)
+entries_spelled copies [] fit can good = tt
+entries_spelled copies (u ∷ us) fit can good =
+    let parts = and_parts (can_translate copies u) (list_all (can_translate copies) us) can in
+    (entry_spelled copies u fit parts.0 good.0, entries_spelled copies us fit parts.1 good.1)
+
 -- All entries.
 
 module _ {X : Type 0} where
@@ -114,24 +153,68 @@ some_translated pairs (u ∷ us) some e = cc e
 
 -- The state.
 
+-- what may be taken back is such when it has gone along
+pub sound_flipped : (s n : State) (copies : List ObjectCopy) → AreLosers s → can_translate_all copies s.undo ≡ true → s.next ≤ n.next → AllByRecursion (Stands n.base n.used) copies → AreLosers (with_undo n (translated_undo (pairs_of copies) s.undo))
+sound_flipped s n copies sound can later stand = λ q w some.
+    let found = some_mapped (translated_list (pairs_of copies)) (get s.undo q) w (sym (get_translated (pairs_of copies) s.undo q) ∙ some) in
+    let loser = sound q found.0 found.1 in
+    let passes = passes_found (λ us. list_all (can_translate copies) us) q found.0 (entries s.undo) can (sym (get-entries s.undo q) ∙ found.1) in
+    let inside = entries_inside n.base n.used copies found.0 stand passes in
+    record {
+      some = subst (λ l. l ≢ []) found.2 (some_translated (pairs_of copies) found.0 loser.some);
+      number = loser.number;
+      known = omega (arith, loser.known, later);
+      inside = subst (λ l. AllByRecursion (LiesInside n.base n.used) l) found.2 inside;
+    }
+
+-- and it has spellings still
+spelled_flipped : (copies : List ObjectCopy) (undo : FinMap nat_cmp (List UndoEntry)) → AllByRecursion (λ (copy : ObjectCopy). copy.to < 2097152) copies → can_translate_all copies undo ≡ true → HaveSpellings undo → HaveSpellings (translated_undo (pairs_of copies) undo)
+spelled_flipped copies undo fit can good = λ q w some.
+    let found = some_mapped (translated_list (pairs_of copies)) (get undo q) w (sym (get_translated (pairs_of copies) undo q) ∙ some) in
+    let passes = passes_found (λ us. list_all (can_translate copies) us) q found.0 (entries undo) can (sym (get-entries undo q) ∙ found.1) in
+    subst (λ l. AllByRecursion IsEntry l) found.2 (entries_spelled copies found.0 fit passes (good q found.0 found.1))
+
 -- the flip leaves a consistent state
 pub consistent_flipped : (s n : State) (copies : List ObjectCopy) → IsConsistent s → can_translate_all copies s.undo ≡ true → HaveCopied (settled (with_roles_changed s)) copies n → IsConsistent n
     → IsConsistent (with_undo n (translated_undo (pairs_of copies) s.undo))
 consistent_flipped s n copies is can told empty_is = record {
-  sound = λ q w some.
-      let found = some_mapped (translated_list (pairs_of copies)) (get s.undo q) w (sym (get_translated (pairs_of copies) s.undo q) ∙ some) in
-      let loser = is.sound q found.0 found.1 in
-      let passes = passes_found (λ us. list_all (can_translate copies) us) q found.0 (entries s.undo) can (sym (get-entries s.undo q) ∙ found.1) in
-      let inside = entries_inside n.base n.used copies found.0 told.stand passes in
-      record {
-        some = subst (λ l. l ≢ []) found.2 (some_translated (pairs_of copies) found.0 loser.some);
-        number = loser.number;
-        known = omega (arith, loser.known, told.next);
-        inside = subst (λ l. AllByRecursion (LiesInside n.base n.used) l) found.2 inside;
-      };
+  sound = sound_flipped s n copies is.sound can (omega (arith, told.next)) told.stand;
   addresses = empty_is.addresses;
   spaced = record { first = empty_is.spaced.first; room = empty_is.spaced.room; within = empty_is.spaced.within };
 }
+
+-- What it says that a flip can follow.
+pub record IsFlipped (s : State) (copies : List ObjectCopy) (n : State) : Type 0 where
+  pub m : State
+  pub along : can_translate_all copies s.undo ≡ true
+  pub copied : copies_after (with_roles_changed s) copies ≡ Some m
+  pub is : with_undo m (translated_undo (pairs_of copies) s.undo) ≡ n
+
+pub flip_told : (s n : State) (copies : List ObjectCopy) (c : Option Collection) → flipped_in s copies c ≡ Some n → IsFlipped s copies n
+flip_told s n copies (Some k) e = absurd (cc e)
+flip_told s n copies None e =
+    let told = told_if _ _ _ e in
+    let can = and_parts (begins_at s.base copies) (can_translate_all copies s.undo) told.0 in
+    let found = some_mapped (λ (next : State). with_undo next (translated_undo (pairs_of copies) s.undo)) (copies_after (with_roles_changed s) copies) n told.1 in
+    record { m = found.0; along = can.1; copied = found.1; is = found.2 }
+
+-- the spaces behind one
+pub spaced_flip : (s n : State) (copies : List ObjectCopy) → IsSpaced s → IsFlipped s copies n → IsSpaced n
+spaced_flip s n copies is told =
+    let there = spaced_copies (with_roles_changed s) told.m copies (spaced_roles s is) told.copied in
+    subst IsSpaced told.is (record { first = there.first; room = there.room; within = there.within })
+
+-- what may be taken back behind one
+pub sound_flip : (s n : State) (copies : List ObjectCopy) → AreLosers s → IsFlipped s copies n → AreLosers n
+sound_flip s n copies sound told =
+    let copied = copies_told (with_roles_changed s) told.m copies told.copied in
+    subst AreLosers told.is (sound_flipped s told.m copies sound told.along (omega (arith, copied.next)) copied.stand)
+
+-- and its spellings, where a reference has room for each address
+pub spelled_flip : (s n : State) (copies : List ObjectCopy) → IsSpaced s → words_in s.pages ≤ 2097152 → HaveSpellings s.undo → IsFlipped s copies n → HaveSpellings n.undo
+spelled_flip s n copies is few good told =
+    let fit = copies_fit (with_roles_changed s) told.m copies (spaced_roles s is) few told.copied in
+    subst (λ (x : State). HaveSpellings x.undo) told.is (spelled_flipped copies s.undo fit told.along good)
 
 -- a flip that can follow
 pub flip_follows : (s n : State) (copies : List ObjectCopy) → begins_at s.base copies ≡ true → can_translate_all copies s.undo ≡ true → copies_after (settled (with_roles_changed s)) copies ≡ Some n

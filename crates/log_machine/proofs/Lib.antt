@@ -14,13 +14,13 @@ pub mod Lists
 pub mod MachineLaws
 pub mod MapLaws
 pub mod Mapped
-pub mod NoCollection
 pub mod Promotion
 pub mod PromotionLaws
 pub mod ReplayLaws
 pub mod ReserveLaws
 pub mod RunLaws
 pub mod Seen
+pub mod Spaced
 pub mod StateLaws
 pub mod TakenBackLaws
 pub mod TranslationLaws

@@ -11,6 +11,7 @@ use Rattle.log_machine.specs.Entries.{sum_over, bytes_over}
 use Rattle.log_machine.proofs.MapLaws.{sum-insert, sum-remove, remove_absent, entries_empty}
 use Rattle.log_machine.proofs.MachineLaws.{standing, told_if, newest_told}
 use Rattle.log_machine.specs.Sound.{NoneEmpty, AreLosers}
+use Rattle.log_machine.proofs.CollectingLaws.{collects}
 use Rattle.log_machine.proofs.AbortLaws.{none_standing, none_empty}
 
 -- the bytes that are kept for a transaction with these writes: none where there is none
@@ -78,10 +79,10 @@ reserve_row s n (Commit t) sound e =
     let same = ap reserve state in
     omega arith
 reserve_row s n (End t) sound e = let told = cond_some _ _ _ e in let same = ap reserve told.1 in omega arith
-reserve_row s n (Copy from to words) sound e = absurd (cc e)
-reserve_row s n (Scan page writes) sound e = absurd (cc e)
-reserve_row s n (Flip copies) sound e = absurd (cc e)
-reserve_row s n Collected sound e = absurd (cc e)
+reserve_row s n (Copy from to words) sound e = let same = (collects s n (Copy from to words) e).bytes in omega arith
+reserve_row s n (Scan page writes) sound e = let same = (collects s n (Scan page writes) e).bytes in omega arith
+reserve_row s n (Flip copies) sound e = let same = (collects s n (Flip copies) e).bytes in omega arith
+reserve_row s n Collected sound e = let same = (collects s n Collected e).bytes in omega arith
 
 -- a record more keeps at most so many bytes more
 pub reserve-after : (s n : State) (r : Record) → AreLosers s → after s r ≡ Some n → reserve n ≤ reserve s + 29

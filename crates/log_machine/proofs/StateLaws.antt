@@ -1,5 +1,5 @@
 -- Every state that records reach is sound, and what its fields are.
-use Rattle.std.proofs.Common.{◌≡◌, ℕ, ◌+◌, true, cond, List, [], ◌∷◌, length, Option, None, Some, refl, sym, ap, inl, inr, ◌∙◌, subst, arith, Bool, false, ◌≤◌}
+use Rattle.std.proofs.Common.{◌≡◌, ℕ, ◌+◌, true, cond, List, [], ◌∷◌, length, Option, None, Some, refl, sym, ap, ◌∙◌, subst, arith, Bool, false, ◌≤◌}
 use Rattle.std.specs.Prelude.{unwrap_or}
 use Rattle.std.specs.List.{AllByRecursion}
 use Rattle.std.specs.Ordering.{nat_cmp}
@@ -20,6 +20,8 @@ use Rattle.log_machine.proofs.MapLaws.{each_empty, each_insert, each_remove}
 use Rattle.log_machine.proofs.MachineLaws.{told_if, free_told, newest_told, inside_told, number_small}
 use Rattle.log_machine.specs.Sound.{IsLoser, AreLosers, IsSpaced}
 use Rattle.log_machine.proofs.Bounds.{HaveSpellings, CanRollBack, Turns, Leads}
+use Rattle.log_machine.proofs.CollectingLaws.{Collects, collects}
+pub use Rattle.log_machine.proofs.Spaced.{spaced_start, spaced_ends, spaced_more, inside_on}
 
 -- What one record does.
 
@@ -32,6 +34,17 @@ turned_turns s n r t undo own number is =
 -- where an object has become stable, which took none of the words that are owed
 spaced_on : (s : State) (t size : ℕ) → IsSpaced s → s.used + size + owed s ≤ space_words s.pages → IsSpaced (promoted s t size)
 spaced_on s t size spaced room = record { first = spaced.first; room = room; within = spaced.within }
+
+no_more : (b : Bool) → b ≡ false → cond b 1 0 ≤ 0
+no_more true e = absurd (cc e)
+no_more false e = omega arith
+
+-- a record of a collection, which is no transaction's
+collects_turns : (s n : State) (r : Record) → number_of r ≡ None → is_commit r ≡ false → Collects s n → Turns s r n
+collects_turns s n r none plain is =
+    let commits = is.commits in
+    let none_more = no_more (is_commit r) plain in
+    record { number = ap is_number_or_none none; pages = is.pages; spaced = is.spaced; commits = omega arith; next = is.next ∙ sym (ap (next_with s.next) none) }
 
 -- what one row does
 row_turns : (s n : State) (r : Record) → is_number_or_none (number_of r) ≡ true → row_after s r ≡ Some n → Turns s r n
@@ -48,21 +61,16 @@ row_turns s n (Undo t object field word) number e =
     option_and_then_some (λ rest. Some (turned s t (with_entries s.undo t rest) 0)) _ n e (λ rest newest is. turned_turns s n (Undo t object field word) t (with_entries s.undo t rest) refl number (cc is))
 row_turns s n (Commit t) number e = turned_turns s n (Commit t) t (with_entries s.undo t []) refl number (cc e)
 row_turns s n (End t) number e = let told = cond_some _ _ _ e in turned_turns s n (End t) t s.undo refl number told.1
-row_turns s n (Copy from to words) number e = absurd (cc e)
-row_turns s n (Scan page writes) number e = absurd (cc e)
-row_turns s n (Flip copies) number e = absurd (cc e)
-row_turns s n Collected number e = absurd (cc e)
+row_turns s n (Copy from to words) number e = collects_turns s n (Copy from to words) refl refl (collects s n (Copy from to words) e)
+row_turns s n (Scan page writes) number e = collects_turns s n (Scan page writes) refl refl (collects s n (Scan page writes) e)
+row_turns s n (Flip copies) number e = collects_turns s n (Flip copies) refl refl (collects s n (Flip copies) e)
+row_turns s n Collected number e = collects_turns s n Collected refl refl (collects s n Collected e)
 
 -- what one record does
 pub turns : (s n : State) (r : Record) → after s r ≡ Some n → Turns s r n
 turns s n r e = let told = told_if _ _ _ e in row_turns s n r told.0 told.1
 
 -- Sound states.
-
--- a write of a used word is one where more words are used
-pub inside_on : (base used used' : ℕ) (us : List UndoEntry) → used ≤ used' → AllByRecursion (LiesInside base used) us → AllByRecursion (LiesInside base used') us
-inside_on base used used' [] more inside = tt
-inside_on base used used' (u ∷ us) more inside = (record { above = inside.0.above; below = omega (arith, inside.0.below, more) }, inside_on base used used' us more inside.1)
 
 -- a loser is one behind a record more
 pub grown : (s : State) (t : ℕ) (undo : FinMap nat_cmp (List UndoEntry)) (more q : ℕ) (entries : List UndoEntry) → IsLoser s q entries → IsLoser (turned s t undo more) q entries
@@ -132,43 +140,43 @@ sound_row s n (End t) number sound e =
     let told = cond_some _ _ _ e in
     let is : turned s t s.undo 0 ≡ n = told.1 in
     subst AreLosers is (λ q w some. grown s t s.undo 0 q w (sound q w some))
-sound_row s n (Copy from to words) number sound e = absurd (cc e)
-sound_row s n (Scan page writes) number sound e = absurd (cc e)
-sound_row s n (Flip copies) number sound e = absurd (cc e)
-sound_row s n Collected number sound e = absurd (cc e)
+sound_row s n (Copy from to words) number sound e = (collects s n (Copy from to words) e).sound sound
+sound_row s n (Scan page writes) number sound e = (collects s n (Scan page writes) e).sound sound
+sound_row s n (Flip copies) number sound e = (collects s n (Flip copies) e).sound sound
+sound_row s n Collected number sound e = (collects s n Collected e).sound sound
 
-spelled_row : (s n : State) (r : Record) → IsRecord r → HaveSpellings s.undo → row_after s r ≡ Some n → HaveSpellings n.undo
-spelled_row s n (Update t object field was word) good each e =
+spelled_row : (s n : State) (r : Record) → IsRecord r → IsSpaced s → words_in s.pages ≤ 2097152 → HaveSpellings s.undo → row_after s r ≡ Some n → HaveSpellings n.undo
+spelled_row s n (Update t object field was word) good spaced few each e =
     let told = cond_some _ _ _ e in
     let write : UndoEntry = record { object = object; field = field; was = was } in
     let is : turned s t (with_entries s.undo t (write ∷ undo_of s t)) 0 ≡ n = told.1 in
     let entry : IsEntry write = record { object_fits = good.object_fits; field_fits = good.field_fits; was_word = good.was_word } in
     subst (λ (x : State). HaveSpellings x.undo) is (spelled_with s.undo t (write ∷ undo_of s t) (entry, all_spelled s.undo t each) each)
-spelled_row s n (Base t address words) good each e =
+spelled_row s n (Base t address words) good spaced few each e =
     let told = cond_some _ _ _ e in
     let is : promoted s t (length words) ≡ n = told.1 in
     subst (λ (x : State). HaveSpellings x.undo) is each
-spelled_row s n (Fix t object field word) good each e =
+spelled_row s n (Fix t object field word) good spaced few each e =
     let told = cond_some _ _ _ e in
     let is : turned s t s.undo 0 ≡ n = told.1 in
     subst (λ (x : State). HaveSpellings x.undo) is each
-spelled_row s n (Undo t object field word) good each e =
+spelled_row s n (Undo t object field word) good spaced few each e =
     let write : UndoEntry = record { object = object; field = field; was = word } in
     option_and_then_some (λ rest. Some (turned s t (with_entries s.undo t rest) 0)) _ n e (λ rest newest is.
     let same : turned s t (with_entries s.undo t rest) 0 ≡ n = cc is in
     let entries = subst (λ (l : List UndoEntry). AllByRecursion IsEntry l) (newest_told (undo_of s t) write rest newest) (all_spelled s.undo t each) in
     subst (λ (x : State). HaveSpellings x.undo) same (spelled_with s.undo t rest entries.1 each))
-spelled_row s n (Commit t) good each e =
+spelled_row s n (Commit t) good spaced few each e =
     let is : turned s t (with_entries s.undo t []) 1 ≡ n = cc e in
     subst (λ (x : State). HaveSpellings x.undo) is (spelled_with s.undo t [] tt each)
-spelled_row s n (End t) good each e =
+spelled_row s n (End t) good spaced few each e =
     let told = cond_some _ _ _ e in
     let is : turned s t s.undo 0 ≡ n = told.1 in
     subst (λ (x : State). HaveSpellings x.undo) is each
-spelled_row s n (Copy from to words) good each e = absurd (cc e)
-spelled_row s n (Scan page writes) good each e = absurd (cc e)
-spelled_row s n (Flip copies) good each e = absurd (cc e)
-spelled_row s n Collected good each e = absurd (cc e)
+spelled_row s n (Copy from to words) good spaced few each e = (collects s n (Copy from to words) e).spelled spaced few each
+spelled_row s n (Scan page writes) good spaced few each e = (collects s n (Scan page writes) e).spelled spaced few each
+spelled_row s n (Flip copies) good spaced few each e = (collects s n (Flip copies) e).spelled spaced few each
+spelled_row s n Collected good spaced few each e = (collects s n Collected e).spelled spaced few each
 
 -- one record more leaves a sound state
 pub sound_after : (s n : State) (r : Record) → AreLosers s → after s r ≡ Some n → AreLosers n
@@ -179,26 +187,7 @@ pub sound_after_all : (s m : State) (rs : List Record) → AreLosers s → after
 sound_after_all s m [] sound e = let same : s ≡ m = cc e in subst AreLosers same sound
 sound_after_all s m (r ∷ rs) sound e = option_and_then_some (λ next. after_all next rs) (after s r) m e (λ next first rest. sound_after_all next m rs (sound_after s next r sound first) rest)
 
--- one record more leaves undos that have spellings
-pub spelled_after : (s n : State) (r : Record) → IsRecord r → HaveSpellings s.undo → after s r ≡ Some n → HaveSpellings n.undo
-spelled_after s n r good each e = let told = told_if _ _ _ e in spelled_row s n r good each told.1
-
-pub spelled_after_all : (s m : State) (rs : List Record) → AllByRecursion IsRecord rs → HaveSpellings s.undo → after_all s rs ≡ Some m → HaveSpellings m.undo
-spelled_after_all s m [] good each e = let same : s ≡ m = cc e in subst (λ (x : State). HaveSpellings x.undo) same each
-spelled_after_all s m (r ∷ rs) good each e =
-    option_and_then_some (λ next. after_all next rs) (after s r) m e (λ next first rest. spelled_after_all next m rs good.1 (spelled_after s next r good.0 each first) rest)
-
--- records that have spellings leave writes that records can take back
-pub can_after_all : (s m : State) (rs : List Record) → AllByRecursion IsRecord rs → CanRollBack s → after_all s rs ≡ Some m → CanRollBack m
-can_after_all s m rs good can e = record { sound = sound_after_all s m rs can.sound e; entries = spelled_after_all s m rs good can.entries e }
-
-pub can_start : (pages first : ℕ) → CanRollBack (start pages first)
-can_start pages first = record { sound = sound_start pages first; entries = each_empty (λ q us. AllByRecursion IsEntry us) }
-
-pub can_roll_back : (pages first : ℕ) (s : State) (rs : List Record) → AllByRecursion IsRecord rs → after_all (start pages first) rs ≡ Some s → CanRollBack s
-can_roll_back pages first s rs good e = can_after_all (start pages first) s rs good (can_start pages first) e
-
--- The other fields.
+-- Where records lead.
 
 -- the next number behind a record grows, and stays in range
 next_later : (next : ℕ) (number : Option ℕ) → is_number_or_none number ≡ true → (next ≤ next_with next number) × (next ≤ 4294967295 → next_with next number ≤ 4294967295)
@@ -229,17 +218,31 @@ leads_after_all s m [] e =
     subst (Leads s) same (record { pages = refl; spaced = λ spaced. spaced; grows = omega arith; next_in_range = λ fits. fits })
 leads_after_all s m (r ∷ rs) e = option_and_then_some (λ next. after_all next rs) (after s r) m e (λ next first rest. leads_on s next m (leads_after s next r first) (leads_after_all next m rs rest))
 
--- before the first record the root object stands in the first space
-pub spaced_start : (pages first : ℕ) → 1 ≤ pages → IsSpaced (start pages first)
-spaced_start pages first some = record { first = inl refl; room = omega arith; within = tt }
+-- What records can take back.
 
--- the used words are words of the pages
-pub spaced_ends : (s : State) → IsSpaced s → s.base + s.used ≤ words_in s.pages
-spaced_ends s is = elim is.first [ inl low ↦ let room = is.room in omega arith | inr high ↦ let room = is.room in omega arith ]
+-- one record more leaves undos that have spellings
+pub spelled_after : (s n : State) (r : Record) → IsRecord r → IsSpaced s → words_in s.pages ≤ 2097152 → HaveSpellings s.undo → after s r ≡ Some n → HaveSpellings n.undo
+spelled_after s n r good spaced few each e = let told = told_if _ _ _ e in spelled_row s n r good spaced few each told.1
 
--- so are as many more as the space has room for
-pub spaced_more : (s : State) (n : ℕ) → IsSpaced s → s.used + n ≤ space_words s.pages → s.base + s.used + n ≤ words_in s.pages
-spaced_more s n is room = elim is.first [ inl low ↦ omega arith | inr high ↦ omega arith ]
+pub spelled_after_all : (s m : State) (rs : List Record) → AllByRecursion IsRecord rs → IsSpaced s → words_in s.pages ≤ 2097152 → HaveSpellings s.undo → after_all s rs ≡ Some m → HaveSpellings m.undo
+spelled_after_all s m [] good spaced few each e = let same : s ≡ m = cc e in subst (λ (x : State). HaveSpellings x.undo) same each
+spelled_after_all s m (r ∷ rs) good spaced few each e = option_and_then_some (λ next. after_all next rs) (after s r) m e (λ next first rest.
+    let leads = leads_after s next r first in
+    let fits = subst (λ (p : ℕ). words_in p ≤ 2097152) (sym leads.pages) few in
+    spelled_after_all next m rs good.1 (leads.spaced spaced) fits (spelled_after s next r good.0 spaced few each first) rest)
+
+-- records that have spellings leave writes that records can take back
+pub can_after_all : (s m : State) (rs : List Record) → AllByRecursion IsRecord rs → IsSpaced s → words_in s.pages ≤ 2097152 → CanRollBack s → after_all s rs ≡ Some m → CanRollBack m
+can_after_all s m rs good spaced few can e = record { sound = sound_after_all s m rs can.sound e; entries = spelled_after_all s m rs good spaced few can.entries e }
+
+pub can_start : (pages first : ℕ) → CanRollBack (start pages first)
+can_start pages first = record { sound = sound_start pages first; entries = each_empty (λ q us. AllByRecursion IsEntry us) }
+
+-- where a reference has room for each address of the pages
+pub can_roll_back : (pages first : ℕ) (s : State) (rs : List Record) → 1 ≤ pages → pages ≤ 16384 → AllByRecursion IsRecord rs → after_all (start pages first) rs ≡ Some s → CanRollBack s
+can_roll_back pages first s rs some few good e = can_after_all (start pages first) s rs good (spaced_start pages first some) (omega arith) (can_start pages first) e
+
+-- The other fields.
 
 -- records leave the spaces so
 pub spaced_after_all : (pages first : ℕ) (s : State) (rs : List Record) → 1 ≤ pages → after_all (start pages first) rs ≡ Some s → (s.pages ≡ pages) × IsSpaced s

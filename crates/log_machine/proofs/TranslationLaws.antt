@@ -1,25 +1,27 @@
 -- The lists in memory when their writes go along with objects that have moved.
 use Rattle.std.proofs.Common.{◌≡◌, ℕ, Bool, true, false, cond, List, [], ◌∷◌, ◌++◌, map, reverse, refl, sym, ap, ◌∙◌, subst, arith}
-use Rattle.std.specs.Prelude.{◌&&◌}
+use Rattle.std.specs.Prelude.{T, ◌&&◌}
 use Rattle.std.specs.List.{list_all}
-use Rattle.std.specs.Ordering.{nat_cmp}
+use Rattle.std.specs.Ordering.{nat_cmp, is_lt}
+use Rattle.std.specs.Cmp.{nat_cmp_total}
 use Rattle.std.specs.Map.{keys_of}
 use Rattle.std.specs.Map.Calls.{RetainsPairs}
 use Rattle.std.specs.List.Sorted.{IsStrictlySortedBy}
-use Rattle.std.specs.FinMap.{FinMap, from_entries, get}
+use Rattle.std.specs.FinMap.Entries.{below_all}
+use Rattle.std.specs.FinMap.{FinMap, from_entries, from_sorted, entries, entries_sorted, get, is_sorted, get-from_sorted, get-from_entries, entries-from_sorted, same_map, nat_cmp-IsAntisymmetric}
 use Rattle.std.specs.Global.{Vec}
 use Rattle.std.proofs.lemmas.List.{reverse-append, map-append, length-map}
 use Rattle.std.proofs.lemmas.List.Sums.{sum_by-cons}
 use Rattle.std.proofs.lemmas.List.Folds.{list_all-append}
 use Rattle.log_records.specs.declared.copies.ObjectCopy.{ObjectCopy}
 use Rattle.log_machine.specs.declared.UndoEntry.{UndoEntry}
-use Rattle.log_machine.specs.Machine.{Loser, undo_bytes}
+use Rattle.log_machine.specs.Machine.{State, Loser, undo_bytes, reserve}
 use Rattle.log_machine.specs.Entries.{sum_over}
 use Rattle.log_machine.specs.Kept.{IsReserve}
 use Rattle.log_machine.specs.Sound.{NoneEmpty}
 use Rattle.log_machine.specs.Seen.{seen_loser, seen_undo}
 use Rattle.log_machine.specs.Translation.{translated_entry, translated_list}
-use Rattle.log_machine.specs.Collecting.{can_translate, can_translate_all, translated_undo}
+use Rattle.log_machine.specs.Collecting.{can_translate, can_translate_all, translated_undo, with_undo}
 use Rattle.log_machine.proofs.Seen.{entries_seen}
 use Rattle.log_machine.proofs.FlipLaws.{get_translated, some_mapped, some_translated}
 
@@ -62,6 +64,30 @@ sum_translated pairs (e ∷ es) =
     let others = sum_translated pairs es in
     let long = length-map e.1 (translated_entry pairs) in
     omega arith
+
+-- the transactions stay in order
+below_along : (pairs : List (ℕ × ℕ)) (k : ℕ) (es : List Loser) → below_all nat_cmp k (map (translated_loser pairs) es) ≡ below_all nat_cmp k es
+below_along pairs k [] = refl
+below_along pairs k (e ∷ es) = ap (λ b. is_lt (nat_cmp k e.0) && b) (below_along pairs k es)
+
+sorted_along : (pairs : List (ℕ × ℕ)) (es : List Loser) → is_sorted nat_cmp (map (translated_loser pairs) es) ≡ is_sorted nat_cmp es
+sorted_along pairs [] = refl
+sorted_along pairs (e ∷ es) =
+    ap (λ b. b && is_sorted nat_cmp (map (translated_loser pairs) es)) (below_along pairs e.0 es)
+    ∙ ap (λ b. below_all nat_cmp e.0 es && b) (sorted_along pairs es)
+
+-- a map of entries in order has them in this order
+in_order : (undo : FinMap nat_cmp (List UndoEntry)) (es : List Loser) → undo ≡ from_entries es → T (is_sorted nat_cmp es) → entries undo ≡ es
+in_order undo es is sorted =
+    let same : undo ≡ from_sorted es = is ∙ same_map nat_cmp_total nat_cmp-IsAntisymmetric _ _ (λ q. get-from_entries nat_cmp_total es q ∙ sym (get-from_sorted nat_cmp es q sorted)) in
+    ap entries same ∙ entries-from_sorted nat_cmp es sorted
+
+entries_translated : (pairs : List (ℕ × ℕ)) (undo : FinMap nat_cmp (List UndoEntry)) → entries (translated_undo pairs undo) ≡ map (translated_loser pairs) (entries undo)
+entries_translated pairs undo = in_order (translated_undo pairs undo) (map (translated_loser pairs) (entries undo)) refl (subst T (sym (sorted_along pairs (entries undo))) (entries_sorted undo))
+
+-- the log's bytes that are kept are as many behind a flip
+pub reserve-translated : (pairs : List (ℕ × ℕ)) (s n : State) → reserve (with_undo n (translated_undo pairs s.undo)) ≡ reserve s
+reserve-translated pairs s n = ap (λ es. sum_over undo_bytes es) (entries_translated pairs s.undo) ∙ sum_translated pairs (entries s.undo)
 
 some_each : (pairs : List (ℕ × ℕ)) (undo : FinMap nat_cmp (List UndoEntry)) → NoneEmpty undo → NoneEmpty (translated_undo pairs undo)
 some_each pairs undo some q w found =

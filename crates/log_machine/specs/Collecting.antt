@@ -1,4 +1,4 @@
--- Which records of a collection can follow, and the state after them. `after` of the machine lets none of them follow yet.
+-- Which records of a collection can follow, and the state after them.
 use Rattle.std.specs.Prelude.{ℕ, ◌+◌, ◌-◌, ◌*◌, ◌==◌, nat_lt, nat_le, List, [], ◌∷◌, length, map, slice_index, Bool, true, false, not, ◌&&◌, Option, None, Some, is_some, option_and_then, if◌then◌else◌}
 use Rattle.std.specs.List.{list_all}
 use Rattle.std.specs.Option.{option_map}
@@ -16,7 +16,7 @@ use Rattle.heap_spaces.specs.Collection.{Collection, gray_from}
 use Rattle.heap_spaces.specs.Addresses.{with_all}
 use Rattle.heap_spaces.specs.Copying.{begun, with_scanned}
 use Rattle.log_machine.specs.declared.UndoEntry.{UndoEntry}
-use Rattle.log_machine.specs.Machine.{State, space_words}
+use Rattle.log_machine.specs.State.{State, space_words}
 use Rattle.log_machine.specs.Translation.{translated_list}
 
 -- Copies.

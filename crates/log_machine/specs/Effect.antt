@@ -39,6 +39,26 @@ CopiesObjects (Scan page writes) = ⊥
 CopiesObjects (Flip copies) = Unit {0}
 CopiesObjects Collected = ⊥
 
+-- a record is one of a transaction
+abbrev pub IsOfTransaction : Record → Type 0
+IsOfTransaction (Copy from to words) = ⊥
+IsOfTransaction (Scan page writes) = ⊥
+IsOfTransaction (Flip copies) = ⊥
+IsOfTransaction Collected = ⊥
+IsOfTransaction rec = Unit {0}
+
+-- a record lets the spaces change their roles
+abbrev pub ChangesRoles : Record → Type 0
+ChangesRoles (Flip copies) = Unit {0}
+ChangesRoles rec = ⊥
+
+-- the state after a record takes memory
+abbrev pub TakesMemory : Record → Type 0
+TakesMemory (Update t object field was word) = Unit {0}
+TakesMemory (Copy from to words) = Unit {0}
+TakesMemory (Flip copies) = Unit {0}
+TakesMemory rec = ⊥
+
 -- words with their addresses that go on from these
 abbrev pub GoesOn : List (ℕ × ℕ) → List (ℕ × ℕ) → Type 0
 GoesOn before writes = (more : List (ℕ × ℕ)) × (writes ≡ before ++ more)

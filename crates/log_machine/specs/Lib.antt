@@ -12,6 +12,7 @@ pub mod Runs
 pub mod RunsLeft
 pub mod Seen
 pub mod Sound
+pub mod State
 pub mod StateCode
 pub mod Translation
 pub mod UndoEntry

@@ -7,18 +7,16 @@ use Rattle.std.specs.FinMap as finmap
 use Rattle.log_records.specs.declared.copies.ObjectCopy.{ObjectCopy}
 use Rattle.log_records.specs.declared.Record.{Record}
 use Rattle.log_records.specs.declared.Record.TheVariants.{Update, Base, Fix, Undo, Commit, End, Copy, Scan, Flip, Collected}
-use Rattle.heap_spaces.specs.Collection.{Collection, owed_by}
+use Rattle.heap_spaces.specs.Collection.{owed_by}
 use Rattle.heap_spaces.specs.Spaces.{SpacesState}
 use Rattle.heap_words.specs.declared.Header.TheVariants.{Forward}
 use Rattle.heap_words.specs.Header.{header_bits, born_in, born_as}
 use Rattle.heap_words.specs.Word.{is_stable, is_volatile}
 use Rattle.log_machine.specs.declared.UndoEntry.{UndoEntry}
+use Rattle.log_machine.specs.Collecting.{collecting_after}
+pub use Rattle.log_machine.specs.State.{State, space_words}
 
 -- The words.
-
--- how many words the pages of a space have
-abbrev pub space_words : ℕ → ℕ
-space_words pages = 64 * pages
 
 -- how many words the pages of both spaces have
 abbrev pub words_in : ℕ → ℕ
@@ -84,16 +82,6 @@ taken_back [] words = words
 taken_back (u ∷ us) words = taken_back us (with_word words u.object u.field u.was)
 
 -- The state.
-
--- What the records so far say.
-pub record State : Type 0 where
-  pub pages : ℕ  -- how many pages each of the two spaces has
-  pub base : ℕ  -- the address of the current space's first word
-  pub used : ℕ  -- how many words of the current space its objects take
-  pub collection : Option Collection  -- the collection that runs, where one does
-  pub undo : FinMap nat_cmp (List UndoEntry)  -- of each transaction whose writes may be taken back, what they replaced, the newest first
-  pub commits : ℕ  -- how many transactions are committed
-  pub next : ℕ  -- the number of the next transaction
 
 -- before the first record, in a heap whose first transaction has this number
 abbrev pub start : ℕ → ℕ → State
@@ -206,8 +194,7 @@ turned s t undo more = record s { undo = undo; commits = s.commits + more; next 
 abbrev pub promoted : State → ℕ → ℕ → State
 promoted s t size = record s { used = s.used + size; next = max s.next (t + 1) }
 
--- The state after one record more of a transaction whose number is one, if the record can follow. No state lets a record of a
--- collection follow yet, so an image with one is damaged at that record.
+-- the state after one record more, if it can follow, where a transaction's number is one
 abbrev pub row_after : State → Record → Option State
 row_after s (Update t object field was word) =
     if lies_inside s object field
@@ -221,10 +208,10 @@ row_after s (Undo t object field word) =
     (without_newest (undo_of s t) (record { object = object; field = field; was = word }))
 row_after s (Commit t) = Some (turned s t (finmap.remove s.undo t) 1)
 row_after s (End t) = if has_none (undo_of s t) then Some (turned s t s.undo 0) else None
-row_after s (Copy from to words) = None
-row_after s (Scan page writes) = None
-row_after s (Flip copies) = None
-row_after s Collected = None
+row_after s (Copy from to words) = collecting_after s (Copy from to words)
+row_after s (Scan page writes) = collecting_after s (Scan page writes)
+row_after s (Flip copies) = collecting_after s (Flip copies)
+row_after s Collected = collecting_after s Collected
 
 -- the state after one record more, if it can follow
 abbrev pub after : State → Record → Option State

@@ -1,10 +1,11 @@
 //! The state of the heap after a list of records.
-ghost use Rattle.std.specs.Prelude.{◌≡◌, ◌+◌, ◌<◌, ◌≤◌, ◌^◌, ◌↔◌, ◌∷◌, [], None, Some, IfOk, OnOk, OnErr, IsTrue, is_some, true, drop, reverse, length, nat_lt};
+ghost use Rattle.std.specs.Prelude.{◌≡◌, ◌+◌, ◌<◌, ◌≤◌, ◌^◌, ◌↔◌, ◌⊎◌, ◌∷◌, [], None, Some, IfOk, OnOk, OnErr, IsTrue, is_some, option_map, true, drop, reverse, length, nat_lt};
 ghost use Rattle.std.specs.List.{AllByRecursion};
 ghost use Rattle.std.specs.FinMap as map;
 ghost use Rattle.log_records.specs.declared.Record.TheVariants.{Update, Base, Fix, Undo, Commit, End, Copy, Scan, Flip, Collected};
 ghost use Rattle.log_machine.specs.Machine.{start, undo_of, losers, spaces_of, settled, with_entries, space_words, words_in, field_at, number_of, is_number, is_number_or_none, owed, lies_inside, is_next_free, is_promoted_by, is_born_in, none_volatile, without_newest, has_none, turned, promoted, row_after, after, reserve, rollback};
-ghost use Rattle.log_machine.specs.Effect.{WritesBelow, EachWritesBelow, AddsEntry};
+ghost use Rattle.log_machine.specs.Collecting.{other_base};
+ghost use Rattle.log_machine.specs.Effect.{WritesBelow, EachWritesBelow, AddsEntry, IsOfTransaction, ChangesRoles, TakesMemory};
 ghost use Rattle.log_machine.specs.declared.UndoEntry.{UndoEntry};
 ghost use Rattle.log_machine.specs.UndoEntry.{LiesInside};
 
@@ -122,6 +123,13 @@ impl LogState {
         self.base
     }
 
+    /// The address of the first word of the space that is not current.
+    pub fn other_base(&self) -> u32
+        ensures { result ≡ other_base self.now }
+    {
+        PAGE_WORDS * self.pages - self.base
+    }
+
     /// How many words of the current space its objects take.
     pub fn used(&self) -> u32
         ensures used { result ≡ self.now.used }
@@ -146,6 +154,13 @@ impl LogState {
             Some(collection) => collection.owed(),
             None => 0,
         }
+    }
+
+    /// The same, from a state that is needed no more.
+    pub fn into_collection(self) -> Option<Collection>
+        ensures { result ≡ self.collection }
+    {
+        self.collection
     }
 
     /// Nothing may be taken back any more: each transaction has ended.
@@ -184,9 +199,35 @@ impl LogState {
         self.undo.abort_records()
     }
 
-    /// Takes one record more, or tells that it can't follow. After any error the state is as before. Only an `Update` may
-    /// lack memory.
-    pub fn after(&mut self, rec: &Record) -> Result<(), AfterError>
+    /// Takes one record more, or tells that it can't follow. After any error the state is as before. Only an `Update`, a `Copy` and a `Flip`
+    /// may lack memory; whether a `Flip` can follow is not reported then.
+    pub fn after(&mut self, alloc: Global, rec: &Record) -> Result<(), AfterError>
+        requires commits { self.old.commits + 1 < 2 ^ 64 }
+        requires room { reserve self.old + 29 < 2 ^ 64 }
+        ensures ok { OnOk result (after self.old rec.now ≡ Some self.new) }
+        ensures inside { OnOk result (WritesBelow (words_in self.old.pages) rec.now) }
+        ensures unshaped { result ≡ Err AfterError.Unshaped → after self.old rec.now ≡ None }
+        ensures exact { after self.old rec.now ≡ None → (result ≡ Err AfterError.Unshaped) ⊎ ChangesRoles rec.now }
+        ensures no_memory { result ≡ Err AfterError.NoMemory → TakesMemory rec.now }
+        ensures err { OnErr result (self.new ≡ self.old) }
+    {
+        match rec {
+            Record::Copy { .. } | Record::Scan { .. } | Record::Flip { .. } | Record::Collected => {
+                self.collecting_after(alloc, rec)
+            }
+            Record::Update { .. }
+            | Record::Base { .. }
+            | Record::Fix { .. }
+            | Record::Undo { .. }
+            | Record::Commit { .. }
+            | Record::End { .. } => self.transaction_after(rec),
+        }
+    }
+
+    // Takes one record of a transaction more, or tells that it can't follow, as no other record can. After any error the state is as before.
+    // Only an `Update` may lack memory.
+    fn transaction_after(&mut self, rec: &Record) -> Result<(), AfterError>
+        requires transaction { IsOfTransaction rec.now }
         requires commits { self.old.commits + 1 < 2 ^ 64 }
         requires room { reserve self.old + 29 < 2 ^ 64 }
         ensures ok { OnOk result (after self.old rec.now ≡ Some self.new) }
@@ -267,16 +308,18 @@ impl LogState {
         self.next = self.next.max(t + 1);
     }
 
-    // The record can follow those before it.
+    // The record of a transaction can follow those before it.
     fn can_follow(&self, rec: &Record) -> bool
+        requires { IsOfTransaction rec.now }
         ensures follows { result ≡ is_some (after self.now rec.now) }
         ensures inside { result ≡ true → WritesBelow (words_in self.now.pages) rec.now }
     {
         has_number(rec) && self.passes(rec)
     }
 
-    // The record, whose number is that of a transaction, can follow those before it.
+    // The record of a transaction whose number is one can follow those before it.
     fn passes(&self, rec: &Record) -> bool
+        requires { IsOfTransaction rec.now }
         ensures follows { result ≡ is_some (row_after self.now rec.now) }
         ensures inside { result ≡ true → WritesBelow (words_in self.now.pages) rec.now }
     {

@@ -50,7 +50,7 @@ pub fn replay(
 {
     let mut state = LogState::start(alloc, pages, first);
     for (i, record) in records.iter().enumerate() {
-        match state.after(record) {
+        match state.after(alloc, record) {
             Ok(()) => {}
             Err(AfterError::NoMemory) => return Err(ReplayError::NoMemory),
             Err(AfterError::Unshaped) => {

@@ -82,6 +82,7 @@ impl PageCache {
     pub fn as_slice(&self) -> &[u64]
         ensures words { result.now ≡ (cached self.now).words }
         ensures whole { length result.now ≡ 64 * cache_pages self.now }
+        ensures fit { (at : ℕ) → slice_index result.now at < 2 ^ 64 }
     {
         self.pages.as_slice()
     }

@@ -43,8 +43,9 @@ impl CachedPages {
     pub fn as_slice(&self) -> &[u64]
         ensures words { result.now ≡ self.now.words }
         ensures whole { length result.now ≡ 64 * length self.now.lsns }
+        ensures fit { (at : ℕ) → slice_index result.now at < 2 ^ 64 }
     {
-        &self.words
+        fitting(&self.words)
     }
 
     /// The word at an address.
@@ -107,4 +108,12 @@ impl CachedPages {
             self.redo(first + i as u64, rec);
         }
     }
+}
+
+/// These words, as they are: each has 64 bits.
+fn fitting(words: &[u64]) -> &[u64]
+    ensures same { result.now ≡ words.now }
+    ensures fit { (at : ℕ) → slice_index result.now at < 2 ^ 64 }
+{
+    words
 }

@@ -1,7 +1,8 @@
+pub mod After
 mod Fields
 mod Following
 mod Headers
 mod Loops
-mod Rising
-mod Steps
-mod Total
+pub mod Rising
+pub mod Steps
+pub mod Total

@@ -2,7 +2,7 @@
 use Rattle.std.specs.Prelude.{◌≡◌, ℕ, List, map, Option, None, Some}
 use Rattle.relocation.specs.Relocation.{moved_to}
 use Rattle.log_machine.specs.Translation.{translated_list}
-use Rattle.volatile_area.specs.Area.{IsTranslated}
+use Rattle.volatile_area.specs.Area.{IsArea, IsTranslated}
 use Rattle.txn_table.specs.declared.place.Place.{Place}
 use Rattle.txn_table.specs.declared.place.Place.TheVariants.{Stable, Volatile}
 use Rattle.txn_table.specs.Table.{TransactionState, TableState, transaction_of}
@@ -19,6 +19,7 @@ pub record HasGoneAlong (pairs : List (ℕ × ℕ)) (old new : TransactionState)
   pub handles : new.handles ≡ map (translated_handle pairs) old.handles
   pub undo : new.undo ≡ translated_list pairs old.undo
   pub area : IsTranslated pairs old.area new.area
+  pub sound : IsArea new.area  -- whose objects still fill it end to end
 
 -- so has the transaction of a session, if it has one
 abbrev pub GoesAlong : List (ℕ × ℕ) → Option TransactionState → Option TransactionState → Type 0

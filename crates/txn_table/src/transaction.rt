@@ -134,5 +134,7 @@ impl Transaction {
         translate_handles(&mut self.handles, pairs);
         translate(&mut self.undo, pairs);
         self.area.translate(pairs);
+        // That the area is one still is said of its words.
+        let _words = self.area.words();
     }
 }

@@ -1,10 +1,10 @@
 //! The records of a collection: which of them can follow, and the state after them.
-ghost use Rattle.std.specs.Prelude.{◌≡◌, ◌-◌, ◌<◌, ◌≤◌, ◌^◌, ◌&&◌, None, Some, option_map, IfOk, OnOk, OnErr, is_some, true, length, slice_index};
+ghost use Rattle.std.specs.Prelude.{◌≡◌, ◌⊎◌, ◌+◌, ◌-◌, ◌<◌, ◌≤◌, ◌^◌, ◌&&◌, None, Some, option_map, IfOk, IfSome, OnOk, OnErr, is_some, true, length, slice_index};
 ghost use Rattle.std.specs.List.{list_all};
 ghost use Rattle.heap_words.specs.Word.{meaning};
 ghost use Rattle.heap_spaces.specs.Copying.{with_scanned};
 ghost use Rattle.log_machine.specs.Machine.{State, settled, words_in};
-ghost use Rattle.log_machine.specs.Effect.{WritesBelow, CopiesObjects};
+ghost use Rattle.log_machine.specs.Effect.{WritesBelow, CopiesObjects, ChangesRoles};
 ghost use Rattle.log_machine.specs.Collecting.{other_base, can_move, can_hold, copy_after, copies_after, begins_at, with_roles_changed, flipped_in, is_used, leads_to_used, is_current_page, can_put, scanned_in, collected_in, collecting_after};
 
 use crate::copy_index::CopyIndex;
@@ -20,11 +20,12 @@ const FRONT_WORDS: usize = FIELDS_AT as usize;
 
 impl LogState {
     /// Takes one record of a collection more, or tells that it can't follow, as no other record can. After any error the state is as before.
-    /// Only a `Copy` and a `Flip` may lack memory; whether such a record can follow is not reported then.
+    /// Only a `Copy` and a `Flip` may lack memory; whether a `Flip` can follow is not reported then.
     pub fn collecting_after(&mut self, alloc: Global, rec: &Record) -> Result<(), AfterError>
         ensures ok { OnOk result (collecting_after self.old rec.now ≡ Some self.new) }
         ensures inside { OnOk result (WritesBelow (words_in self.old.pages) rec.now) }
         ensures unshaped { result ≡ Err AfterError.Unshaped → collecting_after self.old rec.now ≡ None }
+        ensures exact { collecting_after self.old rec.now ≡ None → (result ≡ Err AfterError.Unshaped) ⊎ ChangesRoles rec.now }
         ensures no_memory { result ≡ Err AfterError.NoMemory → CopiesObjects rec.now }
         ensures err { OnErr result (self.new ≡ self.old) }
     {
@@ -47,6 +48,7 @@ impl LogState {
     fn copy(&mut self, from: u32, to: u32, words: &[u64]) -> Result<(), AfterError>
         ensures ok { OnOk result (copy_after self.old (record { from = from; to = to; words = words.now }) ≡ Some self.new) }
         ensures unshaped { result ≡ Err AfterError.Unshaped → copy_after self.old (record { from = from; to = to; words = words.now }) ≡ None }
+        ensures memory { result ≡ Err AfterError.NoMemory → is_some (copy_after self.old (record { from = from; to = to; words = words.now })) ≡ true }
         ensures err { OnErr result (self.new ≡ self.old) }
     {
         if !self.can_copy(from, to, words) {
@@ -91,11 +93,12 @@ impl LogState {
         u64::from(to) == end && taken <= u64::from(PAGE_WORDS) * u64::from(self.pages)
     }
 
-    // The address of the first word of the space that is not current.
-    fn other_base(&self) -> u32
-        ensures { result ≡ other_base self.now }
+    /// The collection that runs, where one does.
+    pub fn collection(&self) -> Option<&Collection>
+        ensures value { option_map (λ c. c.now) result ≡ self.now.collection }
+        ensures fits { IfSome result (λ c. other_base self.now + c.now.used ≤ words_in self.now.pages) }
     {
-        PAGE_WORDS * self.pages - self.base
+        self.collection.as_ref()
     }
 
     // Adds the copy of an object, which can follow.

@@ -17,7 +17,7 @@ pub returns-in-Err-Unshaped-clause-unshaped : goal.returns-in-Err-Unshaped-claus
 returns-in-Err-Unshaped-clause-unshaped c lsn is =
     let same : c.loop-i.i + 1 ≡ lsn = cc is in
     subst (λ n. IsFirstUnshaped (heap_origin c.args.pages c.args.first) c.args.records.now n) same
-    (unshaped_at (heap_origin c.args.pages c.args.first) c.args.records.now c.loop-i.i c.index-records-i.result c.loop-i.state c.loop-i-test.true c.index-records-i.is c.loop-i.invariant.state (c.after.ensures.unshaped.0 (c.in-Err-Unshaped.is ∙ ap (λ e. Err e) c.in-Err-Unshaped.field-0-is)))
+    (unshaped_at (heap_origin c.args.pages c.args.first) c.args.records.now c.loop-i.i c.index-records-i.result c.loop-i.state c.loop-i-test.true c.index-records-i.is c.loop-i.invariant.state (c.after.ensures.unshaped (c.in-Err-Unshaped.is ∙ ap (λ e. Err e) c.in-Err-Unshaped.field-0-is)))
 
 pub loop-i-preserved : goal.loop-i-preserved
 loop-i-preserved c =

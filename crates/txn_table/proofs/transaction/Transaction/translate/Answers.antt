@@ -22,4 +22,5 @@ returns c =
           ∙ reverse_mapped (translated_entry pairs) kept.undo.items
           ∙ ap (λ (t : TransactionState). translated_list pairs t.undo) c.self.view_is;
       area = subst In (ap (λ (t : TransactionState). t.area) c.self.view_is) c.translate-2.ensures;
+      sound = c.words-words.ensures.sound;
     }

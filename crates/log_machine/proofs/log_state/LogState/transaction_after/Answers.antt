@@ -2,7 +2,7 @@ use Rattle.std.proofs.Common.{◌≡◌, ◌+◌, ◌≤◌, ℕ, List, length, 
 use Rattle.log_records.specs.declared.Record.{Record}
 use Rattle.log_machine.specs.Machine.{space_words, owed, after}
 use Rattle.log_machine.proofs.MachineLaws.{follows_Base}
-use Rattle.log_machine.proofs.log_state.LogState.after.Goals as goal
+use Rattle.log_machine.proofs.log_state.LogState.transaction_after.Goals as goal
 
 pub promote-requires-clause-room : goal.promote-requires-clause-room
 promote-requires-clause-room c =
