@@ -3,6 +3,7 @@ pub mod Flip
 pub mod Heap
 pub mod Laid
 pub mod Moves
+pub mod Placing
 pub mod Relocated
 pub mod Steps
 pub mod Words

@@ -1,4 +1,5 @@
 pub mod Answers
+pub mod Collecting
 pub mod Crash
 pub mod Opening
 pub mod Run

@@ -4,4 +4,5 @@ pub mod Apart
 pub mod OtherWrites
 pub mod Stays
 pub mod TakenBack
+pub mod Unlocked
 pub mod Whole

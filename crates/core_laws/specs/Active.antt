@@ -1,5 +1,5 @@
 -- Which transactions are active in a core.
-use Rattle.std.proofs.Common.{ℕ, Option, ◌-◌}
+use Rattle.std.proofs.Common.{ℕ, Option}
 use Rattle.graph_model.specs.History.{account}
 use Rattle.graph_model.specs.Transaction.{Transaction}
 use Rattle.heap_model.specs.Core.{Core}

@@ -1,5 +1,5 @@
 -- Calls that other transactions hinder.
-use Rattle.std.proofs.Common.{◌≡◌, ℕ, ◌-◌, Some}
+use Rattle.std.proofs.Common.{◌≡◌, ℕ, Some}
 use Rattle.graph_model.specs.declared.event.Event.{Event}
 use Rattle.graph_model.specs.Graph.{Graph}
 use Rattle.graph_model.specs.Transaction.{Transaction}

@@ -7,7 +7,7 @@
 --   Seal       so does a seal, which promotes what has become reachable
 --   Run        so steps reach such cores, those too that the disk cuts short; the events that end a run; the replies of committed transactions
 --
--- The answers, `AnswersTheorem`: each event but a flush is answered as the plain heap answers it, unless room is wanting.
+-- The answers, `AnswersTheorem`: each event but a flip, a scan and a flush is answered as the plain heap answers it, unless room is wanting.
 --   Answers    refusals are the plain heap's, in their order, and then those for want of room or for a page that isn't there; which call is
 --              answered `busy`, and with which number
 --
@@ -21,10 +21,10 @@
 -- The opening, `OpeningTheorem` and `AgainTheorem`: a heap that is opened on any shaped log continues, and opened on what a crash left of a
 -- core it continues from that core's commit prefix. That a legal log says its graph is `saying_law` of heap_model.
 --   Opening    the core that is opened is reached
-use Rattle.std.specs.Prelude.{◌≡◌, ◌≢◌, ℕ, ◌+◌, ◌≤◌, Bool, true, IsTrue, List, length, take, None}
+use Rattle.std.specs.Prelude.{◌≡◌, ℕ, ◌+◌, ◌≤◌, Bool, true, IsTrue, List, length, take, None}
 use Rattle.std.specs.List.{AllByRecursion}
 use Rattle.graph_model.specs.declared.event.Event.{Event}
-use Rattle.graph_model.specs.declared.event.Event.TheVariants.{Flush}
+use Rattle.graph_model.specs.declared.event.Event.TheVariants.{Flip, Scan, Flush}
 use Rattle.graph_model.specs.Canon.{canon}
 use Rattle.graph_model.specs.Graph.{Graph}
 use Rattle.graph_model.specs.History.{account, commits, acknowledged, IsOfSession}
@@ -47,11 +47,17 @@ use Rattle.core_laws.specs.Valid.{IsReached, IsSound}
 abbrev pub StepsTheorem : Type 0
 StepsTheorem = (c d : Core) (events : List Event) → IsReached c → AllByRecursion IsOfSession events → IsRun c events d → IsReached d
 
--- A core answers what a plain heap of the same opening and history answers, where neither memory's spaces nor the log lack room. A flush is
--- answered by what is stored, which a plain heap does not know.
+-- The events of transactions, and forces: a plain heap knows what they are answered. It knows nothing of stored pages, nor of collections.
+abbrev pub IsOfTransactions : Event → Type 0
+IsOfTransactions (Flush p) = ⊥
+IsOfTransactions Flip = ⊥
+IsOfTransactions Scan = ⊥
+IsOfTransactions event = Unit {0}
+
+-- A core answers what a plain heap of the same opening and history answers, where neither memory's spaces nor the log lack room.
 abbrev pub AnswersTheorem : Type 0
 AnswersTheorem =
-    (c : Core) (event : Event) → ((p : ℕ) → event ≢ Flush p) → words_refusal c event ≡ None → log_refusal c event ≡ None
+    (c : Core) (event : Event) → IsOfTransactions event → words_refusal c event ≡ None → log_refusal c event ≡ None
     → answer c event ≡ plain_reply c.first c.g0 (account c.history) event
 
 -- Each image that holds what a crash leaves of a core keeps its commits, where births give the names. A core that is reached is sound. The

@@ -33,8 +33,12 @@ pub record IsLocked (places : Places) (locks : List Lock) (u : UndoEntry) : Type
 abbrev pub AreLocked : Places → List Lock → List UndoEntry → Type 0
 AreLocked places locks undo = AllByRecursion (IsLocked places locks) undo
 
+-- none of the objects that these locks hold is in these places
+abbrev pub AreUnlocked : Places → List Lock → Type 0
+AreUnlocked places locks = AllByRecursion (λ (lock : Lock). address_of places lock.0 ≡ None) locks
+
 -- What a transaction with these locks sees stands in its area, and in the completed words when the writes of all others are taken back. It
--- made no object that remains, and what it holds, wrote and made leads to current objects and to its own.
+-- made no object that remains and has locked none, and what it holds, wrote and made leads to current objects and to its own.
 pub record IsWriting (places remaining : Places) (v : View) (t : ℕ) (locks : List Lock) (words : List ℕ) (state : State) : Type 0 where
   pub stands : Stands t v.made (completed_places state places remaining words) v.graph (others_taken_back state t (completed state places remaining words)) state.base (state.used + owed state)
   pub made : HasMade places v.graph t v.made
@@ -42,6 +46,7 @@ pub record IsWriting (places remaining : Places) (v : View) (t : ℕ) (locks : L
   pub written : AreWritten (completed_places state places remaining words) v.graph (undo_of state t)
   pub fields : AreOfFields places v.graph (undo_of state t)
   pub locked : AreLocked places locks (undo_of state t)
+  pub unlocked : AreUnlocked remaining locks
   pub handles : AllByRecursion (HoldsAtHand places t v.made) v.registers
 
 -- so does what a session's transaction sees, if it has one

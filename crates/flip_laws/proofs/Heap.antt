@@ -50,7 +50,7 @@ flip_own s places words roots own =
 -- Objects that went along.
 
 -- a root object of that name stands where its address goes
-root_goes : {s : State} {places : Places} {words roots : List ℕ} → CanFlip s places words roots → (id : Id) (at : ℕ) → address_of places id ≡ Some at → Contains (with_base s.base roots) at
+pub root_goes : {s : State} {places : Places} {words roots : List ℕ} → CanFlip s places words roots → (id : Id) (at : ℕ) → address_of places id ≡ Some at → Contains (with_base s.base roots) at
     → address_of (copy_places s words roots places) id ≡ Some (moved_to (pairs_of (copies_of s words roots)) at)
 root_goes {s} {places} {words} {roots} can id at placed has =
     let to = other_base s in

@@ -1,7 +1,9 @@
 pub mod Backed
+pub mod Born
 pub mod Copies
 pub mod Heap
 pub mod Lists
 pub mod Parts
+pub mod Placed
 pub mod Roots
 pub mod Written

@@ -102,7 +102,7 @@ root_moved {s} {places} {words} {roots} can at has =
     in_set (map (λ (c : CopiedObject). c.from) (moved_objects (copies_of s words roots))) at (subst (λ (xs : List ℕ). Contains xs at) (sym (moved_from can)) has)
 
 -- and nothing else
-moved_root : {s : State} {places : Places} {words roots : List ℕ} → CanFlip s places words roots → (at : ℕ) → contains (collection_begun s words roots).moved at ≡ true → Contains (with_base s.base roots) at
+pub moved_root : {s : State} {places : Places} {words roots : List ℕ} → CanFlip s places words roots → (at : ℕ) → contains (collection_begun s words roots).moved at ≡ true → Contains (with_base s.base roots) at
 moved_root {s} {places} {words} {roots} can at has =
     subst (λ (xs : List ℕ). Contains xs at) (moved_from can) (from_set (map (λ (c : CopiedObject). c.from) (moved_objects (copies_of s words roots))) at has)
 

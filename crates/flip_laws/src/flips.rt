@@ -8,13 +8,16 @@ ghost use Rattle.log_machine.specs.Collecting.{collecting_after, pairs_of};
 ghost use Rattle.log_machine.specs.Machine.{State, spaces_of};
 ghost use Rattle.log_machine.specs.declared.UndoEntry.{UndoEntry};
 ghost use Rattle.graph_words.specs.Places.{Places, addresses};
+ghost use Rattle.graph_words.specs.Stands.{AreNamedByBirth};
 ghost use Rattle.flip_copy.specs.Copied.{flip_record, with_base};
 ghost use Rattle.flip_copy.specs.Flipped.{IsPlanned};
 ghost use Rattle.collection_words.specs.Completed.{StandsCompleted};
 ghost use Rattle.collection_words.specs.Flipped.{HasBegun, IsFlipping, WereTranslated};
 ghost use Rattle.collection_words.specs.LaidOut.{EachField, IsLaidOut, IsUnderway};
 ghost use Rattle.collection_words.specs.Placed.{HaveOwnNames};
+ghost use Rattle.collection_words.specs.Placing.{moved_by, placing_of};
 ghost use Rattle.collection_words.specs.Writes.{AreBacked, IsCurrentField};
+ghost use Rattle.walk_laws.specs.Heap.{TellsBirths};
 ghost use Rattle.flip_laws.specs.Flip.{AreEntriesOf, CanFlip, HasEntry, collection_begun, copies_of, copy_places, entries_behind, left_places, root_places, state_behind, words_behind};
 
 /// Where a committed graph stands when undo entries are taken back, only the objects of these have fields that lead to volatile objects.
@@ -45,6 +48,16 @@ pub fn flips_begin_a_collection()
 /// No two of the copies and of the objects that remain have one name, where no two of the objects had.
 pub fn flips_keep_names()
     ensures { (s : State) (places : Places) (words roots : List ℕ) → HaveOwnNames places → HaveOwnNames (copy_places s words roots places ++ left_places s words roots places) }
+{}
+
+/// The record of the flip puts the copies where they stand, and leaves the others.
+pub fn flips_place_the_copies()
+    ensures { (s : State) (places : Places) (words roots : List ℕ) → CanFlip s places words roots → HaveOwnNames places → moved_by (placing_of places []) (flip_record (spaces_of s) words roots) ≡ placing_of (copy_places s words roots places) (left_places s words roots places) }
+{}
+
+/// Copies have the births of their objects, the others keep theirs, and the from-space tells those of all that stood there.
+pub fn flips_keep_births()
+    ensures { (s : State) (places : Places) (words roots : List ℕ) → CanFlip s places words roots → HaveOwnNames places → AreNamedByBirth places words → TellsBirths (state_behind s words roots) (copy_places s words roots places) (left_places s words roots places) (words_behind s words roots) }
 {}
 
 /// The objects of undo entries went along, and what these would put back leads to such.

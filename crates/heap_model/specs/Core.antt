@@ -4,7 +4,7 @@ use Rattle.graph_model.specs.declared.id.Id.{Id}
 use Rattle.graph_model.specs.declared.val.Val.{Val}
 use Rattle.graph_model.specs.declared.val.Val.TheVariants.{Null, Int}
 use Rattle.graph_model.specs.declared.event.Event.{Event}
-use Rattle.graph_model.specs.declared.event.Event.TheVariants.{Begin, New, Put, Clear, Link, Seal, Abort, Force, Flush}
+use Rattle.graph_model.specs.declared.event.Event.TheVariants.{Begin, New, Put, Clear, Link, Get, Seal, Abort, Force, Flip, Scan, Flush}
 use Rattle.graph_model.specs.declared.reply.Refusal.{Refusal}
 use Rattle.graph_model.specs.declared.reply.Refusal.TheVariants.{NoSuchPage, VolatileFull, Exhausted, LogFull, DiskFault, Stopped}
 use Rattle.graph_model.specs.declared.reply.Reply.{Reply}
@@ -26,9 +26,11 @@ use Rattle.gated_log.specs.Log.{records_of, batches_bytes, pending_batch}
 use Rattle.heap_words.specs.declared.Word.{Word}
 use Rattle.heap_words.specs.declared.Word.TheVariants.{Stable}
 use Rattle.volatile_area.specs.Area.{AreaState}
-use Rattle.graph_words.specs.Places.{Places, area_used, place_of, bits_of}
+use Rattle.graph_words.specs.Places.{Places, address_of, area_used, place_of, bits_of}
 use Rattle.graph_words.specs.Area.{area_of}
 use Rattle.graph_words.specs.Promotion.{Move, moves_of, promoted_need, seal_records, promoted_places}
+use Rattle.collection_words.specs.Placing.{Placing, placing_of, moved_by_all}
+use Rattle.heap_model.specs.Collecting.{roots_of, barrier_at, flip_records, scan_event_records, flip_reply, scan_reply}
 
 -- The state of a heap since it was opened.
 pub record Core : Type 0 where
@@ -100,11 +102,12 @@ next_word (Some s) = s.base + s.used
 -- Where an event finds the heap: the places of objects, the words, and what the records say.
 pub record Ground : Type 0 where
   pub places : Places
+  pub remaining : Places
   pub words : List ℕ
   pub state : Option State
 
 abbrev pub ground : Core → Ground
-ground c = record { places = c.places; words = all_words c; state = state_behind c (all_records c) }
+ground c = record { places = c.places; remaining = c.remaining; words = all_words c; state = state_behind c (all_records c) }
 
 -- the area of a transaction that sees this
 abbrev pub area_in : Places → View → ℕ → AreaState
@@ -144,15 +147,60 @@ call_records ground g0 a (Some t) (Seal s) = seal_of ground t.number (view g0 a 
 call_records ground g0 a (Some t) (Abort s) = abort_records t.number (undo_with ground.state t.number)
 call_records ground g0 a (Some t) event = []
 
--- the records that an event appends
+-- the roots of a flip: the current objects that active transactions name
+abbrev pub roots : Ground → Graph → Account → List ℕ
+roots ground g0 a = roots_of ground.places (undo_with ground.state) g0 a
+
+-- an event's own records, those of a scan that comes before it left out
 abbrev pub records_for : Ground → Graph → Account → Event → List Record
 records_for ground g0 a (Begin s) = []
 records_for ground g0 a Force = []
+records_for ground g0 a Flip = flip_records ground.state ground.words (roots ground g0 a)
+records_for ground g0 a Scan = scan_event_records ground.state ground.words
 records_for ground g0 a (Flush p) = []
 records_for ground g0 a event = call_records ground g0 a (a.active (session_of event)) event
 
+-- The barrier: before a field is read or written, the page in which its object starts is scanned if a gray object starts there.
+
+abbrev pub held_barrier : Ground → Option Id → ℕ → List Record
+held_barrier ground None i = []
+held_barrier ground (Some id) i = barrier_at ground.state ground.words (address_of ground.places id) i
+
+-- the records of the barrier in front of field i of what a handle of a session's transaction holds, if it has one
+abbrev pub call_barrier : Ground → Graph → Account → Option Transaction → ℕ → ℕ → List Record
+call_barrier ground g0 a None h i = []
+call_barrier ground g0 a (Some t) h i = held_barrier ground (held (view g0 a t).registers h) i
+
+abbrev pub barrier_for : Ground → Graph → Account → Event → List Record
+barrier_for ground g0 a (Get s h i h2) = call_barrier ground g0 a (a.active s) h i
+barrier_for ground g0 a (Put s h i v) = call_barrier ground g0 a (a.active s) h i
+barrier_for ground g0 a (Clear s h i) = call_barrier ground g0 a (a.active s) h i
+barrier_for ground g0 a (Link s h i h2) = call_barrier ground g0 a (a.active s) h i
+barrier_for ground g0 a event = []
+
+abbrev pub barrier_records : Core → Event → List Record
+barrier_records c event = barrier_for (ground c) c.g0 (account c.history) event
+
+abbrev pub placing : Core → Placing
+placing c = placing_of c.places c.remaining
+
+-- the core with these records of a collection behind all that wait, and its objects where they move them
+abbrev pub moved : Core → List Record → Core
+moved c [] = c
+moved c (r ∷ rs) =
+    let there = moved_by_all (placing c) (r ∷ rs) in
+    record c { pending = c.pending ++ (r ∷ rs); places = there.places; remaining = there.remaining }
+
+-- the core on which an event is made: behind the barrier's scan, and the core itself where there is none
+abbrev pub behind_barrier : Core → Event → Core
+behind_barrier c event = moved c (barrier_records c event)
+
+abbrev pub own_records : Core → Event → List Record
+own_records c event = records_for (ground (behind_barrier c event)) c.g0 (account c.history) event
+
+-- the records that an event appends
 abbrev pub event_records : Core → Event → List Record
-event_records c event = records_for (ground c) c.g0 (account c.history) event
+event_records c event = barrier_records c event ++ own_records c event
 
 abbrev pub sealed_places : Ground → Graph → Account → Option Transaction → Places
 sealed_places ground g0 a None = []
@@ -237,8 +285,11 @@ core_refusal c event =
     let a = account c.history in
     refusal_of a.failed (first_of_two (model_refusal (next_number c) c.g0 a event) (first_of_two (words_refusal c event) (log_refusal c event)))
 
--- what an event that isn't refused is answered: a flush by whether its page has changed since it was stored, and all others as by a plain heap
+-- What an event that isn't refused is answered: a flip and a scan by what they copy, a flush by whether its page has changed since it was
+-- stored, and all others as by a plain heap.
 abbrev pub granted_by : Core → Event → Reply
+granted_by c Flip = flip_reply (own_records c Flip)
+granted_by c Scan = scan_reply (ground c).state (own_records c Scan)
 granted_by c (Flush p) = if is_dirty c p then Flushed p else Clean p
 granted_by c event = granted (next_number c) c.g0 (account c.history) event
 
@@ -277,8 +328,12 @@ flushed c p = if is_dirty c p then page_stored (forced_if (is_ahead c p) c) p el
 -- what an event that is granted does
 abbrev pub done : Core → Event → Core
 done c Force = forced c c.pending
+done c Flip = moved c (own_records c Flip)
+done c Scan = moved c (own_records c Scan)
 done c (Flush p) = flushed c p
-done c event = record c { pending = c.pending ++ event_records c event; places = c.places ++ event_places c event }
+done c event =
+    let b = behind_barrier c event in
+    record b { pending = b.pending ++ own_records c event; places = b.places ++ event_places b event }
 
 -- what an event does that may be refused
 abbrev pub after_refusal : Option Refusal → Core → Event → Core

@@ -6,17 +6,14 @@ use Rattle.graph_model.specs.Graph.{Graph}
 use Rattle.graph_model.specs.Transaction.{Transaction}
 use Rattle.log_records.specs.declared.Record.{Record}
 use Rattle.log_records.specs.Record.{IsRecord}
-use Rattle.log_machine.specs.Entries.{EachKeyed}
 use Rattle.log_machine.specs.Machine.{State, owed, all_taken_back, after_all}
 use Rattle.collection_words.specs.Completed.{completed, completed_places}
 use Rattle.collection_words.specs.LaidOut.{AreHeapWords}
-use Rattle.collection_words.specs.Writes.{AreBacked}
+use Rattle.seen_laws.specs.Heap.{AreAllBacked}
 use Rattle.graph_words.specs.Places.{Places, IsAtHand, AreOld}
-use Rattle.graph_words.specs.Stands.{StandsCommitted, AreNamedByBirth}
-
--- the writes that may be taken back put back words that lead to current objects, or to none
-abbrev pub AreAllBacked : State → Places → List ℕ → Type 0
-AreAllBacked state places words = EachKeyed (λ t us. AreBacked places words us) state.undo
+use Rattle.graph_words.specs.Stands.{StandsCommitted}
+use Rattle.walk_laws.specs.Heap.{TellsBirths}
+use Rattle.heap_model.specs.Bits.{AreOf64Bits}
 
 -- Records of a log that begins with the state `from`, and the words behind them, tell a graph: k transactions are committed and have left
 -- it. Its objects stand at `places` in the current space, or remain in the from-space; and it stands in the completed words without the
@@ -26,10 +23,11 @@ pub record IsTold (from : State) (born : Bool) (places remaining : Places) (g : 
   pub reached : after_all from records ≡ Some state  -- each of them follows those before it
   pub count : state.commits ≡ k
   pub heap : AreHeapWords state places remaining words
+  pub fit : AreOf64Bits words
   pub backed : AreAllBacked state places words
   pub stands : StandsCommitted (completed_places state places remaining words) g (all_taken_back state (completed state places remaining words)) state.base (state.used + owed state)
   pub old : AreOld state.next (completed_places state places remaining words)
-  pub births : IsTrue born → AreNamedByBirth (completed_places state places remaining words) (all_taken_back state (completed state places remaining words))
+  pub births : IsTrue born → TellsBirths state places remaining words
 
 -- a handle holds an object at hand, or nothing
 abbrev pub HoldsAtHand : Places → ℕ → ℕ → Option Id → Type 0

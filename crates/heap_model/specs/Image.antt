@@ -16,8 +16,10 @@ use Rattle.page_redo.specs.Redo.{EachLacks, redone}
 use Rattle.page_redo.specs.Prefix.{EachHoldsPrefix}
 use Rattle.page_cache.specs.Stored.{stored_pages}
 use Rattle.object_layout.specs.Layout.{IsSeen}
-use Rattle.object_layout.specs.Walk.{IsWalked, HaveOwnBirths, AreBornBefore}
+use Rattle.walk_laws.specs.Births.{AreBornBeside}
+use Rattle.walk_laws.specs.Heap.{IsStateWalked, from_space}
 use Rattle.gated_log.specs.Log.{HoldsBatches, batches_bytes, records_of}
+use Rattle.heap_model.specs.Bits.{AreOf64Bits}
 
 -- where the log of a heap with these numbers begins
 abbrev pub origin_of : Super → Origin
@@ -33,7 +35,8 @@ words_of s batches stored = each_taken_back (losing_in (state_from (origin_of s)
 
 -- What a shaped log of a heap with these numbers says beside stored pages: its records follow one another; it has room for those that
 -- take back what transactions wrote that have not ended; no page is ahead of it; and when it is redone on the pages, and these writes are
--- taken back, the used words are objects that refer to one another.
+-- taken back, each word has 64 bits, and the used words are objects that refer to one another: those of the current space, and where a
+-- collection is under way those of the space that it empties too.
 pub record IsShapedLog (s : Super) (batches : List (List Record)) (stored : Pages) : Type 0 where
   pub limits : IsSuper s
   pub good : AllByRecursion IsRecord (records_of batches)
@@ -43,15 +46,16 @@ pub record IsShapedLog (s : Super) (batches : List (List Record)) (stored : Page
   pub size : length stored.words ≡ words_in s.pages
   pub lsns_size : length stored.lsns ≡ pages_in s.pages
   pub behind : EachLacks (next_lsn (origin_of s) (records_of batches)) stored
-  pub walked : IsWalked (words_of s batches stored) state.base state.used
+  pub fit : AreOf64Bits (words_of s batches stored)
+  pub walked : IsStateWalked state (words_of s batches stored)
 
--- A legal log: a shaped one beside pages that each hold the effects of its records up to their LSN, in which births differ and
--- come from transactions below the next one. An opening does not look at births, nor at what pages hold.
+-- A legal log: a shaped one beside pages that each hold the effects of its records up to their LSN, in which the births of each space differ
+-- and come from transactions below the next one, and a copy has that of its original. An opening does not look at births, nor at what pages
+-- hold.
 pub record IsLegalLog (s : Super) (batches : List (List Record)) (stored : Pages) : Type 0 where
   pub shaped : IsShapedLog s batches stored
   pub prefixes : EachHoldsPrefix (origin_of s) (records_of batches) stored
-  pub own_births : HaveOwnBirths (words_of s batches stored) shaped.walked.starts
-  pub born_before : AreBornBefore shaped.state.next (words_of s batches stored) shaped.state.base shaped.walked.starts
+  pub births : AreBornBeside shaped.state.next (words_of s batches stored) shaped.state.base shaped.state.used (from_space shaped.state) shaped.walked
 
 -- A disk's image holds the heap with these numbers, whose log holds these batches, and whose pages were stored so.
 pub record Holds (s : Super) (batches : List (List Record)) (stored : Pages) (image : List ℕ) : Type 0 where

@@ -1,3 +1,5 @@
+pub mod Bits
+pub mod Collecting
 pub mod Core
 pub mod CoreCrash
 pub mod CoreRuns

@@ -1,5 +1,5 @@
 -- Where the root of a new heap stands.
-use Rattle.std.proofs.Common.{◌-◌, [], ◌∷◌}
+use Rattle.std.proofs.Common.{[], ◌∷◌}
 use Rattle.graph_model.specs.Graph.{root}
 use Rattle.graph_words.specs.Places.{Places}
 

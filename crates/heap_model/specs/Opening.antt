@@ -1,5 +1,5 @@
 -- What an opening of a legal image does: it takes back the writes of transactions that have not ended, in one batch more.
-use Rattle.std.specs.Prelude.{◌⊎◌, ℕ, ◌+◌, Bool, IsTrue, List, [], Option, None, Some, fold}
+use Rattle.std.specs.Prelude.{◌⊎◌, ℕ, Bool, not, IsTrue, List, [], Option, None, Some, filter, fold}
 use Rattle.graph_model.specs.Graph.{Graph}
 use Rattle.image_plan.specs.declared.superblock.Super.{Super}
 use Rattle.log_records.specs.declared.Record.{Record}
@@ -8,7 +8,8 @@ use Rattle.log_machine.specs.Machine.{State, put_record, number_of, next_with, r
 use Rattle.log_machine.specs.Origin.{state_from, commits_in}
 use Rattle.page_redo.specs.Pages.{Pages, lsn_of}
 use Rattle.graph_words.specs.Places.{Places, AreOld}
-use Rattle.graph_words.specs.Stands.{StandsCommitted, ArePlaced, AreNamedByBirth}
+use Rattle.collection_words.specs.Completed.{in_other_space}
+use Rattle.walk_laws.specs.Heap.{HoldsWhole, TellsBirths}
 use Rattle.heap_model.specs.Core.{Core, force_calls}
 use Rattle.heap_model.specs.Image.{origin_of, redone_words, words_of, IsShapedLog, Holds}
 
@@ -52,6 +53,18 @@ commits_of s batches = commits_in (state_of s batches)
 abbrev pub next_behind : ℕ → List Record → ℕ
 next_behind first records = fold (λ n rec. next_with n (number_of rec)) first records
 
+-- Objects of both spaces, each at its own address, and where the current space is in such a state.
+
+-- those that stand in the current space
+abbrev pub current_in : Option State → Places → Places
+current_in None places = places
+current_in (Some state) places = filter (λ p. not (in_other_space state p.1)) places
+
+-- those that remain in the space that a collection empties
+abbrev pub remaining_in : Option State → Places → Places
+remaining_in None places = []
+remaining_in (Some state) places = filter (λ p. in_other_space state p.1) places
+
 -- The core of a heap just opened, where the log held these batches, its pages were stored so in frames with so many open gates, and this
 -- graph stands in the words at these places.
 abbrev pub opened : Super → List (List Record) → Pages → (ℕ → ℕ) → Bool → Places → Graph → Core
@@ -70,17 +83,16 @@ opened s batches stored gates born places g =
       pending = [];
       stored_lsns = lsn_of stored;
       gates = gates;
-      places = places;
-      remaining = [];
+      places = current_in (state_of s batches) places;
+      remaining = remaining_in (state_of s batches) places;
     }
 
--- A graph stands in what a shaped log leaves, and each of its objects at one of these places; no name of theirs is one that a transaction
--- to come can give. Where births give the names, `born` says so.
+-- A graph stands in what a shaped log leaves, and each of its objects at one of these places, in the current space or in the one that a
+-- collection empties; no name of theirs is one that a transaction to come can give. Where births give the names, `born` says so.
 pub record IsFound (s : Super) (batches : List (List Record)) (stored : Pages) (shaped : IsShapedLog s batches stored) (born : Bool) (places : Places) (g : Graph) : Type 0 where
-  pub stands : StandsCommitted places g (words_of s batches stored) shaped.state.base shaped.state.used
-  pub placed : ArePlaced places g
+  pub whole : HoldsWhole shaped.state (current_in (Some shaped.state) places) (remaining_in (Some shaped.state) places) (words_of s batches stored) g
   pub old : AreOld shaped.state.next places
-  pub births : IsTrue born → AreNamedByBirth places (words_of s batches stored)
+  pub births : IsTrue born → TellsBirths shaped.state (current_in (Some shaped.state) places) (remaining_in (Some shaped.state) places) (words_of s batches stored)
 
 -- An opening of this log leaves an image of it, or of the log behind the opening, beside the same pages.
 abbrev pub IsLeftByOpening : Super → List (List Record) → Pages → List ℕ → Type 0

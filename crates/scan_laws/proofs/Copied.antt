@@ -20,36 +20,43 @@ use Rattle.log_records.specs.declared.Record.TheVariants.{Copy}
 use Rattle.object_layout.specs.Layout.{field_words, object_at}
 use Rattle.object_layout.proofs.LayoutLaws.{object_header}
 use Rattle.log_machine.specs.declared.UndoEntry.{UndoEntry}
-use Rattle.log_machine.specs.Collecting.{collecting_after, copy_after}
+use Rattle.log_machine.specs.Collecting.{collecting_after, copy_after, other_base}
 use Rattle.log_machine.specs.Machine.{State, field_at, put_all, put_record, spaces_of, writes_of}
 use Rattle.log_machine.proofs.ListLaws.{AllByRecursion-map}
-use Rattle.graph_words.specs.Places.{Places, addresses}
+use Rattle.graph_words.specs.Places.{Places, address_of, addresses}
+use Rattle.graph_words.proofs.Seal.Places.{address_of-append_left}
 use Rattle.collection_words.specs.Completed.{IsMade, StandsCompleted, in_other_space, without}
 use Rattle.collection_words.specs.Copying.{copied_words, next_copy, object_words_at, with_place}
 use Rattle.collection_words.specs.LaidOut.{IsUnderway, LeadsHere}
+use Rattle.collection_words.specs.Placing.{Placing, moved_by, moved_by_all, placing_of}
 use Rattle.collection_words.specs.Writes.{AreBacked, IsCurrentField, IsHereWrite}
-use Rattle.collection_words.proofs.Copy.Ascending.{addresses_without, other_true}
+use Rattle.collection_words.proofs.Copy.Ascending.{addresses_without, only_at, other_true}
 use Rattle.collection_words.proofs.Copy.Laid.{copied_collection, copied_laid, copied_state, copy_row, place_before, place_new}
-use Rattle.collection_words.proofs.Copy.Named.{named, own_behind}
+use Rattle.collection_words.proofs.Copy.Moved.{behind_there, gone_other}
+use Rattle.collection_words.proofs.Copy.Named.{left_ascend, named, own_behind}
 use Rattle.collection_words.proofs.Copy.Stands.{completed_own, copy_stands}
 use Rattle.collection_words.proofs.Copy.Words.{IsCopying, copied_forward, copied_here, copied_left, copied_made, copied_old, copy_room}
 use Rattle.collection_words.proofs.Laid.Old.{other_bounds}
 use Rattle.collection_words.proofs.Laid.Underway.{still_underway, underway}
 use Rattle.collection_words.proofs.Laid.Within.{start_within}
+use Rattle.collection_words.proofs.Placing.{put_one}
 use Rattle.collection_words.proofs.Steps.Addresses.{contains-other}
 use Rattle.stability_tracker.proofs.ListLaws.{Contains-filter}
 use Rattle.page_scanner.specs.Passing.{collecting_after_all}
 use Rattle.page_scanner.specs.Scan.{Planned, coming, copied_from, copied_to, going, is_gray, next_free, object_words, with_copy}
-use Rattle.scan_laws.specs.Scanned.{put_records}
+use Rattle.walk_laws.specs.Heap.{TellsBirths}
+use Rattle.walk_laws.proofs.Birth.Copied.{copy_births}
+use Rattle.scan_laws.specs.Scanned.{HaveBeenCopied, IsUntouched, put_records}
 use Rattle.scan_laws.proofs.Collected.{object_parts}
 use Rattle.scan_laws.proofs.Made.{made_then, made_words}
 
--- What a transaction sees of a graph.
+-- What a transaction sees of a graph, and where objects stand before the scan.
 pub record View : Type 0 where
   pub t : ℕ
   pub made : ℕ
   pub g : Graph
   pub us : List UndoEntry
+  pub before : Placing
 
 -- A write that leads a field to the copy of an object of the from-space.
 pub record IsLedWrite (s : State) (places : Places) (words : List ℕ) (write : ℕ × ℕ) : Type 0 where
@@ -86,6 +93,10 @@ pub record IsDone (s : State) (k : Collection) (places : Places) (starts words :
   pub currents : Places
   pub rest : Places
   pub moved : List ℕ
+  pub placed : moved_by_all v.before q.copies ≡ placing_of currents rest
+  pub untouched : IsUntouched s next
+  pub copied : HaveBeenCopied v.before.places v.before.remaining currents rest
+  pub births : TellsBirths s v.before.places v.before.remaining words → TellsBirths next currents rest moved
   pub puts : put_records words q.copies ≡ moved
   pub passes : collecting_after_all s q.copies ≡ Some next
   pub is : IsUnderway next now currents rest moved
@@ -240,6 +251,20 @@ done_copy {s} {k} {places} {starts} {words} {v} {q} d b n start unmoved none obj
       currents = currents;
       rest = without d.rest b;
       moved = others;
+      placed = fold-append moved_by v.before q.copies (Copy b free ws ∷ [])
+          ∙ ap (λ (p : Placing). moved_by p (Copy b free ws)) d.placed
+          ∙ ap (λ (ps : Places). placing_of (d.currents ++ ps) (without d.rest b)) (put_one d.rest (other_base d.next) free id b (left_ascend (underway d.is)) name.1)
+          ∙ ap (λ (x : ℕ). placing_of (d.currents ++ (id, x) ∷ []) (without d.rest b)) (sym place);
+      untouched = record { undo = d.untouched.undo; commits = d.untouched.commits; next = d.untouched.next };
+      copied = record {
+        kept = λ x at there. address_of-append_left d.currents ((id, to) ∷ []) x at (d.copied.kept x at there);
+        fewer = λ x gone_before.
+            let none_now = d.copied.fewer x gone_before in
+            let only = only_at d.rest (other_base d.next) id b (left_ascend (underway d.is)) name.1 in
+            let apart : x ≢ id = λ same. let there = behind_there d.currents d.rest id b own name.1 in let clash = sym none_now ∙ ap (address_of (d.currents ++ d.rest)) same ∙ there in absurd (cc clash) in
+            gone_other d.currents d.rest id b to x only apart ∙ none_now;
+      };
+      births = λ tells. copy_births copying d.is.small (d.births tells);
       puts = fold-append put_record words q.copies (Copy b free ws ∷ []) ∙ ap (λ (l : List ℕ). put_record l (Copy b free ws)) d.puts ∙ ap (λ (c : ObjectCopy). put_all d.moved (writes_of c)) (sym same);
       passes = after_more s q.copies (Copy b free ws) ∙ ap (option_and_then (λ m. collecting_after m (Copy b free ws))) d.passes ∙ follows;
       is = still_underway d.is.small (copied_laid copying d.is.small);

@@ -115,6 +115,10 @@ done_write s k places starts words v q r d object field from to w f meant start 
       currents = d.currents;
       rest = d.rest;
       moved = d.moved;
+      placed = d.placed;
+      untouched = d.untouched;
+      copied = d.copied;
+      births = d.births;
       puts = d.puts;
       passes = d.passes;
       is = d.is;

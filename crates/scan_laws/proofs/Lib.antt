@@ -1,7 +1,7 @@
-mod Collected
-mod Copied
-mod Followed
-mod Made
-mod Olds
-mod Scanned
-mod Visited
+pub mod Collected
+pub mod Copied
+pub mod Followed
+pub mod Made
+pub mod Olds
+pub mod Scanned
+pub mod Visited

@@ -1,10 +1,10 @@
 -- The records of the scan of a page keep a heap in a collection.
 use Rattle.std.proofs.Common.{◌≡◌, ◌≢◌, ℕ, ◌+◌, ◌*◌, ◌<◌, ◌≤◌, Bool, true, false, List, [], ◌∷◌, Option, None, Some, refl, sym, ap, ◌∙◌, subst, arith}
-use Rattle.std.specs.Prelude.{Contains, slice_index, slice_set, nat_le, nat_lt, ◌==◌, ◌&&◌, ◌||◌, option_and_then, if◌then◌else◌}
+use Rattle.std.specs.Prelude.{Contains, not, slice_index, slice_set, nat_le, nat_lt, ◌==◌, ◌&&◌, ◌||◌, option_and_then, if◌then◌else◌}
 use Rattle.std.specs.List.{AllByRecursion}
 use Rattle.std.specs.FinSet.{contains}
 use Rattle.std.specs.Option.{option_map}
-use Rattle.std.proofs.lemmas.Bool.{eqb-true}
+use Rattle.std.proofs.lemmas.Bool.{eq-eqb, eqb-true}
 use Rattle.std.proofs.lemmas.Option.{same_Some}
 use Rattle.std.proofs.lemmas.List.Sums.{fold-append}
 use Rattle.heap_words.specs.declared.Word.TheVariants as word
@@ -25,7 +25,9 @@ use Rattle.graph_words.specs.Places.{Places, addresses}
 use Rattle.graph_words.proofs.Area.Field.{field_no_start}
 use Rattle.collection_words.specs.Completed.{StandsCompleted, end_of, followed, followed_by, moves_from}
 use Rattle.collection_words.specs.LaidOut.{EachField, IsUnderway, LeadsHere}
+use Rattle.collection_words.specs.Placing.{Placing, moved_by, moved_by_all, placing_of}
 use Rattle.collection_words.specs.Writes.{AreBacked, IsHereWrite, IsScanWrite}
+use Rattle.collection_words.proofs.Steps.Addresses.{contains-without}
 use Rattle.collection_words.proofs.Laid.Old.{old_in_other}
 use Rattle.collection_words.proofs.Laid.Sources.{here_ends}
 use Rattle.collection_words.proofs.Laid.Underway.{still_underway, underway}
@@ -33,20 +35,26 @@ use Rattle.collection_words.proofs.Laid.Within.{start_within}
 use Rattle.collection_words.proofs.Laid.Write.{as_field, unmoved_left}
 use Rattle.collection_words.proofs.Steps.Scan.{put_named, scan_laid, scan_row, scan_same, scan_stands, scanned_state, stable_here}
 use Rattle.page_scanner.specs.Scan.{Planned, is_current, nothing, records_of, scan, scan_records, visit_all}
-use Rattle.scan_laws.specs.Scanned.{KeepHeap, put_records}
+use Rattle.walk_laws.specs.Heap.{TellsBirths}
+use Rattle.walk_laws.proofs.Birth.Scanned.{scan_births}
+use Rattle.scan_laws.specs.Scanned.{HaveBeenCopied, KeepHeap, put_records}
 use Rattle.scan_laws.proofs.Copied.{IsDone, IsLedWrite, View, after_more}
 use Rattle.scan_laws.proofs.Made.{made_same}
 use Rattle.scan_laws.proofs.Visited.{Visits, visits}
 
 -- nothing is planned at first
-done_first : (s : State) (k : Collection) (places remaining : Places) (words : List ℕ) (v : View) (is : IsUnderway s k places remaining words) → AreBacked places words v.us
+done_first : (s : State) (k : Collection) (places remaining : Places) (words : List ℕ) (v : View) (is : IsUnderway s k places remaining words) → v.before ≡ placing_of places remaining → AreBacked places words v.us
     → StandsCompleted v.t v.made places remaining v.g v.us words s → IsDone s k places (underway is).from.starts words v nothing
-done_first s k places remaining words v is backed stands = record {
+done_first s k places remaining words v is first backed stands = record {
   next = s;
   now = k;
   currents = places;
   rest = remaining;
   moved = words;
+  placed = first;
+  untouched = record { undo = refl; commits = refl; next = refl };
+  copied = subst (λ (p : Placing). HaveBeenCopied p.places p.remaining places remaining) (sym first) (record { kept = λ id at there. there; fewer = λ id none. none });
+  births = λ tells. subst (λ (p : Placing). TellsBirths s p.places p.remaining words) first tells;
   puts = refl;
   passes = refl;
   is = is;
@@ -105,10 +113,16 @@ in_page false o q is = absurd (cc is)
 page_bounds : (at page : ℕ) → page_of at ≡ page → (64 * page ≤ at) × (at < 64 * page + 64)
 page_bounds at page here = (omega (arith, here), omega (arith, here))
 
+-- what starts in the page is no longer gray
+out_of : (gray : Bool) {here : Bool} → here ≡ true → (gray && not here) ≡ false
+out_of true is = ap not is
+out_of false is = refl
+
 -- What the plan of a page leaves keeps the heap.
-planned_keeps : (s : State) (k : Collection) (places : Places) (starts words : List ℕ) (v : View) (page : ℕ) (q : Planned) (d0 : IsDone s k places starts words v nothing)
-    → is_current (spaces_of s) page ≡ true → Visits s k places starts words v nothing q d0 (64 * page) 64 → KeepHeap s words (records_of page q) v.t v.made v.g v.us
-planned_keeps s k places starts words v page q d0 current all =
+planned_keeps : (s : State) (k : Collection) (places remaining : Places) (starts words : List ℕ) (v : View) (page : ℕ) (q : Planned) (d0 : IsDone s k places starts words v nothing)
+    → v.before ≡ placing_of places remaining → is_current (spaces_of s) page ≡ true → Visits s k places starts words v nothing q d0 (64 * page) 64
+    → KeepHeap s places remaining words page (records_of page q) v.t v.made v.g v.us
+planned_keeps s k places remaining starts words v page q d0 first current all =
     let d = all.goes.last in
     let small = d.is.small in
     let is = underway d.is in
@@ -134,7 +148,10 @@ planned_keeps s k places starts words v page q d0 current all =
     let long = (object_header d.moved at within.fields within.object).1 in
     put_named (λ w. LeadsHere (addresses d.currents) (meaning w)) q.writes d.moved (field_at at i) (omega (arith, less, long)) leads (covered.1 within.fields i within.object less) in
     let last = scanned_state d.next d.now page in
-    let laid = still_underway small (scan_laid (scan_same q.writes is small writes).is page each) in
+    let complete = scan_same q.writes is small writes in
+    let laid = still_underway small (scan_laid complete.is page each) in
+    let born : TellsBirths s places remaining words → TellsBirths last d.currents d.rest others =
+    λ tells. scan_births d.is page q.writes writes (d.births (subst (λ (p : Placing). TellsBirths s p.places p.remaining words) (sym first) tells)) in
     let backed = AllByRecursion-map (λ (u : UndoEntry). IsHereWrite d.currents d.moved u.object u.field u.was) (λ u. IsHereWrite d.currents others u.object u.field u.was) v.us
     (λ u one. record { is = record { start = one.is.start; fields = one.is.fields; stands = kept u.object one.is.fields one.is.start one.is.stands; within = one.is.within }; leads = one.leads }) d.backed in
     let stands = scan_stands is small page q.writes writes v.t v.made v.g v.us d.stands in
@@ -142,21 +159,29 @@ planned_keeps s k places starts words v page q d0 current all =
     record {
       next = last;
       collection = with_scanned d.now page;
-      places = d.currents;
-      remaining = d.rest;
+      currents = d.currents;
+      rest = d.rest;
       passes = after_more s q.copies (Scan page q.writes) ∙ ap (option_and_then (λ m. collecting_after m (Scan page q.writes))) d.passes ∙ row;
+      placed = fold-append moved_by (placing_of places remaining) q.copies (Scan page q.writes ∷ [])
+          ∙ ap (λ (p : Placing). moved_by (moved_by_all p q.copies) (Scan page q.writes)) (sym first)
+          ∙ ap (λ (p : Placing). moved_by p (Scan page q.writes)) d.placed;
+      untouched = record { undo = d.untouched.undo; commits = d.untouched.commits; next = d.untouched.next };
+      copied = subst (λ (p : Placing). HaveBeenCopied p.places p.remaining d.currents d.rest) first d.copied;
+      births = λ tells. subst (TellsBirths last d.currents d.rest) behind (born tells);
       underway = subst (IsUnderway last (with_scanned d.now page) d.currents d.rest) behind laid;
+      black = λ at here. contains-without d.now.gray page at ∙ out_of (contains d.now.gray at) (eq-eqb (page_of at) page here);
       backed = subst (λ (l : List ℕ). AreBacked d.currents l v.us) behind backed;
       stands = subst (λ (l : List ℕ). StandsCompleted v.t v.made d.currents d.rest v.g v.us l last) behind stands;
     }
 
 -- The records of the scan of a page keep the heap.
 pub scan_keeps : (s : State) (k : Collection) (places remaining : Places) (words : List ℕ) (v : View) (page : ℕ) (records : List Record) → IsUnderway s k places remaining words → AreBacked places words v.us
-    → StandsCompleted v.t v.made places remaining v.g v.us words s → scan_records (spaces_of s) k words page ≡ Some records → KeepHeap s words records v.t v.made v.g v.us
-scan_keeps s k places remaining words v page records is backed stands planned =
+    → StandsCompleted v.t v.made places remaining v.g v.us words s → v.before ≡ placing_of places remaining → scan_records (spaces_of s) k words page ≡ Some records
+    → KeepHeap s places remaining words page records v.t v.made v.g v.us
+scan_keeps s k places remaining words v page records is backed stands before planned =
     let plan = planned_parts page (scan (spaces_of s) k words page) records planned in
     let q = plan.0 in
     let run = in_page (is_current (spaces_of s) page) (visit_all (spaces_of s) k words nothing (64 * page) 64) q plan.1 in
-    let first = done_first s k places remaining words v is backed stands in
-    subst (λ (rs : List Record). KeepHeap s words rs v.t v.made v.g v.us) plan.2
-    (planned_keeps s k places (underway is).from.starts words v page q first run.0 (visits s k places remaining words v nothing q (underway is) first (64 * page) 64 run.1))
+    let first = done_first s k places remaining words v is before backed stands in
+    subst (λ (rs : List Record). KeepHeap s places remaining words page rs v.t v.made v.g v.us) plan.2
+    (planned_keeps s k places remaining (underway is).from.starts words v page q first before run.0 (visits s k places remaining words v nothing q (underway is) first (64 * page) 64 run.1))

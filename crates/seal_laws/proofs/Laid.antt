@@ -158,7 +158,8 @@ laid_filled p is =
 
 -- The from-space.
 
-old_each : (p : Promoting) → (is : IsPromoting p) → (at : ℕ) → Contains is.is.from.starts at
+-- each object of it is forwarded as it was, with as many fields
+pub old_each : (p : Promoting) → (is : IsPromoting p) → (at : ℕ) → Contains is.is.from.starts at
     → IsForwarded (behind p) (addresses (currents p)) at (contains p.k.moved at) × (old_length (behind p) at ≡ old_length p.words at)
 old_each p is at has = by_moved (contains p.k.moved at) refl (is.is.from.forwarded at has)
   where

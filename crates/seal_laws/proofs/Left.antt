@@ -31,12 +31,13 @@ use Rattle.collection_words.proofs.Copy.Stands.{completed_names}
 use Rattle.collection_words.proofs.Laid.Completed.{length-completed}
 use Rattle.collection_words.proofs.Laid.Underway.{still_underway, underway}
 use Rattle.collection_words.proofs.Laid.Write.{write_within}
+use Rattle.walk_laws.specs.Heap.{TellsBirths}
 use Rattle.seal_laws.specs.Seal.{CanSealWithin, Seal, all, area, asked, free_then, last, later_places, later_words, next_free, placed, placed_then, records, records_then, seen, seen_then, used_then, whole}
 use Rattle.seal_laws.proofs.Based.{based}
 use Rattle.seal_laws.proofs.Fixed.{each_fix, fix_entries, put_entries}
 use Rattle.seal_laws.proofs.Found.{are_fixed, area_then, can_seal, is_promoting, need_is, promotion, undo_inside}
 use Rattle.seal_laws.proofs.Promoting.{all_there, currents, moves_there, next, own_behind_all, placed_here}
-use Rattle.seal_laws.proofs.Sealed.{final, final_backed, final_laid, final_put, final_put_there, final_relocates, final_stands, final_there}
+use Rattle.seal_laws.proofs.Sealed.{final, final_backed, final_births, final_laid, final_put, final_put_there, final_relocates, final_stands, final_there}
 use Rattle.seal_laws.proofs.Seen.{agree, area_same, asked_same}
 
 -- Records that write no word which was written before.
@@ -130,6 +131,12 @@ module _ (c : Seal) (can : CanSealWithin c) where
   seal_backed us backed =
       behind_seal (λ s ps ws. AreBacked (c.places ++ ps) ws us)
       (final_backed (promotion c) (is_promoting c can) (seen_then c) (written_fields c.undo) (are_fixed c can) us backed)
+
+  -- Births are told, if they were before.
+  pub seal_tells : TellsBirths c.state c.places c.remaining c.words → TellsBirths (last c) (later_places c) c.remaining (later_words c)
+  seal_tells tells =
+      behind_seal (λ s ps ws. TellsBirths s (c.places ++ ps) c.remaining ws)
+      (final_births (promotion c) (is_promoting c can) (seen_then c) (written_fields c.undo) (are_fixed c can) tells)
 
   -- Graphs.
 

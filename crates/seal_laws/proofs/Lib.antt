@@ -1,6 +1,7 @@
 pub mod Based
 pub mod Begun
 pub mod Beside
+pub mod Births
 pub mod Fixed
 pub mod Found
 pub mod Laid

@@ -24,6 +24,9 @@ use Rattle.collection_words.proofs.Laid.TakenBack.{completed_taken_back, taken_b
 use Rattle.collection_words.proofs.Laid.Within.{start_within}
 use Rattle.collection_words.proofs.Relocated.Stands.{relocated_stands}
 use Rattle.collection_words.proofs.Relocated.Writes.{IsRelocation, relocated_taken_back}
+use Rattle.walk_laws.specs.Heap.{TellsBirths}
+use Rattle.walk_laws.proofs.Birth.TakenBack.{births_back}
+use Rattle.seal_laws.proofs.Births.{promoted_births}
 use Rattle.seal_laws.proofs.Fixed.{AreFixed, backed_behind, backed_led, backed_still, backed_whole, fix_entries, fixed_backed, fixed_entries, fixed_fields, put_entries}
 use Rattle.seal_laws.proofs.Laid.{promoted_laid}
 use Rattle.seal_laws.proofs.Promoting.{IsPromoting, Promoting, all_behind, all_there, alls, behind, currents, moves_here, moves_there, need, next, own_behind_all, placed_there, promoted_at, there, whole, whole_behind, whole_there}
@@ -51,6 +54,13 @@ module _ (p : Promoting) (is : IsPromoting p) (seen : List ℕ) (fs : List Field
 
   pub final_backed : (us : List UndoEntry) → AreBacked p.places p.words us → AreBacked (currents p) final us
   final_backed us backed = backed_behind entries (promoted_laid p is) (fixed_backed p is seen fs fixed) us (backed_still p is us backed)
+
+  -- Births are told behind them.
+  pub final_births : TellsBirths p.s p.places p.remaining p.words → TellsBirths (next p) (currents p) p.remaining final
+  final_births tells =
+      let laid = promoted_laid p is in
+      births_back (next p) (currents p) p.remaining (behind p) entries (record { spaced = laid.spaced; long = laid.long; small = is.small }) laid.laid (fixed_backed p is seen fs fixed)
+      (promoted_births p is tells)
 
   final_whole : (us : List UndoEntry) → taken_back us (completed (next p) (currents p) p.remaining final) ≡ taken_back (entries ++ us) (whole_behind p)
   final_whole us =

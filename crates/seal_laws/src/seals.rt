@@ -13,6 +13,7 @@ ghost use Rattle.graph_words.specs.Stands.{AreNamedByBirth, AreOfFields, AreWrit
 ghost use Rattle.collection_words.specs.Completed.{StandsCompleted, completed, future};
 ghost use Rattle.collection_words.specs.LaidOut.{IsUnderway};
 ghost use Rattle.collection_words.specs.Writes.{AreBacked};
+ghost use Rattle.walk_laws.specs.Heap.{TellsBirths};
 ghost use Rattle.seal_laws.specs.Seal.{AreWrittenWithin, CanSealWithin, IsBesideFields, Seal, all, asked, free_then, last, later_places, later_words, next_free, placed_then, records, records_then, seen_then, used_then, whole};
 
 /// The records of a seal can follow, one after another, and each has a spelling: they put what is promoted where the used words end.
@@ -39,6 +40,11 @@ pub fn seals_commit_graphs()
 /// Births give the names of objects in the completed words behind a seal, if they did in those before.
 pub fn seals_keep_names()
     ensures { (c : Seal) → CanSealWithin c → AreNamedByBirth (all c) (seen_then c) → AreNamedByBirth (later_places c ++ future (last c) (later_words c) c.remaining) (taken_back c.others (completed (last c) (later_places c) c.remaining (later_words c))) }
+{}
+
+/// Behind a seal births name the objects of both spaces, and the from-space still tells its own, if they did so before.
+pub fn seals_keep_births()
+    ensures { (c : Seal) → CanSealWithin c → TellsBirths c.state c.places c.remaining c.words → TellsBirths (last c) (later_places c) c.remaining (later_words c) }
 {}
 
 /// Each graph that stands behind the seal of the completed words stands in the completed words behind the seal, where the same writes are

@@ -52,7 +52,8 @@ named_still words others (p ∷ ps) same born = (
 
 -- The completed words.
 
-collecting_births : {s : State} {k : Collection} {places remaining : Places} {words : List ℕ} → IsCollecting s k places remaining words
+-- births give the names in the completed words exactly where they do so in the words
+pub collecting_births : {s : State} {k : Collection} {places remaining : Places} {words : List ℕ} → IsCollecting s k places remaining words
     → AreNamedByBirth (places ++ future s words remaining) (completed s places remaining words) ↔ AreNamedByBirth (places ++ remaining) words
 collecting_births {s} {places = places} {remaining = remaining} {words = words} is =
     let V = completed s places remaining words in

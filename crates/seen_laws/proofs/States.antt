@@ -25,16 +25,16 @@ use Rattle.seen_laws.proofs.Reading.{field_here, object_here}
 abbrev pub writes_of_all : List Loser → List UndoEntry
 writes_of_all es = flat_map (λ (e : Loser). e.1) es
 
-all_backed : (places : Places) (words : List ℕ) (es : List Loser) → AllByRecursion (λ (e : Loser). AreBacked places words e.1) es → AreBacked places words (writes_of_all es)
+pub all_backed : (places : Places) (words : List ℕ) (es : List Loser) → AllByRecursion (λ (e : Loser). AreBacked places words e.1) es → AreBacked places words (writes_of_all es)
 all_backed places words [] all = tt
 all_backed places words (e ∷ es) all = AllByRecursion-append (λ (u : UndoEntry). IsHereWrite places words u.object u.field u.was) e.1 (writes_of_all es) all.0 (all_backed places words es all.1)
 
 -- All transactions.
 
-backed_all : (s : State) (places : Places) (words : List ℕ) → AreAllBacked s places words → AreBacked places words (writes_of_all (losing s))
+pub backed_all : (s : State) (places : Places) (words : List ℕ) → AreAllBacked s places words → AreBacked places words (writes_of_all (losing s))
 backed_all s places words backed = all_backed places words (losing s) (each_entry (λ t us. AreBacked places words us) s.undo backed)
 
-sealed_stands : (s : State) (places remaining : Places) (words : List ℕ) {g : Graph} → StandsSealed places remaining g words s → StandsCompleted 0 0 places remaining g (writes_of_all (losing s)) words s
+pub sealed_stands : (s : State) (places remaining : Places) (words : List ℕ) {g : Graph} → StandsSealed places remaining g words s → StandsCompleted 0 0 places remaining g (writes_of_all (losing s)) words s
 sealed_stands s places remaining words {g} stands =
     subst (λ (ws : List ℕ). Stands 0 0 (places ++ future s words remaining) g ws s.base (s.used + owed s)) (each_taken_back-list (losing s) (completed s places remaining words)) stands
 
@@ -55,14 +55,14 @@ sealed_born s places remaining words {g} heap backed stands born =
 
 -- All others.
 
-abbrev others : State → ℕ → List Loser
+abbrev pub others : State → ℕ → List Loser
 others s t = entries (remove s.undo t)
 
-backed_others : (s : State) (t : ℕ) (places : Places) (words : List ℕ) → AreAllBacked s places words → AreBacked places words (writes_of_all (others s t))
+pub backed_others : (s : State) (t : ℕ) (places : Places) (words : List ℕ) → AreAllBacked s places words → AreBacked places words (writes_of_all (others s t))
 backed_others s t places words backed =
     all_backed places words (others s t) (each_entry (λ q us. AreBacked places words us) (remove s.undo t) (each_remove (λ q us. AreBacked places words us) s.undo t backed))
 
-viewed_stands : (s : State) (t made : ℕ) (places remaining : Places) (words : List ℕ) {g : Graph} → StandsViewed t made places remaining g words s
+pub viewed_stands : (s : State) (t made : ℕ) (places remaining : Places) (words : List ℕ) {g : Graph} → StandsViewed t made places remaining g words s
     → StandsCompleted t made places remaining g (writes_of_all (others s t)) words s
 viewed_stands s t made places remaining words {g} stands =
     subst (λ (ws : List ℕ). Stands t made (places ++ future s words remaining) g ws s.base (s.used + owed s)) (each_taken_back-list (others s t) (completed s places remaining words)) stands

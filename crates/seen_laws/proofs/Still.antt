@@ -33,21 +33,6 @@ undone_spaces : (s n : State) (t : ℕ) (o : Option (List UndoEntry)) → option
 undone_spaces s n t None e = cc e
 undone_spaces s n t (Some rest) e = let same : turned s t (with_entries s.undo t rest) 0 ≡ n = cc e in subst (HasSpaces s) same (refl, refl)
 
-row_spaces : (s n : State) (rec : Record) → row_after s rec ≡ Some n → HasSpaces s n
-row_spaces s n (Update t object field was word) e = subst (HasSpaces s) (cond_some _ _ _ e).1 (refl, refl)
-row_spaces s n (Base t address words) e = subst (HasSpaces s) (cond_some _ _ _ e).1 (refl, refl)
-row_spaces s n (Fix t object field word) e = subst (HasSpaces s) (cond_some _ _ _ e).1 (refl, refl)
-row_spaces s n (Undo t object field word) e = undone_spaces s n t _ e
-row_spaces s n (Commit t) e = subst (HasSpaces s) (same_state _ n e) (refl, refl)
-  where
-    same_state : (m n : State) → Some m ≡ Some n → m ≡ n
-    same_state m n is = cc is
-row_spaces s n (End t) e = subst (HasSpaces s) (cond_some _ _ _ e).1 (refl, refl)
-row_spaces s n (Copy from to words) e = absurd (cc e)
-row_spaces s n (Scan page writes) e = absurd (cc e)
-row_spaces s n (Flip copies) e = absurd (cc e)
-row_spaces s n Collected e = absurd (cc e)
-
 scan_spaces : (s n : State) (page : ℕ) (writes : List (ℕ × ℕ)) (c : Option Collection) → scanned_in s page writes c ≡ Some n → HasSpaces s n
 scan_spaces s n page writes None e = absurd (cc e)
 scan_spaces s n page writes (Some k) e = subst (HasSpaces s) (cond_some _ _ _ e).1 (refl, refl)
@@ -151,18 +136,6 @@ place_leaves s (Flip copies) now at is place other =
     settle w (inr forward) = inr (record { to = forward.to; old = forward.old; word = forward.word; leads = record { above = forward.leads.above; below = forward.leads.below } })
 place_leaves s Collected now at is place other = tt
 
-row_roles : (s n : State) (rec : Record) → row_after s rec ≡ Some n → HasSpaces (roles s rec) n
-row_roles s n (Update t object field was word) e = row_spaces s n (Update t object field was word) e
-row_roles s n (Base t address words) e = row_spaces s n (Base t address words) e
-row_roles s n (Fix t object field word) e = row_spaces s n (Fix t object field word) e
-row_roles s n (Undo t object field word) e = row_spaces s n (Undo t object field word) e
-row_roles s n (Commit t) e = row_spaces s n (Commit t) e
-row_roles s n (End t) e = row_spaces s n (End t) e
-row_roles s n (Copy from to words) e = absurd (cc e)
-row_roles s n (Scan page writes) e = absurd (cc e)
-row_roles s n (Flip copies) e = absurd (cc e)
-row_roles s n Collected e = absurd (cc e)
-
 collection_roles : (s n : State) (rec : Record) → collecting_after s rec ≡ Some n → HasSpaces (roles s rec) n
 collection_roles s n (Update t object field was word) e = absurd (cc e)
 collection_roles s n (Base t address words) e = absurd (cc e)
@@ -174,6 +147,21 @@ collection_roles s n (Copy from to words) e = subst (HasSpaces s) (copy_told s n
 collection_roles s n (Scan page writes) e = scan_spaces s n page writes s.collection e
 collection_roles s n (Flip copies) e = flip_spaces s n copies s.collection e
 collection_roles s n Collected e = end_spaces s n s.collection e
+
+row_roles : (s n : State) (rec : Record) → row_after s rec ≡ Some n → HasSpaces (roles s rec) n
+row_roles s n (Update t object field was word) e = subst (HasSpaces s) (cond_some _ _ _ e).1 (refl, refl)
+row_roles s n (Base t address words) e = subst (HasSpaces s) (cond_some _ _ _ e).1 (refl, refl)
+row_roles s n (Fix t object field word) e = subst (HasSpaces s) (cond_some _ _ _ e).1 (refl, refl)
+row_roles s n (Undo t object field word) e = undone_spaces s n t _ e
+row_roles s n (Commit t) e = subst (HasSpaces s) (same_state _ n e) (refl, refl)
+  where
+    same_state : (m n : State) → Some m ≡ Some n → m ≡ n
+    same_state m n is = cc is
+row_roles s n (End t) e = subst (HasSpaces s) (cond_some _ _ _ e).1 (refl, refl)
+row_roles s n (Copy from to words) e = collection_roles s n (Copy from to words) e
+row_roles s n (Scan page writes) e = collection_roles s n (Scan page writes) e
+row_roles s n (Flip copies) e = collection_roles s n (Flip copies) e
+row_roles s n Collected e = collection_roles s n Collected e
 
 -- A word of what is the from-space behind a record stays, or is a forwarding word.
 pub transaction_still : (s n : State) (rec : Record) (words : List ℕ) (at : ℕ) → IsConsistent s → after s rec ≡ Some n → in_other_space n at ≡ true → IsStill words (put_record words rec) at

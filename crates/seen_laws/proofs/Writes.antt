@@ -25,7 +25,7 @@ use Rattle.log_machine.proofs.StateLaws.{all_inside}
 use Rattle.collection_words.specs.Completed.{in_other_space}
 use Rattle.seen_laws.specs.Writing.{IsCopyWrite, IsFreeWord, IsUsedWord, WritesInPlace}
 
--- Records of transactions.
+-- Words that records of transactions write.
 
 -- what follows if a test passes follows
 pub passed : (b : Bool) (o : Option State) (n : State) → (if b then o else None) ≡ Some n → o ≡ Some n
@@ -51,26 +51,6 @@ undone_field s n t object field word (Some rest) is newest e =
     let u : UndoEntry = record { object = object; field = field; was = word } in
     let inside = subst (λ (us : List UndoEntry). AllByRecursion (LiesInside s.base s.used) us) (newest_told (undo_of s t) u rest newest) (all_inside s t is.sound) in
     used_field s u inside.0
-
-row_writes : (s n : State) (rec : Record) → IsConsistent s → row_after s rec ≡ Some n → WritesInPlace s rec
-row_writes s n (Update t object field was word) is e = told_field s object field was (cond_some _ _ _ e).0
-row_writes s n (Base t address words) is e =
-    let free = free_told s address (length words) (and_parts _ _ (cond_some _ _ _ e).0).0 in
-    let at = free.at in
-    let room = free.room in
-    each_address (IsFreeWord s) (enumerate_from address words) (free_words s address words (omega arith) (omega arith))
-row_writes s n (Fix t object field word) is e = told_field s object field 0 (and_parts _ _ (cond_some _ _ _ e).0).0
-row_writes s n (Undo t object field word) is e = undone_field s n t object field word _ is refl e
-row_writes s n (Commit t) is e = tt
-row_writes s n (End t) is e = tt
-row_writes s n (Copy from to words) is e = absurd (cc e)
-row_writes s n (Scan page writes) is e = absurd (cc e)
-row_writes s n (Flip copies) is e = absurd (cc e)
-row_writes s n Collected is e = absurd (cc e)
-
--- A record of a transaction that can follow writes in place.
-pub transaction_writes : (s n : State) (rec : Record) → IsConsistent s → after s rec ≡ Some n → WritesInPlace s rec
-transaction_writes s n rec is e = row_writes s n rec is (passed (is_number_or_none (number_of rec)) (row_after s rec) n e)
 
 -- Records of a collection.
 
@@ -154,3 +134,25 @@ collection_writes s n (Flip copies) is e =
     let found = flip_copies s n copies s.collection e in
     copies_write_in (with_roles_changed s) (settled (with_roles_changed s)) found.0 copies (record { base = refl; pages = refl; more = omega arith }) (consistent_roles s is) found.1
 collection_writes s n Collected is e = tt
+
+-- Either.
+
+row_writes : (s n : State) (rec : Record) → IsConsistent s → row_after s rec ≡ Some n → WritesInPlace s rec
+row_writes s n (Update t object field was word) is e = told_field s object field was (cond_some _ _ _ e).0
+row_writes s n (Base t address words) is e =
+    let free = free_told s address (length words) (and_parts _ _ (cond_some _ _ _ e).0).0 in
+    let at = free.at in
+    let room = free.room in
+    each_address (IsFreeWord s) (enumerate_from address words) (free_words s address words (omega arith) (omega arith))
+row_writes s n (Fix t object field word) is e = told_field s object field 0 (and_parts _ _ (cond_some _ _ _ e).0).0
+row_writes s n (Undo t object field word) is e = undone_field s n t object field word _ is refl e
+row_writes s n (Commit t) is e = tt
+row_writes s n (End t) is e = tt
+row_writes s n (Copy from to words) is e = collection_writes s n (Copy from to words) is e
+row_writes s n (Scan page writes) is e = collection_writes s n (Scan page writes) is e
+row_writes s n (Flip copies) is e = collection_writes s n (Flip copies) is e
+row_writes s n Collected is e = collection_writes s n Collected is e
+
+-- Each record that can follow writes in place.
+pub transaction_writes : (s n : State) (rec : Record) → IsConsistent s → after s rec ≡ Some n → WritesInPlace s rec
+transaction_writes s n rec is e = row_writes s n rec is (passed (is_number_or_none (number_of rec)) (row_after s rec) n e)

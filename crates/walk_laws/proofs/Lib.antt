@@ -1,3 +1,3 @@
-mod Birth
-mod Graph
-mod Walk
+pub mod Birth
+pub mod Graph
+pub mod Walk

@@ -3,7 +3,7 @@ use Rattle.std.proofs.Common.{◌≡◌, ℕ, ◌-◌, ◌*◌, Bool, true, fals
 use Rattle.std.specs.Prelude.{◌==◌, nat_lt, nat_le, if◌then◌else◌}
 use Rattle.graph_model.specs.declared.id.Id.{Id}
 use Rattle.graph_model.specs.declared.event.Event.{Event}
-use Rattle.graph_model.specs.declared.event.Event.TheVariants.{Begin, Root, New, Put, Clear, Link, Drop, Get, Same, Len, Seal, Force, Flush}
+use Rattle.graph_model.specs.declared.event.Event.TheVariants.{Begin, Root, New, Put, Clear, Link, Drop, Get, Same, Len, Seal, Force, Flip, Scan, Flush}
 use Rattle.graph_model.specs.declared.reply.Refusal.{Refusal}
 use Rattle.graph_model.specs.declared.reply.Refusal.TheVariants.{Failed, AlreadyActive, NumbersSpent, BadHandle, Range, BadField, Busy, NoSuchPage, VolatileFull, Exhausted, LogFull}
 use Rattle.graph_model.specs.Graph.{Graph, fields}
@@ -77,6 +77,8 @@ other_event : (next : ℕ) (g0 : Graph) (a : Account) (event : Event) → IsOthe
 other_event next g0 a (Begin s) =
     other_if (is_some (a.active s)) AlreadyActive (if next == no_number then Some NumbersSpent else None) tt (other_if (next == no_number) NumbersSpent None tt tt)
 other_event next g0 a Force = tt
+other_event next g0 a Flip = tt
+other_event next g0 a Scan = tt
 other_event next g0 a (Flush p) = tt
 other_event next g0 a event = other_call g0 a (a.active (session_of event)) event
 

@@ -1,9 +1,10 @@
 -- A core that was opened on a shaped log is reached, whatever graph stands in its words, under whatever names.
-use Rattle.std.proofs.Common.{◌≡◌, ℕ, ◌+◌, ◌≤◌, inl, Bool, List, [], ◌∷◌, ◌++◌, Option, Some, None, refl, sym, ap, ◌∙◌, subst, arith}
-use Rattle.std.specs.Prelude.{sum_by}
+use Rattle.std.proofs.Common.{◌≡◌, ℕ, ◌+◌, ◌≤◌, inl, Bool, List, [], ◌∷◌, ◌++◌, length, Option, Some, None, refl, sym, ap, ◌∙◌, subst, arith}
+use Rattle.std.specs.Prelude.{IsTrue, sum_by}
 use Rattle.std.proofs.lemmas.List.{append-nil}
 use Rattle.std.proofs.lemmas.List.Sums.{sum_by-cons}
 use Rattle.std.specs.FinMap.{get}
+use Rattle.std.specs.FinMap as finmap
 use Rattle.graph_model.specs.declared.val.Val.{Val}
 use Rattle.graph_model.specs.Graph.{Graph}
 use Rattle.graph_model.proofs.Whole.Names.{AreBelow}
@@ -11,29 +12,29 @@ use Rattle.graph_model.specs.ClosedGraph.{IsUnused}
 use Rattle.graph_model.specs.History.{nothing_yet, sessions}
 use Rattle.image_plan.specs.declared.superblock.Super.{Super}
 use Rattle.log_records.specs.declared.Record.{Record}
-use Rattle.log_machine.specs.Machine.{State, settled, start, all_taken_back, undo_of, words_in}
-use Rattle.log_machine.proofs.NoCollection.{none_after_all}
+use Rattle.log_machine.specs.Machine.{State, owed, settled, start, undo_of}
 use Rattle.log_machine.proofs.MapLaws.{each_empty}
-use Rattle.log_machine.proofs.StateLaws.{leads_after_all, spaced_after_all}
+use Rattle.log_machine.proofs.StateLaws.{leads_after_all}
 use Rattle.log_machine.proofs.TakenBackLaws.{taken_back-settled}
 use Rattle.page_redo.specs.Pages.{Pages}
 use Rattle.log_machine.specs.declared.UndoEntry.{UndoEntry}
 use Rattle.gated_log.specs.Log.{records_of}
 use Rattle.commit_order.proofs.PlaceLaws.{nothing_plain, nothing_two_phase}
-use Rattle.graph_words.specs.Area.{HasMade}
-use Rattle.graph_words.specs.Places.{AreOld, Places}
-use Rattle.graph_words.specs.Stands.{AreNamedByBirth, StandsCommitted}
-use Rattle.graph_words.proofs.Stands.Write.{begin_made_next, committed_stands}
+use Rattle.graph_words.specs.Places.{Places}
+use Rattle.graph_words.specs.Stands.{StandsCommitted}
 use Rattle.collection_words.specs.LaidOut.{AreHeapWords}
 use Rattle.collection_words.specs.Writes.{AreBacked}
-use Rattle.collection_words.proofs.Heap.Cases.{HasNone, plain, stands_laid}
-use Rattle.heap_model.proofs.Step.Plain.{of_plain}
+use Rattle.collection_words.specs.Completed.{completed, completed_places}
+use Rattle.walk_laws.specs.Heap.{HoldsGraph, TellsBirths}
+use Rattle.seen_laws.proofs.Births.{completed_old}
+use Rattle.heap_model.proofs.Opening.Lists.{holds_lists, tells_lists}
+use Rattle.heap_model.proofs.Opening.Split.{split_old}
 use Rattle.graph_words.proofs.Stands.Closed.{stands_closed, placed_below}
-use Rattle.heap_model.proofs.Opening.Rolled.{next_is, commits_are, rolled_reached, rolled_good, rolled_room, rolled_words-is, length-rolled_words, settled_reserve}
+use Rattle.heap_model.proofs.Opening.Rolled.{next_is, commits_are, rolled_reached, rolled_fit, rolled_good, rolled_room, rolled_words-is, settled_reserve, shaped_spaces}
 use Rattle.heap_model.specs.CoreTold.{IsTold}
 use Rattle.heap_model.specs.Core.{kept_for}
 use Rattle.heap_model.specs.Image.{origin_of, words_of, IsShapedLog}
-use Rattle.heap_model.specs.Opening.{rolled_back, rolled_words, next_of, commits_of, opened, IsFound}
+use Rattle.heap_model.specs.Opening.{current_in, remaining_in, state_of, rolled_back, rolled_words, next_of, commits_of, opened, IsFound}
 use Rattle.core_laws.specs.Valid.{IsActive, RunsLocked, IsValid, IsReached}
 
 -- where each object is below a number, none is of a transaction from it on
@@ -62,51 +63,55 @@ module _ (s : Super) (batches : List (List Record)) (stored : Pages) (shaped : I
   abbrev last : State
   last = settled shaped.state
 
-  -- no collection is under way
-  opened_none : HasNone last []
-  opened_none = record { none = none_after_all (start s.pages s.first) shaped.state (records_of batches) refl shaped.reached; left = refl }
+  -- the objects of the current space, and those that remain in the other
+  abbrev current : Places
+  current = current_in (Some shaped.state) places
 
-  same_pages : shaped.state.pages ≡ s.pages
-  same_pages = (leads_after_all (start s.pages s.first) shaped.state (records_of batches) shaped.reached).pages
+  abbrev left : Places
+  left = remaining_in (Some shaped.state) places
 
   -- the graph stands in the words behind the opening
-  opened_stands : StandsCommitted places g now shaped.state.base shaped.state.used
-  opened_stands = subst (λ ws. StandsCommitted places g ws shaped.state.base shaped.state.used) (sym (rolled_words-is s batches stored shaped)) found.stands
+  opened_holds : HoldsGraph last current left now g
+  opened_holds =
+      subst (λ (ws : List ℕ). HoldsGraph last current left ws g) (sym (rolled_words-is s batches stored shaped))
+      (holds_lists shaped.state finmap.empty shaped.state.commits shaped.state.next current left (words_of s batches stored) g found.whole.holds)
 
-  -- no transaction to come has made an object
-  none_made : HasMade places g shaped.state.next 0
-  none_made =
-      let some_first = shaped.limits.some_first in
-      let grows = (leads_after_all (start s.pages s.first) shaped.state (records_of batches) shaped.reached).grows in
-      begin_made_next places g shaped.state.next shaped.state.next found.old (omega arith) (omega arith)
-
-  opened_heap : AreHeapWords last places [] now
+  opened_heap : AreHeapWords last current left now
   opened_heap =
-      let spaced = (spaced_after_all s.pages s.first shaped.state (records_of batches) shaped.limits.some_pages shaped.reached).1 in
-      let few = shaped.limits.few_pages in
+      let spaces = shaped_spaces s batches stored shaped in
       record {
-        spaced = record { first = spaced.first; room = spaced.room; within = spaced.within };
-        long = length-rolled_words s batches stored shaped ∙ ap words_in (sym same_pages);
-        small = omega (arith, same_pages);
-        laid = stands_laid last opened_none.none (committed_stands opened_stands shaped.state.next 0) none_made;
+        spaced = record { first = spaces.spaced.first; room = spaces.spaced.room; within = spaces.spaced.within };
+        long = ap length (rolled_words-is s batches stored shaped) ∙ spaces.long;
+        small = spaces.small;
+        laid = opened_holds.laid;
       }
 
-  opened_told : IsTold (origin_of s).state born places [] g (commits_of s batches + 0) (records_of (rolled_back s batches)) now last
+  opened_tells : IsTrue born → TellsBirths last current left now
+  opened_tells by_birth =
+      subst (λ (ws : List ℕ). TellsBirths last current left ws) (sym (rolled_words-is s batches stored shaped))
+      (tells_lists shaped.state finmap.empty shaped.state.commits shaped.state.next current left (words_of s batches stored) (found.births by_birth))
+
+  opened_told : IsTold (origin_of s).state born current left g (commits_of s batches + 0) (records_of (rolled_back s batches)) now last
   opened_told =
       let count = commits_are s batches stored shaped in
-      let settled_now = taken_back-settled last now refl in
-      let same : words_of s batches stored ≡ all_taken_back last now = sym (settled_now ∙ rolled_words-is s batches stored shaped) in
-      let is = plain last places [] now opened_none in
       record {
         good = rolled_good s batches stored shaped;
         reached = rolled_reached s batches stored shaped;
         count = omega arith;
         heap = opened_heap;
-        backed = each_empty (λ q us. AreBacked places now us);
-        stands = of_plain (λ ps ws n. StandsCommitted ps g (all_taken_back last ws) shaped.state.base n) is (subst (λ ws. StandsCommitted places g ws shaped.state.base shaped.state.used) same found.stands);
-        old = of_plain (λ ps ws n. AreOld shaped.state.next ps) is found.old;
-        births = λ by_birth. of_plain (λ ps ws n. AreNamedByBirth ps (all_taken_back last ws)) is (subst (AreNamedByBirth places) same (found.births by_birth));
+        fit = rolled_fit s batches stored shaped;
+        backed = each_empty (λ q us. AreBacked current now us);
+        stands = subst (λ (ws : List ℕ). StandsCommitted (completed_places last current left now) g ws last.base (last.used + owed last)) (sym (taken_back-settled last (completed last current left now) refl)) opened_holds.stands;
+        old = (completed_old last.next last current left now).1 (split_old shaped.state.next shaped.state places found.old);
+        births = opened_tells;
       }
+
+  -- what a core that was opened says of its places
+  abbrev Tells : Option State → List Record → Type 0
+  Tells state records = IsTold (origin_of s).state born (current_in state places) (remaining_in state places) g (commits_of s batches + 0) records now last
+
+  core_told : Tells (state_of s batches) (records_of (rolled_back s batches))
+  core_told = subst (λ (o : Option State). Tells o (records_of (rolled_back s batches))) (sym shaped.reached) opened_told
 
   -- the core is valid
   pub opened_valid : IsValid (opened s batches stored gates born places g)
@@ -132,14 +137,14 @@ module _ (s : Super) (batches : List (List Record)) (stored : Pages) (shaped : I
           sealed_first = omega arith;
           acknowledged_last = omega arith;
           state = settled shaped.state;
-          places = places;
-          remaining = [];
+          places = current;
+          remaining = left;
           told = opened_told;
           first_known = omega arith;
           has_room = omega arith;
         };
         behind = settled shaped.state;
-        told = subst (λ rs. IsTold (origin_of s).state born places [] g (commits_of s batches + 0) rs now (settled shaped.state)) (sym (append-nil (records_of (rolled_back s batches)))) opened_told;
+        told = subst (λ (rs : List Record). Tells (state_of s batches) rs) (sym (append-nil (records_of (rolled_back s batches)))) core_told;
         next_known = omega arith;
         losers = each_empty (λ q us. IsActive nothing_yet q);
         writers = λ session. tt;
@@ -152,11 +157,12 @@ module _ (s : Super) (batches : List (List Record)) (stored : Pages) (shaped : I
       let next = next_is s batches stored shaped in
       let grows = (leads_after_all (start s.pages s.first) shaped.state (records_of batches) shaped.reached).grows in
       let some_first = shaped.limits.some_first in
-      below_unused g shaped.state.next n (placed_below places g shaped.state.next found.placed found.old (omega arith)) (omega arith)
+      below_unused g shaped.state.next n
+      (placed_below (current ++ left) g shaped.state.next found.whole.placed (split_old shaped.state.next shaped.state places found.old) (omega arith)) (omega arith)
 
   opened_locked : RunsLocked g (next_of s batches) []
   opened_locked = record {
-    plain = nothing_plain g (stands_closed found.stands found.placed);
+    plain = nothing_plain g (stands_closed found.whole.holds.stands found.whole.placed_in_completed);
     two_phase = nothing_two_phase g;
     fails = λ before e after is. absurd (no_entry before e after is);
     begun_below = λ n there. absurd (omega (arith, there.1));

@@ -9,7 +9,7 @@ use Rattle.graph_model.specs.declared.reply.Refusal.{Refusal}
 use Rattle.graph_model.specs.Plain.{reply_of}
 use Rattle.graph_model.specs.declared.reply.Refusal.TheVariants.{DiskFault, Stopped}
 use Rattle.graph_model.specs.declared.reply.Reply.{Reply}
-use Rattle.graph_model.specs.declared.reply.Reply.TheVariants.{Begun, Sealed, Aborted, Durable, Flushed, Clean, Refused}
+use Rattle.graph_model.specs.declared.reply.Reply.TheVariants.{Begun, Sealed, Aborted, Durable, Flipped, Collecting, Scanned, Collected, Idle, Flushed, Clean, Refused}
 use Rattle.graph_model.specs.History.{sessions, Account, account, account_after, session_of, done, answered, cut_short, with_call}
 use Rattle.graph_model.proofs.Runs.History.{account-append}
 use Rattle.graph_model.specs.Transaction.{Transaction}
@@ -28,6 +28,11 @@ done_other a event (Begun n) r other = active_other a.active (session_of event) 
 done_other a event (Sealed n) r other = active_other a.active (session_of event) None r other
 done_other a event Aborted r other = active_other a.active (session_of event) None r other
 done_other a event (Durable n) r other = refl
+done_other a event (Flipped objects words) r other = refl
+done_other a event Collecting r other = refl
+done_other a event (Scanned page objects words) r other = refl
+done_other a event (Collected used) r other = refl
+done_other a event Idle r other = refl
 done_other a event (Flushed page) r other = refl
 done_other a event (Clean page) r other = refl
 done_other a event (Refused why) r other = refl

@@ -42,7 +42,7 @@ use Rattle.core_laws.proofs.Seal.Bystander.{Bystander, IsBystander, beside_field
 use Rattle.core_laws.proofs.Step.Goes.{writing_of}
 use Rattle.core_laws.proofs.Sessions.OtherWrites.{IsAway, length-others, others_get, undo_other}
 use Rattle.core_laws.proofs.Seal.Words.{own_taken_back}
-use Rattle.core_laws.specs.Valid.{AreLocked, IsLocked, Agrees}
+use Rattle.core_laws.specs.Valid.{AreLocked, AreUnlocked, IsLocked, Agrees}
 
 -- Words, and where objects stand in them, before a seal and behind it.
 pub record Sealed : Type 0 where
@@ -130,6 +130,10 @@ module _ (a : Account) (c : Core) (h : Agrees a c) {numbers : List ℕ} {heard :
       (subst (λ ls. AreLocked (c.places ++ more) ls its_undo) alike.locks
       (AllByRecursion-map (IsLocked c.places (locks_of left u)) (IsLocked (c.places ++ more) (locks_of left u)) its_undo
       (λ v one. record { id = one.id; object = address_of-append_left c.places more one.id v.object one.object; lock = one.lock }) w.locked))
+
+  -- and no locked object remains
+  pub unlocked_beside : AreUnlocked c.remaining (locks_of after u)
+  unlocked_beside = subst (AreUnlocked c.remaining) alike.locks (writing_of a c r u also h).unlocked
 
   handle_on : (more : Places) (x : Option Id) → HoldsAtHand c.places u.number before.made x → HoldsAtHand (c.places ++ more) u.number before.made x
   handle_on more None holds = tt

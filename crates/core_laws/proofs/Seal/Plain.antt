@@ -55,11 +55,14 @@ use Rattle.collection_words.proofs.Laid.Filled.{filled_by, filling}
 use Rattle.collection_words.proofs.Laid.Within.{placed_within}
 use Rattle.graph_words.proofs.Stands.TakenBack.{renamed, taken_back_birth}
 use Rattle.graph_words.proofs.Promotion.Seal.{CanSeal, is_sealing, sealing, seal_stands, seal_births, seal_old, seal_spelled, seal_follows}
-use Rattle.heap_model.specs.Core.{Core, log_start, all_records}
+use Rattle.heap_model.specs.Core.{Core, log_start, all_records, all_words}
+use Rattle.heap_model.proofs.Step.Bits.{fit_behind}
 use Rattle.heap_model.proofs.Step.Goes.{told_sound}
 use Rattle.heap_model.proofs.ListLaws.{AllByRecursion-at}
-use Rattle.heap_model.proofs.Step.Plain.{as_plain, of_plain}
-use Rattle.heap_model.specs.CoreTold.{AreAllBacked, IsTold}
+use Rattle.heap_model.proofs.Step.Plain.{as_plain, of_plain, plain_names, plain_tells}
+use Rattle.seen_laws.specs.Heap.{AreAllBacked}
+use Rattle.heap_model.specs.Bits.{AreOf64Bits}
+use Rattle.heap_model.specs.CoreTold.{IsTold}
 use Rattle.core_laws.proofs.Sessions.Apart.{away_birth, away_header, object_now, own_away, own_apart}
 use Rattle.core_laws.proofs.Step.Goes.{words_with, writing_of, numbered_as}
 use Rattle.core_laws.proofs.Sessions.OtherWrites.{IsAway, length-others, others_at, others_records, all_ended}
@@ -196,7 +199,7 @@ module _ (a : Account) (c : Core) (h : Agrees a c) {numbers : List ℕ} {heard :
   old_here = as_plain (λ ps ws n. AreOld h.behind.next ps) seal_plain h.told.old
 
   births_here : IsTrue c.born → AreNamedByBirth c.places (all_taken_back h.behind now)
-  births_here by_birth = as_plain (λ ps ws n. AreNamedByBirth ps (all_taken_back h.behind ws)) seal_plain (h.told.births by_birth)
+  births_here by_birth = plain_names h.behind c.places c.remaining now h.told.heap h.told.backed none (h.told.births by_birth)
 
   -- where births give the names in the committed words they do so in those that the transaction sees
   births_seen : AreNamedByBirth c.places (all_taken_back h.behind now) → AreNamedByBirth c.places own_words
@@ -337,10 +340,11 @@ module _ (a : Account) (c : Core) (h : Agrees a c) {numbers : List ℕ} {heard :
         reached = reached;
         count = let count = h.told.count in omega arith;
         heap = heap_behind;
+        fit = subst AreOf64Bits (seal.words_behind a c h o s t e space) (fit_behind (all_words c) records h.told.fit (seal_spelled can number));
         backed = backed_behind;
         stands = of_plain (λ ps ws n. StandsCommitted ps seen.graph (all_taken_back last ws) h.behind.base n) is
             (subst (λ ws. StandsCommitted later seen.graph ws h.behind.base (h.behind.used + asked)) (sym settled_words) settled_stands);
         old = of_plain (λ ps ws n. AreOld last.next ps) is (seal_old can h.behind.next (max h.behind.next (t.number + 1)) old_here (omega arith) (omega arith));
-        births = λ by_birth. of_plain (λ ps ws n. AreNamedByBirth ps (all_taken_back last ws)) is
+        births = λ by_birth. plain_tells last later c.remaining then heap_behind backed_behind behind_none
             (subst (AreNamedByBirth later) (sym settled_words) (seal_births can room (births_seen (births_here by_birth))));
       })

@@ -114,5 +114,6 @@ module _ (a : Account) (c : Core) (h : Agrees a c) {numbers : List ℕ} {heard :
           written = of_plain (λ ps ws n. AreWritten ps behind.graph (undo_of last u.number)) behind_plain (subst (λ (us : List UndoEntry). AreWritten later behind.graph us) own then_sees.written);
           fields = subst (λ (us : List UndoEntry). AreOfFields later behind.graph us) own then_sees.of_fields;
           locked = others.locked_beside a c h o s t e asked r u apart also (seal.placed a c h o s t e);
+          unlocked = others.unlocked_beside a c h o s t e asked r u apart also;
           handles = others.handles_beside a c h o s t e asked r u apart also (seal.placed a c h o s t e);
         })

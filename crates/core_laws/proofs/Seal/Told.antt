@@ -83,11 +83,11 @@ module _ (a : Account) (c : Core) (h : Agrees a c) {numbers : List ℕ} {heard :
   last = sealed_state h.behind t.number asked
 
   known : Ground
-  known = record { places = c.places; words = now; state = Some h.behind }
+  known = record { places = c.places; remaining = c.remaining; words = now; state = Some h.behind }
 
   where_known : ground c ≡ known
   unfolding known
-  where_known = ap (λ (x : Option State). record { places = c.places; words = now; state = x }) h.told.reached
+  where_known = ap (λ (x : Option State). record { places = c.places; remaining = c.remaining; words = now; state = x }) h.told.reached
 
   -- all words are like those that it sees in the fields that it wrote
   agree : AgreeIn own_words now (written_fields own_undo)

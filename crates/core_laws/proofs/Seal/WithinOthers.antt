@@ -158,6 +158,7 @@ module _ (a : Account) (c : Core) (h : Agrees a c) {numbers : List ℕ} {heard :
           written = subst (λ (us : List UndoEntry). AreWritten all behind.graph us) own (written_then (seen_behind it u.number behind.made behind.graph its_undo later_others) seen_later);
           fields = subst (λ (us : List UndoEntry). AreOfFields later behind.graph us) own seen_later.of_fields;
           locked = others.locked_beside a c h o s t e (law.asked it) r u apart also (law.placed it);
+          unlocked = others.unlocked_beside a c h o s t e (law.asked it) r u apart also;
           handles = others.handles_beside a c h o s t e (law.asked it) r u apart also (law.placed it);
         }
 

@@ -8,32 +8,27 @@ use Rattle.graph_model.specs.Plain.{view}
 use Rattle.commit_order.specs.Heard.{Heard}
 use Rattle.commit_order.proofs.OrderLaws.{IsOrdered}
 use Rattle.log_records.specs.Record.{IsRecord}
-use Rattle.log_machine.specs.Apart.{others_taken_back}
-use Rattle.log_machine.specs.Machine.{all_taken_back, owed, taken_back}
+use Rattle.log_machine.specs.Machine.{owed}
 use Rattle.log_machine.proofs.ListLaws.{AllByRecursion-append, AllByRecursion-behind, AllByRecursion-front}
 use Rattle.log_machine.proofs.MachineLaws.{after_all-append2}
 use Rattle.log_machine.proofs.MapLaws.{each_remove}
 use Rattle.graph_words.specs.Places.{AreOld, IsOld, Places}
 use Rattle.graph_words.specs.Promotion.{moves_of, promoted_need, promoted_places, seal_records}
-use Rattle.graph_words.specs.Stands.{AreNamedByBirth, StandsCommitted}
+use Rattle.graph_words.specs.Stands.{StandsCommitted}
 use Rattle.graph_words.proofs.Promotion.Sealed.{sealed_state}
-use Rattle.graph_words.proofs.Stands.TakenBack.{renamed, taken_back_birth}
 use Rattle.collection_words.specs.Completed.{completed, future, places_from, taken_at}
 use Rattle.collection_words.specs.Writes.{AreBacked}
 use Rattle.collection_words.proofs.Laid.Sources.{IsCollecting}
 use Rattle.seal_laws.specs.Seal.{CanSealWithin, Seal}
 use Rattle.seal_laws.specs.Seal as law
 use Rattle.seal_laws.proofs.Beside.{names_old}
-use Rattle.seal_laws.proofs.Left.{seal_after, seal_backed, seal_committed, seal_good, seal_laid, seal_named}
+use Rattle.seal_laws.proofs.Left.{seal_after, seal_backed, seal_committed, seal_good, seal_laid, seal_tells}
 use Rattle.heap_model.specs.Core.{Core, all_records, all_words, log_start}
-use Rattle.heap_model.proofs.Step.Goes.{told_sound}
 use Rattle.heap_model.specs.CoreTold.{IsTold}
-use Rattle.core_laws.proofs.Sessions.Apart.{own_apart}
-use Rattle.core_laws.proofs.Sessions.Whole.{whole_fields}
+use Rattle.heap_model.proofs.Step.Bits.{fit_behind}
 use Rattle.core_laws.proofs.Seal.Told as seal
 use Rattle.core_laws.proofs.Seal.Within.{can, listed_is, within}
-use Rattle.core_laws.proofs.Seal.Words.{own_taken_back}
-use Rattle.core_laws.proofs.Step.Goes.{words_with, writing_of}
+use Rattle.core_laws.proofs.Step.Goes.{words_with}
 use Rattle.core_laws.specs.Valid.{Agrees}
 
 -- the names of objects are old wherever these go
@@ -65,15 +60,6 @@ module _ (a : Account) (c : Core) (h : Agrees a c) {numbers : List ℕ} {heard :
   abbrev to_come : Places
   to_come = future (law.last it) (law.later_words it) c.remaining
 
-  -- where births give the names in the committed words they do so in those that the transaction sees
-  births_seen : AreNamedByBirth (law.all it) (all_taken_back h.behind (law.whole it)) → AreNamedByBirth (law.all it) (law.seen_then it)
-  births_seen born =
-      let w = writing_of a c s t e h in
-      let ws = others_taken_back h.behind t.number (law.whole it) in
-      let back = sym (own_taken_back h.behind t.number (law.whole it) (told_sound h.told) (own_apart a c h o s t e)) in
-      subst (AreNamedByBirth (law.all it)) (sym (listed_is h.behind t.number (law.whole it)))
-      (renamed (law.all it) (taken_back it.undo ws) ws (λ at has. sym (taken_back_birth w.stands it.undo (whole_fields w) at has)) (subst (AreNamedByBirth (law.all it)) back born))
-
   old_then : AreOld (law.last it).next (law.later_places it ++ to_come)
   old_then =
       let next = h.behind.next in
@@ -103,10 +89,11 @@ module _ (a : Account) (c : Core) (h : Agrees a c) {numbers : List ℕ} {heard :
         reached = after_all-append2 (log_start c) h.behind (all_records c) (law.records it) h.told.reached ∙ seal_after it can_it;
         count = let count = h.told.count in omega arith;
         heap = record { spaced = laid.spaced; long = laid.long; small = laid.small; laid = laid.laid };
+        fit = fit_behind (all_words c) (law.records it) h.told.fit (seal_good it can_it);
         backed = each_remove (λ q us. AreBacked (law.later_places it) (law.later_words it) us) h.behind.undo t.number (λ q us some. seal_backed it can_it us (h.told.backed q us some));
         stands = subst (λ ws. StandsCommitted (law.later_places it ++ to_come) seen.graph ws last.base (last.used + owed last)) (listed_is h.behind t.number whole_then) (seal_committed it can_it);
         old = old_then;
-        births = λ by_birth. subst (AreNamedByBirth (law.later_places it ++ to_come)) (listed_is h.behind t.number whole_then) (seal_named it can_it (births_seen (h.told.births by_birth)));
+        births = λ by_birth. seal_tells it can_it (h.told.births by_birth);
       }
 
   -- and as the core does it

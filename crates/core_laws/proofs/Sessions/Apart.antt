@@ -36,7 +36,6 @@ use Rattle.collection_words.proofs.Heap.Cases.{stands_alike}
 use Rattle.collection_words.proofs.Laid.Within.{placed_within}
 use Rattle.heap_model.proofs.ListLaws.{AllByRecursion-at}
 use Rattle.heap_model.specs.Core.{Core, all_words}
-use Rattle.heap_model.proofs.Step.Plain.{told_none}
 use Rattle.core_laws.specs.Valid.{IsLocked, IsWriting, Agrees}
 use Rattle.core_laws.proofs.Step.Goes.{writing_of}
 use Rattle.core_laws.proofs.Sessions.OtherWrites.{IsAway, others_at, length-others}
@@ -258,37 +257,33 @@ module _ (a : Account) (c : Core) (h : Agrees a c) {numbers : List ℕ} {heard :
       → length (field_words (all_words c) at) ≡ length (fields (view c.g0 a t).graph id)
   length_now s t e id at is = length-field_words (all_words c) at (length (fields (view c.g0 a t).graph id)) (object_now s t e id at is)
 
-  -- no field is gray, as no collection is under way
-  pub all_black : (at i : ℕ) → is_gray h.behind.collection at i ≡ false
-  all_black at i = ap (λ o. is_gray o at i) (told_none h.told).none
-
   module _ (s : ℕ) (t : Transaction) (e : a.active s ≡ Some t) (id : Id) (at i : ℕ) (is : address_of c.places id ≡ Some at) (within : i < length (fields (view c.g0 a t).graph id))
-      (free : IsFree c.g0 a t.number (Some (id, Shared))) where
-    -- the value of a field of an object that no other transaction holds exclusively is seen among the current objects
+      (free : IsFree c.g0 a t.number (Some (id, Shared))) (black : is_gray h.behind.collection at i ≡ false) where
+    -- the value of a field that is not gray, of an object that no other transaction holds exclusively, is seen among the current objects
     pub value_now : IsVisible c.places t.number (view c.g0 a t).made (slice_index_or (fields (view c.g0 a t).graph id) i Null)
-    value_now = value_here (writing_of a c s t e h) h.told.heap id at is (object_now s t e id at is) i within (away_field s t e id at i is within free) (all_black at i)
+    value_now = value_here (writing_of a c s t e h) h.told.heap id at is (object_now s t e id at is) i within (away_field s t e id at i is within free) black
 
     -- and its word stands in the words
     pub word_now : get_or (all_words c) (field_at at i) 0 ≡ bits_of (place_of c.places (view c.g0 a t).graph) (slice_index_or (fields (view c.g0 a t).graph id) i Null)
-    word_now = word_here (writing_of a c s t e h) h.told.heap id at is (object_now s t e id at is) i within (away_field s t e id at i is within free) (all_black at i)
+    word_now = word_here (writing_of a c s t e h) h.told.heap id at is (object_now s t e id at is) i within (away_field s t e id at i is within free) black
 
   -- so is that of any field of an object at hand, and of one past its last
   pub value_at_hand : (s : ℕ) (t : Transaction) → a.active s ≡ Some t → (id : Id) → IsAtHand c.places t.number (view c.g0 a t).made id → (i : ℕ) → IsFree c.g0 a t.number (Some (id, Shared))
-      → IsVisible c.places t.number (view c.g0 a t).made (slice_index_or (fields (view c.g0 a t).graph id) i Null)
-  value_at_hand s t e id (inl there) i free =
+      → ((at : ℕ) → address_of c.places id ≡ Some at → is_gray h.behind.collection at i ≡ false) → IsVisible c.places t.number (view c.g0 a t).made (slice_index_or (fields (view c.g0 a t).graph id) i Null)
+  value_at_hand s t e id (inl there) i free black =
       let place = some_address (address_of c.places id) there in
-      at_or_null (IsVisible c.places t.number (view c.g0 a t).made) (fields (view c.g0 a t).graph id) i tt (λ within. value_now s t e id place.0 i place.1 within free)
-  value_at_hand s t e id (inr own) i free =
+      at_or_null (IsVisible c.places t.number (view c.g0 a t).made) (fields (view c.g0 a t).graph id) i tt (λ within. value_now s t e id place.0 i place.1 within free (black place.0 place.1))
+  value_at_hand s t e id (inr own) i free black =
       AllByRecursion-at (IsVisible c.places t.number (view c.g0 a t).made) (fields (view c.g0 a t).graph id) i Null tt (own_visible (writing_of a c s t e h).made own)
 
   -- all of its fields
-  pub fields_now : (s : ℕ) (t : Transaction) → a.active s ≡ Some t → (id : Id) (at : ℕ) → address_of c.places id ≡ Some at → IsFree c.g0 a t.number (Some (id, Shared))
+  pub fields_now : (s : ℕ) (t : Transaction) → a.active s ≡ Some t → (id : Id) (at : ℕ) → address_of c.places id ≡ Some at → IsFree c.g0 a t.number (Some (id, Shared)) → ((i : ℕ) → is_gray h.behind.collection at i ≡ false)
       → field_words (all_words c) at ≡ map (bits_of (place_of c.places (view c.g0 a t).graph)) (fields (view c.g0 a t).graph id)
-  fields_now s t e id at is free =
+  fields_now s t e id at is free black =
       let now = all_words c in
       let vs = fields (view c.g0 a t).graph id in
       let word = bits_of (place_of c.places (view c.g0 a t).graph) in
       let long = length_now s t e id at is in
       ext_get_or 0 (field_words now at) (map word vs) (long ∙ sym (length-map vs word)) (λ i lt.
       let within : i < length vs = omega arith in
-      sym (word_at_field now at (length vs) i (object_now s t e id at is) within) ∙ word_now s t e id at i is within free ∙ sym (get_or-map word vs i Null 0 within))
+      sym (word_at_field now at (length vs) i (object_now s t e id at is) within) ∙ word_now s t e id at i is within free (black i) ∙ sym (get_or-map word vs i Null 0 within))

@@ -38,6 +38,7 @@ stays_same {places} {remaining} {v} {u} {locks} {words} {more} {s} {r} w same = 
       (subst (λ (us : List UndoEntry). AreWritten (completed_places s places remaining words) v.graph us) (sym same.own) w.written);
   fields = subst (λ (us : List UndoEntry). AreOfFields places v.graph us) (sym same.own) w.fields;
   locked = subst (λ (us : List UndoEntry). AreLocked places locks us) (sym same.own) w.locked;
+  unlocked = w.unlocked;
   handles = w.handles;
 }
 

@@ -1,16 +1,14 @@
 -- What a transaction sees in the completed words: among all objects there, and among the current ones, to which alone it comes.
-use Rattle.std.proofs.Common.{◌≡◌, ℕ, ◌+◌, ◌<◌, inl, inr, true, false, List, length, Option, None, Some, is_some, refl, sym, ap, ◌∙◌, subst, slice_index_or, arith}
-use Rattle.std.specs.List.{AllByRecursion}
+use Rattle.std.proofs.Common.{◌≡◌, ℕ, ◌+◌, ◌<◌, inl, inr, true, false, List, length, None, Some, is_some, sym, ap, ◌∙◌, subst, slice_index_or}
 use Rattle.std.specs.Prelude.{slice_index}
 use Rattle.heap_words.specs.Word.{bits, meaning}
 use Rattle.graph_model.specs.declared.id.Id.{Id}
 use Rattle.graph_model.specs.declared.val.Val.{Val}
 use Rattle.graph_model.specs.declared.val.Val.TheVariants.{Null}
-use Rattle.graph_model.specs.Graph.{Graph, fields, root}
+use Rattle.graph_model.specs.Graph.{fields, root}
 use Rattle.graph_model.specs.Locking.{Lock}
 use Rattle.graph_model.specs.Transaction.{View}
 use Rattle.object_layout.specs.Layout.{object_at}
-use Rattle.log_machine.specs.Apart.{others_taken_back}
 use Rattle.log_machine.specs.Machine.{State, field_at, undo_of}
 use Rattle.graph_words.specs.Area.{HasMade}
 use Rattle.graph_words.specs.Places.{IsAtHand, IsVisible, Places, address_of, addresses, bits_of, made_by, place_of, word_of}
@@ -21,9 +19,8 @@ use Rattle.graph_words.proofs.Stands.Objects.{stands_field, visible_meaning}
 use Rattle.collection_words.specs.Completed.{completed, completed_places, future}
 use Rattle.collection_words.specs.LaidOut.{AreHeapWords, LeadsHere, is_gray}
 use Rattle.collection_words.proofs.Copy.Stands.{root_current}
-use Rattle.collection_words.proofs.Heap.Cases.{heap_word, stands_alike}
+use Rattle.collection_words.proofs.Heap.Cases.{heap_word}
 use Rattle.collection_words.proofs.Heap.Front.{has_front, same_address, of_fields_front, visible_front, visible_here, visible_leads, word_front}
-use Rattle.collection_words.proofs.Laid.Within.{placed_within}
 use Rattle.collection_words.proofs.Moves.Sources.{put_same}
 use Rattle.heap_model.proofs.ListLaws.{AllByRecursion-at}
 use Rattle.core_laws.proofs.Sessions.OtherWrites.{IsAway, others_at}

@@ -7,14 +7,14 @@ use Rattle.graph_model.specs.declared.event.Event.{Event}
 use Rattle.graph_model.specs.declared.id.Id.{Id}
 use Rattle.graph_model.specs.declared.val.Val.{Val}
 use Rattle.graph_model.specs.declared.val.Val.TheVariants.{Null, Int}
-use Rattle.graph_model.specs.declared.event.Event.TheVariants.{Begin, Root, New, Put, Clear, Link, Drop, Get, Same, Len, Seal, Abort, Force, Flush}
+use Rattle.graph_model.specs.declared.event.Event.TheVariants.{Begin, Root, New, Put, Clear, Link, Drop, Get, Same, Len, Seal, Abort, Force, Flip, Scan, Flush}
 use Rattle.graph_model.specs.declared.reply.Entry.{Entry}
 use Rattle.graph_model.specs.declared.reply.Refusal.{Refusal}
 use Rattle.graph_model.specs.declared.reply.Refusal.TheVariants.{AlreadyActive, NumbersSpent}
 use Rattle.graph_model.specs.declared.reply.Reply.{Reply}
-use Rattle.graph_model.specs.declared.reply.Reply.TheVariants.{Aborted, Begun, Durable, Flushed, Clean, Refused}
+use Rattle.graph_model.specs.declared.reply.Reply.TheVariants.{Aborted, Begun, Durable, Collecting, Idle, Flushed, Clean, Refused}
 use Rattle.graph_model.specs.Graph.{Graph}
-use Rattle.graph_model.specs.Transaction.{Transaction, IsCall, fields_of, held, put_value, reference_to, call}
+use Rattle.graph_model.specs.Transaction.{Transaction, View, IsCall, fields_of, held, put_value, reference_to, call}
 use Rattle.graph_model.specs.History.{Account, IsSession, account, account_after, session_of, IsOfSession}
 use Rattle.graph_model.specs.Replies.{IsCallReply}
 use Rattle.graph_model.proofs.Runs.History.{account-append, account_after-call}
@@ -23,16 +23,23 @@ use Rattle.graph_model.specs.Plain.{view, no_number, field_refusal, call_refusal
 use Rattle.graph_model.proofs.Refusals.Plain.{IsNoFault, HasNoFault, call_reply-IsCallReply, event_refusal-call, granted-call, account_after-refused}
 use Rattle.graph_model.proofs.Refusals.Granted.{new_granted}
 use Rattle.commit_order.proofs.CallLaws.{lock_on-held}
-use Rattle.commit_order.proofs.OrderLaws.{two_phase_ordered}
+use Rattle.commit_order.specs.Heard.{Heard}
+use Rattle.commit_order.proofs.OrderLaws.{IsOrdered, two_phase_ordered}
 use Rattle.log_records.specs.declared.Record.{Record}
 use Rattle.log_machine.specs.Machine.{State, undo_of, abort_records}
-use Rattle.graph_words.specs.Places.{Places, IsVisible}
-use Rattle.heap_model.specs.Core.{Core, ground, all_records, next_number, undo_with, undo_behind, kept_for, view_records, call_records, event_records, event_places, sealed_places, used, need, reserved, reserved_after, room_refusal, words_refusal, log_refusal, core_refusal, granted_by, with_entry, is_dirty, done, after_refusal, after}
+use Rattle.heap_spaces.specs.Collection.{Collection}
+use Rattle.graph_words.specs.Places.{Places, IsVisible, address_of}
+use Rattle.collection_words.specs.LaidOut.{is_gray}
+use Rattle.heap_model.specs.Core.{Core, ground, all_records, next_number, undo_with, undo_behind, kept_for, view_records, call_records, call_barrier, barrier_records, behind_barrier, own_records, event_records, event_places, sealed_places, used, need, reserved, reserved_after, room_refusal, words_refusal, log_refusal, core_refusal, granted_by, with_entry, is_dirty, done, after_refusal, after}
+use Rattle.heap_model.specs.Collecting.{flip_reply, next_page, scan_reply, scan_reply_in}
 use Rattle.heap_model.proofs.Step.Goes.{need_nothing}
 use Rattle.heap_model.proofs.Step.Handles.{ReadsVisible, held_at_hand}
+use Rattle.heap_model.proofs.Step.Moved.{behind_none, moved_is}
 use Rattle.heap_model.proofs.Step.Room.{full_log-none, full_log-room}
 use Rattle.heap_model.proofs.Step.Step.{core_refusal-HasNoFault, done_history}
-use Rattle.core_laws.proofs.Step.Forms.{is_write, quiet_records, call_places, is_new, quiet_call, done_records, no_call, two_tests, not_active, has_transaction, area_fits, put_bounds, reference_visible, link_field}
+use Rattle.core_laws.proofs.Step.Forms.{is_write, has_barrier, no_barrier, quiet_records, call_places, is_new, quiet_call, done_records, no_call, two_tests, not_active, has_transaction, area_fits, put_bounds, reference_visible, link_field}
+use Rattle.core_laws.proofs.Collecting.Behind.{behind, behind_both, black_call, call_behind, roomy}
+use Rattle.core_laws.proofs.Collecting.Events.{barrier_kept, done_flip, done_scan}
 use Rattle.core_laws.proofs.Step.Goes.{writing_of, agrees_history, places_still}
 use Rattle.core_laws.proofs.Step.Granted.{HasRoom, begin_agrees, quiet_agrees, new_agrees}
 use Rattle.core_laws.proofs.Step.GrantedWrites.{write_agrees}
@@ -101,13 +108,13 @@ pub kept_still : (c : Core) (b : Account) → (valid : IsValid c) → reserved (
 kept_still c b valid =
     ap (λ (rs : List Record). reserved (undo_behind c rs) b) (append-nil (all_records c)) ∙ ap (λ (o : Option State). reserved (undo_with o) b) valid.told.reached
 
--- the log has room for a call that writes nothing
-pub log_quiet : (c : Core) (event : Event) → IsValid c → IsCall event → is_write event ≡ false → log_refusal c event ≡ None
-log_quiet c event valid is quiet =
+-- the log has room for a call that neither writes nor scans
+pub log_quiet : (c : Core) (event : Event) → IsValid c → IsCall event → is_write event ≡ false → has_barrier event ≡ false → log_refusal c event ≡ None
+log_quiet c event valid is quiet plain =
     let a = account c.history in
     let s = session_of event in
     let b = account_after a (record { event = event; reply = granted (next_number c) c.g0 a event }) in
-    let none = quiet_records c event is quiet in
+    let none : event_records c event ≡ [] = ap (λ (rs : List Record). rs ++ own_records c event) (no_barrier c event plain) ∙ quiet_records c event is quiet in
     let said : HasRoom c [] (called a s event) =
     let nothing = need_nothing c.pending in
     let kept = kept_still c (called a s event) valid in
@@ -165,16 +172,23 @@ begin_goes c s valid session may =
     placed_still (account_after a (record { event = Begin s; reply = Begun (next_number c) })) c []
     (begin_agrees a c s valid session (not_active (a.active s) tests.0) (eqb-false (next_number c) no_number tests.1) (log_has_room c (Begin s) may.log))
 
--- what a call leaves, by what it appends
-call_left : (c : Core) (event : Event) (more : List Record) → IsCall event → event_records c event ≡ more → Agrees (called (account c.history) (session_of event) event) (record c { pending = c.pending ++ more })
-    → Goes c event
-call_left c event more is records go =
+-- what a call leaves, by what it appends to the core behind its barrier
+call_left : (c b : Core) (event : Event) (own : List Record) → IsCall event → behind_barrier c event ≡ b → own_records c event ≡ own
+    → Agrees (called (account c.history) (session_of event) event) (record b { pending = b.pending ++ own }) → Goes c event
+call_left c b event own is behind records go =
     let a = account c.history in
-    let left = done_records c event (no_call event is)
-    ∙ ap (λ (rs : List Record). record c { pending = c.pending ++ rs; places = c.places ++ event_places c event }) records
-    ∙ ap (λ (placed : Places). record c { pending = c.pending ++ more; places = c.places ++ placed }) (call_places c event is) ∙ places_still c more in
-    let there = subst (λ (d : Core). Agrees (called a (session_of event) event) d) (sym left) go in
-    subst (λ (b : Account). Agrees b (done c event)) (sym (call_account (next_number c) c.g0 a event is)) there
+    let d = behind_barrier c event in
+    let left = done_records c event is
+    ∙ ap (λ (rs : List Record). record d { pending = d.pending ++ rs; places = d.places ++ event_places d event }) records
+    ∙ ap (λ (placed : Places). record d { pending = d.pending ++ own; places = d.places ++ placed }) (call_places d event is) ∙ places_still d own
+    ∙ ap (λ (x : Core). record x { pending = x.pending ++ own }) behind in
+    let there = subst (λ (x : Core). Agrees (called a (session_of event) event) x) (sym left) go in
+    subst (λ (x : Account). Agrees x (done c event)) (sym (call_account (next_number c) c.g0 a event is)) there
+
+-- a call before which no page is scanned
+plain_left : (c : Core) (event : Event) (own : List Record) → IsCall event → has_barrier event ≡ false → own_records c event ≡ own
+    → Agrees (called (account c.history) (session_of event) event) (record c { pending = c.pending ++ own }) → Goes c event
+plain_left c event own is plain records go = call_left c c event own is (behind_none c event (no_barrier c event plain)) records go
 
 -- a transaction that uses what a handle holds in a mode finds it free
 held_free : (c : Core) (event : Event) (t : Transaction) (hd : ℕ) (mode : Mode) → IsValid c → (account c.history).active (session_of event) ≡ Some t → conflict_refusal c.g0 (account c.history) event ≡ None
@@ -185,31 +199,58 @@ held_free c event t hd mode valid e free lock id holds =
     let all = free_call c.g0 a t event valid.in_sessions (ap (λ (o : Option Transaction). call_conflict c.g0 a o event) (sym e) ∙ free) in
     subst (IsFree c.g0 a t.number) (lock ∙ lock_on-held (view c.g0 a t).registers hd mode id holds) all
 
--- what the call of a session's transaction reads is seen among the current objects
-abbrev ReadsHere : Core → Event → Type 0
-ReadsHere c event =
-    (t : Transaction) → (account c.history).active (session_of event) ≡ Some t → ReadsVisible c.places t.number (view c.g0 (account c.history) t).made (view c.g0 (account c.history) t) event
-
-quiet_goes : (c : Core) (event : Event) → IsValid c → IsCall event → is_write event ≡ false → is_new event ≡ false → ReadsHere c event → IsGranted c event → Goes c event
-quiet_goes c event valid is quiet old reads may =
+-- a call that reads no field and leaves the graph
+quiet_goes : (c : Core) (event : Event) → IsValid c → IsCall event → is_write event ≡ false → has_barrier event ≡ false → is_new event ≡ false
+    → ((places : Places) (t : ℕ) (v : View) → ReadsVisible places t v.made v event) → IsGranted c event → Goes c event
+quiet_goes c event valid is quiet plain old reads may =
     let a = account c.history in
     let t = call_transaction c event is may.asks in
-    call_left c event [] is (quiet_records c event is quiet)
-    (quiet_agrees a c (session_of event) t.0 event valid t.1 (quiet_call (view c.g0 a t.0) t.0.number event quiet old) (reads t.0 t.1))
+    plain_left c event [] is plain (quiet_records c event is quiet)
+    (quiet_agrees a c (session_of event) t.0 event valid t.1 (quiet_call (view c.g0 a t.0) t.0.number event quiet old) (reads c.places t.0.number (view c.g0 a t.0)))
 
--- what a get reads, of an object that no other transaction holds exclusively
-get_reads : (c : Core) (s h i h2 : ℕ) → IsValid c → RunsLocked c.g0 c.first c.history → IsGranted c (Get s h i h2) → ReadsHere c (Get s h i h2)
-get_reads c s h i h2 valid runs may t e =
+-- the core behind an event's barrier
+abbrev scanned : Core → Event → Core
+scanned c event = behind c (barrier_records c event)
+
+-- A call behind its barrier: where it leaves a core that agrees with its history behind a barrier that does, whatever room there is, it does so
+-- with the room that it was granted.
+barrier_goes : (c : Core) (event : Event) (own : List Record) → IsValid c → IsCall event → IsGranted c event → own_records c event ≡ own
+    → ((more : ℕ) → Agrees (account c.history) (roomy c more) → Agrees (account c.history) (scanned (roomy c more) event)
+    → HasRoom (scanned (roomy c more) event) own (called (account c.history) (session_of event) event)
+    → Agrees (called (account c.history) (session_of event) event) (behind_both (roomy c more) (barrier_records c event) own))
+    → Goes c event
+barrier_goes c event own valid is may records go =
     let a = account c.history in
-    read_here (held (view c.g0 a t).registers h) refl
+    let rs = barrier_records c event in
+    let b = called a (session_of event) event in
+    let room = subst (λ (l : List Record). HasRoom c (rs ++ l) b) records (subst (HasRoom c (event_records c event)) (call_account (next_number c) c.g0 a event is) (log_has_room c event may.log)) in
+    call_left c (behind c rs) event own is (moved_is c rs) records
+    (call_behind a b c rs own valid (λ more large has. barrier_kept a (roomy c more) large event has) go room valid.disk)
+
+-- A core of the same history: what is known of sessions and refusals is the same.
+
+-- what a get reads, of an object that is not gray and that no other transaction holds exclusively
+get_reads : (a : Account) (d : Core) (h : Agrees a d) {numbers : List ℕ} {heard : Heard} (o : IsOrdered d.g0 numbers a heard) (s hd i h2 : ℕ) (t : Transaction) → (e : a.active s ≡ Some t)
+    → ((id : Id) → held (view d.g0 a t).registers hd ≡ Some id → IsFree d.g0 a t.number (Some (id, Shared)))
+    → ((id : Id) → held (view d.g0 a t).registers hd ≡ Some id → (at : ℕ) → address_of d.places id ≡ Some at → is_gray h.behind.collection at i ≡ false)
+    → ReadsVisible d.places t.number (view d.g0 a t).made (view d.g0 a t) (Get s hd i h2)
+get_reads a d h o s hd i h2 t e free black = read_here (held (view d.g0 a t).registers hd) refl
   where
-    read_here : (o : Option Id) → held (view c.g0 (account c.history) t).registers h ≡ o
-        → IsVisible c.places t.number (view c.g0 (account c.history) t).made (slice_index_or (fields_of (view c.g0 (account c.history) t).graph o) i Null)
+    read_here : (x : Option Id) → held (view d.g0 a t).registers hd ≡ x → IsVisible d.places t.number (view d.g0 a t).made (slice_index_or (fields_of (view d.g0 a t).graph x) i Null)
     read_here None none = tt
     read_here (Some id) holds =
-        value_at_hand (account c.history) c valid (two_phase_ordered c.g0 c.history runs.plain runs.two_phase) s t e id
-        (held_at_hand c.places t.number (view c.g0 (account c.history) t).made (view c.g0 (account c.history) t).registers h id (writing_of (account c.history) c s t e valid).handles holds) i
-        (held_free c (Get s h i h2) t h Shared valid e may.free refl id holds)
+        value_at_hand a d h o s t e id (held_at_hand d.places t.number (view d.g0 a t).made (view d.g0 a t).registers hd id (writing_of a d s t e h).handles holds) i (free id holds) (black id holds)
+
+get_goes : (c : Core) (s h i h2 : ℕ) → IsValid c → RunsLocked c.g0 c.first c.history → IsGranted c (Get s h i h2) → Goes c (Get s h i h2)
+get_goes c s h i h2 valid runs may =
+    let a = account c.history in
+    let event : Event = Get s h i h2 in
+    let t = call_transaction c event tt may.asks in
+    let o = two_phase_ordered c.g0 c.history runs.plain runs.two_phase in
+    barrier_goes c event [] valid tt may (quiet_records c event tt refl) (λ more large there room.
+    quiet_agrees a (scanned (roomy c more) event) s t.0 event there t.1 (quiet_call (view c.g0 a t.0) t.0.number event refl refl)
+    (get_reads a (scanned (roomy c more) event) there o s h i h2 t.0 t.1 (held_free c event t.0 h Shared valid t.1 may.free refl)
+    (λ id holds. black_call a (roomy c more) large s t.0 t.1 h i id holds there)))
 
 new_goes : (c : Core) (s h len : ℕ) → IsValid c → IsGranted c (New s h len) → Goes c (New s h len)
 new_goes c s h len valid may =
@@ -218,24 +259,34 @@ new_goes c s h len valid may =
     let t = call_transaction c event tt may.asks in
     let bounds = new_granted (view c.g0 a t.0) s h len t.2 in
     let room = ap (λ (o : Option Transaction). room_refusal (ground c) c.g0 a o event) (sym t.1) ∙ may.words in
-    call_left c event [] tt (quiet_records c event tt refl) (new_agrees a c s t.0 h len valid t.1 bounds.1 (area_fits (view c.g0 a t.0) t.0.number len room))
+    plain_left c event [] tt refl (quiet_records c event tt refl) (new_agrees a c s t.0 h len valid t.1 bounds.1 (area_fits (view c.g0 a t.0) t.0.number len room))
 
--- a call that writes a value into a field
+-- What is asked of a call that writes a value into field i of what a handle holds, by what its transaction sees.
+record Writes (g0 : Graph) (a : Account) (t : Transaction) (event : Event) (hd i : ℕ) (v : Val) : Type 0 where
+  graph : (call (view g0 a t) t.number event).view.graph ≡ put_value (view g0 a t).graph (held (view g0 a t).registers hd) i v
+  made : (call (view g0 a t) t.number event).view.made ≡ (view g0 a t).made
+  within : field_refusal (view g0 a t).graph (held (view g0 a t).registers hd) i ≡ None
+  lock : lock_of (view g0 a t).registers event ≡ lock_on (view g0 a t).registers hd Exclusive
+  reads : (places : Places) → ReadsVisible places t.number (view g0 a t).made (view g0 a t) event
+
 write_goes : (c : Core) (t : Transaction) (event : Event) (hd i : ℕ) (v : Val) → (valid : IsValid c) → RunsLocked c.g0 c.first c.history → IsCall event → IsGranted c event
-    → (account c.history).active (session_of event) ≡ Some t
-    → (call (view c.g0 (account c.history) t) t.number event).view.graph ≡ put_value (view c.g0 (account c.history) t).graph (held (view c.g0 (account c.history) t).registers hd) i v
-    → (call (view c.g0 (account c.history) t) t.number event).view.made ≡ (view c.g0 (account c.history) t).made
-    → IsVisible c.places t.number (view c.g0 (account c.history) t).made v
-    → field_refusal (view c.g0 (account c.history) t).graph (held (view c.g0 (account c.history) t).registers hd) i ≡ None
-    → lock_of (view c.g0 (account c.history) t).registers event ≡ lock_on (view c.g0 (account c.history) t).registers hd Exclusive
-    → ReadsVisible c.places t.number (view c.g0 (account c.history) t).made (view c.g0 (account c.history) t) event
-    → event_records c event ≡ view_records c.places t.number (view c.g0 (account c.history) t) hd i v → Goes c event
-write_goes c t event hd i v valid runs is may e graph made seen within lock reads records =
+    → (e : (account c.history).active (session_of event) ≡ Some t) → Writes c.g0 (account c.history) t event hd i v
+    → ((d : Core) → Agrees (account c.history) d → d.g0 ≡ c.g0 → IsVisible d.places t.number (view c.g0 (account c.history) t).made v)
+    → barrier_records c event ≡ call_barrier (ground c) c.g0 (account c.history) ((account c.history).active (session_of event)) hd i
+    → own_records c event ≡ view_records (behind_barrier c event).places t.number (view c.g0 (account c.history) t) hd i v → Goes c event
+write_goes c t event hd i v valid runs is may e w seen barrier records =
     let a = account c.history in
     let s = session_of event in
-    let room = subst (HasRoom c (event_records c event)) (call_account (next_number c) c.g0 a event is) (log_has_room c event may.log) in
-    call_left c event (event_records c event) is refl
-    (write_agrees a c (two_phase_ordered c.g0 c.history runs.plain runs.two_phase) s t event hd i v (event_records c event) valid e graph made seen within lock (held_free c event t hd Exclusive valid e may.free lock) reads records room)
+    let o = two_phase_ordered c.g0 c.history runs.plain runs.two_phase in
+    let own = view_records (scanned c event).places t.number (view c.g0 a t) hd i v in
+    let same : own_records c event ≡ own = records ∙ ap (λ (d : Core). view_records d.places t.number (view c.g0 a t) hd i v) (moved_is c (barrier_records c event)) in
+    barrier_goes c event own valid is may same (λ more large there room.
+    let d = scanned (roomy c more) event in
+    let black : (id : Id) → held (view c.g0 a t).registers hd ≡ Some id → (b : Agrees a d) → (at : ℕ) → address_of d.places id ≡ Some at → is_gray b.behind.collection at i ≡ false =
+    λ id holds. subst (λ (rs : List Record). (b : Agrees a (behind (roomy c more) rs)) → (at : ℕ) → address_of (behind (roomy c more) rs).places id ≡ Some at → is_gray b.behind.collection at i ≡ false)
+    (sym barrier) (black_call a (roomy c more) large s t e hd i id holds) in
+    write_agrees a d o s t event hd i v own there e w.graph w.made (seen d there refl) w.within w.lock (held_free c event t hd Exclusive valid e may.free w.lock) (w.reads d.places)
+    (λ id holds at place. black id holds there at place) refl room)
 
 put_goes : (c : Core) (s h i v : ℕ) → IsValid c → RunsLocked c.g0 c.first c.history → IsGranted c (Put s h i v) → Goes c (Put s h i v)
 put_goes c s h i v valid runs may =
@@ -243,14 +294,16 @@ put_goes c s h i v valid runs may =
     let event : Event = Put s h i v in
     let t = call_transaction c event tt may.asks in
     let bounds = put_bounds (view c.g0 a t.0).graph (held (view c.g0 a t.0).registers h) i v t.2 in
-    write_goes c t.0 event h i (Int v) valid runs tt may t.1 refl refl bounds.0 bounds.1 refl tt (ap (λ (o : Option Transaction). call_records (ground c) c.g0 a o event) t.1)
+    write_goes c t.0 event h i (Int v) valid runs tt may t.1 (record { graph = refl; made = refl; within = bounds.1; lock = refl; reads = λ places. tt }) (λ d there same. bounds.0) refl
+    (ap (λ (o : Option Transaction). call_records (ground (behind_barrier c event)) c.g0 a o event) t.1)
 
 clear_goes : (c : Core) (s h i : ℕ) → IsValid c → RunsLocked c.g0 c.first c.history → IsGranted c (Clear s h i) → Goes c (Clear s h i)
 clear_goes c s h i valid runs may =
     let a = account c.history in
     let event : Event = Clear s h i in
     let t = call_transaction c event tt may.asks in
-    write_goes c t.0 event h i Null valid runs tt may t.1 refl refl tt t.2 refl tt (ap (λ (o : Option Transaction). call_records (ground c) c.g0 a o event) t.1)
+    write_goes c t.0 event h i Null valid runs tt may t.1 (record { graph = refl; made = refl; within = t.2; lock = refl; reads = λ places. tt }) (λ d there same. tt) refl
+    (ap (λ (o : Option Transaction). call_records (ground (behind_barrier c event)) c.g0 a o event) t.1)
 
 link_goes : (c : Core) (s h i h2 : ℕ) → IsValid c → RunsLocked c.g0 c.first c.history → IsGranted c (Link s h i h2) → Goes c (Link s h i h2)
 link_goes c s h i h2 valid runs may =
@@ -258,11 +311,18 @@ link_goes c s h i h2 valid runs may =
     let event : Event = Link s h i h2 in
     let t = call_transaction c event tt may.asks in
     let v = view c.g0 a t.0 in
-    let w = writing_of a c s t.0 t.1 valid in
     let within = link_field v.graph (held v.registers h) i (held v.registers h2) t.2 in
-    write_goes c t.0 event h i (reference_to (held v.registers h2)) valid runs tt may t.1 refl refl
-    (reference_visible c.places t.0.number v.made v.registers h2 (held v.registers h2) w.handles refl)
-    within refl tt (ap (λ (o : Option Transaction). call_records (ground c) c.g0 a o event) t.1)
+    write_goes c t.0 event h i (reference_to (held v.registers h2)) valid runs tt may t.1 (record { graph = refl; made = refl; within = within; lock = refl; reads = λ places. tt })
+    (λ d there same. reference_here c d s t.0 h2 there same t.1) refl
+    (ap (λ (o : Option Transaction). call_records (ground (behind_barrier c event)) c.g0 a o event) t.1)
+  where
+    -- what a handle holds is seen by each core that agrees with the history
+    reference_here : (c d : Core) (s : ℕ) (t : Transaction) (h2 : ℕ) → Agrees (account c.history) d → d.g0 ≡ c.g0 → (account c.history).active s ≡ Some t
+        → IsVisible d.places t.number (view c.g0 (account c.history) t).made (reference_to (held (view c.g0 (account c.history) t).registers h2))
+    reference_here c d s t h2 there same e =
+        let a = account c.history in
+        subst (λ (g : Graph). IsVisible d.places t.number (view g a t).made (reference_to (held (view g a t).registers h2))) same
+        (reference_visible d.places t.number (view d.g0 a t).made (view d.g0 a t).registers h2 (held (view d.g0 a t).registers h2) (writing_of a d s t e there).handles refl)
 
 seal_goes : (c : Core) (s : ℕ) → IsValid c → RunsLocked c.g0 c.first c.history → IsGranted c (Seal s) → Goes c (Seal s)
 seal_goes c s valid runs may =
@@ -279,21 +339,29 @@ abort_goes c s valid runs may =
     placed_still (account_after a (record { event = Abort s; reply = Aborted })) c (event_records c (Abort s))
     (abort_agrees a c (two_phase_ordered c.g0 c.history runs.plain runs.two_phase) s t.0 (event_records c (Abort s)) valid t.1 (abort_is c s t.0 valid t.1))
 
+-- an entry that tells nothing of transactions is one more
+unanswered : (c d : Core) → IsValid c → Agrees (account c.history) d → Agrees (record (account c.history) { entries = (account c.history).entries + 1 }) d
+unanswered c d valid h =
+    let a = account c.history in
+    subst (λ (o : Option ℕ). Agrees (record a { failed = o; entries = a.entries + 1 }) d) (sym valid.unfailed) (agrees_entry a d (a.entries + 1) h)
+
 -- an event that isn't refused, by its form
 pub goes : (c : Core) (event : Event) → IsValid c → RunsLocked c.g0 c.first c.history → IsOfSession event → IsGranted c event → Goes c event
 goes c (Begin s) valid runs session may = begin_goes c s valid session may
-goes c (Root s h) valid runs session may = quiet_goes c (Root s h) valid tt refl refl (λ t e. tt) may
+goes c (Root s h) valid runs session may = quiet_goes c (Root s h) valid tt refl refl refl (λ places t v. tt) may
 goes c (New s h len) valid runs session may = new_goes c s h len valid may
 goes c (Put s h i v) valid runs session may = put_goes c s h i v valid runs may
 goes c (Clear s h i) valid runs session may = clear_goes c s h i valid runs may
 goes c (Link s h i h2) valid runs session may = link_goes c s h i h2 valid runs may
-goes c (Drop s h) valid runs session may = quiet_goes c (Drop s h) valid tt refl refl (λ t e. tt) may
-goes c (Get s h i h2) valid runs session may = quiet_goes c (Get s h i h2) valid tt refl refl (get_reads c s h i h2 valid runs may) may
-goes c (Same s h h2) valid runs session may = quiet_goes c (Same s h h2) valid tt refl refl (λ t e. tt) may
-goes c (Len s h) valid runs session may = quiet_goes c (Len s h) valid tt refl refl (λ t e. tt) may
+goes c (Drop s h) valid runs session may = quiet_goes c (Drop s h) valid tt refl refl refl (λ places t v. tt) may
+goes c (Get s h i h2) valid runs session may = get_goes c s h i h2 valid runs may
+goes c (Same s h h2) valid runs session may = quiet_goes c (Same s h h2) valid tt refl refl refl (λ places t v. tt) may
+goes c (Len s h) valid runs session may = quiet_goes c (Len s h) valid tt refl refl refl (λ places t v. tt) may
 goes c (Seal s) valid runs session may = seal_goes c s valid runs may
 goes c (Abort s) valid runs session may = abort_goes c s valid runs may
 goes c Force valid runs session may = force_agrees (account c.history) c valid
+goes c Flip valid runs session may = unanswered c (done c Flip) valid (done_flip c valid (log_has_room c Flip may.log))
+goes c Scan valid runs session may = unanswered c (done c Scan) valid (done_scan c valid (log_has_room c Scan may.log))
 goes c (Flush p) valid runs session may = flush_agrees (account c.history) c p valid
 
 -- What a step leaves.
@@ -302,9 +370,24 @@ flush_adds : (a : Account) (p : ℕ) (dirty : Bool) → account_after a (record 
 flush_adds a p true = refl
 flush_adds a p false = refl
 
--- the history says the same whether the core answers an event that isn't refused or a plain heap does: no answer to a flush adds anything
+flip_adds : (a : Account) (rs : List Record) → account_after a (record { event = Flip; reply = flip_reply rs }) ≡ account_after a (record { event = Flip; reply = Collecting })
+flip_adds a [] = refl
+flip_adds a (r ∷ rs) = refl
+
+scan_adds : (a : Account) (rs : List Record) (o : Option State) → account_after a (record { event = Scan; reply = scan_reply o rs }) ≡ account_after a (record { event = Scan; reply = Idle })
+scan_adds a rs None = refl
+scan_adds a rs (Some s) = by s.collection (next_page s.collection)
+  where
+    by : (run : Option Collection) (page : Option ℕ) → account_after a (record { event = Scan; reply = scan_reply_in s rs run page }) ≡ account_after a (record { event = Scan; reply = Idle })
+    by None page = refl
+    by (Some k) None = refl
+    by (Some k) (Some page) = refl
+
+-- the history says the same whether the core answers an event that isn't refused or a plain heap does: no answer to a flip, a scan or a flush adds anything
 pub reply_adds : (c : Core) (event : Event)
     → account_after (account c.history) (record { event = event; reply = granted_by c event }) ≡ account_after (account c.history) (record { event = event; reply = granted (next_number c) c.g0 (account c.history) event })
+reply_adds c Flip = flip_adds (account c.history) (own_records c Flip)
+reply_adds c Scan = scan_adds (account c.history) (own_records c Scan) (ground c).state
 reply_adds c (Flush p) = flush_adds (account c.history) p (is_dirty c p)
 reply_adds c event = refl
 

@@ -4,14 +4,15 @@ use Rattle.std.specs.Prelude.{nat_le}
 use Rattle.std.proofs.lemmas.Bool.{leb-false, ltb-false}
 use Rattle.graph_model.specs.declared.id.Id.{Id}
 use Rattle.graph_model.specs.declared.event.Event.{Event}
-use Rattle.graph_model.specs.declared.event.Event.TheVariants.{Begin, Root, New, Put, Clear, Link, Drop, Get, Same, Len, Seal, Abort, Force, Flush}
+use Rattle.graph_model.specs.declared.event.Event.TheVariants.{Begin, Root, New, Put, Clear, Link, Drop, Get, Same, Len, Seal, Abort, Force, Flip, Scan, Flush}
 use Rattle.graph_model.specs.declared.reply.Refusal.{Refusal}
 use Rattle.graph_model.specs.declared.reply.Refusal.TheVariants.{Range, VolatileFull}
 use Rattle.graph_model.specs.Graph.{Graph}
 use Rattle.graph_model.specs.Transaction.{View, Transaction, Registers, IsCall, held, reference_to}
 use Rattle.graph_model.specs.History.{Account, account, session_of}
 use Rattle.graph_model.specs.Plain.{no_int, field_refusal, put_refusal, link_refusal, call_refusal, granted}
-use Rattle.heap_model.specs.Core.{Core, Ground, ground, next_number, call_records, event_records, event_places, area_refusal, page_refusal, granted_by, done, AsksDisk}
+use Rattle.core_laws.specs.Theorems.{IsOfTransactions}
+use Rattle.heap_model.specs.Core.{Core, Ground, ground, next_number, call_records, records_for, barrier_records, behind_barrier, own_records, event_places, area_refusal, page_refusal, granted_by, done, AsksDisk}
 use Rattle.graph_words.specs.Places.{Places, IsVisible, area_used}
 use Rattle.heap_model.proofs.Step.Granted.{IsQuiet}
 use Rattle.heap_model.proofs.Step.Handles.{HoldAllAtHand, held_at_hand}
@@ -38,18 +39,40 @@ no_records g g0 a (Some t) (Len s h) is quiet = refl
 no_records g g0 a (Some t) (Seal s) is quiet = absurd is
 no_records g g0 a (Some t) (Abort s) is quiet = absurd is
 no_records g g0 a (Some t) Force is quiet = absurd is
+no_records g g0 a (Some t) Flip is quiet = absurd is
+no_records g g0 a (Some t) Scan is quiet = absurd is
 no_records g g0 a (Some t) (Flush p) is quiet = absurd is
 
 -- the records of a call are those of its session's transaction
-pub call_records-event : (c : Core) (event : Event) → IsCall event → event_records c event ≡ call_records (ground c) c.g0 (account c.history) ((account c.history).active (session_of event)) event
-call_records-event c (Begin s) is = absurd is
-call_records-event c Force is = absurd is
-call_records-event c (Flush p) is = absurd is
-call_records-event c event is = refl
+pub call_records-event : (g : Ground) (g0 : Graph) (a : Account) (event : Event) → IsCall event → records_for g g0 a event ≡ call_records g g0 a (a.active (session_of event)) event
+call_records-event g g0 a (Begin s) is = absurd is
+call_records-event g g0 a Force is = absurd is
+call_records-event g g0 a Flip is = absurd is
+call_records-event g g0 a Scan is = absurd is
+call_records-event g g0 a (Flush p) is = absurd is
+call_records-event g g0 a event is = refl
 
--- a call that writes nothing appends no record
-pub quiet_records : (c : Core) (event : Event) → IsCall event → is_write event ≡ false → event_records c event ≡ []
-quiet_records c event is quiet = call_records-event c event is ∙ no_records (ground c) c.g0 (account c.history) ((account c.history).active (session_of event)) event is quiet
+-- a call that writes nothing appends no record of its own
+pub quiet_records : (c : Core) (event : Event) → IsCall event → is_write event ≡ false → own_records c event ≡ []
+quiet_records c event is quiet =
+    let g = ground (behind_barrier c event) in
+    call_records-event g c.g0 (account c.history) event is ∙ no_records g c.g0 (account c.history) ((account c.history).active (session_of event)) event is quiet
+
+-- the events before which a page may be scanned
+abbrev pub has_barrier : Event → Bool
+has_barrier (Put s h i v) = true
+has_barrier (Clear s h i) = true
+has_barrier (Link s h i h2) = true
+has_barrier (Get s h i h2) = true
+has_barrier event = false
+
+-- before any other one none is
+pub no_barrier : (c : Core) (event : Event) → has_barrier event ≡ false → barrier_records c event ≡ []
+no_barrier c (Put s h i v) none = absurd (cc none)
+no_barrier c (Clear s h i) none = absurd (cc none)
+no_barrier c (Link s h i h2) none = absurd (cc none)
+no_barrier c (Get s h i h2) none = absurd (cc none)
+no_barrier c event none = refl
 
 -- a call places no object in the current space
 pub call_places : (c : Core) (event : Event) → IsCall event → event_places c event ≡ []
@@ -76,13 +99,24 @@ quiet_call v t (Len s h) quiet old = record { graph = refl; made = refl }
 quiet_call v t (Seal s) quiet old = record { graph = refl; made = refl }
 quiet_call v t (Abort s) quiet old = record { graph = refl; made = refl }
 quiet_call v t Force quiet old = record { graph = refl; made = refl }
+quiet_call v t Flip quiet old = record { graph = refl; made = refl }
+quiet_call v t Scan quiet old = record { graph = refl; made = refl }
 quiet_call v t (Flush p) quiet old = record { graph = refl; made = refl }
 
--- what is done where the disk isn't asked is that records wait
-pub done_records : (c : Core) (event : Event) → (AsksDisk event → ⊥) → done c event ≡ record c { pending = c.pending ++ event_records c event; places = c.places ++ event_places c event }
-done_records c Force other = absurd (other tt)
-done_records c (Flush p) other = absurd (other tt)
-done_records c event other = refl
+-- a core with an event's own records behind those that wait
+abbrev pub with_own : Core → Core → Event → Core
+with_own b c event = record b { pending = b.pending ++ own_records c event; places = b.places ++ event_places b event }
+
+-- what a call does: its own records wait, behind those of the barrier
+pub done_records : (c : Core) (event : Event) → IsCall event → done c event ≡ with_own (behind_barrier c event) c event
+done_records c (Begin s) is = absurd is
+done_records c (Seal s) is = absurd is
+done_records c (Abort s) is = absurd is
+done_records c Force is = absurd is
+done_records c Flip is = absurd is
+done_records c Scan is = absurd is
+done_records c (Flush p) is = absurd is
+done_records c event is = refl
 
 -- a call asks nothing of the disk
 pub no_call : (event : Event) → IsCall event → AsksDisk event → ⊥
@@ -99,10 +133,19 @@ call_no_page pages event is = refl
 pub no_flush : (event : Event) → IsCall event → (p : ℕ) → event ≢ Flush p
 no_flush event is p same = subst IsCall same is
 
--- what an event that isn't refused is answered by the core, and by a plain heap, unless it is a flush
-pub granted_plain : (c : Core) (event : Event) → ((p : ℕ) → event ≢ Flush p) → granted_by c event ≡ granted (next_number c) c.g0 (account c.history) event
-granted_plain c (Flush p) other = absurd (other p refl)
-granted_plain c event other = refl
+-- a call is an event of the transactions
+pub call_plain : (event : Event) → IsCall event → IsOfTransactions event
+call_plain Flip is = is
+call_plain Scan is = is
+call_plain (Flush p) is = is
+call_plain event is = tt
+
+-- what an event of the transactions that isn't refused is answered by the core, and by a plain heap
+pub granted_plain : (c : Core) (event : Event) → IsOfTransactions event → granted_by c event ≡ granted (next_number c) c.g0 (account c.history) event
+granted_plain c Flip of = absurd of
+granted_plain c Scan of = absurd of
+granted_plain c (Flush p) of = absurd of
+granted_plain c event of = refl
 
 -- neither of two tests refuses
 pub two_tests : (b d : Bool) (x y : Refusal) → cond b (Some x) (cond d (Some y) None) ≡ None → (b ≡ false) × (d ≡ false)

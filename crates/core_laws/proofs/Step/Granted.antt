@@ -37,6 +37,7 @@ use Rattle.heap_model.specs.CoreTold.{HoldsAtHand, IsTold, IsNumbered}
 use Rattle.heap_model.proofs.ListLaws.{AllByRecursion-set, AllByRecursion-map}
 use Rattle.core_laws.proofs.Step.Goes.{words_with, writing_of, goes_on, as_told}
 use Rattle.core_laws.proofs.Sessions.Actives.{each_session, sessions_with, after_call, called, called_sessions, called_numbered, called_actives, begun_actives, called_reserved}
+use Rattle.core_laws.proofs.Sessions.Unlocked.{unlocked_on}
 use Rattle.core_laws.proofs.Sessions.Whole.{none_left, rooted, whole_made}
 use Rattle.core_laws.proofs.Step.Told.{none_yet, others_all}
 use Rattle.core_laws.specs.Valid.{IsLocked, AreLocked, IsWriting, IsWriter, Agrees}
@@ -72,6 +73,7 @@ begin_writing a c n h above some =
       written = subst (AreWritten whole (serial c.g0 a.sealed)) (sym nothing) (begin_written seen);
       fields = subst (AreOfFields c.places (serial c.g0 a.sealed)) (sym nothing) tt;
       locked = subst (AreLocked c.places []) (sym nothing) tt;
+      unlocked = tt;
       handles = none_at_hand c.places n 0 64;
     }
 
@@ -170,6 +172,7 @@ quiet_writing places remaining g t event now state heap quiet reads w =
       written = subst (λ k. AreWritten all k (undo_of state n)) graph w.written;
       fields = subst (λ k. AreOfFields places k (undo_of state n)) graph w.fields;
       locked = locked_on places g t event (undo_of state n) w.locked;
+      unlocked = unlocked_on places remaining g t event now state w;
       handles = subst (λ m. AllByRecursion (HoldsAtHand places n m) (call v n event).view.registers) made handles;
     }
 
@@ -195,6 +198,7 @@ new_agrees a c s t i len h e small few =
       fields = of_fields_kept c.places v.graph (call v t.number (New s i len)).view.graph (undo_of h.behind t.number)
           (λ q at is. ap (λ o. length (unwrap_or o [])) (new_kept w.made len q at is)) w.fields;
       locked = locked_on c.places (serial c.g0 a.sealed) t (New s i len) (undo_of h.behind t.number) w.locked;
+      unlocked = unlocked_on c.places c.remaining (serial c.g0 a.sealed) t (New s i len) (all_words c) h.behind w;
       handles = AllByRecursion-set (HoldsAtHand c.places t.number (v.made + 1)) v.registers i (Some id)
           (more_handles c.places t.number v.made (v.made + 1) v.registers (omega arith) w.handles)
           (inr (record { maker = refl; first = omega arith; last = omega arith }));

@@ -47,7 +47,7 @@ module _ (a : Account) (c : Core) (h : Agrees a c) {numbers : List ℕ} {heard :
   aborted = account_after a (record { event = Abort s; reply = Aborted })
 
   end_told : IsTold (log_start c) c.born c.places c.remaining (serial c.g0 a.sealed) (c.before + length a.sealed) (all_records c ++ ends) (words_with c ends) last
-  end_told = abort_told c.pages c.first_number c.born c.places c.remaining (serial c.g0 a.sealed) (c.before + length a.sealed) t.number (all_records c) (all_words c) h.behind h.told (numbered_as a c s t e h) (own_apart a c h o s t e)
+  end_told = abort_told c.pages c.first_number c.born c.places c.remaining (serial c.g0 a.sealed) (c.before + length a.sealed) t.number (all_records c) (all_words c) h.behind h.told h.in_range.some_pages h.in_range.few_pages (numbered_as a c s t e h) (own_apart a c h o s t e)
 
   end_words : words_with c ends ≡ taken_back (undo_of h.behind t.number) (all_words c)
   end_words = abort_words t.number (undo_of h.behind t.number) (all_words c)

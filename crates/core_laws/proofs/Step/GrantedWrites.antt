@@ -1,5 +1,5 @@
 -- A write of one session that is granted leaves a core that agrees with its history.
-use Rattle.std.proofs.Common.{◌≡◌, ◌≢◌, inl, inr, ℕ, Bool, ◌+◌, ◌<◌, List, [], ◌∷◌, ◌++◌, length, get_or, Option, Some, None, is_some, refl, sym, ap, ◌∙◌, subst, arith}
+use Rattle.std.proofs.Common.{◌≡◌, ◌≢◌, inl, inr, ℕ, Bool, false, ◌+◌, ◌<◌, List, [], ◌∷◌, ◌++◌, length, get_or, Option, Some, None, is_some, refl, sym, ap, ◌∙◌, subst, arith}
 use Rattle.std.specs.List.{AllByRecursion, Contains}
 use Rattle.std.specs.Option.{option_to_list, option_map}
 use Rattle.std.proofs.lemmas.List.{append-nil}
@@ -29,7 +29,7 @@ use Rattle.graph_words.proofs.Places.Addresses.{some_address}
 use Rattle.graph_words.specs.Stands.{Stands, AreWritten, AreOfFields}
 use Rattle.graph_words.proofs.Seal.Places.{address_of-append_left}
 use Rattle.collection_words.specs.Completed.{completed, completed_places, future}
-use Rattle.collection_words.specs.LaidOut.{AreHeapWords}
+use Rattle.collection_words.specs.LaidOut.{AreHeapWords, is_gray}
 use Rattle.collection_words.specs.Writes.{IsHereWrite}
 use Rattle.collection_words.proofs.Heap.Front.{visible_front}
 use Rattle.collection_words.proofs.Heap.Write.{heap_write}
@@ -41,12 +41,13 @@ use Rattle.heap_model.proofs.Step.Granted.{stable_records, own_records}
 use Rattle.heap_model.proofs.Step.Handles.{ReadsVisible, held_at_hand, call_at_hand}
 use Rattle.heap_model.proofs.Opening.Told.{of_fields_kept, word_in, entry_of, update_of, written}
 use Rattle.heap_model.specs.CoreTold.{HoldsAtHand, IsTold}
-use Rattle.core_laws.proofs.Sessions.Apart.{all_black, apart_with, away_field, free_shared, object_now, value_now, word_now}
+use Rattle.core_laws.proofs.Sessions.Apart.{apart_with, away_field, free_shared, object_now, value_now, word_now}
 use Rattle.core_laws.proofs.Step.Goes.{words_with, writing_of, number_below, numbered_as, goes_on}
 use Rattle.core_laws.proofs.Step.Granted.{HasRoom, reserved_told, quiet_goes, locked_on}
 use Rattle.core_laws.proofs.Sessions.Stays.{stays_write}
 use Rattle.core_laws.proofs.Sessions.OtherWrites.{IsAway, others_own_write}
 use Rattle.core_laws.proofs.Sessions.Actives.{each_session, writer_by, after_call, called, called_active, called_sessions, called_numbered, called_actives}
+use Rattle.core_laws.proofs.Sessions.Unlocked.{unlocked_on}
 use Rattle.core_laws.proofs.Sessions.Whole.{rooted, same_word, whole_made}
 use Rattle.core_laws.proofs.Step.Told.{IsWriteAt, here, was_whole, write_told}
 use Rattle.core_laws.specs.Valid.{IsActive, AreLocked, IsWriting, IsWriter, Agrees}
@@ -75,6 +76,7 @@ own_write_writing places remaining g t event now state id i x heap reads w own s
       fields = subst (λ k. AreOfFields places k (undo_of state n)) back
           (of_fields_kept places v.graph (with_field v.graph id i x) (undo_of state n) (λ q at is. length-with_field v.graph id i x q) w.fields);
       locked = locked_on places g t event (undo_of state n) w.locked;
+      unlocked = unlocked_on places remaining g t event now state w;
       handles = subst (λ m. AllByRecursion (HoldsAtHand places n m) (call v n event).view.registers) same handles;
     }
 
@@ -121,6 +123,7 @@ stable_write_writing pages first_number born places remaining g k records now t 
           (record { id = id; object = one.place; field = one.within }, w.fields)));
       locked = subst (AreLocked places (locks_of g (after_call t event))) (sym undo)
           (record { id = id; object = one.place; lock = lock }, locked_on places g t event (undo_of state n) w.locked);
+      unlocked = unlocked_on places remaining g t event now state w;
       handles = subst (λ m. AllByRecursion (HoldsAtHand places n m) (call v n event).view.registers) same handles;
     }
 
@@ -145,14 +148,15 @@ record IsWrite (a : Account) (c : Core) (s : ℕ) (t : Transaction) (event : Eve
   lock : lock_of (view c.g0 a t).registers event ≡ lock_on (view c.g0 a t).registers hd Exclusive
   free : (id : Id) → held (view c.g0 a t).registers hd ≡ Some id → IsFree c.g0 a t.number (Some (id, Exclusive))
   reads : ReadsVisible c.places t.number (view c.g0 a t).made (view c.g0 a t) event
+  black : (id : Id) → held (view c.g0 a t).registers hd ≡ Some id → (at : ℕ) → address_of c.places id ≡ Some at → is_gray agrees.behind.collection at i ≡ false
 
 -- A write into an object that stands in the current space.
 
 -- a write of a field of an object that no other transaction holds is one that the records can tell
 pub writes_at : (a : Account) (c : Core) (h : Agrees a c) {numbers : List ℕ} {heard : Heard} (o : IsOrdered c.g0 numbers a heard) (s : ℕ) (t : Transaction) (e : a.active s ≡ Some t) (id : Id) (at i : ℕ) (v : Val)
-    → address_of c.places id ≡ Some at → i < length (fields (view c.g0 a t).graph id) → IsVisible c.places t.number (view c.g0 a t).made v → IsFree c.g0 a t.number (Some (id, Exclusive))
+    → address_of c.places id ≡ Some at → i < length (fields (view c.g0 a t).graph id) → IsVisible c.places t.number (view c.g0 a t).made v → IsFree c.g0 a t.number (Some (id, Exclusive)) → is_gray h.behind.collection at i ≡ false
     → IsWriteAt c.pages c.first_number c.born c.places c.remaining (serial c.g0 a.sealed) (view c.g0 a t) (c.before + length a.sealed) t.number (locks_of (serial c.g0 a.sealed) t) (all_records c) (all_words c) h.behind id at i v
-writes_at a c h o s t e id at i v place within seen free =
+writes_at a c h o s t e id at i v place within seen free black =
     let shared = free_shared c.g0 a t.number id free in
     let entry = entry_of c.places (view c.g0 a t).graph id at i in
     record {
@@ -164,9 +168,9 @@ writes_at a c h o s t e id at i v place within seen free =
       object = object_now a c h o s t e id at place;
       within = within;
       seen = seen;
-      black = all_black a c h o at i;
-      old = value_now a c h o s t e id at i place within shared;
-      was = word_now a c h o s t e id at i place within shared;
+      black = black;
+      old = value_now a c h o s t e id at i place within shared black;
+      was = word_now a c h o s t e id at i place within shared black;
     }
 
 module _ (a : Account) (c : Core) {numbers : List ℕ} {heard : Heard} (o : IsOrdered c.g0 numbers a heard) (s : ℕ) (t : Transaction) (event : Event) (hd i : ℕ) (v : Val) (w : IsWrite a c s t event hd i v) (id : Id) (at : ℕ)
@@ -196,7 +200,7 @@ module _ (a : Account) (c : Core) {numbers : List ℕ} {heard : Heard} (o : IsOr
   field_away = away_field a c w.agrees o s t w.active id at i place within (free_shared c.g0 a t.number id (w.free id holds))
 
   stable_at : IsWriteAt c.pages c.first_number c.born c.places c.remaining base seen (c.before + length a.sealed) t.number (locks_of base t) (all_records c) (all_words c) w.agrees.behind id at i v
-  stable_at = writes_at a c w.agrees o s t w.active id at i v place within w.seen (w.free id holds)
+  stable_at = writes_at a c w.agrees o s t w.active id at i v place within w.seen (w.free id holds) (w.black id holds at place)
 
   stable_here : IsHereWrite c.places (all_words c) at i (word_in c.places seen.graph v)
   stable_here = here c.pages c.first_number c.born c.places c.remaining base seen (c.before + length a.sealed) t.number (locks_of base t) (all_records c) (all_words c) w.agrees.behind id at i v stable_at
@@ -264,18 +268,19 @@ own_goes a c s t event hd i v id w holds own =
 
 -- a call that writes a value into a field of an object that no other transaction holds
 pub write_agrees : (a : Account) (c : Core) {numbers : List ℕ} {heard : Heard} (o : IsOrdered c.g0 numbers a heard) (s : ℕ) (t : Transaction) (event : Event) (hd i : ℕ) (v : Val) (more : List Record)
-    → Agrees a c → a.active s ≡ Some t
+    → (h : Agrees a c) → a.active s ≡ Some t
     → (call (view c.g0 a t) t.number event).view.graph ≡ put_value (view c.g0 a t).graph (held (view c.g0 a t).registers hd) i v
     → (call (view c.g0 a t) t.number event).view.made ≡ (view c.g0 a t).made → IsVisible c.places t.number (view c.g0 a t).made v
     → field_refusal (view c.g0 a t).graph (held (view c.g0 a t).registers hd) i ≡ None
     → lock_of (view c.g0 a t).registers event ≡ lock_on (view c.g0 a t).registers hd Exclusive
     → ((id : Id) → held (view c.g0 a t).registers hd ≡ Some id → IsFree c.g0 a t.number (Some (id, Exclusive)))
-    → ReadsVisible c.places t.number (view c.g0 a t).made (view c.g0 a t) event → more ≡ view_records c.places t.number (view c.g0 a t) hd i v → HasRoom c more (called a s event)
+    → ReadsVisible c.places t.number (view c.g0 a t).made (view c.g0 a t) event
+    → ((id : Id) → held (view c.g0 a t).registers hd ≡ Some id → (at : ℕ) → address_of c.places id ≡ Some at → is_gray h.behind.collection at i ≡ false) → more ≡ view_records c.places t.number (view c.g0 a t) hd i v → HasRoom c more (called a s event)
     → Agrees (called a s event) (record c { pending = c.pending ++ more })
-write_agrees a c o s t event hd i v more h e graph made visible granted lock free reads is room =
+write_agrees a c o s t event hd i v more h e graph made visible granted lock free reads black is room =
     let seen = view c.g0 a t in
     let b = called a s event in
-    let w : IsWrite a c s t event hd i v = record { agrees = h; active = e; graph = graph; made = made; seen = visible; lock = lock; free = free; reads = reads } in
+    let w : IsWrite a c s t event hd i v = record { agrees = h; active = e; graph = graph; made = made; seen = visible; lock = lock; free = free; reads = reads; black = black } in
     let writing = writing_of a c s t e h in
     let field = holds_field seen hd i granted in
     let id = field.0 in

@@ -1,9 +1,10 @@
 -- Records that tell a graph, with one event's records more, where other transactions have writes of other fields.
-use Rattle.std.proofs.Common.{◌≡◌, ℕ, ◌+◌, ◌<◌, Bool, true, max, List, [], ◌∷◌, ◌++◌, length, Some, sym, subst, arith, get_or, ◌∙◌, refl, ◌≤◌, Option, None, ap, length-set}
+use Rattle.std.proofs.Common.{◌≡◌, ℕ, ◌+◌, ◌<◌, Bool, true, max, List, [], ◌∷◌, ◌++◌, length, Some, sym, subst, arith, get_or, ◌∙◌, refl, ◌≤◌, Option, None, ap}
 use Rattle.std.specs.Prelude.{slice_index_or, fold, false}
 use Rattle.std.specs.List.{AllByRecursion}
 use Rattle.std.proofs.lemmas.Option.{same_Some}
-use Rattle.std.specs.FinMap.{get, entries}
+use Rattle.std.specs.FinMap.{FinMap, get, entries}
+use Rattle.std.specs.Ordering.{nat_cmp}
 use Rattle.graph_model.specs.declared.id.Id.{Id}
 use Rattle.graph_model.specs.declared.val.Val.{Val}
 use Rattle.graph_model.specs.declared.val.Val.TheVariants.{Null}
@@ -20,7 +21,6 @@ use Rattle.log_machine.proofs.TakenBackLaws.{taken_back-Update, taken_back-abort
 use Rattle.log_machine.proofs.ListLaws.{AllByRecursion-append}
 use Rattle.log_machine.specs.Machine.{State, start, after_all, put_record, all_taken_back, each_taken_back, field_at, owed, undo_of, taken_back, with_entries, with_word, is_number, turned, abort_records}
 use Rattle.log_machine.proofs.MachineLaws.{after_all-append, after_all-append2, number_small, inside_from, after-Update}
-use Rattle.log_machine.proofs.WordsLaws.{length-put_records}
 use Rattle.log_machine.proofs.MapLaws.{each_insert, each_remove, remove_absent}
 use Rattle.log_machine.specs.Sound.{AreLosers}
 use Rattle.log_machine.specs.UndoEntry.{LiesInside}
@@ -29,7 +29,7 @@ use Rattle.log_machine.specs.declared.UndoEntry.{UndoEntry}
 use Rattle.object_layout.specs.Layout.{object_at}
 use Rattle.object_layout.proofs.LayoutLaws.{object_small}
 use Rattle.graph_words.specs.Places.{AreOld, Places, address_of, IsVisible}
-use Rattle.graph_words.specs.Stands.{StandsCommitted, AreNamedByBirth}
+use Rattle.graph_words.specs.Stands.{StandsCommitted}
 use Rattle.graph_words.proofs.Places.Addresses.{address_of-Contains}
 use Rattle.graph_words.proofs.Stands.Objects.{visible_field_word}
 use Rattle.collection_words.specs.Completed.{completed, completed_places, future}
@@ -40,8 +40,14 @@ use Rattle.collection_words.proofs.Heap.Front.{visible_front}
 use Rattle.collection_words.proofs.Heap.Write.{backed_taken_back, backed_write, heap_taken_back, heap_turned, heap_write}
 use Rattle.collection_words.proofs.Laid.Within.{placed_within}
 use Rattle.heap_model.proofs.Step.Goes.{told_sound}
+use Rattle.walk_laws.specs.Heap.{AreSpaces, TellsBirths}
+use Rattle.walk_laws.proofs.Birth.TakenBack.{births_back}
+use Rattle.heap_model.proofs.Opening.Lists.{tells_lists}
 use Rattle.heap_model.proofs.Opening.Told.{older, word_in, entry_of, update_of, written}
-use Rattle.heap_model.specs.CoreTold.{AreAllBacked, IsTold}
+use Rattle.heap_model.specs.Bits.{AreOf64Bits}
+use Rattle.heap_model.specs.CoreTold.{IsTold}
+use Rattle.heap_model.proofs.Step.Bits.{fit_behind, fit_record}
+use Rattle.seen_laws.specs.Heap.{AreAllBacked}
 use Rattle.core_laws.proofs.Sessions.Whole.{same_word, seen_leads, whole_made}
 use Rattle.core_laws.specs.Valid.{IsWriting}
 
@@ -77,24 +83,34 @@ pub record IsWriteAt (pages first_number : ℕ) (born : Bool) (places remaining 
   pub old : IsVisible places t v.made (slice_index_or (fields v.graph id) i Null)
   pub was : get_or now (field_at at i) 0 ≡ word_in places v.graph (slice_index_or (fields v.graph id) i Null)
 
+-- the words of both spaces
+heap_spaces : {s : State} {places remaining : Places} {words : List ℕ} → AreHeapWords s places remaining words → AreSpaces s words
+heap_spaces heap = record { spaced = heap.spaced; long = heap.long; small = heap.small }
+
+-- births are told where other writes may be taken back
+tells_turned : (s : State) (t : ℕ) (undo : FinMap nat_cmp (List UndoEntry)) (more : ℕ) (places remaining : Places) (words : List ℕ) → TellsBirths s places remaining words
+    → TellsBirths (turned s t undo more) places remaining words
+tells_turned s t undo more places remaining words tells = tells_lists s undo (s.commits + more) (max s.next (t + 1)) places remaining words tells
+
 -- what behind one more record is told of the same graph
 told_on : {from : State} {born : Bool} {places remaining : Places} {g : Graph} {k : ℕ} {records : List Record} {now : List ℕ} {state : State} → IsTold from born places remaining g k records now state
     → (more : List Record) (words : List ℕ) (later : State) → AllByRecursion IsRecord more → after_all from (records ++ more) ≡ Some later → later.commits ≡ state.commits → state.next ≤ later.next → later.base ≡ state.base
-    → later.used + owed later ≡ state.used + owed state → AreHeapWords later places remaining words → AreAllBacked later places words → completed_places later places remaining words ≡ completed_places state places remaining now
-    → all_taken_back later (completed later places remaining words) ≡ all_taken_back state (completed state places remaining now) → IsTold from born places remaining g k (records ++ more) words later
-told_on {from} {born} {places} {remaining} {g} {k} {records} {now} {state} told more words later good reached commits next base used heap backed there same = record {
+    → later.used + owed later ≡ state.used + owed state → AreHeapWords later places remaining words → AreOf64Bits words → AreAllBacked later places words → completed_places later places remaining words ≡ completed_places state places remaining now
+    → all_taken_back later (completed later places remaining words) ≡ all_taken_back state (completed state places remaining now)
+    → (TellsBirths state places remaining now → TellsBirths later places remaining words) → IsTold from born places remaining g k (records ++ more) words later
+told_on {from} {born} {places} {remaining} {g} {k} {records} {now} {state} told more words later good reached commits next base used heap fit backed there same tells = record {
   good = AllByRecursion-append IsRecord records more told.good good;
   reached = reached;
   count = commits ∙ told.count;
   heap = heap;
+  fit = fit;
   backed = backed;
   stands = subst (λ (n : ℕ). StandsCommitted (completed_places later places remaining words) g (all_taken_back later (completed later places remaining words)) n (later.used + owed later)) (sym base)
       (subst (λ (n : ℕ). StandsCommitted (completed_places later places remaining words) g (all_taken_back later (completed later places remaining words)) state.base n) (sym used)
       (subst (λ (ws : List ℕ). StandsCommitted (completed_places later places remaining words) g ws state.base (state.used + owed state)) (sym same)
       (subst (λ (ps : Places). StandsCommitted ps g (all_taken_back state (completed state places remaining now)) state.base (state.used + owed state)) (sym there) told.stands)));
   old = older state.next later.next (completed_places later places remaining words) next (subst (AreOld state.next) (sym there) told.old);
-  births = λ by_birth. subst (AreNamedByBirth (completed_places later places remaining words)) (sym same)
-      (subst (λ (ps : Places). AreNamedByBirth ps (all_taken_back state (completed state places remaining now))) (sym there) (told.births by_birth));
+  births = λ by_birth. tells (told.births by_birth);
 }
 
 module _ (pages first_number : ℕ) (born : Bool) (places remaining : Places) (base : Graph) (v : View) (k t : ℕ) (locks : List Lock) (records : List Record) (now : List ℕ) (state : State) (id : Id) (at i : ℕ) (x : Val)
@@ -170,14 +186,17 @@ module _ (pages first_number : ℕ) (born : Bool) (places remaining : Places) (b
       let own : AreBacked places now (entry ∷ undo_of state t) = (back, each_at (λ q us. AreBacked places now us) state.undo t tt w.told.backed) in
       told_on w.told (update_of places v.graph t id at i x ∷ []) written_words (written state t entry) (spelled, tt) reached (omega arith) (omega arith) refl refl
       (heap_turned t (with_entries state.undo t (entry ∷ undo_of state t)) 0 left.heap)
+      (fit_record now (update_of places v.graph t id at i x) w.told.fit spelled)
       (each_insert (λ q us. AreBacked places written_words us) state.undo t (entry ∷ undo_of state t) (backed_write w.told.heap here (entry ∷ undo_of state t) own)
       (λ q us is. backed_write w.told.heap here us (w.told.backed q us is)))
       left.there (ap (all_taken_back (written state t entry)) left.same ∙ committed)
+      (λ tells. tells_turned state t (with_entries state.undo t (entry ∷ undo_of state t)) 0 places remaining written_words
+      (births_back state places remaining now (record { object = at; field = i; was = word_in places v.graph x } ∷ []) (heap_spaces w.told.heap) w.told.heap.laid (here, tt) tells))
 
 -- An abort.
 
 module _ (pages first_number : ℕ) (born : Bool) (places remaining : Places) (g : Graph) (k t : ℕ) (records : List Record) (now : List ℕ) (state : State)
-    (told : IsTold (start pages first_number) born places remaining g k records now state) (number : is_number t ≡ true) (apart : IsApart state t (undo_of state t)) where
+    (told : IsTold (start pages first_number) born places remaining g k records now state) (some : 1 ≤ pages) (few : pages ≤ 16384) (number : is_number t ≡ true) (apart : IsApart state t (undo_of state t)) where
   abbrev last : State
   last = turned state t (with_entries state.undo t []) 0
 
@@ -191,15 +210,19 @@ module _ (pages first_number : ℕ) (born : Bool) (places remaining : Places) (g
   taken_told : IsTold (start pages first_number) born places remaining g k (records ++ abort_records t (undo_of state t)) taken last
   taken_told =
       let small = number_small t number in
-      let can = can_roll_back pages first_number state records told.good told.reached in
+      let can = can_roll_back pages first_number state records some few told.good told.reached in
       let left = heap_taken_back (undo_of state t) told.heap own_backed in
       let whole_now = completed state places remaining now in
-      told_on told (abort_records t (undo_of state t)) taken last (abort_good t (undo_of state t) (omega arith) (all_spelled state.undo t can.entries))
+      let good = abort_good t (undo_of state t) (omega arith) (all_spelled state.undo t can.entries) in
+      told_on told (abort_records t (undo_of state t)) taken last good
       (after_all-append2 (start pages first_number) state records (abort_records t (undo_of state t)) told.reached ∙ abort_reaches state t number can.sound) (omega arith) (omega arith) refl refl
       (heap_turned t (with_entries state.undo t []) 0 left.heap)
+      (subst AreOf64Bits (abort_words t (undo_of state t) now) (fit_behind now (abort_records t (undo_of state t)) told.fit good))
       (each_remove (λ q us. AreBacked places taken us) state.undo t (λ q us is. backed_taken_back (undo_of state t) told.heap own_backed us (told.backed q us is)))
       left.there
       (ap (all_taken_back last) (left.same ∙ sym (abort_words t (undo_of state t) whole_now)) ∙ taken_back-abort state whole_now t (told_sound told) apart)
+      (λ tells. tells_turned state t (with_entries state.undo t []) 0 places remaining taken
+      (births_back state places remaining now (undo_of state t) (heap_spaces told.heap) told.heap.laid own_backed tells))
 
   -- A transaction is taken back and leaves nothing: the records tell the same graph.
   pub abort_told : IsTold (start pages first_number) born places remaining g k (records ++ abort_records t (undo_of state t)) (fold put_record now (abort_records t (undo_of state t))) last

@@ -7,7 +7,7 @@ use Rattle.std.specs.Option.{option_to_list}
 use Rattle.std.proofs.lemmas.Option.{same_Some}
 use Rattle.std.proofs.lemmas.List.Elements.{Contains-append_cases}
 use Rattle.graph_model.specs.declared.event.Event.{Event}
-use Rattle.graph_model.specs.declared.event.Event.TheVariants.{Begin, Seal, Abort, Force, Flush}
+use Rattle.graph_model.specs.declared.event.Event.TheVariants.{Begin, Seal, Abort, Force, Flip, Scan, Flush}
 use Rattle.graph_model.specs.declared.reply.Entry.{Entry}
 use Rattle.graph_model.specs.declared.reply.Refusal.{Refusal}
 use Rattle.graph_model.specs.declared.reply.Refusal.TheVariants.{DiskFault, Stopped}
@@ -26,9 +26,13 @@ use Rattle.commit_order.proofs.CallLaws.{Contains-option}
 use Rattle.commit_order.proofs.OrderLaws.{numbers-append}
 use Rattle.commit_order.proofs.PlaceLaws.{EachEntry-append, plain_append, two_phase_append}
 use Rattle.commit_order.specs.SerialOrder.{EndsWithFailure, RefusesConflicts, AnswersByView, begun_number, numbers_begun}
-use Rattle.heap_model.specs.Core.{Core, next_number, words_refusal, log_refusal, core_refusal, granted_by, answer, is_dirty, IsCutShort, IsStep}
+use Rattle.heap_spaces.specs.Collection.{Collection}
+use Rattle.log_records.specs.declared.Record.{Record}
+use Rattle.log_machine.specs.Machine.{State}
+use Rattle.heap_model.specs.Collecting.{flip_reply, next_page, scan_reply, scan_reply_in}
+use Rattle.heap_model.specs.Core.{Core, ground, next_number, own_records, words_refusal, log_refusal, core_refusal, granted_by, answer, is_dirty, IsCutShort, IsStep}
 use Rattle.heap_model.proofs.Run.Calls.{calls-unfailed, failed_refusal, same_step, step_history}
-use Rattle.core_laws.proofs.Step.Forms.{no_flush, granted_plain}
+use Rattle.core_laws.proofs.Step.Forms.{call_plain, granted_plain}
 use Rattle.core_laws.specs.Valid.{RunsLocked}
 
 -- A step's reply.
@@ -71,12 +75,29 @@ flush_no_call : (p : ℕ) (dirty : Bool) → IsCallReply (if dirty then Flushed 
 flush_no_call p true is = is
 flush_no_call p false is = is
 
+-- nor is a flip
+flip_no_call : (records : List Record) → IsCallReply (flip_reply records) → ⊥
+flip_no_call [] is = is
+flip_no_call (r ∷ rs) is = is
+
+-- nor a scan
+scan_no_call : (o : Option State) (records : List Record) → IsCallReply (scan_reply o records) → ⊥
+scan_no_call None records is = is
+scan_no_call (Some s) records is = by s.collection (next_page s.collection) is
+  where
+    by : (run : Option Collection) (page : Option ℕ) → IsCallReply (scan_reply_in s records run page) → ⊥
+    by None page is = is
+    by (Some k) None is = is
+    by (Some k) (Some page) is = is
+
 -- a granted event that is answered as a call is one
 call_of : (c : Core) (event : Event) → IsCallReply (granted_by c event) → IsCall event
 call_of c (Begin s) is = is
 call_of c (Seal s) is = is
 call_of c (Abort s) is = is
 call_of c Force is = is
+call_of c Flip is = flip_no_call (own_records c Flip) is
+call_of c Scan is = scan_no_call (ground c).state (own_records c Scan) is
 call_of c (Flush p) is = flush_no_call p (is_dirty c p) is
 call_of c event is = tt
 
@@ -91,12 +112,27 @@ flush_not_begun : (p n : ℕ) (dirty : Bool) → (if dirty then Flushed p else C
 flush_not_begun p n true is = cc
 flush_not_begun p n false is = cc
 
+flip_not_begun : (records : List Record) (n : ℕ) → flip_reply records ≢ Begun n
+flip_not_begun [] n is = cc
+flip_not_begun (r ∷ rs) n is = cc
+
+scan_not_begun : (o : Option State) (records : List Record) (n : ℕ) → scan_reply o records ≢ Begun n
+scan_not_begun None records n is = cc
+scan_not_begun (Some s) records n is = by s.collection (next_page s.collection) is
+  where
+    by : (run : Option Collection) (page : Option ℕ) → scan_reply_in s records run page ≢ Begun n
+    by None page is = cc
+    by (Some k) None is = cc
+    by (Some k) (Some page) is = cc
+
 -- only a begin is answered with a number
 begun_next : (c : Core) (event : Event) (n : ℕ) → granted_by c event ≡ Begun n → n ≡ next_number c
 begun_next c (Begin s) n is = sym (same_begun (next_number c) n is)
 begun_next c (Seal s) n is = cc
 begun_next c (Abort s) n is = cc
 begun_next c Force n is = cc
+begun_next c Flip n is = absurd (flip_not_begun (own_records c Flip) n is)
+begun_next c Scan n is = absurd (scan_not_begun (ground c).state (own_records c Scan) n is)
 begun_next c (Flush p) n is = absurd (flush_not_begun p n (is_dirty c p) is)
 begun_next c event n is =
     let a = account c.history in
@@ -124,7 +160,7 @@ answer_viewed c event t own =
     let alive = granted_if (core_refusal c event) reply own.answered in
     let same : answer c event ≡ reply = ap (λ (o : Option Refusal). reply_of o reply) alive in
     let is = call_of c event (subst IsCallReply same own.answered) in
-    same ∙ granted_plain c event (no_flush event is) ∙ granted-call (next_number c) c.g0 a event is ∙ ap (λ (o : Option Transaction). call_reply c.g0 a o event) own.active
+    same ∙ granted_plain c event (call_plain event is) ∙ granted-call (next_number c) c.g0 a event is ∙ ap (λ (o : Option Transaction). call_reply c.g0 a o event) own.active
 
 -- a transaction that begins has the next number
 answer_begun : (c : Core) (event : Event) (n : ℕ) → answer c event ≡ Begun n → n ≡ next_number c

@@ -5,21 +5,30 @@ use Rattle.graph_model.specs.Graph.{Graph}
 use Rattle.image_plan.specs.declared.superblock.Super.{Super}
 use Rattle.image_plan.specs.Super.{IsSuper}
 use Rattle.log_records.specs.declared.Record.{Record}
-use Rattle.log_machine.specs.Machine.{State, all_taken_back, each_taken_back, losing_in, reserve}
+use Rattle.log_machine.specs.declared.UndoEntry.{UndoEntry}
+use Rattle.log_machine.specs.Machine.{State, all_taken_back, each_taken_back, losing, losing_in, reserve, taken_back}
 use Rattle.log_machine.specs.Origin.{words_from}
 use Rattle.log_machine.proofs.WordsLaws.{length-first_contents}
 use Rattle.gated_log.specs.Log.{batches_bytes, records_of}
-use Rattle.object_layout.specs.Walk.{IsWalked, HaveOwnBirths, AreBornBefore}
 use Rattle.page_redo.specs.Pages.{Pages}
 use Rattle.page_redo.specs.Prefix.{EachHoldsPrefix}
 use Rattle.page_redo.proofs.PrefixLaws.{redone-words}
 use Rattle.page_redo.proofs.RedoLaws.{EachLacks-prefixes}
 use Rattle.graph_words.specs.Places.{Places}
-use Rattle.graph_words.proofs.Places.Names.{name_at}
-use Rattle.graph_words.specs.Stands.{StandsCommitted, AreNamedByBirth}
-use Rattle.graph_words.proofs.Stands.Seen.{stands_walked, stands_seen, stands_own_births, stands_born_before}
+use Rattle.collection_words.specs.Completed.{StandsCompleted}
+use Rattle.collection_words.specs.Writes.{AreBacked}
+use Rattle.collection_words.proofs.Laid.TakenBack.{each_taken_back-list}
+use Rattle.walk_laws.specs.Heap.{AreSpaces, HoldsBorn, HoldsGraph, TellsBirths}
+use Rattle.walk_laws.proofs.Birth.Born.{named_born}
+use Rattle.walk_laws.proofs.Birth.TakenBack.{births_back}
+use Rattle.walk_laws.proofs.Graph.Beside.{heap_walked}
+use Rattle.walk_laws.proofs.Graph.TakenBack.{held_back, spaces_back}
+use Rattle.seen_laws.proofs.Births.{completed_old}
+use Rattle.seen_laws.proofs.States.{backed_all, sealed_stands, writes_of_all}
+use Rattle.heap_model.specs.Bits.{AreOf64Bits}
 use Rattle.heap_model.specs.CoreTold.{IsTold}
-use Rattle.heap_model.proofs.Step.Plain.{plain_births, plain_old, plain_stands}
+use Rattle.heap_model.proofs.Step.Bits.{fit_back}
+use Rattle.heap_model.proofs.Opening.Found.{born_seen}
 use Rattle.heap_model.specs.Image.{origin_of, redone_words, words_of, IsShapedLog, IsLegalLog, Says}
 
 -- Records and the words that they leave from the log's origin on tell a graph, and each page that is stored beside them holds those up to
@@ -34,13 +43,38 @@ module _ (s : Super) (batches : List (List Record)) (stored : Pages) (born : Boo
   told_words : words_of s batches stored ≡ all_taken_back state now
   told_words = ap (λ (o : Option State). each_taken_back (losing_in o) (redone_words s batches stored)) told.reached ∙ ap (all_taken_back state) told_redone
 
-  -- so the graph stands there
-  pub told_stands : StandsCommitted places g (words_of s batches stored) state.base state.used
-  told_stands = subst (λ (ws : List ℕ). StandsCommitted places g ws state.base state.used) (sym told_words) (plain_stands told)
+  -- they are taken back as one list
+  abbrev back : List UndoEntry
+  back = writes_of_all (losing state)
+
+  pub told_back : words_of s batches stored ≡ taken_back back now
+  told_back = told_words ∙ each_taken_back-list (losing state) now
+
+  told_spaces : AreSpaces state now
+  told_spaces = record { spaced = told.heap.spaced; long = told.heap.long; small = told.heap.small }
+
+  pub told_backed : AreBacked places now back
+  told_backed = backed_all state places now told.backed
+
+  told_completed : StandsCompleted 0 0 places remaining g back now state
+  told_completed = sealed_stands state places remaining now told.stands
+
+  -- so they are words of both spaces, in which the graph stands
+  pub told_long : AreSpaces state (words_of s batches stored)
+  told_long = subst (λ (ws : List ℕ). AreSpaces state ws) (sym told_back) (spaces_back state now back told_spaces)
+
+  pub told_holds : HoldsGraph state places remaining (words_of s batches stored) g
+  told_holds =
+      subst (λ (ws : List ℕ). HoldsGraph state places remaining ws g) (sym told_back)
+      (held_back state places remaining now back g told_spaces told.heap.laid told_backed told_completed state.collection refl)
 
   -- under the names of births where it did so before
-  pub told_births : IsTrue born → AreNamedByBirth places (words_of s batches stored)
-  told_births by_birth = subst (AreNamedByBirth places) (sym told_words) (plain_births told by_birth)
+  pub told_born : IsTrue born → HoldsBorn state state.next places remaining (words_of s batches stored) g
+  told_born by_birth = record {
+    holds = told_holds;
+    old = (completed_old state.next state places remaining now).0 told.old;
+    tells = subst (λ (ws : List ℕ). TellsBirths state places remaining ws) (sym told_back) (births_back state places remaining now back told_spaces told.heap.laid told_backed (told.births by_birth));
+  }
 
   -- the records are a shaped log
   abbrev pub told_shaped : IsShapedLog s batches stored
@@ -52,8 +86,9 @@ module _ (s : Super) (batches : List (List Record)) (stored : Pages) (born : Boo
     room = room;
     size = prefixes.size;
     lsns_size = prefixes.lsns_size;
+    fit = subst AreOf64Bits (sym told_back) (fit_back places now now back told.fit told_backed);
     behind = EachLacks-prefixes (origin_of s) (records_of batches) stored (omega arith) prefixes;
-    walked = stands_walked told_stands;
+    walked = heap_walked state places remaining (words_of s batches stored) g told_long told_holds;
   }
 
   -- a legal one where births give the names
@@ -61,10 +96,9 @@ module _ (s : Super) (batches : List (List Record)) (stored : Pages) (born : Boo
   told_legal by_birth = record {
     shaped = told_shaped;
     prefixes = prefixes;
-    own_births = stands_own_births told_stands (told_births by_birth);
-    born_before = stands_born_before told_stands (told_births by_birth) state.next (plain_old told);
+    births = named_born state state.next places remaining (words_of s batches stored) g told_long (told_born by_birth) state.collection refl told_shaped.walked;
   }
 
   -- and the log says the graph
   pub told_says : IsTrue born → Says g k s batches stored
-  told_says by_birth = record { legal = told_legal by_birth; seen = g; shows = stands_seen told_stands (told_births by_birth); graph = refl; count = told.count }
+  told_says by_birth = record { legal = told_legal by_birth; seen = g; shows = born_seen told_long (told_born by_birth); graph = refl; count = told.count }

@@ -23,6 +23,12 @@ use Rattle.graph_words.proofs.Places.Addresses.{address_of-cases}
 use Rattle.graph_words.specs.Stands.{StandsAt, StandsCommitted, ArePlaced, AreNamedByBirth}
 use Rattle.graph_words.proofs.Stands.Seen.{stands_walked, stands_own_births, stands_born_before}
 use Rattle.graph_words.proofs.Stands.Visible.{nulls_visible}
+use Rattle.walk_laws.specs.Heap.{HoldsGraph}
+use Rattle.walk_laws.proofs.Graph.Held.{stands_completed}
+use Rattle.walk_laws.proofs.Graph.TakenBack.{committed_laid}
+use Rattle.heap_model.proofs.Opening.Found.{found_of}
+use Rattle.heap_model.specs.Bits.{AreOf64Bits}
+use Rattle.heap_model.proofs.Step.Bits.{fit_first}
 use Rattle.heap_model.specs.Image.{origin_of, words_of, IsLegalLog}
 use Rattle.heap_model.specs.Opening.{IsFound}
 use Rattle.heap_model.specs.NewHeap.{root_place}
@@ -100,6 +106,13 @@ module _ (s : Super) (limits : IsSuper s) where
   pub new_births : AreNamedByBirth root_place (words_of s [] (first_pages s.pages))
   new_births = subst (AreNamedByBirth root_place) (sym new_words) (refl, tt)
 
+  -- so it does in the completed words
+  new_holds : HoldsGraph (start s.pages s.first) root_place [] (words_of s [] (first_pages s.pages)) new_graph
+  new_holds = record {
+    laid = committed_laid (start s.pages s.first) root_place (words_of s [] (first_pages s.pages)) new_graph refl new_stand;
+    stands = stands_completed (start s.pages s.first) root_place (words_of s [] (first_pages s.pages)) new_graph refl new_stand;
+  }
+
   -- an empty log is legal beside pages that were never stored
   abbrev pub new_legal : IsLegalLog s [] (first_pages s.pages)
   new_legal =
@@ -116,13 +129,15 @@ module _ (s : Super) (limits : IsSuper s) where
           size = prefixes.size;
           lsns_size = prefixes.lsns_size;
           behind = EachLacks-prefixes (origin_of s) [] (first_pages s.pages) (omega arith) prefixes;
+          fit = subst AreOf64Bits (sym (taken_back-settled (start s.pages s.first) (first_contents s.pages) refl)) (fit_first s.pages);
           walked = stands_walked new_stand;
         };
         prefixes = prefixes;
-        own_births = stands_own_births new_stand new_births;
-        born_before = stands_born_before new_stand new_births s.first (inl refl, tt);
+        births = (stands_own_births new_stand new_births, stands_born_before new_stand new_births s.first (inl refl, tt));
       }
 
   -- the root is found in it
   pub new_found : IsFound s [] (first_pages s.pages) new_legal.shaped true root_place new_graph
-  new_found = record { stands = new_stand; placed = root_placed; old = (inl refl, tt); births = λ by_birth. new_births }
+  new_found =
+      found_of s [] (first_pages s.pages) new_legal.shaped true root_place [] new_graph (record { holds = new_holds; placed = root_placed; placed_in_completed = root_placed }) (inl refl, tt)
+      (λ by_birth. record { names = new_births; originals = tt })

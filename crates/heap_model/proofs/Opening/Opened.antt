@@ -1,21 +1,23 @@
 -- A core that was opened on a shaped log is reached, whatever graph stands in its words, under whatever names.
-use Rattle.std.proofs.Common.{◌≡◌, ◌⊎◌, inl, inr, ℕ, ◌+◌, ◌≤◌, true, false, List, [], ◌∷◌, max, Some, unwrap_or, refl, sym, ap, ◌∙◌, arith}
+use Rattle.std.proofs.Common.{◌≡◌, ◌⊎◌, inl, inr, ℕ, ◌+◌, true, false, List, [], ◌∷◌, ◌++◌, Some, unwrap_or, refl, sym, ap, ◌∙◌, arith}
 use Rattle.std.proofs.lemmas.Option.{option_and_then_some}
 use Rattle.graph_model.specs.Graph.{Graph}
 use Rattle.image_plan.specs.declared.superblock.Super.{Super}
 use Rattle.log_records.specs.declared.Record.{Record}
 use Rattle.log_machine.specs.Machine.{State, start, after, after_all, number_of, next_with}
-use Rattle.log_machine.proofs.StateLaws.{turns, leads_after_all, spaced_after_all, spaced_ends}
+use Rattle.log_machine.proofs.StateLaws.{turns, leads_after_all}
 use Rattle.gated_log.specs.Log.{records_of}
 use Rattle.page_redo.specs.Pages.{Pages}
 use Rattle.object_layout.specs.Layout.{id_at}
-use Rattle.object_layout.proofs.WalkedLaws.{gathered}
+use Rattle.object_layout.proofs.SeenLaws.{seen_canon}
 use Rattle.graph_words.specs.Places.{Places}
-use Rattle.graph_words.proofs.Places.Names.{named_places, address_name}
-use Rattle.graph_words.proofs.Stands.Seen.{stands_seen, stands_canon}
-use Rattle.graph_words.proofs.Stands.Walked.{gathered_placed, address_name-AreOld, address_name-KeepApart, id_at-KeepApart, walked_stands_by_address, walked_stands_by_birth, id_at-AreNamedByBirth, id_at-AreOld}
+use Rattle.walk_laws.specs.Heap.{address_name_beside, current_of, left_of, places_by}
+use Rattle.walk_laws.proofs.Birth.Born.{born_named}
+use Rattle.walk_laws.proofs.Graph.ByAddress.{address_apart, address_base, walked_lies, walked_old, walked_room}
+use Rattle.walk_laws.proofs.Graph.Held.{walked_held}
+use Rattle.heap_model.proofs.Opening.Found.{born_seen, found_of, found_seen}
 use Rattle.heap_model.specs.CoreCrash.{IsCommitPrefix}
-use Rattle.heap_model.proofs.Opening.Rolled.{next_is, commits_are, rolled_commits, rolled_shaped, rolled_says}
+use Rattle.heap_model.proofs.Opening.Rolled.{next_is, commits_are, rolled_commits, rolled_shaped, rolled_says, shaped_spaces}
 use Rattle.heap_model.specs.Theorems.{SayingTheorem, SaysOn}
 use Rattle.heap_model.specs.Image.{words_of, IsShapedLog, IsLegalLog, Holds, Shows, Says}
 use Rattle.heap_model.specs.Opening.{rolled_back, next_of, commits_of, next_behind, opened, IsFound}
@@ -48,51 +50,44 @@ module _ (s : Super) (batches : List (List Record)) (stored : Pages) (legal : Is
 -- what a graph that stands under the names of births is said of
 pub says_found : (s : Super) (batches : List (List Record)) (stored : Pages) (legal : IsLegalLog s batches stored) (places : Places) (g : Graph) → IsFound s batches stored legal.shaped true places g → SaysOn g s batches stored
 says_found s batches stored legal places g found =
-    let shows = stands_seen found.stands (found.births refl) in
+    let shows = found_seen s batches stored legal.shaped places g found in
     record { found = found_says s batches stored legal g shows; left = left_says s batches stored legal g shows }
-
--- the words of both spaces end below the greatest address
-used_below : (s : Super) (batches : List (List Record)) (stored : Pages) (shaped : IsShapedLog s batches stored) → shaped.state.base + shaped.state.used ≤ 2097152
-used_below s batches stored shaped =
-    let spaced = spaced_after_all s.pages s.first shaped.state (records_of batches) shaped.limits.some_pages shaped.reached in
-    let same = spaced.0 in
-    let ends = spaced_ends shaped.state spaced.1 in
-    let pages = shaped.limits.few_pages in
-    omega arith
 
 -- In what a shaped log leaves a graph stands under names by address, so each heap that is opened is a core.
 pub address_found : (s : Super) (batches : List (List Record)) (stored : Pages) (shaped : IsShapedLog s batches stored) → (places : Places) × (g : Graph) × IsFound s batches stored shaped false places g
 address_found s batches stored shaped =
+    let state = shaped.state in
     let words = words_of s batches stored in
-    let base = shaped.state.base in
-    let used = shaped.state.used in
-    let grows = (leads_after_all (start s.pages s.first) shaped.state (records_of batches) shaped.reached).grows in
-    let first = shaped.limits.some_first in (
-      named_places (address_name base) shaped.walked.starts,
-      gathered (address_name base) words shaped.walked.starts,
-      record {
-        stands = walked_stands_by_address words base used shaped.walked (used_below s batches stored shaped);
-        placed = gathered_placed (address_name base) words shaped.walked.starts (address_name-KeepApart words base used shaped.walked);
-        old = address_name-AreOld words base used shaped.walked shaped.state.next (omega arith);
-        births = λ by_birth. cc;
-      },
-    )
+    let spaces = shaped_spaces s batches stored shaped in
+    let name = address_name_beside state in
+    let current = places_by name (current_of state words shaped.walked) in
+    let left = places_by name (left_of state words shaped.walked) in
+    let grows = (leads_after_all (start s.pages s.first) state (records_of batches) shaped.reached).grows in
+    let first = shaped.limits.some_first in
+    let held = walked_held state words name spaces (address_base state spaces.spaced (walked_room state words spaces state.collection shaped.walked)) state.collection refl shaped.walked
+    (address_apart state (current_of state words shaped.walked ++ left_of state words shaped.walked) spaces.spaced (walked_lies state words spaces state.collection refl shaped.walked)) in
+    let old = walked_old state words state.next spaces (omega arith) state.collection refl shaped.walked in
+    (current ++ left, held.0, found_of s batches stored shaped false current left held.0 held.1 old (λ by_birth. cc))
 
 -- A legal log says the graph of its objects, under the names of their births.
 pub saying_law : SayingTheorem
 saying_law s batches stored legal g shows =
     let shaped = legal.shaped in
+    let state = shaped.state in
     let words = words_of s batches stored in
-    let places = named_places (id_at words) shaped.walked.starts in
-    let stands = walked_stands_by_birth words shaped.state.base shaped.state.used shaped.walked (used_below s batches stored shaped) legal.own_births in
-    let h = gathered (id_at words) words shaped.walked.starts in
-    let found : IsFound s batches stored shaped true places h = record {
-      stands = stands;
-      placed = gathered_placed (id_at words) words shaped.walked.starts (id_at-KeepApart words shaped.walked.starts legal.own_births);
-      old = id_at-AreOld words shaped.state.base shaped.state.used shaped.walked shaped.state.next legal.born_before;
-      births = λ by_birth. id_at-AreNamedByBirth words shaped.walked.starts;
-    } in
-    (places, h, found, sym (stands_canon stands (id_at words) g shows), says_found s batches stored legal places h found)
+    let current = places_by (id_at words) (current_of state words shaped.walked) in
+    let left = places_by (id_at words) (left_of state words shaped.walked) in
+    let born = born_named state state.next words (shaped_spaces s batches stored shaped) state.collection refl shaped.walked legal.births in
+    let h = born.0 in
+    let found : IsFound s batches stored shaped true (current ++ left) h = found_of s batches stored shaped true current left h born.2 born.1.old (λ by_birth. born.1.tells) in
+    (current ++ left, h, found, seen_canon (id_at words) (id_at words) words state.base h g (found_seen s batches stored shaped (current ++ left) h found) shows, says_found s batches stored legal (current ++ left) h found)
+
+-- A legal log shows a graph.
+pub legal_shows : (s : Super) (batches : List (List Record)) (stored : Pages) (legal : IsLegalLog s batches stored) → (g : Graph) × Shows s batches stored legal g
+legal_shows s batches stored legal =
+    let shaped = legal.shaped in
+    let spaces = shaped_spaces s batches stored shaped in
+    let born = born_named shaped.state shaped.state.next (words_of s batches stored) spaces shaped.state.collection refl shaped.walked legal.births in (born.0, born_seen spaces born.1)
 
 module _ (s : Super) (batches : List (List Record)) (stored : Pages) (legal : IsLegalLog s batches stored) (places : Places) (g : Graph) (found : IsFound s batches stored legal.shaped true places g) where
   none_since : (log : List (List Record)) → Says g (commits_of s batches) s log stored → Says g (commits_of s batches + 0) s log stored

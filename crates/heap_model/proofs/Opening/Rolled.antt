@@ -23,7 +23,13 @@ use Rattle.page_redo.specs.Redo.{EachLacks, redone}
 use Rattle.page_redo.proofs.RedoLaws.{EachLacks-later, redone_words-append, length-redone}
 use Rattle.gated_log.specs.Log.{batches_bytes, records_of}
 use Rattle.object_layout.specs.Layout.{IsSeen}
-use Rattle.object_layout.specs.Walk.{IsWalked, HaveOwnBirths, AreBornBefore}
+use Rattle.object_layout.specs.CollectionWalk.{FromSpace, IsWalkedBeside}
+use Rattle.log_machine.proofs.StateLaws.{spaced_after_all}
+use Rattle.std.specs.FinMap as finmap
+use Rattle.walk_laws.specs.Births.{AreBornBeside}
+use Rattle.walk_laws.specs.Heap.{AreSpaces, IsStateWalked, from_space}
+use Rattle.heap_model.proofs.Opening.Lists.{from_space_lists}
+use Rattle.heap_model.specs.Bits.{AreOf64Bits}
 use Rattle.heap_model.specs.Core.{need}
 use Rattle.heap_model.proofs.Step.Room.{records_of-with_batch, length-with_batch, length-pending_batch-append}
 use Rattle.heap_model.specs.Image.{origin_of, redone_words, words_of, IsShapedLog, IsLegalLog, Shows, Says}
@@ -51,6 +57,10 @@ settled_reserve s = ap (λ (es : List Loser). sum_by (λ e. undo_bytes e.1) es) 
 
 -- The batches behind an opening.
 
+-- the space that a collection empties is the same where no writes may be taken back
+pub settled_from : (s : State) → from_space (settled s) ≡ from_space s
+settled_from s = from_space_lists s finmap.empty s.commits s.next
+
 module _ (s : Super) (batches : List (List Record)) (stored : Pages) (shaped : IsShapedLog s batches stored) where
   abbrev rs : List Record
   rs = records_of batches
@@ -59,7 +69,7 @@ module _ (s : Super) (batches : List (List Record)) (stored : Pages) (shaped : I
   taken = rollback shaped.state
 
   can : CanRollBack shaped.state
-  can = can_roll_back s.pages s.first shaped.state rs shaped.good shaped.reached
+  can = can_roll_back s.pages s.first shaped.state rs shaped.limits.some_pages shaped.limits.few_pages shaped.good shaped.reached
 
   -- the records that an opening appends, where the state is known
   pub rollback_is : rollback_of s batches ≡ rollback shaped.state
@@ -144,8 +154,22 @@ module _ (s : Super) (batches : List (List Record)) (stored : Pages) (shaped : I
       let fits = rolled_fits in
       omega arith
 
-  pub rolled_walked : IsWalked (words_of s (rolled_back s batches) stored) shaped.state.base shaped.state.used
-  rolled_walked = subst (λ ws. IsWalked ws shaped.state.base shaped.state.used) (sym words_of-rolled_back) shaped.walked
+  -- the words that are walked are those of both spaces
+  pub shaped_spaces : AreSpaces shaped.state (words_of s batches stored)
+  shaped_spaces =
+      let spaced = spaced_after_all s.pages s.first shaped.state rs shaped.limits.some_pages shaped.reached in
+      let same = spaced.0 in
+      let few = shaped.limits.few_pages in
+      record { spaced = spaced.1; long = ap length (sym rolled_words-is) ∙ length-rolled_words ∙ ap words_in (sym same); small = omega arith }
+
+  pub rolled_walked : IsStateWalked (settled shaped.state) (words_of s (rolled_back s batches) stored)
+  rolled_walked =
+      subst (λ (ws : List ℕ). IsStateWalked (settled shaped.state) ws) (sym words_of-rolled_back)
+      (subst (λ (from : Option FromSpace). IsWalkedBeside (words_of s batches stored) shaped.state.base shaped.state.used from) (sym (settled_from shaped.state)) shaped.walked)
+
+  -- each word has 64 bits
+  pub rolled_fit : AreOf64Bits (rolled_words s batches stored)
+  rolled_fit = subst AreOf64Bits (sym rolled_words-is) shaped.fit
 
   -- so they are a shaped log
   abbrev pub rolled_shaped : IsShapedLog s (rolled_back s batches) stored
@@ -161,16 +185,20 @@ module _ (s : Super) (batches : List (List Record)) (stored : Pages) (shaped : I
         size = shaped.size;
         lsns_size = shaped.lsns_size;
         behind = rolled_behind;
+        fit = subst AreOf64Bits (sym words_of-rolled_back) shaped.fit;
         walked = rolled_walked;
       }
 
 -- the walk passes in words, and births are what they must be
-abbrev Walks : State → List ℕ → Type 0
-Walks state words = (walked : IsWalked words state.base state.used) × HaveOwnBirths words walked.starts × AreBornBefore state.next words state.base walked.starts
+abbrev Walks : ℕ → List ℕ → ℕ → ℕ → Option FromSpace → Type 0
+Walks next words base used from = (walked : IsWalkedBeside words base used from) × AreBornBeside next words base used from walked
 
 module _ (s : Super) (batches : List (List Record)) (stored : Pages) (legal : IsLegalLog s batches stored) where
-  pub rolled_walks : Walks (settled legal.shaped.state) (words_of s (rolled_back s batches) stored)
-  rolled_walks = subst (Walks (settled legal.shaped.state)) (sym (words_of-rolled_back s batches stored legal.shaped)) (legal.shaped.walked, legal.own_births, legal.born_before)
+  pub rolled_walks : Walks legal.shaped.state.next (words_of s (rolled_back s batches) stored) legal.shaped.state.base legal.shaped.state.used (from_space (settled legal.shaped.state))
+  rolled_walks =
+      let state = legal.shaped.state in
+      subst (λ (ws : List ℕ). Walks state.next ws state.base state.used (from_space (settled state))) (sym (words_of-rolled_back s batches stored legal.shaped))
+      (subst (λ (from : Option FromSpace). Walks state.next (words_of s batches stored) state.base state.used from) (sym (settled_from state)) (legal.shaped.walked, legal.births))
 
   -- each page holds as many of its records as its LSN says
   pub rolled_prefixes : EachHoldsPrefix (origin_of s) (records_of (rolled_back s batches)) stored
@@ -192,11 +220,11 @@ module _ (s : Super) (batches : List (List Record)) (stored : Pages) (legal : Is
           size = shaped.size;
           lsns_size = shaped.lsns_size;
           behind = shaped.behind;
+          fit = shaped.fit;
           walked = rolled_walks.0;
         };
         prefixes = rolled_prefixes;
-        own_births = rolled_walks.1;
-        born_before = rolled_walks.2;
+        births = rolled_walks.1;
       }
 
   -- in which the same graphs are seen

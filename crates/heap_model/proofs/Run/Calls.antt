@@ -1,8 +1,8 @@
 -- What each step of a core keeps: what it was opened with, its history with one entry more, and a failure.
 use Rattle.std.specs.Prelude.{if◌then◌else◌}
-use Rattle.std.proofs.Common.{◌≡◌, ◌≢◌, ◌<◌, arith, inl, inr, ℕ, Bool, true, false, List, [], ◌∷◌, ◌++◌, Option, Some, None, refl, sym, ap, ◌∙◌, subst}
+use Rattle.std.proofs.Common.{◌≡◌, ◌<◌, arith, inl, inr, ℕ, Bool, true, false, List, [], ◌∷◌, ◌++◌, Option, Some, None, refl, sym, ap, ◌∙◌, subst}
 use Rattle.graph_model.specs.declared.event.Event.{Event}
-use Rattle.graph_model.specs.declared.event.Event.TheVariants.{Force, Flush}
+use Rattle.graph_model.specs.declared.event.Event.TheVariants.{Force, Flip, Scan, Flush}
 use Rattle.graph_model.specs.declared.reply.Entry.{Entry}
 use Rattle.graph_model.specs.declared.reply.Refusal.{Refusal}
 use Rattle.graph_model.specs.declared.reply.Refusal.TheVariants.{Failed}
@@ -11,8 +11,9 @@ use Rattle.graph_model.specs.declared.reply.Reply.TheVariants.{Refused}
 use Rattle.graph_model.specs.History.{account}
 use Rattle.graph_model.specs.Plain.{model_refusal, first_of_two, refusal_of, reply_of}
 use Rattle.log_records.specs.declared.Record.{Record}
-use Rattle.heap_model.specs.Core.{Core, next_number, words_refusal, log_refusal, core_refusal, granted_by, answer, with_entry, is_dirty, is_ahead, forced, forced_if, page_stored, done, after_refusal, after, force_calls, AsksDisk, calls_if, calls, IsStep, IsRun}
+use Rattle.heap_model.specs.Core.{Core, next_number, words_refusal, log_refusal, core_refusal, granted_by, answer, with_entry, is_dirty, is_ahead, forced, forced_if, page_stored, moved, own_records, barrier_records, done, after_refusal, after, force_calls, AsksDisk, calls_if, calls, IsStep, IsRun}
 use Rattle.heap_model.proofs.Run.Opening.{SameOpening}
+use Rattle.heap_model.proofs.Step.Moved.{moved_keeps}
 use Rattle.heap_model.proofs.Step.Step.{done_history}
 
 -- a core that has failed refuses everything
@@ -63,6 +64,9 @@ same_forced : (c : Core) (p : List Record) → SameOpening c (forced c p)
 same_forced c [] = record { pages = refl; room = refl; first_number = refl; first = refl; g0 = refl; born = refl; before = refl }
 same_forced c (r ∷ rs) = record { pages = refl; room = refl; first_number = refl; first = refl; g0 = refl; born = refl; before = refl }
 
+same_moved : (c : Core) (rs : List Record) → SameOpening c (moved c rs)
+same_moved c rs = moved_keeps (SameOpening c) c rs (record { pages = refl; room = refl; first_number = refl; first = refl; g0 = refl; born = refl; before = refl })
+
 same_done : (c : Core) (event : Event) → SameOpening c (done c event)
 same_done c Force = same_forced c c.pending
 same_done c (Flush p) = same_flushed (is_dirty c p) (is_ahead c p)
@@ -71,7 +75,9 @@ same_done c (Flush p) = same_flushed (is_dirty c p) (is_ahead c p)
     same_flushed true true = let same = same_forced c c.pending in record { pages = same.pages; room = same.room; first_number = same.first_number; first = same.first; g0 = same.g0; born = same.born; before = same.before }
     same_flushed true false = record { pages = refl; room = refl; first_number = refl; first = refl; g0 = refl; born = refl; before = refl }
     same_flushed false ahead = record { pages = refl; room = refl; first_number = refl; first = refl; g0 = refl; born = refl; before = refl }
-same_done c event = record { pages = refl; room = refl; first_number = refl; first = refl; g0 = refl; born = refl; before = refl }
+same_done c Flip = same_moved c (own_records c Flip)
+same_done c Scan = same_moved c (own_records c Scan)
+same_done c event = let b = same_moved c (barrier_records c event) in record { pages = b.pages; room = b.room; first_number = b.first_number; first = b.first; g0 = b.g0; born = b.born; before = b.before }
 
 same_refusal : (o : Option Refusal) (c : Core) (event : Event) → SameOpening c (after_refusal o c event)
 same_refusal None c event = same_done c event

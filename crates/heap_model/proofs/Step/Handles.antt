@@ -1,12 +1,12 @@
 -- The handles of a transaction hold objects at hand: those that stand in the current space, and those that it has made.
-use Rattle.std.proofs.Common.{◌≡◌, inl, inr, ℕ, zero, suc, true, ◌≤◌, List, [], ◌∷◌, replicate, Option, Some, None, is_some, refl, ap, subst, arith}
+use Rattle.std.proofs.Common.{◌≡◌, inl, inr, ℕ, zero, suc, true, ◌≤◌, List, [], ◌∷◌, replicate, Option, Some, None, is_some, subst, arith}
 use Rattle.std.specs.Prelude.{slice_index_or}
 use Rattle.std.specs.List.{AllByRecursion}
 use Rattle.graph_model.specs.declared.id.Id.{Id}
 use Rattle.graph_model.specs.declared.val.Val.{Val}
 use Rattle.graph_model.specs.declared.val.Val.TheVariants.{Null, Int, Ref}
 use Rattle.graph_model.specs.declared.event.Event.{Event}
-use Rattle.graph_model.specs.declared.event.Event.TheVariants.{Begin, Root, New, Put, Clear, Link, Drop, Get, Same, Len, Seal, Abort, Force, Flush}
+use Rattle.graph_model.specs.declared.event.Event.TheVariants.{Begin, Root, New, Put, Clear, Link, Drop, Get, Same, Len, Seal, Abort, Force, Flip, Scan, Flush}
 use Rattle.graph_model.specs.Graph.{Graph, root, fields}
 use Rattle.graph_model.specs.Transaction.{View, Registers, held, fields_of, with_referred, call}
 use Rattle.graph_words.specs.Places.{Places, IsAtHand, IsVisible, address_of}
@@ -16,7 +16,7 @@ use Rattle.graph_words.specs.Area.{HasMade}
 use Rattle.graph_words.specs.Stands.{Stands}
 use Rattle.graph_words.proofs.Stands.Visible.{more_at_hand}
 use Rattle.heap_model.specs.CoreTold.{HoldsAtHand}
-use Rattle.heap_model.proofs.ListLaws.{AllByRecursion-set, AllByRecursion-at, AllByRecursion-map}
+use Rattle.heap_model.proofs.ListLaws.{AllByRecursion-set, AllByRecursion-map}
 
 -- all handles hold objects at hand
 abbrev pub HoldAllAtHand : Places → ℕ → ℕ → Registers → Type 0
@@ -80,4 +80,6 @@ call_at_hand places t made v rooted all (Len s h) reads same = all
 call_at_hand places t made v rooted all (Seal s) reads same = all
 call_at_hand places t made v rooted all (Abort s) reads same = all
 call_at_hand places t made v rooted all Force reads same = all
+call_at_hand places t made v rooted all Flip reads same = all
+call_at_hand places t made v rooted all Scan reads same = all
 call_at_hand places t made v rooted all (Flush p) reads same = all

@@ -1,9 +1,9 @@
 -- A core's words stay those that its log leaves, and the pages stored beside it may stay there: a step appends records, and only a flush changes
 -- a page.
 use Rattle.std.specs.Prelude.{if◌then◌else◌, fold}
-use Rattle.std.proofs.Common.{◌≡◌, ◌≢◌, inl, inr, ℕ, Bool, true, false, List, [], ◌∷◌, ◌++◌, Option, None, Some, refl, sym, ap, ◌∙◌, subst, append_assoc}
+use Rattle.std.proofs.Common.{◌≡◌, ◌≢◌, inl, inr, ℕ, Bool, true, false, List, [], ◌∷◌, Option, None, Some, refl, sym, ap, ◌∙◌, subst}
 use Rattle.graph_model.specs.declared.event.Event.{Event}
-use Rattle.graph_model.specs.declared.event.Event.TheVariants.{Force, Flush}
+use Rattle.graph_model.specs.declared.event.Event.TheVariants.{Force, Flip, Scan, Flush}
 use Rattle.graph_model.specs.declared.reply.Refusal.{Refusal}
 use Rattle.graph_model.specs.declared.reply.Reply.{Reply}
 use Rattle.image_plan.specs.declared.superblock.Super.{Super}
@@ -15,9 +15,10 @@ use Rattle.gated_log.specs.Log.{records_of}
 use Rattle.page_redo.specs.Pages.{Pages}
 use Rattle.page_redo.specs.Prefix.{EachHoldsPrefix}
 use Rattle.page_redo.proofs.PrefixLaws.{EachHoldsPrefix-append}
-use Rattle.heap_model.specs.Core.{Core, log_origin, all_words, all_records, answer, core_refusal, with_entry, is_dirty, is_ahead, forced, forced_if, page_stored, done, after_refusal, after, IsStep, IsRun}
+use Rattle.heap_model.specs.Core.{Core, log_origin, all_words, all_records, answer, core_refusal, with_entry, is_dirty, is_ahead, forced, forced_if, page_stored, moved, own_records, barrier_records, done, after_refusal, after, IsStep, IsRun}
 use Rattle.heap_model.specs.CoreCrash.{HasLogWords, IsLogged, IsSuperOf}
 use Rattle.heap_model.specs.Image.{origin_of}
+use Rattle.heap_model.proofs.Step.Moved.{moved_keeps}
 use Rattle.heap_model.proofs.Step.Room.{records_of-append}
 
 -- the log of a core begins where that of its superblock does
@@ -43,7 +44,9 @@ words_flushed c p false ahead logged = logged
 words_done : (c : Core) (event : Event) → HasLogWords c → HasLogWords (done c event)
 words_done c Force logged = words_forced c c.pending logged
 words_done c (Flush p) logged = words_flushed c p (is_dirty c p) (is_ahead c p) logged
-words_done c event logged = logged
+words_done c Flip logged = moved_keeps HasLogWords c (own_records c Flip) logged
+words_done c Scan logged = moved_keeps HasLogWords c (own_records c Scan) logged
+words_done c event logged = moved_keeps HasLogWords c (barrier_records c event) logged
 
 words_after : (why : Option Refusal) (c : Core) (event : Event) → HasLogWords c → HasLogWords (after_refusal why c event)
 words_after None c event logged = words_done c event logged
@@ -65,10 +68,16 @@ logged_forced c stored (r ∷ rs) logged =
       lsns = logged.lsns;
     }
 
+-- so do records of a collection
+logged_moved : (c : Core) (stored : Pages) (rs : List Record) → IsLogged c stored → IsLogged (moved c rs) stored
+logged_moved c stored rs logged = moved_keeps (λ d. IsLogged d stored) c rs (record { words = logged.words; prefixes = logged.prefixes; lsns = logged.lsns })
+
 logged_done : (c : Core) (stored : Pages) (event : Event) → ((p : ℕ) → event ≢ Flush p) → IsLogged c stored → IsLogged (done c event) stored
 logged_done c stored Force other logged = logged_forced c stored c.pending logged
 logged_done c stored (Flush p) other logged = absurd (other p refl)
-logged_done c stored event other logged = record { words = logged.words; prefixes = logged.prefixes; lsns = logged.lsns }
+logged_done c stored Flip other logged = logged_moved c stored (own_records c Flip) logged
+logged_done c stored Scan other logged = logged_moved c stored (own_records c Scan) logged
+logged_done c stored event other logged = let b = logged_moved c stored (barrier_records c event) logged in record { words = b.words; prefixes = b.prefixes; lsns = b.lsns }
 
 logged_refusal : (why : Option Refusal) (c : Core) (stored : Pages) (event : Event) → ((p : ℕ) → event ≢ Flush p) → IsLogged c stored → IsLogged (after_refusal why c event) stored
 logged_refusal None c stored event other logged = logged_done c stored event other logged

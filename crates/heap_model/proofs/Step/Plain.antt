@@ -1,14 +1,21 @@
 -- What records tell where no collection is under way: the completed words are the words, and objects stand there where they do.
-use Rattle.std.proofs.Common.{◌≡◌, ℕ, ◌+◌, inl, inr, Bool, List, None, Some, refl, sym, ◌∙◌, subst, arith}
+use Rattle.std.proofs.Common.{◌≡◌, ℕ, ◌+◌, inl, inr, Bool, List, ◌++◌, None, Some, refl, sym, ap, ◌∙◌, subst, arith}
 use Rattle.std.specs.Prelude.{IsTrue}
+use Rattle.std.proofs.lemmas.List.{append-nil}
 use Rattle.graph_model.specs.Graph.{Graph}
 use Rattle.log_records.specs.declared.Record.{Record}
-use Rattle.log_machine.proofs.NoCollection.{none_after_all}
-use Rattle.log_machine.specs.Machine.{State, all_taken_back, owed, start}
+use Rattle.log_machine.specs.Machine.{State, all_taken_back, losing, owed, start, taken_back}
 use Rattle.graph_words.specs.Places.{AreOld, Places}
 use Rattle.graph_words.specs.Stands.{AreNamedByBirth, StandsCommitted}
 use Rattle.collection_words.specs.Completed.{completed, completed_places}
 use Rattle.collection_words.proofs.Heap.Cases.{HasNone, IsPlain, heap_cases, plain}
+use Rattle.collection_words.proofs.Laid.TakenBack.{each_taken_back-list}
+use Rattle.collection_words.specs.LaidOut.{AreHeapWords}
+use Rattle.walk_laws.specs.Births.{HasOriginals}
+use Rattle.walk_laws.specs.Heap.{TellsBirths}
+use Rattle.seen_laws.specs.Heap.{AreAllBacked}
+use Rattle.seen_laws.proofs.Births.{births_kept}
+use Rattle.seen_laws.proofs.States.{backed_all, writes_of_all}
 use Rattle.heap_model.specs.CoreTold.{IsTold}
 
 -- what holds of the completed words holds of the words
@@ -29,25 +36,25 @@ of_plain {s} {places} {remaining} {words} P is holds =
     (subst (λ (ws : List ℕ). P places ws (s.used + owed s)) (sym is.words_are)
     (subst (λ (n : ℕ). P places words n) size holds))
 
--- no record that can follow begins a collection
-pub told_none : {pages first_number : ℕ} {born : Bool} {places remaining : Places} {g : Graph} {k : ℕ} {records : List Record} {words : List ℕ} {state : State}
-    → IsTold (start pages first_number) born places remaining g k records words state → HasNone state remaining
-told_none {pages} {first_number} {records = records} {state = state} told = elim (heap_cases told.heap) [
-  | inl none ↦ none
-  | inr runs ↦ let never : None ≡ Some runs.0 = sym (none_after_all (start pages first_number) state records refl told.reached) ∙ runs.1.run in absurd (cc never)
-]
+-- births that name the objects in the words without what was written name them in the words
+pub plain_tells : (state : State) (places remaining : Places) (words : List ℕ) → AreHeapWords state places remaining words → AreAllBacked state places words → HasNone state remaining
+    → AreNamedByBirth places (all_taken_back state words) → TellsBirths state places remaining words
+plain_tells state places remaining words heap backed none names =
+    let back = writes_of_all (losing state) in
+    let all : places ++ remaining ≡ places = ap (λ (ps : Places). places ++ ps) none.left ∙ append-nil places in
+    record {
+      names = (births_kept back (record { spaced = heap.spaced; long = heap.long; laid = heap.laid }) (backed_all state places words backed)).0
+          (subst (λ (ps : Places). AreNamedByBirth ps (taken_back back words)) (sym all)
+          (subst (λ (ws : List ℕ). AreNamedByBirth places ws) (each_taken_back-list (losing state) words) names));
+      originals = subst (HasOriginals state words) (sym none.none) tt;
+    }
 
-module _ {pages first_number : ℕ} {born : Bool} {places remaining : Places} {g : Graph} {k : ℕ} {records : List Record} {words : List ℕ} {state : State}
-    (told : IsTold (start pages first_number) born places remaining g k records words state) where
-  pub told_plain : IsPlain state places remaining words
-  told_plain = plain state places remaining words (told_none told)
-
-  -- the graph stands in the words
-  pub plain_stands : StandsCommitted places g (all_taken_back state words) state.base state.used
-  plain_stands = as_plain (λ ps ws n. StandsCommitted ps g (all_taken_back state ws) state.base n) told_plain told.stands
-
-  pub plain_old : AreOld state.next places
-  plain_old = as_plain (λ ps ws n. AreOld state.next ps) told_plain told.old
-
-  pub plain_births : IsTrue born → AreNamedByBirth places (all_taken_back state words)
-  plain_births by_birth = as_plain (λ ps ws n. AreNamedByBirth ps (all_taken_back state ws)) told_plain (told.births by_birth)
+-- and the other way round
+pub plain_names : (state : State) (places remaining : Places) (words : List ℕ) → AreHeapWords state places remaining words → AreAllBacked state places words → HasNone state remaining
+    → TellsBirths state places remaining words → AreNamedByBirth places (all_taken_back state words)
+plain_names state places remaining words heap backed none tells =
+    let back = writes_of_all (losing state) in
+    let all : places ++ remaining ≡ places = ap (λ (ps : Places). places ++ ps) none.left ∙ append-nil places in
+    subst (λ (ps : Places). AreNamedByBirth ps (all_taken_back state words)) all
+    (subst (λ (ws : List ℕ). AreNamedByBirth (places ++ remaining) ws) (sym (each_taken_back-list (losing state) words))
+    ((births_kept back (record { spaced = heap.spaced; long = heap.long; laid = heap.laid }) (backed_all state places words backed)).1 tells.names))

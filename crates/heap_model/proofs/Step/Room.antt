@@ -1,5 +1,5 @@
 -- Laws of the log's room: what records take, and when the log has room for an event.
-use Rattle.std.proofs.Common.{◌≡◌, sym, ℕ, ◌+◌, ◌≤◌, Bool, true, false, cond, List, [], ◌∷◌, ◌++◌, length, Some, None, refl, ap, ◌∙◌, arith, length-append}
+use Rattle.std.proofs.Common.{◌≡◌, sym, ℕ, ◌+◌, ◌≤◌, Bool, true, false, cond, List, [], ◌∷◌, ◌++◌, length, Some, None, refl, ap, ◌∙◌, arith, append_assoc, length-append}
 use Rattle.std.specs.Prelude.{nat_lt, fold}
 use Rattle.std.specs.Int.{w32, to_le_bytes}
 use Rattle.std.proofs.lemmas.Bool.{le-ltb, ltb-false}
@@ -40,6 +40,15 @@ length-pending_batch-append (p ∷ ps) (r ∷ rs) =
     let all = length_pending_batch p (ps ++ (r ∷ rs)) in
     let front = length_pending_batch p ps in
     let parts = length_spellings (p ∷ ps) (r ∷ rs) in
+    omega arith
+
+-- records take what the first of them and then the others take
+pub need-parts : (pending first second : List Record) → need pending (first ++ second) ≡ need pending first + need (pending ++ first) second
+need-parts pending first second =
+    let whole = length-pending_batch-append pending (first ++ second) in
+    let front = length-pending_batch-append pending first in
+    let behind = length-pending_batch-append (pending ++ first) second in
+    let same = ap (λ (l : List Record). length (pending_batch l)) (append_assoc pending first second) in
     omega arith
 
 length_batches : (bs : List (List Record)) (b : List Record) → length (batches_bytes (bs ++ b ∷ [])) ≡ length (batches_bytes bs) + (5 + length (spellings b))

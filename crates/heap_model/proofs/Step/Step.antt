@@ -1,7 +1,7 @@
 -- Why a core refuses an event is no fault of the disk, and an event says nothing to the history until it is answered.
 use Rattle.std.proofs.Common.{◌≡◌, ℕ, ◌-◌, ◌*◌, Bool, true, false, cond, List, [], ◌∷◌, Option, Some, None, refl}
 use Rattle.graph_model.specs.declared.event.Event.{Event}
-use Rattle.graph_model.specs.declared.event.Event.TheVariants.{New, Seal, Force, Flush}
+use Rattle.graph_model.specs.declared.event.Event.TheVariants.{New, Seal, Force, Flip, Scan, Flush}
 use Rattle.graph_model.specs.declared.reply.Refusal.{Refusal}
 use Rattle.graph_model.specs.declared.reply.Refusal.TheVariants.{NoSuchPage, VolatileFull, Exhausted, LogFull}
 use Rattle.graph_model.specs.Graph.{Graph}
@@ -12,7 +12,8 @@ use Rattle.graph_model.proofs.Refusals.Plain.{HasNoFault, model_no_fault}
 use Rattle.log_records.specs.declared.Record.{Record}
 use Rattle.log_machine.specs.Machine.{owed, State}
 use Rattle.std.specs.Prelude.{if◌then◌else◌}
-use Rattle.heap_model.specs.Core.{Core, Ground, ground, next_number, used, need, space_refusal, seal_need, page_refusal, room_refusal, words_refusal, log_refusal, core_refusal, is_dirty, is_ahead, forced, forced_if, page_stored, done}
+use Rattle.heap_model.specs.Core.{Core, Ground, ground, next_number, used, need, space_refusal, seal_need, page_refusal, room_refusal, words_refusal, log_refusal, core_refusal, is_dirty, is_ahead, forced, forced_if, page_stored, own_records, barrier_records, done}
+use Rattle.heap_model.proofs.Step.Moved.{moved_history}
 
 full_no_fault : (b : Bool) (used more kept : ℕ) → HasNoFault (cond b (Some (LogFull used more kept)) None)
 full_no_fault true used more kept = tt
@@ -73,4 +74,6 @@ done_history c (Flush p) = flushed_history (is_dirty c p) (is_ahead c p)
     flushed_history true true = forced_history c c.pending
     flushed_history true false = refl
     flushed_history false ahead = refl
-done_history c event = refl
+done_history c Flip = moved_history c (own_records c Flip)
+done_history c Scan = moved_history c (own_records c Scan)
+done_history c event = moved_history c (barrier_records c event)

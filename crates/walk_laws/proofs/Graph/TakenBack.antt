@@ -24,7 +24,7 @@ pub spaces_back : (s : State) (words : List ℕ) (us : List UndoEntry) → AreSp
 spaces_back s words us spaces = record { spaced = spaces.spaced; long = length-taken_back us words ∙ spaces.long; small = spaces.small }
 
 -- words in which a committed graph stands are laid out
-committed_laid : (s : State) (places : Places) (words : List ℕ) (g : Graph) → s.collection ≡ None → StandsCommitted places g words s.base s.used → IsLaidOut s places [] words
+pub committed_laid : (s : State) (places : Places) (words : List ℕ) (g : Graph) → s.collection ≡ None → StandsCommitted places g words s.base s.used → IsLaidOut s places [] words
 committed_laid s places words g none stands =
     let nothing : Places = [] in
     record {
