@@ -1,3 +1,4 @@
+pub mod Collecting
 pub mod Leaves
 pub mod Memory
 pub mod Refusals

@@ -11,6 +11,7 @@ use Rattle.log_machine.specs.Machine.{end_bytes}
 use Rattle.object_layout.specs.Layout.{field_words}
 use Rattle.volatile_area.specs.Area.{AreaState, starts_of}
 use Rattle.page_store.specs.declared.store.PageStore.{PageStore}
+use Rattle.heap_spaces.specs.Collection.{Collection}
 use Rattle.heap_spaces.specs.Spaces.{SpacesState}
 use Rattle.object_locks.specs.Holdings.{Holdings}
 use Rattle.txn_table.specs.declared.place.Place.{Place}
@@ -24,6 +25,7 @@ pub record Memory : Type 0 where
   pub lsns : List ℕ  -- the LSN of each page
   pub store : PageStore  -- with which LSN, and in which frame, each page is stored
   pub spaces : SpacesState  -- which words of the current space are taken
+  pub collection : Option Collection  -- the collection that runs, if one does
   pub table : TableState  -- the transactions of the sessions that have not ended, and the number of the next
   pub locks : Holdings  -- the locks that these hold on objects of the current space
   pub sealed : ℕ  -- how many transactions were sealed since the heap was opened

@@ -1,5 +1,5 @@
 -- Why an event of a session is refused, by what is kept in memory.
-use Rattle.std.specs.Prelude.{ℕ, ◌+◌, ◌-◌, ◌==◌, nat_lt, nat_le, List, length, Option, None, Some, Result, Ok, Err, is_some, if◌then◌else◌}
+use Rattle.std.specs.Prelude.{ℕ, ◌+◌, ◌-◌, ◌==◌, nat_lt, nat_le, List, [], ◌∷◌, length, Option, None, Some, Result, Ok, Err, is_some, if◌then◌else◌}
 use Rattle.gated_log.specs.declared.log.Log.{Log}
 use Rattle.gated_log.specs.LogState.{log_room, log_used, log_need}
 use Rattle.graph_model.specs.declared.reply.Refusal.{Refusal}
@@ -20,6 +20,7 @@ pub use Rattle.object_locks.specs.Holder.{holder_of}
 use Rattle.graph_words.specs.Promotion.{promoted_need, seal_records}
 use Rattle.heap_model.specs.Core.{full_log}
 use Rattle.heap_memory.specs.Memory.{Memory, own, reserved, fields_at, held_place}
+use Rattle.heap_memory.specs.Collecting.{barrier_records, place_barrier, flip_records, scan_event_records}
 
 -- why the log has no room, by what an event needs and what is kept after it
 abbrev pub no_room : Log → ℕ → ℕ → Option Refusal
@@ -58,15 +59,20 @@ abbrev pub lock_refusal : Holdings → TransactionState → Mode → Place → O
 lock_refusal locks t mode (Stable at) = busy_with (holder_of locks (asked t.number mode at))
 lock_refusal locks t mode (Volatile at) = None
 
--- why the log has no room for a write into the object at a place: one into a transaction's area needs none
-abbrev pub write_room : Memory → Place → Option Refusal
-write_room m (Stable at) = no_room m.log (log_need m.log 27) (reserved m.table + 19)
-write_room m (Volatile at) = None
+-- why the log has no room for these records, if there are any, where what is kept stays
+abbrev pub records_room : Memory → List Record → Option Refusal
+records_room m [] = None
+records_room m (r ∷ rs) = no_room m.log (log_need m.log (length (spellings (r ∷ rs)))) (reserved m.table)
+
+-- why the log has no room for a write into field i of the object at a place, with the scan before it: one into a transaction's area needs none
+abbrev pub write_room : Memory → Place → ℕ → Option Refusal
+write_room m (Stable at) i = no_room m.log (log_need m.log (length (spellings (barrier_records m at i)) + 27)) (reserved m.table + 19)
+write_room m (Volatile at) i = None
 
 abbrev pub write_refusal_of : Memory → Option TransactionState → Place → ℕ → Option Refusal
 write_refusal_of m None p i = Some NotActive
 write_refusal_of m (Some t) p i =
-    first_of_two (field_refusal (length (fields_at m.words t.area p)) i) (first_of_two (lock_refusal m.locks t Exclusive p) (write_room m p))
+    first_of_two (field_refusal (length (fields_at m.words t.area p)) i) (first_of_two (lock_refusal m.locks t Exclusive p) (write_room m p i))
 
 -- why a word can't be put into a field of the object at a place
 abbrev pub write_refusal : Memory → ℕ → Place → ℕ → Option Refusal
@@ -83,7 +89,8 @@ link_refusal m s h i h2 = and_then (held_place (own m s) h) (λ p. and_then (hel
 
 abbrev pub read_refusal_of : Memory → Option TransactionState → Place → ℕ → Option Refusal
 read_refusal_of m None p i = Some NotActive
-read_refusal_of m (Some t) p i = first_of_two (field_refusal (length (fields_at m.words t.area p)) i) (lock_refusal m.locks t Shared p)
+read_refusal_of m (Some t) p i =
+    first_of_two (field_refusal (length (fields_at m.words t.area p)) i) (first_of_two (lock_refusal m.locks t Shared p) (records_room m (place_barrier m p i)))
 
 abbrev pub get_refusal : Memory → ℕ → ℕ → ℕ → ℕ → Option Refusal
 get_refusal m s h i h2 = first_of_two (handle_refusal (own m s) h2) (and_then (held_place (own m s) h) (λ p. read_refusal_of m (own m s) p i))
@@ -130,3 +137,11 @@ seal_refusal_of m (Some t) =
 
 abbrev pub seal_refusal : Memory → ℕ → Option Refusal
 seal_refusal m s = seal_refusal_of m (own m s)
+
+-- why no collection can begin that has these roots
+abbrev pub flip_refusal : Memory → List ℕ → Option Refusal
+flip_refusal m roots = if is_some m.collection then None else records_room m (flip_records m roots)
+
+-- why there can be no scan, whose next page is this
+abbrev pub scan_refusal : Memory → Option ℕ → Option Refusal
+scan_refusal m next = records_room m (scan_event_records m m.collection next)

@@ -4,5 +4,6 @@ pub mod Held
 pub mod Locks
 pub mod Log
 pub mod Pages
+pub mod Parts
 pub mod Same
 pub mod Writes

@@ -1,3 +1,5 @@
+pub mod Behind
+pub mod Collecting
 pub mod Does
 pub mod Kept
 pub mod Refusal

@@ -11,3 +11,4 @@ pub mod Reads
 pub mod Same
 pub mod Seal
 pub mod Writes
+pub mod Wrote

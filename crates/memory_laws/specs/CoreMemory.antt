@@ -16,6 +16,7 @@ use Rattle.log_machine.specs.Machine.{State, spaces_of}
 use Rattle.page_redo.specs.Pages.{pages_in}
 use Rattle.page_store.specs.declared.store.PageStore.{PageStore}
 use Rattle.page_store.specs.StoreState.{store_plan, stored_lsn, has_failed}
+use Rattle.heap_spaces.specs.Collection.{Collection}
 use Rattle.heap_spaces.specs.Spaces.{SpacesState}
 use Rattle.object_locks.specs.declared.holding.Holding.{Holding}
 use Rattle.object_locks.specs.declared.holding.Mode as table
@@ -77,11 +78,13 @@ pub record ArePages (lsns : List ℕ) (store : PageStore) (pages log_bytes : ℕ
 abbrev pub PagesAgree : Memory → Core → Type 0
 PagesAgree m c = ArePages m.lsns m.store c.pages c.room (present_lsn c) c.stored_lsns
 
--- The spaces, transactions and locks in memory are those of a history that tells this account, where it finds the heap so.
-pub record AreSessions (current : SpacesState) (table : TableState) (held : Holdings) (count : ℕ) (ground : Ground) (g0 : Graph) (first : ℕ) (a : Account) : Type 0 where
+-- The spaces, the collection, the transactions and the locks in memory are those of a history that tells this account, where it finds the heap
+-- so.
+pub record AreSessions (current : SpacesState) (runs : Option Collection) (table : TableState) (held : Holdings) (count : ℕ) (ground : Ground) (g0 : Graph) (first : ℕ) (a : Account) : Type 0 where
   pub state : State
   pub reached : ground.state ≡ Some state
   pub spaces : current ≡ spaces_of state
+  pub collection : runs ≡ state.collection
   pub transactions : (s : ℕ) → transaction_of table s ≡ kept_of ground g0 a (a.active s)
   pub locks : AreHeld held ground.places g0 a
   pub next : table.next ≡ first + a.begun
@@ -89,7 +92,7 @@ pub record AreSessions (current : SpacesState) (table : TableState) (held : Hold
 
 -- those in memory are a core's
 abbrev pub SessionsAgree : Memory → Account → Core → Type 0
-SessionsAgree m a c = AreSessions m.spaces m.table m.locks m.sealed (ground c) c.g0 c.first a
+SessionsAgree m a c = AreSessions m.spaces m.collection m.table m.locks m.sealed (ground c) c.g0 c.first a
 
 -- What is kept in memory is that of a core whose history tells this account.
 pub record IsMemory (m : Memory) (a : Account) (c : Core) : Type 0 where

@@ -14,6 +14,7 @@ use Rattle.graph_model.specs.Locking.{IsFree, Shared}
 use Rattle.graph_model.specs.Plain.{view}
 use Rattle.graph_model.specs.Transaction.{Registers, View, Transaction, held, run}
 use Rattle.commit_order.proofs.OrderLaws.{two_phase_ordered}
+use Rattle.heap_spaces.specs.Collection.{Collection}
 use Rattle.object_layout.specs.Layout.{field_words}
 use Rattle.volatile_area.specs.Area.{starts_of, AreaState}
 use Rattle.log_machine.specs.declared.UndoEntry.{UndoEntry}
@@ -26,12 +27,14 @@ use Rattle.graph_words.proofs.Area.State.{starts_of-area_of, own_words}
 use Rattle.graph_words.proofs.Area.Made.{own_apart}
 use Rattle.graph_words.specs.Places.{Places, address_of, index_of, standing, place_of, bits_of, IsAtHand, IsOwn}
 use Rattle.graph_words.proofs.Places.Addresses.{some_address}
+use Rattle.collection_words.specs.LaidOut.{is_gray}
 use Rattle.heap_model.specs.Core.{Core, all_words, area_in}
 use Rattle.core_laws.proofs.Sessions.Apart.{length_now, fields_now}
 use Rattle.core_laws.proofs.Step.Goes.{writing_of}
 use Rattle.core_laws.specs.Valid.{IsValid, RunsLocked}
 use Rattle.heap_memory.specs.Memory.{place_word, fields_at, held_in, held_or, held_place, Memory}
-use Rattle.memory_laws.specs.CoreMemory.{standing_place, place_in, kept, IsMemory}
+use Rattle.memory_laws.specs.CoreMemory.{standing_place, place_in, kept}
+use Rattle.memory_laws.proofs.Kept.Parts.{Works}
 
 -- the word of a reference to a place is that of the object there
 pub standing_word : (o : Option ℕ) (index : ℕ) → place_word (standing_place o index) ≡ standing o index
@@ -86,12 +89,16 @@ own_fields_at {places} {g} {t} {made} has words id own =
     ∙ ap (λ b. cond b (field_words area.words (index_of g id)) []) (own_listed has id own)
     ∙ own_words has id own
 
+-- No field of an object is gray, where it stands in the current space.
+abbrev pub IsBlack : Places → Option Collection → Id → Type 0
+IsBlack places runs id = (at : ℕ) → address_of places id ≡ Some at → (i : ℕ) → is_gray runs at i ≡ false
+
 -- the place that a handle holds
 pub held_place-kept : (places : Places) (g : Graph) (t : Transaction) (undo : List UndoEntry) (h : ℕ)
     → held_place (Some (kept places (run g t) t.number undo)) h ≡ held_or (option_map (place_in places (run g t).graph) (held (run g t).registers h))
 held_place-kept places g t undo h = ap held_or (held_in-kept places (run g t) t.number undo h (length-registers-run g t))
 
-module _ (m : Memory) (c : Core) (valid : IsValid c) (runs : RunsLocked c.g0 c.first c.history) (is : IsMemory m (account c.history) c) (s : ℕ) (t : Transaction)
+module _ (m : Memory) (c : Core) (valid : IsValid c) (runs : RunsLocked c.g0 c.first c.history) (is : Works m (account c.history) c) (s : ℕ) (t : Transaction)
     (active : (account c.history).active s ≡ Some t) where
   -- what the history says
   abbrev a : Account
@@ -118,10 +125,10 @@ module _ (m : Memory) (c : Core) (valid : IsValid c) (runs : RunsLocked c.g0 c.f
   length-fields_at_hand id (inr own) =
       ap (λ (ws : List ℕ). length ws) (own_fields_at (writing_of a c s t active valid).made m.words id own) ∙ length-map (fields v.graph id) (bits_of (place_of c.places v.graph))
 
-  -- where no other transaction holds it exclusively, the fields have the words of its values
-  pub fields_at_hand : (id : Id) → IsAtHand c.places t.number v.made id → IsFree c.g0 a t.number (Some (id, Shared))
+  -- where no other transaction holds it exclusively, and it isn't gray, the fields have the words of its values
+  pub fields_at_hand : (id : Id) → IsAtHand c.places t.number v.made id → IsFree c.g0 a t.number (Some (id, Shared)) → IsBlack c.places valid.behind.collection id
       → fields_at m.words area (place_in c.places v.graph id) ≡ map (bits_of (place_of c.places v.graph)) (fields v.graph id)
-  fields_at_hand id (inl there) free =
+  fields_at_hand id (inl there) free black =
       let place = some_address (address_of c.places id) there in
-      stored_at id place.0 place.1 ∙ fields_now a c valid (two_phase_ordered c.g0 c.history runs.plain runs.two_phase) s t active id place.0 place.1 free
-  fields_at_hand id (inr own) free = own_fields_at (writing_of a c s t active valid).made m.words id own
+      stored_at id place.0 place.1 ∙ fields_now a c valid (two_phase_ordered c.g0 c.history runs.plain runs.two_phase) s t active id place.0 place.1 free (black place.0 place.1)
+  fields_at_hand id (inr own) free black = own_fields_at (writing_of a c s t active valid).made m.words id own

@@ -73,10 +73,10 @@ mode_same locked.Shared locked.Exclusive e = cc
 mode_same locked.Exclusive locked.Shared e = cc
 mode_same locked.Exclusive locked.Exclusive e = refl
 
-same_key : (h k : Holding) → eq_by_cmp holding_cmp h k ≡ true → h ≡ k
+pub same_key : (h k : Holding) → eq_by_cmp holding_cmp h k ≡ true → h ≡ k
 same_key h k tie = holding_exact h k ((Equal-is (holding_cmp h k)).0 tie)
 
-itself : (h : Holding) → eq_by_cmp holding_cmp h h ≡ true
+pub itself : (h : Holding) → eq_by_cmp holding_cmp h h ≡ true
 itself h = ap is_eq (tied_itself holding_total h)
 
 -- an object that is held in a mode of the table

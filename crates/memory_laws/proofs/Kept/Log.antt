@@ -1,7 +1,8 @@
 -- The log in memory and a core's: what is used of it, and the bytes that records take.
-use Rattle.std.proofs.Common.{◌≡◌, ◌≢◌, ℕ, ◌+◌, ◌<◌, cond, List, [], ◌∷◌, length, refl, ap, ◌∙◌, arith, length-append}
+use Rattle.std.proofs.Common.{◌≡◌, ◌≢◌, ℕ, ◌+◌, ◌<◌, ◌≤◌, Bool, true, false, cond, List, [], ◌∷◌, ◌++◌, length, refl, ap, ◌∙◌, arith, length-append}
 use Rattle.std.specs.Prelude.{◌↔◌, IsTrue, nat_lt}
 use Rattle.std.proofs.lemmas.Bool.{lt-ltb, ltb-true}
+use Rattle.std.proofs.lemmas.Grind.{flat_map-append}
 use Rattle.gated_log.specs.declared.log.Log.{Log}
 use Rattle.gated_log.specs.Log.{batches_bytes, pending_batch}
 use Rattle.gated_log.specs.LogRoom.{used_bytes, need_bytes}
@@ -38,6 +39,23 @@ need_all log bs p r rs keeps = need_plain (buffer_size log) (length (spellings (
 -- those that one takes
 pub need_same : (log : Log) (bs : List (List Record)) (p : List Record) (r : Record) → Keeps log bs p → log_need log (length (spelling r)) ≡ need p (r ∷ [])
 need_same log bs p r keeps = need_plain (buffer_size log) (length (spelling r)) p r [] (buffer_size-Keeps log bs p keeps) (omega (arith, length-append (spelling r) []))
+
+-- those that several take behind others
+pub length_spellings : (rs more : List Record) → length (spellings (rs ++ more)) ≡ length (spellings rs) + length (spellings more)
+length_spellings rs more = ap (λ (l : List ℕ). length l) (flat_map-append spelling rs more) ∙ length-append (spellings rs) (spellings more)
+
+-- and with one at their end
+pub need_records : (log : Log) (bs : List (List Record)) (p rs : List Record) (last : Record) → Keeps log bs p → log_need log (length (spellings (rs ++ last ∷ []))) ≡ need p (rs ++ last ∷ [])
+need_records log bs p [] last keeps = need_all log bs p last [] keeps
+need_records log bs p (r ∷ rs) last keeps = need_all log bs p r (rs ++ last ∷ []) keeps
+
+more_plain : (b : Bool) (n m : ℕ) → n ≤ m → cond b n (n + 5) ≤ cond b m (m + 5)
+more_plain true n m le = le
+more_plain false n m le = omega (arith, le)
+
+-- more bytes need no less
+pub need_more : (log : Log) (n m : ℕ) → n ≤ m → log_need log n ≤ log_need log m
+need_more log n m le = more_plain (nat_lt 4 (buffer_size log)) n m le
 
 waits_plain : (n : ℕ) (p : List Record) → n ≡ 4 + length (spellings p) → IsTrue (nat_lt 4 n) ↔ (p ≢ [])
 waits_plain n [] e = (λ more none. omega (arith, e, ltb-true 4 n more), λ some. absurd (some refl))

@@ -21,12 +21,13 @@ same_pages old new c lsns store is = record {
 }
 
 -- the sessions
-pub same_sessions : (old new : Memory) (a : Account) (c : Core) → new.spaces ≡ old.spaces → new.table ≡ old.table → new.locks ≡ old.locks → new.sealed ≡ old.sealed
-    → SessionsAgree old a c → SessionsAgree new a c
-same_sessions old new a c spaces table locks sealed is = record {
+pub same_sessions : (old new : Memory) (a : Account) (c : Core) → new.spaces ≡ old.spaces → new.collection ≡ old.collection → new.table ≡ old.table → new.locks ≡ old.locks
+    → new.sealed ≡ old.sealed → SessionsAgree old a c → SessionsAgree new a c
+same_sessions old new a c spaces collection table locks sealed is = record {
   state = is.state;
   reached = is.reached;
   spaces = spaces ∙ is.spaces;
+  collection = collection ∙ is.collection;
   transactions = λ s. ap (λ (t : TableState). transaction_of t s) table ∙ is.transactions s;
   locks = subst (λ (l : Holdings). AreHeld l c.places c.g0 a) (sym locks) is.locks;
   next = ap (λ (t : TableState). t.next) table ∙ is.next;

@@ -1,9 +1,9 @@
 -- Memory refuses the begin and the end of a transaction as the core does.
-use Rattle.std.proofs.Common.{◌≡◌, ℕ, ◌+◌, ◌-◌, ◌*◌, Bool, true, false, cond, List, [], ◌∷◌, ◌++◌, length, Option, None, Some, is_some, refl, sym, ap, ◌∙◌, arith, unwrap_or}
-use Rattle.std.specs.Prelude.{◌==◌, nat_lt}
+use Rattle.std.proofs.Common.{◌≡◌, ℕ, ◌+◌, Bool, true, false, cond, List, [], ◌++◌, length, Option, None, Some, is_some, refl, sym, ap, ◌∙◌, arith, unwrap_or}
+use Rattle.std.specs.Prelude.{◌==◌}
 use Rattle.graph_model.specs.declared.event.Event.TheVariants.{Begin, Seal, Abort}
 use Rattle.graph_model.specs.declared.event.Event.{Event}
-use Rattle.graph_model.specs.declared.reply.Refusal.TheVariants.{AlreadyActive, NumbersSpent, Exhausted}
+use Rattle.graph_model.specs.declared.reply.Refusal.TheVariants.{AlreadyActive, NumbersSpent}
 use Rattle.graph_model.specs.declared.reply.Refusal.{Refusal}
 use Rattle.graph_model.specs.declared.reply.Reply.TheVariants.{Begun, Sealed}
 use Rattle.graph_model.specs.History.{Account, account, account_after, IsSession}
@@ -35,7 +35,7 @@ use Rattle.heap_memory.specs.Memory.{Memory, own}
 use Rattle.heap_memory.specs.Refusals as memory_refusals
 use Rattle.heap_memory.specs.Refusals.{no_room, begin_refusal, end_refusal, sealing_records, sealing_need, seal_refusal_of, seal_refusal, reserved_without}
 use Rattle.memory_laws.specs.CoreMemory.{kept, kept_of, IsMemory}
-use Rattle.memory_laws.proofs.Kept.Log.{used_same, need_all}
+use Rattle.memory_laws.proofs.Kept.Log.{used_same, need_records}
 use Rattle.memory_laws.proofs.Refusal.Room.{full_same, first_none, second_same}
 use Rattle.memory_laws.proofs.Refusal.LogRoom.{reserved_now}
 
@@ -47,11 +47,6 @@ two_first false false x y o = refl
 is_some_kept : (c : Core) (a : Account) (o : Option Transaction) → is_some o ≡ is_some (kept_of (ground c) c.g0 a o)
 is_some_kept c a None = refl
 is_some_kept c a (Some t) = refl
-
--- the same needs the same of the log
-need_records : (m : Memory) (c : Core) (a : Account) (rs : List Record) (last : Record) → IsMemory m a c → log_need m.log (length (spellings (rs ++ last ∷ []))) ≡ need c.pending (rs ++ last ∷ [])
-need_records m c a [] last is = need_all m.log c.batches c.pending last [] is.log
-need_records m c a (r ∷ rs) last is = need_all m.log c.batches c.pending r (rs ++ last ∷ []) is.log
 
 module _ (m : Memory) (c : Core) (valid : IsValid c) (runs : RunsLocked c.g0 c.first c.history) (is : IsMemory m (account c.history) c) (s : ℕ) where
   -- what the history says
@@ -145,7 +140,7 @@ module _ (m : Memory) (c : Core) (valid : IsValid c) (runs : RunsLocked c.g0 c.f
   seal_need_same : (t : Transaction) → a.active s ≡ Some t → need c.pending (event_records c (Seal s)) ≡ log_need m.log (length (spellings (sealing t)))
   seal_need_same t e =
       ap (need c.pending) (seal_records_same t e)
-      ∙ sym (need_records m c a (promotion_records (transaction t).area m.words (transaction t).undo (m.spaces.base + m.spaces.used)) (Commit (transaction t).area.transaction) is)
+      ∙ sym (need_records m.log c.batches c.pending (promotion_records (transaction t).area m.words (transaction t).undo (m.spaces.base + m.spaces.used)) (Commit (transaction t).area.transaction) is.log)
 
   -- where the space has room for it, what was kept for the transaction is kept no more
   seal_kept : (t : Transaction) → a.active s ≡ Some t → space_refusal (ground c).state (seal_need (ground c) t.number (view c.g0 a t)) ≡ None

@@ -1,7 +1,8 @@
 -- Memory refuses the calls that write nothing as the core does.
-use Rattle.std.proofs.Common.{◌≡◌, ℕ, ◌+◌, Bool, true, false, cond, length, Option, None, Some, refl, sym, ap, ◌∙◌}
+use Rattle.std.proofs.Common.{◌≡◌, ℕ, ◌+◌, Bool, true, false, cond, List, [], ◌++◌, length, Option, None, Some, refl, sym, ap, ◌∙◌, subst}
 use Rattle.std.specs.Option.{option_map}
 use Rattle.std.specs.Prelude.{nat_lt, Result}
+use Rattle.std.proofs.lemmas.List.{append-nil}
 use Rattle.graph_model.specs.declared.event.Event.TheVariants.{Root, New, Drop, Get, Same, Len}
 use Rattle.graph_model.specs.declared.event.Event.{Event}
 use Rattle.graph_model.specs.declared.id.Id.{Id}
@@ -12,23 +13,30 @@ use Rattle.graph_model.specs.Locking.{busy_holder, lock_on, in_mode}
 use Rattle.graph_model.specs.Plain as plain
 use Rattle.graph_model.specs.Plain.{view, most_fields, call_refusal, first_of_two, busy_with, call_conflict}
 use Rattle.graph_model.specs.Transaction.{Transaction, held, serial}
+use Rattle.log_records.specs.declared.Record.{Record}
 use Rattle.object_locks.specs.declared.holding.Mode as table
 use Rattle.object_locks.specs.declared.holding.Mode.TheVariants as locked
 use Rattle.txn_table.specs.declared.place.Place.{Place}
 use Rattle.txn_table.specs.Table.{TransactionState}
 use Rattle.graph_words.proofs.Area.Words.{length-area_words}
 use Rattle.graph_words.specs.Places.{place_of, IsAtHand}
-use Rattle.heap_model.specs.Core.{Core, ground, undo_with, area_in, area_refusal, room_refusal, core_refusal}
+use Rattle.heap_model.specs.Core.{Core, ground, undo_with, area_in, area_refusal, barrier_records, log_refusal, own_records, room_refusal, core_refusal}
 use Rattle.heap_model.proofs.Step.Handles.{held_at_hand}
 use Rattle.core_laws.proofs.Step.Goes.{writing_of}
-use Rattle.core_laws.proofs.Step.Events.{log_quiet}
+use Rattle.core_laws.proofs.Step.Forms.{quiet_records}
 use Rattle.core_laws.specs.Valid.{IsValid, RunsLocked}
 use Rattle.heap_memory.specs.Memory.{Memory, own, fields_at, held_or, held_place}
-use Rattle.heap_memory.specs.Refusals.{handle_refusal, and_then, field_refusal, read_refusal_of, get_refusal, same_refusal, len_refusal, new_refusal, lock_refusal}
+use Rattle.heap_memory.specs.Refusals.{handle_refusal, and_then, field_refusal, read_refusal_of, records_room, get_refusal, same_refusal, len_refusal, new_refusal, lock_refusal}
 use Rattle.memory_laws.specs.CoreMemory.{place_in, kept_of, IsMemory, kept, mode_of}
+use Rattle.heap_memory.specs.Collecting.{place_barrier}
+use Rattle.memory_laws.proofs.Behind.Barrier.{barrier_same}
+use Rattle.memory_laws.proofs.Behind.Passed.{HavePassed, barrier_passed}
 use Rattle.memory_laws.proofs.Kept.Held.{held_place-kept, length-fields_at_hand}
+use Rattle.memory_laws.proofs.Kept.Parts.{Works, works_of}
 use Rattle.memory_laws.proofs.Refusal.Locks.{lock_same}
-use Rattle.memory_laws.proofs.Refusal.Room.{first_none, first_if, call_refused, quiet_refused, first_assoc}
+use Rattle.memory_laws.proofs.Refusal.LogRoom.{scan_room}
+use Rattle.memory_laws.proofs.Refusal.Room as room
+use Rattle.memory_laws.proofs.Refusal.Room.{call_keeps, first_none, first_if, old_refused, quiet_refused, first_assoc}
 
 -- what is asked of what one handle holds, or two
 one_held : (f : Id → Place) (o : Option Id) → plain.len_refusal o ≡ and_then (held_or (option_map f o)) (λ p. None)
@@ -40,6 +48,10 @@ two_held f None p = refl
 two_held f (Some id) None = refl
 two_held f (Some id) (Some other) = refl
 
+-- records behind which there are no more
+append-nil_left : (rs more : List Record) → more ≡ [] → rs ++ more ≡ rs
+append-nil_left rs more none = ap (λ (l : List Record). rs ++ l) none ∙ append-nil rs
+
 new_parts : (b d : Bool) (x y : Refusal) (o : Option Refusal) → first_of_two (cond b (Some x) (cond d (Some y) None)) o ≡ first_of_two (cond b (Some x) None) (first_of_two (cond d (Some y) None) o)
 new_parts true d x y o = refl
 new_parts false true x y o = refl
@@ -49,6 +61,10 @@ module _ (m : Memory) (c : Core) (valid : IsValid c) (runs : RunsLocked c.g0 c.f
   -- what the history says
   abbrev a : Account
   a = account c.history
+
+  -- the words and the sessions are the core's
+  abbrev works : Works m a c
+  works = works_of m a c is
 
   -- what is kept of a transaction
   abbrev mine : Option Transaction → Option TransactionState
@@ -72,7 +88,7 @@ module _ (m : Memory) (c : Core) (valid : IsValid c) (runs : RunsLocked c.g0 c.f
 
   -- memory refuses to let a handle hold the root as the core does
   pub root_refused : (h : ℕ) → core_refusal c (Root s h) ≡ handle_refusal (own m s) h
-  root_refused h = quiet_refused c (Root s h) valid tt refl refl ∙ root_cases (a.active s) h ∙ ap (λ (o : Option TransactionState). handle_refusal o h) (sym (is.sessions.transactions s))
+  root_refused h = quiet_refused c (Root s h) valid tt refl refl refl ∙ root_cases (a.active s) h ∙ ap (λ (o : Option TransactionState). handle_refusal o h) (sym (is.sessions.transactions s))
 
   drop_cases : (o : Option Transaction) (h : ℕ) → asked o (Drop s h) ≡ handle_refusal (mine o) h
   drop_cases None h = refl
@@ -80,7 +96,7 @@ module _ (m : Memory) (c : Core) (valid : IsValid c) (runs : RunsLocked c.g0 c.f
 
   -- to let it hold nothing
   pub drop_refused : (h : ℕ) → core_refusal c (Drop s h) ≡ handle_refusal (own m s) h
-  drop_refused h = quiet_refused c (Drop s h) valid tt refl refl ∙ drop_cases (a.active s) h ∙ ap (λ (o : Option TransactionState). handle_refusal o h) (sym (is.sessions.transactions s))
+  drop_refused h = quiet_refused c (Drop s h) valid tt refl refl refl ∙ drop_cases (a.active s) h ∙ ap (λ (o : Option TransactionState). handle_refusal o h) (sym (is.sessions.transactions s))
 
   len_cases : (o : Option Transaction) (h : ℕ) → asked o (Len s h) ≡ and_then (held_place (mine o) h) (λ p. None)
   len_cases None h = refl
@@ -91,7 +107,7 @@ module _ (m : Memory) (c : Core) (valid : IsValid c) (runs : RunsLocked c.g0 c.f
 
   -- to tell an object's length
   pub len_refused : (h : ℕ) → core_refusal c (Len s h) ≡ len_refusal m s h
-  len_refused h = quiet_refused c (Len s h) valid tt refl refl ∙ len_cases (a.active s) h ∙ ap (λ (o : Option TransactionState). and_then (held_place o h) (λ p. None)) (sym (is.sessions.transactions s))
+  len_refused h = quiet_refused c (Len s h) valid tt refl refl refl ∙ len_cases (a.active s) h ∙ ap (λ (o : Option TransactionState). and_then (held_place o h) (λ p. None)) (sym (is.sessions.transactions s))
 
   same_cases : (o : Option Transaction) (h h2 : ℕ) → asked o (Same s h h2) ≡ and_then (held_place (mine o) h) (λ p. and_then (held_place (mine o) h2) (λ q. None))
   same_cases None h h2 = refl
@@ -104,7 +120,7 @@ module _ (m : Memory) (c : Core) (valid : IsValid c) (runs : RunsLocked c.g0 c.f
   -- to compare what two handles hold
   pub same_refused : (h h2 : ℕ) → core_refusal c (Same s h h2) ≡ same_refusal m s h h2
   same_refused h h2 =
-      quiet_refused c (Same s h h2) valid tt refl refl ∙ same_cases (a.active s) h h2
+      quiet_refused c (Same s h h2) valid tt refl refl refl ∙ same_cases (a.active s) h h2
       ∙ ap (λ (o : Option TransactionState). and_then (held_place o h) (λ p. and_then (held_place o h2) (λ q. None))) (sym (is.sessions.transactions s))
 
   -- what a handle holds is at hand
@@ -116,7 +132,7 @@ module _ (m : Memory) (c : Core) (valid : IsValid c) (runs : RunsLocked c.g0 c.f
   -- An object that a handle holds has as many fields in memory as in the graph, so that memory refuses a field as a core does.
   pub field_held : (t : Transaction) (h i : ℕ) (id : Id) → a.active s ≡ Some t → held (view c.g0 a t).registers h ≡ Some id
       → plain.field_refusal (view c.g0 a t).graph (Some id) i ≡ field_refusal (length (fields_at m.words (area_in c.places (view c.g0 a t) t.number) (place_in c.places (view c.g0 a t).graph id))) i
-  field_held t h i id e holds = ap (λ (n : ℕ). field_refusal n i) (sym (length-fields_at_hand m c valid runs is s t e id (held_there t h id e holds)))
+  field_held t h i id e holds = ap (λ (n : ℕ). field_refusal n i) (sym (length-fields_at_hand m c valid runs works s t e id (held_there t h id e holds)))
 
   -- a lock on what a handle holds is refused as a core refuses it
   pub lock_held : (t : Transaction) (h : ℕ) (id : Id) (mode : table.Mode) → a.active s ≡ Some t → held (view c.g0 a t).registers h ≡ Some id
@@ -124,32 +140,51 @@ module _ (m : Memory) (c : Core) (valid : IsValid c) (runs : RunsLocked c.g0 c.f
       ≡ lock_refusal m.locks (kept c.places (view c.g0 a t) t.number (undo_with (ground c).state t.number)) mode (place_in c.places (view c.g0 a t).graph id)
   lock_held t h id mode e holds =
       ap (λ (o : Option Id). busy_with (busy_holder c.g0 a t.number (option_map (in_mode (mode_of mode)) o))) holds
-      ∙ sym (lock_same m c valid runs is s t e id mode (undo_with (ground c).state t.number) (held_there t h id e holds))
+      ∙ sym (lock_same m c valid runs works s t e id mode (undo_with (ground c).state t.number) (held_there t h id e holds))
+
+  -- why a core refuses a get, for what it asks, for what others hold, or for the log
+  abbrev read_asked : Option Transaction → Event → Option Refusal
+  read_asked o event = first_of_two (asked o event) (log_refusal c event)
 
   read_held : (t : Transaction) (h i h2 : ℕ) (o : Option Id) → a.active s ≡ Some t → held (view c.g0 a t).registers h ≡ o
-      → first_of_two (plain.field_refusal (view c.g0 a t).graph o i) (call_conflict c.g0 a (Some t) (Get s h i h2))
+      → first_of_two (first_of_two (plain.field_refusal (view c.g0 a t).graph o i) (call_conflict c.g0 a (Some t) (Get s h i h2))) (log_refusal c (Get s h i h2))
       ≡ and_then (held_or (option_map (place_in c.places (view c.g0 a t).graph) o)) (λ p. read_refusal_of m (mine (Some t)) p i)
   read_held t h i h2 None e holds = refl
   read_held t h i h2 (Some id) e holds =
-      ap (λ (o : Option Refusal). first_of_two o (call_conflict c.g0 a (Some t) (Get s h i h2))) (field_held t h i id e holds)
-      ∙ ap (first_of_two (field_refusal (length (fields_at m.words (area_in c.places (view c.g0 a t) t.number) (place_in c.places (view c.g0 a t).graph id))) i)) (lock_held t h id locked.Shared e holds)
+      let event : Event = Get s h i h2 in
+      let v = view c.g0 a t in
+      let place = place_in c.places v.graph id in
+      let field = plain.field_refusal v.graph (Some id) i in
+      let busy = call_conflict c.g0 a (Some t) event in
+      let log = log_refusal c event in
+      let scans = barrier_same m c valid works s t h i id e holds in
+      let fits : log ≡ records_room m (place_barrier m place i) =
+      scan_room m c valid is event (place_barrier m place i) (call_keeps c event tt) (subst (HavePassed c valid.behind) (sym scans) (barrier_passed a c valid event))
+      (append-nil_left (barrier_records c event) (own_records c event) (quiet_records c event tt refl) ∙ sym scans) in
+      first_assoc field busy log
+      ∙ ap (λ (o : Option Refusal). first_of_two o (first_of_two busy log)) (field_held t h i id e holds)
+      ∙ ap (λ (o : Option Refusal). first_of_two (field_refusal (length (fields_at m.words (area_in c.places v t.number) place)) i) (first_of_two o log)) (lock_held t h id locked.Shared e holds)
+      ∙ ap (λ (o : Option Refusal). first_of_two (field_refusal (length (fields_at m.words (area_in c.places v t.number) place)) i)
+      (first_of_two (lock_refusal m.locks (kept c.places v t.number (undo_with (ground c).state t.number)) locked.Shared place) o)) fits
 
   get_cases : (o : Option Transaction) (h i h2 : ℕ) → a.active s ≡ o
-      → asked o (Get s h i h2) ≡ first_of_two (handle_refusal (mine o) h2) (and_then (held_place (mine o) h) (λ p. read_refusal_of m (mine o) p i))
+      → read_asked o (Get s h i h2) ≡ first_of_two (handle_refusal (mine o) h2) (and_then (held_place (mine o) h) (λ p. read_refusal_of m (mine o) p i))
   get_cases None h i h2 e = refl
   get_cases (Some t) h i h2 e =
       let v = view c.g0 a t in
       let field = plain.field_refusal v.graph (held v.registers h) i in
       let busy = call_conflict c.g0 a (Some t) (Get s h i h2) in
+      let log = log_refusal c (Get s h i h2) in
       let read = λ (p : Place). read_refusal_of m (mine (Some t)) p i in
-      ap (λ (o : Option Refusal). first_of_two o busy) (first_if (nat_lt 63 h2) BadHandle field)
-      ∙ first_assoc (handle_refusal (mine (Some t)) h2) field busy
+      ap (λ (o : Option Refusal). first_of_two (first_of_two o busy) log) (first_if (nat_lt 63 h2) BadHandle field)
+      ∙ ap (λ (o : Option Refusal). first_of_two o log) (first_assoc (handle_refusal (mine (Some t)) h2) field busy)
+      ∙ first_assoc (handle_refusal (mine (Some t)) h2) (first_of_two field busy) log
       ∙ ap (first_of_two (handle_refusal (mine (Some t)) h2)) (read_held t h i h2 (held v.registers h) e refl ∙ ap (λ (r : Result Place Refusal). and_then r read) (is_held t h))
 
   -- to read a field
   pub get_refused : (h i h2 : ℕ) → core_refusal c (Get s h i h2) ≡ get_refusal m s h i h2
   get_refused h i h2 =
-      quiet_refused c (Get s h i h2) valid tt refl refl ∙ get_cases (a.active s) h i h2 refl
+      old_refused c (Get s h i h2) valid tt refl ∙ get_cases (a.active s) h i h2 refl
       ∙ ap (λ (o : Option TransactionState). first_of_two (handle_refusal o h2) (and_then (held_place o h) (λ p. read_refusal_of m o p i))) (sym (is.sessions.transactions s))
 
   new_cases : (o : Option Transaction) (h len : ℕ) → first_of_two (asked o (New s h len)) (room_refusal (ground c) c.g0 a o (New s h len)) ≡ new_refusal (mine o) h len
@@ -165,10 +200,6 @@ module _ (m : Memory) (c : Core) (valid : IsValid c) (runs : RunsLocked c.g0 c.f
   -- and to make an object
   pub new_refused : (h len : ℕ) → core_refusal c (New s h len) ≡ new_refusal (own m s) h len
   new_refused h len =
-      let first = asked (a.active s) (New s h len) in
-      let words = room_refusal (ground c) c.g0 a (a.active s) (New s h len) in
-      call_refused c (New s h len) valid tt
-      ∙ ap (λ (o : Option Refusal). first_of_two first (first_of_two words o)) (log_quiet c (New s h len) valid tt refl)
-      ∙ ap (first_of_two first) (first_none words)
+      room.new_refused c (New s h len) valid tt refl refl
       ∙ new_cases (a.active s) h len
       ∙ ap (λ (o : Option TransactionState). new_refusal o h len) (sym (is.sessions.transactions s))

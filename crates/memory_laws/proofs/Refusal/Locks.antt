@@ -30,16 +30,17 @@ use Rattle.core_laws.proofs.Step.Goes.{writing_of}
 use Rattle.core_laws.specs.Valid.{IsValid, RunsLocked}
 use Rattle.heap_memory.specs.Memory.{Memory}
 use Rattle.heap_memory.specs.Refusals.{asked, holder_of, lock_refusal}
-use Rattle.memory_laws.specs.CoreMemory.{mode_of, AreHeld, IsMemory, kept, place_in}
+use Rattle.memory_laws.specs.CoreMemory.{mode_of, AreHeld, kept, place_in}
 use Rattle.memory_laws.proofs.Kept.Held.{place_in-placed, place_in-apart}
 use Rattle.memory_laws.proofs.Kept.Locks.{as_held, of_held, lock_in}
+use Rattle.memory_laws.proofs.Kept.Parts.{Works}
 
 -- a mode of the model, as the table has it
-abbrev mode_in : Mode → table.Mode
+abbrev pub mode_in : Mode → table.Mode
 mode_in Shared = locked.Shared
 mode_in Exclusive = locked.Exclusive
 
-mode_back : (mode : Mode) → mode_of (mode_in mode) ≡ mode
+pub mode_back : (mode : Mode) → mode_of (mode_in mode) ≡ mode
 mode_back Shared = refl
 mode_back Exclusive = refl
 
@@ -112,7 +113,7 @@ not_busy : (o : Option ℕ) → busy_with o ≡ None → o ≡ None
 not_busy None is = refl
 not_busy (Some holder) is = cc
 
-module _ (m : Memory) (c : Core) (valid : IsValid c) (runs : RunsLocked c.g0 c.first c.history) (is : IsMemory m (account c.history) c) (s : ℕ) (t : Transaction)
+module _ (m : Memory) (c : Core) (valid : IsValid c) (runs : RunsLocked c.g0 c.first c.history) (is : Works m (account c.history) c) (s : ℕ) (t : Transaction)
     (active : (account c.history).active s ≡ Some t) where
   -- what the history says
   abbrev a : Account

@@ -1,16 +1,23 @@
 -- Why a core refuses an event, by parts.
-use Rattle.std.proofs.Common.{◌≡◌, ℕ, Bool, true, false, cond, Option, None, Some, refl, ap, ◌∙◌}
+use Rattle.std.proofs.Common.{◌≡◌, ℕ, Bool, true, false, cond, List, [], ◌++◌, Option, None, Some, refl, ap, ◌∙◌, arith}
 use Rattle.graph_model.specs.declared.event.Event.{Event}
-use Rattle.graph_model.specs.declared.event.Event.TheVariants.{Begin, Root, New, Put, Clear, Link, Drop, Get, Same, Len, Seal, Abort, Force, Flush}
+use Rattle.graph_model.specs.declared.event.Event.TheVariants.{Begin, Root, New, Put, Clear, Link, Drop, Get, Same, Len, Seal, Abort, Force, Flip, Scan, Flush}
 use Rattle.graph_model.specs.declared.reply.Refusal.{Refusal}
 use Rattle.graph_model.specs.Graph.{Graph}
 use Rattle.graph_model.specs.Transaction.{Transaction, IsCall}
-use Rattle.graph_model.specs.History.{Account, account, session_of}
-use Rattle.graph_model.specs.Plain.{call_refusal, call_conflict, first_of_two}
+use Rattle.graph_model.specs.declared.reply.Entry.{Entry}
+use Rattle.graph_model.specs.History.{Account, account, account_after, session_of}
+use Rattle.graph_model.specs.Plain.{call_refusal, call_conflict, first_of_two, granted}
 use Rattle.graph_model.proofs.Refusals.Plain.{event_refusal-call}
-use Rattle.heap_model.specs.Core.{Core, Ground, ground, next_number, full_log, room_refusal, words_refusal, log_refusal, core_refusal}
-use Rattle.core_laws.proofs.Step.Forms.{is_write, is_new, call_no_page}
-use Rattle.core_laws.proofs.Step.Events.{unfailed_refusal, log_quiet}
+use Rattle.log_records.specs.declared.Record.{Record}
+use Rattle.log_machine.specs.declared.UndoEntry.{UndoEntry}
+use Rattle.log_machine.specs.Machine.{undo_of}
+use Rattle.heap_model.specs.Core.{Core, Ground, all_records, ground, next_number, full_log, event_records, own_records, need, reserved, reserved_after, room_refusal, undo_behind, used, words_refusal, log_refusal, core_refusal}
+use Rattle.heap_model.proofs.Step.Goes.{need_nothing}
+use Rattle.heap_model.proofs.Step.Room.{full_log-none}
+use Rattle.core_laws.proofs.Sessions.Actives.{called_reserved}
+use Rattle.core_laws.proofs.Step.Forms.{has_barrier, is_write, is_new, call_no_page, no_barrier, quiet_records}
+use Rattle.core_laws.proofs.Step.Events.{call_account, kept_still, unfailed_refusal}
 use Rattle.core_laws.specs.Valid.{IsValid}
 
 -- a second reason where the first is none
@@ -54,7 +61,30 @@ words_quiet g g0 a (Some t) (Len s h) is old = refl
 words_quiet g g0 a (Some t) (Seal s) is old = absurd is
 words_quiet g g0 a (Some t) (Abort s) is old = refl
 words_quiet g g0 a (Some t) Force is old = refl
+words_quiet g g0 a (Some t) Flip is old = refl
+words_quiet g g0 a (Some t) Scan is old = refl
 words_quiet g g0 a (Some t) (Flush p) is old = refl
+
+-- what is kept for the ends of transactions is kept when the history tells an event too
+abbrev pub KeepsReserve : Core → Event → Type 0
+KeepsReserve c event =
+    let entry : Entry = record { event = event; reply = granted (next_number c) c.g0 (account c.history) event } in
+    (undo : ℕ → List UndoEntry) → reserved undo (account_after (account c.history) entry) ≡ reserved undo (account c.history)
+
+-- so it is by a call
+pub call_keeps : (c : Core) (event : Event) → IsCall event → KeepsReserve c event
+call_keeps c event call undo = ap (reserved undo) (call_account (next_number c) c.g0 (account c.history) event call) ∙ called_reserved undo (account c.history) (session_of event) event
+
+-- the log has room for an event that appends nothing
+pub still_room : (c : Core) (event : Event) → IsValid c → KeepsReserve c event → event_records c event ≡ [] → log_refusal c event ≡ None
+still_room c event valid keeps none =
+    let a = account c.history in
+    let more = event_records c event in
+    let kept : reserved_after c event ≡ reserved (undo_of valid.behind) a =
+    keeps (undo_behind c (all_records c ++ more)) ∙ ap (λ (rs : List Record). reserved (undo_behind c (all_records c ++ rs)) a) none ∙ kept_still c a valid in
+    let nothing : need c.pending more ≡ 0 = ap (need c.pending) none ∙ need_nothing c.pending in
+    let room = valid.room in
+    full_log-none c.room (used c) (need c.pending more) (reserved_after c event) (omega arith)
 
 module _ (c : Core) (event : Event) (valid : IsValid c) (call : IsCall event) where
   -- what the history says
@@ -81,6 +111,16 @@ module _ (c : Core) (event : Event) (valid : IsValid c) (call : IsCall event) wh
   pub old_refused : is_new event ≡ false → core_refusal c event ≡ first_of_two asked (log_refusal c event)
   old_refused old = call_refused ∙ ap (λ (o : Option Refusal). first_of_two asked (first_of_two o (log_refusal c event))) (words_quiet (ground c) c.g0 a own event call old)
 
-  -- and one that writes nothing either is refused so
-  pub quiet_refused : is_write event ≡ false → is_new event ≡ false → core_refusal c event ≡ asked
-  quiet_refused quiet old = old_refused old ∙ ap (first_of_two asked) (log_quiet c event valid call quiet) ∙ first_none asked
+  quiet_room : has_barrier event ≡ false → is_write event ≡ false → log_refusal c event ≡ None
+  quiet_room still quiet = still_room c event valid (call_keeps c event call) (ap (λ (rs : List Record). rs ++ own_records c event) (no_barrier c event still) ∙ quiet_records c event call quiet)
+
+  -- and one that has no barrier, and writes nothing either, is refused so
+  pub quiet_refused : has_barrier event ≡ false → is_write event ≡ false → is_new event ≡ false → core_refusal c event ≡ asked
+  quiet_refused still quiet old = old_refused old ∙ ap (first_of_two asked) (quiet_room still quiet) ∙ first_none asked
+
+  -- one that makes an object is refused so, or for its words
+  pub new_refused : has_barrier event ≡ false → is_write event ≡ false → core_refusal c event ≡ first_of_two asked (room_refusal (ground c) c.g0 a own event)
+  new_refused still quiet =
+      call_refused
+      ∙ ap (λ (o : Option Refusal). first_of_two asked (first_of_two (room_refusal (ground c) c.g0 a own event) o)) (quiet_room still quiet)
+      ∙ ap (first_of_two asked) (first_none (room_refusal (ground c) c.g0 a own event))

@@ -19,18 +19,19 @@ use Rattle.graph_model.specs.Transaction.{Transaction, IsCall, held, reference_t
 use Rattle.object_locks.specs.declared.holding.Mode.TheVariants as locked
 use Rattle.txn_table.specs.declared.place.Place.{Place}
 use Rattle.txn_table.specs.Table.{TransactionState}
-use Rattle.graph_words.specs.Places.{IsVisible}
-use Rattle.heap_model.specs.Core.{Core, ground, undo_with, view_records, call_records, event_records, log_refusal, core_refusal}
-use Rattle.core_laws.proofs.Step.Forms.{reference_visible}
-use Rattle.core_laws.proofs.Step.Goes.{writing_of}
+use Rattle.heap_model.specs.Core.{Core, ground, undo_with, view_records, call_records, call_barrier, barrier_records, log_refusal, core_refusal}
 use Rattle.core_laws.specs.Valid.{IsValid, RunsLocked}
 use Rattle.heap_memory.specs.Memory.{Memory, held_or, held_place}
 use Rattle.heap_memory.specs.Refusals.{and_then, range_refusal, write_room, write_refusal_of, put_refusal, clear_refusal, link_refusal, lock_refusal}
 use Rattle.memory_laws.specs.CoreMemory.{place_in, kept, kept_of, IsMemory}
-use Rattle.memory_laws.proofs.Refusal.Locks.{lock_free}
-use Rattle.memory_laws.proofs.Refusal.Handles.{is_held, held_there, field_held, lock_held}
+use Rattle.memory_laws.proofs.Behind.Barrier.{barrier_same}
+use Rattle.memory_laws.proofs.Behind.Passed.{barrier_passed}
+use Rattle.memory_laws.proofs.Behind.Sessions.{core_behind}
+use Rattle.memory_laws.proofs.Kept.Parts.{works_of}
+use Rattle.memory_laws.proofs.Refusal.Handles.{is_held, field_held, lock_held}
 use Rattle.memory_laws.proofs.Refusal.Room.{second_same, first_assoc, first_if, old_refused}
 use Rattle.memory_laws.proofs.Refusal.LogRoom.{room_same}
+use Rattle.memory_laws.proofs.Step.Appended.{own_at}
 
 passed : (b : Bool) (why : Refusal) → cond b (Some why) None ≡ None → b ≡ false
 passed true why e = cc
@@ -57,30 +58,34 @@ module _ (m : Memory) (c : Core) (valid : IsValid c) (runs : RunsLocked c.g0 c.f
   abbrev refused : Option Transaction → Event → Option Refusal
   refused o event = first_of_two (first_of_two (call_refusal c.g0 a o event) (call_conflict c.g0 a o event)) (log_refusal c event)
 
-  -- the log has a core's room for a write that no other transaction stands in the way of
+  -- the core behind an event's barrier
+  abbrev behind : Event → Core
+  behind event = core_behind c (barrier_records c event)
+
+  -- the log has a core's room for a write into a field
   room_held : (t : Transaction) (event : Event) (h i : ℕ) (x : Val) (id : Id) → a.active s ≡ Some t → IsCall event → session_of event ≡ s
-      → event_records c event ≡ view_records c.places t.number (view c.g0 a t) h i x → held (view c.g0 a t).registers h ≡ Some id → IsVisible c.places t.number (view c.g0 a t).made x
-      → plain.field_refusal (view c.g0 a t).graph (Some id) i ≡ None → lock_refusal m.locks (transaction t) locked.Exclusive (place t id) ≡ None → log_refusal c event ≡ write_room m (place t id)
-  room_held t event h i x id e call one records holds seen granted free =
+      → barrier_records c event ≡ call_barrier (ground c) c.g0 a (a.active s) h i → own_at (behind event) event ≡ view_records (behind event).places t.number (view c.g0 a t) h i x
+      → held (view c.g0 a t).registers h ≡ Some id → plain.field_refusal (view c.g0 a t).graph (Some id) i ≡ None → log_refusal c event ≡ write_room m (place t id) i
+  room_held t event h i x id e call one barrier records holds granted =
       let n = length (fields (view c.g0 a t).graph id) in
-      room_same m c valid runs is s t e event h i x id call one records holds (leb-false n i (passed (nat_le n i) BadField granted)) seen
-      (lock_free m c valid runs is s t e id locked.Exclusive (undo_with (ground c).state t.number) (held_there m c valid runs is s t h id e holds) free)
+      room_same m c valid is runs s t e event call one h i x id holds (leb-false n i (passed (nat_le n i) BadField granted)) (barrier_passed a c valid event) records
+      (barrier_same m c valid (works_of m a c is) s t h i id e holds ∙ sym barrier)
 
   -- a write into an object that a handle holds
   write_held : (t : Transaction) (event : Event) (h i : ℕ) (x : Val) (id : Id) → a.active s ≡ Some t → IsCall event → session_of event ≡ s
-      → event_records c event ≡ view_records c.places t.number (view c.g0 a t) h i x → held (view c.g0 a t).registers h ≡ Some id → IsVisible c.places t.number (view c.g0 a t).made x
-      → lock_of (view c.g0 a t).registers event ≡ lock_on (view c.g0 a t).registers h Exclusive
+      → barrier_records c event ≡ call_barrier (ground c) c.g0 a (a.active s) h i → own_at (behind event) event ≡ view_records (behind event).places t.number (view c.g0 a t) h i x
+      → held (view c.g0 a t).registers h ≡ Some id → lock_of (view c.g0 a t).registers event ≡ lock_on (view c.g0 a t).registers h Exclusive
       → first_of_two (first_of_two (plain.field_refusal (view c.g0 a t).graph (Some id) i) (call_conflict c.g0 a (Some t) event)) (log_refusal c event) ≡ writes (Some t) (place t id) i
-  write_held t event h i x id e call one records holds seen lock =
+  write_held t event h i x id e call one barrier records holds lock =
       let field = plain.field_refusal (view c.g0 a t).graph (Some id) i in
       let busy = call_conflict c.g0 a (Some t) event in
       let log = log_refusal c event in
       let others = lock_refusal m.locks (transaction t) locked.Exclusive (place t id) in
-      let room = write_room m (place t id) in
+      let room = write_room m (place t id) i in
       let same : busy ≡ others = ap (λ (l : Option Lock). busy_with (busy_holder c.g0 a t.number l)) lock ∙ lock_held m c valid runs is s t h id locked.Exclusive e holds in
       first_assoc field busy log
       ∙ second_same field (first_of_two busy log) (first_of_two others room) (λ granted.
-      ap (λ (o : Option Refusal). first_of_two o log) same ∙ second_same others log room (room_held t event h i x id e call one records holds seen granted))
+      ap (λ (o : Option Refusal). first_of_two o log) same ∙ ap (first_of_two others) (room_held t event h i x id e call one barrier records holds granted))
       ∙ ap (λ (o : Option Refusal). first_of_two o (first_of_two others room)) (field_held m c valid runs is s t h i id e holds)
 
   -- A number.
@@ -97,7 +102,7 @@ module _ (m : Memory) (c : Core) (valid : IsValid c) (runs : RunsLocked c.g0 c.f
       ∙ ap (λ (o : Option Refusal). first_of_two o log) (first_assoc (range_refusal n) field busy)
       ∙ first_assoc (range_refusal n) (first_of_two field busy) log
       ∙ second_same (range_refusal n) (first_of_two (first_of_two field busy) log) (writes (Some t) (place t id) i)
-      (λ none. write_held t event h i (Int n) id e tt refl (ap (λ (o : Option Transaction). call_records (ground c) c.g0 a o event) e) holds (leb-false no_int n (passed (nat_le no_int n) Range none)) refl)
+      (λ none. write_held t event h i (Int n) id e tt refl refl (ap (λ (o : Option Transaction). call_records (ground (behind event)) c.g0 a o event) e) holds refl)
 
   put_cases : (o : Option Transaction) (h i n : ℕ) → a.active s ≡ o → refused o (Put s h i n) ≡ and_then (held_place (kept_of (ground c) c.g0 a o) h) (λ p. first_of_two (range_refusal n) (writes o p i))
   put_cases None h i n e = refl
@@ -119,7 +124,7 @@ module _ (m : Memory) (c : Core) (valid : IsValid c) (runs : RunsLocked c.g0 c.f
   clear_held t h i None e holds = refl
   clear_held t h i (Some id) e holds =
       let event : Event = Clear s h i in
-      write_held t event h i Null id e tt refl (ap (λ (o : Option Transaction). call_records (ground c) c.g0 a o event) e) holds tt refl
+      write_held t event h i Null id e tt refl refl (ap (λ (o : Option Transaction). call_records (ground (behind event)) c.g0 a o event) e) holds refl
 
   clear_cases : (o : Option Transaction) (h i : ℕ) → a.active s ≡ o → refused o (Clear s h i) ≡ and_then (held_place (kept_of (ground c) c.g0 a o) h) (λ p. writes o p i)
   clear_cases None h i e = refl
@@ -143,8 +148,7 @@ module _ (m : Memory) (c : Core) (valid : IsValid c) (runs : RunsLocked c.g0 c.f
   link_held t h i h2 (Some id) (Some other) e holds =
       let event : Event = Link s h i h2 in
       let v = view c.g0 a t in
-      write_held t event h i (reference_to (held v.registers h2)) id e tt refl (ap (λ (o : Option Transaction). call_records (ground c) c.g0 a o event) e) holds
-      (reference_visible c.places t.number v.made v.registers h2 (held v.registers h2) (writing_of a c s t e valid).handles refl) refl
+      write_held t event h i (reference_to (held v.registers h2)) id e tt refl refl (ap (λ (o : Option Transaction). call_records (ground (behind event)) c.g0 a o event) e) holds refl
 
   link_cases : (o : Option Transaction) (h i h2 : ℕ) → a.active s ≡ o
       → refused o (Link s h i h2) ≡ and_then (held_place (kept_of (ground c) c.g0 a o) h) (λ x. and_then (held_place (kept_of (ground c) c.g0 a o) h2) (λ y. writes o x i))

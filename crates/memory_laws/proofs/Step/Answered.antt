@@ -53,6 +53,7 @@ memory_told m a c acknowledged entries h = record {
         state = is.state;
         reached = is.reached;
         spaces = is.spaces;
+        collection = is.collection;
         transactions = is.transactions;
         locks = held_alike m.locks c.places c.g0 a (record a { acknowledged = acknowledged; entries = entries }) refl refl is.locks;
         next = is.next;
@@ -102,5 +103,5 @@ as_it_was m n c is same = record {
   room = same.log.place.room ∙ is.room;
   words = same.words ∙ is.words;
   pages = same_pages m n c same.lsns same.store is.pages;
-  sessions = same_sessions m n (account c.history) c same.spaces same.table same.locks same.sealed is.sessions;
+  sessions = same_sessions m n (account c.history) c same.spaces same.collection same.table same.locks same.sealed is.sessions;
 }

@@ -1,55 +1,73 @@
 -- What an event appends leaves the memory of the core after it: what holds of each event.
 use Rattle.std.proofs.Common.{◌≡◌, ◌≢◌, ℕ, ◌+◌, List, [], ◌++◌, length, Option, Some, None, refl, sym, ap, ◌∙◌, subst, append_assoc}
-use Rattle.std.specs.Prelude.{fold, IsFalse}
-use Rattle.std.proofs.lemmas.List.Sums.{fold-append}
 use Rattle.std.proofs.lemmas.List.{append-nil}
 use Rattle.gated_log.specs.Log.{records_of}
-use Rattle.gated_log.specs.LogState.{Keeps, log_count}
+use Rattle.gated_log.specs.LogState.{Keeps}
 use Rattle.graph_model.specs.declared.event.Event.{Event}
+use Rattle.graph_model.specs.declared.reply.Entry.{Entry}
 use Rattle.graph_model.specs.Graph.{Graph}
 use Rattle.graph_model.specs.Locking.{lock_of}
 use Rattle.graph_model.specs.Transaction.{Transaction, View, IsCall, call, serial}
-use Rattle.graph_model.specs.History.{Account, account, session_of, with_call}
+use Rattle.graph_model.specs.History.{Account, account, account_after, session_of, with_call}
 use Rattle.graph_model.proofs.Runs.History.{run-append}
-use Rattle.graph_model.specs.Plain.{view}
+use Rattle.graph_model.specs.Plain.{view, granted}
 use Rattle.log_records.specs.declared.Record.{Record}
-use Rattle.log_machine.specs.Machine.{spaces_of, State, undo_of, put_record}
+use Rattle.log_machine.specs.Machine.{spaces_of, State, undo_of}
 use Rattle.log_machine.specs.declared.UndoEntry.{UndoEntry}
 use Rattle.object_locks.specs.Holdings.{Holdings}
 use Rattle.txn_table.specs.Table.{TransactionState, TableState, transaction_of, with_transaction}
 use Rattle.txn_table.proofs.TableLaws.{with_transaction_same, with_transaction_other}
+use Rattle.heap_spaces.specs.Collection.{Collection}
 use Rattle.heap_spaces.specs.Spaces.{SpacesState}
 use Rattle.graph_words.specs.Places.{Places}
-use Rattle.heap_model.specs.Core.{Core, Ground, all_records, all_words, next_number, state_behind, undo_with, event_records, done}
-use Rattle.core_laws.proofs.Step.Forms.{call_places, done_records, no_call}
+use Rattle.heap_model.specs.Core.{Core, Ground, ground, all_records, all_words, next_number, state_behind, undo_with, records_for, event_places}
+use Rattle.core_laws.proofs.Step.Forms.{call_places}
 use Rattle.core_laws.proofs.Step.Goes.{places_still}
-use Rattle.page_redo.proofs.RedoLaws.{lsns-redo_all}
-use Rattle.page_store.specs.declared.store.PageStore.{PageStore}
-use Rattle.page_store.specs.StoreState.{store_plan, stored_lsn, has_failed}
-use Rattle.memory_laws.proofs.Kept.Pages.{lsn_appended}
-use Rattle.core_laws.proofs.Step.Events.{call_account, reply_adds}
+use Rattle.core_laws.proofs.Step.Events.{call_account}
 use Rattle.core_laws.proofs.Sessions.Actives.{each_session, called}
 use Rattle.core_laws.specs.Valid.{IsValid}
 use Rattle.heap_memory.specs.Memory.{Memory, own}
-use Rattle.heap_memory.specs.Leaves.{Leaves, pages_of}
-use Rattle.memory_laws.specs.CoreMemory.{kept, kept_of, AreHeld, IsMemory}
-use Rattle.memory_laws.proofs.Step.Answered.{Goes}
+use Rattle.heap_memory.specs.Leaves.{Leaves}
+use Rattle.memory_laws.specs.CoreMemory.{kept, kept_of, AreHeld, SessionsAgree, IsMemory}
 use Rattle.memory_laws.proofs.Kept.Locks.{held_same}
+use Rattle.memory_laws.proofs.Kept.Parts.{HasDisk, Works, Turns, works_of, whole_of, disk_left}
 
 -- what is there on both sides is one
 pub some_one : {A : Type 0} (x y : A) → Some x ≡ Some y → x ≡ y
 some_one x y e = cc e
 
+-- An event on a core that has the event's barrier behind it, or no barrier.
+
+-- what it appends
+abbrev pub own_at : Core → Event → List Record
+own_at c event = records_for (ground c) c.g0 (account c.history) event
+
+-- what it leaves
+abbrev pub own_done : Core → Event → Core
+own_done c event = record c { pending = c.pending ++ own_at c event; places = c.places ++ event_places c event }
+
+-- what the history says then
+abbrev pub told_after : Core → Event → Account
+told_after c event = let entry : Entry = record { event = event; reply = granted (next_number c) c.g0 (account c.history) event } in account_after (account c.history) entry
+
+-- The sessions in memory are then the core's.
+abbrev pub Tells : Memory → Core → Event → Type 0
+Tells n c event = SessionsAgree n (told_after c event) (own_done c event)
+
+-- All that is kept in memory is then the core's.
+abbrev pub Passes : Memory → Core → Event → Type 0
+Passes n c event = IsMemory n (told_after c event) (own_done c event)
+
 -- a call leaves of the core these records more
-pub call_done : (c : Core) (event : Event) (more : List Record) → IsCall event → event_records c event ≡ more → done c event ≡ record c { pending = c.pending ++ more }
+pub call_done : (c : Core) (event : Event) (more : List Record) → IsCall event → own_at c event ≡ more → own_done c event ≡ record c { pending = c.pending ++ more }
 call_done c event more is records =
-    done_records c event (no_call event is) ∙ ap (λ (placed : Places). record c { pending = c.pending ++ event_records c event; places = c.places ++ placed }) (call_places c event is)
+    ap (λ (placed : Places). record c { pending = c.pending ++ own_at c event; places = c.places ++ placed }) (call_places c event is)
     ∙ ap (λ (rs : List Record). record c { pending = c.pending ++ rs; places = c.places ++ [] }) records
     ∙ places_still c more
 
 -- where the heap is found with these places, in this state
 abbrev pub ground_in : Core → Places → State → Ground
-ground_in c places state = record { places = places; words = all_words c; state = Some state }
+ground_in c places state = record { places = places; remaining = c.remaining; words = all_words c; state = Some state }
 
 -- what is kept of a transaction that has made one call more
 kept_call : (g : Ground) (g0 : Graph) (a : Account) (o : Option Transaction) (t : Transaction) (event : Event) → o ≡ Some t
@@ -64,7 +82,7 @@ has_kept : (g : Ground) (g0 : Graph) (a : Account) (o : Option Transaction) (x :
 has_kept g g0 a None x e = cc e
 has_kept g g0 a (Some t) x e = (t, refl, sym (some_one _ _ e))
 
-module _ (m n : Memory) (c : Core) (valid : IsValid c) (is : IsMemory m (account c.history) c) where
+module _ (m n : Memory) (c : Core) (valid : IsValid c) (is : Works m (account c.history) c) where
   -- what the history says
   abbrev a : Account
   a = account c.history
@@ -77,62 +95,49 @@ module _ (m n : Memory) (c : Core) (valid : IsValid c) (is : IsMemory m (account
   same_state : is.sessions.state ≡ behind
   same_state = some_one is.sessions.state behind (sym is.sessions.reached ∙ valid.told.reached)
 
-  -- the spaces in memory are the state's
-  pub spaces_are : m.spaces ≡ spaces_of behind
-  spaces_are = is.sessions.spaces ∙ ap spaces_of same_state
+  -- the spaces and the collection in memory are the state's
+  pub spaces_here : m.spaces ≡ spaces_of behind
+  spaces_here = is.sessions.spaces ∙ ap spaces_of same_state
+
+  pub collection_here : m.collection ≡ behind.collection
+  collection_here = is.sessions.collection ∙ ap (λ (x : State). x.collection) same_state
 
   -- each session's transaction is in memory what the core keeps of it
   pub own_kept : (s : ℕ) → own m s ≡ kept_of (ground_in c c.places behind) c.g0 a (a.active s)
   own_kept s =
-      is.sessions.transactions s ∙ ap (λ (o : Option State). kept_of (record { places = c.places; words = all_words c; state = o }) c.g0 a (a.active s)) valid.told.reached
+      is.sessions.transactions s ∙ ap (λ (o : Option State). kept_of (record { places = c.places; remaining = c.remaining; words = all_words c; state = o }) c.g0 a (a.active s)) valid.told.reached
 
   -- the transaction of a session in memory is the core's
   pub mine : (s : ℕ) (x : TransactionState) → own m s ≡ Some x → (t : Transaction) × (a.active s ≡ Some t) × (x ≡ kept c.places (view c.g0 a t) t.number (undo_of behind t.number))
   mine s x e = has_kept (ground_in c c.places behind) c.g0 a (a.active s) x (sym (own_kept s) ∙ e)
 
-  -- memory that is the same follows the same core
-  pub stays : n ≡ m → IsMemory n a c
-  stays same = let P : Memory → Type 0 = λ x. IsMemory x a c in subst P (sym same) is
-
   -- records more wait, and these objects stand in the current space then
-  pub appended : (b : Account) (more : List Record) (places : Places) (table : TableState) (locks : Holdings) (current : SpacesState) (count : ℕ) (later : State)
-      → Leaves m n more table locks current count → state_behind c (all_records c ++ more) ≡ Some later → current ≡ spaces_of later
+  pub appended : (b : Account) (more : List Record) (places : Places) (table : TableState) (locks : Holdings) (current : SpacesState) (runs : Option Collection) (count : ℕ) (later : State)
+      → Turns m n more table locks current runs count → state_behind c (all_records c ++ more) ≡ Some later → current ≡ spaces_of later → runs ≡ later.collection
       → ((r : ℕ) → transaction_of table r ≡ kept_of (ground_in c places later) c.g0 b (b.active r)) → AreHeld locks places c.g0 b
-      → table.next ≡ c.first + b.begun → count ≡ length b.sealed → IsMemory n b (record c { pending = c.pending ++ more; places = places })
-  appended b more places table locks current count later left reached room there held next sealed =
+      → table.next ≡ c.first + b.begun → count ≡ length b.sealed → SessionsAgree n b (record c { pending = c.pending ++ more; places = places })
+  appended b more places table locks current runs count later left reached room run there held next sealed =
       let all = append_assoc (records_of c.batches) c.pending more in
       let then : state_behind c (records_of c.batches ++ (c.pending ++ more)) ≡ Some later = ap (state_behind c) (sym all) ∙ reached in
       record {
-        log = left.log.kept c.batches c.pending is.log;
-        place = left.log.place.at ∙ is.place;
-        room = left.log.place.room ∙ is.room;
-        words = left.words ∙ ap (λ (ws : List ℕ). fold put_record ws more) is.words ∙ sym (fold-append put_record c.words c.pending more);
-        pages = record {
-          number = ap (λ (l : List ℕ). length l) left.lsns ∙ lsns-redo_all (log_count m.log + 1) (pages_of m) more ∙ is.pages.number;
-          now = λ p lt. lsn_appended m n c is more left.lsns p lt;
-          flushed = λ p lt. ap (λ (x : PageStore). stored_lsn x p) left.store ∙ is.pages.flushed p lt;
-          plan = ap store_plan left.store ∙ is.pages.plan;
-          unfailed = subst (λ (x : PageStore). IsFalse (has_failed x)) (sym left.store) is.pages.unfailed;
-        };
-        sessions = record {
-          state = later;
-          reached = then;
-          spaces = left.spaces ∙ room;
-          transactions = λ r. ap (λ (t : TableState). transaction_of t r) left.table ∙ there r
-              ∙ ap (λ (o : Option State). kept_of (record { places = places; words = all_words c; state = o }) c.g0 b (b.active r)) (sym then);
-          locks = subst (λ (ls : Holdings). AreHeld ls places c.g0 b) (sym left.locks) held;
-          next = ap (λ (t : TableState). t.next) left.table ∙ next;
-          sealed = left.sealed ∙ sealed;
-        };
+        state = later;
+        reached = then;
+        spaces = left.spaces ∙ room;
+        collection = left.collection ∙ run;
+        transactions = λ r. ap (λ (t : TableState). transaction_of t r) left.table ∙ there r
+            ∙ ap (λ (o : Option State). kept_of (record { places = places; remaining = c.remaining; words = all_words c; state = o }) c.g0 b (b.active r)) (sym then);
+        locks = subst (λ (ls : Holdings). AreHeld ls places c.g0 b) (sym left.locks) held;
+        next = ap (λ (t : TableState). t.next) left.table ∙ next;
+        sealed = left.sealed ∙ sealed;
       }
 
   -- records more wait, and the same objects stand there
-  pub appended_here : (b : Account) (more : List Record) (table : TableState) (locks : Holdings) (count : ℕ) (later : State) → Leaves m n more table locks m.spaces count
-      → state_behind c (all_records c ++ more) ≡ Some later → spaces_of behind ≡ spaces_of later
+  pub appended_here : (b : Account) (more : List Record) (table : TableState) (locks : Holdings) (count : ℕ) (later : State) → Turns m n more table locks m.spaces m.collection count
+      → state_behind c (all_records c ++ more) ≡ Some later → spaces_of behind ≡ spaces_of later → behind.collection ≡ later.collection
       → ((r : ℕ) → transaction_of table r ≡ kept_of (ground_in c c.places later) c.g0 b (b.active r)) → AreHeld locks c.places c.g0 b
-      → table.next ≡ c.first + b.begun → count ≡ length b.sealed → IsMemory n b (record c { pending = c.pending ++ more })
-  appended_here b more table locks count later left reached same there held next sealed =
-      appended b more c.places table locks m.spaces count later left reached (spaces_are ∙ same) there held next sealed
+      → table.next ≡ c.first + b.begun → count ≡ length b.sealed → SessionsAgree n b (record c { pending = c.pending ++ more })
+  appended_here b more table locks count later left reached same run there held next sealed =
+      appended b more c.places table locks m.spaces m.collection count later left reached (spaces_here ∙ same) (collection_here ∙ run) there held next sealed
 
   -- In a later state the transactions of all other sessions have the same writes that may be taken back.
   abbrev pub LeavesOthers : ℕ → State → Type 0
@@ -155,40 +160,41 @@ module _ (m n : Memory) (c : Core) (valid : IsValid c) (is : IsMemory m (account
 
   -- a call of the transaction of a session
   pub call_leaves : (s : ℕ) (t : Transaction) (event : Event) (more : List Record) (later : State) (table : TableState) (locks : Holdings) (x : TransactionState) → a.active s ≡ Some t → IsCall event
-      → session_of event ≡ s → event_records c event ≡ more → Leaves m n more table locks m.spaces m.sealed → transaction_of table s ≡ Some x → ((r : ℕ) → r ≢ s → transaction_of table r ≡ own m r)
-      → table.next ≡ m.table.next → state_behind c (all_records c ++ more) ≡ Some later → spaces_of behind ≡ spaces_of later → LeavesOthers s later
-      → x ≡ kept c.places (call (view c.g0 a t) t.number event).view t.number (undo_of later t.number) → AreHeld locks c.places c.g0 (called a s event) → Goes n c event
-  call_leaves s t event more later table locks x e called_it one records left holds beside next reached same others kept_so held =
+      → session_of event ≡ s → own_at c event ≡ more → Turns m n more table locks m.spaces m.collection m.sealed → transaction_of table s ≡ Some x
+      → ((r : ℕ) → r ≢ s → transaction_of table r ≡ own m r) → table.next ≡ m.table.next → state_behind c (all_records c ++ more) ≡ Some later → spaces_of behind ≡ spaces_of later
+      → behind.collection ≡ later.collection → LeavesOthers s later → x ≡ kept c.places (call (view c.g0 a t) t.number event).view t.number (undo_of later t.number)
+      → AreHeld locks c.places c.g0 (called a s event) → Tells n c event
+  call_leaves s t event more later table locks x e called_it one records left holds beside next reached same run others kept_so held =
       let P : ℕ → Option Transaction → Type 0 = λ r o. transaction_of table r ≡ kept_of (ground_in c c.places later) c.g0 a o in
       let there : transaction_of table s ≡ kept_of (ground_in c c.places later) c.g0 a (with_call (a.active s) event) =
       holds ∙ ap (λ (y : TransactionState). Some y) kept_so ∙ sym (kept_call (ground_in c c.places later) c.g0 a (a.active s) t event e) in
       let each = each_session P a.active s (with_call (a.active s) event) there (others_kept s table later beside others) in
-      let now = appended_here (called a s event) more table locks m.sealed later left reached same each held (next ∙ is.sessions.next) is.sessions.sealed in
-      subst (λ (b : Account). IsMemory n b (done c event)) (sym (reply_adds c event ∙ call_account (next_number c) c.g0 a event called_it ∙ ap (λ (q : ℕ). called a q event) one))
-      (subst (λ (d : Core). IsMemory n (called a s event) d) (sym (call_done c event more called_it records)) now)
+      let now = appended_here (called a s event) more table locks m.sealed later left reached same run each held (next ∙ is.sessions.next) is.sessions.sealed in
+      subst (λ (b : Account). SessionsAgree n b (own_done c event)) (sym (call_account (next_number c) c.g0 a event called_it ∙ ap (λ (q : ℕ). called a q event) one))
+      (subst (λ (d : Core). SessionsAgree n (called a s event) d) (sym (call_done c event more called_it records)) now)
 
   -- the same, where the transaction alone is changed in the table
   pub call_goes : (s : ℕ) (t : Transaction) (event : Event) (more : List Record) (later : State) (locks : Holdings) (x : TransactionState) → a.active s ≡ Some t → IsCall event → session_of event ≡ s
-      → event_records c event ≡ more → Leaves m n more (with_transaction m.table s x) locks m.spaces m.sealed → state_behind c (all_records c ++ more) ≡ Some later
-      → spaces_of behind ≡ spaces_of later → LeavesOthers s later → x ≡ kept c.places (call (view c.g0 a t) t.number event).view t.number (undo_of later t.number)
-      → AreHeld locks c.places c.g0 (called a s event) → Goes n c event
-  call_goes s t event more later locks x e called_it one records left reached same others kept_so held =
+      → own_at c event ≡ more → Turns m n more (with_transaction m.table s x) locks m.spaces m.collection m.sealed → state_behind c (all_records c ++ more) ≡ Some later
+      → spaces_of behind ≡ spaces_of later → behind.collection ≡ later.collection → LeavesOthers s later
+      → x ≡ kept c.places (call (view c.g0 a t) t.number event).view t.number (undo_of later t.number) → AreHeld locks c.places c.g0 (called a s event) → Tells n c event
+  call_goes s t event more later locks x e called_it one records left reached same run others kept_so held =
       call_leaves s t event more later (with_transaction m.table s x) locks x e called_it one records left (with_transaction_same m.table s x) (with_transaction_other m.table s x) refl reached same
-      others kept_so held
+      run others kept_so held
 
   -- and no record is appended
-  pub quiet_goes : (s : ℕ) (t : Transaction) (event : Event) (locks : Holdings) (x : TransactionState) → a.active s ≡ Some t → IsCall event → session_of event ≡ s → event_records c event ≡ []
-      → Leaves m n [] (with_transaction m.table s x) locks m.spaces m.sealed → x ≡ kept c.places (call (view c.g0 a t) t.number event).view t.number (undo_of behind t.number)
-      → AreHeld locks c.places c.g0 (called a s event) → Goes n c event
+  pub quiet_goes : (s : ℕ) (t : Transaction) (event : Event) (locks : Holdings) (x : TransactionState) → a.active s ≡ Some t → IsCall event → session_of event ≡ s → own_at c event ≡ []
+      → Turns m n [] (with_transaction m.table s x) locks m.spaces m.collection m.sealed → x ≡ kept c.places (call (view c.g0 a t) t.number event).view t.number (undo_of behind t.number)
+      → AreHeld locks c.places c.g0 (called a s event) → Tells n c event
   quiet_goes s t event locks x e called_it one records left kept_so held =
-      call_goes s t event [] behind locks x e called_it one records left reached_still refl (λ r u other also. refl) kept_so held
+      call_goes s t event [] behind locks x e called_it one records left reached_still refl refl (λ r u other also. refl) kept_so held
 
   -- a call that needs no lock leaves the locks
   pub no_lock : (s : ℕ) (t : Transaction) (event : Event) → a.active s ≡ Some t → lock_of (view c.g0 a t).registers event ≡ None → AreHeld m.locks c.places c.g0 (called a s event)
   no_lock s t event e none = held_same m.locks c.places c.g0 a s t event e (λ id mode some. let never = sym none ∙ some in cc) is.sessions.locks
 
 -- what an event leaves that changes nothing
-pub nothing_left : (m : Memory) → Leaves m m [] m.table m.locks m.spaces m.sealed
+pub nothing_left : (m : Memory) → Leaves m m [] m.table m.locks m.spaces m.collection m.sealed
 nothing_left m = record {
   log = record {
     place = record { at = refl; room = refl; tail = refl; forced = refl };
@@ -200,5 +206,27 @@ nothing_left m = record {
   table = refl;
   locks = refl;
   spaces = refl;
+  collection = refl;
   sealed = refl;
 }
+
+module _ (m n : Memory) (c : Core) (valid : IsValid c) (is : IsMemory m (account c.history) c) where
+  -- the spaces in memory are the state's
+  pub spaces_are : m.spaces ≡ spaces_of valid.behind
+  spaces_are = spaces_here m n c valid (works_of m (account c.history) c is)
+
+  -- memory that is the same follows the same core
+  pub stays : n ≡ m → IsMemory n (account c.history) c
+  stays same = let P : Memory → Type 0 = λ x. IsMemory x (account c.history) c in subst P (sym same) is
+
+  -- memory in which so many records more wait has of the disk what the core has behind the event
+  left_disk : (event : Event) (more : List Record) {table : TableState} {locks : Holdings} {current : SpacesState} {runs : Option Collection} {count : ℕ}
+      → Leaves m n more table locks current runs count → own_at c event ≡ more → HasDisk n (own_done c event)
+  left_disk event more left records =
+      subst (λ (rs : List Record). HasDisk n (record c { pending = c.pending ++ rs; places = c.places ++ event_places c event })) (sym records)
+      (disk_left m n (account c.history) c more (c.places ++ event_places c event) c.remaining is left)
+
+  -- so where the sessions are the core's, all of it is
+  pub passes : (event : Event) (more : List Record) {table : TableState} {locks : Holdings} {current : SpacesState} {runs : Option Collection} {count : ℕ}
+      → Leaves m n more table locks current runs count → own_at c event ≡ more → Tells n c event → Passes n c event
+  passes event more left records tells = whole_of n (told_after c event) (own_done c event) (left_disk event more left records) tells

@@ -24,6 +24,7 @@ pub record HasSameWork (old new : Memory) : Type 0 where
   pub table : new.table ≡ old.table
   pub locks : new.locks ≡ old.locks
   pub spaces : new.spaces ≡ old.spaces
+  pub collection : new.collection ≡ old.collection
   pub sealed : new.sealed ≡ old.sealed
 
 -- batches with all that waits have all records
@@ -36,7 +37,7 @@ pub forced_memory : (m n : Memory) (a : Account) (c : Core) → IsMemory m a c �
 forced_memory m n a c is keeps at room same store =
     let records = records_forced c.batches c.pending in
     let d = record c { batches = with_batch c.batches c.pending; words = all_words c; pending = [] } in
-    let here : ground d ≡ ground c = ap (λ rs. record { places = c.places; words = all_words c; state = state_behind c rs }) records in
+    let here : ground d ≡ ground c = ap (λ rs. record { places = c.places; remaining = c.remaining; words = all_words c; state = state_behind c rs }) records in
     subst (IsMemory n a) (sym (forced-with_batch c)) (record {
       log = keeps;
       place = at ∙ is.place;
@@ -44,8 +45,8 @@ forced_memory m n a c is keeps at room same store =
       words = same.words ∙ is.words;
       pages = subst (λ (rs : List Record). ArePages n.lsns n.store c.pages c.room (λ p. max (c.stored_lsns p) (last_lsn p 1 rs)) c.stored_lsns) (sym records)
           (same_pages m n c same.lsns store is.pages);
-      sessions = subst (λ (g : Ground). AreSessions n.spaces n.table n.locks n.sealed g c.g0 c.first a) (sym here)
-          (same_sessions m n a c same.spaces same.table same.locks same.sealed is.sessions);
+      sessions = subst (λ (g : Ground). AreSessions n.spaces n.collection n.table n.locks n.sealed g c.g0 c.first a) (sym here)
+          (same_sessions m n a c same.spaces same.collection same.table same.locks same.sealed is.sessions);
     })
 
 -- a page that is stored has the LSN that it had
@@ -76,5 +77,5 @@ stored_memory m n a c p is log same plan unfailed stored others lt = record {
     plan = plan ∙ is.pages.plan;
     unfailed = unfailed;
   };
-  sessions = same_sessions m n a c same.spaces same.table same.locks same.sealed is.sessions;
+  sessions = same_sessions m n a c same.spaces same.collection same.table same.locks same.sealed is.sessions;
 }

@@ -31,12 +31,13 @@ use Rattle.core_laws.specs.Valid.{IsValid, RunsLocked}
 use Rattle.heap_memory.specs.Memory.{Memory, own}
 use Rattle.heap_memory.specs.Refusals.{begin_refusal, end_refusal}
 use Rattle.heap_memory.specs.Leaves.{Leaves, IsAsItWas, Begins, Aborts}
-use Rattle.memory_laws.specs.CoreMemory.{place_in, kept, kept_of, IsMemory}
+use Rattle.memory_laws.specs.CoreMemory.{place_in, kept, kept_of, SessionsAgree, IsMemory}
 use Rattle.memory_laws.proofs.Does.{Does}
 use Rattle.memory_laws.proofs.Kept.Locks.{held_aborted, held_begun}
 use Rattle.core_laws.proofs.Step.Events.{abort_is}
 use Rattle.memory_laws.proofs.Step.Answered.{as_it_was, Goes, does}
-use Rattle.memory_laws.proofs.Step.Appended.{LeavesOthers, mine, stays, ground_in, reached_still, others_kept, appended_here}
+use Rattle.memory_laws.proofs.Kept.Parts.{Works, turns_of, works_of}
+use Rattle.memory_laws.proofs.Step.Appended.{LeavesOthers, mine, passes, stays, ground_in, reached_still, others_kept, appended_here}
 use Rattle.memory_laws.proofs.Step.Held.{test_none}
 
 -- empty handles hold nothing in memory
@@ -57,6 +58,10 @@ module _ (m n : Memory) (c : Core) (valid : IsValid c) (runs : RunsLocked c.g0 c
   -- the state behind all records
   abbrev behind : State
   behind = valid.behind
+
+  -- the words and the sessions are the core's
+  works : Works m a c
+  works = works_of m a c is
 
   -- A begin.
   -- what the history says then
@@ -87,10 +92,11 @@ module _ (m n : Memory) (c : Core) (valid : IsValid c) (runs : RunsLocked c.g0 c
       let table = with_begun m.table s in
       let P : ℕ → Option Transaction → Type 0 = λ r o. transaction_of table r ≡ kept_of (ground_in c c.places behind) c.g0 a o in
       let there = with_begun_same m.table s ∙ ap (λ (y : TransactionState). Some y) begun_kept in
-      let others = others_kept m n c valid is s table behind (with_begun_other m.table s) (λ r u other also. refl) in
-      subst (λ (d : Core). IsMemory n begun d) (sym (places_still c []))
-      (appended_here m n c valid is begun [] table m.locks m.sealed behind begins (reached_still m n c valid is) refl (each_session P a.active s x there others)
-      (held_begun c.g0 c.history m.locks c.places s (next_number c) none is.sessions.locks) (omega (arith, is.sessions.next)) is.sessions.sealed)
+      let others = others_kept m n c valid works s table behind (with_begun_other m.table s) (λ r u other also. refl) in
+      passes m n c valid is (Begin s) [] begins refl
+      (subst (λ (d : Core). SessionsAgree n begun d) (sym (places_still c []))
+      (appended_here m n c valid works begun [] table m.locks m.sealed behind (turns_of begins) (reached_still m n c valid works) refl refl (each_session P a.active s x there others)
+      (held_begun c.g0 c.history m.locks c.places s (next_number c) none is.sessions.locks) (omega (arith, is.sessions.next)) is.sessions.sealed))
 
   -- a begin is answered as the core answers it, and the session has the next transaction then
   pub begin_does : core_refusal c (Begin s) ≡ begin_refusal m s → (reply : Reply) → reply ≡ reply_of (begin_refusal m s) (Begun m.table.next) → ((k : ℕ) → reply ≡ Begun k → Begins m n s)
@@ -110,7 +116,7 @@ module _ (m n : Memory) (c : Core) (valid : IsValid c) (runs : RunsLocked c.g0 c
   ended t = turned behind t (with_entries behind.undo t []) 0
 
   -- the others keep their writes
-  ended_others : (t : Transaction) → a.active s ≡ Some t → LeavesOthers m n c valid is s (ended t.number)
+  ended_others : (t : Transaction) → a.active s ≡ Some t → LeavesOthers m n c valid works s (ended t.number)
   ended_others t e r u other also =
       let beside = (two_phase_ordered c.g0 c.history runs.plain runs.two_phase).beside s r t u (λ same. other (sym same)) e also in
       undo_other behind t.number u.number [] 0 beside.differ
@@ -121,15 +127,16 @@ module _ (m n : Memory) (c : Core) (valid : IsValid c) (runs : RunsLocked c.g0 c
       let undo = undo_of behind t.number in
       let more = abort_records t.number undo in
       let table = with_ended m.table s in
-      let left = subst (λ (y : TransactionState). Leaves m n (abort_records y.number y.undo) table (without m.locks y.number) m.spaces m.sealed) x aborts.left in
-      let told = abort_told c.pages c.first_number c.born c.places c.remaining (serial c.g0 a.sealed) (c.before + length a.sealed) t.number (all_records c) (all_words c) behind valid.told (numbered_as a c s t e valid)
-      (own_apart a c valid (two_phase_ordered c.g0 c.history runs.plain runs.two_phase) s t e) in
+      let left = subst (λ (y : TransactionState). Leaves m n (abort_records y.number y.undo) table (without m.locks y.number) m.spaces m.collection m.sealed) x aborts.left in
+      let told = abort_told c.pages c.first_number c.born c.places c.remaining (serial c.g0 a.sealed) (c.before + length a.sealed) t.number (all_records c) (all_words c) behind valid.told
+      valid.in_range.some_pages valid.in_range.few_pages (numbered_as a c s t e valid) (own_apart a c valid (two_phase_ordered c.g0 c.history runs.plain runs.two_phase) s t e) in
       let P : ℕ → Option Transaction → Type 0 = λ r o. transaction_of table r ≡ kept_of (ground_in c c.places (ended t.number)) c.g0 a o in
-      let others = others_kept m n c valid is s table (ended t.number) (with_ended_other m.table s) (ended_others t e) in
-      subst (λ (rs : List Record). IsMemory n aborted (record c { pending = c.pending ++ rs; places = c.places ++ [] })) (sym (abort_is c s t valid e))
-      (subst (λ (d : Core). IsMemory n aborted d) (sym (places_still c more))
-      (appended_here m n c valid is aborted more table (without m.locks t.number) m.sealed (ended t.number) left told.reached refl
-      (each_session P a.active s None (with_ended_same m.table s) others) (held_aborted c.g0 c.history m.locks c.places c.places s t runs.plain runs.two_phase e (λ id other. refl) is.sessions.locks) is.sessions.next is.sessions.sealed))
+      let others = others_kept m n c valid works s table (ended t.number) (with_ended_other m.table s) (ended_others t e) in
+      passes m n c valid is (Abort s) more left (abort_is c s t valid e)
+      (subst (λ (rs : List Record). SessionsAgree n aborted (record c { pending = c.pending ++ rs; places = c.places ++ [] })) (sym (abort_is c s t valid e))
+      (subst (λ (d : Core). SessionsAgree n aborted d) (sym (places_still c more))
+      (appended_here m n c valid works aborted more table (without m.locks t.number) m.sealed (ended t.number) (turns_of left) told.reached refl refl
+      (each_session P a.active s None (with_ended_same m.table s) others) (held_aborted c.g0 c.history m.locks c.places c.places s t runs.plain runs.two_phase e (λ id other. refl) is.sessions.locks) is.sessions.next is.sessions.sealed)))
 
   -- an abort is answered as the core answers it, and the session has no transaction then
   pub abort_does : core_refusal c (Abort s) ≡ end_refusal (own m s) → (result : Result Reply AllocError) → IfOk result (λ reply. reply ≡ reply_of (end_refusal (own m s)) Aborted)
@@ -139,6 +146,6 @@ module _ (m n : Memory) (c : Core) (valid : IsValid c) (runs : RunsLocked c.g0 c
       does c (Abort s) (end_refusal (own m s)) Aborted reply n same replied (λ e. refl)
       (λ e aborted_it.
       let aborts = ends (ap Ok aborted_it) in
-      let t = mine m n c valid is s aborts.transaction aborts.was in
+      let t = mine m n c valid works s aborts.transaction aborts.was in
       aborted_goes t.0 t.1 aborts t.2)
       (λ why e. as_it_was m n c is (stayed why (ap Ok e)))

@@ -1,5 +1,5 @@
 -- A root and a drop are answered as the core answers them, and leave memory as the core is then.
-use Rattle.std.proofs.Common.{◌≡◌, ℕ, false, List, Option, Some, None, refl, sym, ap, ◌∙◌}
+use Rattle.std.proofs.Common.{◌≡◌, ℕ, List, [], Option, Some, None, refl, sym, ap, ◌∙◌}
 use Rattle.std.specs.Prelude.{slice_set}
 use Rattle.std.specs.Option.{option_map}
 use Rattle.std.proofs.lemmas.List.{map-set}
@@ -24,15 +24,16 @@ use Rattle.heap_model.specs.Core.{Core, core_refusal}
 use Rattle.core_laws.proofs.Sessions.Whole.{rooted}
 use Rattle.core_laws.proofs.Step.Goes.{writing_of}
 use Rattle.core_laws.specs.Valid.{IsValid}
-use Rattle.core_laws.proofs.Step.Forms.{is_write, quiet_records}
+use Rattle.core_laws.proofs.Step.Forms.{quiet_records}
 use Rattle.heap_memory.specs.Memory.{Memory, own, root_place}
 use Rattle.heap_memory.specs.Refusals.{handle_refusal}
 use Rattle.heap_memory.specs.Leaves.{SetsHandle, with_handle}
 use Rattle.memory_laws.specs.CoreMemory.{place_in, kept, IsMemory}
 use Rattle.memory_laws.proofs.Does.{Does}
 use Rattle.memory_laws.proofs.Kept.Held.{place_in-placed}
-use Rattle.memory_laws.proofs.Step.Answered.{Goes, does}
-use Rattle.memory_laws.proofs.Step.Appended.{mine, no_lock, quiet_goes, spaces_are, stays}
+use Rattle.memory_laws.proofs.Kept.Parts.{Works, turns_of, works_of}
+use Rattle.memory_laws.proofs.Step.Answered.{does}
+use Rattle.memory_laws.proofs.Step.Appended.{Passes, mine, no_lock, own_at, passes, quiet_goes, spaces_are, stays}
 
 -- what is kept of a transaction one of whose handles holds another object, or nothing
 pub kept_set : (places : Places) (v : View) (t : ℕ) (undo : List UndoEntry) (h : ℕ) (o : Option Id) (p : Option Place) → p ≡ option_map (place_in places v.graph) o
@@ -50,18 +51,23 @@ module _ (m n : Memory) (c : Core) (valid : IsValid c) (is : IsMemory m (account
   abbrev behind : State
   behind = valid.behind
 
+  -- the words and the sessions are the core's
+  works : Works m a c
+  works = works_of m a c is
+
   -- a call that writes nothing, after which a handle holds this
-  set_goes : (event : Event) (h : ℕ) (o : Option Id) (p : Option Place) → IsCall event → session_of event ≡ s → is_write event ≡ false
+  set_goes : (event : Event) (h : ℕ) (o : Option Id) (p : Option Place) → IsCall event → session_of event ≡ s → own_at c event ≡ []
       → ((v : View) (t : ℕ) → (call v t event).view ≡ record v { registers = slice_set v.registers h o })
       → ((t : Transaction) → a.active s ≡ Some t → p ≡ option_map (place_in c.places (view c.g0 a t).graph) o) → ((rs : Registers) → lock_of rs event ≡ None) → SetsHandle m n s h p
-      → Goes n c event
+      → Passes n c event
   set_goes event h o p called_it one silent sees place free sets =
-      let t = mine m n c valid is s sets.transaction sets.was in
+      let t = mine m n c valid works s sets.transaction sets.was in
       let v = view c.g0 a t.0 in
       let undo = undo_of behind t.0.number in
-      quiet_goes m n c valid is s t.0 event m.locks (with_handle sets.transaction h p) t.1 called_it one (quiet_records c event called_it silent) sets.left
+      passes m n c valid is event [] sets.left silent
+      (quiet_goes m n c valid works s t.0 event m.locks (with_handle sets.transaction h p) t.1 called_it one silent (turns_of sets.left)
       (ap (λ y. with_handle y h p) t.2 ∙ kept_set c.places v t.0.number undo h o p (place t.0 t.1) ∙ ap (λ (w : View). kept c.places w t.0.number undo) (sym (sees v t.0.number)))
-      (no_lock m n c valid is s t.0 event t.1 (free v.registers))
+      (no_lock m n c valid works s t.0 event t.1 (free v.registers)))
 
   -- the root stands at the first word of the current space
   root_stands : (t : Transaction) → a.active s ≡ Some t → Some (root_place m) ≡ option_map (place_in c.places (view c.g0 a t).graph) (Some root)
@@ -74,7 +80,7 @@ module _ (m n : Memory) (c : Core) (valid : IsValid c) (is : IsMemory m (account
       → (reply ≡ answer.Done → SetsHandle m n s h (Some (root_place m))) → ((why : Refusal) → reply ≡ answer.Refused why → n ≡ m) → Does c (Root s h) reply n
   root_does h same reply replied set stayed =
       does c (Root s h) (handle_refusal (own m s) h) answer.Done reply n same replied (λ e. call_reply-done c.g0 a (a.active s) (Root s h) tt)
-      (λ e done_it. set_goes (Root s h) h (Some root) (Some (root_place m)) tt refl refl (λ v t. refl) root_stands (λ rs. refl) (set done_it))
+      (λ e done_it. set_goes (Root s h) h (Some root) (Some (root_place m)) tt refl (quiet_records c (Root s h) tt refl) (λ v t. refl) root_stands (λ rs. refl) (set done_it))
       (λ why e. stays m n c valid is (stayed why e))
 
   -- a drop is answered as the core answers it, and a handle holds nothing then
@@ -82,5 +88,5 @@ module _ (m n : Memory) (c : Core) (valid : IsValid c) (is : IsMemory m (account
       → (reply ≡ answer.Done → SetsHandle m n s h None) → ((why : Refusal) → reply ≡ answer.Refused why → n ≡ m) → Does c (Drop s h) reply n
   drop_does h same reply replied set stayed =
       does c (Drop s h) (handle_refusal (own m s) h) answer.Done reply n same replied (λ e. call_reply-done c.g0 a (a.active s) (Drop s h) tt)
-      (λ e done_it. set_goes (Drop s h) h None None tt refl refl (λ v t. refl) (λ t e. refl) (λ rs. refl) (set done_it))
+      (λ e done_it. set_goes (Drop s h) h None None tt refl (quiet_records c (Drop s h) tt refl) (λ v t. refl) (λ t e. refl) (λ rs. refl) (set done_it))
       (λ why e. stays m n c valid is (stayed why e))

@@ -31,8 +31,9 @@ use Rattle.core_laws.specs.Valid.{IsValid, RunsLocked}
 use Rattle.heap_memory.specs.Memory.{Memory, own, fields_at, held_in, held_or, held_place, fields_held}
 use Rattle.heap_memory.specs.Refusals.{and_then, field_refusal}
 use Rattle.heap_memory.specs.Replies.{meant_held}
-use Rattle.memory_laws.specs.CoreMemory.{place_in, kept, kept_of, IsMemory}
-use Rattle.memory_laws.proofs.Kept.Held.{held_in-kept, fields_at_hand, length-fields_at_hand}
+use Rattle.memory_laws.specs.CoreMemory.{place_in, kept, kept_of}
+use Rattle.memory_laws.proofs.Kept.Held.{IsBlack, held_in-kept, fields_at_hand, length-fields_at_hand}
+use Rattle.memory_laws.proofs.Kept.Parts.{Works}
 use Rattle.memory_laws.proofs.Step.Appended.{some_one, mine, own_kept, ground_in}
 
 -- A handle of a transaction that sees this holds an object at hand, which stands at that place.
@@ -76,7 +77,7 @@ test_none false why o e = (refl, e)
 pub below_count : (count i : ℕ) → field_refusal count i ≡ None → i < count
 below_count count i e = leb-false count i (test_none (nat_le count i) BadField None e).0
 
-module _ (m : Memory) (c : Core) (valid : IsValid c) (runs : RunsLocked c.g0 c.first c.history) (is : IsMemory m (account c.history) c) (s : ℕ) where
+module _ (m : Memory) (c : Core) (valid : IsValid c) (runs : RunsLocked c.g0 c.first c.history) (is : Works m (account c.history) c) (s : ℕ) where
   -- what the history says
   abbrev a : Account
   a = account c.history
@@ -120,11 +121,11 @@ module _ (m : Memory) (c : Core) (valid : IsValid c) (runs : RunsLocked c.g0 c.f
   length-held_fields t e h p there one =
       ap (λ (ws : List ℕ). length ws) (fields_there t e h p there one) ∙ length-fields_at_hand m c valid runs is s t e one.id one.at_hand
 
-  -- where no other transaction holds the object exclusively, their words are those of the values
+  -- where no other transaction holds the object exclusively, and it isn't gray, their words are those of the values
   pub held_fields : (t : Transaction) → a.active s ≡ Some t → (h : ℕ) (p : Place) → held_place (own m s) h ≡ Ok p → (one : IsHeld c.places (view c.g0 a t) t.number h p)
-      → IsFree c.g0 a t.number (Some (one.id, Shared))
+      → IsFree c.g0 a t.number (Some (one.id, Shared)) → IsBlack c.places behind.collection one.id
       → fields_held m (own m s) (held_place (own m s) h) ≡ map (bits_of (place_of c.places (view c.g0 a t).graph)) (fields (view c.g0 a t).graph one.id)
-  held_fields t e h p there one free = fields_there t e h p there one ∙ fields_at_hand m c valid runs is s t e one.id one.at_hand free
+  held_fields t e h p there one free black = fields_there t e h p there one ∙ fields_at_hand m c valid runs is s t e one.id one.at_hand free black
 
   -- a field of it that isn't refused is one of the object
   pub held_within : (t : Transaction) → a.active s ≡ Some t → (h i : ℕ) (p : Place) → held_place (own m s) h ≡ Ok p → (one : IsHeld c.places (view c.g0 a t) t.number h p)
@@ -132,17 +133,17 @@ module _ (m : Memory) (c : Core) (valid : IsValid c) (runs : RunsLocked c.g0 c.f
   held_within t e h i p there one granted =
       below_count (length (fields (view c.g0 a t).graph one.id)) i (ap (λ (n : ℕ). field_refusal n i) (sym (length-held_fields t e h p there one)) ∙ granted)
 
-  -- what its word means is where the value refers to, if no other transaction holds the object exclusively
+  -- what its word means is where the value refers to, if no other transaction holds the object exclusively and it isn't gray
   pub held_meaning : (t : Transaction) → a.active s ≡ Some t → (h i : ℕ) (p : Place) → held_place (own m s) h ≡ Ok p → (one : IsHeld c.places (view c.g0 a t) t.number h p)
-      → i < length (fields (view c.g0 a t).graph one.id) → IsFree c.g0 a t.number (Some (one.id, Shared))
+      → i < length (fields (view c.g0 a t).graph one.id) → IsFree c.g0 a t.number (Some (one.id, Shared)) → IsBlack c.places behind.collection one.id
       → meant_held m s h i ≡ Some (word_of (place_of c.places (view c.g0 a t).graph) (slice_index_or (fields (view c.g0 a t).graph one.id) i Null))
-  held_meaning t e h i p there one within free =
+  held_meaning t e h i p there one within free black =
       let v = view c.g0 a t in
       let w = writing_of a c s t e valid in
-      ap (λ (ws : List ℕ). meaning (slice_index ws i)) (held_fields t e h p there one free)
+      ap (λ (ws : List ℕ). meaning (slice_index ws i)) (held_fields t e h p there one free black)
       ∙ ap meaning (get_or-map (bits_of (place_of c.places v.graph)) (fields v.graph one.id) i Null 0 within)
       ∙ meaning_here w (slice_index_or (fields v.graph one.id) i Null)
-      (value_at_hand a c valid (two_phase_ordered c.g0 c.history runs.plain runs.two_phase) s t e one.id one.at_hand i free)
+      (value_at_hand a c valid (two_phase_ordered c.g0 c.history runs.plain runs.two_phase) s t e one.id one.at_hand i free (λ at place. black at place i))
 
   -- a call that isn't refused finds free what it needs
   pub call_free : (t : Transaction) → a.active s ≡ Some t → (event : Event) → session_of event ≡ s → core_refusal c event ≡ None → IsFree c.g0 a t.number (lock_of (view c.g0 a t).registers event)

@@ -1,5 +1,5 @@
 -- A call that makes an object is answered as the core answers it, and leaves memory as the core is then.
-use Rattle.std.proofs.Common.{◌≡◌, ℕ, ◌+◌, List, length, map, Option, Some, Result, Ok, Err, refl, sym, ap, ◌∙◌}
+use Rattle.std.proofs.Common.{◌≡◌, ℕ, ◌+◌, List, [], length, map, Option, Some, Result, Ok, Err, refl, sym, ap, ◌∙◌}
 use Rattle.std.specs.declared.alloc.AllocError.{AllocError}
 use Rattle.std.specs.Prelude.{IfOk, slice_set}
 use Rattle.std.specs.Option.{option_map}
@@ -37,8 +37,9 @@ use Rattle.memory_laws.specs.CoreMemory.{place_in, kept, IsMemory}
 use Rattle.memory_laws.proofs.Does.{Does}
 use Rattle.memory_laws.proofs.Kept.Beside.{handles_same}
 use Rattle.memory_laws.proofs.Kept.Held.{place_in_word, place_in-apart}
-use Rattle.memory_laws.proofs.Step.Answered.{Goes, does}
-use Rattle.memory_laws.proofs.Step.Appended.{mine, no_lock, quiet_goes, stays}
+use Rattle.memory_laws.proofs.Kept.Parts.{Works, turns_of, works_of}
+use Rattle.memory_laws.proofs.Step.Answered.{does}
+use Rattle.memory_laws.proofs.Step.Appended.{Passes, mine, no_lock, passes, quiet_goes, stays}
 
 -- places whose words are one are one
 one_word : (p q : Place) → place_word p ≡ place_word q → p ≡ q
@@ -89,15 +90,21 @@ module _ (m n : Memory) (c : Core) (valid : IsValid c) (is : IsMemory m (account
   abbrev behind : State
   behind = valid.behind
 
+  -- the words and the sessions are the core's
+  works : Works m a c
+  works = works_of m a c is
+
   -- what it leaves is the memory of the core then
-  made_goes : (h len : ℕ) → Makes m n s h len → Goes n c (New s h len)
+  made_goes : (h len : ℕ) → Makes m n s h len → Passes n c (New s h len)
   made_goes h len makes =
-      let t = mine m n c valid is s makes.transaction makes.was in
+      let t = mine m n c valid works s makes.transaction makes.was in
       let v = view c.g0 a t.0 in
       let w = writing_of a c s t.0 t.1 valid in
       let undo = undo_of behind t.0.number in
-      quiet_goes m n c valid is s t.0 (New s h len) m.locks (with_made makes.transaction h len) t.1 tt refl (quiet_records c (New s h len) tt refl) makes.left
-      (ap (λ y. with_made y h len) t.2 ∙ sym (kept_made c.places v t.0.number undo h len w.made w.handles)) (no_lock m n c valid is s t.0 (New s h len) t.1 refl)
+      let none = quiet_records c (New s h len) tt refl in
+      passes m n c valid is (New s h len) [] makes.left none
+      (quiet_goes m n c valid works s t.0 (New s h len) m.locks (with_made makes.transaction h len) t.1 tt refl none (turns_of makes.left)
+      (ap (λ y. with_made y h len) t.2 ∙ sym (kept_made c.places v t.0.number undo h len w.made w.handles)) (no_lock m n c valid works s t.0 (New s h len) t.1 refl))
 
   -- a call that makes an object is answered as the core answers it, and the object is in the area then
   pub new_does : (h len : ℕ) → core_refusal c (New s h len) ≡ new_refusal (own m s) h len → (result : Result Reply AllocError) → IfOk result (λ reply. reply ≡ reply_of (new_refusal (own m s) h len) Done)

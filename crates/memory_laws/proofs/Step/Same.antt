@@ -25,15 +25,16 @@ use Rattle.heap_model.specs.Core.{Core, all_words, core_refusal}
 use Rattle.core_laws.proofs.Sessions.Whole.{address_here, whole, whole_made}
 use Rattle.core_laws.proofs.Step.Goes.{writing_of}
 use Rattle.core_laws.specs.Valid.{IsValid, RunsLocked}
-use Rattle.core_laws.proofs.Step.Forms.{is_write, quiet_records}
+use Rattle.core_laws.proofs.Step.Forms.{quiet_records}
 use Rattle.heap_memory.specs.Memory.{Memory, own, place_word, is_same_place, held_place}
 use Rattle.heap_memory.specs.Refusals.{and_then, same_refusal, len_refusal}
 use Rattle.heap_memory.specs.Replies.{same_reply_of, same_reply, len_reply}
 use Rattle.memory_laws.specs.CoreMemory.{place_in, standing_place, kept, IsMemory}
 use Rattle.memory_laws.proofs.Does.{Does}
 use Rattle.memory_laws.proofs.Kept.Held.{place_in_word}
-use Rattle.memory_laws.proofs.Step.Answered.{Goes, does}
-use Rattle.memory_laws.proofs.Step.Appended.{call_leaves, no_lock, nothing_left, reached_still}
+use Rattle.memory_laws.proofs.Kept.Parts.{Works, turns_of, works_of}
+use Rattle.memory_laws.proofs.Step.Answered.{does}
+use Rattle.memory_laws.proofs.Step.Appended.{Passes, call_leaves, no_lock, nothing_left, own_at, passes, reached_still}
 use Rattle.memory_laws.proofs.Step.Held.{IsHeld, got_place, own_is, held_active, is_held, length-held_fields}
 
 -- places that test alike are one
@@ -74,15 +75,20 @@ module _ (m : Memory) (c : Core) (valid : IsValid c) (runs : RunsLocked c.g0 c.f
   abbrev b : Account
   b = account c.history
 
+  -- the words and the sessions are the core's
+  works : Works m b c
+  works = works_of m b c is
+
   -- a call that changes nothing leaves memory as the core is then
-  tells : (event : Event) (t : Transaction) → b.active s ≡ Some t → IsCall event → session_of event ≡ s → is_write event ≡ false → ((v : View) (u : ℕ) → (call v u event).view ≡ v)
-      → ((rs : Registers) → lock_of rs event ≡ None) → Goes m c event
+  tells : (event : Event) (t : Transaction) → b.active s ≡ Some t → IsCall event → session_of event ≡ s → own_at c event ≡ [] → ((v : View) (u : ℕ) → (call v u event).view ≡ v)
+      → ((rs : Registers) → lock_of rs event ≡ None) → Passes m c event
   tells event t e called_it one silent sees free =
       let v = view c.g0 b t in
       let undo = undo_of valid.behind t.number in
-      call_leaves m m c valid is s t event [] valid.behind m.table m.locks (kept c.places v t.number undo) e called_it one (quiet_records c event called_it silent) (nothing_left m)
-      (own_is m c valid runs is s t e) (λ r other. refl) refl (reached_still m m c valid is) refl (λ r u other also. refl) (ap (λ (w : View). kept c.places w t.number undo) (sym (sees v t.number)))
-      (no_lock m m c valid is s t event e (free v.registers))
+      passes m m c valid is event [] (nothing_left m) silent
+      (call_leaves m m c valid works s t event [] valid.behind m.table m.locks (kept c.places v t.number undo) e called_it one silent (turns_of (nothing_left m))
+      (own_is m c valid runs works s t e) (λ r other. refl) refl (reached_still m m c valid works) refl refl (λ r u other also. refl)
+      (ap (λ (w : View). kept c.places w t.number undo) (sym (sees v t.number))) (no_lock m m c valid works s t event e (free v.registers)))
 
   -- What a comparison finds that isn't refused.
   record AreCompared (h h2 : ℕ) : Type 0 where
@@ -100,7 +106,7 @@ module _ (m : Memory) (c : Core) (valid : IsValid c) (runs : RunsLocked c.g0 c.f
   are_compared h h2 e =
       let first = got_place (held_place (own m s) h) (λ p. and_then (held_place (own m s) h2) (λ q. None)) e in
       let second = got_place (held_place (own m s) h2) (λ q. None) first.2 in
-      let t = held_active m c valid runs is s h first.0 first.1 in
+      let t = held_active m c valid runs works s h first.0 first.1 in
       record {
         t = t.0;
         active = t.1;
@@ -108,8 +114,8 @@ module _ (m : Memory) (c : Core) (valid : IsValid c) (runs : RunsLocked c.g0 c.f
         q = second.0;
         here = first.1;
         there = second.1;
-        one = is_held m c valid runs is s t.0 t.1 h first.0 first.1;
-        other = is_held m c valid runs is s t.0 t.1 h2 second.0 second.1;
+        one = is_held m c valid runs works s t.0 t.1 h first.0 first.1;
+        other = is_held m c valid runs works s t.0 t.1 h2 second.0 second.1;
       }
 
   -- it is answered as the core answers it
@@ -135,21 +141,21 @@ module _ (m : Memory) (c : Core) (valid : IsValid c) (runs : RunsLocked c.g0 c.f
       → Does c (Same s h h2) reply m
   same_does h h2 same reply replied =
       does c (Same s h h2) (same_refusal m s h h2) (same_reply m s h h2) reply m same replied (λ e. compared h h2 (are_compared h h2 e))
-      (λ e done_it. let both = are_compared h h2 e in tells (Same s h h2) both.t both.active tt refl refl (λ v t. refl) (λ rs. refl))
+      (λ e done_it. let both = are_compared h h2 e in tells (Same s h h2) both.t both.active tt refl (quiet_records c (Same s h h2) tt refl) (λ v t. refl) (λ rs. refl))
       (λ why e. is)
 
   -- a length is answered as the core answers it, and changes nothing
   pub len_does : (h : ℕ) → core_refusal c (Len s h) ≡ len_refusal m s h → (reply : Reply) → reply ≡ reply_of (len_refusal m s h) (len_reply m s h) → Does c (Len s h) reply m
   len_does h same reply replied =
       let found = λ (e : len_refusal m s h ≡ None). got_place (held_place (own m s) h) (λ p. None) e in
-      let active = λ (e : len_refusal m s h ≡ None). held_active m c valid runs is s h (found e).0 (found e).1 in
+      let active = λ (e : len_refusal m s h ≡ None). held_active m c valid runs works s h (found e).0 (found e).1 in
       does c (Len s h) (len_refusal m s h) (len_reply m s h) reply m same replied
       (λ e.
       let got = found e in
       let t = active e in
-      let one = is_held m c valid runs is s t.0 t.1 h got.0 got.1 in
+      let one = is_held m c valid runs works s t.0 t.1 h got.0 got.1 in
       ap (λ (o : Option Transaction). call_reply c.g0 b o (Len s h)) t.1
       ∙ ap (λ (o : Option Id). answer.Length (length (fields_of (view c.g0 b t.0).graph o))) one.holds
-      ∙ ap answer.Length (sym (length-held_fields m c valid runs is s t.0 t.1 h got.0 got.1 one)))
-      (λ e done_it. let t = active e in tells (Len s h) t.0 t.1 tt refl refl (λ v u. refl) (λ rs. refl))
+      ∙ ap answer.Length (sym (length-held_fields m c valid runs works s t.0 t.1 h got.0 got.1 one)))
+      (λ e done_it. let t = active e in tells (Len s h) t.0 t.1 tt refl (quiet_records c (Len s h) tt refl) (λ v u. refl) (λ rs. refl))
       (λ why e. is)

@@ -49,7 +49,8 @@ use Rattle.graph_words.proofs.Places.Addresses.{none_or_some}
 use Rattle.graph_words.proofs.Promotion.Alike.{AgreeIn, need_same}
 use Rattle.graph_model.specs.declared.id.Id.{Id}
 use Rattle.memory_laws.proofs.Step.Answered.{as_it_was, Goes, does}
-use Rattle.memory_laws.proofs.Step.Appended.{appended, ground_in, mine, own_kept, spaces_are}
+use Rattle.memory_laws.proofs.Kept.Parts.{Works, turns_of, works_of}
+use Rattle.memory_laws.proofs.Step.Appended.{appended, collection_here, ground_in, mine, own_kept, passes, spaces_are}
 use Rattle.memory_laws.proofs.Kept.Beside.{GoesOn, kept_on}
 
 -- What a seal finds.
@@ -179,12 +180,16 @@ module _ (c : Core) (valid : IsValid c) (runs : RunsLocked c.g0 c.first c.histor
   kept_then r other (Some u) also = ap (λ (y : TransactionState). Some y) (sym (kept_beside r u (λ same. other (sym same)) also))
 
   module _ (m n : Memory) (is : IsMemory m a c) where
+    -- the words and the sessions are the core's
+    works : Works m a c
+    works = works_of m a c is
+
     -- the records in memory are the core's
     sealing_same : (x : TransactionState) → x ≡ kept c.places v t.number undo → sealing_records m x ≡ event_records c (Seal s)
     sealing_same x same =
         ap (sealing_records m) same ∙ ap (λ (ws : List ℕ). seal_records area ws undo (m.spaces.base + m.spaces.used)) is.words
         ∙ ap (λ (spaces : SpacesState). seal_records area now undo (spaces.base + spaces.used)) (spaces_are m n c valid is)
-        ∙ sym (ap (λ (o : Option State). seal_of (record { places = c.places; words = now; state = o }) t.number v) valid.told.reached)
+        ∙ sym (ap (λ (o : Option State). seal_of (record { places = c.places; remaining = c.remaining; words = now; state = o }) t.number v) valid.told.reached)
         ∙ sym appends
 
     -- and what it takes of the space
@@ -202,17 +207,19 @@ module _ (c : Core) (valid : IsValid c) (runs : RunsLocked c.g0 c.first c.histor
         let taken = with_taken m.spaces (sealing_need m x) in
         let locks = without m.locks t.number in
         let number : x.number ≡ t.number = ap (λ (y : TransactionState). y.number) same in
-        let left = subst (λ (q : ℕ). Leaves m n (event_records c (Seal s)) table (without m.locks q) taken (m.sealed + 1)) number
-        (subst (λ (rs : List Record). Leaves m n rs table (without m.locks x.number) taken (m.sealed + 1)) (sealing_same x same) seals.left) in
+        let left = subst (λ (q : ℕ). Leaves m n (event_records c (Seal s)) table (without m.locks q) taken m.collection (m.sealed + 1)) number
+        (subst (λ (rs : List Record). Leaves m n rs table (without m.locks x.number) taken m.collection (m.sealed + 1)) (sealing_same x same) seals.left) in
         let P : ℕ → Option Transaction → Type 0 = λ r o. transaction_of table r ≡ kept_of (ground_in c later last) c.g0 sealed o in
         let each = each_session P a.active s None (with_ended_same m.table s)
-        (λ r other. with_ended_other m.table s r other ∙ own_kept m n c valid is r ∙ kept_then r other (a.active r) refl) in
+        (λ r other. with_ended_other m.table s r other ∙ own_kept m n c valid works r ∙ kept_then r other (a.active r) refl) in
         let there = λ (r : ℕ). each r ∙ ap (λ (ps : Places). kept_of (ground_in c (c.places ++ ps) last) c.g0 sealed (sealed.active r)) (sym places_then) in
         let count : m.sealed + 1 ≡ length sealed.sealed =
         omega (arith, is.sessions.sealed, ap (λ (o : Option Transaction). length (a.sealed ++ option_to_list o)) e, length-append a.sealed (t ∷ [])) in
         let held = subst (λ (ps : Places). AreHeld locks (c.places ++ ps) c.g0 sealed) (sym places_then)
         (held_sealed c.g0 c.history m.locks c.places later s (length a.sealed + 1) t runs.plain runs.two_phase e others_stand is.sessions.locks) in
-        appended m n c valid is sealed (event_records c (Seal s)) (c.places ++ event_places c (Seal s)) table locks taken (m.sealed + 1) last left seal_reaches (taking_same x same) there held is.sessions.next count
+        passes m n c valid is (Seal s) (event_records c (Seal s)) left refl
+        (appended m n c valid works sealed (event_records c (Seal s)) (c.places ++ event_places c (Seal s)) table locks taken m.collection (m.sealed + 1) last (turns_of left) seal_reaches (taking_same x same)
+        (collection_here m n c valid works) there held is.sessions.next count)
 
 module _ (m n : Memory) (c : Core) (valid : IsValid c) (runs : RunsLocked c.g0 c.first c.history) (is : IsMemory m (account c.history) c) (s : ℕ) where
   -- a seal is answered as the core answers it, and the session has no transaction then
@@ -223,7 +230,7 @@ module _ (m n : Memory) (c : Core) (valid : IsValid c) (runs : RunsLocked c.g0 c
       does c (Seal s) (seal_refusal m s) (Sealed (m.sealed + 1)) reply n same replied (λ e. ap (λ (k : ℕ). Sealed (k + 1)) (sym is.sessions.sealed))
       (λ e done_it.
       let seals = sealed_it (m.sealed + 1) (ap Ok done_it) in
-      let t = mine m n c valid is s seals.transaction seals.was in
+      let t = mine m n c valid (works_of m (account c.history) c is) s seals.transaction seals.was in
       sealed_goes c valid runs s t.0 t.1 (ap (λ (o : Option Transaction). room_refusal (ground c) c.g0 (account c.history) o (Seal s)) (sym t.1) ∙ (may_go c (Seal s) valid.unfailed (same ∙ e)).words)
       m n is seals t.2)
       (λ why e. as_it_was m n c is (stayed why (ap Ok e)))
