@@ -1,5 +1,5 @@
 -- The graph in memory: the words without what active transactions wrote are those in which the sealed transactions' graph is seen.
-use Rattle.std.proofs.Common.{◌≡◌, ℕ, List, [], ◌∷◌, length, Option, Some, None, refl, sym, ap, ◌∙◌, subst}
+use Rattle.std.proofs.Common.{◌≡◌, ℕ, List, [], ◌∷◌, ◌++◌, length, Option, Some, None, refl, sym, ap, ◌∙◌, subst}
 use Rattle.commit_order.proofs.OrderLaws.{two_phase_ordered}
 use Rattle.core_laws.proofs.Sessions.TakenBack.{session_undo, taken_by, committed_by_session}
 use Rattle.core_laws.specs.Valid.{RunsLocked, IsValid}
@@ -11,8 +11,10 @@ use Rattle.log_machine.specs.Machine.{State, undo_of, taken_back, all_taken_back
 use Rattle.log_machine.proofs.WordsLaws.{length-taken_back}
 use Rattle.object_layout.specs.Layout.{IsSeenAs}
 use Rattle.graph_words.proofs.Places.Names.{name_at}
-use Rattle.graph_words.proofs.Stands.Seen.{stands_seen_at}
-use Rattle.heap_model.proofs.Step.Plain.{plain_stands}
+use Rattle.graph_model.specs.declared.id.Id.{Id}
+use Rattle.seen_laws.specs.Heap.{IsHeap}
+use Rattle.seen_laws.proofs.Names.{heap_names}
+use Rattle.seen_laws.proofs.States.{sealed_seen}
 use Rattle.heap_model.specs.Core.{Core, Ground, ground, all_words, undo_with}
 use Rattle.heap_spaces.specs.Spaces.{SpacesState}
 use Rattle.memory_laws.specs.CoreMemory.{IsMemory, kept_of}
@@ -43,15 +45,21 @@ memory_committed c w valid runs is =
     ∙ ap (taken_by undo a sessions) is.words
     ∙ committed_by_session a c valid (two_phase_ordered c.g0 c.history runs.plain runs.two_phase)
 
+-- the names of a core's objects, those that remain in the space that a collection empties with them, by their addresses
+abbrev pub names_of : Core → ℕ → Id
+names_of c = name_at (c.places ++ c.remaining)
+
 -- the graph of the sealed transactions is seen in it
 pub memory_seen : (c : Core) (w : Engine) → IsValid c → RunsLocked c.g0 c.first c.history → IsMemory (memory w) (account c.history) c
-    → IsSeenAs (name_at c.places) (committed w) (memory w).spaces.base (serial c.g0 (sealed c.history))
+    → IsSeenAs (names_of c) (committed w) (memory w).spaces.base (serial c.g0 (sealed c.history))
 memory_seen c w valid runs is =
-    let now = all_taken_back valid.behind (all_words c) in
+    let told = valid.told in
     let g = serial c.g0 (sealed c.history) in
+    let heap : IsHeap valid.behind c.places c.remaining (all_words c) = record { spaced = told.heap.spaced; long = told.heap.long; laid = told.heap.laid } in
+    let seen = sealed_seen valid.behind c.places c.remaining (all_words c) (names_of c) heap told.backed told.stands (heap_names heap) in
     let here : valid.behind.base ≡ (memory w).spaces.base = ap (λ (x : SpacesState). x.base) (sym (spaces_are (memory w) (memory w) c valid is)) in
-    let there : IsSeenAs (name_at c.places) now (memory w).spaces.base g = subst (λ (base : ℕ). IsSeenAs (name_at c.places) now base g) here (stands_seen_at (plain_stands valid.told)) in
-    subst (λ (ws : List ℕ). IsSeenAs (name_at c.places) ws (memory w).spaces.base g) (sym (memory_committed c w valid runs is)) there
+    subst (λ (ws : List ℕ). IsSeenAs (names_of c) ws (memory w).spaces.base g) (sym (memory_committed c w valid runs is))
+    (subst (λ (base : ℕ). IsSeenAs (names_of c) (all_taken_back valid.behind (all_words c)) base g) here seen)
 
 -- taking back changes words where they are
 pub length-without_writes : (table : TableState) (ss now : List ℕ) → length (without_writes table now ss) ≡ length now

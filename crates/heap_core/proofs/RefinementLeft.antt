@@ -1,15 +1,6 @@
 -- What a crash leaves of a heap whose history gets an entry that neither commits nor acknowledges anything.
-use Rattle.std.proofs.Common.{◌≡◌, ◌⊎◌, inl, inr, ℕ, ◌+◌, ◌≤◌, cond, List, [], ◌∷◌, ◌++◌, length, take, Option, Some, None, Result, Ok, Err, refl, sym, ap, ◌∙◌, subst, arith}
+use Rattle.std.proofs.Common.{◌≡◌, ◌⊎◌, inl, inr, ℕ, ◌+◌, ◌≤◌, List, [], ◌∷◌, ◌++◌, length, take, Option, refl, sym, ap, ◌∙◌, subst}
 use Rattle.std.specs.Option.{option_to_list}
-use Rattle.std.proofs.lemmas.Bool.{lt-ltb}
-use Rattle.counts.specs.Count.{counted}
-use Rattle.disk_model.specs.Moments.{LeavesOnly}
-use Rattle.disk_model.proofs.MomentLaws.{begins}
-use Rattle.disk_model.specs.declared.disk.DiskError.{DiskError}
-use Rattle.gate_slot.specs.Passing.{Passes}
-use Rattle.gated_log.specs.declared.log.Log.{Log}
-use Rattle.gated_log.proofs.LogLaws.{buffer_size-Keeps}
-use Rattle.gated_log.specs.LogState.{buffer_size, is_waiting, IsBufferEmpty, Keeps}
 use Rattle.graph_model.specs.declared.event.Event.{Event}
 use Rattle.graph_model.specs.declared.event.Event.TheVariants.{Force, Flush}
 use Rattle.graph_model.specs.declared.reply.Entry.{Entry}
@@ -21,16 +12,9 @@ use Rattle.graph_model.specs.Transaction.{Transaction, serial}
 use Rattle.graph_model.specs.History.{Account, account, account_after, first_failure, sealed, commits, acknowledged}
 use Rattle.graph_model.proofs.Runs.History.{account-append}
 use Rattle.graph_model.proofs.Refusals.Plain.{IsNoFault, account_after-refused}
-use Rattle.log_records.specs.declared.Record.{Record}
-use Rattle.log_records.specs.Record.{spellings}
-use Rattle.heap_core.specs.Causes.{reply_device}
-use Rattle.heap_model.specs.Core.{Core, core_refusal, with_entry, force_calls, AsksDisk, calls_if, calls}
+use Rattle.heap_model.specs.Core.{Core, with_entry, AsksDisk}
 use Rattle.heap_model.specs.CoreCrash.{IsCommitPrefix}
-use Rattle.heap_model.proofs.Run.Calls.{failed_refusal}
-use Rattle.core_laws.proofs.Run.Events.{calls-forced}
-use Rattle.core_laws.specs.Valid.{IsValid}
 use Rattle.heap_model.specs.Image.{Says}
-use Rattle.memory_laws.proofs.Kept.Log.{some_spellings}
 
 -- an entry that neither commits nor acknowledges anything
 keeps_entry : (c : Core) (event : Event) (reply : Reply) (b : Account) (image : List ℕ) → account_after (account c.history) (record { event = event; reply = reply }) ≡ b

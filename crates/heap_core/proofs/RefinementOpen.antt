@@ -1,9 +1,9 @@
 -- A heap that has just been opened.
-use Rattle.std.specs.Prelude.{IsTrue, IsFalse}
-use Rattle.std.proofs.Common.{◌≡◌, inl, ℕ, ◌+◌, ◌<◌, ◌≤◌, max, get_or, Bool, true, false, List, length, None, is_some, refl, sym, ap, ◌∙◌, subst, arith}
+use Rattle.std.specs.Prelude.{IsTrue, IsFalse, MatchOption}
+use Rattle.std.proofs.Common.{◌≡◌, ℕ, ◌+◌, ◌<◌, ◌≤◌, max, get_or, Bool, true, false, List, [], length, Option, None, Some, refl, sym, ap, ◌∙◌, subst, arith}
 use Rattle.std.specs.FinMap.{get-empty}
 use Rattle.std.specs.FinSet as set
-use Rattle.std.specs.FinSet.{contains-empty}
+use Rattle.std.specs.FinSet.{contains, contains-empty}
 use Rattle.std.specs.Ordering.{nat_cmp}
 use Rattle.std.proofs.lemmas.List.{append-nil}
 use Rattle.disk_model.specs.Disk.{Only}
@@ -11,10 +11,12 @@ use Rattle.gated_log.specs.Log.{records_of}
 use Rattle.gated_log.specs.LogState.{log_count}
 use Rattle.graph_model.specs.Graph.{Graph}
 use Rattle.graph_model.specs.History.{account, nothing_yet}
+use Rattle.heap_spaces.specs.Collection.{Collection}
 use Rattle.heap_spaces.specs.Spaces.{SpacesState}
 use Rattle.image_plan.specs.declared.superblock.Super.{Super}
 use Rattle.log_records.specs.declared.Record.{Record}
 use Rattle.log_machine.specs.Machine.{State, settled, spaces_of, start, words_in}
+use Rattle.log_machine.specs.Sound.{IsWithin}
 use Rattle.log_machine.proofs.StateLaws.{leads_after_all}
 use Rattle.log_machine.proofs.WordsLaws.{length-first_contents}
 use Rattle.page_redo.specs.Pages.{Pages, pages_in, lsn_of}
@@ -26,8 +28,11 @@ use Rattle.page_store.specs.declared.store.PageStore.{PageStore}
 use Rattle.page_store.specs.Gates.{open_gates}
 use Rattle.page_store.specs.StoreState.{store_plan, stored_lsn, has_failed, Knows}
 use Rattle.graph_words.specs.Places.{Places}
+use Rattle.collection_words.specs.LaidOut.{IsFromSpace, IsLaidOut}
+use Rattle.collection_words.proofs.Laid.Within.{start_within}
 use Rattle.heap_model.specs.CoreCrash.{IsLogged}
-use Rattle.heap_model.proofs.Opening.Rolled.{next_is, commits_are, rolled_reached, redone_words-rolled_back, length-rolled_words, rolled_behind, rolled_prefixes}
+use Rattle.heap_model.proofs.Opening.Opened.{address_found}
+use Rattle.heap_model.proofs.Opening.Rolled.{next_is, commits_are, rolled_reached, redone_words-rolled_back, length-rolled_words, rolled_behind, rolled_prefixes, shaped_spaces}
 use Rattle.heap_model.specs.Core.{state_behind}
 use Rattle.heap_model.specs.Image.{origin_of, IsShapedLog, IsLegalLog, Holds}
 use Rattle.heap_model.specs.Opening.{rolled_back, rolled_words, commits_of, opened}
@@ -90,26 +95,28 @@ none_held locks places g is h = (
   λ held. let never = held.active in cc never,
 )
 
--- What a heap just opened keeps in memory: the log and the pages that were found, a space of which the objects' words are taken, no
--- transaction, and no lock.
+-- What a heap just opened keeps in memory: the log and the pages that were found, a space of which the objects' words are taken, the
+-- collection that was under way, no transaction, and no lock.
 pub record IsFresh (found : Recovered) (m : Memory) : Type 0 where
   pub log : m.log ≡ found.log
   pub words : m.words ≡ (cached found.cache).words
   pub lsns : m.lsns ≡ (cached found.cache).lsns
   pub store : m.store ≡ cache_store found.cache
   pub spaces : m.spaces ≡ spaces_of found.state
+  pub collection : m.collection ≡ found.state.collection
   pub table : m.table ≡ new_table found.state.next
   pub locks : m.locks ≡ set.empty
   pub sealed : m.sealed ≡ 0
 
-pub is_fresh : (found : Recovered) (spaces : SpacesState) (table first : TableState) (m : Memory) → m ≡ state.opened found.log found.cache spaces table.next
-    → spaces ≡ spaces_of found.state → table ≡ record { next = found.state.next; active = first.active } → IsFresh found m
-is_fresh found spaces table first m is space transactions = record {
+pub is_fresh : (found : Recovered) (spaces : SpacesState) (runs : Option Collection) (table first : TableState) (m : Memory) → m ≡ state.opened found.log found.cache spaces runs table.next
+    → spaces ≡ spaces_of found.state → runs ≡ found.state.collection → table ≡ record { next = found.state.next; active = first.active } → IsFresh found m
+is_fresh found spaces runs table first m is space run transactions = record {
   log = ap (λ x. x.log) is;
   words = ap (λ x. x.words) is;
   lsns = ap (λ x. x.lsns) is;
   store = ap (λ x. x.store) is;
   spaces = ap (λ x. x.spaces) is ∙ space;
+  collection = ap (λ x. x.collection) is ∙ run;
   table = ap (λ x. x.table) is ∙ ap (λ t. new_table t.next) transactions;
   locks = ap (λ x. x.locks) is;
   sealed = ap (λ x. x.sealed) is;
@@ -138,8 +145,9 @@ fresh_memory s batches stored gates born places g found m shaped recovered fresh
         state = settled shaped.state;
         reached = ap (state_behind c) none ∙ rolled_reached s batches stored shaped;
         spaces = fresh.spaces ∙ ap spaces_of (state_found s batches stored found shaped recovered);
+        collection = fresh.collection ∙ ap (λ (x : State). x.collection) (state_found s batches stored found shaped recovered);
         transactions = none_begun m.table found.state.next fresh.table;
-        locks = none_held m.locks places g fresh.locks;
+        locks = none_held m.locks c.places g fresh.locks;
         next = ap (λ t. t.next) fresh.table ∙ omega (arith, same_next);
         sealed = fresh.sealed;
       };
@@ -189,13 +197,23 @@ opened_disk_holds s batches stored gates places g new may_leave legal held only 
   failed = λ some. absurd (some refl);
 }
 
--- Numbers of every heap that was opened: there is a next transaction, the words are those of both spaces, the objects' words are in the first,
--- and the log's next record is new to each page.
+-- Numbers of every heap that was opened: there is a next transaction, the words are those of both spaces, the log's next record is new to each
+-- page, and what is gray stands in the words that are used.
 pub record IsBounded (found : Recovered) : Type 0 where
   pub next : 1 ≤ found.state.next
   pub size : length (cached found.cache).words ≡ words_in found.state.pages
   pub new : EachLacks (log_count found.log + 1) (cached found.cache)
   pub few : found.state.pages ≤ 16384
+  pub gray : (k : Collection) → found.state.collection ≡ Some k → (at : ℕ) → contains k.gray at ≡ true → at < found.state.base + found.state.used
+  pub within : (k : Collection) → found.state.collection ≡ Some k → IsWithin found.state.pages k
+
+-- what is gray stands in the used words
+gray_within : (s : State) (places remaining : Places) (words : List ℕ) (k : Collection) → s.collection ≡ Some k → IsLaidOut s places remaining words → (at : ℕ) → contains k.gray at ≡ true → at < s.base + s.used
+gray_within s places remaining words k run laid at gray =
+    let from = subst (λ (o : Option Collection). MatchOption o (remaining ≡ []) (λ x. IsFromSpace s x places remaining words)) run laid.from in
+    let within = start_within laid at (from.grays at gray) in
+    let below = within.below in
+    omega arith
 
 pub opened_bounds : (s : Super) (batches : List (List Record)) (stored : Pages) (found : Recovered) → IsShapedLog s batches stored → IsRecovered s batches stored found → IsBounded found
 opened_bounds s batches stored found shaped recovered =
@@ -212,4 +230,16 @@ opened_bounds s batches stored found shaped recovered =
       size = size;
       new = next_is_new s batches stored found shaped recovered;
       few = omega arith;
+      gray = λ k run at gray.
+          let graph = address_found s batches stored shaped in
+          let laid = graph.2.whole.holds.laid in
+          let runs : shaped.state.collection ≡ Some k = sym (ap (λ (x : State). x.collection) state) ∙ run in
+          let there = gray_within shaped.state _ _ _ k runs laid at gray in
+          let base = ap (λ (x : State). x.base) state in
+          let used = ap (λ (x : State). x.used) state in
+          omega arith;
+      within = λ k run.
+          let same = ap (λ (x : State). x.pages) state in
+          subst (λ (n : ℕ). IsWithin n k) (sym same)
+          (subst (λ (o : Option Collection). MatchOption o (Unit {0}) (IsWithin shaped.state.pages)) (sym (ap (λ (x : State). x.collection) state) ∙ run) (shaped_spaces s batches stored shaped).spaced.within);
     }

@@ -1,5 +1,5 @@
 -- What an event leaves of an open heap is a step of the core that it is.
-use Rattle.std.proofs.Common.{◌≡◌, ◌≢◌, ◌⊎◌, inl, inr, ◌<◌, ℕ, ◌+◌, Bool, List, [], ◌∷◌, ◌++◌, length, Option, Some, None, Ok, is_some, refl, sym, ap, ◌∙◌, subst, ⊎_elim}
+use Rattle.std.proofs.Common.{◌≡◌, ◌≢◌, ◌⊎◌, inl, inr, ◌<◌, ℕ, ◌+◌, Bool, List, [], ◌∷◌, ◌++◌, length, Option, Some, None, is_some, refl, sym, ap, ◌∙◌, subst, ⊎_elim}
 use Rattle.std.specs.Prelude.{IsTrue, ◌↔◌, MatchOption}
 use Rattle.disk_model.specs.declared.disk.Disk.{Ghosts}
 use Rattle.gate_slot.specs.Passing.{Passes}
@@ -9,7 +9,6 @@ use Rattle.graph_model.specs.declared.reply.Refusal.{Refusal}
 use Rattle.graph_model.specs.declared.reply.Refusal.TheVariants.{Failed, DiskFault, Stopped}
 use Rattle.graph_model.specs.declared.reply.Reply.{Reply}
 use Rattle.graph_model.specs.declared.reply.Reply.TheVariants.{Refused}
-use Rattle.graph_model.specs.Transaction.{Transaction}
 use Rattle.graph_model.specs.History.{Account, account, account_after, first_failure}
 use Rattle.graph_model.proofs.Runs.History.{account-append, entries-account}
 use Rattle.graph_model.specs.Plain.{reply_of}

@@ -159,7 +159,9 @@ impl<D: Disk> Heap<D> {
                 let Recovered { log, cache, state } = found;
                 table.set_next(state.next());
                 let commits = state.commits();
-                let engine = Engine::new(alloc, log, cache, state.spaces(), table);
+                let spaces = state.spaces();
+                let collection = state.into_collection();
+                let engine = Engine::new(alloc, log, cache, spaces, collection, table);
                 Ok(Heap {
                     disk,
                     engine,

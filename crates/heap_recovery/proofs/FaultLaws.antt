@@ -29,10 +29,11 @@ use Rattle.page_redo.specs.Redo.{EachLacks, redone}
 use Rattle.page_redo.proofs.RedoLaws.{EachLacks-later, redone_words-append}
 use Rattle.page_cache.specs.CacheState.{IsFirstPast}
 use Rattle.page_cache.proofs.ImageLaws.{stored_behind_log}
-use Rattle.object_layout.specs.Walk.{IsWalked, IsWalkFault}
-use Rattle.object_layout.proofs.WalkLaws.{walked_fault, fault_one}
+use Rattle.object_layout.specs.CollectionWalk.{FromSpace, IsWalkFaultBeside}
+use Rattle.object_layout.proofs.CollectionLaws.{beside_walked_fault, beside_fault_one}
+use Rattle.walk_laws.specs.Heap.{IsStateWalked, from_space}
 use Rattle.heap_model.specs.Core.{need}
-use Rattle.heap_model.proofs.Opening.Rolled.{rollback_need, settled_reserve}
+use Rattle.heap_model.proofs.Opening.Rolled.{rollback_need, settled_from, settled_reserve}
 use Rattle.heap_model.proofs.Step.Room.{records_of-with_batch, length-with_batch, length-pending_batch-append}
 use Rattle.heap_model.specs.Image.{origin_of, redone_words, words_of, IsShaped}
 use Rattle.heap_model.specs.Opening.{rollback_in, rollback_of, rolled_back, opening_calls}
@@ -156,14 +157,14 @@ pages_behind s batches state image page readable fault =
 
 -- what is told of the words is told of those that the log leaves
 pub readable_walk : (s : Super) (batches : List (List Record)) (state : State) (image : List ℕ) (address : ℕ) → IsReadable s batches state image → IsFaultAt (Address address) image
-    → IsWalkFault (words_of s batches (stored_in s image)) state.base state.used address
+    → IsWalkFaultBeside (words_of s batches (stored_in s image)) state.base state.used (from_space state) address
 readable_walk s batches state image address readable (r, bs, n, other, fault) =
     let log = readable.roomy.replayed.log in
     let numbers = one_numbers r s image other.roomy.replayed.log.super log.super in
-    let P : Super → Type 0 = λ x. IsReplayed x bs n image × IsWalkFault (words_of x bs (stored_in x image)) n.base n.used address in
+    let P : Super → Type 0 = λ x. IsReplayed x bs n image × IsWalkFaultBeside (words_of x bs (stored_in x image)) n.base n.used (from_space n) address in
     let mine = subst P numbers (other.roomy.replayed, fault) in
-    let Q : List (List Record) → Type 0 = λ l. IsWalkFault (words_of s l (stored_in s image)) n.base n.used address in
-    let R : State → Type 0 = λ x. IsWalkFault (words_of s batches (stored_in s image)) x.base x.used address in
+    let Q : List (List Record) → Type 0 = λ l. IsWalkFaultBeside (words_of s l (stored_in s image)) n.base n.used (from_space n) address in
+    let R : State → Type 0 = λ x. IsWalkFaultBeside (words_of s batches (stored_in s image)) x.base x.used (from_space x) address in
     subst R (one_state s image bs batches n state mine.0 readable.roomy.replayed) (subst Q (one_batches s bs batches image mine.0.log log) mine.1)
 
 -- A fault is the image's only one.
@@ -182,7 +183,7 @@ no_heap_fault at image none fault = let found = fault_super at image fault in no
 
 -- an image whose log can be read has a fault at an address, or none
 pub readable_fault : (s : Super) (batches : List (List Record)) (state : State) (image : List ℕ) (at : At) → IsReadable s batches state image → IsFaultAt at image
-    → (address : ℕ) × (at ≡ Address address) × IsWalkFault (words_of s batches (stored_in s image)) state.base state.used address
+    → (address : ℕ) × (at ≡ Address address) × IsWalkFaultBeside (words_of s batches (stored_in s image)) state.base state.used (from_space state) address
 readable_fault s batches state image (Batch offset) readable fault = absurd (log_unbroken s batches image offset readable.roomy.replayed.log fault)
 readable_fault s batches state image (Rec lsn) readable fault = absurd (replayed_unstuck s batches state image lsn readable.roomy.replayed fault)
 readable_fault s batches state image Reserve readable fault = absurd (room_enough s batches state image readable.roomy fault)
@@ -201,10 +202,10 @@ readable_late s batches state image at readable fault before =
     subst P found.1 before
 
 -- a walk that passes leaves none
-pub walked_whole : (s : Super) (batches : List (List Record)) (state : State) (image : List ℕ) (at : At) → IsReadable s batches state image → IsWalked (words_of s batches (stored_in s image)) state.base state.used → IsFaultAt at image → ⊥
+pub walked_whole : (s : Super) (batches : List (List Record)) (state : State) (image : List ℕ) (at : At) → IsReadable s batches state image → IsStateWalked state (words_of s batches (stored_in s image)) → IsFaultAt at image → ⊥
 walked_whole s batches state image at readable walked fault =
     let found = readable_fault s batches state image at readable fault in
-    walked_fault (words_of s batches (stored_in s image)) state.base state.used found.0 walked found.2
+    beside_walked_fault (words_of s batches (stored_in s image)) state.base state.used (from_space state) found.0 walked found.2
 
 -- a shaped image holds its log
 pub shaped_log : (s : Super) (batches : List (List Record)) (stored : Pages) (image : List ℕ) → IsShaped s batches stored image → HoldsLog s batches image
@@ -222,7 +223,7 @@ pub shaped_whole : (s : Super) (batches : List (List Record)) (stored : Pages) (
 shaped_whole s batches stored image at shaped =
     let state = shaped.log.state in
     walked_whole s batches state image at (shaped_readable s batches stored image shaped)
-    (subst (λ (pages : Pages). IsWalked (words_of s batches pages) state.base state.used) (sym shaped.held.pages) shaped.log.walked)
+    (subst (λ (pages : Pages). IsStateWalked state (words_of s batches pages)) (sym shaped.held.pages) shaped.log.walked)
 
 -- An image has one fault at most.
 pub one_fault : (image : List ℕ) (at other : At) → IsFaultAt at image → IsFaultAt other image → at ≡ other
@@ -258,7 +259,7 @@ one_fault image (Address a) (Batch b) (s, bs, m, readable, walk) other = absurd 
 one_fault image (Address a) (Rec b) (s, bs, m, readable, walk) other = absurd (replayed_unstuck s bs m image b readable.roomy.replayed other)
 one_fault image (Address a) Reserve (s, bs, m, readable, walk) other = absurd (room_enough s bs m image readable.roomy other)
 one_fault image (Address a) (Page b) (s, bs, m, readable, walk) other = absurd (pages_behind s bs m image b readable other)
-one_fault image (Address a) (Address b) (s, bs, m, readable, walk) other = ap Address (fault_one (words_of s bs (stored_in s image)) m.base m.used a b walk (readable_walk s bs m image b readable other))
+one_fault image (Address a) (Address b) (s, bs, m, readable, walk) other = ap Address (beside_fault_one (words_of s bs (stored_in s image)) m.base m.used (from_space m) a b walk (readable_walk s bs m image b readable other))
 
 -- What an error tells.
 
@@ -295,7 +296,7 @@ module _ (s : Super) (batches : List (List Record)) (state : State) (image : Lis
   reached = is.roomy.replayed.reached
 
   can : CanRollBack state
-  can = can_roll_back s.pages s.first state rs log.good reached
+  can = can_roll_back s.pages s.first state rs log.super.limits.some_pages log.super.limits.few_pages log.good reached
 
   taken : rollback_of s batches ≡ rollback state
   taken = ap rollback_in reached
@@ -357,14 +358,20 @@ module _ (s : Super) (batches : List (List Record)) (state : State) (image : Lis
     pub rolled_fault : (address : ℕ) → HoldsLog s (rolled_back s batches) new → IsFaultAt (Address address) image → IsFaultAt (Address address) new
     rolled_fault address holds fault =
         let walk = readable_walk s batches state image address is fault in
-        let words : words_of s batches stored ≡ words_of s (rolled_back s batches) (stored_in s new) = sym rolled_words ∙ ap (words_of s (rolled_back s batches)) (sym same) in
-        (s, rolled_back s batches, settled state, rolled_readable holds, subst (λ (ws : List ℕ). IsWalkFault ws state.base state.used address) words walk)
+        let words : words_of s batches stored ≡ words_of s (rolled_back s batches) (stored_in s new) = sym rolled_words ∙ ap (words_of s (rolled_back s batches)) (sym same) in (
+          s,
+          rolled_back s batches,
+          settled state,
+          rolled_readable holds,
+          subst (λ (from : Option FromSpace). IsWalkFaultBeside (words_of s (rolled_back s batches) (stored_in s new)) state.base state.used from address) (sym (settled_from state))
+              (subst (λ (ws : List ℕ). IsWalkFaultBeside ws state.base state.used (from_space state) address) words walk),
+        )
 
     -- likewise one that holds the same log
     kept_fault : (address : ℕ) → HoldsLog s batches new → IsFaultAt (Address address) image → IsFaultAt (Address address) new
     kept_fault address holds fault =
         let walk = readable_walk s batches state image address is fault in
-        (s, batches, state, kept_readable holds, subst (λ (pages : Pages). IsWalkFault (words_of s batches pages) state.base state.used address) (sym same) walk)
+        (s, batches, state, kept_readable holds, subst (λ (pages : Pages). IsWalkFaultBeside (words_of s batches pages) state.base state.used (from_space state) address) (sym same) walk)
 
   -- What an opening leaves of an image whose log can be read has the fault that the image has.
   pub left_fault : (at : At) → IsFaultAt at image → (new : List ℕ) → IsLogLeft s batches image new → IsFaultAt at new

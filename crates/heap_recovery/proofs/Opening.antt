@@ -31,10 +31,12 @@ use Rattle.page_store.specs.StoreState.{store_plan, store_log, stored_lsn, has_f
 use Rattle.page_store.proofs.StoreLaws.{knows_behind_log}
 use Rattle.page_cache.specs.declared.cache.PageCache.{PageCache}
 use Rattle.page_cache.specs.CacheState.{cached, cache_store}
-use Rattle.object_layout.specs.Walk.{IsWalked, IsWalkFault}
-use Rattle.object_layout.proofs.WalkLaws.{walked_fault}
+use Rattle.object_layout.specs.CollectionWalk.{FromSpace, IsWalkFaultBeside, IsWalkedBeside}
+use Rattle.object_layout.proofs.CollectionLaws.{beside_walked_fault}
+use Rattle.walk_laws.specs.Heap.{IsStateWalked, from_space}
 use Rattle.heap_model.proofs.Step.Room.{records_of-with_batch}
 use Rattle.heap_model.proofs.Opening.Held.{held_with}
+use Rattle.heap_model.specs.Bits.{AreOf64Bits}
 use Rattle.heap_model.specs.Image.{origin_of, redone_words, words_of, IsShapedLog, Holds}
 use Rattle.heap_model.specs.Core.{force_calls}
 use Rattle.heap_model.specs.Opening.{state_of, IsLeftByOpening, opening_calls, rollback_in, rollback_of, rolled_back}
@@ -90,9 +92,9 @@ error_passes n before now (Disk e) same outside = record {
 }
 
 -- a walk that passes finds no fault
-no_fault : (words : List ℕ) (base used : ℕ) (fault : Option ℕ) → IsWalked words base used → ((at : ℕ) → fault ≡ Some at → IsWalkFault words base used at) → fault ≡ None
-no_fault words base used None walked faults = refl
-no_fault words base used (Some at) walked faults = absurd (walked_fault words base used at walked (faults at refl))
+no_fault : (words : List ℕ) (base used : ℕ) (from : Option FromSpace) (fault : Option ℕ) → IsWalkedBeside words base used from → ((at : ℕ) → fault ≡ Some at → IsWalkFaultBeside words base used from at) → fault ≡ None
+no_fault words base used from None walked faults = refl
+no_fault words base used from (Some at) walked faults = absurd (beside_walked_fault words base used from at walked (faults at refl))
 
 module _ (s : Super) (batches : List (List Record)) (stored : Pages) (read : Reading) (is : IsRead s batches stored read) where
   -- the records that roll back are those of what was read
@@ -145,8 +147,8 @@ module _ (s : Super) (batches : List (List Record)) (stored : Pages) (read : Rea
       subst (λ (store : PageStore). Knows store new) (sym same) (knows_behind_log (cache_store read.cache) image new knows there)
 
   -- what was read is a shaped log, if the walk of its words passes
-  pub read_shaped : (used : log_used read.log + reserve read.state ≤ log_room read.log) (now : List ℕ) → now ≡ all_taken_back read.state (cached read.cache).words → IsWalked now read.state.base read.state.used → IsShapedLog s batches stored
-  read_shaped room now rolled walked = record {
+  pub read_shaped : (used : log_used read.log + reserve read.state ≤ log_room read.log) (now : List ℕ) → now ≡ all_taken_back read.state (cached read.cache).words → AreOf64Bits now → IsStateWalked read.state now → IsShapedLog s batches stored
+  read_shaped room now rolled fit walked = record {
     limits = is.limits;
     good = is.good;
     state = read.state;
@@ -155,26 +157,27 @@ module _ (s : Super) (batches : List (List Record)) (stored : Pages) (read : Rea
     size = is.cache.size;
     lsns_size = is.cache.lsns_size;
     behind = is.cache.behind;
-    walked = subst (λ (l : List ℕ). IsWalked l read.state.base read.state.used) (rolled ∙ committed) walked;
+    fit = subst AreOf64Bits (rolled ∙ committed) fit;
+    walked = subst (λ (l : List ℕ). IsStateWalked read.state l) (rolled ∙ committed) walked;
   }
 
   -- a shaped log has the room for its rollback, and its walk passes
-  shaped_walk : (shaped : IsShapedLog s batches stored) (state : State) → state ≡ read.state → (now : List ℕ) → now ≡ all_taken_back read.state (cached read.cache).words → IsWalked now state.base state.used
+  shaped_walk : (shaped : IsShapedLog s batches stored) (state : State) → state ≡ read.state → (now : List ℕ) → now ≡ all_taken_back read.state (cached read.cache).words → IsStateWalked state now
   shaped_walk shaped state same now rolled =
       let one : shaped.state ≡ state = (let both : Some shaped.state ≡ Some read.state = sym shaped.reached ∙ is.state in cc) in
-      subst (λ (x : State). IsWalked now x.base x.used) one (subst (λ (l : List ℕ). IsWalked l shaped.state.base shaped.state.used) (sym (rolled ∙ committed)) shaped.walked)
+      subst (λ (x : State). IsStateWalked x now) one (subst (λ (l : List ℕ). IsStateWalked shaped.state l) (sym (rolled ∙ committed)) shaped.walked)
 
   -- so that finds no fault
   pub shaped_fault : (shaped : IsShapedLog s batches stored) (state : State) → state ≡ read.state → (now : List ℕ) → now ≡ all_taken_back read.state (cached read.cache).words
-      → (fault : Option ℕ) → ((at : ℕ) → fault ≡ Some at → IsWalkFault now state.base state.used at) → fault ≡ None
-  shaped_fault shaped state same now rolled fault faults = no_fault now state.base state.used fault (shaped_walk shaped state same now rolled) faults
+      → (fault : Option ℕ) → ((at : ℕ) → fault ≡ Some at → IsWalkFaultBeside now state.base state.used (from_space state) at) → fault ≡ None
+  shaped_fault shaped state same now rolled fault faults = no_fault now state.base state.used (from_space state) fault (shaped_walk shaped state same now rolled) faults
 
   -- what the log says once it is rolled back
   rolled_state : state_of s (rolled_back s batches) ≡ Some (settled read.state)
   rolled_state =
       ap (λ (rs : List Record). after_all (origin_of s).state rs) (records_of-with_batch batches (rollback_of s batches) ∙ ap (λ (rs : List Record). records_of batches ++ rs) same_rollback)
       ∙ after_all-append2 (origin_of s).state read.state (records_of batches) (rollback read.state) is.state
-      ∙ rollback_reaches read.state (can_roll_back s.pages s.first read.state (records_of batches) is.good is.state).sound
+      ∙ rollback_reaches read.state (can_roll_back s.pages s.first read.state (records_of batches) is.limits.some_pages is.limits.few_pages is.good is.state).sound
 
   -- what is opened
   pub recovered : (r : Result Recovered RecoverError) (log : Log) (cache : PageCache) (state : State) → state ≡ read.state → log_place log ≡ log_place read.log → log_room log ≡ log_room read.log
@@ -196,12 +199,12 @@ module _ (s : Super) (batches : List (List Record)) (stored : Pages) (read : Rea
 -- what is opened is a shaped log
 pub opened_shaped : (s : Super) (batches : List (List Record)) (stored : Pages) (read : Reading) (is : IsRead s batches stored read) (r : Result Recovered RecoverError) (now : List ℕ) (state : State) (fault : Option ℕ)
     → log_used read.log + reserve read.state ≤ log_room read.log → state ≡ read.state → now ≡ all_taken_back read.state (cached read.cache).words
-    → (fault ≡ None → IsWalked now state.base state.used) → IfOk r (λ found. fault ≡ None) → IfOk r (IsRecovered s batches stored)
+    → AreOf64Bits now → (fault ≡ None → IsStateWalked state now) → IfOk r (λ found. fault ≡ None) → IfOk r (IsRecovered s batches stored)
     → IfOk r (λ found. (t : Super) × (bs : List (List Record)) × (pages : Pages) × IsShapedLog t bs pages × IsRecovered t bs pages found)
-opened_shaped s batches stored read is (Err e) now state fault room same taken passes none found = tt
-opened_shaped s batches stored read is (Ok f) now state fault room same taken passes none found =
-    let walked = subst (λ (x : State). IsWalked now x.base x.used) same (passes none) in
-    (s, batches, stored, read_shaped s batches stored read is room now taken walked, found)
+opened_shaped s batches stored read is (Err e) now state fault room same taken fit passes none found = tt
+opened_shaped s batches stored read is (Ok f) now state fault room same taken fit passes none found =
+    let walked = subst (λ (x : State). IsStateWalked x now) same (passes none) in
+    (s, batches, stored, read_shaped s batches stored read is room now taken fit walked, found)
 
 -- what is known of the pages is known of those that were opened
 pub known_found : (r : Result Recovered RecoverError) (cache : PageCache) (image : List ℕ) → IfOk r (λ found. found.cache ≡ cache) → Knows (cache_store cache) image → IfOk r (λ found. Knows (cache_store found.cache) image)

@@ -15,9 +15,11 @@ use Rattle.image_plan.specs.Plan.{log_offset}
 use Rattle.log_records.specs.declared.Record.{Record}
 use Rattle.log_records.specs.Record.{IsRecord}
 use Rattle.log_machine.specs.Machine.{State, all_taken_back, rollback, reserve}
-use Rattle.object_layout.specs.Walk.{IsWalked, IsWalkFault}
+use Rattle.object_layout.specs.CollectionWalk.{IsWalkFaultBeside}
+use Rattle.walk_laws.specs.Heap.{IsStateWalked, from_space}
 use Rattle.page_redo.specs.Pages.{Pages}
 use Rattle.page_cache.specs.CacheState.{cached}
+use Rattle.heap_model.specs.Bits.{AreOf64Bits}
 use Rattle.heap_model.specs.Image.{Holds, IsShaped}
 use Rattle.heap_model.specs.Opening.{rolled_back}
 use Rattle.heap_recovery.specs.declared.at.At.{At}
@@ -107,21 +109,21 @@ module _ (r : Result Recovered RecoverError) (fault : Option ℕ) (damaged : (at
 
 module _ (s : Super) (batches : List (List Record)) (image : List ℕ) (read : Reading) (is : IsRead s batches (stored_in s image) read) (readable : IsReadable s batches read.state image) where
   -- a fault of the walk is the image's
-  pub walk_told : (state : State) → state ≡ read.state → (now : List ℕ) → now ≡ all_taken_back read.state (cached read.cache).words → (address : ℕ) → IsWalkFault now state.base state.used address → IsFaultAt (Address address) image
+  pub walk_told : (state : State) → state ≡ read.state → (now : List ℕ) → now ≡ all_taken_back read.state (cached read.cache).words → (address : ℕ) → IsWalkFaultBeside now state.base state.used (from_space state) address → IsFaultAt (Address address) image
   walk_told state same now rolled address fault =
-      let P : State → Type 0 = λ x. IsWalkFault now x.base x.used address in
-      (s, batches, read.state, readable, subst (λ (ws : List ℕ). IsWalkFault ws read.state.base read.state.used address) (rolled ∙ committed s batches (stored_in s image) read is) (subst P same fault))
+      let P : State → Type 0 = λ x. IsWalkFaultBeside now x.base x.used (from_space x) address in
+      (s, batches, read.state, readable, subst (λ (ws : List ℕ). IsWalkFaultBeside ws read.state.base read.state.used (from_space read.state) address) (rolled ∙ committed s batches (stored_in s image) read is) (subst P same fault))
 
   -- what was opened is the image's log
   pub found_on : (r : Result Recovered RecoverError) (now : List ℕ) (state : State) (fault : Option ℕ)
       → log_used read.log + reserve read.state ≤ log_room read.log → state ≡ read.state → now ≡ all_taken_back read.state (cached read.cache).words
-      → (fault ≡ None → IsWalked now state.base state.used) → IfOk r (λ found. fault ≡ None) → IfOk r (IsRecovered s batches (stored_in s image)) → IfOk r (IsFoundOn image)
-  found_on (Err e) now state fault room same taken passes none found = tt
-  found_on (Ok f) now state fault room same taken passes none found =
-      let walked = subst (λ (x : State). IsWalked now x.base x.used) same (passes none) in
+      → AreOf64Bits now → (fault ≡ None → IsStateWalked state now) → IfOk r (λ found. fault ≡ None) → IfOk r (IsRecovered s batches (stored_in s image)) → IfOk r (IsFoundOn image)
+  found_on (Err e) now state fault room same taken fit passes none found = tt
+  found_on (Ok f) now state fault room same taken fit passes none found =
+      let walked = subst (λ (x : State). IsStateWalked x now) same (passes none) in
       let log = readable.roomy.replayed.log in
       let held : Holds s batches (stored_in s image) image = record { size = log.super.size; super = log.super.super; log = log.held; pages = refl } in
-      (s, batches, stored_in s image, record { log = read_shaped s batches (stored_in s image) read is room now taken walked; held = held }, found)
+      (s, batches, stored_in s image, record { log = read_shaped s batches (stored_in s image) read is room now taken fit walked; held = held }, found)
 
 -- an image with the same bytes outside of the log, whose log holds other batches
 log_with : (s : Super) (batches others : List (List Record)) (old new : List ℕ) → HoldsLog s batches old → SameOutside log_offset (log_offset + s.log_bytes) old new

@@ -17,7 +17,8 @@ use Rattle.page_redo.specs.Pages.{Pages}
 use Rattle.page_redo.specs.Redo.{EachLacks}
 use Rattle.page_cache.specs.CacheState.{IsFirstPast}
 use Rattle.page_cache.specs.Stored.{stored_pages}
-use Rattle.object_layout.specs.Walk.{IsWalkFault}
+use Rattle.object_layout.specs.CollectionWalk.{IsWalkFaultBeside}
+use Rattle.walk_laws.specs.Heap.{from_space}
 use Rattle.heap_model.specs.Image.{origin_of, words_of}
 use Rattle.heap_model.specs.Opening.{rolled_back}
 use Rattle.heap_recovery.specs.declared.at.At.{At}
@@ -69,7 +70,7 @@ IsFaultAt Reserve image = (s : Super) × (batches : List (List Record)) × (stat
 IsFaultAt (Page page) image =
     (s : Super) × (batches : List (List Record)) × (state : State) × HasRoom s batches state image × IsFirstPast (next_lsn (origin_of s) (records_of batches) - 1) page (stored_in s image)
 IsFaultAt (Address address) image =
-    (s : Super) × (batches : List (List Record)) × (state : State) × IsReadable s batches state image × IsWalkFault (words_of s batches (stored_in s image)) state.base state.used address
+    (s : Super) × (batches : List (List Record)) × (state : State) × IsReadable s batches state image × IsWalkFaultBeside (words_of s batches (stored_in s image)) state.base state.used (from_space state) address
 
 -- what an error tells of the image
 abbrev pub IsToldOf : RecoverError → List ℕ → Type 0

@@ -124,7 +124,7 @@ fn replay_log<D: Disk>(
 {
     let mut reader = LogReader::open(alloc, of.plan().log_at(), of.log_bytes)?;
     while let Some(record) = reader.next(alloc, disk)? {
-        replay.take(reader.lsn(), &record)?;
+        replay.take(alloc, reader.lsn(), &record)?;
     }
     Ok(reader.into_log())
 }

@@ -1,18 +1,21 @@
 //! An image is opened, and the writes of unfinished transactions are rolled back.
-ghost use Rattle.std.specs.Prelude.{◌≡◌, ◌+◌, ◌^◌, ◌<◌, ◌≤◌, ℕ, List, [], None, Some, Ok, Err, IsTrue, IsOk, IfOk, IfErr, OnOk, IsErrAnd};
+ghost use Rattle.std.specs.Prelude.{◌≡◌, ◌+◌, ◌^◌, ◌<◌, ◌≤◌, ℕ, List, [], None, Some, Ok, Err, IsTrue, IsOk, IfOk, IfErr, IfSome, OnOk, IsErrAnd};
+ghost use Rattle.std.specs.Option.{option_map};
 ghost use Rattle.disk_model.specs.Disk.{Only};
 ghost use Rattle.disk_model.specs.Keeps.{KeepsDisk, OnlyReads};
 ghost use Rattle.disk_model.specs.Moments.{LeavesOnly};
 ghost use Rattle.gated_log.specs.LogState.{log_place, log_room, log_used, log_count, Keeps};
 ghost use Rattle.image_plan.specs.declared.superblock.Super.{Super};
 ghost use Rattle.log_records.specs.declared.Record.{Record};
-ghost use Rattle.log_machine.specs.Machine.{State, settled, rollback, all_taken_back, reserve};
+ghost use Rattle.log_machine.specs.Machine.{State, settled, rollback, all_taken_back, reserve, words_in};
 ghost use Rattle.page_redo.specs.Pages.{Pages};
 ghost use Rattle.page_redo.specs.Redo.{EachLacks, redo_all};
 ghost use Rattle.page_store.specs.Gates.{open_gates};
 ghost use Rattle.page_store.specs.StoreState.{Knows};
 ghost use Rattle.page_cache.specs.CacheState.{cached, cache_store, cache_size};
-ghost use Rattle.object_layout.specs.Walk.{IsWalked, IsWalkFault};
+ghost use Rattle.object_layout.specs.CollectionWalk.{IsWalkFaultBeside, given};
+ghost use Rattle.walk_laws.specs.Heap.{IsStateWalked, from_space};
+ghost use Rattle.heap_model.specs.Bits.{AreOf64Bits};
 ghost use Rattle.heap_model.specs.Image.{IsShapedLog, Holds, IsShaped};
 ghost use Rattle.heap_model.specs.Lsns.{log_next_lsn};
 ghost use Rattle.heap_model.specs.Opening.{rollback_of, rolled_back, opening_calls, IsLeftByOpening};
@@ -30,7 +33,7 @@ use crate::reading::Reading;
 use disk_model::Disk;
 use gated_log::Log;
 use log_machine::{FIRST_LSN, LogState};
-use object_layout::{WalkError, WordSlice, walk};
+use object_layout::{FromSpace, WalkError, WordSlice, walk_beside};
 use page_cache::PageCache;
 use std::alloc::Global;
 
@@ -122,18 +125,36 @@ impl Reading {
         Ok(())
     }
 
-    /// The first address at which the used words are no objects that refer to one another, if there is one.
+    /// The first address at which the used words are no objects that refer to one another, if there is one: those of the current space,
+    /// and where a collection is under way those of the space that it empties.
     fn walk_fault(&self, alloc: Global) -> Result<Option<u32>, RecoverError>
-        ensures passes { IfOk result (λ fault. fault ≡ None → IsWalked (cached self.now.cache).words self.now.state.base self.now.state.used) }
-        ensures fault { IfOk result (λ fault. (at : ℕ) → fault ≡ Some at → IsWalkFault (cached self.now.cache).words self.now.state.base self.now.state.used at) }
+        ensures passes { IfOk result (λ fault. fault ≡ None → IsStateWalked self.now.state (cached self.now.cache).words) }
+        ensures fit { IfOk result (λ fault. AreOf64Bits (cached self.now.cache).words) }
+        ensures fault { IfOk result (λ fault. (at : ℕ) → fault ≡ Some at → IsWalkFaultBeside (cached self.now.cache).words self.now.state.base self.now.state.used (from_space self.now.state) at) }
         ensures error { IfErr result (λ e. e ≡ NoMemory) }
     {
         let mut words = WordSlice::of(self.cache.as_slice());
-        match walk(alloc, &mut words, self.state.base(), self.state.used()) {
+        let base = self.state.base();
+        let used = self.state.used();
+        match walk_beside(alloc, &mut words, base, used, self.from_space()) {
             Ok(()) => Ok(None),
             Err(WalkError::Damaged { address }) => Ok(Some(address)),
             // Words in memory don't fail.
             Err(WalkError::NoMemory | WalkError::Disk(_)) => Err(RecoverError::NoMemory),
+        }
+    }
+
+    // The space that a collection empties, where one is under way.
+    fn from_space(&self) -> Option<FromSpace<'_>>
+        ensures value { option_map given result ≡ from_space self.now.state }
+        ensures fits { IfSome result (λ f. f.base + f.collection.now.used ≤ words_in self.now.state.pages) }
+    {
+        match self.state.collection() {
+            Some(collection) => Some(FromSpace {
+                base: self.state.other_base(),
+                collection,
+            }),
+            None => None,
         }
     }
 

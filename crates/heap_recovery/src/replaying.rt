@@ -65,7 +65,7 @@ impl Replay {
     }
 
     /// Takes the record of that LSN, the next one.
-    pub fn take(&mut self, lsn: u64, rec: &Record) -> Result<(), RecoverError>
+    pub fn take(&mut self, alloc: Global, lsn: u64, rec: &Record) -> Result<(), RecoverError>
         requires commits { self.old.state.commits + 1 < 2 ^ 64 }
         requires room { reserve self.old.state + 29 < 2 ^ 64 }
         ensures on { (of : Super) (stored : Pages) (records : List Record) → lsn ≡ next_lsn (origin_of of) records → HasReplayed of stored records self.old → OnOk result (HasReplayed of stored (records ++ rec.now ∷ []) self.new) }
@@ -75,7 +75,7 @@ impl Replay {
         if self.unshaped.is_some() {
             return Ok(());
         }
-        match self.state.after(rec) {
+        match self.state.after(alloc, rec) {
             Ok(()) => {}
             Err(AfterError::NoMemory) => return Err(RecoverError::NoMemory),
             Err(AfterError::Unshaped) => {

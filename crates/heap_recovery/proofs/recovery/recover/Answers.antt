@@ -1,4 +1,4 @@
-use Rattle.std.proofs.Common.{◌≡◌, ◌⊎◌, inl, ◌+◌, ℕ, Ok, Err, Result, refl, ap, sym, ◌∙◌, subst, rules}
+use Rattle.std.proofs.Common.{◌≡◌, ◌⊎◌, ◌+◌, ℕ, Ok, Err, ap, sym, ◌∙◌, subst, rules}
 use Rattle.disk_model.specs.Disk.{part, SameOutside}
 use Rattle.disk_model.specs.Moments.{LeavesOnly}
 use Rattle.gate_slot.specs.Passing.{Passes}
@@ -35,7 +35,7 @@ returns-clause-opens g c =
     let roll = c.in_ok-roll_back.ensures in
     let keeps = c.in_ok-force.ensures.kept batches (rollback read.state) (roll.kept batches is.log) in
     let opened = recovered read.of batches stored read is c.finish.result c.force.new.self c.roll_back.new.self.cache c.roll_back.new.self.state roll.state (c.force.ensures.at ∙ roll.place) (c.force.ensures.same_room ∙ roll.same_room) roll.pages roll.store keeps c.finish.ensures.log c.finish.ensures.cache c.finish.ensures.state in
-    opened_shaped read.of batches stored read is c.finish.result (cached c.roll_back.new.self.cache).words c.roll_back.new.self.state c.in_ok-fault.fault c.in_ok-read.ensures.room roll.state roll.words c.in_ok-fault.ensures.passes c.finish.ensures.walked opened
+    opened_shaped read.of batches stored read is c.finish.result (cached c.roll_back.new.self.cache).words c.roll_back.new.self.state c.in_ok-fault.fault c.in_ok-read.ensures.room roll.state roll.words c.in_ok-fault.ensures.fit c.in_ok-fault.ensures.passes c.finish.ensures.walked opened
 
 pub returns-clause-found : goal.returns-clause-found
 returns-clause-found g c tells s batches stored shaped =
@@ -295,7 +295,7 @@ returns-clause-sound g c tells =
     let roll = c.in_ok-roll_back.ensures in
     let keeps = c.in_ok-force.ensures.kept batches (rollback read.state) (roll.kept batches is.log) in
     let opened = recovered read.of batches (stored_in read.of image) read is c.finish.result c.force.new.self c.roll_back.new.self.cache c.roll_back.new.self.state roll.state (c.force.ensures.at ∙ roll.place) (c.force.ensures.same_room ∙ roll.same_room) roll.pages roll.store keeps c.finish.ensures.log c.finish.ensures.cache c.finish.ensures.state in
-    found_on read.of batches image read is found.2 c.finish.result (cached c.roll_back.new.self.cache).words c.roll_back.new.self.state c.in_ok-fault.fault c.in_ok-read.ensures.room roll.state roll.words c.in_ok-fault.ensures.passes c.finish.ensures.walked opened
+    found_on read.of batches image read is found.2 c.finish.result (cached c.roll_back.new.self.cache).words c.roll_back.new.self.state c.in_ok-fault.fault c.in_ok-read.ensures.room roll.state roll.words c.in_ok-fault.ensures.fit c.in_ok-fault.ensures.passes c.finish.ensures.walked opened
 
 pub returns-clause-refused : goal.returns-clause-refused
 returns-clause-refused g c tells =

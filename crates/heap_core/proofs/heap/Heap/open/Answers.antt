@@ -11,6 +11,8 @@ use Rattle.heap_core.specs.Causes.{IsFromOutside, ErrorPasses, error_device}
 use Rattle.heap_core.proofs.RefinementOpen.{commits_found, opened_bounds, opened_engine, opened_disk_holds, is_fresh}
 use Rattle.heap_core.proofs.StepCore.{remembers}
 use Rattle.page_store.specs.Gates.{open_gates}
+use Rattle.heap_engine.specs.Barrier.{IsSoundCollection}
+use Rattle.heap_spaces.specs.Spaces.{SpacesState}
 use Rattle.txn_table.specs.Table.{TableState}
 use Rattle.heap_core.proofs.OpenErrors.{device_as, outside_as, passes_as, damaged_as}
 use Rattle.heap_core.proofs.heap.Heap.open.Goals as goal
@@ -18,7 +20,7 @@ use Rattle.heap_core.proofs.heap.Heap.open.Goals as goal
 pub new-engine-requires-clause-sized : goal.new-engine-requires-clause-sized
 new-engine-requires-clause-sized g c =
     let found = c.in-Ok-recover.ensures.opens in
-    (opened_bounds found.0 found.1 found.2 c.in-Ok-recover.found found.3 found.4).size ∙ ap (λ x. words_in x.pages) (sym c.spaces.ensures)
+    (opened_bounds found.0 found.1 found.2 c.in-Ok-recover.found found.3 found.4).size ∙ ap (λ x. words_in x.pages) (sym c.spaces-spaces.ensures)
 
 pub new-engine-requires-clause-new : goal.new-engine-requires-clause-new
 new-engine-requires-clause-new g c =
@@ -28,7 +30,15 @@ new-engine-requires-clause-new g c =
 pub new-engine-requires-clause-few : goal.new-engine-requires-clause-few
 new-engine-requires-clause-few g c =
     let found = c.in-Ok-recover.ensures.opens in
-    subst (λ x. x.pages ≤ 16384) (sym c.spaces.ensures) (opened_bounds found.0 found.1 found.2 c.in-Ok-recover.found found.3 found.4).few
+    subst (λ x. x.pages ≤ 16384) (sym c.spaces-spaces.ensures) (opened_bounds found.0 found.1 found.2 c.in-Ok-recover.found found.3 found.4).few
+
+pub new-engine-requires-clause-gray : goal.new-engine-requires-clause-gray
+new-engine-requires-clause-gray g c k run =
+    let found = c.in-Ok-recover.ensures.opens in
+    let bounds = opened_bounds found.0 found.1 found.2 c.in-Ok-recover.found found.3 found.4 in
+    let runs = sym c.into_collection-collection.ensures ∙ run in
+    let within = bounds.within k runs in
+    subst (λ (x : SpacesState). IsSoundCollection x k) (sym c.spaces-spaces.ensures) (record { copied = within.copied; used = within.used; gray = bounds.gray k runs })
 
 pub new-engine-requires-clause-number : goal.new-engine-requires-clause-number
 new-engine-requires-clause-number g c =
@@ -38,7 +48,7 @@ new-engine-requires-clause-number g c =
 pub returns-in-Ok-recover-clause-opens : goal.returns-in-Ok-recover-clause-opens
 returns-in-Ok-recover-clause-opens g c =
     let found = c.in-Ok-recover.ensures.opens in
-    let fresh = is_fresh c.in-Ok-recover.found c.spaces.result c.set_next.new.self c.in-Ok.table _ c.new-engine.ensures c.spaces.ensures (c.set_next.ensures ∙ ap (λ (n : ℕ). let t : TableState = record { next = n; active = c.in-Ok.table.active } in t) c.next.ensures) in
+    let fresh = is_fresh c.in-Ok-recover.found c.spaces-spaces.result c.into_collection-collection.result c.set_next.new.self c.in-Ok.table _ c.new-engine.ensures c.spaces-spaces.ensures c.into_collection-collection.ensures (c.set_next.ensures ∙ ap (λ (n : ℕ). let t : TableState = record { next = n; active = c.in-Ok.table.active } in t) c.next.ensures) in
     let image = g.D.Disk.bytes c.recover.new.disk in
     let gates : ℕ → ℕ = λ p. open_gates found.0.log_bytes image p in (
       found.0,
@@ -54,7 +64,7 @@ returns-in-Ok-recover-clause-opens g c =
 pub returns-in-Ok-recover-clause-sound : goal.returns-in-Ok-recover-clause-sound
 returns-in-Ok-recover-clause-sound g c tells =
     let found = c.in-Ok-recover.ensures.sound tells in
-    let fresh = is_fresh c.in-Ok-recover.found c.spaces.result c.set_next.new.self c.in-Ok.table _ c.new-engine.ensures c.spaces.ensures (c.set_next.ensures ∙ ap (λ (n : ℕ). let t : TableState = record { next = n; active = c.in-Ok.table.active } in t) c.next.ensures) in
+    let fresh = is_fresh c.in-Ok-recover.found c.spaces-spaces.result c.into_collection-collection.result c.set_next.new.self c.in-Ok.table _ c.new-engine.ensures c.spaces-spaces.ensures c.into_collection-collection.ensures (c.set_next.ensures ∙ ap (λ (n : ℕ). let t : TableState = record { next = n; active = c.in-Ok.table.active } in t) c.next.ensures) in
     let gates = open_gates found.0.log_bytes (g.D.Disk.bytes c.args.disk) in
     let still = c.in-Ok-recover.ensures.gates tells found.0 found.1 found.2 found.3 in (
       found.0,
@@ -74,7 +84,7 @@ returns-in-Err-clause-moments_not_heap g c tells only none =
 pub returns-in-Ok-recover-clause-found : goal.returns-in-Ok-recover-clause-found
 returns-in-Ok-recover-clause-found g c tells s batches stored shaped born places gr stands =
     let found = c.in-Ok-recover.ensures.found tells s batches stored shaped in
-    let fresh = is_fresh c.in-Ok-recover.found c.spaces.result c.set_next.new.self c.in-Ok.table _ c.new-engine.ensures c.spaces.ensures (c.set_next.ensures ∙ ap (λ (n : ℕ). let t : TableState = record { next = n; active = c.in-Ok.table.active } in t) c.next.ensures) in
+    let fresh = is_fresh c.in-Ok-recover.found c.spaces-spaces.result c.into_collection-collection.result c.set_next.new.self c.in-Ok.table _ c.new-engine.ensures c.spaces-spaces.ensures c.into_collection-collection.ensures (c.set_next.ensures ∙ ap (λ (n : ℕ). let t : TableState = record { next = n; active = c.in-Ok.table.active } in t) c.next.ensures) in
     let gates = open_gates s.log_bytes (g.D.Disk.bytes c.args.disk) in
     let still = c.in-Ok-recover.ensures.gates tells s batches stored shaped in
     let is = opened_engine g.D.Disk s batches stored gates born places gr c.in-Ok-recover.found c.new-engine.result c.recover.new.disk shaped.log found fresh c.in-Ok-recover.ensures.known (λ told. still) in

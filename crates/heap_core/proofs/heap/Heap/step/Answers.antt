@@ -1,5 +1,4 @@
-use Rattle.std.proofs.Common.{◌≡◌, ◌+◌, List, Result, Some, Ok, Err, [], ◌∷◌, ◌++◌, length, refl, sym, ap, ◌∙◌, subst}
-use Rattle.std.specs.Prelude.{IsTrue, ◌↔◌, ◌≢◌}
+use Rattle.std.proofs.Common.{◌+◌, List, Result, Err, [], ◌∷◌, ◌++◌, length, refl, sym, ap, ◌∙◌, subst}
 use Rattle.disk_model.specs.Keeps.{KeepsDisk}
 use Rattle.disk_model.specs.declared.disk.DiskError.{DiskError}
 use Rattle.gate_slot.specs.Passing.{Passes}
@@ -7,7 +6,7 @@ use Rattle.graph_model.specs.declared.reply.Entry.{Entry}
 use Rattle.graph_model.specs.declared.reply.Refusal.TheVariants.{Failed}
 use Rattle.graph_model.specs.declared.reply.Reply.{Reply}
 use Rattle.graph_model.specs.declared.reply.Reply.TheVariants.{Refused}
-use Rattle.heap_model.specs.Core.{Core, calls}
+use Rattle.heap_model.specs.Core.{calls}
 use Rattle.heap_model.proofs.Run.Calls.{same_step}
 use Rattle.memory_laws.proofs.Kept.Log.{some_waits}
 use Rattle.heap_core.proofs.CrashLaws.{heap_left}

@@ -13,7 +13,7 @@ returns-then-is_some-clause-on c of stored records next was =
 
 pub returns-in-Err-Unshaped-clause-on : goal.returns-in-Err-Unshaped-clause-on
 returns-in-Err-Unshaped-clause-on c of stored records next was =
-    let stuck : after c.args.self.now.state c.args.rec.now ≡ None = c.after.ensures.unshaped.0 (c.in-Err-Unshaped.is ∙ ap (λ e. Err e) c.in-Err-Unshaped.field-0-is) in
+    let stuck : after c.args.self.now.state c.args.rec.now ≡ None = c.after.ensures.unshaped (c.in-Err-Unshaped.is ∙ ap (λ e. Err e) c.in-Err-Unshaped.field-0-is) in
     replayed_to of stored records c.args.rec.now c.args.self.now _ was refl c.args.lsn next (none_of c.args.self.now.unshaped (sym c.if-is_some.ensures)) refl stuck c.in-Err-Unshaped.ensures.err
 
 pub returns-clause-on : goal.returns-clause-on
